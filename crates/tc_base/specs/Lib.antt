@@ -1,0 +1,5 @@
+pub mod Arith
+pub mod Names
+pub mod Buffers
+pub mod States
+pub mod Logs

@@ -1,0 +1,22 @@
+-- Names of threads.
+use Rattle.std.specs.Prelude.{ℕ, List, [], ◌++◌, codes}
+use Rattle.std.specs.List.{flat_map}
+use Rattle.std.specs.Fmt.{decimal}
+use Rattle.std.specs.Ordering.{nat_cmp}
+use Rattle.std.specs.Cmp.Lexicographic.{slice_cmp}
+use Rattle.std.specs.FinMap.{FinMap}
+
+-- the numbers of the creates that lead from main to the thread
+abbrev pub Name : Type 0
+Name = List ℕ
+
+abbrev pub main : Name
+main = []
+
+-- `0`, then a dot and the number of each create
+abbrev pub name_text : Name → List ℕ
+name_text n = codes "0" ++ flat_map (λ child. codes "." ++ decimal child) n
+
+-- a finite map from names, in their order: child by child, a prefix first
+abbrev pub ByName : Type 0 → Type 0
+ByName X = FinMap (slice_cmp nat_cmp) X

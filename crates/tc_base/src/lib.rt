@@ -1,0 +1,15 @@
+//! The ground that every other crate stands on: names of threads, moves, `int` arithmetic and limits.
+#![tactic(auto)]
+
+pub mod arith;
+pub mod limits;
+mod model;
+mod moves;
+mod name;
+mod place;
+
+pub use arith::BinOp;
+pub use model::Model;
+pub use moves::Move;
+pub use name::ThreadName;
+pub use place::Place;
