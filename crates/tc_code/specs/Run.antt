@@ -1,0 +1,39 @@
+-- Runs of the machine, and what they reproduce.
+use Rattle.std.specs.Prelude.{◌≡◌, List, [], ◌∷◌, Option, Some, option_and_then, option_map, IsSomeAnd}
+use Rattle.std.specs.FinMap as map
+use Rattle.tc_base.specs.Names.{Name}
+use Rattle.tc_base.specs.Buffers.{BufferOps}
+use Rattle.tc_base.specs.States.{Thread, State}
+use Rattle.tc_base.specs.Logs.{Path, Log, failing_of, path_under}
+use Rattle.tc_base.specs.declared.moves.Move.{Move}
+use Rattle.tc_code.specs.Code.{Code}
+use Rattle.tc_code.specs.Step.{step, opening}
+
+-- a thread's path: the outcomes of its branches, and its number of steps
+abbrev pub path_of : {B : Type 0} → Thread B → Path
+path_of t = record { outcomes = t.local.outcomes; steps = t.local.steps }
+
+-- the path of the thread of a name, if there is one
+abbrev pub path_in : {B : Type 0} → State B → Name → Option Path
+path_in s n = option_map path_of (map.get s.threads n)
+
+module _ {B : Type 0} (ops : BufferOps B) (code : Code) where
+  -- the steps in turn from a state, and nothing as soon as one is nothing
+  abbrev pub run_from : State B → List Move → Option (State B)
+  run_from s [] = Some s
+  run_from s (m ∷ ms) = option_and_then (λ u. run_from u ms) (step ops code s m)
+
+  abbrev pub run : List Move → Option (State B)
+  run ms = run_from (opening ops code) ms
+
+  -- a state that some moves lead to
+  pub record IsReached (s : State B) : Type 0 where
+    pub moves : List Move
+    pub leads : run moves ≡ Some s
+
+  -- the moves lead to the log's failure, and each thread goes as it went in the log
+  pub record Reproduces (log : Log) (moves : List Move) : Type 0 where
+    pub state : State B
+    pub leads : run moves ≡ Some state
+    pub failing : IsSomeAnd (failing_of log) (λ n. state.failed ≡ Some n)
+    pub paths : (n : Name) → path_in state n ≡ path_under n log.threads

@@ -1,0 +1,42 @@
+//! Expressions over the int slots of a thread.
+ghost use Rattle.std.specs.Prelude.{◌≡◌, length, IsTrue};
+ghost use Rattle.tc_code.specs.Expr.{value_of, names_slots};
+ghost use Rattle.tc_code.specs.Seen.{plain_expr};
+
+use tc_base::{BinOp, arith};
+
+/// An expression over the int slots of a thread.
+#[derive(Debug, PartialEq, Eq, Drop)]
+pub enum Expr {
+    /// A number.
+    Number(i32),
+    /// The slot of that number.
+    Slot(u32),
+    /// An operator over two values.
+    Binary(BinOp, Box<Expr>, Box<Expr>),
+}
+
+/// The value of an expression, over these slots.
+pub fn value(e: &Expr, slots: &[i32]) -> i32
+    requires { IsTrue (names_slots (length slots.now) (plain_expr e.now)) }
+    ensures { result ≡ value_of (plain_expr e.now) slots.now }
+{
+    match e {
+        Expr::Number(n) => *n,
+        Expr::Slot(k) => slots[*k as usize],
+        Expr::Binary(op, left, right) => match op {
+            BinOp::Eq => arith::eq(value(left, slots), value(right, slots)),
+        },
+    }
+}
+
+/// Whether each slot that the expression names is one of so many.
+pub(crate) fn names_slots(e: &Expr, count: u32) -> bool
+    ensures { result ≡ names_slots count (plain_expr e.now) }
+{
+    match e {
+        Expr::Number(_) => true,
+        Expr::Slot(k) => *k < count,
+        Expr::Binary(_, left, right) => names_slots(left, count) && names_slots(right, count),
+    }
+}

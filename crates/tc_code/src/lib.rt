@@ -1,0 +1,8 @@
+//! Flat code: what a program's functions are lowered to, and what it means.
+#![tactic(auto)]
+
+mod code;
+mod expr;
+
+pub use code::{Code, Func, Instr};
+pub use expr::{Expr, value};
