@@ -17,3 +17,24 @@ pub fn eq(a: i32, b: i32) -> i32
 {
     i32::from(a == b)
 }
+
+#[cfg(test)]
+mod tests {
+    use super::eq;
+
+    #[test]
+    fn equal_numbers_give_one(rt: HostRuntime) {
+        for (a, b, want) in [
+            (0, 0, 1),
+            (7, 7, 1),
+            (-1, 1, 0),
+            (1, 0, 0),
+            (i32::MIN, i32::MIN, 1),
+            (i32::MAX, i32::MAX, 1),
+            (i32::MIN, i32::MAX, 0),
+            (i32::MIN, 0, 0),
+        ] {
+            assert_eq!(rt; eq(a, b), want, "{a} == {b}");
+        }
+    }
+}

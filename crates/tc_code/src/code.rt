@@ -86,13 +86,11 @@ impl Code {
     }
 
     /// The instruction at a place, if there is one.
-    pub fn instr(&self, function: u32, instruction: u32) -> Option<&Instr>
-        ensures { option_map (λ i. plain_instr i.now) result ≡ instr_at self.now function instruction }
+    pub fn instr(&self, function: usize, instruction: usize) -> Option<&Instr>
+        ensures seen { option_map (λ i. plain_instr i.now) result ≡ instr_at self.now function instruction }
+        ensures lawful { IsTrue (is_lawful self.now) }
     {
-        self.functions
-            .get(function as usize)?
-            .instrs
-            .get(instruction as usize)
+        self.functions.get(function)?.instrs.get(instruction)
     }
 }
 

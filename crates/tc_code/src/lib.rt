@@ -3,6 +3,8 @@
 
 mod code;
 mod expr;
+#[cfg(test)]
+mod tests;
 
 pub use code::{Code, Func, Instr};
 pub use expr::{Expr, value};

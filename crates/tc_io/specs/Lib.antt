@@ -1,0 +1,4 @@
+pub mod Outside
+pub mod Past
+pub mod Plan
+pub mod Mem

@@ -1,0 +1,35 @@
+-- Shelves and sinks in memory.
+use Rattle.std.specs.Prelude.{ℕ, List, []}
+use Rattle.std.specs.FinMap.{empty}
+use Rattle.tc_io.specs.Outside.{Files}
+use Rattle.tc_io.specs.Past.{PlainPast, no_past}
+use Rattle.tc_io.specs.Plan.{PlainPlan, no_plan}
+
+-- a shelf: what it holds, which fetches are to fail, and what it remembers
+pub record PlainShelf : Type 0 where
+  pub held : Files
+  pub plan : PlainPlan
+  pub past : PlainPast
+
+-- a shelf that holds nothing, from which nothing was fetched
+abbrev pub empty_shelf : PlainShelf
+empty_shelf = record { held = empty; plan = no_plan; past = no_past }
+
+-- a sink: what was written, which puts are to fail, and how often it failed
+pub record PlainSink : Type 0 where
+  pub written : List ℕ
+  pub plan : PlainPlan
+  pub faults : ℕ
+
+-- a sink to which nothing was put
+abbrev pub empty_sink : PlainSink
+empty_sink = record { written = []; plan = no_plan; faults = 0 }
+
+-- a shelf that never fails: what it holds, and how many bytes were taken
+pub record PlainSureShelf : Type 0 where
+  pub held : Files
+  pub taken : ℕ
+
+-- one that holds nothing, from which nothing was fetched
+abbrev pub empty_sure_shelf : PlainSureShelf
+empty_sure_shelf = record { held = empty; taken = 0 }

@@ -1,0 +1,21 @@
+-- Which calls are to fail.
+use Rattle.std.specs.Prelude.{ℕ, List, [], find, ◌==◌, Option, option_map}
+use Rattle.tc_io.specs.declared.plan.Fail.{Fail}
+use Rattle.tc_io.specs.Past.{counted_on}
+
+-- the number of calls so far, and those that are to fail
+pub record PlainPlan : Type 0 where
+  pub calls : ℕ
+  pub fails : List Fail
+
+-- before the first call, where none is to fail
+abbrev pub no_plan : PlainPlan
+no_plan = record { calls = 0; fails = [] }
+
+-- the next call is counted
+abbrev pub with_call : PlainPlan → PlainPlan
+with_call plan = record plan { calls = counted_on plan.calls 1 }
+
+-- after how many bytes the call that was counted last is to fail, if it is to
+abbrev pub told_at : PlainPlan → Option ℕ
+told_at plan = option_map (λ fail. fail.after) (find (λ fail. fail.call == plan.calls) plan.fails)

@@ -1,0 +1,323 @@
+//! A shelf and a sink in memory, which fail where they are told to, and ones that never fail.
+ghost use Rattle.std.specs.Prelude.{◌≡◌, ◌≢◌, ◌≤◌, ◌<◌, ◌++◌, ◌∷◌, [], ◌⊎◌, length, min, take, unwrap_or, Some, None, IsSome, IsSomeAnd, IfSome, IfOk, IsErrOf, Err, OnOk, OnErr};
+ghost use Rattle.std.specs.FinMap as map;
+ghost use Rattle.tc_io.specs.Mem.{empty_shelf, empty_sink, empty_sure_shelf};
+ghost use Rattle.tc_io.specs.Outside.{Reading, bytes_at, Rose, TookMore, Wrote, WrotePart};
+ghost use Rattle.tc_io.specs.Past.{counted_on};
+ghost use Rattle.tc_io.specs.Plan.{told_at, with_call};
+
+use crate::named::NamedBytes;
+use crate::past::Past;
+pub use crate::plan::Fail;
+use crate::plan::Plan;
+use crate::{FetchFault, PutFault, Shelf, Sink};
+use std::alloc::{AllocError, Global};
+use std::marker::Model;
+
+/// A shelf in memory, which tells what it holds, and fails where it is told to.
+///
+/// A fetch of a name that isn't there fails too.
+#[derive(Drop)]
+pub struct MemShelf {
+    files: NamedBytes,
+    plan: Plan,
+    past: Past,
+}
+
+impl Model for MemShelf {
+    ghost use Rattle.std.specs.Coded.{codes};
+    ghost use Rattle.tc_io.specs.contracts.named.NamedBytes as named;
+    ghost use Rattle.tc_io.specs.Mem.{PlainShelf};
+
+    ghost Value = { PlainShelf };
+
+    ghost coded = { Prim.hlevel (codes, named.the_row.coded) };
+
+    ghost view = { λ s. record { held = s.files; plan = s.plan; past = s.past } };
+}
+
+impl MemShelf {
+    /// A shelf that holds nothing and is told of no failure.
+    pub fn new(alloc: Global) -> Self
+        ensures { result ≡ empty_shelf }
+    {
+        MemShelf {
+            files: NamedBytes::new(alloc),
+            plan: Plan::new(alloc),
+            past: Past::new(),
+        }
+    }
+
+    /// Puts a copy of the bytes under the name, in place of what was there.
+    pub fn hold(&mut self, alloc: Global, name: &str, bytes: &[u8]) -> Result<(), AllocError>
+        ensures ok { OnOk result (self.new ≡ record self.old { held = map.insert self.old.held name.now bytes.now }) }
+        ensures err { OnErr result (self.new ≡ self.old) }
+    {
+        self.files.insert(alloc, name, bytes)
+    }
+
+    /// Tells it of a fetch that is to fail. Of two for one call the first counts.
+    pub fn fail(&mut self, fail: Fail) -> Result<(), AllocError>
+        ensures ok { OnOk result (self.new ≡ record self.old { plan = record self.old.plan { fails = self.old.plan.fails ++ fail ∷ [] } }) }
+        ensures err { OnErr result (self.new ≡ self.old) }
+    {
+        self.plan.add(fail)
+    }
+}
+
+impl Shelf for MemShelf {
+    ghost use Rattle.std.specs.Prelude.{Some};
+
+    ghost held = { λ s. Some s.held };
+
+    ghost faults = { λ s. s.past.faults };
+
+    ghost taken = { λ s. s.past.taken };
+
+    ghost last_fault = { λ s. s.past.last_fault };
+
+    fn fetch(&mut self, alloc: Global, name: &str, limit: u64) -> Result<Vec<u8>, FetchFault>
+        ensures bytes { IfOk result (λ bytes. IfSome (Some self.old.held) (λ files. bytes.items ≡ bytes_at files name.now)) }
+        ensures within { IfOk result (λ bytes. length bytes.items ≤ limit) }
+        ensures failed { IsErrOf result FetchFault.Failed → Rose self.old.past.faults self.new.past.faults × (self.new.past.last_fault ≡ Some (Reading name.now)) }
+        ensures too_long { IsErrOf result FetchFault.TooLong → TookMore limit self.old.past.taken self.new.past.taken × IfSome (Some self.old.held) (λ files. limit < length (bytes_at files name.now)) }
+        ensures kept { Some self.new.held ≡ Some self.old.held }
+        ensures last { (result ≢ Err FetchFault.Failed) → self.new.past.last_fault ≡ self.old.past.last_fault }
+        ensures faults { self.old.past.faults ≤ self.new.past.faults }
+        ensures taken { self.old.past.taken ≤ self.new.past.taken }
+
+        // What this shelf alone says: which fetches fail.
+        ensures there { IfOk result (λ bytes. map.get self.old.held name.now ≡ Some bytes.items) }
+        ensures told { (result ≢ Err FetchFault.Memory) → IsSome (told_at self.new.plan) → result ≡ Err FetchFault.Failed }
+        ensures cause { IsErrOf result FetchFault.Failed → IsSome (told_at self.new.plan) ⊎ (map.get self.old.held name.now ≡ None) }
+        ensures after { IsErrOf result FetchFault.Failed → self.new.past.taken ≡ counted_on self.old.past.taken (min (unwrap_or (told_at self.new.plan) 0) (length (bytes_at self.old.held name.now))) }
+        ensures counted { (result ≢ Err FetchFault.Memory) → self.new.plan ≡ with_call self.old.plan }
+    {
+        let Ok(copy) = String::from_str(alloc, name) else {
+            return Err(FetchFault::Memory);
+        };
+        match (self.plan.call(), self.files.get(name)) {
+            (None, Some(bytes)) => {
+                self.past.take(taken_by(bytes.len(), limit));
+                copy_within(alloc, bytes, limit)
+            }
+            (told, found) => {
+                let there = found.map_or(0, |bytes| bytes.len());
+                self.past
+                    .take(told.map_or(0, |after| after.min(there)) as u64);
+                self.past.fail(copy);
+                Err(FetchFault::Failed)
+            }
+        }
+    }
+}
+
+/// How many of so many bytes a fetch takes: one past the limit shows it that there are too many.
+fn taken_by(there: usize, limit: u64) -> u64
+    ensures { result ≡ min there (counted_on limit 1) }
+{
+    (there as u64).min(limit.saturating_add(1))
+}
+
+/// A copy of the bytes, where they are at most the limit.
+fn copy_within(alloc: Global, bytes: &[u8], limit: u64) -> Result<Vec<u8>, FetchFault>
+    ensures bytes { IfOk result (λ copy. copy.items ≡ bytes.now) }
+    ensures within { IfOk result (λ copy. length copy.items ≤ limit) }
+    ensures too_long { IsErrOf result FetchFault.TooLong → limit < length bytes.now }
+    ensures never_fails { result ≢ Err FetchFault.Failed }
+{
+    if bytes.len() as u64 > limit {
+        return Err(FetchFault::TooLong);
+    }
+    let mut copy = Vec::new(alloc);
+    match copy.extend_from_slice(bytes) {
+        Ok(()) => Ok(copy),
+        Err(_) => Err(FetchFault::Memory),
+    }
+}
+
+/// A sink in memory, which tells what was written, and fails where it is told to.
+#[derive(Drop)]
+pub struct MemSink {
+    written: Vec<u8>,
+    plan: Plan,
+    faults: u64,
+}
+
+impl Model for MemSink {
+    ghost use Rattle.tc_io.specs.Mem.{PlainSink};
+
+    ghost Value = { PlainSink };
+
+    ghost view = { λ s. record { written = s.written.items; plan = s.plan; faults = s.faults } };
+}
+
+impl MemSink {
+    /// A sink to which nothing was put, and which is told of no failure.
+    pub fn new(alloc: Global) -> Self
+        ensures { result ≡ empty_sink }
+    {
+        MemSink {
+            written: Vec::new(alloc),
+            plan: Plan::new(alloc),
+            faults: 0,
+        }
+    }
+
+    /// Tells it of a put that is to fail. Of two for one call the first counts.
+    pub fn fail(&mut self, fail: Fail) -> Result<(), AllocError>
+        ensures ok { OnOk result (self.new ≡ record self.old { plan = record self.old.plan { fails = self.old.plan.fails ++ fail ∷ [] } }) }
+        ensures err { OnErr result (self.new ≡ self.old) }
+    {
+        self.plan.add(fail)
+    }
+
+    /// What was written, of all puts so far.
+    pub fn written(&self) -> &[u8]
+        ensures { result.now ≡ self.now.written }
+    {
+        self.written.as_slice()
+    }
+}
+
+impl Sink for MemSink {
+    ghost use Rattle.std.specs.Prelude.{Some};
+
+    ghost written = { λ s. Some s.written };
+
+    ghost faults = { λ s. s.faults };
+
+    fn put(&mut self, bytes: &[u8]) -> Result<(), PutFault>
+        ensures ok { OnOk result (Wrote (Some self.old.written) (Some self.new.written) bytes.now) }
+        ensures failed { IsErrOf result PutFault.Failed → Rose self.old.faults self.new.faults × WrotePart (Some self.old.written) (Some self.new.written) bytes.now }
+        ensures memory { IsErrOf result PutFault.Memory → Some self.new.written ≡ Some self.old.written }
+        ensures faults { self.old.faults ≤ self.new.faults }
+
+        // What this sink alone says: which puts fail, and after how many bytes.
+        ensures told { OnOk result (told_at self.new.plan ≡ None) }
+        ensures cause { IsErrOf result PutFault.Failed → IsSomeAnd (told_at self.new.plan) (λ after. self.new.written ≡ self.old.written ++ take after bytes.now) }
+        ensures counted { self.new.plan ≡ with_call self.old.plan }
+    {
+        let Some(after) = self.plan.call() else {
+            return append(&mut self.written, bytes);
+        };
+        append(&mut self.written, &bytes[..after.min(bytes.len())])?;
+        self.faults = self.faults.saturating_add(1);
+        Err(PutFault::Failed)
+    }
+}
+
+/// Writes all of the bytes at the end of what was written.
+fn append(written: &mut Vec<u8>, bytes: &[u8]) -> Result<(), PutFault>
+    ensures ok { OnOk result (written.new.items ≡ written.old.items ++ bytes.now) }
+    ensures err { OnErr result (written.new.items ≡ written.old.items) }
+    ensures never_fails { result ≢ Err PutFault.Failed }
+{
+    match written.extend_from_slice(bytes) {
+        Ok(()) => Ok(()),
+        Err(_) => Err(PutFault::Memory),
+    }
+}
+
+/// A shelf in memory that never fails: a name that isn't there reads as no bytes.
+#[derive(Drop)]
+pub struct SureShelf {
+    files: NamedBytes,
+    taken: u64,
+}
+
+impl Model for SureShelf {
+    ghost use Rattle.std.specs.Coded.{codes};
+    ghost use Rattle.tc_io.specs.contracts.named.NamedBytes as named;
+    ghost use Rattle.tc_io.specs.Mem.{PlainSureShelf};
+
+    ghost Value = { PlainSureShelf };
+
+    ghost coded = { Prim.hlevel (codes, named.the_row.coded) };
+
+    ghost view = { λ s. record { held = s.files; taken = s.taken } };
+}
+
+impl SureShelf {
+    /// A shelf that holds nothing.
+    pub fn new(alloc: Global) -> Self
+        ensures { result ≡ empty_sure_shelf }
+    {
+        SureShelf {
+            files: NamedBytes::new(alloc),
+            taken: 0,
+        }
+    }
+
+    /// Puts a copy of the bytes under the name, in place of what was there.
+    pub fn hold(&mut self, alloc: Global, name: &str, bytes: &[u8]) -> Result<(), AllocError>
+        ensures ok { OnOk result (self.new ≡ record self.old { held = map.insert self.old.held name.now bytes.now }) }
+        ensures err { OnErr result (self.new ≡ self.old) }
+    {
+        self.files.insert(alloc, name, bytes)
+    }
+}
+
+impl Shelf for SureShelf {
+    ghost use Rattle.std.specs.Prelude.{Some, None};
+
+    ghost held = { λ s. Some s.held };
+
+    ghost faults = { λ _. 0 };
+
+    ghost taken = { λ s. s.taken };
+
+    ghost last_fault = { λ _. None };
+
+    fn fetch(&mut self, alloc: Global, name: &str, limit: u64) -> Result<Vec<u8>, FetchFault> {
+        let Some(bytes) = self.files.get(name) else {
+            return Ok(Vec::new(alloc));
+        };
+        self.taken = self.taken.saturating_add(taken_by(bytes.len(), limit));
+        copy_within(alloc, bytes, limit)
+    }
+}
+
+/// A sink in memory that never fails, and tells what was written.
+#[derive(Drop)]
+pub struct SureSink {
+    written: Vec<u8>,
+}
+
+impl Model for SureSink {
+    ghost use Rattle.std.specs.Prelude.{List, ℕ};
+
+    ghost Value = { List ℕ };
+
+    ghost view = { λ s. s.written.items };
+}
+
+impl SureSink {
+    /// A sink to which nothing was put.
+    pub fn new(alloc: Global) -> Self
+        ensures { result ≡ [] }
+    {
+        SureSink {
+            written: Vec::new(alloc),
+        }
+    }
+
+    /// What was written, of all puts so far.
+    pub fn written(&self) -> &[u8]
+        ensures { result.now ≡ self.now }
+    {
+        self.written.as_slice()
+    }
+}
+
+impl Sink for SureSink {
+    ghost use Rattle.std.specs.Prelude.{Some};
+
+    ghost written = { λ s. Some s };
+
+    ghost faults = { λ _. 0 };
+
+    fn put(&mut self, bytes: &[u8]) -> Result<(), PutFault> {
+        append(&mut self.written, bytes)
+    }
+}

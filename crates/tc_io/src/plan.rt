@@ -1,0 +1,63 @@
+//! Which calls of a shelf or a sink are to fail.
+ghost use Rattle.std.specs.Prelude.{◌≡◌, ◌++◌, ◌∷◌, [], OnOk, OnErr};
+ghost use Rattle.tc_io.specs.Plan.{no_plan, with_call, told_at};
+
+use std::alloc::{AllocError, Global};
+use std::marker::Model;
+
+/// A call that is to fail.
+#[derive(Clone, Copy, Debug, PartialEq, Eq)]
+pub struct Fail {
+    /// The number of the call, from 1.
+    pub call: u64,
+    /// After how many bytes it fails: taken by a fetch, or written by a put.
+    pub after: usize,
+}
+
+/// The number of calls so far, and those that are to fail.
+#[derive(Drop)]
+pub struct Plan {
+    calls: u64,
+    fails: Vec<Fail>,
+}
+
+impl Model for Plan {
+    ghost use Rattle.tc_io.specs.Plan.{PlainPlan};
+
+    ghost Value = { PlainPlan };
+
+    ghost view = { λ p. record { calls = p.calls; fails = p.fails.items } };
+}
+
+impl Plan {
+    pub fn new(alloc: Global) -> Self
+        ensures { result ≡ no_plan }
+    {
+        Plan {
+            calls: 0,
+            fails: Vec::new(alloc),
+        }
+    }
+
+    /// Of two for one call the first counts.
+    pub fn add(&mut self, fail: Fail) -> Result<(), AllocError>
+        ensures ok { OnOk result (self.new ≡ record self.old { fails = self.old.fails ++ fail ∷ [] }) }
+        ensures err { OnErr result (self.new ≡ self.old) }
+    {
+        self.fails.push(fail)?;
+        Ok(())
+    }
+
+    /// Counts a call, and tells after how many bytes it is to fail, if it is to.
+    pub fn call(&mut self) -> Option<usize>
+        ensures counted { self.new ≡ with_call self.old }
+        ensures told { result ≡ told_at self.new }
+    {
+        self.calls = self.calls.saturating_add(1);
+        let call = self.calls;
+        self.fails
+            .iter()
+            .find(|fail| fail.call == call)
+            .map(|fail| fail.after)
+    }
+}

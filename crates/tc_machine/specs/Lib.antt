@@ -1,0 +1,4 @@
+pub mod Asked
+pub mod CanDo
+pub mod Counters
+pub mod Why

@@ -1,0 +1,20 @@
+//! The machine under sequential consistency: its states, its steps, and why a move isn't enabled.
+#![tactic(auto)]
+
+pub mod laws;
+mod machine;
+mod names;
+mod outcomes;
+mod state;
+mod thread;
+mod threads;
+mod why;
+
+pub use machine::{enabled, step};
+pub use names::Names;
+pub use outcomes::Outcomes;
+pub use state::{State, start};
+pub use why::Why;
+
+#[cfg(test)]
+mod tests;
