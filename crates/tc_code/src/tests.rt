@@ -9,38 +9,64 @@ fn equal(alloc: Global, left: Expr, right: Expr) -> Result<Expr, AllocError> {
     Ok(Expr::Binary(BinOp::Eq, Box::new(alloc, left)?, Box::new(alloc, right)?))
 }
 
-/// `int x; main { x = 1; assert(x == 2); }`
-fn stores_one(alloc: Global) -> Result<Vec<Func>, AllocError> {
-    let instrs = vec![in alloc;
-        Instr::Store {
-            cell: 0,
-            value: Expr::Number(1)
-        },
-        Instr::Load { slot: 0, cell: 0 },
-        Instr::Assert(equal(alloc, Expr::Slot(0), Expr::Number(2))?),
-        Instr::Exit,
-    ]?;
-    main(alloc, instrs)
-}
-
-/// Main alone, with one slot.
-fn main(alloc: Global, instrs: Vec<Instr>) -> Result<Vec<Func>, AllocError> {
-    let main = Func {
+/// `main { x = 1; assert(x == 2); }`
+fn stores_one(alloc: Global) -> Result<Func, AllocError> {
+    let is_two = equal(alloc, Expr::Slot(0), Expr::Number(2))?;
+    let mut instrs = Vec::new(alloc);
+    instrs.push(Instr::Store {
+        cell: 0,
+        value: Expr::Number(1),
+    })?;
+    instrs.push(Instr::Load { slot: 0, cell: 0 })?;
+    instrs.push(Instr::Assert(is_two))?;
+    instrs.push(Instr::Exit)?;
+    Ok(Func {
         params: 0,
         ints: 1,
         instrs,
-    };
-    Ok(vec![in alloc; main]?)
+    })
 }
 
-/// A function that only exits.
-fn exits(alloc: Global, params: u32, ints: u32) -> Result<Func, AllocError> {
-    let instrs = vec![in alloc; Instr::Exit]?;
-    Ok(Func {
+/// Main alone, with one slot: a load, a store and an assertion of these slots and cells, and so many exits.
+fn main_naming(
+    alloc: Global,
+    params: u32,
+    [slot, cell, to, from, asserted]: [u32; 5],
+    exits: u32,
+) -> Result<Vec<Func>, AllocError> {
+    let mut instrs = Vec::new(alloc);
+    instrs.push(Instr::Load { slot, cell })?;
+    instrs.push(Instr::Store {
+        cell: to,
+        value: Expr::Slot(from),
+    })?;
+    instrs.push(Instr::Assert(Expr::Slot(asserted)))?;
+    for _ in 0..exits {
+        instrs.push(Instr::Exit)?;
+    }
+    Ok(vec![in alloc;
+        Func {
+            params,
+            ints: 1,
+            instrs
+        },
+    ]?)
+}
+
+/// A function of so many parameters and one slot before a main without slots.
+fn main_after(alloc: Global, params: u32) -> Result<Vec<Func>, AllocError> {
+    let mut functions = Vec::new(alloc);
+    functions.push(Func {
         params,
-        ints,
-        instrs,
-    })
+        ints: 1,
+        instrs: vec![in alloc; Instr::Exit]?,
+    })?;
+    functions.push(Func {
+        params: 0,
+        ints: 0,
+        instrs: vec![in alloc; Instr::Exit]?,
+    })?;
+    Ok(functions)
 }
 
 fn is_lawful(alloc: Global, cells: usize, functions: Vec<Func>) -> Result<bool, AllocError> {
@@ -65,69 +91,41 @@ fn comparisons_have_values(rt: HostRuntime) -> Result<(), AllocError> {
 #[test]
 fn one_defect_is_refused(rt: HostRuntime) -> Result<(), AllocError> {
     let alloc = rt.alloc();
-    let load = Instr::Load { slot: 0, cell: 0 };
-    for (what, cells, functions, want) in [
-        ("one cell", 1, stores_one(alloc)?, true),
-        ("the most cells", 1024, stores_one(alloc)?, true),
-        ("too many cells", 1025, stores_one(alloc)?, false),
-        ("no cell", 0, stores_one(alloc)?, false),
-        ("no function", 1, Vec::new(alloc), false),
-        ("no instruction", 1, main(alloc, Vec::new(alloc))?, false),
-        ("no exit", 1, main(alloc, vec![in alloc; load]?)?, false),
-        (
-            "main with a parameter",
-            1,
-            vec![in alloc; exits(alloc, 1, 1)?]?,
-            false,
-        ),
-        (
-            "a parameter",
-            1,
-            vec![in alloc; exits(alloc, 1, 1)?, exits(alloc, 0, 0)?]?,
-            true,
-        ),
-        (
-            "params above ints",
-            1,
-            vec![in alloc; exits(alloc, 2, 1)?, exits(alloc, 0, 0)?]?,
-            false,
-        ),
+    for (what, cells, params, names, exits, want) in [
+        ("one cell", 1, 0, [0, 0, 0, 0, 0], 1, true),
+        ("the most cells", 1024, 0, [0, 0, 0, 0, 0], 1, true),
+        ("too many cells", 1025, 0, [0, 0, 0, 0, 0], 1, false),
+        ("a load to no slot", 1, 0, [1, 0, 0, 0, 0], 1, false),
+        ("a load of no cell", 1, 0, [0, 1, 0, 0, 0], 1, false),
+        ("a store to no cell", 1, 0, [0, 0, 1, 0, 0], 1, false),
+        ("a store of no slot", 1, 0, [0, 0, 0, 1, 0], 1, false),
+        ("an assertion of no slot", 1, 0, [0, 0, 0, 0, 1], 1, false),
+        ("no exit", 1, 0, [0, 0, 0, 0, 0], 0, false),
+        ("two exits", 1, 0, [0, 0, 0, 0, 0], 2, false),
+        ("main with a parameter", 1, 1, [0, 0, 0, 0, 0], 1, false),
     ] {
+        let functions = main_naming(alloc, params, names, exits)?;
         assert_eq!(rt; is_lawful(alloc, cells, functions)?, want, "{what}");
     }
-    for (what, instr, want) in [
-        ("a load", Instr::Load { slot: 0, cell: 0 }, true),
-        ("a load to no slot", Instr::Load { slot: 1, cell: 0 }, false),
-        ("a load of no cell", Instr::Load { slot: 0, cell: 1 }, false),
-        (
-            "a store to no cell",
-            Instr::Store {
-                cell: 1,
-                value: Expr::Number(1),
-            },
-            false,
-        ),
-        (
-            "a store of no slot",
-            Instr::Store {
-                cell: 0,
-                value: Expr::Slot(1),
-            },
-            false,
-        ),
-        (
-            "an assertion of no slot",
-            Instr::Assert(Expr::Slot(1)),
-            false,
-        ),
-        ("two exits", Instr::Exit, false),
-    ] {
-        let functions = main(alloc, vec![in alloc; instr, Instr::Exit]?)?;
-        assert_eq!(rt; is_lawful(alloc, 1, functions)?, want, "{what}");
+    for (params, want) in [(0, true), (1, true), (2, false)] {
+        let functions = main_after(alloc, params)?;
+        assert_eq!(rt;
+            is_lawful(alloc, 0, functions)?,
+            want,
+            "{params} parameters"
+        );
     }
+    assert!(rt; !is_lawful(alloc, 0, Vec::new(alloc))?);
     let load = Instr::Load { slot: 0, cell: 0 };
-    let past_exit = main(alloc, vec![in alloc; Instr::Exit, load]?)?;
-    assert!(rt; !is_lawful(alloc, 1, past_exit)?);
+    let instrs = vec![in alloc; Instr::Exit, load]?;
+    let goes_on = vec![in alloc;
+        Func {
+            params: 0,
+            ints: 1,
+            instrs
+        },
+    ]?;
+    assert!(rt; !is_lawful(alloc, 1, goes_on)?);
     Ok(())
 }
 
@@ -135,9 +133,9 @@ fn one_defect_is_refused(rt: HostRuntime) -> Result<(), AllocError> {
 fn lawful_code_is_read(rt: HostRuntime) -> Result<(), Fail> {
     let alloc = rt.alloc();
     let memory = vec![in alloc; 7]?;
-    let code = Code::new(memory, stores_one(alloc)?).ok_or("unlawful")?;
+    let code = Code::new(memory, vec![in alloc; stores_one(alloc)?]?).ok_or("unlawful")?;
     assert_eq!(rt; code.memory(), [7].as_slice());
-    assert_eq!(rt; code.functions(), stores_one(alloc)?.as_slice());
+    assert_eq!(rt; code.functions(), [stores_one(alloc)?].as_slice());
     let load = Instr::Load { slot: 0, cell: 0 };
     assert_eq!(rt; code.instr(0, 1), Some(&load));
     assert_eq!(rt; code.instr(0, 3), Some(&Instr::Exit));

@@ -1,0 +1,12 @@
+pub mod TextReading
+pub mod TextLemmas
+pub mod ProgramLemmas
+pub mod LoweringLemmas
+pub mod Schedules
+pub mod Plays
+pub mod Others
+pub mod Differs
+pub mod OneVerdict
+pub mod OneAnswer
+pub mod Statuses
+pub mod Calls

@@ -1,0 +1,14 @@
+pub mod Words
+pub mod Text
+pub mod Program
+pub mod Lowering
+pub mod Files
+pub mod Verdicts
+pub mod Answers
+pub mod Call
+pub mod Held
+pub mod Reading
+pub mod ProgramReading
+pub mod Fetched
+pub mod Played
+pub mod Judged
