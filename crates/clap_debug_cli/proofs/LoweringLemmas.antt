@@ -6,9 +6,9 @@ use Rattle.std.specs.List.{list_all, list_any, prefix_len}
 use Rattle.std.proofs.lemmas.Bool.{ltb-true, lt-ltb, le-leb}
 use Rattle.std.proofs.lemmas.List.{length-replicate}
 use Rattle.std.proofs.lemmas.List.Folds.{list_all-append}
-use Rattle.tc_code.specs.Expr.{Expr, Binary, Slot, names_slots}
+use Rattle.tc_code.specs.Expr.{Expr, Unary, Binary, Slot, names_slots}
 use Rattle.tc_code.specs.Expr as expr
-use Rattle.tc_code.specs.Code.{Code, Func, Instr, Exit, names_what_is, is_exit, ends_in_exit, is_lawful_function, ends_in_main, is_lawful}
+use Rattle.tc_code.specs.Code.{Code, Func, Instr, Exit, names_what_is, jumps_within, is_exit, ends_in_exit, is_lawful_function, ends_in_main, is_lawful}
 use Rattle.tc_code.specs.Seen.{plain_func, plain_code}
 use Rattle.tc_code.specs.declared.code.Func as built
 use Rattle.clap_debug_cli.specs.declared.program.tree.Atom.{Atom}
@@ -51,20 +51,23 @@ cell_within globals x e =
 names_more : (m n : ℕ) → m ≤ n → (e : Expr) → names_slots m e ≡ true → names_slots n e ≡ true
 names_more m n le (expr.Number k) h = refl
 names_more m n le (Slot k) h = lt-ltb k n (omega (arith, ltb-true k m h))
+names_more m n le (Unary op a) h = names_more m n le a h
 names_more m n le (Binary op a b) h =
     let parts = both (names_slots m a) (names_slots m b) h in
     together (names_slots n a) (names_slots n b) (names_more m n le a parts.0) (names_more m n le b parts.1)
 
--- what an instruction of a program's body is: it names what is there, and it is no exit
+-- what an instruction of a program's body is: it names what is there, it is no exit, and it jumps to no place
 record AreIn (cells ints : ℕ) (is : List Instr) : Type 0 where
   names : list_all (names_what_is cells ints) is ≡ true
   no_exit : list_all (λ i. not (is_exit i)) is ≡ true
+  jumps : (places : ℕ) → list_all (jumps_within places) is ≡ true
 
 AreIn-append : (cells ints : ℕ) (is js : List Instr) → AreIn cells ints is → AreIn cells ints js → AreIn cells ints (is ++ js)
 AreIn-append cells ints is js h k =
     record {
       names = list_all-append (names_what_is cells ints) is js ∙ together _ _ h.names k.names;
       no_exit = list_all-append (λ i. not (is_exit i)) is js ∙ together _ _ h.no_exit k.no_exit;
+      jumps = λ places. list_all-append (jumps_within places) is js ∙ together _ _ (h.jumps places) (k.jumps places);
     }
 
 atom_grows : (globals : List (List ℕ)) (free : ℕ) (a : Atom) → (free ≤ (evaluated_atom globals free a).free) × ((evaluated_atom globals free a).free ≤ free + 1)
@@ -94,11 +97,11 @@ lowered_grows globals free (s ∷ ss) =
 
 atom_in : (globals : List (List ℕ)) (free ints : ℕ) (a : Atom) → atom_names_global globals a ≡ true → (evaluated_atom globals free a).free ≤ ints
     → AreIn (length globals) ints (evaluated_atom globals free a).instrs × (names_slots ints (evaluated_atom globals free a).value ≡ true)
-atom_in globals free ints (Number n) h le = (record { names = refl; no_exit = refl }, refl)
+atom_in globals free ints (Number n) h le = (record { names = refl; no_exit = refl; jumps = λ _. refl }, refl)
 atom_in globals free ints (Name x) h le =
     let slot : nat_lt free ints ≡ true = lt-ltb free ints (omega arith) in
     let cell : nat_lt (cell_of globals x) (length globals) ≡ true = lt-ltb _ _ (cell_within globals x h) in
-    (record { names = together _ true (together _ _ slot cell) refl; no_exit = refl }, slot)
+    (record { names = together _ true (together _ _ slot cell) refl; no_exit = refl; jumps = λ _. refl }, slot)
 
 evaluated_in : (globals : List (List ℕ)) (free ints : ℕ) (e : Expression) → expression_names_globals globals e ≡ true → (evaluated globals free e).free ≤ ints
     → AreIn (length globals) ints (evaluated globals free e).instrs × (names_slots ints (evaluated globals free e).value ≡ true)
@@ -116,14 +119,14 @@ statement_in globals free ints (Assign x e) h le =
     let names = both (is_among globals x) (expression_names_globals globals e) h in
     let value = evaluated_in globals free ints e names.1 le in
     let cell : nat_lt (cell_of globals x) (length globals) ≡ true = lt-ltb _ _ (cell_within globals x names.0) in
-    AreIn-append _ _ _ _ value.0 (record { names = together _ true (together _ _ cell value.1) refl; no_exit = refl })
+    AreIn-append _ _ _ _ value.0 (record { names = together _ true (together _ _ cell value.1) refl; no_exit = refl; jumps = λ _. refl })
 statement_in globals free ints (Assert e) h le =
     let value = evaluated_in globals free ints e h le in
-    AreIn-append _ _ _ _ value.0 (record { names = together _ true value.1 refl; no_exit = refl })
+    AreIn-append _ _ _ _ value.0 (record { names = together _ true value.1 refl; no_exit = refl; jumps = λ _. refl })
 
 lowered_in : (globals : List (List ℕ)) (free ints : ℕ) (ss : List Statement) → list_all (statement_names_globals globals) ss ≡ true → (lowered globals free ss).free ≤ ints
     → AreIn (length globals) ints (lowered globals free ss).instrs
-lowered_in globals free ints [] h le = record { names = refl; no_exit = refl }
+lowered_in globals free ints [] h le = record { names = refl; no_exit = refl; jumps = λ _. refl }
 lowered_in globals free ints (s ∷ ss) h le =
     let names = both (statement_names_globals globals s) (list_all (statement_names_globals globals) ss) h in
     let grows = lowered_grows globals (lowered_statement globals free s).free ss in
@@ -151,7 +154,9 @@ main_is_lawful p h =
     let body = lowered p.globals 0 p.statements in
     let within = lowered_in p.globals 0 body.free p.statements h (omega arith) in
     let names = list_all-append (names_what_is (length p.globals) body.free) body.instrs (Exit ∷ []) ∙ together _ true within.names refl in
-    together _ _ (together _ _ (le-leb 0 body.free (omega arith)) names) (body_ends body.instrs within.no_exit)
+    let places = length (body.instrs ++ Exit ∷ []) in
+    let jumps = list_all-append (jumps_within places) body.instrs (Exit ∷ []) ∙ together _ true (within.jumps places) refl in
+    together _ _ (together _ _ (together _ _ (le-leb 0 body.free (omega arith)) names) jumps) (body_ends body.instrs within.no_exit)
 
 -- what is well named is lawful code
 pub code_is_lawful : (p : Program) → IsTrue (is_well_named p) → is_lawful (code_of p) ≡ true

@@ -8,7 +8,7 @@ use Rattle.tc_base.specs.declared.moves.Move.{Move}
 use Rattle.tc_code.specs.Code.{Code}
 use Rattle.tc_code.specs.Step.{step, opening}
 use Rattle.tc_code.specs.Run.{run, run_from}
-use Rattle.tc_code.proofs.Runs.{run_from-append}
+use Rattle.tc_code.proofs.Runs.{run_from-step}
 use Rattle.tc_machine.specs.Why.{why}
 use Rattle.tc_machine.specs.declared.why.Why.{Why}
 use Rattle.tc_machine.specs.Counters.{CountersAreBelowLast}
@@ -40,9 +40,7 @@ module _ (code : Code) (moves : List Move) (i : ℕ) (m : Move) (s : State NoBuf
   pub leads_on : (u : State NoBuffer) → step no_buffer code s m ≡ Some u → run no_buffer code (take (i + 1) moves) ≡ Some u
   leads_on u e =
       ap (run no_buffer code) (take_more moves i m lt ∙ ap (λ x. take i moves ++ x ∷ []) (sym here))
-      ∙ run_from-append no_buffer code (opening no_buffer code) (take i moves) (m ∷ [])
-      ∙ ap (option_and_then (λ v. run_from no_buffer code v (m ∷ []))) leads
-      ∙ ap (option_and_then (λ v. run_from no_buffer code v [])) e
+      ∙ run_from-step no_buffer code (opening no_buffer code) s u (take i moves) m leads e
 
   pub counts : length moves < 2 ^ 31 → CountersAreBelowLast s
   counts few = counters_below_last no_buffer code (take i moves) s leads (omega (arith, few, taken moves i lt))

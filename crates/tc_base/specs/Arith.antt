@@ -1,17 +1,103 @@
--- Arithmetic of `int`.
-use Rattle.std.specs.Prelude.{Bool, true, false, ℤ, pos}
+-- Arithmetic of `int`: 32 bits, two's complement, wrapping.
+use Rattle.std.specs.Prelude.{ℕ, zero, suc, ◌+◌, ◌-◌, ◌*◌, ◌%◌, ◌^◌, min, max, Bool, true, false, not, ℤ, pos, ◌+ℤ◌, ◌-ℤ◌, ◌*ℤ◌, neg_ℤ, int_lt, int_le}
+use Rattle.std.specs.Int.{w32, int_wrap, bit_at, cast_unsigned, cast_signed}
 use Rattle.std.specs.Ordering.{int_eq}
+use Rattle.tc_base.specs.declared.arith.UnOp.{UnOp}
+use Rattle.tc_base.specs.declared.arith.UnOp.TheVariants.{Neg, Not, Inv}
 use Rattle.tc_base.specs.declared.arith.BinOp.{BinOp}
-use Rattle.tc_base.specs.declared.arith.BinOp.TheVariants.{Eq}
+use Rattle.tc_base.specs.declared.arith.BinOp.TheVariants.{Add, Sub, Mul, And, Or, Xor, Eq, Ne, Lt, Le, Gt, Ge}
+
+-- a whole number, brought into the range of `int` modulo 2 ^ 32
+abbrev pub wrapped : ℤ → ℤ
+wrapped z = int_wrap w32 z
+
+-- the sum, wrapped
+abbrev pub plus : ℤ → ℤ → ℤ
+plus a b = wrapped (a +ℤ b)
+
+-- the difference, wrapped
+abbrev pub minus : ℤ → ℤ → ℤ
+minus a b = wrapped (a -ℤ b)
+
+-- the product, wrapped
+abbrev pub times : ℤ → ℤ → ℤ
+times a b = wrapped (a *ℤ b)
+
+-- the number with its sign changed, wrapped
+abbrev pub negated : ℤ → ℤ
+negated a = wrapped (neg_ℤ a)
+
+-- the bit at a place of a number's 32 bits in two's complement
+abbrev pub bit : ℤ → ℕ → ℕ
+bit a place = bit_at (cast_unsigned w32 a) place
+
+-- the natural number whose bits below place n are these: the bit at place k counts 2 ^ k
+unfoldable pub number : (ℕ → ℕ) → ℕ → ℕ
+number bits zero = 0
+number bits (suc n) = bits n * 2 ^ n + number bits n
+
+-- the `int` whose 32 bits are these
+abbrev pub with_bits : (ℕ → ℕ) → ℤ
+with_bits bits = cast_signed w32 (number bits 32)
+
+-- at each place the lesser bit: 1 where both are 1
+abbrev pub bits_and : ℤ → ℤ → ℤ
+bits_and a b = with_bits (λ place. min (bit a place) (bit b place))
+
+-- at each place the greater bit: 1 where one at least is 1
+abbrev pub bits_or : ℤ → ℤ → ℤ
+bits_or a b = with_bits (λ place. max (bit a place) (bit b place))
+
+-- at each place the sum of the bits modulo 2: 1 where they differ
+abbrev pub bits_xor : ℤ → ℤ → ℤ
+bits_xor a b = with_bits (λ place. (bit a place + bit b place) % 2)
+
+-- at each place the other bit
+abbrev pub bits_inverted : ℤ → ℤ
+bits_inverted a = with_bits (λ place. 1 - bit a place)
 
 -- a test gives 1 where it holds, and else 0
 abbrev pub truth : Bool → ℤ
 truth true = pos 1
 truth false = pos 0
 
+-- whether a number is 0
+abbrev pub is_zero : ℤ → ℤ
+is_zero a = truth (int_eq a (pos 0))
+
+-- whether two numbers are equal
 abbrev pub equal : ℤ → ℤ → ℤ
 equal a b = truth (int_eq a b)
 
+-- whether two numbers differ
+abbrev pub unequal : ℤ → ℤ → ℤ
+unequal a b = truth (not (int_eq a b))
+
+-- whether the first is below the second
+abbrev pub less : ℤ → ℤ → ℤ
+less a b = truth (int_lt a b)
+
+-- whether the first is not above the second
+abbrev pub less_or_equal : ℤ → ℤ → ℤ
+less_or_equal a b = truth (int_le a b)
+
+-- what an operator gives of a value
+abbrev pub unary : UnOp → ℤ → ℤ
+unary Neg a = negated a
+unary Not a = is_zero a
+unary Inv a = bits_inverted a
+
 -- what an operator gives of two values
 abbrev pub binary : BinOp → ℤ → ℤ → ℤ
+binary Add a b = plus a b
+binary Sub a b = minus a b
+binary Mul a b = times a b
+binary And a b = bits_and a b
+binary Or a b = bits_or a b
+binary Xor a b = bits_xor a b
 binary Eq a b = equal a b
+binary Ne a b = unequal a b
+binary Lt a b = less a b
+binary Le a b = less_or_equal a b
+binary Gt a b = less b a
+binary Ge a b = less_or_equal b a

@@ -8,7 +8,7 @@ mod moves;
 mod name;
 mod place;
 
-pub use arith::BinOp;
+pub use arith::{BinOp, UnOp};
 pub use model::Model;
 pub use moves::Move;
 pub use name::ThreadName;

@@ -6,7 +6,7 @@ use Rattle.std.proofs.lemmas.Bool.{false≢true}
 use Rattle.std.proofs.lemmas.Option.{none-some, same_Some, option_and_then_some, slice_get_within}
 use Rattle.tc_base.specs.Buffers.{BufferOps}
 use Rattle.tc_base.specs.States.{Local}
-use Rattle.tc_code.specs.Code.{Code, Func, Instr, instr_at, names_what_is, is_lawful, is_lawful_function, ends_in_exit, ends_in_main}
+use Rattle.tc_code.specs.Code.{Code, Func, Instr, instr_at, names_what_is, is_lawful, is_lawful_function, ends_in_exit, jumps_within, ends_in_main}
 use Rattle.tc_code.specs.Step.{slots_of, instr_of}
 use Rattle.std.specs.Prelude.{nat_le, ◌==◌, if◌then◌else◌}
 
@@ -51,7 +51,7 @@ module _ {B : Type 0} (ops : BufferOps B) where
       option_and_then_some (λ g. slice_get g.instrs k) (slice_get code.functions f) i at
       (λ g here there.
       let is : IsTrue (is_lawful_function (length code.memory) g) = list_all_at _ code.functions f g (lawful_functions code lawful) here in
-      let names = list_all_at _ g.instrs k i (second (nat_le g.params g.ints) _ (first _ (ends_in_exit g.instrs) is)) there in
+      let names = list_all_at _ g.instrs k i (second (nat_le g.params g.ints) _ (first _ (list_all (jumps_within (length g.instrs)) g.instrs) (first _ (ends_in_exit g.instrs) is))) there in
       let ints : slots_of ops code f ≡ g.ints = ap (λ (o : Option Func). unwrap_or (option_and_then (λ (g : Func). Some g.ints) o) 0) here in
       subst (λ n. IsTrue (names_what_is (length code.memory) n i)) (sym ints) names)
 

@@ -8,8 +8,15 @@ pub data Instr : Type 0 where
   -- the slot takes the value of the cell
   Load : (slot cell : ℕ) → Instr
   Store : (cell : ℕ) (value : Expr) → Instr
+  -- the slot takes the value
+  Set : (slot : ℕ) (value : Expr) → Instr
   -- a site: it fails where the value is 0
   Assert : (condition : Expr) → Instr
+  -- it goes on where the value isn't 0, and else to the target
+  Branch : (condition : Expr) (target : ℕ) → Instr
+  Goto : (target : ℕ) → Instr
+  -- it waits until all stores of the thread are in memory
+  Fence : Instr
   Exit : Instr
 
 pub record Func : Type 0 where
@@ -32,8 +39,18 @@ instr_at code function instruction = option_and_then (λ f. slice_get f.instrs i
 abbrev pub names_what_is : ℕ → ℕ → Instr → Bool
 names_what_is cells ints (Load k c) = nat_lt k ints && nat_lt c cells
 names_what_is cells ints (Store c e) = nat_lt c cells && names_slots ints e
+names_what_is cells ints (Set k e) = nat_lt k ints && names_slots ints e
 names_what_is cells ints (Assert e) = names_slots ints e
+names_what_is cells ints (Branch e to) = names_slots ints e
+names_what_is cells ints (Goto to) = true
+names_what_is cells ints Fence = true
 names_what_is cells ints Exit = true
+
+-- whether the target that an instruction names is one of so many instructions
+abbrev pub jumps_within : ℕ → Instr → Bool
+jumps_within places (Branch e to) = nat_lt to places
+jumps_within places (Goto to) = nat_lt to places
+jumps_within places _ = true
 
 abbrev pub is_exit : Instr → Bool
 is_exit Exit = true
@@ -44,7 +61,7 @@ abbrev pub ends_in_exit : List Instr → Bool
 ends_in_exit is = option_map_or (λ at. (at + 1) == length is) (position is_exit is) false
 
 abbrev pub is_lawful_function : ℕ → Func → Bool
-is_lawful_function cells f = nat_le f.params f.ints && list_all (names_what_is cells f.ints) f.instrs && ends_in_exit f.instrs
+is_lawful_function cells f = nat_le f.params f.ints && list_all (names_what_is cells f.ints) f.instrs && list_all (jumps_within (length f.instrs)) f.instrs && ends_in_exit f.instrs
 
 -- whether main is there, the last function, and takes no parameters
 abbrev pub ends_in_main : List Func → Bool

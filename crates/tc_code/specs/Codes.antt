@@ -1,35 +1,74 @@
 -- Code as stored data: an expression as the list of its parts, each operator after its operands.
-use Rattle.std.specs.Prelude.{◌≡◌, ℕ, ℤ, List, [], ◌∷◌, ◌++◌, Option, Some, None, refl, ◌⊎◌}
+use Rattle.std.specs.Prelude.{◌≡◌, ℕ, ℤ, List, [], ◌∷◌, ◌++◌, Option, Some, None, refl, ◌⊎◌, get_or}
 use Rattle.std.proofs.Common.{ap, ◌∙◌, inl, inr}
 use Rattle.std.specs.Coded.{Coded, code_by, coded_ℕ, coded_ℤ, coded_list, coded×, coded⊎, coded_option}
 use Rattle.tc_base.specs.declared.arith.BinOp.{BinOp}
-use Rattle.tc_base.specs.declared.arith.BinOp.TheVariants.{Eq}
-use Rattle.tc_code.specs.Expr.{Expr, Number, Slot, Binary}
-use Rattle.tc_code.specs.Code.{Instr, Load, Store, Assert, Exit, Func, Code}
+use Rattle.tc_base.specs.declared.arith.BinOp.TheVariants.{Add, Sub, Mul, And, Or, Xor, Eq, Ne, Lt, Le, Gt, Ge}
+use Rattle.tc_base.specs.declared.arith.UnOp.{UnOp}
+use Rattle.tc_base.specs.declared.arith.UnOp.TheVariants.{Neg, Not, Inv}
+use Rattle.tc_code.specs.Expr.{Expr, Number, Slot, Unary, Binary}
+use Rattle.tc_code.specs.Code.{Instr, Load, Store, Set, Assert, Branch, Goto, Fence, Exit, Func, Code}
 
--- a number, a slot, or an operator over what stands before
+-- a number, a slot, an operator over the one value that stands before, or one over the two
 abbrev Part : Type 0
-Part = (ℤ ⊎ ℕ) ⊎ ℕ
+Part = (ℤ ⊎ ℕ) ⊎ (ℕ ⊎ ℕ)
 
-abbrev number_of : BinOp → ℕ
-number_of Eq = 0
+abbrev unary_number : UnOp → ℕ
+unary_number Neg = 0
+unary_number Not = 1
+unary_number Inv = 2
 
-abbrev op_of : ℕ → BinOp
-op_of _ = Eq
+abbrev unary_op : ℕ → UnOp
+unary_op n = get_or (Neg ∷ Not ∷ Inv ∷ []) n Neg
 
-pub op_of-number_of : (op : BinOp) → op_of (number_of op) ≡ op
-op_of-number_of Eq = refl
+pub unary_op-unary_number : (op : UnOp) → unary_op (unary_number op) ≡ op
+unary_op-unary_number Neg = refl
+unary_op-unary_number Not = refl
+unary_op-unary_number Inv = refl
+
+abbrev binary_number : BinOp → ℕ
+binary_number Add = 0
+binary_number Sub = 1
+binary_number Mul = 2
+binary_number And = 3
+binary_number Or = 4
+binary_number Xor = 5
+binary_number Eq = 6
+binary_number Ne = 7
+binary_number Lt = 8
+binary_number Le = 9
+binary_number Gt = 10
+binary_number Ge = 11
+
+abbrev binary_op : ℕ → BinOp
+binary_op n = get_or (Add ∷ Sub ∷ Mul ∷ And ∷ Or ∷ Xor ∷ Eq ∷ Ne ∷ Lt ∷ Le ∷ Gt ∷ Ge ∷ []) n Add
+
+pub binary_op-binary_number : (op : BinOp) → binary_op (binary_number op) ≡ op
+binary_op-binary_number Add = refl
+binary_op-binary_number Sub = refl
+binary_op-binary_number Mul = refl
+binary_op-binary_number And = refl
+binary_op-binary_number Or = refl
+binary_op-binary_number Xor = refl
+binary_op-binary_number Eq = refl
+binary_op-binary_number Ne = refl
+binary_op-binary_number Lt = refl
+binary_op-binary_number Le = refl
+binary_op-binary_number Gt = refl
+binary_op-binary_number Ge = refl
 
 abbrev parts : Expr → List Part
 parts (Number n) = inl (inl n) ∷ []
 parts (Slot k) = inl (inr k) ∷ []
-parts (Binary op a b) = parts a ++ parts b ++ inr (number_of op) ∷ []
+parts (Unary op a) = parts a ++ inr (inl (unary_number op)) ∷ []
+parts (Binary op a b) = parts a ++ parts b ++ inr (inr (binary_number op)) ∷ []
 
 -- one part, over the trees that are open
 abbrev close : List Expr → Part → List Expr
 close trees (inl (inl n)) = Number n ∷ trees
 close trees (inl (inr k)) = Slot k ∷ trees
-close (b ∷ a ∷ trees) (inr n) = Binary (op_of n) a b ∷ trees
+close (a ∷ trees) (inr (inl n)) = Unary (unary_op n) a ∷ trees
+close (b ∷ a ∷ trees) (inr (inr n)) = Binary (binary_op n) a b ∷ trees
 close trees _ = trees
 
 abbrev closed : List Expr → List Part → List Expr
@@ -43,10 +82,14 @@ closed-append trees (p ∷ ps) qs = closed-append (close trees p) ps qs
 pub closed-parts : (e : Expr) (trees : List Expr) → closed trees (parts e) ≡ e ∷ trees
 closed-parts (Number n) trees = refl
 closed-parts (Slot k) trees = refl
+closed-parts (Unary op a) trees =
+    closed-append trees (parts a) _
+    ∙ ap (λ t. closed t (inr (inl (unary_number op)) ∷ [])) (closed-parts a trees)
+    ∙ ap (λ o. Unary o a ∷ trees) (unary_op-unary_number op)
 closed-parts (Binary op a b) trees =
     closed-append trees (parts a ++ parts b) _
-    ∙ ap (λ t. closed t (inr (number_of op) ∷ [])) (closed-append trees (parts a) (parts b) ∙ ap (λ t. closed t (parts b)) (closed-parts a trees) ∙ closed-parts b (a ∷ trees))
-    ∙ ap (λ o. Binary o a b ∷ trees) (op_of-number_of op)
+    ∙ ap (λ t. closed t (inr (inr (binary_number op)) ∷ [])) (closed-append trees (parts a) (parts b) ∙ ap (λ t. closed t (parts b)) (closed-parts a trees) ∙ closed-parts b (a ∷ trees))
+    ∙ ap (λ o. Binary o a b ∷ trees) (binary_op-binary_number op)
 
 abbrev first : List Expr → Expr
 first [] = Slot 0
@@ -59,31 +102,43 @@ pub tree-parts : (e : Expr) → tree (parts e) ≡ e
 tree-parts e = ap first (closed-parts e [])
 
 abbrev pub coded_expr : Coded Expr
-coded_expr = code_by (List Part) (coded_list (coded⊎ (coded⊎ coded_ℤ coded_ℕ) coded_ℕ)) parts tree tree-parts
+coded_expr = code_by (List Part) (coded_list (coded⊎ (coded⊎ coded_ℤ coded_ℕ) (coded⊎ coded_ℕ coded_ℕ))) parts tree tree-parts
 
 abbrev Split : Type 0
-Split = ((ℕ × ℕ) ⊎ (ℕ × Expr)) ⊎ Option Expr
+Split = (((ℕ × ℕ) ⊎ (ℕ × Expr)) ⊎ ((ℕ × Expr) ⊎ (ℕ × Expr))) ⊎ (Option Expr ⊎ Option ℕ)
 
 abbrev split : Instr → Split
-split (Load k c) = inl (inl (k, c))
-split (Store c e) = inl (inr (c, e))
-split (Assert e) = inr (Some e)
-split Exit = inr None
+split (Load k c) = inl (inl (inl (k, c)))
+split (Store c e) = inl (inl (inr (c, e)))
+split (Set k e) = inl (inr (inl (k, e)))
+split (Branch e to) = inl (inr (inr (to, e)))
+split (Assert e) = inr (inl (Some e))
+split Exit = inr (inl None)
+split (Goto to) = inr (inr (Some to))
+split Fence = inr (inr None)
 
 abbrev whole : Split → Instr
-whole (inl (inl p)) = Load p.0 p.1
-whole (inl (inr p)) = Store p.0 p.1
-whole (inr (Some e)) = Assert e
-whole (inr None) = Exit
+whole (inl (inl (inl p))) = Load p.0 p.1
+whole (inl (inl (inr p))) = Store p.0 p.1
+whole (inl (inr (inl p))) = Set p.0 p.1
+whole (inl (inr (inr p))) = Branch p.1 p.0
+whole (inr (inl (Some e))) = Assert e
+whole (inr (inl None)) = Exit
+whole (inr (inr (Some to))) = Goto to
+whole (inr (inr None)) = Fence
 
 pub whole-split : (i : Instr) → whole (split i) ≡ i
 whole-split (Load k c) = refl
 whole-split (Store c e) = refl
+whole-split (Set k e) = refl
+whole-split (Branch e to) = refl
 whole-split (Assert e) = refl
 whole-split Exit = refl
+whole-split (Goto to) = refl
+whole-split Fence = refl
 
 abbrev pub coded_instr : Coded Instr
-coded_instr = code_by Split (coded⊎ (coded⊎ (coded× coded_ℕ coded_ℕ) (coded× coded_ℕ coded_expr)) (coded_option coded_expr)) split whole whole-split
+coded_instr = code_by Split (coded⊎ (coded⊎ (coded⊎ (coded× coded_ℕ coded_ℕ) (coded× coded_ℕ coded_expr)) (coded⊎ (coded× coded_ℕ coded_expr) (coded× coded_ℕ coded_expr))) (coded⊎ (coded_option coded_expr) (coded_option coded_ℕ))) split whole whole-split
 
 abbrev pub coded_func : Coded Func
 coded_func = code_by ((ℕ × ℕ) × List Instr) (coded× (coded× coded_ℕ coded_ℕ) (coded_list coded_instr)) (λ f. ((f.params, f.ints), f.instrs)) (λ p. record { params = p.0.0; ints = p.0.1; instrs = p.1 }) (λ _. refl)

@@ -1,21 +1,25 @@
 -- Expressions over the int slots of a thread.
 use Rattle.std.specs.Prelude.{ℕ, ℤ, pos, List, slice_index_or, nat_lt, Bool, true, ◌&&◌}
-use Rattle.tc_base.specs.Arith.{binary}
+use Rattle.tc_base.specs.Arith.{unary, binary}
+use Rattle.tc_base.specs.declared.arith.UnOp.{UnOp}
 use Rattle.tc_base.specs.declared.arith.BinOp.{BinOp}
 
 pub data Expr : Type 0 where
   Number : (value : ℤ) → Expr
   Slot : (slot : ℕ) → Expr
+  Unary : (op : UnOp) (operand : Expr) → Expr
   Binary : (op : BinOp) (left right : Expr) → Expr
 
--- a number is itself, a slot has its value, and an operator gives its whole number
+-- a number is itself, a slot has its value, and an operator gives what it does of its operands' values
 abbrev pub value_of : Expr → List ℤ → ℤ
 value_of (Number n) slots = n
 value_of (Slot k) slots = slice_index_or slots k (pos 0)
+value_of (Unary op a) slots = unary op (value_of a slots)
 value_of (Binary op a b) slots = binary op (value_of a slots) (value_of b slots)
 
 -- whether each slot that it names is one of so many
 abbrev pub names_slots : ℕ → Expr → Bool
 names_slots n (Number _) = true
 names_slots n (Slot k) = nat_lt k n
+names_slots n (Unary _ a) = names_slots n a
 names_slots n (Binary _ a b) = names_slots n a && names_slots n b

@@ -1,5 +1,5 @@
 -- One step of the machine, for every memory model.
-use Rattle.std.specs.Prelude.{ℕ, ◌+◌, ◌-◌, ℤ, pos, List, [], length, Bool, true, false, not, is_some, Option, Some, None, unwrap_or, option_and_then, slice_get, slice_set, slice_index_or, if◌then◌else◌, replicate}
+use Rattle.std.specs.Prelude.{ℕ, ◌+◌, ◌-◌, ℤ, pos, List, [], ◌∷◌, ◌++◌, length, Bool, true, false, not, is_some, Option, Some, None, unwrap_or, option_and_then, slice_get, slice_set, slice_index_or, if◌then◌else◌, replicate}
 use Rattle.std.specs.Ordering.{int_eq}
 use Rattle.std.specs.FinMap as map
 use Rattle.tc_base.specs.Names.{Name, main}
@@ -8,13 +8,15 @@ use Rattle.tc_base.specs.States.{Local, Thread, State}
 use Rattle.tc_base.specs.declared.moves.Move.{Move}
 use Rattle.tc_base.specs.declared.moves.Move.TheVariants.{Run, Wake, Drain}
 use Rattle.tc_code.specs.Expr.{value_of}
-use Rattle.tc_code.specs.Code.{Code, Instr, Load, Store, Assert, Exit, instr_at}
+use Rattle.tc_code.specs.Code.{Code, Instr, Load, Store, Set, Assert, Branch, Goto, Fence, Exit, instr_at}
 
 -- what an instruction asks of the memory and of the other threads
 pub data Request : Type 0 where
   Silent : Request
   Read : (cell : ℕ) → Request
   Write : (cell : ℕ) (value : ℤ) → Request
+  -- that all its stores are in memory
+  Order_stores : Request
   Finish : Request
   -- a site that is false
   Fail : Request
@@ -30,7 +32,11 @@ is_zero n = int_eq n (pos 0)
 abbrev pub request : Local → Instr → Request
 request t (Load k c) = Read c
 request t (Store c e) = Write c (value_of e t.slots)
+request t (Set k e) = Silent
 request t (Assert e) = site (not (is_zero (value_of e t.slots)))
+request t (Branch e to) = Silent
+request t (Goto to) = Silent
+request t Fence = Order_stores
 request t Exit = Finish
 
 -- the thread after a step, at the same place
@@ -41,11 +47,24 @@ stepped t = record t { steps = t.steps + 1 }
 abbrev pub next : Local → Local
 next t = record (stepped t) { instruction = t.instruction + 1 }
 
+-- the thread after a step, at another place
+abbrev pub jumped : Local → ℕ → Local
+jumped t to = record (stepped t) { instruction = to }
+
+-- the thread after a branch: it keeps the outcome, and goes to the target where that is false
+abbrev pub branched : Local → Bool → ℕ → Local
+branched t true to = record (next t) { outcomes = t.outcomes ++ true ∷ [] }
+branched t false to = record (jumped t to) { outcomes = t.outcomes ++ false ∷ [] }
+
 -- the thread after an instruction that didn't fail; v is the value that a load takes
 abbrev pub local_after : Local → Instr → ℤ → Local
 local_after t (Load k c) v = record (next t) { slots = slice_set t.slots k v }
 local_after t (Store c e) v = next t
+local_after t (Set k e) v = record (next t) { slots = slice_set t.slots k (value_of e t.slots) }
 local_after t (Assert e) v = next t
+local_after t (Branch e to) v = branched t (not (is_zero (value_of e t.slots))) to
+local_after t (Goto to) v = jumped t to
+local_after t Fence v = next t
 local_after t Exit v = record (next t) { has_exited = true }
 
 -- the instruction that a thread does next, and none once it has exited
@@ -59,6 +78,7 @@ with_thread s n t = record s { threads = map.insert s.threads n t }
 module _ {B : Type 0} (ops : BufferOps B) where
   -- whether the request may be met now
   abbrev pub allows : State B → Thread B → Request → Bool
+  allows s t Order_stores = ops.is_empty t.buffer
   allows s t Finish = ops.is_empty t.buffer
   allows s t _ = true
 
@@ -81,6 +101,7 @@ module _ {B : Type 0} (ops : BufferOps B) where
   perform s n t i Silent = done s n t i (pos 0)
   perform s n t i (Read c) = done s n t i (loaded s t c)
   perform s n t i (Write c v) = stored s n t i c v
+  perform s n t i Order_stores = done s n t i (pos 0)
   perform s n t i Finish = done s n t i (pos 0)
   perform s n t i Fail = record (with_thread s n (record t { local = stepped t.local })) { failed = Some n }
 

@@ -1,7 +1,7 @@
 //! Code that is lawful by its type.
-ghost use Rattle.std.specs.Prelude.{◌≡◌, ℕ, length, map, Option, Some, None, IfSome, IsTrue, ◌↔◌, IsSome, option_map, ◌<◌, position};
+ghost use Rattle.std.specs.Prelude.{◌≡◌, ℕ, length, map, Option, Some, None, IfSome, IsTrue, ◌↔◌, IsSome, option_map, ◌<◌, ◌+◌, ◌^◌, OnSome, position};
 ghost use Rattle.std.specs.List.{list_all};
-ghost use Rattle.tc_code.specs.Code.{is_lawful, instr_at, names_what_is, ends_in_exit, ends_in_main, is_exit, is_lawful_function};
+ghost use Rattle.tc_code.specs.Code.{is_lawful, instr_at, names_what_is, jumps_within, ends_in_exit, ends_in_main, is_exit, is_lawful_function};
 ghost use Rattle.tc_code.specs.Seen.{plain_instr, plain_instrs, plain_func, plain_code};
 
 use crate::Expr;
@@ -16,8 +16,17 @@ pub enum Instr {
     Load { slot: u32, cell: u32 },
     /// The cell takes the value.
     Store { cell: u32, value: Expr },
+    /// The slot takes the value.
+    Set { slot: u32, value: Expr },
     /// A site, which fails where the value is 0.
     Assert(Expr),
+    /// The thread goes on where the value isn't 0, and else to the instruction of that number. It keeps
+    /// which of the two it was.
+    Branch { condition: Expr, target: u32 },
+    /// The thread goes to the instruction of that number.
+    Goto { target: u32 },
+    /// The thread waits until all its stores are in memory.
+    Fence,
     /// The thread ends.
     Exit,
 }
@@ -33,8 +42,8 @@ pub struct Func {
     pub instrs: Vec<Instr>,
 }
 
-/// Lawful code: all that an instruction names is there, each function ends in its only exit, and main is
-/// the last function and has no parameters.
+/// Lawful code: all that an instruction names is there, a jump leads to an instruction of its function, each
+/// function ends in its only exit, and main is the last function and has no parameters.
 #[derive(Debug, Drop)]
 pub struct Code {
     memory: Vec<i32>,
@@ -89,6 +98,7 @@ impl Code {
     pub fn instr(&self, function: usize, instruction: usize) -> Option<&Instr>
         ensures seen { option_map (λ i. plain_instr i.now) result ≡ instr_at self.now function instruction }
         ensures lawful { IsTrue (is_lawful self.now) }
+        ensures room { OnSome result (instruction + 1 < 2 ^ 64) }
     {
         self.functions.get(function)?.instrs.get(instruction)
     }
@@ -111,7 +121,10 @@ fn all_are_lawful(cells: usize, functions: &[Func]) -> bool
 fn is_lawful_function(cells: usize, f: &Func) -> bool
     ensures { result ≡ is_lawful_function cells (plain_func f.now) }
 {
-    f.params <= f.ints && all_name_what_is(cells, f.ints, &f.instrs) && ends_in_exit(&f.instrs)
+    f.params <= f.ints
+        && all_name_what_is(cells, f.ints, &f.instrs)
+        && all_jump_within(f.instrs.len(), &f.instrs)
+        && ends_in_exit(&f.instrs)
 }
 
 fn all_name_what_is(cells: usize, ints: u32, instrs: &[Instr]) -> bool
@@ -126,8 +139,25 @@ fn names_what_is(cells: usize, ints: u32, i: &Instr) -> bool
     match i {
         Instr::Load { slot, cell } => *slot < ints && (*cell as usize) < cells,
         Instr::Store { cell, value } => (*cell as usize) < cells && names_slots(value, ints),
+        Instr::Set { slot, value } => *slot < ints && names_slots(value, ints),
         Instr::Assert(condition) => names_slots(condition, ints),
-        Instr::Exit => true,
+        Instr::Branch { condition, .. } => names_slots(condition, ints),
+        Instr::Goto { .. } | Instr::Fence | Instr::Exit => true,
+    }
+}
+
+fn all_jump_within(places: usize, instrs: &[Instr]) -> bool
+    ensures { result ≡ list_all (λ i. jumps_within places (plain_instr i)) instrs.now }
+{
+    instrs.iter().all(|i| jumps_within(places, i))
+}
+
+fn jumps_within(places: usize, i: &Instr) -> bool
+    ensures { result ≡ jumps_within places (plain_instr i.now) }
+{
+    match i {
+        Instr::Branch { target, .. } | Instr::Goto { target } => (*target as usize) < places,
+        _ => true,
     }
 }
 

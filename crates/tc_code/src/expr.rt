@@ -3,7 +3,7 @@ ghost use Rattle.std.specs.Prelude.{◌≡◌, length, IsTrue};
 ghost use Rattle.tc_code.specs.Expr.{value_of, names_slots};
 ghost use Rattle.tc_code.specs.Seen.{plain_expr};
 
-use tc_base::{BinOp, arith};
+use tc_base::{BinOp, UnOp, arith};
 
 /// An expression over the int slots of a thread.
 #[derive(Debug, PartialEq, Eq, Drop)]
@@ -12,6 +12,8 @@ pub enum Expr {
     Number(i32),
     /// The slot of that number.
     Slot(u32),
+    /// An operator over one value.
+    Unary(UnOp, Box<Expr>),
     /// An operator over two values.
     Binary(BinOp, Box<Expr>, Box<Expr>),
 }
@@ -24,9 +26,12 @@ pub fn value(e: &Expr, slots: &[i32]) -> i32
     match e {
         Expr::Number(n) => *n,
         Expr::Slot(k) => slots[*k as usize],
-        Expr::Binary(op, left, right) => match op {
-            BinOp::Eq => arith::eq(value(left, slots), value(right, slots)),
-        },
+        Expr::Unary(op, operand) => arith::unary(*op, value(operand, slots)),
+        Expr::Binary(op, left, right) => arith::binary(
+            *op,
+            value(left, slots),
+            value(right, slots),
+        ),
     }
 }
 
@@ -37,6 +42,7 @@ pub(crate) fn names_slots(e: &Expr, count: u32) -> bool
     match e {
         Expr::Number(_) => true,
         Expr::Slot(k) => *k < count,
+        Expr::Unary(_, operand) => names_slots(operand, count),
         Expr::Binary(_, left, right) => names_slots(left, count) && names_slots(right, count),
     }
 }

@@ -3,7 +3,7 @@ use crate::expr::names_slots;
 use crate::{Code, Expr, Func, Instr, value};
 use std::alloc::{AllocError, Global};
 use std::test::Fail;
-use tc_base::BinOp;
+use tc_base::{BinOp, UnOp};
 
 fn equal(alloc: Global, left: Expr, right: Expr) -> Result<Expr, AllocError> {
     Ok(Expr::Binary(BinOp::Eq, Box::new(alloc, left)?, Box::new(alloc, right)?))
@@ -53,6 +53,32 @@ fn main_naming(
     ]?)
 }
 
+/// Main alone, with one slot: a set and a branch of these slots, and jumps to these places. The exit is at 4.
+fn main_jumping(
+    alloc: Global,
+    [slot, from, tested, branch, goto]: [u32; 5],
+) -> Result<Vec<Func>, AllocError> {
+    let mut instrs = Vec::new(alloc);
+    instrs.push(Instr::Set {
+        slot,
+        value: Expr::Slot(from),
+    })?;
+    instrs.push(Instr::Branch {
+        condition: Expr::Slot(tested),
+        target: branch,
+    })?;
+    instrs.push(Instr::Goto { target: goto })?;
+    instrs.push(Instr::Fence)?;
+    instrs.push(Instr::Exit)?;
+    Ok(vec![in alloc;
+        Func {
+            params: 0,
+            ints: 1,
+            instrs
+        },
+    ]?)
+}
+
 /// A function of so many parameters and one slot before a main without slots.
 fn main_after(alloc: Global, params: u32) -> Result<Vec<Func>, AllocError> {
     let mut functions = Vec::new(alloc);
@@ -85,6 +111,30 @@ fn comparisons_have_values(rt: HostRuntime) -> Result<(), AllocError> {
     assert!(rt; names_slots(&nested, 2));
     assert_eq!(rt; value(&nested, &[0, 1]), 1);
     assert_eq!(rt; value(&nested, &[1, 2]), 0);
+    Ok(())
+}
+
+/// `-x >= (y > 2)`, where x is slot 0 and y slot 1.
+fn negated_is_no_less(alloc: Global) -> Result<Expr, AllocError> {
+    let negated = Expr::Unary(UnOp::Neg, Box::new(alloc, Expr::Slot(0))?);
+    let number = Box::new(alloc, Expr::Number(2))?;
+    let greater = Expr::Binary(BinOp::Gt, Box::new(alloc, Expr::Slot(1))?, number);
+    Ok(Expr::Binary(
+        BinOp::Ge,
+        Box::new(alloc, negated)?,
+        Box::new(alloc, greater)?,
+    ))
+}
+
+#[test]
+fn nested_operators_have_values(rt: HostRuntime) -> Result<(), AllocError> {
+    let e = negated_is_no_less(rt.alloc())?;
+    assert!(rt; names_slots(&e, 2));
+    assert!(rt; !names_slots(&e, 1));
+    assert_eq!(rt; value(&e, &[3, 5]), 0);
+    assert_eq!(rt; value(&e, &[-1, 5]), 1);
+    assert_eq!(rt; value(&e, &[0, 2]), 1);
+    assert_eq!(rt; value(&e, &[1, 2]), 0);
     Ok(())
 }
 
@@ -126,6 +176,24 @@ fn one_defect_is_refused(rt: HostRuntime) -> Result<(), AllocError> {
         },
     ]?;
     assert!(rt; !is_lawful(alloc, 1, goes_on)?);
+    Ok(())
+}
+
+#[test]
+fn jumps_stay_in_their_function(rt: HostRuntime) -> Result<(), AllocError> {
+    let alloc = rt.alloc();
+    for (what, names, want) in [
+        ("jumps to the exit", [0, 0, 0, 4, 4], true),
+        ("jumps back", [0, 0, 0, 0, 2], true),
+        ("a set of no slot", [1, 0, 0, 4, 4], false),
+        ("a set to no slot", [0, 1, 0, 4, 4], false),
+        ("a branch on no slot", [0, 0, 1, 4, 4], false),
+        ("a branch past the end", [0, 0, 0, 5, 4], false),
+        ("a goto past the end", [0, 0, 0, 4, 5], false),
+    ] {
+        let functions = main_jumping(alloc, names)?;
+        assert_eq!(rt; is_lawful(alloc, 0, functions)?, want, "{what}");
+    }
     Ok(())
 }
 

@@ -1,12 +1,12 @@
 -- A `BTreeMap` by name, seen as a finite map.
-use Rattle.std.proofs.Common.{◌≡◌, List, [], ◌∷◌, refl, ap, sym, ◌∙◌, Option, Some, cond}
+use Rattle.std.proofs.Common.{◌≡◌, List, [], ◌∷◌, refl, ap, sym, ◌∙◌, Option, Some, Bool, true, false, cond}
 use Rattle.std.specs.FinMap as fin
 use Rattle.std.specs.FinMap.{get, insert, find, put, get-from_entries, from_entries, entries, entries-insert, get-insert, len-entries, len-empty, same_map}
 use Rattle.std.specs.List.{AllByRecursion}
 use Rattle.std.specs.List.Sorted.{IsStrictlySortedBy}
 use Rattle.std.specs.Ordering.{nat_cmp}
 use Rattle.std.specs.declared.cmp.Ordering.TheVariants.{Less}
-use Rattle.std.specs.Cmp.{eq_by_cmp_equiv}
+use Rattle.std.specs.Cmp.{eq_by_cmp_equiv, Equal-is}
 use Rattle.std.specs.Cmp.Lexicographic.{slice_cmp}
 use Rattle.std.specs.Map.{lookup, keys_of}
 use Rattle.std.specs.BTreeMap.{is_at}
@@ -41,6 +41,16 @@ pub map_of_update : {X : Type 0} (es fs : List (Name × X)) (n : Name) (x : X) �
 map_of_update es fs n x h = same_map nat_list_cmp_total exact_bytes _ _ (λ q.
     get-map_of fs q ∙ h q ∙ ap (λ b. cond b (Some x) (at_name es q)) ((eq_by_cmp_equiv nat_list_cmp_total).symm n q)
     ∙ sym (get-insert nat_list_cmp_total (map_of es) n x q ∙ ap (cond (is_at (slice_cmp nat_cmp q) n) (Some x)) (get-map_of es q)))
+
+cond_same : {A : Type 0} (b : Bool) (x y : A) → (b ≡ true → x ≡ y) → cond b x y ≡ y
+cond_same true x y h = h refl
+cond_same false x y h = refl
+
+-- what is there already is put in without a change
+pub insert_same : {X : Type 0} (m : ByName X) (n : Name) (x : X) → get m n ≡ Some x → insert m n x ≡ m
+insert_same m n x there = same_map nat_list_cmp_total exact_bytes _ _ (λ q.
+    get-insert nat_list_cmp_total m n x q
+    ∙ cond_same _ (Some x) (get m q) (λ same. sym there ∙ ap (get m) (sym (exact_bytes q n ((Equal-is _).0 same)))))
 
 put_first : {X : Type 0} (n : Name) (x : X) (es : List (Name × X)) → AllByRecursion (λ q. slice_cmp nat_cmp n q ≡ Less) (keys_of es) → put (slice_cmp nat_cmp) n x es ≡ (n, x) ∷ es
 put_first n x [] h = refl

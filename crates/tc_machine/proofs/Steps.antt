@@ -1,6 +1,6 @@
 -- What one step does to the threads and to the memory.
 use Rattle.std.proofs.Common.{◌≡◌, ℕ, ◌+◌, ◌≤◌, length, Bool, true, false, Option, Some, refl, subst, arith, cond, ℤ, pos}
-use Rattle.std.specs.Prelude.{is_some}
+use Rattle.std.specs.Prelude.{is_some, not}
 use Rattle.std.specs.FinMap as map
 use Rattle.std.proofs.lemmas.Option.{none-some, option_and_then_some, cond_some}
 use Rattle.std.proofs.Math.ListN.{length-set}
@@ -9,8 +9,9 @@ use Rattle.tc_base.specs.Buffers.{BufferOps}
 use Rattle.tc_base.specs.States.{Local, Thread, State}
 use Rattle.tc_base.specs.declared.moves.Move.{Move}
 use Rattle.tc_base.specs.declared.moves.Move.TheVariants.{Run, Wake, Drain}
-use Rattle.tc_code.specs.Code.{Code, Instr, Load, Store, Assert, Exit}
-use Rattle.tc_code.specs.Step.{Request, Silent, Read, Write, Finish, Fail, request, stepped, local_after, instr_of, allows, perform, drained, step, move_of, run_of, drain_of}
+use Rattle.tc_code.specs.Expr.{value_of}
+use Rattle.tc_code.specs.Code.{Code, Instr, Load, Store, Set, Assert, Branch, Goto, Fence, Exit}
+use Rattle.tc_code.specs.Step.{Request, Silent, Read, Write, Order_stores, Finish, Fail, request, is_zero, stepped, branched, local_after, instr_of, allows, perform, drained, step, move_of, run_of, drain_of}
 use Rattle.tc_code.proofs.Lawful.{unless}
 
 -- a thread goes on by one step at most, and stays in its function
@@ -19,19 +20,26 @@ pub record GoesOn (old new : Local) : Type 0 where
   pub slots : length new.slots ≡ length old.slots
   pub steps : new.steps ≤ old.steps + 1
   pub children : new.children ≤ old.children + 1
-  pub place : old.instruction ≤ old.steps → new.instruction ≤ new.steps
 
 pub goes_nowhere : (t : Local) → GoesOn t t
-goes_nowhere t = record { function = refl; slots = refl; steps = omega arith; children = omega arith; place = λ h. h }
+goes_nowhere t = record { function = refl; slots = refl; steps = omega arith; children = omega arith }
 
 pub goes_to_stepped : (t : Local) → GoesOn t (stepped t)
-goes_to_stepped t = record { function = refl; slots = refl; steps = omega arith; children = omega arith; place = λ h. omega (arith, h) }
+goes_to_stepped t = record { function = refl; slots = refl; steps = omega arith; children = omega arith }
+
+goes_branched : (t : Local) (b : Bool) (to : ℕ) → GoesOn t (branched t b to)
+goes_branched t true to = record { function = refl; slots = refl; steps = omega arith; children = omega arith }
+goes_branched t false to = record { function = refl; slots = refl; steps = omega arith; children = omega arith }
 
 pub goes_after : (t : Local) (i : Instr) (v : ℤ) → GoesOn t (local_after t i v)
-goes_after t (Load k c) v = record { function = refl; slots = length-set t.slots k v; steps = omega arith; children = omega arith; place = λ h. omega (arith, h) }
-goes_after t (Store c e) v = record { function = refl; slots = refl; steps = omega arith; children = omega arith; place = λ h. omega (arith, h) }
-goes_after t (Assert e) v = record { function = refl; slots = refl; steps = omega arith; children = omega arith; place = λ h. omega (arith, h) }
-goes_after t Exit v = record { function = refl; slots = refl; steps = omega arith; children = omega arith; place = λ h. omega (arith, h) }
+goes_after t (Load k c) v = record { function = refl; slots = length-set t.slots k v; steps = omega arith; children = omega arith }
+goes_after t (Store c e) v = record { function = refl; slots = refl; steps = omega arith; children = omega arith }
+goes_after t (Set k e) v = record { function = refl; slots = length-set t.slots k (value_of e t.slots); steps = omega arith; children = omega arith }
+goes_after t (Assert e) v = record { function = refl; slots = refl; steps = omega arith; children = omega arith }
+goes_after t (Branch e to) v = goes_branched t (not (is_zero (value_of e t.slots))) to
+goes_after t (Goto to) v = record { function = refl; slots = refl; steps = omega arith; children = omega arith }
+goes_after t Fence v = record { function = refl; slots = refl; steps = omega arith; children = omega arith }
+goes_after t Exit v = record { function = refl; slots = refl; steps = omega arith; children = omega arith }
 
 -- one thread goes on, the others stay, and memory keeps its cells
 pub record MovesOne {B : Type 0} (s u : State B) : Type 0 where
@@ -55,6 +63,7 @@ module _ {B : Type 0} (ops : BufferOps B) where
       stored_moves ops.buffered s _ _
       (record { name = n; before = t; after = _; there = there; threads = refl; goes = goes_after t.local i (pos 0); cells = refl })
       (record { name = n; before = t; after = _; there = there; threads = refl; goes = goes_after t.local i (pos 0); cells = length-set s.memory c v })
+  performed_moves s n t i Order_stores there = record { name = n; before = t; after = _; there = there; threads = refl; goes = goes_after t.local i (pos 0); cells = refl }
   performed_moves s n t i Finish there = record { name = n; before = t; after = _; there = there; threads = refl; goes = goes_after t.local i (pos 0); cells = refl }
   performed_moves s n t i Fail there = record { name = n; before = t; after = _; there = there; threads = refl; goes = goes_to_stepped t.local; cells = refl }
 

@@ -11,7 +11,7 @@ use Rattle.tc_base.specs.Names.{Name, ByName, main}
 use Rattle.tc_base.specs.Buffers.{BufferOps}
 use Rattle.tc_base.specs.States.{Local, Thread, State}
 use Rattle.tc_base.specs.declared.moves.Move.{Move}
-use Rattle.tc_code.specs.Code.{Code, Instr, Load, Store, Assert, Exit, names_what_is, is_lawful}
+use Rattle.tc_code.specs.Code.{Code, Instr, Load, Store, Set, Assert, Branch, Goto, Fence, Exit, names_what_is, is_lawful}
 use Rattle.tc_code.specs.Step.{request, site, instr_of, slots_of, born, opening, step}
 use Rattle.tc_code.specs.Run.{run, IsReached}
 use Rattle.tc_code.proofs.Runs.{kept_by_run, counted_by_run}
@@ -33,10 +33,9 @@ pub all_after_insert : {B : Type 0} (P : Local → Type 0) (threads : ByName (Th
 all_after_insert P threads n new all p q t h =
     put_in P (eq_by_cmp (slice_cmp nat_cmp) q n) (map.get threads q) new t p (all q) (sym (map.get-insert nat_list_cmp_total threads n new q) ∙ h)
 
--- a thread has the slots of its function, and its place is no further than its count
+-- a thread has the slots of its function
 pub record IsWholeThread {B : Type 0} (ops : BufferOps B) (code : Code) (t : Local) : Type 0 where
   pub slots : length t.slots ≡ slots_of ops code t.function
-  pub place : t.instruction ≤ t.steps
 
 -- memory has the cells of the code, and each thread is whole
 pub record IsWhole {B : Type 0} (ops : BufferOps B) (code : Code) (s : State B) : Type 0 where
@@ -45,7 +44,7 @@ pub record IsWhole {B : Type 0} (ops : BufferOps B) (code : Code) (s : State B) 
 
 module _ {B : Type 0} (ops : BufferOps B) (code : Code) where
   whole_goes_on : (old new : Local) → GoesOn old new → IsWholeThread ops code old → IsWholeThread ops code new
-  whole_goes_on old new g w = record { slots = g.slots ∙ w.slots ∙ ap (slots_of ops code) (sym g.function); place = g.place w.place }
+  whole_goes_on old new g w = record { slots = g.slots ∙ w.slots ∙ ap (slots_of ops code) (sym g.function) }
 
   -- all threads have a fact that the one that goes on keeps
   pub all_after_move : (P Q : Local → Type 0) → ((t : Local) → P t → Q t) → ((old new : Local) → GoesOn old new → P old → Q new) → (s u : State B) → MovesOne s u → AllThreads P s.threads → AllThreads Q u.threads
@@ -66,7 +65,7 @@ module _ {B : Type 0} (ops : BufferOps B) (code : Code) where
   all_at_opening P p = all_after_insert P map.empty main _ (λ n t h. absurd (none-some t (sym (map.get-empty (slice_cmp nat_cmp) n) ∙ h))) p
 
   opening_is_whole : IsWhole ops code (opening ops code)
-  opening_is_whole = record { cells = refl; threads = all_at_opening (IsWholeThread ops code) (record { slots = length-replicate _ _; place = omega arith }) }
+  opening_is_whole = record { cells = refl; threads = all_at_opening (IsWholeThread ops code) (record { slots = length-replicate _ _ }) }
 
   -- each state that a run reaches is whole
   pub reached_is_whole : (s : State B) → IsReached ops code s → IsWhole ops code s
@@ -112,17 +111,21 @@ module _ {B : Type 0} (ops : BufferOps B) (code : Code) where
   asks_within cells ints t (Load k c) h = cell_of_load k ints c cells h
   asks_within cells ints t (Store c e) h = cell_of_store c cells _ h
   asks_within cells ints t (Assert e) h = site_asks cells _
+  asks_within cells ints t (Set k e) h = tt
+  asks_within cells ints t (Branch e to) h = tt
+  asks_within cells ints t (Goto to) h = tt
+  asks_within cells ints t Fence h = tt
   asks_within cells ints t Exit h = tt
 
-  -- in a state that a run reaches, a thread can do the instruction at its place
-  pub can_perform : (s : State B) (n : Name) (t : Thread B) (i : Instr) → IsReached ops code s → IsTrue (is_lawful code) → CountersAreBelowLast s → map.get s.threads n ≡ Some t → instr_of code t.local ≡ Some i → CanPerform s i (request t.local i) t
-  can_perform s n t i reached lawful room there at =
+  -- in a state that a run reaches, a thread can do the instruction at its place, where there is room for the next
+  pub can_perform : (s : State B) (n : Name) (t : Thread B) (i : Instr) → IsReached ops code s → IsTrue (is_lawful code) → CountersAreBelowLast s → map.get s.threads n ≡ Some t → instr_of code t.local ≡ Some i → t.local.instruction + 1 < 2 ^ 64 → CanPerform s i (request t.local i) t
+  can_perform s n t i reached lawful counters there at next =
       let whole = reached_is_whole ops code s reached in
       let thread = whole.threads n t there in
-      let below = room n t there in
+      let below = counters n t there in
       let names = names_what_is-next ops code t.local i lawful at in
       let slots : IsTrue (names_what_is (length code.memory) (length t.local.slots) i) = subst (λ k. IsTrue (names_what_is (length code.memory) k i)) (sym thread.slots) names in
       record {
-        thread = record { slots = (length code.memory, slots); place = omega (arith, thread.place, below.steps); steps = below.steps };
+        thread = record { slots = (length code.memory, slots); place = next; steps = below.steps };
         cell = subst (λ k. AsksWithin k (request t.local i)) (sym whole.cells) (asks_within (length code.memory) _ t.local i names);
       }

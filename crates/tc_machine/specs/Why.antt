@@ -8,7 +8,7 @@ use Rattle.tc_base.specs.States.{Thread, State}
 use Rattle.tc_base.specs.declared.moves.Move.{Move}
 use Rattle.tc_base.specs.declared.moves.Move.TheVariants.{Run, Wake, Drain}
 use Rattle.tc_code.specs.Code.{Code, Instr}
-use Rattle.tc_code.specs.Step.{Request, Finish, request, instr_of}
+use Rattle.tc_code.specs.Step.{Request, Order_stores, Finish, request, instr_of}
 use Rattle.tc_machine.specs.declared.why.Why.{Why}
 use Rattle.tc_machine.specs.declared.why.Why.TheVariants.{Stopped, NoThread, Exited, NotDrained, Held, NotWoken, NotEnded, WaiterNeeded, WrongWaiter, NoEntry}
 
@@ -34,8 +34,9 @@ module _ {B : Type 0} (ops : BufferOps B) where
   abbrev pub why_doing : Code → State B → Name → (Thread B → Instr → Option Why) → Option Why
   why_doing code s n reason = why_at s n (λ t. option_map_or (reason t) (instr_of code t.local) (Some Exited))
 
-  -- an exit needs an empty buffer
+  -- a fence and an exit need an empty buffer
   abbrev pub why_unmet : Thread B → Request → Option Why
+  why_unmet t Order_stores = if ops.is_empty t.buffer then None else Some NotDrained
   why_unmet t Finish = if ops.is_empty t.buffer then None else Some NotDrained
   why_unmet t _ = None
 

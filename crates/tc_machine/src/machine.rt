@@ -53,8 +53,8 @@ fn next_instr<'a>(code: &'a Code, state: &State, name: &ThreadName) -> Result<&'
     thread.instr(code).ok_or(Why::Exited)
 }
 
-/// Does a move that is enabled. Where a site fails it takes memory for the thread's name, before it changes
-/// anything.
+/// Does a move that is enabled. It takes memory for the outcome of a branch, and for the name of a thread that
+/// fails, before it changes anything.
 pub fn step(alloc: Global, code: &Code, state: &mut State, m: &Move) -> Result<(), AllocError>
     requires reached { IsReached no_buffer code.now state.old }
     requires enabled { IsSome (step no_buffer code.now state.old m.now) }

@@ -1,7 +1,7 @@
 //! The outcomes of branches.
-ghost use Rattle.std.specs.Prelude.{◌≡◌, ◌==◌, length, []};
+ghost use Rattle.std.specs.Prelude.{◌≡◌, ◌==◌, length, [], ◌∷◌, ◌++◌, OnOk, OnErr};
 
-use std::alloc::Global;
+use std::alloc::{AllocError, Global};
 use std::marker::Model;
 
 /// The outcomes of a thread's branches, in order.
@@ -26,6 +26,15 @@ impl Outcomes {
         Outcomes {
             outcomes: Vec::new(alloc),
         }
+    }
+
+    /// One more, at the end.
+    pub(crate) fn push(&mut self, outcome: bool) -> Result<(), AllocError>
+        ensures ok { OnOk result (self.new ≡ self.old ++ outcome ∷ []) }
+        ensures err { OnErr result (self.new ≡ self.old) }
+    {
+        self.outcomes.push(outcome)?;
+        Ok(())
     }
 
     /// The outcomes, one after another.

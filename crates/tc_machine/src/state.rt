@@ -115,13 +115,16 @@ impl State {
         ensures err { OnErr result (self.new ≡ self.old) }
     {
         match request {
-            Request::Silent | Request::Finish => self.threads.advance(name, instr, 0),
-            Request::Read(cell) => self
-                .threads
-                .advance(name, instr, self.memory[cell as usize]),
+            Request::Silent | Request::OrderStores | Request::Finish => {
+                self.threads.advance(name, instr, 0)?;
+            }
+            Request::Read(cell) => {
+                self.threads
+                    .advance(name, instr, self.memory[cell as usize])?;
+            }
             Request::Write(cell, value) => {
+                self.threads.advance(name, instr, 0)?;
                 self.memory[cell as usize] = value;
-                self.threads.advance(name, instr, 0);
             }
             Request::Fail => {
                 let failed = name.clone()?;

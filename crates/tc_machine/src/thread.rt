@@ -1,5 +1,5 @@
 //! A thread, and what an instruction asks and does.
-ghost use Rattle.std.specs.Prelude.{◌≡◌, ℕ, ◌+◌, ◌<◌, ◌^◌, length, IsTrue, replicate, pos, IfOk, OnSome, option_map};
+ghost use Rattle.std.specs.Prelude.{◌≡◌, ℕ, ◌+◌, ◌<◌, ◌^◌, length, IsTrue, replicate, pos, IfOk, OnOk, OnErr, OnSome, option_map};
 ghost use Rattle.tc_base.specs.Buffers.{no_buffer};
 ghost use Rattle.tc_code.specs.Code.{is_lawful};
 ghost use Rattle.tc_code.specs.Seen.{plain_instr};
@@ -57,6 +57,7 @@ pub(crate) enum Request {
     Silent,
     Read(u32),
     Write(u32, i32),
+    OrderStores,
     Finish,
     Fail,
 }
@@ -108,6 +109,7 @@ impl Thread {
     pub(crate) fn instr<'a>(&self, code: &'a Code) -> Option<&'a Instr>
         ensures next { option_map (λ i. plain_instr i.now) result ≡ instr_of code.now self.now.local }
         ensures lawful { OnSome result (IsTrue (is_lawful code.now)) }
+        ensures room { OnSome result (self.now.local.instruction + 1 < 2 ^ 64) }
     {
         if self.has_exited {
             return None;
@@ -130,22 +132,39 @@ impl Thread {
                     Request::Silent
                 }
             }
+            Instr::Set { .. } | Instr::Branch { .. } | Instr::Goto { .. } => Request::Silent,
+            Instr::Fence => Request::OrderStores,
             Instr::Exit => Request::Finish,
         }
     }
 
-    /// Does an instruction that doesn't fail, `value` being what a load takes.
-    pub(crate) fn advance(&mut self, instr: &Instr, value: i32)
+    /// Does an instruction that doesn't fail, `taken` being what a load takes. The outcome of a branch takes
+    /// memory, before anything changes.
+    pub(crate) fn advance(&mut self, instr: &Instr, taken: i32) -> Result<(), AllocError>
         requires { CanDo self.old.local (plain_instr instr.now) }
-        ensures { self.new ≡ record self.old { local = local_after self.old.local (plain_instr instr.now) value } }
+        ensures ok { OnOk result (self.new ≡ record self.old { local = local_after self.old.local (plain_instr instr.now) taken }) }
+        ensures err { OnErr result (self.new ≡ self.old) }
     {
+        let mut next = self.instruction + 1;
         match instr {
-            Instr::Load { slot, cell: _ } => self.slots[*slot as usize] = value,
-            Instr::Store { .. } | Instr::Assert(_) => {}
+            Instr::Load { slot, cell: _ } => self.slots[*slot as usize] = taken,
+            Instr::Set { slot, value: e } => {
+                self.slots[*slot as usize] = value(e, &self.slots);
+            }
+            Instr::Branch { condition, target } => {
+                let outcome = value(condition, &self.slots) != 0;
+                self.outcomes.push(outcome)?;
+                if !outcome {
+                    next = *target as usize;
+                }
+            }
+            Instr::Goto { target } => next = *target as usize,
             Instr::Exit => self.has_exited = true,
+            Instr::Store { .. } | Instr::Assert(_) | Instr::Fence => {}
         }
-        self.instruction += 1;
+        self.instruction = next;
         self.count_step();
+        Ok(())
     }
 
     /// Counts a step, at the same place.

@@ -1,5 +1,5 @@
 //! Threads by name.
-ghost use Rattle.std.specs.Prelude.{◌≡◌, ℕ, ◌+◌, ◌<◌, ◌^◌, length, IsTrue, IfOk, IfSome, option_map, Some, None};
+ghost use Rattle.std.specs.Prelude.{◌≡◌, ℕ, ◌+◌, ◌<◌, ◌^◌, length, IsTrue, IfOk, IfSome, OnOk, OnErr, option_map, Some, None};
 ghost use Rattle.std.specs.FinMap as map;
 ghost use Rattle.tc_base.specs.Names.{main};
 ghost use Rattle.tc_code.specs.Seen.{plain_instr};
@@ -67,14 +67,21 @@ impl Threads {
         self.by_name.get(name)
     }
 
-    /// The thread does an instruction that doesn't fail, `value` being what a load takes.
-    pub(crate) fn advance(&mut self, name: &ThreadName, instr: &Instr, value: i32)
+    /// The thread does an instruction that doesn't fail, `taken` being what a load takes.
+    pub(crate) fn advance(
+        &mut self,
+        name: &ThreadName,
+        instr: &Instr,
+        taken: i32,
+    ) -> Result<(), AllocError>
         requires { IfSome (map.get self.old name.now) (λ t. CanDo t.local (plain_instr instr.now)) }
-        ensures { IfSome (map.get self.old name.now)
-            (λ t. self.new ≡ map.insert self.old name.now (record t { local = local_after t.local (plain_instr instr.now) value })) }
+        ensures ok { OnOk result (IfSome (map.get self.old name.now)
+            (λ t. self.new ≡ map.insert self.old name.now (record t { local = local_after t.local (plain_instr instr.now) taken }))) }
+        ensures err { OnErr result (self.new ≡ self.old) }
     {
-        if let Some(thread) = self.by_name.get_mut(name) {
-            thread.advance(instr, value);
+        match self.by_name.get_mut(name) {
+            Some(thread) => thread.advance(instr, taken),
+            None => Ok(()),
         }
     }
 

@@ -9,10 +9,10 @@ use Rattle.tc_machine.proofs.machine.run.Goals as goal
 
 pub request-request-requires : goal.request-request-requires
 request-request-requires c =
-    (can_perform no_buffer c.args.code.now c.args.state.now c.args.name.now c.in-Some.thread.now (plain_instr c.in-Some-instr.instr.now) c.requires.reached c.in-Some-instr.ensures.lawful c.requires.counters (sym c.in-Some.ensures) (sym c.in-Some-instr.ensures.next)).thread.slots
+    (can_perform no_buffer c.args.code.now c.args.state.now c.args.name.now c.in-Some.thread.now (plain_instr c.in-Some-instr.instr.now) c.requires.reached c.in-Some-instr.ensures.lawful c.requires.counters (sym c.in-Some.ensures) (sym c.in-Some-instr.ensures.next) c.in-Some-instr.ensures.room).thread.slots
 
 pub perform-requires : goal.perform-requires
 perform-requires c =
-    let can = can_perform no_buffer c.args.code.now c.args.state.now c.args.name.now c.in-Some.thread.now (plain_instr c.in-Some-instr.instr.now) c.requires.reached c.in-Some-instr.ensures.lawful c.requires.counters (sym c.in-Some.ensures) (sym c.in-Some-instr.ensures.next) in
+    let can = can_perform no_buffer c.args.code.now c.args.state.now c.args.name.now c.in-Some.thread.now (plain_instr c.in-Some-instr.instr.now) c.requires.reached c.in-Some-instr.ensures.lawful c.requires.counters (sym c.in-Some.ensures) (sym c.in-Some-instr.ensures.next) c.in-Some-instr.ensures.room in
     subst (λ o. IsSomeAnd o (CanPerform c.args.state.now (plain_instr c.in-Some-instr.instr.now) (plain_request c.request-request.result))) c.in-Some.ensures
     (subst (λ r. CanPerform c.args.state.now (plain_instr c.in-Some-instr.instr.now) r c.in-Some.thread.now) (sym c.request-request.ensures) can)
