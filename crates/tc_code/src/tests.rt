@@ -185,8 +185,8 @@ fn jumps_stay_in_their_function(rt: HostRuntime) -> Result<(), AllocError> {
     for (what, names, want) in [
         ("jumps to the exit", [0, 0, 0, 4, 4], true),
         ("jumps back", [0, 0, 0, 0, 2], true),
-        ("a set of no slot", [1, 0, 0, 4, 4], false),
-        ("a set to no slot", [0, 1, 0, 4, 4], false),
+        ("a set to no slot", [1, 0, 0, 4, 4], false),
+        ("a set from no slot", [0, 1, 0, 4, 4], false),
         ("a branch on no slot", [0, 0, 1, 4, 4], false),
         ("a branch past the end", [0, 0, 0, 5, 4], false),
         ("a goto past the end", [0, 0, 0, 4, 5], false),

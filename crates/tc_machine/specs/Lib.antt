@@ -1,4 +1,5 @@
 pub mod Asked
 pub mod CanDo
 pub mod Counters
+pub mod Moves
 pub mod Why

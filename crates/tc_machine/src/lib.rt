@@ -2,6 +2,7 @@
 #![tactic(auto)]
 
 pub mod laws;
+mod listed;
 mod machine;
 mod names;
 mod outcomes;
@@ -10,6 +11,7 @@ mod thread;
 mod threads;
 mod why;
 
+pub use listed::moves;
 pub use machine::{enabled, step};
 pub use names::Names;
 pub use outcomes::Outcomes;

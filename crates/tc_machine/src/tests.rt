@@ -161,3 +161,22 @@ fn refuses_other_moves(rt: HostRuntime) -> Result<(), Fail> {
     assert_eq!(rt; format!(in alloc; "{}", Why::NoEntry)?.as_str(), "NoEntry");
     Ok(())
 }
+
+/// How many moves are enabled after so many runs of main.
+fn enabled_after(alloc: Global, code: Option<Code>, count: usize) -> Result<usize, Fail>
+    requires { count < 100 }
+{
+    let code = code.ok_or("unlawful")?;
+    let state = after(alloc, &code, count)?;
+    let enabled = moves(alloc, &code, &state)?;
+    Ok(enabled.len())
+}
+
+#[test]
+fn moves_by_hand(rt: HostRuntime) -> Result<(), Fail> {
+    let alloc = rt.alloc();
+    assert_eq!(rt; enabled_after(alloc, loops(alloc)?, 0)?, 1);
+    assert_eq!(rt; enabled_after(alloc, loops(alloc)?, 7)?, 0);
+    assert_eq!(rt; enabled_after(alloc, stores_one(alloc, 2)?, 3)?, 0);
+    Ok(())
+}
