@@ -8,8 +8,9 @@ use Rattle.std.proofs.lemmas.List.{length-replicate}
 use Rattle.std.proofs.lemmas.List.Folds.{list_all-append}
 use Rattle.tc_code.specs.Expr.{Expr, Unary, Binary, Slot, names_slots}
 use Rattle.tc_code.specs.Expr as expr
-use Rattle.tc_code.specs.Code.{Code, Func, Instr, Exit, names_what_is, jumps_within, is_exit, ends_in_exit, is_lawful_function, ends_in_main, is_lawful}
+use Rattle.tc_code.specs.Code.{Code, Func, Instr, Exit, names_what_is, is_exit, all_may_stand, ends_in_exit, is_lawful_function, ends_in_main, is_lawful}
 use Rattle.tc_code.specs.Seen.{plain_func, plain_code}
+use Rattle.tc_code.proofs.Standing.{stands_anywhere, all_stand_anywhere}
 use Rattle.tc_code.specs.declared.code.Func as built
 use Rattle.clap_debug_cli.specs.declared.program.tree.Atom.{Atom}
 use Rattle.clap_debug_cli.specs.declared.program.tree.Atom.TheVariants.{Number, Name}
@@ -56,18 +57,18 @@ names_more m n le (Binary op a b) h =
     let parts = both (names_slots m a) (names_slots m b) h in
     together (names_slots n a) (names_slots n b) (names_more m n le a parts.0) (names_more m n le b parts.1)
 
--- what an instruction of a program's body is: it names what is there, it is no exit, and it jumps to no place
-record AreIn (cells ints : ℕ) (is : List Instr) : Type 0 where
-  names : list_all (names_what_is cells ints) is ≡ true
+-- what the instructions of a program's body are: they name what is there, stand anywhere, and are no exits
+record AreIn (code : Code) (f : Func) (is : List Instr) : Type 0 where
+  names : list_all (names_what_is code f) is ≡ true
+  anywhere : list_all stands_anywhere is ≡ true
   no_exit : list_all (λ i. not (is_exit i)) is ≡ true
-  jumps : (places : ℕ) → list_all (jumps_within places) is ≡ true
 
-AreIn-append : (cells ints : ℕ) (is js : List Instr) → AreIn cells ints is → AreIn cells ints js → AreIn cells ints (is ++ js)
-AreIn-append cells ints is js h k =
+AreIn-append : (code : Code) (f : Func) (is js : List Instr) → AreIn code f is → AreIn code f js → AreIn code f (is ++ js)
+AreIn-append code f is js h k =
     record {
-      names = list_all-append (names_what_is cells ints) is js ∙ together _ _ h.names k.names;
+      names = list_all-append (names_what_is code f) is js ∙ together _ _ h.names k.names;
+      anywhere = list_all-append stands_anywhere is js ∙ together _ _ h.anywhere k.anywhere;
       no_exit = list_all-append (λ i. not (is_exit i)) is js ∙ together _ _ h.no_exit k.no_exit;
-      jumps = λ places. list_all-append (jumps_within places) is js ∙ together _ _ (h.jumps places) (k.jumps places);
     }
 
 atom_grows : (globals : List (List ℕ)) (free : ℕ) (a : Atom) → (free ≤ (evaluated_atom globals free a).free) × ((evaluated_atom globals free a).free ≤ free + 1)
@@ -95,42 +96,44 @@ lowered_grows globals free (s ∷ ss) =
 
 -- ---- what each part names
 
-atom_in : (globals : List (List ℕ)) (free ints : ℕ) (a : Atom) → atom_names_global globals a ≡ true → (evaluated_atom globals free a).free ≤ ints
-    → AreIn (length globals) ints (evaluated_atom globals free a).instrs × (names_slots ints (evaluated_atom globals free a).value ≡ true)
-atom_in globals free ints (Number n) h le = (record { names = refl; no_exit = refl; jumps = λ _. refl }, refl)
-atom_in globals free ints (Name x) h le =
-    let slot : nat_lt free ints ≡ true = lt-ltb free ints (omega arith) in
-    let cell : nat_lt (cell_of globals x) (length globals) ≡ true = lt-ltb _ _ (cell_within globals x h) in
-    (record { names = together _ true (together _ _ slot cell) refl; no_exit = refl; jumps = λ _. refl }, slot)
+module _ (code : Code) (f : Func) (globals : List (List ℕ)) (cells : length globals ≡ length code.memory) where
+  has_cell : (x : List ℕ) → is_among globals x ≡ true → nat_lt (cell_of globals x) (length code.memory) ≡ true
+  has_cell x h = subst (λ n. nat_lt (cell_of globals x) n ≡ true) cells (lt-ltb _ _ (cell_within globals x h))
 
-evaluated_in : (globals : List (List ℕ)) (free ints : ℕ) (e : Expression) → expression_names_globals globals e ≡ true → (evaluated globals free e).free ≤ ints
-    → AreIn (length globals) ints (evaluated globals free e).instrs × (names_slots ints (evaluated globals free e).value ≡ true)
-evaluated_in globals free ints (expression.Atom a) h le = atom_in globals free ints a h le
-evaluated_in globals free ints (expression.Equal a b) h le =
-    let names = both (atom_names_global globals a) (atom_names_global globals b) h in
-    let grows = atom_grows globals (evaluated_atom globals free a).free b in
-    let left = atom_in globals free ints a names.0 (omega arith) in
-    let right = atom_in globals (evaluated_atom globals free a).free ints b names.1 (omega arith) in
-    (AreIn-append _ _ _ _ left.0 right.0, together _ _ left.1 right.1)
+  atom_in : (free : ℕ) (a : Atom) → atom_names_global globals a ≡ true → (evaluated_atom globals free a).free ≤ f.ints
+      → AreIn code f (evaluated_atom globals free a).instrs × (names_slots f.ints (evaluated_atom globals free a).value ≡ true)
+  atom_in free (Number n) h le = (record { names = refl; anywhere = refl; no_exit = refl }, refl)
+  atom_in free (Name x) h le =
+      let slot : nat_lt free f.ints ≡ true = lt-ltb free f.ints (omega arith) in
+      (record { names = together _ true (together _ _ slot (has_cell x h)) refl; anywhere = refl; no_exit = refl }, slot)
 
-statement_in : (globals : List (List ℕ)) (free ints : ℕ) (s : Statement) → statement_names_globals globals s ≡ true → (lowered_statement globals free s).free ≤ ints
-    → AreIn (length globals) ints (lowered_statement globals free s).instrs
-statement_in globals free ints (Assign x e) h le =
-    let names = both (is_among globals x) (expression_names_globals globals e) h in
-    let value = evaluated_in globals free ints e names.1 le in
-    let cell : nat_lt (cell_of globals x) (length globals) ≡ true = lt-ltb _ _ (cell_within globals x names.0) in
-    AreIn-append _ _ _ _ value.0 (record { names = together _ true (together _ _ cell value.1) refl; no_exit = refl; jumps = λ _. refl })
-statement_in globals free ints (Assert e) h le =
-    let value = evaluated_in globals free ints e h le in
-    AreIn-append _ _ _ _ value.0 (record { names = together _ true value.1 refl; no_exit = refl; jumps = λ _. refl })
+  evaluated_in : (free : ℕ) (e : Expression) → expression_names_globals globals e ≡ true → (evaluated globals free e).free ≤ f.ints
+      → AreIn code f (evaluated globals free e).instrs × (names_slots f.ints (evaluated globals free e).value ≡ true)
+  evaluated_in free (expression.Atom a) h le = atom_in free a h le
+  evaluated_in free (expression.Equal a b) h le =
+      let names = both (atom_names_global globals a) (atom_names_global globals b) h in
+      let grows = atom_grows globals (evaluated_atom globals free a).free b in
+      let left = atom_in free a names.0 (omega arith) in
+      let right = atom_in (evaluated_atom globals free a).free b names.1 (omega arith) in
+      (AreIn-append code f _ _ left.0 right.0, together _ _ left.1 right.1)
 
-lowered_in : (globals : List (List ℕ)) (free ints : ℕ) (ss : List Statement) → list_all (statement_names_globals globals) ss ≡ true → (lowered globals free ss).free ≤ ints
-    → AreIn (length globals) ints (lowered globals free ss).instrs
-lowered_in globals free ints [] h le = record { names = refl; no_exit = refl; jumps = λ _. refl }
-lowered_in globals free ints (s ∷ ss) h le =
-    let names = both (statement_names_globals globals s) (list_all (statement_names_globals globals) ss) h in
-    let grows = lowered_grows globals (lowered_statement globals free s).free ss in
-    AreIn-append _ _ _ _ (statement_in globals free ints s names.0 (omega arith)) (lowered_in globals (lowered_statement globals free s).free ints ss names.1 le)
+  statement_in : (free : ℕ) (s : Statement) → statement_names_globals globals s ≡ true → (lowered_statement globals free s).free ≤ f.ints
+      → AreIn code f (lowered_statement globals free s).instrs
+  statement_in free (Assign x e) h le =
+      let names = both (is_among globals x) (expression_names_globals globals e) h in
+      let value = evaluated_in free e names.1 le in
+      AreIn-append code f _ _ value.0 (record { names = together _ true (together _ _ (has_cell x names.0) value.1) refl; anywhere = refl; no_exit = refl })
+  statement_in free (Assert e) h le =
+      let value = evaluated_in free e h le in
+      AreIn-append code f _ _ value.0 (record { names = together _ true value.1 refl; anywhere = refl; no_exit = refl })
+
+  lowered_in : (free : ℕ) (ss : List Statement) → list_all (statement_names_globals globals) ss ≡ true → (lowered globals free ss).free ≤ f.ints
+      → AreIn code f (lowered globals free ss).instrs
+  lowered_in free [] h le = record { names = refl; anywhere = refl; no_exit = refl }
+  lowered_in free (s ∷ ss) h le =
+      let names = both (statement_names_globals globals s) (list_all (statement_names_globals globals) ss) h in
+      let grows = lowered_grows globals (lowered_statement globals free s).free ss in
+      AreIn-append code f _ _ (statement_in free s names.0 (omega arith)) (lowered_in (lowered_statement globals free s).free ss names.1 le)
 
 -- ---- the whole
 
@@ -149,14 +152,14 @@ body_ends is h =
     let there : nat_lt place (length all) ≡ true = lt-ltb place (length all) (omega arith) in
     subst (λ b. option_map_or (λ k. (k + 1) == length all) (cond b (Some place) None) false ≡ true) (sym there) (eq-eqb (place + 1) (length all) (omega arith))
 
-main_is_lawful : (p : Program) → list_all (statement_names_globals p.globals) p.statements ≡ true → is_lawful_function (length p.globals) (main_of p.globals p.statements) ≡ true
+main_is_lawful : (p : Program) → list_all (statement_names_globals p.globals) p.statements ≡ true → is_lawful_function (code_of p) (main_of p.globals p.statements) ≡ true
 main_is_lawful p h =
+    let main = main_of p.globals p.statements in
     let body = lowered p.globals 0 p.statements in
-    let within = lowered_in p.globals 0 body.free p.statements h (omega arith) in
-    let names = list_all-append (names_what_is (length p.globals) body.free) body.instrs (Exit ∷ []) ∙ together _ true within.names refl in
-    let places = length (body.instrs ++ Exit ∷ []) in
-    let jumps = list_all-append (jumps_within places) body.instrs (Exit ∷ []) ∙ together _ true (within.jumps places) refl in
-    together _ _ (together _ _ (together _ _ (le-leb 0 body.free (omega arith)) names) jumps) (body_ends body.instrs within.no_exit)
+    let within = lowered_in (code_of p) main p.globals (sym (length-replicate (length p.globals) (pos 0))) 0 p.statements h (omega arith) in
+    let names = list_all-append (names_what_is (code_of p) main) body.instrs (Exit ∷ []) ∙ together _ true within.names refl in
+    let anywhere = list_all-append stands_anywhere body.instrs (Exit ∷ []) ∙ together _ true within.anywhere refl in
+    together _ _ (together _ _ (together _ _ (le-leb 0 body.free (omega arith)) names) (all_stand_anywhere main.instrs anywhere)) (body_ends body.instrs within.no_exit)
 
 -- what is well named is lawful code
 pub code_is_lawful : (p : Program) → IsTrue (is_well_named p) → is_lawful (code_of p) ≡ true
@@ -164,15 +167,15 @@ code_is_lawful p h =
     let parts = both (nat_le (length p.globals) 1024 && are_distinct p.globals) (list_all (statement_names_globals p.globals) p.statements) h in
     let few = both (nat_le (length p.globals) 1024) (are_distinct p.globals) parts.0 in
     let main = main_of p.globals p.statements in
-    let functions = together (is_lawful_function (length p.globals) main) true (main_is_lawful p parts.1) refl in
-    subst (λ cells. (nat_le cells 1024 && list_all (is_lawful_function cells) (main ∷ []) && ends_in_main (main ∷ [])) ≡ true) (sym (length-replicate (length p.globals) (pos 0)))
-    (together _ _ (together _ _ few.0 functions) refl)
+    let functions = together (is_lawful_function (code_of p) main) true (main_is_lawful p parts.1) refl in
+    let cells = subst (λ n. nat_le n 1024 ≡ true) (sym (length-replicate (length p.globals) (pos 0))) few.0 in
+    together _ _ (together _ _ cells functions) refl
 
 -- the same of what is built as code
 pub built_lawful : (p : Program) (memory : List ℤ) (functions : List built.Func) (main : built.Func) → IsTrue (is_well_named p) → memory ≡ replicate (length p.globals) (pos 0) → functions ≡ main ∷ [] → plain_func main ≡ main_of p.globals p.statements
-    → is_lawful (plain_code memory functions) ≡ true
+    → is_lawful (plain_code memory 0 0 functions) ≡ true
 built_lawful p memory functions main h cells one is =
-    let make : List ℤ → List Func → Code = λ ns fs. record { memory = ns; functions = fs } in
-    let same : plain_code memory functions ≡ code_of p =
+    let make : List ℤ → List Func → Code = λ ns fs. record { memory = ns; mutexes = 0; conditions = 0; functions = fs } in
+    let same : plain_code memory 0 0 functions ≡ code_of p =
     ap (λ ns. make ns (map plain_func functions)) cells ∙ ap (λ fs. make (replicate (length p.globals) (pos 0)) (map plain_func fs)) one ∙ ap (λ f. make (replicate (length p.globals) (pos 0)) (f ∷ [])) is in
     ap is_lawful same ∙ code_is_lawful p h

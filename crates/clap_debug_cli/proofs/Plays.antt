@@ -11,8 +11,8 @@ use Rattle.tc_code.specs.Run.{run, run_from}
 use Rattle.tc_code.proofs.Runs.{run_from-step}
 use Rattle.tc_machine.specs.Why.{why}
 use Rattle.tc_machine.specs.declared.why.Why.{Why}
-use Rattle.tc_machine.specs.Counters.{CountersAreBelowLast}
-use Rattle.tc_machine.proofs.Whole.{counters_below_last}
+use Rattle.tc_runs.specs.Counters.{CountersAreBelowLast}
+use Rattle.tc_runs.proofs.Counts.{counters_below_last}
 use Rattle.clap_debug_cli.specs.Verdicts.{StopsAt}
 
 split_at : {A : Type 0} (xs : List A) (i : ℕ) (x : A) → i < length xs → get_or xs i x ≡ x → xs ≡ take i xs ++ x ∷ drop (i + 1) xs

@@ -60,8 +60,8 @@ lowered globals free (s ∷ ss) =
 abbrev pub main_of : List (List ℕ) → List Statement → Func
 main_of globals statements =
     let body = lowered globals 0 statements in
-    record { params = 0; ints = body.free; instrs = body.instrs ++ Exit ∷ [] }
+    record { params = 0; ints = body.free; tids = 0; instrs = body.instrs ++ Exit ∷ [] }
 
 -- each variable is a cell that begins at 0
 abbrev pub code_of : Program → Code
-code_of p = record { memory = replicate (length p.globals) (pos 0); functions = main_of p.globals p.statements ∷ [] }
+code_of p = record { memory = replicate (length p.globals) (pos 0); mutexes = 0; conditions = 0; functions = main_of p.globals p.statements ∷ [] }

@@ -101,3 +101,25 @@ binary Lt a b = less a b
 binary Le a b = less_or_equal a b
 binary Gt a b = less b a
 binary Ge a b = less_or_equal b a
+
+-- whether two operators are the same
+abbrev pub same_unary : UnOp → UnOp → Bool
+same_unary Neg Neg = true
+same_unary Not Not = true
+same_unary Inv Inv = true
+same_unary _ _ = false
+
+abbrev pub same_binary : BinOp → BinOp → Bool
+same_binary Add Add = true
+same_binary Sub Sub = true
+same_binary Mul Mul = true
+same_binary And And = true
+same_binary Or Or = true
+same_binary Xor Xor = true
+same_binary Eq Eq = true
+same_binary Ne Ne = true
+same_binary Lt Lt = true
+same_binary Le Le = true
+same_binary Gt Gt = true
+same_binary Ge Ge = true
+same_binary _ _ = false

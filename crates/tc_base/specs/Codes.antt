@@ -6,7 +6,9 @@ use Rattle.std.specs.FinMap as map
 use Rattle.std.specs.FinSet as set
 use Rattle.std.specs.Coded.{Coded, code_by, coded×, coded_ℕ, coded_ℤ, coded_bool, coded_list, coded_option}
 use Rattle.tc_base.specs.Names.{Name, ByName}
-use Rattle.tc_base.specs.States.{Handle, Unset, Child, Joined, Local, Thread, State}
+use Rattle.tc_base.specs.States.{Local, Thread, State}
+use Rattle.tc_base.specs.declared.handle.Handle.{Handle}
+use Rattle.tc_base.specs.declared.handle.Handle.TheVariants.{Unset, Child, Joined}
 
 abbrev pub coded_name : Coded Name
 coded_name = coded_list coded_ℕ

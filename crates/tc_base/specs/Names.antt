@@ -1,5 +1,5 @@
 -- Names of threads.
-use Rattle.std.specs.Prelude.{ℕ, List, [], ◌++◌, codes}
+use Rattle.std.specs.Prelude.{ℕ, List, [], ◌∷◌, ◌++◌, codes}
 use Rattle.std.specs.List.{flat_map}
 use Rattle.std.specs.Fmt.{decimal}
 use Rattle.std.specs.Ordering.{nat_cmp}
@@ -12,6 +12,10 @@ Name = List ℕ
 
 abbrev pub main : Name
 main = []
+
+-- a thread's child of that number
+abbrev pub child : Name → ℕ → Name
+child n k = n ++ k ∷ []
 
 -- `0`, then a dot and the number of each create
 abbrev pub name_text : Name → List ℕ

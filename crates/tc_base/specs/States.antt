@@ -4,12 +4,7 @@ use Rattle.std.specs.Ordering.{nat_cmp}
 use Rattle.std.specs.Cmp.Lexicographic.{slice_cmp}
 use Rattle.std.specs.FinSet.{FinSet}
 use Rattle.tc_base.specs.Names.{Name, ByName}
-
--- what a thread variable holds: nothing yet, a child by its number, or a child that was joined
-pub data Handle : Type 0 where
-  Unset : Handle
-  Child : (number : ℕ) → Handle
-  Joined : (number : ℕ) → Handle
+use Rattle.tc_base.specs.declared.handle.Handle.{Handle}
 
 -- what a thread has to itself, but for its store buffer
 pub record Local : Type 0 where

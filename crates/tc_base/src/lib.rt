@@ -2,6 +2,7 @@
 #![tactic(auto)]
 
 pub mod arith;
+mod handle;
 pub mod limits;
 mod model;
 mod moves;
@@ -9,6 +10,7 @@ mod name;
 mod place;
 
 pub use arith::{BinOp, UnOp};
+pub use handle::Handle;
 pub use model::Model;
 pub use moves::Move;
 pub use name::ThreadName;

@@ -4,7 +4,7 @@ ghost use Rattle.std.specs.Ordering.{nat_cmp, as_partial_cmp};
 ghost use Rattle.std.specs.Cmp.Lexicographic.{slice_cmp, pointwise};
 ghost use Rattle.std.specs.Cmp.Rules.{comparing};
 ghost use Rattle.std.proofs.Common.{rules};
-ghost use Rattle.tc_base.specs.Names.{name_text};
+ghost use Rattle.tc_base.specs.Names.{child, name_text};
 
 use smallvec::SmallVec;
 use std::alloc::{AllocError, Global};
@@ -37,6 +37,15 @@ impl ThreadName {
         ThreadName {
             children: SmallVec::new(alloc),
         }
+    }
+
+    /// The name of its child of that number.
+    pub fn child(&self, number: u32) -> Result<ThreadName, AllocError>
+        ensures { IfOk result (λ name. name ≡ child self.now number) }
+    {
+        let mut name = self.clone()?;
+        name.children.push(number)?;
+        Ok(name)
     }
 
     /// The numbers of the creates, from main on.

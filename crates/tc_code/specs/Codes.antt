@@ -1,13 +1,13 @@
 -- Code as stored data: an expression as the list of its parts, each operator after its operands.
-use Rattle.std.specs.Prelude.{◌≡◌, ℕ, ℤ, List, [], ◌∷◌, ◌++◌, Option, Some, None, refl, ◌⊎◌, get_or}
+use Rattle.std.specs.Prelude.{◌≡◌, ℕ, ℤ, List, [], ◌∷◌, ◌++◌, refl, ◌⊎◌, get_or}
 use Rattle.std.proofs.Common.{ap, ◌∙◌, inl, inr}
-use Rattle.std.specs.Coded.{Coded, code_by, coded_ℕ, coded_ℤ, coded_list, coded×, coded⊎, coded_option}
+use Rattle.std.specs.Coded.{Coded, code_by, coded_ℕ, coded_ℤ, coded_list, coded×, coded⊎}
 use Rattle.tc_base.specs.declared.arith.BinOp.{BinOp}
 use Rattle.tc_base.specs.declared.arith.BinOp.TheVariants.{Add, Sub, Mul, And, Or, Xor, Eq, Ne, Lt, Le, Gt, Ge}
 use Rattle.tc_base.specs.declared.arith.UnOp.{UnOp}
 use Rattle.tc_base.specs.declared.arith.UnOp.TheVariants.{Neg, Not, Inv}
 use Rattle.tc_code.specs.Expr.{Expr, Number, Slot, Unary, Binary}
-use Rattle.tc_code.specs.Code.{Instr, Load, Store, Set, Assert, Branch, Goto, Fence, Exit, Func, Code}
+use Rattle.tc_code.specs.Code.{Instr, Set, Load, Load_at, Store, Store_at, Inside, Branch, Goto, Holds, Lock, Unlock, Sleep, Wake, Signal, Broadcast, Create, Ready, Join, Assert, Fence, Exit, Func, Code}
 
 -- a number, a slot, an operator over the one value that stands before, or one over the two
 abbrev Part : Type 0
@@ -104,44 +104,105 @@ tree-parts e = ap first (closed-parts e [])
 abbrev pub coded_expr : Coded Expr
 coded_expr = code_by (List Part) (coded_list (coded⊎ (coded⊎ coded_ℤ coded_ℕ) (coded⊎ coded_ℕ coded_ℕ))) parts tree tree-parts
 
+-- an instruction as its number in the list of kinds, the numbers that it names, and its expressions
 abbrev Split : Type 0
-Split = (((ℕ × ℕ) ⊎ (ℕ × Expr)) ⊎ ((ℕ × Expr) ⊎ (ℕ × Expr))) ⊎ (Option Expr ⊎ Option ℕ)
+Split = ℕ × (List ℕ × List Expr)
 
 abbrev split : Instr → Split
-split (Load k c) = inl (inl (inl (k, c)))
-split (Store c e) = inl (inl (inr (c, e)))
-split (Set k e) = inl (inr (inl (k, e)))
-split (Branch e to) = inl (inr (inr (to, e)))
-split (Assert e) = inr (inl (Some e))
-split Exit = inr (inl None)
-split (Goto to) = inr (inr (Some to))
-split Fence = inr (inr None)
+split (Set k e) = (0, (k ∷ [], e ∷ []))
+split (Load k c) = (1, (k ∷ c ∷ [], []))
+split (Load_at k a n i) = (2, (k ∷ a ∷ n ∷ [], i ∷ []))
+split (Store c e) = (3, (c ∷ [], e ∷ []))
+split (Store_at a n i e) = (4, (a ∷ n ∷ [], i ∷ e ∷ []))
+split (Inside n i) = (5, (n ∷ [], i ∷ []))
+split (Branch e to) = (6, (to ∷ [], e ∷ []))
+split (Goto to) = (7, (to ∷ [], []))
+split (Holds m) = (8, (m ∷ [], []))
+split (Lock m) = (9, (m ∷ [], []))
+split (Unlock m) = (10, (m ∷ [], []))
+split (Sleep c m) = (11, (c ∷ m ∷ [], []))
+split (Wake c m) = (12, (c ∷ m ∷ [], []))
+split (Signal c) = (13, (c ∷ [], []))
+split (Broadcast c) = (14, (c ∷ [], []))
+split (Create h f es) = (15, (h ∷ f ∷ [], es))
+split (Ready h) = (16, (h ∷ [], []))
+split (Join h) = (17, (h ∷ [], []))
+split (Assert e) = (18, ([], e ∷ []))
+split Fence = (19, ([], []))
+split Exit = (20, ([], []))
+
+abbrev number : List ℕ → ℕ → ℕ
+number ns k = get_or ns k 0
+
+abbrev expr : List Expr → ℕ → Expr
+expr es k = get_or es k (Slot 0)
+
+abbrev kinds : List ℕ → List Expr → List Instr
+kinds ns es =
+    Set (number ns 0) (expr es 0)
+    ∷ Load (number ns 0) (number ns 1)
+    ∷ Load_at (number ns 0) (number ns 1) (number ns 2) (expr es 0)
+    ∷ Store (number ns 0) (expr es 0)
+    ∷ Store_at (number ns 0) (number ns 1) (expr es 0) (expr es 1)
+    ∷ Inside (number ns 0) (expr es 0)
+    ∷ Branch (expr es 0) (number ns 0)
+    ∷ Goto (number ns 0)
+    ∷ Holds (number ns 0)
+    ∷ Lock (number ns 0)
+    ∷ Unlock (number ns 0)
+    ∷ Sleep (number ns 0) (number ns 1)
+    ∷ Wake (number ns 0) (number ns 1)
+    ∷ Signal (number ns 0)
+    ∷ Broadcast (number ns 0)
+    ∷ Create (number ns 0) (number ns 1) es
+    ∷ Ready (number ns 0)
+    ∷ Join (number ns 0)
+    ∷ Assert (expr es 0)
+    ∷ Fence
+    ∷ Exit
+    ∷ []
 
 abbrev whole : Split → Instr
-whole (inl (inl (inl p))) = Load p.0 p.1
-whole (inl (inl (inr p))) = Store p.0 p.1
-whole (inl (inr (inl p))) = Set p.0 p.1
-whole (inl (inr (inr p))) = Branch p.1 p.0
-whole (inr (inl (Some e))) = Assert e
-whole (inr (inl None)) = Exit
-whole (inr (inr (Some to))) = Goto to
-whole (inr (inr None)) = Fence
+whole p = get_or (kinds p.1.0 p.1.1) p.0 Exit
 
 pub whole-split : (i : Instr) → whole (split i) ≡ i
-whole-split (Load k c) = refl
-whole-split (Store c e) = refl
 whole-split (Set k e) = refl
+whole-split (Load k c) = refl
+whole-split (Load_at k a n i) = refl
+whole-split (Store c e) = refl
+whole-split (Store_at a n i e) = refl
+whole-split (Inside n i) = refl
 whole-split (Branch e to) = refl
-whole-split (Assert e) = refl
-whole-split Exit = refl
 whole-split (Goto to) = refl
+whole-split (Holds m) = refl
+whole-split (Lock m) = refl
+whole-split (Unlock m) = refl
+whole-split (Sleep c m) = refl
+whole-split (Wake c m) = refl
+whole-split (Signal c) = refl
+whole-split (Broadcast c) = refl
+whole-split (Create h f es) = refl
+whole-split (Ready h) = refl
+whole-split (Join h) = refl
+whole-split (Assert e) = refl
 whole-split Fence = refl
+whole-split Exit = refl
 
 abbrev pub coded_instr : Coded Instr
-coded_instr = code_by Split (coded⊎ (coded⊎ (coded⊎ (coded× coded_ℕ coded_ℕ) (coded× coded_ℕ coded_expr)) (coded⊎ (coded× coded_ℕ coded_expr) (coded× coded_ℕ coded_expr))) (coded⊎ (coded_option coded_expr) (coded_option coded_ℕ))) split whole whole-split
+coded_instr = code_by Split (coded× coded_ℕ (coded× (coded_list coded_ℕ) (coded_list coded_expr))) split whole whole-split
 
 abbrev pub coded_func : Coded Func
-coded_func = code_by ((ℕ × ℕ) × List Instr) (coded× (coded× coded_ℕ coded_ℕ) (coded_list coded_instr)) (λ f. ((f.params, f.ints), f.instrs)) (λ p. record { params = p.0.0; ints = p.0.1; instrs = p.1 }) (λ _. refl)
+coded_func =
+    code_by ((ℕ × ℕ) × (ℕ × List Instr))
+    (coded× (coded× coded_ℕ coded_ℕ) (coded× coded_ℕ (coded_list coded_instr)))
+    (λ f. ((f.params, f.ints), (f.tids, f.instrs)))
+    (λ p. record { params = p.0.0; ints = p.0.1; tids = p.1.0; instrs = p.1.1 })
+    (λ _. refl)
 
 abbrev pub coded_code : Coded Code
-coded_code = code_by (List ℤ × List Func) (coded× (coded_list coded_ℤ) (coded_list coded_func)) (λ c. (c.memory, c.functions)) (λ p. record { memory = p.0; functions = p.1 }) (λ _. refl)
+coded_code =
+    code_by ((List ℤ × List Func) × (ℕ × ℕ))
+    (coded× (coded× (coded_list coded_ℤ) (coded_list coded_func)) (coded× coded_ℕ coded_ℕ))
+    (λ c. ((c.memory, c.functions), (c.mutexes, c.conditions)))
+    (λ p. record { memory = p.0.0; mutexes = p.1.0; conditions = p.1.1; functions = p.0.1 })
+    (λ _. refl)

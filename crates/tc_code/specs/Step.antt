@@ -1,20 +1,36 @@
 -- One step of the machine, for every memory model.
-use Rattle.std.specs.Prelude.{ℕ, ◌+◌, ◌-◌, ℤ, pos, List, [], ◌∷◌, ◌++◌, length, Bool, true, false, not, is_some, Option, Some, None, unwrap_or, option_and_then, slice_get, slice_set, slice_index_or, if◌then◌else◌, replicate}
-use Rattle.std.specs.Ordering.{int_eq}
-use Rattle.std.specs.FinMap as map
-use Rattle.tc_base.specs.Names.{Name, main}
+use Rattle.std.specs.Prelude.{ℕ, ◌+◌, ◌-◌, ◌==◌, ℤ, pos, List, [], ◌∷◌, ◌++◌, length, map, Bool, true, false, not, ◌&&◌, ◌||◌, is_some, is_none, Option, Some, None, unwrap_or, option_and_then, slice_get, slice_set, slice_index_or, if◌then◌else◌, replicate, unsigned_abs, int_lt, int_le}
+use Rattle.std.specs.Option.{option_map_or}
+use Rattle.std.specs.Ordering.{nat_cmp, int_eq}
+use Rattle.std.specs.Cmp.Lexicographic.{slice_cmp}
+use Rattle.std.specs.FinMap as fin
+use Rattle.std.specs.FinSet as set
+use Rattle.tc_base.specs.Names.{Name, main, child}
 use Rattle.tc_base.specs.Buffers.{BufferOps}
 use Rattle.tc_base.specs.States.{Local, Thread, State}
+use Rattle.tc_base.specs.declared.handle.Handle.{Handle}
+use Rattle.tc_base.specs.declared.handle.Handle.TheVariants.{Unset, Child, Joined}
 use Rattle.tc_base.specs.declared.moves.Move.{Move}
-use Rattle.tc_base.specs.declared.moves.Move.TheVariants.{Run, Wake, Drain}
-use Rattle.tc_code.specs.Expr.{value_of}
-use Rattle.tc_code.specs.Code.{Code, Instr, Load, Store, Set, Assert, Branch, Goto, Fence, Exit, instr_at}
+use Rattle.tc_base.specs.declared.moves.Move.TheVariants as move
+use Rattle.tc_code.specs.Expr.{Expr, value_of}
+use Rattle.tc_code.specs.Code.{Code, Instr, Set, Load, Load_at, Store, Store_at, Inside, Branch, Goto, Holds, Lock, Unlock, Sleep, Wake, Signal, Broadcast, Create, Ready, Join, Assert, Fence, Exit, instr_at}
 
 -- what an instruction asks of the memory and of the other threads
 pub data Request : Type 0 where
   Silent : Request
   Read : (cell : ℕ) → Request
   Write : (cell : ℕ) (value : ℤ) → Request
+  -- a mutex
+  Acquire : (mutex : ℕ) → Request
+  Release : (mutex : ℕ) → Request
+  Begin_wait : (condition mutex : ℕ) → Request
+  End_wait : (condition mutex : ℕ) → Request
+  Wake_one : (condition : ℕ) → Request
+  Wake_all : (condition : ℕ) → Request
+  -- a new child that does the function
+  Start : (function : ℕ) → Request
+  -- the end of the child of that number
+  Await : (number : ℕ) → Request
   -- that all its stores are in memory
   Order_stores : Request
   Finish : Request
@@ -29,13 +45,53 @@ site false = Fail
 abbrev pub is_zero : ℤ → Bool
 is_zero n = int_eq n (pos 0)
 
+-- whether an index is inside a length
+abbrev pub is_within : ℕ → ℤ → Bool
+is_within len index = int_le (pos 0) index && int_lt index (pos len)
+
+-- the cell at an index of the array that begins at a cell
+abbrev pub cell_at : ℕ → ℤ → ℕ
+cell_at first index = first + unsigned_abs index
+
+abbrev pub value_in : Local → Expr → ℤ
+value_in t e = value_of e t.slots
+
+abbrev pub holds : Local → ℕ → Bool
+holds t m = slice_index_or t.held m false
+
+abbrev pub handle_of : Local → ℕ → Handle
+handle_of t h = slice_index_or t.handles h Unset
+
+-- whether it is a child that hasn't been joined
+abbrev pub is_ready : Handle → Bool
+is_ready (Child _) = true
+is_ready _ = false
+
+-- the number of a child that hasn't been joined, and 0, which no child has, where it is none
+abbrev pub number_of : Handle → ℕ
+number_of (Child k) = k
+number_of _ = 0
+
 abbrev pub request : Local → Instr → Request
-request t (Load k c) = Read c
-request t (Store c e) = Write c (value_of e t.slots)
 request t (Set k e) = Silent
-request t (Assert e) = site (not (is_zero (value_of e t.slots)))
+request t (Load k c) = Read c
+request t (Load_at k first len i) = Read (cell_at first (value_in t i))
+request t (Store c e) = Write c (value_in t e)
+request t (Store_at first len i e) = Write (cell_at first (value_in t i)) (value_in t e)
+request t (Inside len i) = site (is_within len (value_in t i))
 request t (Branch e to) = Silent
 request t (Goto to) = Silent
+request t (Holds m) = site (holds t m)
+request t (Lock m) = Acquire m
+request t (Unlock m) = Release m
+request t (Sleep c m) = Begin_wait c m
+request t (Wake c m) = End_wait c m
+request t (Signal c) = Wake_one c
+request t (Broadcast c) = Wake_all c
+request t (Create h f es) = Start f
+request t (Ready h) = site (is_ready (handle_of t h))
+request t (Join h) = Await (number_of (handle_of t h))
+request t (Assert e) = site (not (is_zero (value_in t e)))
 request t Fence = Order_stores
 request t Exit = Finish
 
@@ -56,16 +112,30 @@ abbrev pub branched : Local → Bool → ℕ → Local
 branched t true to = record (next t) { outcomes = t.outcomes ++ true ∷ [] }
 branched t false to = record (jumped t to) { outcomes = t.outcomes ++ false ∷ [] }
 
+-- the thread after a step in which it takes a mutex, or leaves it
+abbrev pub holding : Local → ℕ → Bool → Local
+holding t m b = record (next t) { held = slice_set t.held m b }
+
 -- the thread after an instruction that didn't fail; v is the value that a load takes
 abbrev pub local_after : Local → Instr → ℤ → Local
+local_after t (Set k e) v = record (next t) { slots = slice_set t.slots k (value_in t e) }
 local_after t (Load k c) v = record (next t) { slots = slice_set t.slots k v }
-local_after t (Store c e) v = next t
-local_after t (Set k e) v = record (next t) { slots = slice_set t.slots k (value_of e t.slots) }
-local_after t (Assert e) v = next t
-local_after t (Branch e to) v = branched t (not (is_zero (value_of e t.slots))) to
+local_after t (Load_at k first len i) v = record (next t) { slots = slice_set t.slots k v }
+local_after t (Branch e to) v = branched t (not (is_zero (value_in t e))) to
 local_after t (Goto to) v = jumped t to
-local_after t Fence v = next t
+local_after t (Lock m) v = holding t m true
+local_after t (Unlock m) v = holding t m false
+local_after t (Sleep c m) v = holding t m false
+local_after t (Wake c m) v = holding t m true
+local_after t (Create h f es) v = record (next t) { handles = slice_set t.handles h (Child (t.children + 1)); children = t.children + 1 }
+local_after t (Join h) v = record (next t) { handles = slice_set t.handles h (Joined (number_of (handle_of t h))) }
 local_after t Exit v = record (next t) { has_exited = true }
+local_after t _ v = next t
+
+-- the values that a create hands to the child
+abbrev pub arguments_of : Local → Instr → List ℤ
+arguments_of t (Create h f es) = map (value_in t) es
+arguments_of t _ = []
 
 -- the instruction that a thread does next, and none once it has exited
 abbrev pub instr_of : Code → Local → Option Instr
@@ -73,14 +143,49 @@ instr_of code t = if t.has_exited then None else instr_at code t.function t.inst
 
 -- the state with one thread's part put in
 abbrev pub with_thread : {B : Type 0} → State B → Name → Thread B → State B
-with_thread s n t = record s { threads = map.insert s.threads n t }
+with_thread s n t = record s { threads = fin.insert s.threads n t }
+
+-- a set of threads
+abbrev pub Names : Type 0
+Names = set.FinSet (slice_cmp nat_cmp)
+
+abbrev pub waiting_on : {B : Type 0} → State B → ℕ → Names
+waiting_on s c = slice_index_or s.waiters c set.empty
+
+abbrev pub is_free : {B : Type 0} → State B → ℕ → Bool
+is_free s m = is_none (slice_index_or s.owners m None)
+
+-- whether a thread's child of that number has exited
+abbrev pub child_has_exited : {B : Type 0} → State B → Name → ℕ → Bool
+child_has_exited s n k = option_map_or (λ t. t.local.has_exited) (fin.get s.threads (child n k)) false
+
+-- whether a request can only be met once all stores of the thread are in memory
+abbrev pub drains_first : Request → Bool
+drains_first Silent = false
+drains_first (Read c) = false
+drains_first (Write c v) = false
+drains_first Fail = false
+drains_first _ = true
+
+-- whether the other threads let a request be met
+abbrev pub is_let : {B : Type 0} → State B → Name → Request → Bool
+is_let s n (Acquire m) = is_free s m
+is_let s n (End_wait c m) = not (set.contains (waiting_on s c) n) && is_free s m
+is_let s n (Wake_one c) = set.len (waiting_on s c) == 0
+is_let s n (Await k) = child_has_exited s n k
+is_let s n _ = true
+
+-- the number of int slots of a function, and of its thread variables
+abbrev pub ints_of : Code → ℕ → ℕ
+ints_of code f = option_map_or (λ g. g.ints) (slice_get code.functions f) 0
+
+abbrev pub tids_of : Code → ℕ → ℕ
+tids_of code f = option_map_or (λ g. g.tids) (slice_get code.functions f) 0
 
 module _ {B : Type 0} (ops : BufferOps B) where
   -- whether the request may be met now
-  abbrev pub allows : State B → Thread B → Request → Bool
-  allows s t Order_stores = ops.is_empty t.buffer
-  allows s t Finish = ops.is_empty t.buffer
-  allows s t _ = true
+  abbrev pub allows : State B → Name → Thread B → Request → Bool
+  allows s n t r = (not (drains_first r) || ops.is_empty t.buffer) && is_let s n r
 
   -- what a load takes: the thread's own newest store to the cell, and else memory
   abbrev pub loaded : State B → Thread B → ℕ → ℤ
@@ -90,24 +195,57 @@ module _ {B : Type 0} (ops : BufferOps B) where
   abbrev pub done : State B → Name → Thread B → Instr → ℤ → State B
   done s n t i v = with_thread s n (record t { local = local_after t.local i v })
 
+  -- the same, of an instruction that takes none
+  abbrev pub did : State B → Name → Thread B → Instr → State B
+  did s n t i = done s n t i (pos 0)
+
   -- a store goes to memory, or into the thread's buffer where the model has buffers
   abbrev pub stored : State B → Name → Thread B → Instr → ℕ → ℤ → State B
   stored s n t i c v =
       if ops.buffered
       then with_thread s n (record { local = local_after t.local i (pos 0); buffer = ops.issue t.buffer c v })
-      else record (done s n t i (pos 0)) { memory = slice_set s.memory c v }
+      else record (did s n t i) { memory = slice_set s.memory c v }
 
-  abbrev pub perform : State B → Name → Thread B → Instr → Request → State B
-  perform s n t i Silent = done s n t i (pos 0)
-  perform s n t i (Read c) = done s n t i (loaded s t c)
-  perform s n t i (Write c v) = stored s n t i c v
-  perform s n t i Order_stores = done s n t i (pos 0)
-  perform s n t i Finish = done s n t i (pos 0)
-  perform s n t i Fail = record (with_thread s n (record t { local = stepped t.local })) { failed = Some n }
+  -- a thread at the start of a function: its first slots are the arguments, and all else is 0, unset and free
+  abbrev pub born : Code → ℕ → List ℤ → Thread B
+  born code f arguments = record {
+    local = record {
+      function = f;
+      instruction = 0;
+      slots = arguments ++ replicate (ints_of code f - length arguments) (pos 0);
+      handles = replicate (tids_of code f) Unset;
+      held = replicate code.mutexes false;
+      children = 0;
+      has_exited = false;
+      outcomes = [];
+      steps = 0;
+    };
+    buffer = ops.empty;
+  }
+
+  abbrev pub perform : Code → State B → Name → Thread B → Instr → Request → State B
+  perform code s n t i (Read c) = done s n t i (loaded s t c)
+  perform code s n t i (Write c v) = stored s n t i c v
+  perform code s n t i (Acquire m) = record (did s n t i) { owners = slice_set s.owners m (Some n) }
+  perform code s n t i (Release m) = record (did s n t i) { owners = slice_set s.owners m None }
+  perform code s n t i (Begin_wait c m) = record (did s n t i) { owners = slice_set s.owners m None; waiters = slice_set s.waiters c (set.insert (waiting_on s c) n) }
+  perform code s n t i (End_wait c m) = record (did s n t i) { owners = slice_set s.owners m (Some n) }
+  perform code s n t i (Wake_all c) = record (did s n t i) { waiters = slice_set s.waiters c set.empty }
+  perform code s n t i (Start f) = with_thread (did s n t i) (child n (t.local.children + 1)) (born code f (arguments_of t.local i))
+  perform code s n t i Fail = record (with_thread s n (record t { local = stepped t.local })) { failed = Some n }
+  perform code s n t i _ = did s n t i
 
   -- a thread does an instruction, where its request may be met
-  abbrev pub run_of : State B → Name → Thread B → Instr → Option (State B)
-  run_of s n t i = if allows s t (request t.local i) then Some (perform s n t i (request t.local i)) else None
+  abbrev pub run_of : Code → State B → Name → Thread B → Instr → Option (State B)
+  run_of code s n t i = if allows s n t (request t.local i) then Some (perform code s n t i (request t.local i)) else None
+
+  -- a thread signals, and wakes a thread that waits on the condition
+  abbrev pub woken : State B → Name → Name → Thread B → ℕ → State B
+  woken s n u t c = record (did s n t (Signal c)) { waiters = slice_set s.waiters c (set.remove (waiting_on s c) u) }
+
+  abbrev pub wake_of : State B → Name → Name → Thread B → Instr → Option (State B)
+  wake_of s n u t (Signal c) = if ops.is_empty t.buffer && set.contains (waiting_on s c) u then Some (woken s n u t c) else None
+  wake_of s n u t _ = None
 
   -- a buffered store reaches memory
   abbrev pub drained : State B → Name → Thread B → Option ℕ → State B
@@ -118,45 +256,22 @@ module _ {B : Type 0} (ops : BufferOps B) where
   abbrev pub drain_of : State B → Name → Thread B → Option ℕ → Option (State B)
   drain_of s n t form = if ops.may_drain t.buffer form then Some (drained s n t form) else None
 
-  -- a move, where no thread has failed yet; there are no signals, so no thread can be woken
+  -- a move, where no thread has failed yet
   abbrev pub move_of : Code → State B → Move → Option (State B)
-  move_of code s (Run n) = option_and_then (λ t. option_and_then (run_of s n t) (instr_of code t.local)) (map.get s.threads n)
-  move_of code s (Wake n u) = None
-  move_of code s (Drain n form) = option_and_then (λ t. drain_of s n t form) (map.get s.threads n)
+  move_of code s (move.Run n) = option_and_then (λ t. option_and_then (run_of code s n t) (instr_of code t.local)) (fin.get s.threads n)
+  move_of code s (move.Wake n u) = option_and_then (λ t. option_and_then (wake_of s n u t) (instr_of code t.local)) (fin.get s.threads n)
+  move_of code s (move.Drain n form) = option_and_then (λ t. drain_of s n t form) (fin.get s.threads n)
 
   -- the state after a move, or nothing where the move isn't enabled; after a failure none is
   abbrev pub step : Code → State B → Move → Option (State B)
   step code s m = if is_some s.failed then None else move_of code s m
 
-  -- a thread at the start of a function, its slots 0 but for its parameters
-  abbrev pub born : Code → ℕ → List ℤ → Thread B
-  born code f arguments = record {
-    local = record {
-      function = f;
-      instruction = 0;
-      slots = arguments;
-      handles = [];
-      held = [];
-      children = 0;
-      has_exited = false;
-      outcomes = [];
-      steps = 0;
-    };
-    buffer = ops.empty;
-  }
-
-  -- the number of int slots of a function
-  abbrev pub slots_of : Code → ℕ → ℕ
-  slots_of code f = unwrap_or (option_and_then (λ g. Some g.ints) (slice_get code.functions f)) 0
-
-  -- main alone, at its first instruction
+  -- main alone, at its first instruction; all mutexes are free, and nobody waits
   abbrev pub opening : Code → State B
-  opening code =
-      let f = length code.functions - 1 in
-      record {
-        memory = code.memory;
-        owners = [];
-        waiters = [];
-        threads = map.insert map.empty main (born code f (replicate (slots_of code f) (pos 0)));
-        failed = None;
-      }
+  opening code = record {
+    memory = code.memory;
+    owners = replicate code.mutexes None;
+    waiters = replicate code.conditions set.empty;
+    threads = fin.insert fin.empty main (born code (length code.functions - 1) []);
+    failed = None;
+  }

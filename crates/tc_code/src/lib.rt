@@ -3,6 +3,8 @@
 
 mod code;
 mod expr;
+mod parts;
+mod places;
 #[cfg(test)]
 mod tests;
 

@@ -1,7 +1,5 @@
-pub mod AllListed
 pub mod ByName
-pub mod Main
-pub mod MovesMore
+pub mod Can
+pub mod Listing
+pub mod NameSets
 pub mod Reasons
-pub mod Steps
-pub mod Whole

@@ -1,21 +1,30 @@
 -- A move is enabled exactly where there is no reason against it.
-use Rattle.std.proofs.Common.{◌≡◌, ◌↔◌, None, refl, IsSome, IsNone, rules, subst, sym}
+use Rattle.std.proofs.Common.{◌≡◌, ◌↔◌, Bool, true, false, None, Some, refl, IsSome, IsNone, rules, subst, sym}
+use Rattle.std.proofs.lemmas.Bool.{false≢true}
 use Rattle.tc_base.specs.Buffers.{BufferOps}
 use Rattle.tc_base.specs.States.{State}
 use Rattle.tc_base.specs.declared.moves.Move.{Move}
 use Rattle.tc_code.specs.Code.{Code}
 use Rattle.tc_code.specs.Step.{step}
+use Rattle.tc_machine.specs.Moves.{is_enabled}
 use Rattle.tc_machine.specs.Why.{why}
+use Rattle.tc_machine.specs.declared.why.Why.{Why}
 
-module _ {B : Type 0} (ops : BufferOps B) (code : Code) where
-  -- no move is enabled once a thread has failed
-  pub none_after_failure : (s : State B) (m : Move) → IsSome s.failed → step ops code s m ≡ None
-  none_after_failure s m h = search rules
-
+module _ {B : Type 0} (ops : BufferOps B) (code : Code) (s : State B) (m : Move) where
   -- no reason, and a state
-  pub no_reason_where_enabled : (s : State B) (m : Move) → IsNone (why ops code s m) ↔ IsSome (step ops code s m)
-  no_reason_where_enabled s m = search rules
+  pub no_reason_where_enabled : IsNone (why ops code s m) ↔ IsSome (step ops code s m)
+  no_reason_where_enabled = search rules
 
-  -- where there is no reason against a move it leads to a state
-  pub enabled_without_reason : (s : State B) (m : Move) → why ops code s m ≡ None → IsSome (step ops code s m)
-  enabled_without_reason s m h = (no_reason_where_enabled s m).0 (subst IsNone (sym h) refl)
+  -- where there is no reason against a move it is enabled
+  pub enabled_without_reason : why ops code s m ≡ None → is_enabled ops code s m ≡ true
+  enabled_without_reason e = no_reason_where_enabled.0 (subst IsNone (sym e) refl)
+
+  reason_stays : (b : Bool) → is_enabled ops code s m ≡ b → (w : Why) → why ops code s m ≡ Some w → b ≡ false
+  reason_stays false e w h = refl
+  reason_stays true e w h = absurd (false≢true (sym (subst IsNone h (no_reason_where_enabled.1 e))))
+
+  -- and where there is one it isn't
+  pub disabled_with_reason : (w : Why) → why ops code s m ≡ Some w → is_enabled ops code s m ≡ false
+  disabled_with_reason w h = reason_stays _ refl w h
+
+pub ruleset reasons = (enabled_without_reason, disabled_with_reason)

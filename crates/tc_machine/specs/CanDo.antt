@@ -1,26 +1,65 @@
 -- What a thread needs to do an instruction.
-use Rattle.std.specs.Prelude.{ℕ, ◌+◌, ◌<◌, ◌^◌, length, IsTrue}
+use Rattle.std.specs.Prelude.{◌≡◌, ◌+◌, ◌<◌, ◌≤◌, ◌^◌, length, Bool, true, false, IsTrue, IfSome, None}
+use Rattle.std.specs.FinMap as fin
+use Rattle.tc_base.specs.Names.{Name, ByName, child}
 use Rattle.tc_base.specs.States.{Local, Thread, State}
-use Rattle.tc_code.specs.Code.{Instr, names_what_is}
-use Rattle.tc_code.specs.Step.{Request, Read, Write}
+use Rattle.tc_code.specs.Code.{Code, Func, Instr, Branch, names_what_is}
+use Rattle.tc_code.specs.Step.{Request, Silent, Read, Write, Acquire, Release, Begin_wait, End_wait, Wake_one, Wake_all, Start, ints_of, arguments_of}
+use Rattle.tc_runs.specs.Counters.{IsBelowLast}
+use Rattle.tc_runs.specs.Whole.{IndexIsWithin}
 
--- it has the slots that the instruction names
-abbrev pub HasSlots : Local → Instr → Type 0
-HasSlots t i = (cells : ℕ) × IsTrue (names_what_is cells (length t.slots) i)
+-- a function with as many slots and thread variables as the thread has
+abbrev pub sized : Func → Local → Func
+sized f t = record f { ints = length t.slots; tids = length t.handles }
 
--- it has these slots, and there is room for its next place and its next count
-pub record CanDo (t : Local) (i : Instr) : Type 0 where
-  pub slots : HasSlots t i
+-- what the instruction names is there, and the index of its access is inside the array
+pub record CanAsk (code : Code) (t : Local) (i : Instr) : Type 0 where
+  pub function : Func
+  pub names : IsTrue (names_what_is code (sized function t) i)
+  pub held : length t.held ≡ code.mutexes
+  pub cells : length code.memory ≤ 1024
+  pub index : IndexIsWithin t i
+
+-- there is room for its next place, its next count, and one more child
+pub record HasRoom (t : Local) : Type 0 where
   pub place : t.instruction + 1 < 2 ^ 64
-  pub steps : t.steps + 1 < 2 ^ 32
+  pub counters : IsBelowLast t
 
--- the cell that is asked for is one of so many
-abbrev pub AsksWithin : ℕ → Request → Type 0
-AsksWithin cells (Read c) = c < cells
-AsksWithin cells (Write c v) = c < cells
-AsksWithin cells _ = Unit {0}
+pub record CanDo (code : Code) (t : Local) (i : Instr) : Type 0 where
+  pub asks : CanAsk code t i
+  pub room : HasRoom t
 
--- it can do the instruction, and what that asks for is there
-pub record CanPerform {B : Type 0} (s : State B) (i : Instr) (r : Request) (t : Thread B) : Type 0 where
-  pub thread : CanDo t.local i
-  pub cell : AsksWithin (length s.memory) r
+abbrev pub is_branch : Instr → Bool
+is_branch (Branch e to) = true
+is_branch _ = false
+
+-- a function that is to be started is there, and takes the arguments
+abbrev pub Starts : Code → Local → Instr → Request → Type 0
+Starts code t i (Start f) = (f < length code.functions) × (length (arguments_of t i) ≤ ints_of code f)
+Starts code t i _ = Unit {0}
+
+module _ {B : Type 0} where
+  -- the thread of a name can do the instruction
+  abbrev pub CanAdvance : ByName (Thread B) → Name → Instr → Type 0
+  CanAdvance threads n i = IfSome (fin.get threads n) (λ t. (code : Code) × CanDo code t.local i)
+
+  -- what is asked for is there
+  abbrev pub AsksWithin : State B → Request → Type 0
+  AsksWithin s (Read c) = c < length s.memory
+  AsksWithin s (Write c v) = c < length s.memory
+  AsksWithin s (Acquire m) = m < length s.owners
+  AsksWithin s (Release m) = m < length s.owners
+  AsksWithin s (Begin_wait c m) = (c < length s.waiters) × (m < length s.owners)
+  AsksWithin s (End_wait c m) = (c < length s.waiters) × (m < length s.owners)
+  AsksWithin s (Wake_one c) = c < length s.waiters
+  AsksWithin s (Wake_all c) = c < length s.waiters
+  AsksWithin s _ = Unit {0}
+
+  -- the thread of a name can do the instruction, what that asks for is there, a branch asks for nothing, and the name
+  -- of its next child is new
+  pub record CanPerform (code : Code) (s : State B) (n : Name) (i : Instr) (r : Request) (t : Thread B) : Type 0 where
+    pub thread : CanDo code t.local i
+    pub asked : AsksWithin s r
+    pub starts : Starts code t.local i r
+    pub branch : IsTrue (is_branch i) → r ≡ Silent
+    pub is_new : fin.get s.threads (child n (t.local.children + 1)) ≡ None

@@ -1,5 +1,4 @@
 pub mod Asked
 pub mod CanDo
-pub mod Counters
 pub mod Moves
 pub mod Why

@@ -1,14 +1,15 @@
 -- Why a move isn't enabled.
-use Rattle.std.specs.Prelude.{ℕ, List, Option, Some, None, is_some, if◌then◌else◌, codes}
+use Rattle.std.specs.Prelude.{ℕ, ◌==◌, List, Option, Some, None, not, ◌&&◌, is_some, if◌then◌else◌, codes}
 use Rattle.std.specs.Option.{option_map_or}
 use Rattle.std.specs.FinMap as map
+use Rattle.std.specs.FinSet as set
 use Rattle.tc_base.specs.Names.{Name}
 use Rattle.tc_base.specs.Buffers.{BufferOps}
 use Rattle.tc_base.specs.States.{Thread, State}
 use Rattle.tc_base.specs.declared.moves.Move.{Move}
 use Rattle.tc_base.specs.declared.moves.Move.TheVariants.{Run, Wake, Drain}
-use Rattle.tc_code.specs.Code.{Code, Instr}
-use Rattle.tc_code.specs.Step.{Request, Order_stores, Finish, request, instr_of}
+use Rattle.tc_code.specs.Code.{Code, Instr, Signal}
+use Rattle.tc_code.specs.Step.{Request, Acquire, End_wait, Wake_one, Await, request, instr_of, drains_first, waiting_on, is_free, child_has_exited}
 use Rattle.tc_machine.specs.declared.why.Why.{Why}
 use Rattle.tc_machine.specs.declared.why.Why.TheVariants.{Stopped, NoThread, Exited, NotDrained, Held, NotWoken, NotEnded, WaiterNeeded, WrongWaiter, NoEntry}
 
@@ -25,6 +26,23 @@ why_text WaiterNeeded = codes "WaiterNeeded"
 why_text WrongWaiter = codes "WrongWaiter"
 why_text NoEntry = codes "NoEntry"
 
+module _ {B : Type 0} where
+  -- a mutex that has an owner
+  abbrev pub why_taken : State B → ℕ → Option Why
+  why_taken s m = if is_free s m then None else Some Held
+
+  -- what the other threads don't let be
+  abbrev pub why_let : State B → Name → Request → Option Why
+  why_let s n (Acquire m) = why_taken s m
+  why_let s n (End_wait c m) = if set.contains (waiting_on s c) n then Some NotWoken else why_taken s m
+  why_let s n (Wake_one c) = if set.len (waiting_on s c) == 0 then None else Some WaiterNeeded
+  why_let s n (Await k) = if child_has_exited s n k then None else Some NotEnded
+  why_let s n _ = None
+
+  -- a thread that is to be woken, and doesn't wait on the condition
+  abbrev pub why_not_there : State B → Name → ℕ → Option Why
+  why_not_there s u c = if set.contains (waiting_on s c) u then None else Some WrongWaiter
+
 module _ {B : Type 0} (ops : BufferOps B) where
   -- of the thread of a name, if there is one
   abbrev pub why_at : State B → Name → (Thread B → Option Why) → Option Why
@@ -34,16 +52,19 @@ module _ {B : Type 0} (ops : BufferOps B) where
   abbrev pub why_doing : Code → State B → Name → (Thread B → Instr → Option Why) → Option Why
   why_doing code s n reason = why_at s n (λ t. option_map_or (reason t) (instr_of code t.local) (Some Exited))
 
-  -- a fence and an exit need an empty buffer
-  abbrev pub why_unmet : Thread B → Request → Option Why
-  why_unmet t Order_stores = if ops.is_empty t.buffer then None else Some NotDrained
-  why_unmet t Finish = if ops.is_empty t.buffer then None else Some NotDrained
-  why_unmet t _ = None
+  -- why a request can't be met now: most wait first for an empty buffer
+  abbrev pub why_unmet : State B → Name → Thread B → Request → Option Why
+  why_unmet s n t r = if drains_first r && not (ops.is_empty t.buffer) then Some NotDrained else why_let s n r
 
-  -- where no thread has failed yet; there are no signals, so no waiter is the right one
+  -- why a thread can't wake another
+  abbrev pub why_unwoken : State B → Name → Thread B → Instr → Option Why
+  why_unwoken s u t (Signal c) = if ops.is_empty t.buffer then why_not_there s u c else Some NotDrained
+  why_unwoken s u t _ = Some WrongWaiter
+
+  -- where no thread has failed yet
   abbrev pub why_not : Code → State B → Move → Option Why
-  why_not code s (Run n) = why_doing code s n (λ t i. why_unmet t (request t.local i))
-  why_not code s (Wake n u) = why_doing code s n (λ t i. Some WrongWaiter)
+  why_not code s (Run n) = why_doing code s n (λ t i. why_unmet s n t (request t.local i))
+  why_not code s (Wake n u) = why_doing code s n (why_unwoken s u)
   why_not code s (Drain n form) = why_at s n (λ t. if ops.may_drain t.buffer form then None else Some NoEntry)
 
   -- the first reason for which the move isn't enabled, and none where it is; after a failure no move is

@@ -6,9 +6,11 @@ mod listed;
 mod machine;
 mod names;
 mod outcomes;
+mod request;
 mod state;
 mod thread;
 mod threads;
+mod waiting;
 mod why;
 
 pub use listed::moves;
@@ -17,6 +19,3 @@ pub use names::Names;
 pub use outcomes::Outcomes;
 pub use state::{State, start};
 pub use why::Why;
-
-#[cfg(test)]
-mod tests;

@@ -1,16 +1,23 @@
 //! States of the machine.
-ghost use Rattle.std.specs.Prelude.{◌≡◌, ◌+◌, ◌-◌, ◌<◌, ◌^◌, length, IfOk, IfSome, OnOk, OnErr, option_map, Some, IsSome, IsSomeAnd};
+ghost use Rattle.std.specs.Prelude.{◌≡◌, ◌+◌, ◌-◌, ◌<◌, ◌^◌, ℕ, false, length, replicate, slice_set, IfOk, IfSome, OnOk, OnErr, MatchResult, option_map, Option, Some, None, IsSome, IsSomeAnd};
 ghost use Rattle.std.specs.FinMap as map;
+ghost use Rattle.std.specs.FinSet as set;
 ghost use Rattle.tc_base.specs.Buffers.{no_buffer};
+ghost use Rattle.tc_code.specs.Code as flat;
 ghost use Rattle.tc_code.specs.Seen.{plain_instr};
-ghost use Rattle.tc_code.specs.Step.{opening, perform};
+ghost use Rattle.tc_code.specs.Step.{opening, perform, did, stepped, with_thread, woken, waiting_on};
+ghost use Rattle.tc_code.specs.Step as plain;
 ghost use Rattle.tc_machine.specs.Asked.{plain_request};
-ghost use Rattle.tc_machine.specs.CanDo.{CanPerform};
+ghost use Rattle.tc_machine.specs.CanDo.{AsksWithin, CanAdvance, CanPerform, HasRoom, is_branch};
+ghost use Rattle.tc_machine.specs.Why.{why_let, why_taken};
 
 use crate::names::Names;
 use crate::outcomes::Outcomes;
-use crate::thread::{Request, Thread};
+use crate::request::Request;
+use crate::thread::Thread;
 use crate::threads::Threads;
+use crate::waiting::WaitSet;
+use crate::why::Why;
 use std::alloc::{AllocError, Global};
 use std::marker::Model;
 use tc_base::ThreadName;
@@ -20,12 +27,13 @@ use tc_code::{Code, Instr};
 #[derive(Debug, Drop)]
 pub struct State {
     memory: Vec<i32>,
+    owners: Vec<Option<ThreadName>>,
+    waiters: Vec<WaitSet>,
     threads: Threads,
     failed: Option<ThreadName>,
 }
 
 impl Model for State {
-    ghost use Rattle.std.specs.Prelude.{[]};
     ghost use base.Stored.{coded_unit};
     ghost use Rattle.tc_base.specs.Buffers.{NoBuffer};
     ghost use Rattle.tc_base.specs.States as spec;
@@ -37,8 +45,8 @@ impl Model for State {
 
     ghost view = { λ s. record {
       memory = s.memory.items;
-      owners = [];
-      waiters = [];
+      owners = s.owners.items;
+      waiters = s.waiters.items;
       threads = s.threads;
       failed = s.failed;
     } };
@@ -49,12 +57,38 @@ pub fn start(alloc: Global, code: &Code) -> Result<State, AllocError>
     ensures { IfOk result (λ s. s ≡ opening no_buffer code.now) }
 {
     let memory = code.memory().to_vec(alloc)?;
-    let main = Thread::at_start(alloc, code, code.functions().len() - 1)?;
+    let owners = no_owners(alloc, code.mutexes())?;
+    let waiters = no_waiters(alloc, code.conditions())?;
+    let main = Thread::at_start(alloc, code, code.functions().len() - 1, Vec::new(alloc))?;
     Ok(State {
         memory,
+        owners,
+        waiters,
         threads: Threads::of_main(alloc, main)?,
         failed: None,
     })
+}
+
+/// So many mutexes, all free.
+fn no_owners(alloc: Global, count: u32) -> Result<Vec<Option<ThreadName>>, AllocError>
+    ensures { IfOk result (λ owners. owners.items ≡ replicate count None) }
+{
+    let mut owners = Vec::new(alloc);
+    for _k in 0..count {
+        owners.push(None)?;
+    }
+    Ok(owners)
+}
+
+/// So many conditions, on which nobody waits.
+fn no_waiters(alloc: Global, count: u32) -> Result<Vec<WaitSet>, AllocError>
+    ensures { IfOk result (λ waiters. waiters.items ≡ replicate count set.empty) }
+{
+    let mut waiters = Vec::new(alloc);
+    for _k in 0..count {
+        waiters.push(WaitSet::new(alloc))?;
+    }
+    Ok(waiters)
 }
 
 impl State {
@@ -101,37 +135,199 @@ impl State {
         self.threads.get(name)
     }
 
+    /// The threads that wait on a condition.
+    pub(crate) fn waiting_on(&self, condition: u32) -> &WaitSet
+        requires { condition < length self.now.waiters }
+        ensures { result.now ≡ waiting_on self.now condition }
+    {
+        &self.waiters[condition as usize]
+    }
+
+    /// What the other threads don't let be.
+    pub(crate) fn lets(&self, name: &ThreadName, request: Request) -> Result<(), Why>
+        requires { AsksWithin self.now (plain_request request) }
+        ensures { MatchResult result
+            (λ _. why_let self.now name.now (plain_request request) ≡ None)
+            (λ w. why_let self.now name.now (plain_request request) ≡ Some w) }
+    {
+        match request {
+            Request::Acquire(mutex) => self.check_free(mutex),
+            Request::EndWait(condition, mutex) => {
+                if self.waiters[condition as usize].contains(name) {
+                    return Err(Why::NotWoken);
+                }
+                self.check_free(mutex)
+            }
+            Request::WakeOne(condition) => {
+                if self.waiters[condition as usize].is_empty() {
+                    Ok(())
+                } else {
+                    Err(Why::WaiterNeeded)
+                }
+            }
+            Request::Await(number) => {
+                if self.threads.child_has_exited(name, number) {
+                    Ok(())
+                } else {
+                    Err(Why::NotEnded)
+                }
+            }
+            _ => Ok(()),
+        }
+    }
+
+    /// Whether a mutex has no owner.
+    fn check_free(&self, mutex: u32) -> Result<(), Why>
+        requires { mutex < length self.now.owners }
+        ensures { MatchResult result
+            (λ _. why_taken self.now mutex ≡ None)
+            (λ w. why_taken self.now mutex ≡ Some w) }
+    {
+        match self.owners[mutex as usize] {
+            None => Ok(()),
+            Some(_) => Err(Why::Held),
+        }
+    }
+
     /// A thread does an instruction, whose request may be met.
     pub(crate) fn perform(
         &mut self,
+        alloc: Global,
+        code: &Code,
         name: &ThreadName,
         instr: &Instr,
         request: Request,
     ) -> Result<(), AllocError>
         requires { IsSomeAnd (map.get self.old.threads name.now)
-            (CanPerform self.old (plain_instr instr.now) (plain_request request)) }
+            (CanPerform code.now self.old name.now (plain_instr instr.now) (plain_request request)) }
         ensures ok { OnOk result (IfSome (map.get self.old.threads name.now)
-            (λ t. self.new ≡ perform no_buffer self.old name.now t (plain_instr instr.now) (plain_request request))) }
+            (λ t. self.new ≡ perform no_buffer code.now self.old name.now t (plain_instr instr.now) (plain_request request))) }
         ensures err { OnErr result (self.new ≡ self.old) }
     {
         match request {
-            Request::Silent | Request::OrderStores | Request::Finish => {
-                self.threads.advance(name, instr, 0)?;
-            }
+            Request::Silent
+            | Request::WakeOne(_)
+            | Request::Await(_)
+            | Request::OrderStores
+            | Request::Finish => self.threads.advance(name, instr, 0)?,
             Request::Read(cell) => {
-                self.threads
-                    .advance(name, instr, self.memory[cell as usize])?;
+                let taken = self.memory[cell as usize];
+                self.threads.advance(name, instr, taken)?;
             }
             Request::Write(cell, value) => {
                 self.threads.advance(name, instr, 0)?;
                 self.memory[cell as usize] = value;
             }
-            Request::Fail => {
-                let failed = name.clone()?;
-                self.threads.stop(name);
-                self.failed = Some(failed);
+            Request::Acquire(mutex) | Request::EndWait(_, mutex) => self.take(name, instr, mutex)?,
+            Request::Release(mutex) => {
+                self.threads.advance(name, instr, 0)?;
+                self.owners[mutex as usize] = None;
             }
+            Request::BeginWait(condition, mutex) => self.sleep(name, instr, condition, mutex)?,
+            Request::WakeAll(condition) => {
+                self.threads.advance(name, instr, 0)?;
+                self.waiters[condition as usize].clear();
+            }
+            Request::Start(function) => self.create(alloc, code, name, instr, function)?,
+            Request::Fail => self.fail(name)?,
         }
+        Ok(())
+    }
+
+    /// A thread fails, at its place.
+    fn fail(&mut self, name: &ThreadName) -> Result<(), AllocError>
+        requires { IfSome (map.get self.old.threads name.now) (λ t. HasRoom t.local) }
+        ensures ok { OnOk result (IfSome (map.get self.old.threads name.now)
+            (λ t. self.new ≡ record (with_thread self.old name.now (record t { local = stepped t.local })) { failed = Some name.now })) }
+        ensures err { OnErr result (self.new ≡ self.old) }
+    {
+        let failed = name.clone()?;
+        self.threads.stop(name);
+        self.failed = Some(failed);
+        Ok(())
+    }
+
+    /// A thread takes a mutex.
+    fn take(&mut self, name: &ThreadName, instr: &Instr, mutex: u32) -> Result<(), AllocError>
+        requires can { CanAdvance self.old.threads name.now (plain_instr instr.now) }
+        requires there { mutex < length self.old.owners }
+        ensures ok { OnOk result (IfSome (map.get self.old.threads name.now)
+            (λ t. self.new ≡ record (did no_buffer self.old name.now t (plain_instr instr.now)) { owners = slice_set self.old.owners mutex (Some name.now) })) }
+        ensures err { OnErr result (self.new ≡ self.old) }
+    {
+        let owner = name.clone()?;
+        self.threads.advance(name, instr, 0)?;
+        self.owners[mutex as usize] = Some(owner);
+        Ok(())
+    }
+
+    /// A thread leaves a mutex, and waits on a condition.
+    fn sleep(
+        &mut self,
+        name: &ThreadName,
+        instr: &Instr,
+        condition: u32,
+        mutex: u32,
+    ) -> Result<(), AllocError>
+        requires can { CanAdvance self.old.threads name.now (plain_instr instr.now) }
+        requires condition { condition < length self.old.waiters }
+        requires mutex { mutex < length self.old.owners }
+        requires no_branch { is_branch (plain_instr instr.now) ≡ false }
+        ensures ok { OnOk result (IfSome (map.get self.old.threads name.now)
+            (λ t. self.new ≡ record (did no_buffer self.old name.now t (plain_instr instr.now)) {
+              owners = slice_set self.old.owners mutex None;
+              waiters = slice_set self.old.waiters condition (set.insert (waiting_on self.old condition) name.now);
+            })) }
+        ensures err { OnErr result (self.new ≡ self.old) }
+    {
+        let waiter = name.clone()?;
+        self.waiters[condition as usize].insert(waiter)?;
+        self.threads.advance(name, instr, 0)?;
+        self.owners[mutex as usize] = None;
+        Ok(())
+    }
+
+    /// A thread creates a child, which does the function.
+    fn create(
+        &mut self,
+        alloc: Global,
+        code: &Code,
+        name: &ThreadName,
+        instr: &Instr,
+        function: u32,
+    ) -> Result<(), AllocError>
+        requires { IsSomeAnd (map.get self.old.threads name.now)
+            (CanPerform code.now self.old name.now (plain_instr instr.now) (plain.Start function)) }
+        ensures ok { OnOk result (IfSome (map.get self.old.threads name.now)
+            (λ t. self.new ≡ perform no_buffer code.now self.old name.now t (plain_instr instr.now) (plain.Start function))) }
+        ensures err { OnErr result (self.new ≡ self.old) }
+    {
+        let Some(parent) = self.threads.get(name) else {
+            unreachable!()
+        };
+        let arguments = parent.arguments(alloc, instr)?;
+        let child = name.child(parent.children() + 1)?;
+        let thread = Thread::at_start(alloc, code, function as usize, arguments)?;
+        self.threads.create(name, instr, child, thread)
+    }
+
+    /// A thread signals, and wakes a thread that waits on the condition.
+    pub(crate) fn wake(
+        &mut self,
+        name: &ThreadName,
+        waiter: &ThreadName,
+        instr: &Instr,
+        condition: u32,
+    ) -> Result<(), AllocError>
+        requires can { CanAdvance self.old.threads name.now (plain_instr instr.now) }
+        requires there { condition < length self.old.waiters }
+        requires signals { plain_instr instr.now ≡ flat.Signal condition }
+        ensures ok { OnOk result (IfSome (map.get self.old.threads name.now)
+            (λ t. self.new ≡ woken no_buffer self.old name.now waiter.now t condition)) }
+        ensures err { OnErr result (self.new ≡ self.old) }
+    {
+        self.threads.advance(name, instr, 0)?;
+        self.waiters[condition as usize].remove(waiter);
         Ok(())
     }
 }

@@ -1,16 +1,21 @@
 //! A thread, and what an instruction asks and does.
-ghost use Rattle.std.specs.Prelude.{◌≡◌, ℕ, ◌+◌, ◌<◌, ◌^◌, length, IsTrue, replicate, pos, IfOk, OnOk, OnErr, OnSome, option_map};
+ghost use Rattle.std.specs.Prelude.{◌≡◌, ℕ, ◌+◌, ◌<◌, ◌≤◌, ◌^◌, length, slice_set, map, true, IsTrue, IfOk, OnOk, OnErr, OnSome, option_map};
+ghost use Rattle.std.specs.List.{list_all};
 ghost use Rattle.tc_base.specs.Buffers.{no_buffer};
-ghost use Rattle.tc_code.specs.Code.{is_lawful};
-ghost use Rattle.tc_code.specs.Seen.{plain_instr};
-ghost use Rattle.tc_code.specs.Step.{request, local_after, stepped, instr_of, born, slots_of};
+ghost use Rattle.tc_base.specs.declared.handle.Handle.{Handle};
+ghost use Rattle.tc_code.specs.Code as flat;
+ghost use Rattle.tc_code.specs.Expr.{value_of, names_slots};
+ghost use Rattle.tc_code.specs.Seen.{plain_instr, plain_expr};
+ghost use Rattle.tc_code.specs.Step as plain;
 ghost use Rattle.tc_machine.specs.Asked.{plain_request};
-ghost use Rattle.tc_machine.specs.CanDo.{HasSlots, CanDo};
+ghost use Rattle.tc_machine.specs.CanDo.{CanAsk, CanDo, HasRoom, is_branch};
 
 use crate::outcomes::Outcomes;
+use crate::request::{Request, cell_at, is_ready, is_within, number_of, site};
 use std::alloc::{AllocError, Global};
 use std::marker::Model;
-use tc_code::{Code, Instr, value};
+use tc_base::Handle;
+use tc_code::{Code, Expr, Instr, value};
 
 /// A thread.
 #[derive(Debug, Drop)]
@@ -18,14 +23,15 @@ pub(crate) struct Thread {
     function: usize,
     instruction: usize,
     slots: Vec<i32>,
+    handles: Vec<Handle>,
+    held: Vec<bool>,
+    children: u32,
     has_exited: bool,
     outcomes: Outcomes,
     steps: u32,
 }
 
 impl Model for Thread {
-    ghost use Rattle.std.specs.Prelude.{[]};
-    ghost use Rattle.std.specs.Coded.{Coded};
     ghost use base.Stored.{coded_unit};
     ghost use Rattle.tc_base.specs.Buffers.{NoBuffer};
     ghost use Rattle.tc_base.specs.States as spec;
@@ -40,9 +46,9 @@ impl Model for Thread {
         function = t.function;
         instruction = t.instruction;
         slots = t.slots.items;
-        handles = [];
-        held = [];
-        children = 0;
+        handles = t.handles.items;
+        held = t.held.items;
+        children = t.children;
         has_exited = t.has_exited;
         outcomes = t.outcomes;
         steps = t.steps;
@@ -51,33 +57,28 @@ impl Model for Thread {
     } };
 }
 
-/// What an instruction asks of the memory and of the other threads.
-#[derive(Clone, Copy, Debug, PartialEq, Eq)]
-pub(crate) enum Request {
-    Silent,
-    Read(u32),
-    Write(u32, i32),
-    OrderStores,
-    Finish,
-    Fail,
-}
-
 impl Thread {
-    /// A thread at the start of a function, its slots 0.
+    /// A thread at the start of a function: its first slots are the arguments, and all else is 0, unset and free.
     pub(crate) fn at_start(
         alloc: Global,
         code: &Code,
         function: usize,
+        arguments: Vec<i32>,
     ) -> Result<Thread, AllocError>
-        requires { function < length code.now.functions }
-        ensures { let slots = replicate (slots_of no_buffer code.now function) (pos 0) in
-            IfOk result (λ t. t ≡ born no_buffer code.now function slots) }
+        requires there { function < length code.now.functions }
+        requires room { length arguments.items ≤ plain.ints_of code.now function }
+        ensures { IfOk result (λ t. t ≡ plain.born no_buffer code.now function arguments.items) }
     {
-        let slots = code.functions()[function].ints as usize;
+        let func = &code.functions()[function];
+        let mut slots = arguments;
+        slots.resize(func.ints as usize, 0)?;
         Ok(Thread {
             function,
             instruction: 0,
-            slots: vec![in alloc; 0; slots]?,
+            slots,
+            handles: vec![in alloc; Handle::Unset; func.tids as usize]?,
+            held: vec![in alloc; false; code.mutexes() as usize]?,
+            children: 0,
             has_exited: false,
             outcomes: Outcomes::new(alloc),
             steps: 0,
@@ -105,10 +106,24 @@ impl Thread {
         &self.outcomes
     }
 
+    /// How many threads it has created.
+    pub(crate) fn children(&self) -> u32
+        ensures { result ≡ self.now.local.children }
+    {
+        self.children
+    }
+
+    /// Whether it has exited.
+    pub(crate) fn has_exited(&self) -> bool
+        ensures { result ≡ self.now.local.has_exited }
+    {
+        self.has_exited
+    }
+
     /// The instruction that it does next, and none once it has exited.
     pub(crate) fn instr<'a>(&self, code: &'a Code) -> Option<&'a Instr>
-        ensures next { option_map (λ i. plain_instr i.now) result ≡ instr_of code.now self.now.local }
-        ensures lawful { OnSome result (IsTrue (is_lawful code.now)) }
+        ensures next { option_map (λ i. plain_instr i.now) result ≡ plain.instr_of code.now self.now.local }
+        ensures lawful { OnSome result (IsTrue (flat.is_lawful code.now)) }
         ensures room { OnSome result (self.now.local.instruction + 1 < 2 ^ 64) }
     {
         if self.has_exited {
@@ -119,59 +134,202 @@ impl Thread {
 
     /// What an instruction asks.
     pub(crate) fn request(&self, instr: &Instr) -> Request
-        requires { HasSlots self.now.local (plain_instr instr.now) }
-        ensures { plain_request result ≡ request self.now.local (plain_instr instr.now) }
+        requires { (code : flat.Code) × CanAsk code self.now.local (plain_instr instr.now) }
+        ensures { plain_request result ≡ plain.request self.now.local (plain_instr instr.now) }
     {
         match instr {
-            Instr::Load { slot: _, cell } => Request::Read(*cell),
-            Instr::Store { cell, value: e } => Request::Write(*cell, value(e, &self.slots)),
-            Instr::Assert(condition) => {
-                if value(condition, &self.slots) == 0 {
-                    Request::Fail
-                } else {
-                    Request::Silent
-                }
-            }
             Instr::Set { .. } | Instr::Branch { .. } | Instr::Goto { .. } => Request::Silent,
+            Instr::Load { cell, .. } => Request::Read(*cell),
+            Instr::LoadAt { first, index, .. } => {
+                Request::Read(cell_at(*first, value(index, &self.slots)))
+            }
+            Instr::Store { cell, value: e } => Request::Write(*cell, value(e, &self.slots)),
+            Instr::StoreAt {
+                first,
+                index,
+                value: e,
+                ..
+            } => Request::Write(
+                cell_at(*first, value(index, &self.slots)),
+                value(e, &self.slots),
+            ),
+            Instr::Inside { length, index } => {
+                site(is_within(*length, value(index, &self.slots)))
+            }
+            Instr::Holds { mutex } => site(self.held[*mutex as usize]),
+            Instr::Lock { mutex } => Request::Acquire(*mutex),
+            Instr::Unlock { mutex } => Request::Release(*mutex),
+            Instr::Sleep { condition, mutex } => Request::BeginWait(*condition, *mutex),
+            Instr::Wake { condition, mutex } => Request::EndWait(*condition, *mutex),
+            Instr::Signal { condition } => Request::WakeOne(*condition),
+            Instr::Broadcast { condition } => Request::WakeAll(*condition),
+            Instr::Create { function, .. } => Request::Start(*function),
+            Instr::Ready { handle } => site(is_ready(self.handles[*handle as usize])),
+            Instr::Join { handle } => Request::Await(number_of(self.handles[*handle as usize])),
+            Instr::Assert(condition) => site(value(condition, &self.slots) != 0),
             Instr::Fence => Request::OrderStores,
             Instr::Exit => Request::Finish,
         }
     }
 
-    /// Does an instruction that doesn't fail, `taken` being what a load takes. The outcome of a branch takes
+    /// The values that a create hands to the child.
+    pub(crate) fn arguments(&self, alloc: Global, instr: &Instr) -> Result<Vec<i32>, AllocError>
+        requires { (code : flat.Code) × CanAsk code self.now.local (plain_instr instr.now) }
+        ensures { IfOk result (λ v. v.items ≡ plain.arguments_of self.now.local (plain_instr instr.now)) }
+    {
+        match instr {
+            Instr::Create { arguments, .. } => values(alloc, arguments, &self.slots),
+            _ => Ok(Vec::new(alloc)),
+        }
+    }
+
+    /// Does an instruction that doesn't fail, `taken` being what a load takes. Only the outcome of a branch takes
     /// memory, before anything changes.
     pub(crate) fn advance(&mut self, instr: &Instr, taken: i32) -> Result<(), AllocError>
-        requires { CanDo self.old.local (plain_instr instr.now) }
-        ensures ok { OnOk result (self.new ≡ record self.old { local = local_after self.old.local (plain_instr instr.now) taken }) }
+        requires { (code : flat.Code) × CanDo code self.old.local (plain_instr instr.now) }
+        ensures ok { OnOk result (self.new ≡ record self.old { local = plain.local_after self.old.local (plain_instr instr.now) taken }) }
         ensures err { OnErr result (self.new ≡ self.old) }
+        ensures only { OnErr result (IsTrue (is_branch (plain_instr instr.now))) }
     {
-        let mut next = self.instruction + 1;
         match instr {
-            Instr::Load { slot, cell: _ } => self.slots[*slot as usize] = taken,
             Instr::Set { slot, value: e } => {
-                self.slots[*slot as usize] = value(e, &self.slots);
+                let value = value(e, &self.slots);
+                self.set(*slot, value);
             }
+            Instr::Load { slot, .. } | Instr::LoadAt { slot, .. } => self.set(*slot, taken),
             Instr::Branch { condition, target } => {
                 let outcome = value(condition, &self.slots) != 0;
-                self.outcomes.push(outcome)?;
-                if !outcome {
-                    next = *target as usize;
-                }
+                self.branch(outcome, *target)?;
             }
-            Instr::Goto { target } => next = *target as usize,
-            Instr::Exit => self.has_exited = true,
-            Instr::Store { .. } | Instr::Assert(_) | Instr::Fence => {}
+            Instr::Goto { target } => self.jump(*target),
+            Instr::Lock { mutex } | Instr::Wake { mutex, .. } => self.hold(*mutex, true),
+            Instr::Unlock { mutex } | Instr::Sleep { mutex, .. } => self.hold(*mutex, false),
+            Instr::Create { handle, .. } => self.create(*handle),
+            Instr::Join { handle } => self.join(*handle),
+            Instr::Exit => self.exit(),
+            Instr::Store { .. }
+            | Instr::StoreAt { .. }
+            | Instr::Inside { .. }
+            | Instr::Holds { .. }
+            | Instr::Signal { .. }
+            | Instr::Broadcast { .. }
+            | Instr::Ready { .. }
+            | Instr::Assert(_)
+            | Instr::Fence => self.go_on(),
         }
-        self.instruction = next;
-        self.count_step();
         Ok(())
+    }
+
+    /// Goes to the next place.
+    fn go_on(&mut self)
+        requires { HasRoom self.old.local }
+        ensures { self.new ≡ record self.old { local = plain.next self.old.local } }
+    {
+        self.instruction += 1;
+        self.count_step();
+    }
+
+    /// Goes to another place.
+    fn jump(&mut self, target: u32)
+        requires { HasRoom self.old.local }
+        ensures { self.new ≡ record self.old { local = plain.jumped self.old.local target } }
+    {
+        self.instruction = target as usize;
+        self.count_step();
+    }
+
+    /// Goes on after a branch, and keeps its outcome.
+    fn branch(&mut self, outcome: bool, target: u32) -> Result<(), AllocError>
+        requires { HasRoom self.old.local }
+        ensures ok { OnOk result (self.new ≡ record self.old { local = plain.branched self.old.local outcome target }) }
+        ensures err { OnErr result (self.new ≡ self.old) }
+    {
+        self.outcomes.push(outcome)?;
+        if outcome {
+            self.go_on();
+        } else {
+            self.jump(target);
+        }
+        Ok(())
+    }
+
+    /// A slot takes a value.
+    fn set(&mut self, slot: u32, value: i32)
+        requires room { HasRoom self.old.local }
+        requires there { slot < length self.old.local.slots }
+        ensures { self.new ≡ record self.old { local = record (plain.next self.old.local) { slots = slice_set self.old.local.slots slot value } } }
+    {
+        self.slots[slot as usize] = value;
+        self.go_on();
+    }
+
+    /// Takes a mutex, or leaves it.
+    fn hold(&mut self, mutex: u32, holds: bool)
+        requires room { HasRoom self.old.local }
+        requires there { mutex < length self.old.local.held }
+        ensures { self.new ≡ record self.old { local = plain.holding self.old.local mutex holds } }
+    {
+        self.held[mutex as usize] = holds;
+        self.go_on();
+    }
+
+    /// A thread variable takes a new child.
+    fn create(&mut self, handle: u32)
+        requires room { HasRoom self.old.local }
+        requires there { handle < length self.old.local.handles }
+        ensures { self.new ≡ record self.old {
+          local = record (plain.next self.old.local) {
+            handles = slice_set self.old.local.handles handle (Handle.Child (self.old.local.children + 1));
+            children = self.old.local.children + 1;
+          };
+        } }
+    {
+        self.go_on();
+        self.children += 1;
+        self.handles[handle as usize] = Handle::Child(self.children);
+    }
+
+    /// The child of a thread variable is joined.
+    fn join(&mut self, handle: u32)
+        requires room { HasRoom self.old.local }
+        requires there { handle < length self.old.local.handles }
+        ensures { self.new ≡ record self.old {
+          local = record (plain.next self.old.local) {
+            handles = slice_set self.old.local.handles handle (Handle.Joined (plain.number_of (plain.handle_of self.old.local handle)));
+          };
+        } }
+    {
+        let number = number_of(self.handles[handle as usize]);
+        self.handles[handle as usize] = Handle::Joined(number);
+        self.go_on();
+    }
+
+    /// Ends.
+    fn exit(&mut self)
+        requires { HasRoom self.old.local }
+        ensures { self.new ≡ record self.old { local = record (plain.next self.old.local) { has_exited = true } } }
+    {
+        self.has_exited = true;
+        self.go_on();
     }
 
     /// Counts a step, at the same place.
     pub(crate) fn count_step(&mut self)
         requires { self.old.local.steps + 1 < 2 ^ 32 }
-        ensures { self.new ≡ record self.old { local = stepped self.old.local } }
+        ensures { self.new ≡ record self.old { local = plain.stepped self.old.local } }
     {
         self.steps += 1;
     }
+}
+
+/// The values of expressions, over these slots.
+fn values(alloc: Global, arguments: &[Expr], slots: &[i32]) -> Result<Vec<i32>, AllocError>
+    requires { IsTrue (list_all (names_slots (length slots.now)) (map plain_expr arguments.now)) }
+    ensures { IfOk result (λ v. v.items ≡ map (λ e. value_of e slots.now) (map plain_expr arguments.now)) }
+{
+    let mut found = Vec::new(alloc);
+    for e in arguments {
+        found.push(value(e, slots))?;
+    }
+    Ok(found)
 }

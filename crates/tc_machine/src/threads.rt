@@ -1,10 +1,12 @@
 //! Threads by name.
-ghost use Rattle.std.specs.Prelude.{◌≡◌, ℕ, ◌+◌, ◌<◌, ◌^◌, length, IsTrue, IfOk, IfSome, OnOk, OnErr, option_map, Some, None};
+ghost use Rattle.std.specs.Prelude.{◌≡◌, ◌↔◌, ◌+◌, ◌<◌, ◌^◌, length, IsTrue, IfOk, IfSome, OnOk, OnErr, option_map, Some, None, IsSomeAnd, false, pos};
 ghost use Rattle.std.specs.FinMap as map;
-ghost use Rattle.tc_base.specs.Names.{main};
+ghost use Rattle.std.specs.Option.{option_map_or};
+ghost use Rattle.tc_base.specs.Names.{main, child};
+ghost use Rattle.tc_code.specs.Code as flat;
 ghost use Rattle.tc_code.specs.Seen.{plain_instr};
 ghost use Rattle.tc_code.specs.Step.{local_after, stepped};
-ghost use Rattle.tc_machine.specs.CanDo.{CanDo};
+ghost use Rattle.tc_machine.specs.CanDo.{CanAdvance, CanDo, is_branch};
 
 use crate::names::Names;
 use crate::thread::Thread;
@@ -74,15 +76,64 @@ impl Threads {
         instr: &Instr,
         taken: i32,
     ) -> Result<(), AllocError>
-        requires { IfSome (map.get self.old name.now) (λ t. CanDo t.local (plain_instr instr.now)) }
+        requires { CanAdvance self.old name.now (plain_instr instr.now) }
         ensures ok { OnOk result (IfSome (map.get self.old name.now)
             (λ t. self.new ≡ map.insert self.old name.now (record t { local = local_after t.local (plain_instr instr.now) taken }))) }
         ensures err { OnErr result (self.new ≡ self.old) }
+        ensures only { OnErr result (IsTrue (is_branch (plain_instr instr.now))) }
     {
         match self.by_name.get_mut(name) {
             Some(thread) => thread.advance(instr, taken),
             None => Ok(()),
         }
+    }
+
+    /// One thread more.
+    pub(crate) fn add(&mut self, name: ThreadName, thread: Thread) -> Result<(), AllocError>
+        requires { map.get self.old name ≡ None }
+        ensures ok { OnOk result (self.new ≡ map.insert self.old name thread) }
+        ensures err { OnErr result (self.new ≡ self.old) }
+    {
+        let at = self.names.insert(name.clone()?)?;
+        match self.by_name.insert(name, thread) {
+            Ok(_) => Ok(()),
+            Err(_) => {
+                self.names.remove(at);
+                Err(AllocError)
+            }
+        }
+    }
+
+    /// A thread creates a child, by an instruction that is no branch.
+    pub(crate) fn create(
+        &mut self,
+        name: &ThreadName,
+        instr: &Instr,
+        child: ThreadName,
+        thread: Thread,
+    ) -> Result<(), AllocError>
+        requires can { IsSomeAnd (map.get self.old name.now)
+            (λ t. (code : flat.Code) × CanDo code t.local (plain_instr instr.now)) }
+        requires is_new { map.get self.old child ≡ None }
+        requires no_branch { is_branch (plain_instr instr.now) ≡ false }
+        ensures ok { OnOk result (IfSome (map.get self.old name.now)
+            (λ t. self.new ≡ map.insert (map.insert self.old name.now (record t { local = local_after t.local (plain_instr instr.now) (pos 0) })) child thread)) }
+        ensures err { OnErr result (self.new ≡ self.old) }
+    {
+        self.add(child, thread)?;
+        self.advance(name, instr, 0)
+    }
+
+    /// Whether a thread's child of that number has exited.
+    pub(crate) fn child_has_exited(&self, parent: &ThreadName, number: u32) -> bool
+        ensures { result ≡ option_map_or (λ t. t.local.has_exited) (map.get self.now (child parent.now number)) false }
+    {
+        for (name, thread) in &self.by_name {
+            if is_child(name, parent, number) {
+                return thread.has_exited();
+            }
+        }
+        false
     }
 
     /// The thread stays where it failed.
@@ -94,5 +145,15 @@ impl Threads {
         if let Some(thread) = self.by_name.get_mut(name) {
             thread.count_step();
         }
+    }
+}
+
+/// Whether a name is that of a thread's child of that number.
+fn is_child(name: &ThreadName, parent: &ThreadName, number: u32) -> bool
+    ensures { IsTrue result ↔ (child parent.now number ≡ name.now) }
+{
+    match name.children().split_last() {
+        Some((last, front)) => *last == number && front == parent.children(),
+        None => false,
     }
 }

@@ -20,7 +20,7 @@ pub(crate) fn lower(alloc: Global, tree: &Tree) -> Result<Code, AllocError>
     let main = main_of(alloc, &tree.globals, &tree.statements)?;
     let mut functions = Vec::new(alloc);
     functions.push(main)?;
-    match Code::new(memory, functions) {
+    match Code::new(memory, 0, 0, functions) {
         Some(code) => Ok(code),
         None => unreachable!(),
     }
@@ -47,6 +47,7 @@ fn main_of(
     Ok(Func {
         params: 0,
         ints: body.free,
+        tids: 0,
         instrs: body.instrs,
     })
 }

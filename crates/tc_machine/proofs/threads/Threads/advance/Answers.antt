@@ -6,6 +6,7 @@ use Rattle.std.specs.Ordering.{nat_cmp}
 use Rattle.std.specs.Cmp.Lexicographic.{slice_cmp}
 use Rattle.std.specs.Option.{option_copied_mut, IsSome}
 use Rattle.std.specs.BTreeMap.{get_by}
+use Rattle.tc_code.specs.Code.{Code}
 use Rattle.tc_code.specs.Seen.{plain_instr}
 use Rattle.tc_code.specs.Step.{local_after}
 use Rattle.tc_machine.specs.CanDo.{CanDo}
@@ -16,7 +17,7 @@ use Rattle.tc_machine.proofs.threads.Threads.advance.Goals.{in-Some, in-None}
 pub advance-requires : goal.advance-requires
 advance-requires c =
     let there = get_of_entries _ _ c.args.name.now c.self.view_is ∙ sym c.get_mut.ensures.value ∙ ap option_copied_mut c.in-Some.is in
-    subst (λ o. IfSome o (λ t. CanDo t.local (plain_instr c.args.instr.now))) there c.requires
+    subst (λ o. IfSome o (λ t. (code : Code) × CanDo code t.local (plain_instr c.args.instr.now))) there c.requires
 
 pub returns : goal.returns
 returns c = elim c.match-get_mut.branch [
@@ -28,10 +29,12 @@ returns c = elim c.match-get_mut.branch [
       ∙ ap (λ m. map.insert m c.args.name.now w.advance.new.self) c.self.view_is in
       record {
         ok = rw (there, w.result-is, w.self-inside-is) (on_ok_weaker w.advance.result (λ done. put ∙ ap (map.insert c.args.self.now c.args.name.now) done ∙ ap (λ v. map.insert c.args.self.now c.args.name.now (record w.in-Some.thread.now { local = local_after w.in-Some.thread.now.local (plain_instr c.args.instr.now) v })) (to_z-of_z w32 c.args.taken c.ranges.taken)) w.advance.ensures.ok);
+        only = rw w.result-is w.advance.ensures.only;
         err = rw (w.result-is, w.self-inside-is) (on_err_weaker w.advance.result (λ same. put ∙ ap (map.insert c.args.self.now c.args.name.now) same ∙ insert_same c.args.self.now c.args.name.now w.in-Some.thread.now there) w.advance.ensures.err);
       }
   | in-None w ↦ record {
     ok = rw (get_of_entries _ _ c.args.name.now c.self.view_is ∙ sym c.get_mut.ensures.value ∙ ap option_copied_mut w.in-None.is, w.result-is) tt;
     err = rw w.result-is tt;
+    only = rw w.result-is tt;
   }
 ]

@@ -1,0 +1,304 @@
+//! What moves lead to. The expected ends are worked out by hand from the rules of the machine.
+use super::code::{Function, Op};
+use super::seen_after;
+use std::test::Fail;
+
+/// Moves, and what is seen at their end.
+type Case<'a> = (&'a [i32], &'a str);
+
+/// Two threads that add one to a cell, and main, which joins both and looks for 2.
+const ADDS: &[Function] = &[
+    &[Op::Load, Op::StoreNext, Op::Exit],
+    &[
+        Op::Create(0, 0),
+        Op::Create(1, 0),
+        Op::Ready(0),
+        Op::Join(0),
+        Op::Ready(1),
+        Op::Join(1),
+        Op::Load,
+        Op::Is(2),
+        Op::Exit,
+    ],
+];
+
+const ADDED: &[Case] = &[
+    (
+        &[0, 0, 1, 2, 1, 2, 1, 2, 0, 0, 0, 0, 0, 0],
+        "0 failed, 0 8, 0.1 3, 0.2 3",
+    ),
+    (
+        &[0, 0, 1, 2, 1, 2, 1, 2, 0, 0, 0, 0, 0, 0, 0],
+        "0 failed, 0 8, 0.1 3, 0.2 3, Stopped at 15",
+    ),
+    (
+        &[0, 0, 1, 1, 1, 2, 2, 2, 0, 0, 0, 0, 0, 0],
+        "none failed, 0 8, 0.1 3, 0.2 3",
+    ),
+    (&[3], "none failed, 0 0, NoThread at 1"),
+    (
+        &[0, 0, 0, 0],
+        "none failed, 0 3, 0.1 0, 0.2 0, NotEnded at 4",
+    ),
+    (&[0, 1, 1, 1, 1], "none failed, 0 1, 0.1 3, Exited at 5"),
+];
+
+/// A thread that waits.
+const WAITER: Function = &[
+    Op::Lock,
+    Op::Holds,
+    Op::Sleep,
+    Op::Wake,
+    Op::Holds,
+    Op::Unlock,
+    Op::Exit,
+];
+
+/// Two threads that wait, and main, which signals once and fails.
+pub(super) const SIGNALS: &[Function] = &[
+    WAITER,
+    &[
+        Op::Create(0, 0),
+        Op::Create(1, 0),
+        Op::Signal,
+        Op::Is(1),
+        Op::Exit,
+    ],
+];
+
+const SIGNALLED: &[Case] = &[
+    (
+        &[0, 0, 1, 1, 1, 0],
+        "none failed, 0 2, 0.1 3, 0.2 0, WaiterNeeded at 6",
+    ),
+    // A signal that nobody waits for is lost.
+    (
+        &[0, 0, 0, 1, 1, 1, 2, 2, 2, 0],
+        "0 failed, 0 4, 0.1 3, 0.2 3",
+    ),
+    (
+        &[0, 0, 1, 1, 1, 2, 2, 2, -1, 1, 0],
+        "0 failed, 0 4, 0.1 4, 0.2 3",
+    ),
+    // The second of two waiters is woken, and the first is not.
+    (
+        &[0, 0, 1, 1, 1, 2, 2, 2, -2, 2, 0],
+        "0 failed, 0 4, 0.1 3, 0.2 4",
+    ),
+    (
+        &[0, 0, 1, 1, 1, 2, 2, 2, -2, 1],
+        "none failed, 0 3, 0.1 3, 0.2 3, NotWoken at 10",
+    ),
+    (
+        &[0, 0, 1, 1, 1, 2, -1, 1],
+        "none failed, 0 3, 0.1 3, 0.2 1, Held at 8",
+    ),
+    (
+        &[0, 0, 1, 1, 1, 2, 1],
+        "none failed, 0 2, 0.1 3, 0.2 1, NotWoken at 7",
+    ),
+    (
+        &[0, 0, -1],
+        "none failed, 0 2, 0.1 0, 0.2 0, WrongWaiter at 3",
+    ),
+    (&[-1], "none failed, 0 0, WrongWaiter at 1"),
+    (&[0, 0, 1, 2], "none failed, 0 2, 0.1 1, 0.2 0, Held at 4"),
+];
+
+/// The same, with a broadcast for the signal.
+const BROADCASTS: &[Function] = &[
+    WAITER,
+    &[Op::Create(0, 0), Op::Create(1, 0), Op::Broadcast, Op::Exit],
+];
+
+const BROADCAST: &[Case] = &[
+    (
+        &[0, 0, 1, 1, 1, 2, 2, 2, 0, 1, 1, 1, 1, 2, 2, 2, 2, 0],
+        "none failed, 0 4, 0.1 7, 0.2 7",
+    ),
+    (
+        &[0, 0, 1, 1, 1, 2, 2, 2, 0, 1, 2],
+        "none failed, 0 3, 0.1 4, 0.2 3, Held at 11",
+    ),
+    (&[0, 0, 0, 0], "none failed, 0 4, 0.1 0, 0.2 0"),
+];
+
+/// A child that is joined twice.
+const JOINS_TWICE: &[Function] = &[
+    &[Op::Exit],
+    &[
+        Op::Create(0, 0),
+        Op::Ready(0),
+        Op::Join(0),
+        Op::Ready(0),
+        Op::Join(0),
+        Op::Exit,
+    ],
+];
+
+const JOINED: &[Case] = &[
+    (&[0, 0, 0], "none failed, 0 2, 0.1 0, NotEnded at 3"),
+    (&[0, 1, 0, 0, 0], "0 failed, 0 4, 0.1 1"),
+];
+
+/// A thread variable that takes a second child once the first is joined.
+const CREATES_AGAIN: &[Function] = &[
+    &[Op::Exit],
+    &[
+        Op::Create(0, 0),
+        Op::Ready(0),
+        Op::Join(0),
+        Op::Create(0, 0),
+        Op::Ready(0),
+        Op::Join(0),
+        Op::Exit,
+    ],
+];
+
+const CREATED_AGAIN: &[Case] = &[
+    (
+        &[0, 1, 0, 0, 0, 0, 2, 0, 0],
+        "none failed, 0 7, 0.1 1, 0.2 1",
+    ),
+    (
+        &[0, 1, 0, 0, 0, 0, 0],
+        "none failed, 0 5, 0.1 1, 0.2 0, NotEnded at 7",
+    ),
+];
+
+/// A thread that exits with the mutex, and main, which would leave it.
+const LEAVES: &[Function] = &[
+    &[Op::Lock, Op::Exit],
+    &[Op::Create(0, 0), Op::Holds, Op::Unlock, Op::Exit],
+];
+
+const LEFT: &[Case] = &[(&[0, 1, 0], "0 failed, 0 2, 0.1 1")];
+
+/// The same, but main would take it.
+const TAKES: &[Function] = &[
+    &[Op::Lock, Op::Exit],
+    &[Op::Create(0, 0), Op::Lock, Op::Exit],
+];
+
+const TAKEN: &[Case] = &[
+    (&[0, 1, 1, 0], "none failed, 0 1, 0.1 2, Held at 4"),
+    (&[0, 0, 0, 1], "none failed, 0 3, 0.1 0, Held at 4"),
+];
+
+/// Children of children.
+pub(super) const GRANDCHILDREN: &[Function] = &[
+    &[Op::Exit],
+    &[Op::Create(0, 0), Op::Exit],
+    &[Op::Create(0, 1), Op::Create(1, 1), Op::Exit],
+];
+
+const BORN: &[Case] = &[
+    (
+        &[0, 0, 2, 1, 21, 11],
+        "none failed, 0 2, 0.1 1, 0.1.1 1, 0.2 1, 0.2.1 1",
+    ),
+    (
+        &[0, 0, 2, 11],
+        "none failed, 0 2, 0.1 0, 0.2 1, 0.2.1 0, NoThread at 4",
+    ),
+];
+
+/// A child that looks for 5 in its parameter, and gets 5 and then 4.
+const GIVES: &[Function] = &[
+    &[Op::Is(5), Op::Exit],
+    &[
+        Op::Set(5),
+        Op::Create(0, 0),
+        Op::Set(4),
+        Op::Create(1, 0),
+        Op::Exit,
+    ],
+];
+
+const GIVEN: &[Case] = &[
+    (&[0, 0, 0, 0, 1], "none failed, 0 4, 0.1 1, 0.2 0"),
+    (&[0, 0, 0, 0, 1, 2], "0.2 failed, 0 4, 0.1 1, 0.2 1"),
+];
+
+/// Main alone: a mutex that it doesn't hold, a wait that nobody ends, a mutex twice, a child that isn't there.
+pub(super) const UNLOCKS: &[Function] = &[&[Op::Holds, Op::Unlock, Op::Exit]];
+
+const SLEEPS: &[Function] = &[&[
+    Op::Lock,
+    Op::Holds,
+    Op::Sleep,
+    Op::Wake,
+    Op::Is(1),
+    Op::Exit,
+]];
+
+const LOCKS_TWICE: &[Function] = &[&[Op::Lock, Op::Lock, Op::Is(1), Op::Exit]];
+
+const JOINS_NONE: &[Function] = &[&[Op::Ready(0), Op::Join(0), Op::Exit]];
+
+/// Stores 7 at the index, and looks for it there.
+fn indexes(index: i32) -> [Op; 7] {
+    [
+        Op::Set(index),
+        Op::Inside,
+        Op::StoreAt,
+        Op::Inside,
+        Op::LoadAt,
+        Op::Is(7),
+        Op::Exit,
+    ]
+}
+
+#[test]
+fn codes_of_main_alone(rt: HostRuntime) -> Result<(), Fail> {
+    let alloc = rt.alloc();
+    for (functions, moves, want) in [
+        (UNLOCKS, [0].as_slice(), "0 failed, 0 1"),
+        (
+            SLEEPS,
+            [0, 0, 0, 0].as_slice(),
+            "none failed, 0 3, NotWoken at 4",
+        ),
+        (
+            LOCKS_TWICE,
+            [0, 0].as_slice(),
+            "none failed, 0 1, Held at 2",
+        ),
+        (JOINS_NONE, [0].as_slice(), "0 failed, 0 1"),
+    ] {
+        assert_eq!(rt; seen_after(alloc, functions, moves)?.as_str(), want);
+    }
+    for (index, want) in [
+        (-1, "0 failed, 0 2, Stopped at 3"),
+        (0, "none failed, 0 7"),
+        (1, "none failed, 0 7"),
+        (2, "0 failed, 0 2, Stopped at 3"),
+        (i32::MIN, "0 failed, 0 2, Stopped at 3"),
+        (i32::MAX, "0 failed, 0 2, Stopped at 3"),
+    ] {
+        let main = indexes(index);
+        let end = seen_after(alloc, &[main.as_slice()], &[0; 7])?;
+        assert_eq!(rt; end.as_str(), want, "{index}");
+    }
+    Ok(())
+}
+
+#[test]
+fn codes_of_threads(rt: HostRuntime) -> Result<(), Fail> {
+    for (functions, cases) in [
+        (ADDS, ADDED),
+        (SIGNALS, SIGNALLED),
+        (BROADCASTS, BROADCAST),
+        (JOINS_TWICE, JOINED),
+        (CREATES_AGAIN, CREATED_AGAIN),
+        (LEAVES, LEFT),
+        (TAKES, TAKEN),
+        (GRANDCHILDREN, BORN),
+        (GIVES, GIVEN),
+    ] {
+        for (moves, want) in cases {
+            assert_eq!(rt; seen_after(rt.alloc(), functions, moves)?.as_str(), *want);
+        }
+    }
+    Ok(())
+}

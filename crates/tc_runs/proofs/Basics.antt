@@ -1,0 +1,41 @@
+-- Options and lists.
+use Rattle.std.proofs.Common.{◌≡◌, ◌⊎◌, inl, inr, ℕ, zero, suc, List, [], ◌∷◌, Bool, true, false, cond, IsSome, Option, Some, None, refl, ap, sym, subst, replicate, slice_set, slice_index_or, true≢false}
+
+-- what is some value is there
+pub some_is : {X : Type 0} (o : Option X) (x : X) → o ≡ Some x → IsSome o
+some_is o x e = subst IsSome (sym e) refl
+
+-- what is there is some value
+pub some_value : {X : Type 0} (o : Option X) → IsSome o → (x : X) × (o ≡ Some x)
+some_value None h = absurd (true≢false (sym h))
+some_value (Some x) h = (x, refl)
+
+-- what can't be there isn't
+pub none_unless : {X : Type 0} (o : Option X) → (IsSome o → ⊥) → o ≡ None
+none_unless None h = refl
+none_unless (Some x) h = absurd (h refl)
+
+-- where all are the default, so is each
+pub index_or-replicate : {X : Type 0} (n k : ℕ) (d : X) → slice_index_or (replicate n d) k d ≡ d
+index_or-replicate zero k d = refl
+index_or-replicate (suc n) zero d = refl
+index_or-replicate (suc n) (suc k) d = index_or-replicate n k d
+
+-- a default that is written is there
+pub index_or-set_default : {X : Type 0} (xs : List X) (k : ℕ) (d : X) → slice_index_or (slice_set xs k d) k d ≡ d
+index_or-set_default [] k d = refl
+index_or-set_default (x ∷ xs) zero d = refl
+index_or-set_default (x ∷ xs) (suc k) d = index_or-set_default xs k d
+
+-- what is there after a write was written, or was there
+pub index_or-set_cases : {X : Type 0} (xs : List X) (k j : ℕ) (x d : X) → ((j ≡ k) × (slice_index_or (slice_set xs k x) j d ≡ x)) ⊎ (slice_index_or (slice_set xs k x) j d ≡ slice_index_or xs j d)
+index_or-set_cases [] k j x d = inr refl
+index_or-set_cases (y ∷ ys) zero zero x d = inl (refl, refl)
+index_or-set_cases (y ∷ ys) zero (suc j) x d = inr refl
+index_or-set_cases (y ∷ ys) (suc k) zero x d = inr refl
+index_or-set_cases (y ∷ ys) (suc k) (suc j) x d = elim (index_or-set_cases ys k j x d) [ inl is ↦ inl (ap suc is.0, is.1) | inr was ↦ inr was ]
+
+-- of two things one stands, whichever it is
+pub either : {A : Type 0} (P : A → Type 0) (b : Bool) (x y : A) → P x → P y → P (cond b x y)
+either P true x y p q = p
+either P false x y p q = q

@@ -1,0 +1,76 @@
+-- Names of threads, and what is in a map under them.
+use Rattle.std.proofs.Common.{◌≡◌, ◌≢◌, ◌∙◌, ◌⊎◌, inl, inr, ℕ, length, Bool, true, false, cond, IsSome, Some, refl, ap, sym, subst, arith, true≢false}
+use Rattle.std.specs.FinMap as fin
+use Rattle.std.specs.Ordering.{nat_cmp, eq_by_cmp}
+use Rattle.std.specs.Cmp.Lexicographic.{slice_cmp}
+use Rattle.std.proofs.lemmas.Cmp.{nat_list_cmp_total, eq_by_cmp_equiv}
+use Rattle.std.proofs.lemmas.List.{length_push}
+use Rattle.std.proofs.lemmas.Map.Lookups.{exact_bytes}
+use Rattle.std.proofs.lemmas.Map.Views.{tells_apart}
+use Rattle.std.proofs.lemmas.Option.{same_Some}
+use Rattle.tc_base.specs.Names.{Name, ByName, main, child}
+
+-- whether the map takes two names for one
+abbrev pub same_name : Name → Name → Bool
+same_name q n = eq_by_cmp (slice_cmp nat_cmp) q n
+
+-- what the map says of two names, case by case
+tells : (q n : Name) (b : Bool) → same_name q n ≡ b → ((same_name q n ≡ true) × (q ≡ n)) ⊎ ((same_name q n ≡ false) × (q ≢ n))
+tells q n true e = inl (e, tells_apart exact_bytes q n e)
+tells q n false e = inr (e, λ same. true≢false (sym ((eq_by_cmp_equiv nat_list_cmp_total).refl n) ∙ subst (λ m. same_name m n ≡ false) same e))
+
+-- the map takes two names for one exactly where they are one
+pub tells_names : (q n : Name) → ((same_name q n ≡ true) × (q ≡ n)) ⊎ ((same_name q n ≡ false) × (q ≢ n))
+tells_names q n = tells q n _ refl
+
+-- a name is another, or not
+pub same_or_apart : (q n : Name) → (q ≡ n) ⊎ (q ≢ n)
+same_or_apart q n = elim (tells_names q n) [ inl e ↦ inl e.1 | inr e ↦ inr e.1 ]
+
+-- under one name there is one
+pub one_under : {X : Type 0} (m : ByName X) (q n : Name) (x y : X) → q ≡ n → fin.get m q ≡ Some x → fin.get m n ≡ Some y → x ≡ y
+one_under m q n x y same there here = same_Some x y (sym there ∙ ap (fin.get m) same ∙ here)
+
+-- what is put in under a name is there
+pub get_put : {X : Type 0} (m : ByName X) (n : Name) (x : X) → fin.get (fin.insert m n x) n ≡ Some x
+get_put m n x = fin.get-insert nat_list_cmp_total m n x n ∙ ap (λ b. cond b (Some x) (fin.get m n)) ((eq_by_cmp_equiv nat_list_cmp_total).refl n)
+
+-- what is under another name stays as it was
+pub get_put_apart : {X : Type 0} (m : ByName X) (n : Name) (x : X) (q : Name) → q ≢ n → fin.get (fin.insert m n x) q ≡ fin.get m q
+get_put_apart m n x q apart =
+    elim (tells_names q n) [
+      | inl e ↦ absurd (apart e.1)
+      | inr e ↦ fin.get-insert nat_list_cmp_total m n x q ∙ ap (λ b. cond b (Some x) (fin.get m q)) e.0
+    ]
+
+-- what is found after something is put in is that, or was there
+pub get_put_cases : {X : Type 0} (m : ByName X) (n : Name) (x : X) (q : Name) (y : X) → fin.get (fin.insert m n x) q ≡ Some y → ((q ≡ n) × (x ≡ y)) ⊎ ((q ≢ n) × (fin.get m q ≡ Some y))
+get_put_cases m n x q y h =
+    elim (same_or_apart q n) [
+      | inl same ↦ inl (same, one_under (fin.insert m n x) n q x y (sym same) (get_put m n x) h)
+      | inr apart ↦ inr (apart, sym (get_put_apart m n x q apart) ∙ h)
+    ]
+
+-- what is there stays where something is put in
+pub stays_after_put : {X : Type 0} (m : ByName X) (n : Name) (x : X) (q : Name) → IsSome (fin.get m q) → IsSome (fin.get (fin.insert m n x) q)
+stays_after_put m n x q there =
+    elim (same_or_apart q n) [
+      | inl same ↦ subst IsSome (sym (ap (fin.get (fin.insert m n x)) same ∙ get_put m n x)) refl
+      | inr apart ↦ subst IsSome (sym (get_put_apart m n x q apart)) there
+    ]
+
+-- where something is put in under a name that is there already, no name is new
+pub there_before_put : {X : Type 0} (m : ByName X) (n : Name) (x : X) (q : Name) → IsSome (fin.get m n) → IsSome (fin.get (fin.insert m n x) q) → IsSome (fin.get m q)
+there_before_put m n x q before there =
+    elim (same_or_apart q n) [
+      | inl same ↦ subst (λ p. IsSome (fin.get m p)) (sym same) before
+      | inr apart ↦ subst IsSome (get_put_apart m n x q apart) there
+    ]
+
+-- no child has the name of its parent
+pub child_apart : (n : Name) (k : ℕ) → child n k ≢ n
+child_apart n k e = omega (arith, length_push n k, ap length e)
+
+-- no child is main
+pub child_not_main : (n : Name) (k : ℕ) → child n k ≢ main
+child_not_main n k e = omega (arith, length_push n k, ap length e)

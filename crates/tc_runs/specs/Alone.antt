@@ -1,0 +1,79 @@
+-- A thread by itself: what it does with the values that its loads take.
+use Rattle.std.specs.Prelude.{◌≡◌, ℕ, zero, suc, ◌+◌, ◌-◌, ℤ, pos, List, [], ◌∷◌, ◌++◌, length, map, Some, if◌then◌else◌}
+use Rattle.std.specs.Option.{option_map_or}
+use Rattle.std.specs.Ordering.{nat_cmp, eq_by_cmp}
+use Rattle.std.specs.Cmp.Lexicographic.{slice_cmp}
+use Rattle.std.specs.FinMap as fin
+use Rattle.tc_base.specs.Names.{Name, main, child}
+use Rattle.tc_base.specs.Buffers.{BufferOps}
+use Rattle.tc_base.specs.States.{Local, Thread, State}
+use Rattle.tc_base.specs.declared.moves.Move.{Move}
+use Rattle.tc_base.specs.declared.moves.Move.TheVariants as move
+use Rattle.tc_code.specs.Expr.{Expr}
+use Rattle.tc_code.specs.Code.{Code, Instr, Create}
+use Rattle.tc_code.specs.Step.{Request, Read, Fail, request, stepped, value_in, local_after, instr_of, loaded, born, step}
+use Rattle.tc_code.specs.Run.{run}
+
+-- a thread, and the values that its further loads take
+pub record Alone : Type 0 where
+  pub local : Local
+  pub values : List ℤ
+
+-- after an instruction that asks this: a load takes the first of the values
+abbrev pub after_request : Local → Instr → List ℤ → Request → Alone
+after_request t i (v ∷ vs) (Read c) = record { local = local_after t i v; values = vs }
+after_request t i vs Fail = record { local = stepped t; values = vs }
+after_request t i vs _ = record { local = local_after t i (pos 0); values = vs }
+
+-- after the instruction at its place, if there is one
+abbrev pub goes_on : Code → Alone → Alone
+goes_on code a = option_map_or (λ i. after_request a.local i a.values (request a.local i)) (instr_of code a.local) a
+
+-- after so many steps
+abbrev pub after_steps : Code → ℕ → Alone → Alone
+after_steps code zero a = a
+after_steps code (suc k) a = after_steps code k (goes_on code a)
+
+module _ {B : Type 0} (ops : BufferOps B) (code : Code) where
+  -- the value that a request of a thread takes, if it is a load
+  abbrev pub taken_by : State B → Thread B → Request → List ℤ
+  taken_by s t (Read c) = loaded ops s t c ∷ []
+  taken_by s t _ = []
+
+  -- the value that a move's load by the thread of a name takes, if it is one
+  abbrev pub taken_in : State B → Name → Move → List ℤ
+  taken_in s q (move.Run n) =
+      if eq_by_cmp (slice_cmp nat_cmp) q n
+      then option_map_or (λ t. option_map_or (λ i. taken_by s t (request t.local i)) (instr_of code t.local) []) (fin.get s.threads n) []
+      else []
+  taken_in s q _ = []
+
+  -- the values that the loads of the thread of a name take in a run from a state, in order
+  abbrev pub taken_from : State B → Name → List Move → List ℤ
+  taken_from s q [] = []
+  taken_from s q (m ∷ ms) = taken_in s q m ++ option_map_or (λ u. taken_from u q ms) (step ops code s m) []
+
+  -- the thread of a name is created by the last of some moves, to do a function with these arguments
+  pub data Creation : Name → List Move → ℕ → List ℤ → Type 0 where
+    -- main is there before the first move, and does the last function
+    Of_main : Creation main [] (length code.functions - 1) []
+    -- its parent does a create, which names the function and the arguments
+    By_parent : (moves : List Move) (s : State B) (p : Name) (t : Thread B) (h f : ℕ) (es : List Expr) → run ops code moves ≡ Some s → fin.get s.threads p ≡ Some t → instr_of code t.local ≡ Some (Create h f es) → Creation (child p (t.local.children + 1)) (moves ++ move.Run p ∷ []) f (map (value_in t.local) es)
+
+  -- where the thread of a name began in a run: the first moves create it, and it is at the start of its function
+  pub record Begins (n : Name) (moves : List Move) : Type 0 where
+    pub first : List Move
+    pub rest : List Move
+    pub split : moves ≡ first ++ rest
+    pub state : State B
+    pub leads : run ops code first ≡ Some state
+    pub function : ℕ
+    pub arguments : List ℤ
+    pub creation : Creation n first function arguments
+    pub there : fin.get state.threads n ≡ Some (born ops code function arguments)
+
+  -- what a thread that began so has by itself after so many steps
+  abbrev pub alone_since : (n : Name) (moves : List Move) → Begins n moves → ℕ → Local
+  alone_since n moves b k =
+      let start = (born ops code b.function b.arguments).local in
+      (after_steps code k (record { local = start; values = taken_from b.state n b.rest })).local

@@ -1,0 +1,74 @@
+-- What holds in each state that a run of lawful code reaches.
+use Rattle.std.specs.Prelude.{◌≡◌, ◌≢◌, ◌↔◌, ◌+◌, ◌≤◌, ℕ, Option, Some, None, IsSome, IsTrue, slice_index_or}
+use Rattle.std.specs.FinMap as fin
+use Rattle.std.specs.FinSet as set
+use Rattle.tc_base.specs.Names.{Name, main, child}
+use Rattle.tc_base.specs.States.{Local, Thread, State}
+use Rattle.tc_base.specs.declared.handle.Handle.{Handle}
+use Rattle.tc_base.specs.declared.handle.Handle.TheVariants.{Unset, Child, Joined}
+use Rattle.tc_code.specs.Code.{Code, Unlock, Sleep, Wake, Join, Exit, instr_at}
+use Rattle.tc_code.specs.Step.{holds, is_ready, handle_of, instr_of, waiting_on}
+
+-- the owner of a mutex, if it has one
+abbrev pub owner_of : {B : Type 0} → State B → ℕ → Option Name
+owner_of s m = slice_index_or s.owners m None
+
+-- a thread holds a mutex exactly where it is its owner
+pub record OwnersHold {B : Type 0} (s : State B) : Type 0 where
+  pub holder : (n : Name) (t : Thread B) (m : ℕ) → fin.get s.threads n ≡ Some t → IsTrue (holds t.local m) ↔ (owner_of s m ≡ Some n)
+  pub there : (n : Name) (m : ℕ) → owner_of s m ≡ Some n → IsSome (fin.get s.threads n)
+
+-- at an instruction that goes with the site before it, a thread has what that tested
+pub record HasTested (code : Code) (t : Local) : Type 0 where
+  pub unlock : (m : ℕ) → instr_of code t ≡ Some (Unlock m) → IsTrue (holds t m)
+  pub sleep : (c m : ℕ) → instr_of code t ≡ Some (Sleep c m) → IsTrue (holds t m)
+  pub join : (h : ℕ) → instr_of code t ≡ Some (Join h) → IsTrue (is_ready (handle_of t h))
+
+-- the thread of a name is at a wake of the condition
+pub record IsAtWake {B : Type 0} (code : Code) (s : State B) (c : ℕ) (n : Name) : Type 0 where
+  pub thread : Thread B
+  pub there : fin.get s.threads n ≡ Some thread
+  pub mutex : ℕ
+  pub at : instr_of code thread.local ≡ Some (Wake c mutex)
+
+-- a waiter is a thread at a wake of that condition
+abbrev pub WaitersAreAtWake : {B : Type 0} → Code → State B → Type 0
+WaitersAreAtWake code s = (n : Name) (c : ℕ) → IsTrue (set.contains (waiting_on s c) n) → IsAtWake code s c n
+
+-- the instruction before a thread's place is an exit
+pub record IsPastExit (code : Code) (t : Local) : Type 0 where
+  pub place : ℕ
+  pub next : t.instruction ≡ place + 1
+  pub exit : instr_at code t.function place ≡ Some Exit
+
+-- a thread has exited exactly where its last instruction was an exit
+abbrev pub ExitedPastExit : Code → Local → Type 0
+ExitedPastExit code t = IsTrue t.has_exited ↔ IsPastExit code t
+
+-- a number of a child that a thread has created
+pub record IsChildOf (t : Local) (k : ℕ) : Type 0 where
+  pub first : 1 ≤ k
+  pub last : k ≤ t.children
+
+-- a name is that of a child that its parent, a thread, has created
+pub record IsCreated {B : Type 0} (s : State B) (n : Name) : Type 0 where
+  pub parent : Name
+  pub number : ℕ
+  pub name : n ≡ child parent number
+  pub thread : Thread B
+  pub there : fin.get s.threads parent ≡ Some thread
+  pub created : IsChildOf thread.local number
+
+-- each child that a thread has created is a thread, and each thread but main is a child that its parent has created
+pub record ThreadsAreCreated {B : Type 0} (s : State B) : Type 0 where
+  pub child_is_there : (n : Name) (t : Thread B) (k : ℕ) → fin.get s.threads n ≡ Some t → IsChildOf t.local k → IsSome (fin.get s.threads (child n k))
+  pub is_created : (n : Name) → IsSome (fin.get s.threads n) → n ≢ main → IsCreated s n
+
+-- the child that a thread variable holds, if it holds one, is one that the thread has created
+abbrev pub HoldsChild : Local → Handle → Type 0
+HoldsChild t Unset = Unit {0}
+HoldsChild t (Child k) = IsChildOf t k
+HoldsChild t (Joined k) = IsChildOf t k
+
+abbrev pub HandlesAreChildren : Local → Type 0
+HandlesAreChildren t = (h : ℕ) → HoldsChild t (handle_of t h)

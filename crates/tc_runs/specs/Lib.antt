@@ -1,0 +1,4 @@
+pub mod Alone
+pub mod Counters
+pub mod Laws
+pub mod Whole

@@ -1,0 +1,32 @@
+-- What each thread of lawful code has, and each state.
+use Rattle.std.specs.Prelude.{◌≡◌, length, Some, slice_get, IsTrue}
+use Rattle.std.specs.FinMap as fin
+use Rattle.tc_base.specs.Names.{Name, ByName}
+use Rattle.tc_base.specs.States.{Local, Thread, State}
+use Rattle.tc_code.specs.Code.{Code, Func, Instr, Load_at, Store_at}
+use Rattle.tc_code.specs.Step.{is_within, value_in}
+
+-- a fact of each thread
+abbrev pub AllThreads : {B : Type 0} → (Local → Type 0) → ByName (Thread B) → Type 0
+AllThreads {B} P threads = (n : Name) (t : Thread B) → fin.get threads n ≡ Some t → P t.local
+
+-- a thread has what its function may name
+pub record IsWholeThread (code : Code) (t : Local) : Type 0 where
+  pub function : Func
+  pub there : slice_get code.functions t.function ≡ Some function
+  pub slots : length t.slots ≡ function.ints
+  pub handles : length t.handles ≡ function.tids
+  pub held : length t.held ≡ code.mutexes
+
+-- there are all cells, mutexes and conditions of the code, and each thread is whole
+pub record IsWhole {B : Type 0} (code : Code) (s : State B) : Type 0 where
+  pub cells : length s.memory ≡ length code.memory
+  pub owners : length s.owners ≡ code.mutexes
+  pub waiters : length s.waiters ≡ code.conditions
+  pub threads : AllThreads (IsWholeThread code) s.threads
+
+-- the index of an access is inside its array
+abbrev pub IndexIsWithin : Local → Instr → Type 0
+IndexIsWithin t (Load_at k first len i) = IsTrue (is_within len (value_in t i))
+IndexIsWithin t (Store_at first len i e) = IsTrue (is_within len (value_in t i))
+IndexIsWithin t _ = Unit {0}
