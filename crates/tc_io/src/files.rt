@@ -1,9 +1,11 @@
 //! The files of the system and its writers as a shelf and a sink: the edge that is trusted.
 //!
-//! No clause can say what a file gives or a writer takes, so these tell nothing of what they hold or wrote. They count
-//! each failure, and stop on every input.
-ghost use Rattle.std.specs.Prelude.{◌≡◌, ◌≢◌, ◌≤◌, length, IfOk, IsErrOf, Err};
-ghost use Rattle.tc_io.specs.Outside.{TookMore};
+//! As a shelf and a sink these tell nothing of what they hold or wrote, since real files and standard output don't.
+//! Where a file or a writer does tell, a fetch gives all that the file has, and a put adds its bytes. They count each
+//! failure, and stop on every input.
+ghost use Rattle.std.specs.Prelude.{◌≡◌, ◌≢◌, ◌≤◌, ◌<◌, length, IfOk, IfSome, OnOk, IsErrOf, Err, Some};
+ghost use Rattle.std.specs.Io.KnownBytes.{Appends};
+ghost use Rattle.tc_io.specs.Outside.{Reading, Rose, TookMore};
 ghost use Rattle.tc_io.specs.Past.{no_past};
 
 use crate::past::Past;
@@ -51,7 +53,17 @@ impl<R: Files + Drop> Shelf for FileShelf<R> {
 
     ghost last_fault = { λ s. s.last_fault };
 
-    fn fetch(&mut self, alloc: Global, name: &str, limit: u64) -> Result<Vec<u8>, FetchFault> {
+    fn fetch(&mut self, alloc: Global, name: &str, limit: u64) -> Result<Vec<u8>, FetchFault>
+        ensures within { IfOk result (λ bytes. length bytes.items ≤ limit) }
+        ensures failed { IsErrOf result FetchFault.Failed → Rose self.old.faults self.new.faults × (self.new.last_fault ≡ Some (Reading name.now)) }
+        ensures too_long { IsErrOf result FetchFault.TooLong → TookMore limit self.old.taken self.new.taken }
+        ensures last { (result ≢ Err FetchFault.Failed) → self.new.last_fault ≡ self.old.last_fault }
+        ensures faults { self.old.faults ≤ self.new.faults }
+        ensures taken { self.old.taken ≤ self.new.taken }
+
+        // A file was opened, and the bytes are all that it had, where files tell that.
+        ensures opened { IfOk result (λ bytes. (file : R.File) × IfSome (R.File.remaining file) (λ all. bytes.items ≡ all)) }
+    {
         let Ok(copy) = String::from_str(alloc, name) else {
             return Err(FetchFault::Memory);
         };
@@ -67,6 +79,7 @@ impl<R: Files + Drop> Shelf for FileShelf<R> {
 }
 
 /// The bytes to the end, or the fault of the first byte past the limit. Each turn takes one at least.
+#[tactic(auto, using(crate::proofs::Known::consumed))]
 fn read_up_to<F: Read>(
     alloc: Global,
     file: &mut F,
@@ -77,6 +90,9 @@ fn read_up_to<F: Read>(
     ensures too_long { IsErrOf result FetchFault.TooLong → TookMore limit past.old.taken past.new.taken }
     ensures taken { past.old.taken ≤ past.new.taken }
     ensures only_taken { past.new ≡ record past.old { taken = past.new.taken } }
+    // Where the file tells what it holds, these are all its bytes.
+    ensures told { IfOk result (λ bytes. IfSome (F.remaining file.old) (λ all. bytes.items ≡ all)) }
+    ensures longer { IsErrOf result FetchFault.TooLong → IfSome (F.remaining file.old) (λ all. limit < length all) }
 {
     let mut bytes = Vec::new(alloc);
     let mut piece = [0u8; 4096];
@@ -110,15 +126,15 @@ pub struct StdSink<W: Write + Drop> {
 impl<W: Write + Drop> Model for StdSink<W> {
     ghost use Rattle.std.specs.Prelude.{ℕ};
 
-    ghost Value = { ℕ };
+    ghost Value = { W × ℕ };
 
-    ghost view = { λ s. s.faults };
+    ghost view = { λ s. (s.to, s.faults) };
 }
 
 impl<W: Write + Drop> StdSink<W> {
     /// A sink over this writer, to which nothing was put.
     pub fn new(to: W) -> Self
-        ensures { result ≡ 0 }
+        ensures { result ≡ (to, 0) }
     {
         StdSink { to, faults: 0 }
     }
@@ -129,19 +145,20 @@ impl<W: Write + Drop> Sink for StdSink<W> {
 
     ghost written = { λ _. None };
 
-    ghost faults = { λ s. s };
+    ghost faults = { λ s. s.1 };
 
-    fn put(&mut self, bytes: &[u8]) -> Result<(), PutFault> {
-        let mut rest = bytes;
-        while !rest.is_empty() {
-            match self.to.write(rest) {
-                Ok(n) if n > 0 => rest = &rest[n..],
-                _ => {
-                    self.faults = self.faults.saturating_add(1);
-                    return Err(PutFault::Failed);
-                }
+    fn put(&mut self, bytes: &[u8]) -> Result<(), PutFault>
+        // What the writer tells that it holds grows by the bytes.
+        ensures told { OnOk result (Appends (W.contents self.old.0) (W.contents self.new.0) bytes.now) }
+        ensures failed { IsErrOf result PutFault.Failed → Rose self.old.1 self.new.1 }
+        ensures faults { self.old.1 ≤ self.new.1 }
+    {
+        match self.to.write_all(bytes) {
+            Ok(()) => Ok(()),
+            Err(_) => {
+                self.faults = self.faults.saturating_add(1);
+                Err(PutFault::Failed)
             }
         }
-        Ok(())
     }
 }

@@ -9,18 +9,30 @@ use tc_base::Handle;
 #[derive(Clone, Copy, Debug, PartialEq, Eq)]
 pub(crate) enum Request {
     Silent,
+    /// The value of a cell.
     Read(u32),
+    /// That a cell takes a value.
     Write(u32, i32),
+    /// A mutex.
     Acquire(u32),
+    /// That a mutex is free.
     Release(u32),
+    /// To wait on a condition, and that a mutex is free.
     BeginWait(u32, u32),
+    /// To wait no longer on a condition, and a mutex.
     EndWait(u32, u32),
+    /// That nobody waits on a condition.
     WakeOne(u32),
+    /// That all who wait on a condition are woken.
     WakeAll(u32),
+    /// A child that does a function.
     Start(u32),
+    /// The end of the child of that number.
     Await(u32),
+    /// That all its stores are in memory.
     OrderStores,
     Finish,
+    /// The end of the run: a site is false.
     Fail,
 }
 
