@@ -1,17 +1,20 @@
 -- The code of a program is lawful.
-use Rattle.std.proofs.Common.{◌≡◌, ℕ, suc, ◌+◌, ◌<◌, ◌≤◌, Bool, true, false, cond, ◌&&◌, ◌||◌, not, List, [], ◌∷◌, ◌++◌, length, map, Some, None, ℤ, pos, replicate, refl, sym, ap, subst, ◌∙◌, length-append, arith, eq-eqb}
+use Rattle.std.proofs.Common.{◌≡◌, ℕ, zero, suc, ◌+◌, ◌-◌, slice_get, ◌<◌, ◌≤◌, Bool, true, false, cond, ◌&&◌, ◌||◌, not, List, [], ◌∷◌, ◌++◌, length, map, Some, None, ℤ, pos, replicate, refl, sym, ap, subst, ◌∙◌, length-append, arith, eq-eqb}
 use Rattle.std.specs.Prelude.{bytes_eq, IsTrue, nat_lt, nat_le, ◌==◌, unwrap_or}
 use Rattle.std.specs.Option.{option_map_or}
 use Rattle.std.specs.List.{list_all, list_any, prefix_len}
-use Rattle.std.proofs.lemmas.Bool.{ltb-true, lt-ltb, le-leb}
+use Rattle.std.proofs.lemmas.Bool.{false≢true, ltb-true, lt-ltb, le-leb}
 use Rattle.std.proofs.lemmas.List.{length-replicate}
 use Rattle.std.proofs.lemmas.List.Folds.{list_all-append}
+use Rattle.std.proofs.lemmas.Bool.Decides.{nat_tests}
+use Rattle.std.proofs.lemmas.Option.{none-some, same_Some}
 use Rattle.tc_code.specs.Expr.{Expr, Unary, Binary, Slot, names_slots}
 use Rattle.tc_code.specs.Expr as expr
-use Rattle.tc_code.specs.Code.{Code, Func, Instr, Exit, names_what_is, is_exit, all_may_stand, ends_in_exit, is_lawful_function, ends_in_main, is_lawful}
-use Rattle.tc_code.specs.Seen.{plain_func, plain_code}
-use Rattle.tc_code.proofs.Standing.{stands_anywhere, all_stand_anywhere}
-use Rattle.tc_code.specs.declared.code.Func as built
+use Rattle.tc_code.specs.Instr.{Instr, Load_at, Store_at, Branch, Goto, Unlock, Sleep, Wake, Join, Exit}
+use Rattle.tc_code.specs.Code.{Code}
+use Rattle.tc_code.specs.Lawful.{names_what_is, target, IsLawfulFunction, IsLawful}
+use Rattle.tc_code.specs.declared.code.Func.{Func}
+use Rattle.tc_code.specs.Code as made
 use Rattle.clap_debug_cli.specs.declared.program.tree.Atom.{Atom}
 use Rattle.clap_debug_cli.specs.declared.program.tree.Atom.TheVariants.{Number, Name}
 use Rattle.clap_debug_cli.specs.declared.program.tree.Expression.{Expression}
@@ -56,6 +59,22 @@ names_more m n le (Unary op a) h = names_more m n le a h
 names_more m n le (Binary op a b) h =
     let parts = both (names_slots m a) (names_slots m b) h in
     together (names_slots n a) (names_slots n b) (names_more m n le a parts.0) (names_more m n le b parts.1)
+
+-- whether it goes with no other, jumps nowhere and accesses no array
+abbrev stands_anywhere : Instr → Bool
+stands_anywhere (Load_at k a len i) = false
+stands_anywhere (Store_at a len i e) = false
+stands_anywhere (Branch e to) = false
+stands_anywhere (Goto to) = false
+stands_anywhere (Unlock m) = false
+stands_anywhere (Sleep c m) = false
+stands_anywhere (Wake c m) = false
+stands_anywhere (Join h) = false
+stands_anywhere _ = true
+
+abbrev is_exit : Instr → Bool
+is_exit Exit = true
+is_exit _ = false
 
 -- what the instructions of a program's body are: they name what is there, stand anywhere, and are no exits
 record AreIn (code : Code) (f : Func) (is : List Instr) : Type 0 where
@@ -137,45 +156,70 @@ module _ (code : Code) (f : Func) (globals : List (List ℕ)) (cells : length gl
 
 -- ---- the whole
 
-exit_place : (is : List Instr) → list_all (λ i. not (is_exit i)) is ≡ true → prefix_len (λ i. not (is_exit i)) (is ++ Exit ∷ []) ≡ length is
-exit_place [] h = refl
-exit_place (i ∷ is) h =
-    let parts = both (not (is_exit i)) (list_all (λ i. not (is_exit i)) is) h in
-    rw (parts.0, exit_place is parts.1) (omega arith)
+all_at : {A : Type 0} (p : A → Bool) (xs : List A) (k : ℕ) (x : A) → list_all p xs ≡ true → slice_get xs k ≡ Some x → p x ≡ true
+all_at p [] k x h at = absurd (none-some x at)
+all_at p (y ∷ ys) zero x h at = subst (λ z. p z ≡ true) (same_Some y x at) (both (p y) _ h).0
+all_at p (y ∷ ys) (suc k) x h at = all_at p ys k x (both (p y) _ h).1 at
 
-body_ends : (is : List Instr) → list_all (λ i. not (is_exit i)) is ≡ true → ends_in_exit (is ++ Exit ∷ []) ≡ true
-body_ends is h =
-    let all = is ++ Exit ∷ [] in
-    let place = prefix_len (λ i. not (is_exit i)) all in
-    let at : place ≡ length is = exit_place is h in
-    let len : length all ≡ length is + 1 = length-append is (Exit ∷ []) in
-    let there : nat_lt place (length all) ≡ true = lt-ltb place (length all) (omega arith) in
-    subst (λ b. option_map_or (λ k. (k + 1) == length all) (cond b (Some place) None) false ≡ true) (sym there) (eq-eqb (place + 1) (length all) (omega arith))
+exit_at : (is : List Instr) → slice_get (is ++ Exit ∷ []) (length is) ≡ Some Exit
+exit_at [] = refl
+exit_at (i ∷ is) = exit_at is
 
-main_is_lawful : (p : Program) → list_all (statement_names_globals p.globals) p.statements ≡ true → is_lawful_function (code_of p) (main_of p.globals p.statements) ≡ true
+exit_is_last : (is : List Instr) (k : ℕ) → list_all (λ i. not (is_exit i)) is ≡ true → slice_get (is ++ Exit ∷ []) k ≡ Some Exit → k + 1 ≡ length (is ++ Exit ∷ [])
+exit_is_last [] zero h at = refl
+exit_is_last [] (suc k) h at = absurd (none-some Exit at)
+exit_is_last (i ∷ is) zero h at = absurd (false≢true (sym (ap (λ j. not (is_exit j)) (same_Some i Exit at)) ∙ (both (not (is_exit i)) _ h).0))
+exit_is_last (i ∷ is) (suc k) h at = omega (arith, exit_is_last is k (both (not (is_exit i)) _ h).1 at)
+
+no_target : (i : Instr) (to : ℕ) → stands_anywhere i ≡ true → target i ≡ Some to → ⊥
+no_target (Branch e l) to h leads = false≢true h
+no_target (Goto l) to h leads = false≢true h
+no_target _ to h leads = none-some to leads
+
+main_is_lawful : (p : Program) → list_all (statement_names_globals p.globals) p.statements ≡ true → IsLawfulFunction (code_of p) (main_of p.globals p.statements)
 main_is_lawful p h =
     let main = main_of p.globals p.statements in
     let body = lowered p.globals 0 p.statements in
     let within = lowered_in (code_of p) main p.globals (sym (length-replicate (length p.globals) (pos 0))) 0 p.statements h (omega arith) in
     let names = list_all-append (names_what_is (code_of p) main) body.instrs (Exit ∷ []) ∙ together _ true within.names refl in
-    let anywhere = list_all-append stands_anywhere body.instrs (Exit ∷ []) ∙ together _ true within.anywhere refl in
-    together _ _ (together _ _ (together _ _ (le-leb 0 body.free (omega arith)) names) (all_stand_anywhere main.instrs anywhere)) (body_ends body.instrs within.no_exit)
+    let all = list_all-append stands_anywhere body.instrs (Exit ∷ []) ∙ together _ true within.anywhere refl in
+    let anywhere : (k : ℕ) (i : Instr) → slice_get main.instrs k ≡ Some i → stands_anywhere i ≡ true = λ k i at. all_at stands_anywhere main.instrs k i all at in
+    let end : length main.instrs - 1 ≡ length body.instrs = omega (arith, length-append body.instrs (Exit ∷ [])) in
+    record {
+      params = omega arith;
+      names = λ k i at. all_at (names_what_is (code_of p) main) main.instrs k i names at;
+      jump = λ k to i at leads. absurd (no_target i to (anywhere k i at) leads);
+      unlock = λ k m at. absurd (false≢true (anywhere k (Unlock m) at));
+      sleep = λ k c m at. absurd (false≢true (anywhere k (Sleep c m) at));
+      wait = λ k c m at. absurd (false≢true (anywhere k (Sleep c m) at));
+      wake = λ k c m at. absurd (false≢true (anywhere k (Wake c m) at));
+      join = λ k v at. absurd (false≢true (anywhere k (Join v) at));
+      load = λ k slot a len e at. absurd (false≢true (anywhere k (Load_at slot a len e) at));
+      store = λ k a len e value at. absurd (false≢true (anywhere k (Store_at a len e value) at));
+      last = ap (slice_get main.instrs) end ∙ exit_at body.instrs;
+      only = λ k at. exit_is_last body.instrs k within.no_exit at;
+    }
+
+only_function : (p : Program) (k : ℕ) (g : Func) → list_all (statement_names_globals p.globals) p.statements ≡ true → slice_get (code_of p).functions k ≡ Some g → IsLawfulFunction (code_of p) g
+only_function p zero g h at = subst (IsLawfulFunction (code_of p)) (same_Some _ g at) (main_is_lawful p h)
+only_function p (suc k) g h at = absurd (none-some g at)
 
 -- what is well named is lawful code
-pub code_is_lawful : (p : Program) → IsTrue (is_well_named p) → is_lawful (code_of p) ≡ true
+pub code_is_lawful : (p : Program) → IsTrue (is_well_named p) → IsLawful (code_of p)
 code_is_lawful p h =
     let parts = both (nat_le (length p.globals) 1024 && are_distinct p.globals) (list_all (statement_names_globals p.globals) p.statements) h in
-    let few = both (nat_le (length p.globals) 1024) (are_distinct p.globals) parts.0 in
-    let main = main_of p.globals p.statements in
-    let functions = together (is_lawful_function (code_of p) main) true (main_is_lawful p parts.1) refl in
-    let cells = subst (λ n. nat_le n 1024 ≡ true) (sym (length-replicate (length p.globals) (pos 0))) few.0 in
-    together _ _ (together _ _ cells functions) refl
+    let few : IsTrue (nat_le (length p.globals) 1024) = (both (nat_le (length p.globals) 1024) (are_distinct p.globals) parts.0).0 in
+    let cells : length p.globals ≤ 1024 = grind (arith, nat_tests) in
+    record {
+      cells = subst (λ n. n ≤ 1024) (sym (length-replicate (length p.globals) (pos 0))) cells;
+      functions = λ k g at. only_function p k g parts.1 at;
+      main = record { main = main_of p.globals p.statements; there = refl; params = refl };
+    }
 
 -- the same of what is built as code
-pub built_lawful : (p : Program) (memory : List ℤ) (functions : List built.Func) (main : built.Func) → IsTrue (is_well_named p) → memory ≡ replicate (length p.globals) (pos 0) → functions ≡ main ∷ [] → plain_func main ≡ main_of p.globals p.statements
-    → is_lawful (plain_code memory 0 0 functions) ≡ true
+pub built_lawful : (p : Program) (memory : List ℤ) (functions : List Func) (main : Func) → IsTrue (is_well_named p) → memory ≡ replicate (length p.globals) (pos 0) → functions ≡ main ∷ [] → main ≡ main_of p.globals p.statements
+    → IsLawful (made.code_of memory 0 0 functions)
 built_lawful p memory functions main h cells one is =
-    let make : List ℤ → List Func → Code = λ ns fs. record { memory = ns; mutexes = 0; conditions = 0; functions = fs } in
-    let same : plain_code memory 0 0 functions ≡ code_of p =
-    ap (λ ns. make ns (map plain_func functions)) cells ∙ ap (λ fs. make (replicate (length p.globals) (pos 0)) (map plain_func fs)) one ∙ ap (λ f. make (replicate (length p.globals) (pos 0)) (f ∷ [])) is in
-    ap is_lawful same ∙ code_is_lawful p h
+    let same : made.code_of memory 0 0 functions ≡ code_of p =
+    ap (λ ns. made.code_of ns 0 0 functions) cells ∙ ap (made.code_of (replicate (length p.globals) (pos 0)) 0 0) (one ∙ ap (λ f. f ∷ []) is) in
+    subst IsLawful (sym same) (code_is_lawful p h)

@@ -3,8 +3,10 @@ use Rattle.std.specs.Prelude.{ℕ, ◌+◌, pos, List, [], ◌∷◌, ◌++◌, 
 use Rattle.tc_base.specs.declared.arith.BinOp.TheVariants.{Eq}
 use Rattle.tc_code.specs.Expr.{Expr, Binary, Slot}
 use Rattle.tc_code.specs.Expr as expr
-use Rattle.tc_code.specs.Code.{Code, Func, Instr, Load, Store, Exit}
-use Rattle.tc_code.specs.Code as instr
+use Rattle.tc_code.specs.Instr.{Instr, Load, Store, Exit}
+use Rattle.tc_code.specs.Code.{Code}
+use Rattle.tc_code.specs.declared.code.Func.{Func}
+use Rattle.tc_code.specs.Instr as instr
 use Rattle.clap_debug_cli.specs.declared.program.tree.Atom.{Atom}
 use Rattle.clap_debug_cli.specs.declared.program.tree.Atom.TheVariants.{Number, Name}
 use Rattle.clap_debug_cli.specs.declared.program.tree.Expression.{Expression}

@@ -1,4 +1,4 @@
-//! The ground that every other crate stands on: names of threads, moves, `int` arithmetic and limits.
+//! The ground that every other crate stands on: names of threads, moves, requests, `int` arithmetic and limits.
 #![tactic(auto)]
 
 pub mod arith;
@@ -8,6 +8,7 @@ mod model;
 mod moves;
 mod name;
 mod place;
+mod request;
 
 pub use arith::{BinOp, UnOp};
 pub use handle::Handle;
@@ -15,3 +16,4 @@ pub use model::Model;
 pub use moves::Move;
 pub use name::ThreadName;
 pub use place::Place;
+pub use request::Request;

@@ -1,5 +1,5 @@
 //! Names of threads.
-ghost use Rattle.std.specs.Prelude.{◌≡◌, ℕ, ◌+◌, List, [], ◌∷◌, ◌++◌, IfOk, nat_eq, Some};
+ghost use Rattle.std.specs.Prelude.{◌≡◌, ◌≤◌, ℕ, ◌+◌, List, [], ◌∷◌, ◌++◌, IfOk, nat_eq, Some};
 ghost use Rattle.std.specs.Ordering.{nat_cmp, as_partial_cmp};
 ghost use Rattle.std.specs.Cmp.Lexicographic.{slice_cmp, pointwise};
 ghost use Rattle.std.specs.Cmp.Rules.{comparing};
@@ -39,8 +39,9 @@ impl ThreadName {
         }
     }
 
-    /// The name of its child of that number.
+    /// The name of its child of that number, from 1.
     pub fn child(&self, number: u32) -> Result<ThreadName, AllocError>
+        requires { 1 ≤ number }
         ensures { IfOk result (λ name. name ≡ child self.now number) }
     {
         let mut name = self.clone()?;
@@ -118,59 +119,5 @@ impl Ord for ThreadName {
 
     fn cmp(&self, other: &Self) -> Ordering {
         self.children().cmp(other.children())
-    }
-}
-
-#[cfg(test)]
-mod tests {
-    use super::ThreadName;
-    use smallvec::SmallVec;
-    use std::alloc::{AllocError, Global};
-    use std::cmp::Ordering;
-
-    fn name(alloc: Global, children: &[u32]) -> Result<ThreadName, AllocError> {
-        Ok(ThreadName {
-            children: SmallVec::from_slice(alloc, children)?,
-        })
-    }
-
-    #[test]
-    fn names_print_and_clone(rt: HostRuntime) -> Result<(), AllocError> {
-        let alloc = rt.alloc();
-        let main = ThreadName::main(alloc);
-        assert!(rt; main.children().is_empty());
-        for (children, want) in [
-            ([].as_slice(), "0"),
-            ([1].as_slice(), "0.1"),
-            ([1, 12, u32::MAX].as_slice(), "0.1.12.4294967295"),
-            (
-                [1, 2, 3, 4, 5, 6, 7, 8, 9].as_slice(),
-                "0.1.2.3.4.5.6.7.8.9",
-            ),
-        ] {
-            let copy = name(alloc, children)?.clone()?;
-            assert_eq!(rt; copy.children(), children, "{want}");
-            let text = format!(in alloc; "{copy}")?;
-            assert_eq!(rt; text.as_str(), want);
-        }
-        Ok(())
-    }
-
-    #[test]
-    fn names_are_ordered_child_by_child(rt: HostRuntime) -> Result<(), AllocError> {
-        let alloc = rt.alloc();
-        for (a, b, want) in [
-            ([].as_slice(), [].as_slice(), Ordering::Equal),
-            ([].as_slice(), [1].as_slice(), Ordering::Less),
-            ([1].as_slice(), [1, 1].as_slice(), Ordering::Less),
-            ([2].as_slice(), [1, 2].as_slice(), Ordering::Greater),
-            ([2].as_slice(), [10].as_slice(), Ordering::Less),
-            ([1, 2].as_slice(), [1, 2].as_slice(), Ordering::Equal),
-        ] {
-            let (a, b) = (name(alloc, a)?, name(alloc, b)?);
-            assert_eq!(rt; a.partial_cmp(&b), Some(want));
-            assert_eq!(rt; a == b, want.is_eq());
-        }
-        Ok(())
     }
 }

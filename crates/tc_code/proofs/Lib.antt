@@ -1,4 +1,4 @@
 pub mod Lawful
 pub mod Lists
-pub mod Runs
-pub mod Standing
+pub mod Sames
+pub mod Tests

@@ -1,7 +1,6 @@
 -- Expressions over the int slots of a thread.
 use Rattle.std.specs.Prelude.{ℕ, ℤ, pos, List, slice_index_or, nat_lt, ◌==◌, Bool, true, false, ◌&&◌, ◌||◌}
-use Rattle.std.specs.Ordering.{int_eq}
-use Rattle.tc_base.specs.Arith.{unary, binary, same_unary, same_binary}
+use Rattle.tc_base.specs.Arith.{unary, binary}
 use Rattle.tc_base.specs.declared.arith.UnOp.{UnOp}
 use Rattle.tc_base.specs.declared.arith.BinOp.{BinOp}
 
@@ -31,11 +30,3 @@ names_slot k (Number _) = false
 names_slot k (Slot j) = j == k
 names_slot k (Unary _ a) = names_slot k a
 names_slot k (Binary _ a b) = names_slot k a || names_slot k b
-
--- whether two expressions are the same
-abbrev pub same_expr : Expr → Expr → Bool
-same_expr (Number m) (Number n) = int_eq m n
-same_expr (Slot j) (Slot k) = j == k
-same_expr (Unary op a) (Unary oq b) = same_unary op oq && same_expr a b
-same_expr (Binary op a b) (Binary oq c d) = same_binary op oq && same_expr a c && same_expr b d
-same_expr _ _ = false

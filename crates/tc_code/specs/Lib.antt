@@ -1,6 +1,10 @@
 pub mod Expr
+pub mod Instr
 pub mod Code
-pub mod Codes
+pub mod Lawful
+pub mod SeenExpr
 pub mod Seen
 pub mod Step
 pub mod Run
+pub mod Facts
+pub mod helpers

@@ -12,38 +12,19 @@ use Rattle.tc_base.specs.declared.handle.Handle.{Handle}
 use Rattle.tc_base.specs.declared.handle.Handle.TheVariants.{Unset, Child, Joined}
 use Rattle.tc_base.specs.declared.moves.Move.{Move}
 use Rattle.tc_base.specs.declared.moves.Move.TheVariants as move
+use Rattle.tc_base.specs.declared.request.Request.{Request}
+use Rattle.tc_base.specs.declared.request.Request.TheVariants.{Silent, Read, Write, Acquire, Release, BeginWait, EndWait, WakeOne, WakeAll, Start, Await, OrderStores, Finish, Fail}
 use Rattle.tc_code.specs.Expr.{Expr, value_of}
-use Rattle.tc_code.specs.Code.{Code, Instr, Set, Load, Load_at, Store, Store_at, Inside, Branch, Goto, Holds, Lock, Unlock, Sleep, Wake, Signal, Broadcast, Create, Ready, Join, Assert, Fence, Exit, instr_at}
-
--- what an instruction asks of the memory and of the other threads
-pub data Request : Type 0 where
-  Silent : Request
-  Read : (cell : ℕ) → Request
-  Write : (cell : ℕ) (value : ℤ) → Request
-  -- a mutex
-  Acquire : (mutex : ℕ) → Request
-  Release : (mutex : ℕ) → Request
-  Begin_wait : (condition mutex : ℕ) → Request
-  End_wait : (condition mutex : ℕ) → Request
-  Wake_one : (condition : ℕ) → Request
-  Wake_all : (condition : ℕ) → Request
-  -- a new child that does the function
-  Start : (function : ℕ) → Request
-  -- the end of the child of that number
-  Await : (number : ℕ) → Request
-  -- that all its stores are in memory
-  Order_stores : Request
-  Finish : Request
-  -- a site that is false
-  Fail : Request
+use Rattle.tc_code.specs.Instr.{Instr, Set, Load, Load_at, Store, Store_at, Inside, Branch, Goto, Holds, Lock, Unlock, Sleep, Wake, Signal, Broadcast, Create, Ready, Join, Assert, Fence, Exit}
+use Rattle.tc_code.specs.Code.{Code, instr_at}
 
 -- a site asks for nothing where it is true
 abbrev pub site : Bool → Request
 site true = Silent
 site false = Fail
 
-abbrev pub is_zero : ℤ → Bool
-is_zero n = int_eq n (pos 0)
+abbrev pub is_nonzero : ℤ → Bool
+is_nonzero n = not (int_eq n (pos 0))
 
 -- whether an index is inside a length
 abbrev pub is_within : ℕ → ℤ → Bool
@@ -63,15 +44,16 @@ abbrev pub handle_of : Local → ℕ → Handle
 handle_of t h = slice_index_or t.handles h Unset
 
 -- whether it is a child that hasn't been joined
-abbrev pub is_ready : Handle → Bool
-is_ready (Child _) = true
-is_ready _ = false
+abbrev pub can_be_joined : Handle → Bool
+can_be_joined (Child _) = true
+can_be_joined _ = false
 
 -- the number of a child that hasn't been joined, and 0, which no child has, where it is none
-abbrev pub number_of : Handle → ℕ
-number_of (Child k) = k
-number_of _ = 0
+abbrev pub child_number : Handle → ℕ
+child_number (Child k) = k
+child_number _ = 0
 
+-- what an instruction asks of the memory and of the other threads
 abbrev pub request : Local → Instr → Request
 request t (Set k e) = Silent
 request t (Load k c) = Read c
@@ -84,15 +66,15 @@ request t (Goto to) = Silent
 request t (Holds m) = site (holds t m)
 request t (Lock m) = Acquire m
 request t (Unlock m) = Release m
-request t (Sleep c m) = Begin_wait c m
-request t (Wake c m) = End_wait c m
-request t (Signal c) = Wake_one c
-request t (Broadcast c) = Wake_all c
+request t (Sleep c m) = BeginWait c m
+request t (Wake c m) = EndWait c m
+request t (Signal c) = WakeOne c
+request t (Broadcast c) = WakeAll c
 request t (Create h f es) = Start f
-request t (Ready h) = site (is_ready (handle_of t h))
-request t (Join h) = Await (number_of (handle_of t h))
-request t (Assert e) = site (not (is_zero (value_in t e)))
-request t Fence = Order_stores
+request t (Ready h) = site (can_be_joined (handle_of t h))
+request t (Join h) = Await (child_number (handle_of t h))
+request t (Assert e) = site (is_nonzero (value_in t e))
+request t Fence = OrderStores
 request t Exit = Finish
 
 -- the thread after a step, at the same place
@@ -121,14 +103,14 @@ abbrev pub local_after : Local → Instr → ℤ → Local
 local_after t (Set k e) v = record (next t) { slots = slice_set t.slots k (value_in t e) }
 local_after t (Load k c) v = record (next t) { slots = slice_set t.slots k v }
 local_after t (Load_at k first len i) v = record (next t) { slots = slice_set t.slots k v }
-local_after t (Branch e to) v = branched t (not (is_zero (value_in t e))) to
+local_after t (Branch e to) v = branched t (is_nonzero (value_in t e)) to
 local_after t (Goto to) v = jumped t to
 local_after t (Lock m) v = holding t m true
 local_after t (Unlock m) v = holding t m false
 local_after t (Sleep c m) v = holding t m false
 local_after t (Wake c m) v = holding t m true
 local_after t (Create h f es) v = record (next t) { handles = slice_set t.handles h (Child (t.children + 1)); children = t.children + 1 }
-local_after t (Join h) v = record (next t) { handles = slice_set t.handles h (Joined (number_of (handle_of t h))) }
+local_after t (Join h) v = record (next t) { handles = slice_set t.handles h (Joined (child_number (handle_of t h))) }
 local_after t Exit v = record (next t) { has_exited = true }
 local_after t _ v = next t
 
@@ -146,10 +128,10 @@ abbrev pub with_thread : {B : Type 0} → State B → Name → Thread B → Stat
 with_thread s n t = record s { threads = fin.insert s.threads n t }
 
 -- a set of threads
-abbrev pub Names : Type 0
-Names = set.FinSet (slice_cmp nat_cmp)
+abbrev pub NameSet : Type 0
+NameSet = set.FinSet (slice_cmp nat_cmp)
 
-abbrev pub waiting_on : {B : Type 0} → State B → ℕ → Names
+abbrev pub waiting_on : {B : Type 0} → State B → ℕ → NameSet
 waiting_on s c = slice_index_or s.waiters c set.empty
 
 abbrev pub is_free : {B : Type 0} → State B → ℕ → Bool
@@ -170,8 +152,8 @@ drains_first _ = true
 -- whether the other threads let a request be met
 abbrev pub is_let : {B : Type 0} → State B → Name → Request → Bool
 is_let s n (Acquire m) = is_free s m
-is_let s n (End_wait c m) = not (set.contains (waiting_on s c) n) && is_free s m
-is_let s n (Wake_one c) = set.len (waiting_on s c) == 0
+is_let s n (EndWait c m) = not (set.contains (waiting_on s c) n) && is_free s m
+is_let s n (WakeOne c) = set.len (waiting_on s c) == 0
 is_let s n (Await k) = child_has_exited s n k
 is_let s n _ = true
 
@@ -228,9 +210,9 @@ module _ {B : Type 0} (ops : BufferOps B) where
   perform code s n t i (Write c v) = stored s n t i c v
   perform code s n t i (Acquire m) = record (did s n t i) { owners = slice_set s.owners m (Some n) }
   perform code s n t i (Release m) = record (did s n t i) { owners = slice_set s.owners m None }
-  perform code s n t i (Begin_wait c m) = record (did s n t i) { owners = slice_set s.owners m None; waiters = slice_set s.waiters c (set.insert (waiting_on s c) n) }
-  perform code s n t i (End_wait c m) = record (did s n t i) { owners = slice_set s.owners m (Some n) }
-  perform code s n t i (Wake_all c) = record (did s n t i) { waiters = slice_set s.waiters c set.empty }
+  perform code s n t i (BeginWait c m) = record (did s n t i) { owners = slice_set s.owners m None; waiters = slice_set s.waiters c (set.insert (waiting_on s c) n) }
+  perform code s n t i (EndWait c m) = record (did s n t i) { owners = slice_set s.owners m (Some n) }
+  perform code s n t i (WakeAll c) = record (did s n t i) { waiters = slice_set s.waiters c set.empty }
   perform code s n t i (Start f) = with_thread (did s n t i) (child n (t.local.children + 1)) (born code f (arguments_of t.local i))
   perform code s n t i Fail = record (with_thread s n (record t { local = stepped t.local })) { failed = Some n }
   perform code s n t i _ = did s n t i

@@ -3,10 +3,10 @@
 
 mod code;
 mod expr;
+mod instr;
 mod parts;
 mod places;
-#[cfg(test)]
-mod tests;
 
-pub use code::{Code, Func, Instr};
-pub use expr::{Expr, value};
+pub use code::{Code, Func};
+pub use expr::{Expr, Exprs, names_slots, value};
+pub use instr::{Instr, Instrs};

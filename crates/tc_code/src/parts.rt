@@ -1,12 +1,17 @@
 //! Code that may or may not be lawful.
-ghost use Rattle.std.specs.Prelude.{◌≡◌, ◌+◌, length, map, nat_lt, nat_le, ◌&&◌};
+ghost use Rattle.std.specs.Prelude.{◌≡◌, ◌+◌, ◌↔◌, IsTrue, length, map, nat_lt, nat_le, ◌&&◌};
 ghost use Rattle.std.specs.List.{list_all};
-ghost use Rattle.tc_code.specs.Code as spec;
 ghost use Rattle.tc_code.specs.Expr.{names_slots};
-ghost use Rattle.tc_code.specs.Seen.{plain_instr, plain_func, plain_expr};
+ghost use Rattle.tc_code.specs.Instr as flat;
+ghost use Rattle.tc_code.specs.Lawful.{IsLawful};
+ghost use Rattle.tc_code.specs.Lawful as spec;
+ghost use Rattle.tc_code.specs.Seen.{plain_instr};
+ghost use Rattle.tc_code.specs.SeenExpr.{plain_expr, plain_exprs};
+ghost use Rattle.tc_code.specs.helpers.Tests as test;
 
-use crate::code::{Func, Instr};
+use crate::code::Func;
 use crate::expr::{Expr, names_slots};
+use crate::instr::Instr;
 use crate::places;
 use std::marker::Model;
 use tc_base::limits::CELLS;
@@ -22,21 +27,28 @@ pub(crate) struct Parts {
 
 impl Model for Parts {
     ghost use Rattle.tc_code.specs.Code as spec;
-    ghost use Rattle.tc_code.specs.Codes.{coded_code};
-    ghost use Rattle.tc_code.specs.Seen.{plain_code};
+    ghost use Rattle.tc_code.specs.Code.{code_of};
+    ghost use Rattle.tc_code.specs.helpers.CodedCode.{coded_code};
 
     ghost Value = { spec.Code };
 
     ghost coded = { coded_code };
 
-    ghost view = { λ p. plain_code p.memory.items p.mutexes p.conditions p.functions.items };
+    ghost view = { λ p. code_of p.memory.items p.mutexes p.conditions p.functions.items };
 }
 
 impl Parts {
     /// Whether they are lawful code.
-    #[tactic(auto, using(crate::proofs::Lists::mapped))]
+    #[tactic(auto, using(crate::proofs::Lawful::lawful_where_tested))]
     pub(crate) fn are_lawful(&self) -> bool
-        ensures { result ≡ spec.is_lawful self.now }
+        ensures { IsTrue result ↔ IsLawful self.now }
+    {
+        self.pass()
+    }
+
+    #[tactic(auto, using(crate::proofs::Lists::mapped))]
+    fn pass(&self) -> bool
+        ensures { result ≡ test.is_lawful self.now }
     {
         self.memory.len() <= CELLS
             && self.all_are_lawful(&self.functions)
@@ -44,30 +56,31 @@ impl Parts {
     }
 
     fn all_are_lawful(&self, functions: &[Func]) -> bool
-        ensures { result ≡ list_all (λ f. spec.is_lawful_function self.now (plain_func f)) functions.now }
+        ensures { result ≡ list_all (λ f. test.is_lawful_function self.now f) functions.now }
     {
         functions.iter().all(|f| self.is_lawful_function(f))
     }
 
     #[tactic(auto, using(crate::proofs::Lists::mapped))]
     fn is_lawful_function(&self, f: &Func) -> bool
-        ensures { result ≡ spec.is_lawful_function self.now (plain_func f.now) }
+        ensures { result ≡ test.is_lawful_function self.now f.now }
     {
+        let instrs = f.instrs.as_slice();
         f.params <= f.ints
-            && self.all_name_what_is(f)
-            && places::all_may_stand(&f.instrs)
-            && places::ends_in_exit(&f.instrs)
+            && self.all_name_what_is(f, instrs)
+            && places::all_may_stand(instrs)
+            && places::ends_in_exit(instrs)
     }
 
-    fn all_name_what_is(&self, f: &Func) -> bool
-        ensures { result ≡ list_all (λ i. spec.names_what_is self.now (plain_func f.now) (plain_instr i)) f.now.instrs.items }
+    fn all_name_what_is(&self, f: &Func, instrs: &[Instr]) -> bool
+        ensures { result ≡ list_all (λ i. spec.names_what_is self.now f.now (plain_instr i)) instrs.now }
     {
-        f.instrs.iter().all(|i| self.names_what_is(f, i))
+        instrs.iter().all(|i| self.names_what_is(f, i))
     }
 
     /// Whether all that an instruction of the function names is there.
     fn names_what_is(&self, f: &Func, i: &Instr) -> bool
-        ensures { result ≡ spec.names_what_is self.now (plain_func f.now) (plain_instr i.now) }
+        ensures { result ≡ spec.names_what_is self.now f.now (plain_instr i.now) }
     {
         match i {
             Instr::Set { slot, value } => *slot < f.ints && names_slots(value, f.ints),
@@ -101,7 +114,7 @@ impl Parts {
                 handle,
                 function,
                 arguments,
-            } => self.may_create(f, *handle, *function, arguments),
+            } => self.may_create(f, *handle, *function, arguments.as_slice()),
             Instr::Ready { handle } | Instr::Join { handle } => *handle < f.tids,
             Instr::Goto { .. } | Instr::Fence | Instr::Exit => true,
         }
@@ -110,7 +123,7 @@ impl Parts {
     /// Whether the thread variable of a new child is there, and its function, which takes these arguments.
     #[tactic(auto, using(crate::proofs::Lists::mapped))]
     fn may_create(&self, f: &Func, handle: u32, function: u32, arguments: &[Expr]) -> bool
-        ensures { result ≡ spec.names_what_is self.now (plain_func f.now) (spec.Create handle function (map plain_expr arguments.now)) }
+        ensures { result ≡ spec.names_what_is self.now f.now (flat.Create handle function (plain_exprs arguments.now)) }
     {
         handle < f.tids
             && self.takes(function, arguments.len())
@@ -149,7 +162,7 @@ fn all_name_slots(es: &[Expr], count: u32) -> bool
 
 #[tactic(auto, using(crate::proofs::Lists::mapped))]
 fn end_in_main(functions: &[Func]) -> bool
-    ensures { result ≡ spec.ends_in_main (map plain_func functions.now) }
+    ensures { result ≡ test.ends_in_main functions.now }
 {
     functions.last().is_some_and(|main| main.params == 0)
 }

@@ -1,22 +1,24 @@
 //! Where in its function an instruction may stand.
 ghost use Rattle.std.specs.Prelude.{◌≡◌, ◌+◌, ◌-◌, ◌<◌, ◌==◌, length, map, position, not, cond, None, option_map, slice_get};
 ghost use Rattle.std.specs.List.{list_all, range_with_len};
-ghost use Rattle.tc_code.specs.Code as spec;
-ghost use Rattle.tc_code.specs.Seen.{plain_instr, plain_instrs, plain_expr};
+ghost use Rattle.tc_code.specs.Lawful as spec;
+ghost use Rattle.tc_code.specs.helpers.Tests as test;
+ghost use Rattle.tc_code.specs.Seen.{plain_instr, plain_instrs};
+ghost use Rattle.tc_code.specs.SeenExpr.{plain_expr};
 
-use crate::code::Instr;
 use crate::expr::{Expr, names_slot, same_expr};
+use crate::instr::Instr;
 
 /// Whether each instruction may stand where it does.
 pub(crate) fn all_may_stand(instrs: &[Instr]) -> bool
-    ensures { result ≡ list_all (λ k. spec.passes (spec.may_stand (plain_instrs instrs.now) k) (plain_instrs instrs.now) k) (range_with_len 0 (length instrs.now)) }
+    ensures { result ≡ list_all (λ k. test.passes (test.may_stand (plain_instrs instrs.now) k) (plain_instrs instrs.now) k) (range_with_len 0 (length instrs.now)) }
 {
     (0..instrs.len()).all(|k| may_stand(instrs, k))
 }
 
 /// Whether there is an instruction at the place that may stand there.
 fn may_stand(instrs: &[Instr], k: usize) -> bool
-    ensures { result ≡ spec.passes (spec.may_stand (plain_instrs instrs.now) k) (plain_instrs instrs.now) k }
+    ensures { result ≡ test.passes (test.may_stand (plain_instrs instrs.now) k) (plain_instrs instrs.now) k }
 {
     match instrs.get(k) {
         Some(Instr::Unlock { mutex }) => is_after_holds(instrs, k, *mutex),
@@ -45,13 +47,13 @@ fn before(instrs: &[Instr], k: usize) -> Option<&Instr>
 
 /// Whether the test that the mutex is the thread's stands directly before the place.
 fn is_after_holds(instrs: &[Instr], k: usize, mutex: u32) -> bool
-    ensures { result ≡ spec.passes_before (spec.is_holds mutex) (plain_instrs instrs.now) k }
+    ensures { result ≡ test.passes_before (test.is_holds mutex) (plain_instrs instrs.now) k }
 {
     before(instrs, k).is_some_and(|i| is_holds(i, mutex))
 }
 
 fn is_holds(i: &Instr, mutex: u32) -> bool
-    ensures { result ≡ spec.is_holds mutex (plain_instr i.now) }
+    ensures { result ≡ test.is_holds mutex (plain_instr i.now) }
 {
     match i {
         Instr::Holds { mutex: m } => *m == mutex,
@@ -61,13 +63,13 @@ fn is_holds(i: &Instr, mutex: u32) -> bool
 
 /// Whether the first half of this wait stands directly before the place.
 fn is_after_sleep(instrs: &[Instr], k: usize, condition: u32, mutex: u32) -> bool
-    ensures { result ≡ spec.passes_before (spec.is_sleep condition mutex) (plain_instrs instrs.now) k }
+    ensures { result ≡ test.passes_before (test.is_sleep condition mutex) (plain_instrs instrs.now) k }
 {
     before(instrs, k).is_some_and(|i| is_sleep(i, condition, mutex))
 }
 
 fn is_sleep(i: &Instr, condition: u32, mutex: u32) -> bool
-    ensures { result ≡ spec.is_sleep condition mutex (plain_instr i.now) }
+    ensures { result ≡ test.is_sleep condition mutex (plain_instr i.now) }
 {
     match i {
         Instr::Sleep {
@@ -80,13 +82,13 @@ fn is_sleep(i: &Instr, condition: u32, mutex: u32) -> bool
 
 /// Whether the test that the child can be joined stands directly before the place.
 fn is_after_ready(instrs: &[Instr], k: usize, handle: u32) -> bool
-    ensures { result ≡ spec.passes_before (spec.is_ready handle) (plain_instrs instrs.now) k }
+    ensures { result ≡ test.passes_before (test.is_ready handle) (plain_instrs instrs.now) k }
 {
     before(instrs, k).is_some_and(|i| is_ready(i, handle))
 }
 
 fn is_ready(i: &Instr, handle: u32) -> bool
-    ensures { result ≡ spec.is_ready handle (plain_instr i.now) }
+    ensures { result ≡ test.is_ready handle (plain_instr i.now) }
 {
     match i {
         Instr::Ready { handle: h } => *h == handle,
@@ -98,7 +100,7 @@ fn is_ready(i: &Instr, handle: u32) -> bool
 #[tactic(auto, using(crate::proofs::Lists::mapped))]
 fn is_before_wake(instrs: &[Instr], k: usize, condition: u32, mutex: u32) -> bool
     requires { k < length instrs.now }
-    ensures { result ≡ spec.passes (spec.is_wake condition mutex) (plain_instrs instrs.now) (k + 1) }
+    ensures { result ≡ test.passes (test.is_wake condition mutex) (plain_instrs instrs.now) (k + 1) }
 {
     instrs
         .get(k + 1)
@@ -106,7 +108,7 @@ fn is_before_wake(instrs: &[Instr], k: usize, condition: u32, mutex: u32) -> boo
 }
 
 fn is_wake(i: &Instr, condition: u32, mutex: u32) -> bool
-    ensures { result ≡ spec.is_wake condition mutex (plain_instr i.now) }
+    ensures { result ≡ test.is_wake condition mutex (plain_instr i.now) }
 {
     match i {
         Instr::Wake {
@@ -119,7 +121,7 @@ fn is_wake(i: &Instr, condition: u32, mutex: u32) -> bool
 
 /// Whether a jump may lead to the place.
 fn may_be_target(instrs: &[Instr], to: usize) -> bool
-    ensures { result ≡ spec.passes (λ i. not (spec.is_bound i)) (plain_instrs instrs.now) to }
+    ensures { result ≡ test.passes (λ i. not (spec.is_bound i)) (plain_instrs instrs.now) to }
 {
     instrs.get(to).is_some_and(|i| !is_bound(i))
 }
@@ -135,7 +137,7 @@ fn is_bound(i: &Instr) -> bool
 
 /// Whether a test stands for the access at `k`. The nearest one comes first, since it mostly does.
 fn is_guarded(instrs: &[Instr], length: u32, index: &Expr, k: usize) -> bool
-    ensures { result ≡ spec.is_guarded (plain_instrs instrs.now) length (plain_expr index.now) k }
+    ensures { result ≡ test.is_guarded (plain_instrs instrs.now) length (plain_expr index.now) k }
 {
     for g in (0..k).rev() {
         if guards(instrs, length, index, g, k) {
@@ -148,7 +150,7 @@ fn is_guarded(instrs: &[Instr], length: u32, index: &Expr, k: usize) -> bool
 /// Whether the test at `g` stands for the access at `k`.
 fn guards(instrs: &[Instr], length: u32, index: &Expr, g: usize, k: usize) -> bool
     requires { g < k }
-    ensures { result ≡ spec.guards (plain_instrs instrs.now) length (plain_expr index.now) g k }
+    ensures { result ≡ test.guards (plain_instrs instrs.now) length (plain_expr index.now) g k }
 {
     tests_at(instrs, length, index, g)
         && keep_between(instrs, index, g, k)
@@ -158,13 +160,13 @@ fn guards(instrs: &[Instr], length: u32, index: &Expr, g: usize, k: usize) -> bo
 /// Whether the instruction at a place tests an index like this one against the length.
 #[tactic(auto, using(crate::proofs::Lists::mapped))]
 fn tests_at(instrs: &[Instr], length: u32, index: &Expr, at: usize) -> bool
-    ensures { result ≡ spec.passes (spec.is_inside length (plain_expr index.now)) (plain_instrs instrs.now) at }
+    ensures { result ≡ test.passes (test.is_inside length (plain_expr index.now)) (plain_instrs instrs.now) at }
 {
     instrs.get(at).is_some_and(|i| is_inside(i, length, index))
 }
 
 fn is_inside(i: &Instr, length: u32, index: &Expr) -> bool
-    ensures { result ≡ spec.is_inside length (plain_expr index.now) (plain_instr i.now) }
+    ensures { result ≡ test.is_inside length (plain_expr index.now) (plain_instr i.now) }
 {
     match i {
         Instr::Inside {
@@ -178,14 +180,14 @@ fn is_inside(i: &Instr, length: u32, index: &Expr) -> bool
 /// Whether no instruction between two places writes a slot of the index.
 fn keep_between(instrs: &[Instr], index: &Expr, g: usize, k: usize) -> bool
     requires { g < k }
-    ensures { result ≡ list_all (spec.passes (spec.keeps (plain_expr index.now)) (plain_instrs instrs.now)) (range_with_len (g + 1) (k - (g + 1))) }
+    ensures { result ≡ list_all (test.passes (spec.keeps (plain_expr index.now)) (plain_instrs instrs.now)) (range_with_len (g + 1) (k - (g + 1))) }
 {
     (g + 1..k).all(|at| keeps_at(instrs, index, at))
 }
 
 #[tactic(auto, using(crate::proofs::Lists::mapped))]
 fn keeps_at(instrs: &[Instr], index: &Expr, at: usize) -> bool
-    ensures { result ≡ spec.passes (spec.keeps (plain_expr index.now)) (plain_instrs instrs.now) at }
+    ensures { result ≡ test.passes (spec.keeps (plain_expr index.now)) (plain_instrs instrs.now) at }
 {
     instrs.get(at).is_some_and(|i| keeps(i, index))
 }
@@ -203,14 +205,14 @@ fn keeps(i: &Instr, index: &Expr) -> bool
 
 /// Whether each jump that leads past `g` and up to `k` comes from between the two.
 fn enter_from_between(instrs: &[Instr], g: usize, k: usize) -> bool
-    ensures { result ≡ list_all (λ from. spec.passes (spec.enters_from_between g k from) (plain_instrs instrs.now) from) (range_with_len 0 (length instrs.now)) }
+    ensures { result ≡ list_all (λ from. test.passes (test.enters_from_between g k from) (plain_instrs instrs.now) from) (range_with_len 0 (length instrs.now)) }
 {
     (0..instrs.len()).all(|from| enters_at(instrs, g, k, from))
 }
 
 #[tactic(auto, using(crate::proofs::Lists::mapped))]
 fn enters_at(instrs: &[Instr], g: usize, k: usize, from: usize) -> bool
-    ensures { result ≡ spec.passes (spec.enters_from_between g k from) (plain_instrs instrs.now) from }
+    ensures { result ≡ test.passes (test.enters_from_between g k from) (plain_instrs instrs.now) from }
 {
     instrs
         .get(from)
@@ -218,7 +220,7 @@ fn enters_at(instrs: &[Instr], g: usize, k: usize, from: usize) -> bool
 }
 
 fn enters_from_between(i: &Instr, g: usize, k: usize, from: usize) -> bool
-    ensures { result ≡ spec.enters_from_between g k from (plain_instr i.now) }
+    ensures { result ≡ test.enters_from_between g k from (plain_instr i.now) }
 {
     match i {
         Instr::Branch { target, .. } | Instr::Goto { target } => {
@@ -232,7 +234,7 @@ fn enters_from_between(i: &Instr, g: usize, k: usize, from: usize) -> bool
 /// Whether the first exit is the last instruction.
 #[tactic(auto, using(crate::proofs::Lists::mapped))]
 pub(crate) fn ends_in_exit(instrs: &[Instr]) -> bool
-    ensures { result ≡ spec.ends_in_exit (map plain_instr instrs.now) }
+    ensures { result ≡ test.ends_in_exit (map plain_instr instrs.now) }
 {
     match first_exit(instrs) {
         Some(at) => at + 1 == instrs.len(),
@@ -241,13 +243,13 @@ pub(crate) fn ends_in_exit(instrs: &[Instr]) -> bool
 }
 
 fn first_exit(instrs: &[Instr]) -> Option<usize>
-    ensures { result ≡ position (λ i. spec.is_exit (plain_instr i)) instrs.now }
+    ensures { result ≡ position (λ i. test.is_exit (plain_instr i)) instrs.now }
 {
     instrs.iter().position(|i| is_exit(i))
 }
 
 fn is_exit(i: &Instr) -> bool
-    ensures { result ≡ spec.is_exit (plain_instr i.now) }
+    ensures { result ≡ test.is_exit (plain_instr i.now) }
 {
     matches!(i, Instr::Exit)
 }

@@ -2,7 +2,7 @@
 use Rattle.std.proofs.Common.{◌≡◌, ◌∙◌, ℕ, ◌+◌, ◌<◌, ◌≤◌, ◌^◌, ◌==◌, length, Bool, true, false, IsTrue, Some, refl, ap, sym, subst, arith, nat_lt, nat_le, ◌&&◌, ℤ, pos, slice_get}
 use Rattle.std.specs.Prelude.{int_le, int_lt}
 use Rattle.std.proofs.lemmas.Bool.{false≢true}
-use Rattle.std.proofs.lemmas.Bool.Decides.{nat_tests}
+use Rattle.std.proofs.lemmas.Bool.Decides.{nat_tests, Decides-eqb}
 use Rattle.std.proofs.lemmas.Int.{ints}
 use Rattle.std.proofs.lemmas.List.{length-map}
 use Rattle.std.proofs.lemmas.Option.{same_Some, slice_get_within}
@@ -11,12 +11,18 @@ use Rattle.std.specs.Option.{option_map_or}
 use Rattle.tc_base.specs.Names.{Name}
 use Rattle.tc_base.specs.Buffers.{BufferOps}
 use Rattle.tc_base.specs.States.{Local, Thread, State}
-use Rattle.tc_code.specs.Code.{Code, Func, Instr, Set, Load, Load_at, Store, Store_at, Inside, Branch, Goto, Holds, Lock, Unlock, Sleep, Wake, Signal, Broadcast, Create, Ready, Join, Assert, Fence, Exit, takes, names_what_is, is_lawful, is_lawful_function}
-use Rattle.tc_code.specs.Step.{Silent, request, site, is_within, cell_at, instr_of, ints_of, value_in}
+use Rattle.tc_code.specs.Instr.{Instr, Set, Load, Load_at, Store, Store_at, Inside, Branch, Goto, Holds, Lock, Unlock, Sleep, Wake, Signal, Broadcast, Create, Ready, Join, Assert, Fence, Exit}
+use Rattle.tc_code.specs.Code.{Code}
+use Rattle.tc_code.specs.Lawful.{takes, names_what_is, IsLawful}
+use Rattle.tc_code.specs.helpers.Tests.{is_lawful_function}
+use Rattle.tc_code.specs.declared.code.Func.{Func}
+use Rattle.tc_base.specs.declared.request.Request.TheVariants.{Silent}
+use Rattle.tc_code.specs.Step.{request, site, is_within, cell_at, instr_of, ints_of, value_in}
 use Rattle.tc_code.specs.Run.{IsReached}
-use Rattle.tc_code.proofs.Lawful.{first, second, found, few_cells, lawful_functions, list_all_at, placed_next}
-use Rattle.tc_machine.specs.CanDo.{CanAsk, CanDo, CanPerform, AsksWithin, Starts, sized, is_branch}
-use Rattle.tc_runs.proofs.Whole.{reached_is_whole}
+use Rattle.tc_code.specs.Facts.{placed_next}
+use Rattle.tc_machine.specs.helpers.CanDo.{CanAsk, CanDo, CanPerform, AsksWithin, Starts, sized, is_branch}
+use Rattle.tc_runs.proofs.Basics.{first, second, found}
+use Rattle.tc_runs.proofs.Whole.{names_next, reached_is_whole}
 use Rattle.tc_runs.proofs.Guards.{index_is_within}
 use Rattle.tc_runs.proofs.Created.{child_is_new}
 use Rattle.tc_runs.specs.Counters.{CountersAreBelowLast}
@@ -45,14 +51,13 @@ cell_within cells a len index inside h =
     grind (arith, nat_tests, ints)
 
 -- a create of lawful code starts a function that is there, and takes the arguments
-takes_arguments : (code : Code) (g n : ℕ) → IsTrue (is_lawful code) → IsTrue (takes code g n) → (g < length code.functions) × (n ≤ ints_of code g)
+takes_arguments : (code : Code) (g n : ℕ) → IsLawful code → IsTrue (takes code g n) → (g < length code.functions) × (n ≤ ints_of code g)
 takes_arguments code g n lawful h =
     let f = found (λ f. f.params == n) (slice_get code.functions g) h in
-    let is = list_all_at (is_lawful_function code) code.functions g f.0 (lawful_functions code lawful) f.1 in
-    let few : IsTrue (nat_le f.0.params f.0.ints) = first _ _ (first _ _ (first _ _ is)) in
-    let same : IsTrue (f.0.params == n) = f.2 in
-    let room : n ≤ f.0.ints = grind (arith, nat_tests) in
-    (slice_get_within code.functions g f.0 f.1, subst (λ o. n ≤ option_map_or (λ f. f.ints) o 0) (sym f.1) room)
+    let params = (lawful.functions g f.0 f.1).params in
+    let same : f.0.params ≡ n = (Decides-eqb _ _).0 f.2 in
+    let room : n ≤ f.0.ints = omega (arith, params, same) in
+    (slice_get_within code.functions g f.0 f.1, subst (λ o. n ≤ option_map_or (λ (f : Func). f.ints) o 0) (sym f.1) room)
 
 module _ {B : Type 0} (code : Code) (s : State B) (whole : IsWhole code s) where
   site_asks : (b : Bool) → AsksWithin s (site b)
@@ -87,7 +92,7 @@ site_starts : (code : Code) (t : Local) (i : Instr) (b : Bool) → Starts code t
 site_starts code t i true = tt
 site_starts code t i false = tt
 
-starts : (code : Code) (f : Func) (t : Local) (i : Instr) → IsTrue (is_lawful code) → IsTrue (names_what_is code f i) → Starts code t i (request t i)
+starts : (code : Code) (f : Func) (t : Local) (i : Instr) → IsLawful code → IsTrue (names_what_is code f i) → Starts code t i (request t i)
 starts code f t (Create v g es) lawful h =
     let takes = takes_arguments code g (length es) lawful (second _ _ (first _ _ h)) in
     (takes.0, subst (λ n. n ≤ ints_of code g) (sym (length-map es (value_in t))) takes.1)
@@ -102,7 +107,7 @@ branch_asks_nothing : (t : Local) (i : Instr) → IsTrue (is_branch i) → reque
 branch_asks_nothing t (Branch e to) h = refl
 branch_asks_nothing t i h = absurd (false≢true h)
 
-module _ {B : Type 0} (ops : BufferOps B) (code : Code) (s : State B) (n : Name) (t : Thread B) (i : Instr) (lawful : IsTrue (is_lawful code)) (reached : IsReached ops code s) (there : fin.get s.threads n ≡ Some t) (at : instr_of code t.local ≡ Some i) where
+module _ {B : Type 0} (ops : BufferOps B) (code : Code) (s : State B) (n : Name) (t : Thread B) (i : Instr) (lawful : IsLawful code) (reached : IsReached ops code s) (there : fin.get s.threads n ≡ Some t) (at : instr_of code t.local ≡ Some i) where
   -- what the instruction names is there
   pub can_ask : CanAsk code t.local i
   can_ask =
@@ -111,15 +116,15 @@ module _ {B : Type 0} (ops : BufferOps B) (code : Code) (s : State B) (n : Name)
       let same : whole.function ≡ placed.function = same_Some _ _ (sym whole.there ∙ placed.there) in
       record {
         function = placed.function;
-        names = names-sized code placed.function t.local i (whole.slots ∙ ap (λ f. f.ints) same) (whole.handles ∙ ap (λ f. f.tids) same) placed.names;
+        names = names-sized code placed.function t.local i (whole.slots ∙ ap (λ f. f.ints) same) (whole.handles ∙ ap (λ f. f.tids) same) (names_next code t.local i lawful at);
         held = whole.held;
-        cells = few_cells code lawful;
+        cells = lawful.cells;
         index = index_is_within ops code s n t i lawful reached there at;
       }
 
   -- what it asks for is there
   pub asked_is_there : AsksWithin s (request t.local i)
-  asked_is_there = asks_within code s (reached_is_whole ops code s lawful reached) (placed_next code t.local i lawful at).function t.local i (placed_next code t.local i lawful at).names (index_is_within ops code s n t i lawful reached there at)
+  asked_is_there = asks_within code s (reached_is_whole ops code s lawful reached) (placed_next code t.local i lawful at).function t.local i (names_next code t.local i lawful at) (index_is_within ops code s n t i lawful reached there at)
 
   module _ (counters : CountersAreBelowLast s) (next : t.local.instruction + 1 < 2 ^ 64) where
     pub can_do : CanDo code t.local i
@@ -130,7 +135,7 @@ module _ {B : Type 0} (ops : BufferOps B) (code : Code) (s : State B) (n : Name)
     can_perform = record {
       thread = can_do;
       asked = asked_is_there;
-      starts = starts code (placed_next code t.local i lawful at).function t.local i lawful (placed_next code t.local i lawful at).names;
+      starts = starts code (placed_next code t.local i lawful at).function t.local i lawful (names_next code t.local i lawful at);
       branch = branch_asks_nothing t.local i;
       is_new = child_is_new ops code s n t reached there;
     }

@@ -1,4 +1,3 @@
-pub mod Asked
-pub mod CanDo
 pub mod Moves
 pub mod Why
+pub mod helpers

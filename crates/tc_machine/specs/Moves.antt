@@ -1,12 +1,12 @@
 -- The moves that are enabled in a state, in the order in which they are listed.
-use Rattle.std.specs.Prelude.{List, ◌∷◌, map, Bool, is_some, filter}
-use Rattle.std.specs.List.{flat_map}
+use Rattle.std.specs.Prelude.{List, ◌∷◌, ◌++◌, length, map, Bool, is_some, Some, None, filter}
+use Rattle.std.specs.List.{flat_map, range_with_len}
 use Rattle.std.specs.FinMap as fin
 use Rattle.tc_base.specs.Names.{Name}
 use Rattle.tc_base.specs.Buffers.{BufferOps}
 use Rattle.tc_base.specs.States.{State}
 use Rattle.tc_base.specs.declared.moves.Move.{Move}
-use Rattle.tc_base.specs.declared.moves.Move.TheVariants.{Run, Wake}
+use Rattle.tc_base.specs.declared.moves.Move.TheVariants.{Run, Wake, Drain}
 use Rattle.tc_code.specs.Code.{Code}
 use Rattle.tc_code.specs.Step.{step}
 
@@ -14,13 +14,17 @@ module _ {B : Type 0} (ops : BufferOps B) (code : Code) (s : State B) where
   abbrev pub is_enabled : Move → Bool
   is_enabled m = is_some (step ops code s m)
 
-  -- the moves that a thread might make: to run, or to wake one of the threads, by their names
-  abbrev pub candidates : Name → List Move
-  candidates n = Run n ∷ map (λ u. Wake n u) (fin.keys s.threads)
+  -- the steps that a thread might take: to run, or to wake one of the threads, by their names
+  abbrev pub steps_of : Name → List Move
+  steps_of n = Run n ∷ map (λ u. Wake n u) (fin.keys s.threads)
 
-  -- those of them that are enabled
+  -- the drains of its buffer: of its oldest store, or of its oldest to a cell, by rising cell
+  abbrev pub drains_of : Name → List Move
+  drains_of n = Drain n None ∷ map (λ c. Drain n (Some c)) (range_with_len 0 (length s.memory))
+
+  -- the enabled ones of these
   abbrev pub moves_of : Name → List Move
-  moves_of n = filter is_enabled (candidates n)
+  moves_of n = filter is_enabled (steps_of n ++ drains_of n)
 
   -- the enabled moves, by the names of the threads that make them
   abbrev pub enabled_moves : List Move

@@ -8,10 +8,13 @@ use Rattle.tc_base.specs.Buffers.{BufferOps}
 use Rattle.tc_base.specs.States.{Thread, State}
 use Rattle.tc_base.specs.declared.moves.Move.{Move}
 use Rattle.tc_base.specs.declared.moves.Move.TheVariants.{Run, Wake, Drain}
-use Rattle.tc_code.specs.Code.{Code, Instr, Signal}
-use Rattle.tc_code.specs.Step.{Request, Acquire, End_wait, Wake_one, Await, request, instr_of, drains_first, waiting_on, is_free, child_has_exited}
+use Rattle.tc_code.specs.Instr.{Instr, Signal}
+use Rattle.tc_code.specs.Code.{Code}
+use Rattle.tc_base.specs.declared.request.Request.{Request}
+use Rattle.tc_base.specs.declared.request.Request.TheVariants.{Acquire, EndWait, WakeOne, Await}
+use Rattle.tc_code.specs.Step.{request, instr_of, drains_first, waiting_on, is_free, child_has_exited}
 use Rattle.tc_machine.specs.declared.why.Why.{Why}
-use Rattle.tc_machine.specs.declared.why.Why.TheVariants.{Stopped, NoThread, Exited, NotDrained, Held, NotWoken, NotEnded, WaiterNeeded, WrongWaiter, NoEntry}
+use Rattle.tc_machine.specs.declared.why.Why.TheVariants.{Stopped, NoThread, Exited, NotDrained, NotWoken, Held, NotEnded, WaiterNeeded, WrongWaiter, NoEntry}
 
 -- the reason's name
 abbrev pub why_text : Why → List ℕ
@@ -19,23 +22,23 @@ why_text Stopped = codes "Stopped"
 why_text NoThread = codes "NoThread"
 why_text Exited = codes "Exited"
 why_text NotDrained = codes "NotDrained"
-why_text Held = codes "Held"
 why_text NotWoken = codes "NotWoken"
+why_text Held = codes "Held"
 why_text NotEnded = codes "NotEnded"
 why_text WaiterNeeded = codes "WaiterNeeded"
 why_text WrongWaiter = codes "WrongWaiter"
 why_text NoEntry = codes "NoEntry"
 
 module _ {B : Type 0} where
-  -- a mutex that has an owner
+  -- a mutex that has an owner, which may be the thread itself
   abbrev pub why_taken : State B → ℕ → Option Why
   why_taken s m = if is_free s m then None else Some Held
 
   -- what the other threads don't let be
   abbrev pub why_let : State B → Name → Request → Option Why
   why_let s n (Acquire m) = why_taken s m
-  why_let s n (End_wait c m) = if set.contains (waiting_on s c) n then Some NotWoken else why_taken s m
-  why_let s n (Wake_one c) = if set.len (waiting_on s c) == 0 then None else Some WaiterNeeded
+  why_let s n (EndWait c m) = if set.contains (waiting_on s c) n then Some NotWoken else why_taken s m
+  why_let s n (WakeOne c) = if set.len (waiting_on s c) == 0 then None else Some WaiterNeeded
   why_let s n (Await k) = if child_has_exited s n k then None else Some NotEnded
   why_let s n _ = None
 

@@ -15,7 +15,7 @@ mod why;
 
 pub use listed::moves;
 pub use machine::{enabled, step};
-pub use names::Names;
+pub use names::ThreadNames;
 pub use outcomes::Outcomes;
 pub use state::{State, start};
 pub use why::Why;

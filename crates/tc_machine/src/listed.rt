@@ -7,7 +7,7 @@ ghost use Rattle.tc_base.specs.Names.{Name};
 ghost use Rattle.tc_base.specs.declared.moves.Move.{Move};
 ghost use Rattle.tc_code.specs.Run.{IsReached};
 ghost use Rattle.tc_code.specs.Step.{step};
-ghost use Rattle.tc_machine.specs.Moves.{is_enabled, moves_of, enabled_moves};
+ghost use Rattle.tc_machine.specs.Moves.{is_enabled, steps_of, moves_of, enabled_moves};
 
 use crate::machine::enabled;
 use crate::state::State;
@@ -30,7 +30,7 @@ pub fn moves(alloc: Global, code: &Code, state: &State) -> Result<Vec<Move>, All
     Ok(found)
 }
 
-/// Adds the enabled moves of a thread.
+/// Adds the enabled moves of a thread. Without buffers it has no drains.
 fn push_moves(
     found: &mut Vec<Move>,
     code: &Code,
@@ -39,6 +39,20 @@ fn push_moves(
 ) -> Result<(), AllocError>
     requires reached { IsReached no_buffer code.now state.now }
     ensures { OnOk result (found.new.items ≡ found.old.items ++ moves_of no_buffer code.now state.now name.now) }
+{
+    push_steps(found, code, state, name)?;
+    Ok(())
+}
+
+/// Adds the enabled steps of a thread.
+fn push_steps(
+    found: &mut Vec<Move>,
+    code: &Code,
+    state: &State,
+    name: &ThreadName,
+) -> Result<(), AllocError>
+    requires reached { IsReached no_buffer code.now state.now }
+    ensures { OnOk result (found.new.items ≡ found.old.items ++ filter (is_enabled no_buffer code.now state.now) (steps_of no_buffer code.now state.now name.now)) }
 {
     push_enabled(found, code, state, Move::Run(name.clone()?))?;
     if signals(code, state, name) {

@@ -3,7 +3,8 @@ ghost use Rattle.std.specs.Prelude.{◌≡◌, IsSome, Option, Some, None, OnOk,
 ghost use Rattle.std.specs.FinMap as map;
 ghost use Rattle.tc_base.specs.Buffers.{NoBuffer, no_buffer};
 ghost use Rattle.tc_base.specs.States as states;
-ghost use Rattle.tc_code.specs.Code as flat;
+ghost use Rattle.tc_code.specs.Instr as flat;
+ghost use Rattle.tc_code.specs.Lawful.{IsLawful};
 ghost use Rattle.tc_code.specs.Run.{IsReached};
 ghost use Rattle.tc_code.specs.Seen.{plain_instr};
 ghost use Rattle.tc_code.specs.Step.{step, instr_of, request};
@@ -78,7 +79,7 @@ fn next<'a>(
 ) -> Result<(&'a Thread, &'a Instr), Why>
     ensures thread { IfOk result (λ p. map.get state.now.threads name.now ≡ Some p.0.now) }
     ensures instr { IfOk result (λ p. instr_of code.now p.0.now.local ≡ Some (plain_instr p.1.now)) }
-    ensures lawful { OnOk result (IsTrue (flat.is_lawful code.now)) }
+    ensures lawful { OnOk result (IsLawful code.now) }
     ensures err { IfErr result (λ w. (reason : states.Thread NoBuffer → flat.Instr → Option Why)
         → why_doing no_buffer code.now state.now name.now reason ≡ Some w) }
 {

@@ -3,24 +3,22 @@ ghost use Rattle.std.specs.Prelude.{◌≡◌, ◌+◌, ◌-◌, ◌<◌, ◌^�
 ghost use Rattle.std.specs.FinMap as map;
 ghost use Rattle.std.specs.FinSet as set;
 ghost use Rattle.tc_base.specs.Buffers.{no_buffer};
-ghost use Rattle.tc_code.specs.Code as flat;
+ghost use Rattle.tc_code.specs.Instr as flat;
 ghost use Rattle.tc_code.specs.Seen.{plain_instr};
 ghost use Rattle.tc_code.specs.Step.{opening, perform, did, stepped, with_thread, woken, waiting_on};
 ghost use Rattle.tc_code.specs.Step as plain;
-ghost use Rattle.tc_machine.specs.Asked.{plain_request};
-ghost use Rattle.tc_machine.specs.CanDo.{AsksWithin, CanAdvance, CanPerform, HasRoom, is_branch};
+ghost use Rattle.tc_machine.specs.helpers.CanDo.{AsksWithin, CanAdvance, CanPerform, HasRoom, is_branch};
 ghost use Rattle.tc_machine.specs.Why.{why_let, why_taken};
 
-use crate::names::Names;
+use crate::names::ThreadNames;
 use crate::outcomes::Outcomes;
-use crate::request::Request;
 use crate::thread::Thread;
 use crate::threads::Threads;
 use crate::waiting::WaitSet;
 use crate::why::Why;
 use std::alloc::{AllocError, Global};
 use std::marker::Model;
-use tc_base::ThreadName;
+use tc_base::{Request, ThreadName};
 use tc_code::{Code, Instr};
 
 /// A state of the machine.
@@ -37,7 +35,7 @@ impl Model for State {
     ghost use base.Stored.{coded_unit};
     ghost use Rattle.tc_base.specs.Buffers.{NoBuffer};
     ghost use Rattle.tc_base.specs.States as spec;
-    ghost use Rattle.tc_base.specs.Codes.{coded_state};
+    ghost use Rattle.tc_base.specs.helpers.Codes.{coded_state};
 
     ghost Value = { spec.State NoBuffer };
 
@@ -100,7 +98,7 @@ impl State {
     }
 
     /// The names of the threads, in order.
-    pub fn threads(&self) -> &Names
+    pub fn threads(&self) -> &ThreadNames
         ensures { result.now ≡ map.keys self.now.threads }
     {
         self.threads.names()
@@ -145,10 +143,10 @@ impl State {
 
     /// What the other threads don't let be.
     pub(crate) fn lets(&self, name: &ThreadName, request: Request) -> Result<(), Why>
-        requires { AsksWithin self.now (plain_request request) }
+        requires { AsksWithin self.now request }
         ensures { MatchResult result
-            (λ _. why_let self.now name.now (plain_request request) ≡ None)
-            (λ w. why_let self.now name.now (plain_request request) ≡ Some w) }
+            (λ _. why_let self.now name.now request ≡ None)
+            (λ w. why_let self.now name.now request ≡ Some w) }
     {
         match request {
             Request::Acquire(mutex) => self.check_free(mutex),
@@ -199,9 +197,9 @@ impl State {
         request: Request,
     ) -> Result<(), AllocError>
         requires { IsSomeAnd (map.get self.old.threads name.now)
-            (CanPerform code.now self.old name.now (plain_instr instr.now) (plain_request request)) }
+            (CanPerform code.now self.old name.now (plain_instr instr.now) request) }
         ensures ok { OnOk result (IfSome (map.get self.old.threads name.now)
-            (λ t. self.new ≡ perform no_buffer code.now self.old name.now t (plain_instr instr.now) (plain_request request))) }
+            (λ t. self.new ≡ perform no_buffer code.now self.old name.now t (plain_instr instr.now) request)) }
         ensures err { OnErr result (self.new ≡ self.old) }
     {
         match request {
@@ -297,9 +295,9 @@ impl State {
         function: u32,
     ) -> Result<(), AllocError>
         requires { IsSomeAnd (map.get self.old.threads name.now)
-            (CanPerform code.now self.old name.now (plain_instr instr.now) (plain.Start function)) }
+            (CanPerform code.now self.old name.now (plain_instr instr.now) (Request.Start function)) }
         ensures ok { OnOk result (IfSome (map.get self.old.threads name.now)
-            (λ t. self.new ≡ perform no_buffer code.now self.old name.now t (plain_instr instr.now) (plain.Start function))) }
+            (λ t. self.new ≡ perform no_buffer code.now self.old name.now t (plain_instr instr.now) (Request.Start function))) }
         ensures err { OnErr result (self.new ≡ self.old) }
     {
         let Some(parent) = self.threads.get(name) else {

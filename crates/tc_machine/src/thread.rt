@@ -4,17 +4,18 @@ ghost use Rattle.std.specs.List.{list_all};
 ghost use Rattle.tc_base.specs.Buffers.{no_buffer};
 ghost use Rattle.tc_base.specs.declared.handle.Handle.{Handle};
 ghost use Rattle.tc_code.specs.Code as flat;
+ghost use Rattle.tc_code.specs.Lawful.{IsLawful};
 ghost use Rattle.tc_code.specs.Expr.{value_of, names_slots};
-ghost use Rattle.tc_code.specs.Seen.{plain_instr, plain_expr};
+ghost use Rattle.tc_code.specs.Seen.{plain_instr};
+ghost use Rattle.tc_code.specs.SeenExpr.{plain_expr};
 ghost use Rattle.tc_code.specs.Step as plain;
-ghost use Rattle.tc_machine.specs.Asked.{plain_request};
-ghost use Rattle.tc_machine.specs.CanDo.{CanAsk, CanDo, HasRoom, is_branch};
+ghost use Rattle.tc_machine.specs.helpers.CanDo.{CanAsk, CanDo, HasRoom, is_branch};
 
 use crate::outcomes::Outcomes;
-use crate::request::{Request, cell_at, is_ready, is_within, number_of, site};
+use crate::request::{can_be_joined, cell_at, child_number, is_within, site};
 use std::alloc::{AllocError, Global};
 use std::marker::Model;
-use tc_base::Handle;
+use tc_base::{Handle, Request};
 use tc_code::{Code, Expr, Instr, value};
 
 /// A thread.
@@ -35,7 +36,7 @@ impl Model for Thread {
     ghost use base.Stored.{coded_unit};
     ghost use Rattle.tc_base.specs.Buffers.{NoBuffer};
     ghost use Rattle.tc_base.specs.States as spec;
-    ghost use Rattle.tc_base.specs.Codes.{coded_thread};
+    ghost use Rattle.tc_base.specs.helpers.Codes.{coded_thread};
 
     ghost Value = { spec.Thread NoBuffer };
 
@@ -123,7 +124,7 @@ impl Thread {
     /// The instruction that it does next, and none once it has exited.
     pub(crate) fn instr<'a>(&self, code: &'a Code) -> Option<&'a Instr>
         ensures next { option_map (λ i. plain_instr i.now) result ≡ plain.instr_of code.now self.now.local }
-        ensures lawful { OnSome result (IsTrue (flat.is_lawful code.now)) }
+        ensures lawful { OnSome result (IsLawful code.now) }
         ensures room { OnSome result (self.now.local.instruction + 1 < 2 ^ 64) }
     {
         if self.has_exited {
@@ -135,7 +136,7 @@ impl Thread {
     /// What an instruction asks.
     pub(crate) fn request(&self, instr: &Instr) -> Request
         requires { (code : flat.Code) × CanAsk code self.now.local (plain_instr instr.now) }
-        ensures { plain_request result ≡ plain.request self.now.local (plain_instr instr.now) }
+        ensures { result ≡ plain.request self.now.local (plain_instr instr.now) }
     {
         match instr {
             Instr::Set { .. } | Instr::Branch { .. } | Instr::Goto { .. } => Request::Silent,
@@ -164,8 +165,8 @@ impl Thread {
             Instr::Signal { condition } => Request::WakeOne(*condition),
             Instr::Broadcast { condition } => Request::WakeAll(*condition),
             Instr::Create { function, .. } => Request::Start(*function),
-            Instr::Ready { handle } => site(is_ready(self.handles[*handle as usize])),
-            Instr::Join { handle } => Request::Await(number_of(self.handles[*handle as usize])),
+            Instr::Ready { handle } => site(can_be_joined(self.handles[*handle as usize])),
+            Instr::Join { handle } => Request::Await(child_number(self.handles[*handle as usize])),
             Instr::Assert(condition) => site(value(condition, &self.slots) != 0),
             Instr::Fence => Request::OrderStores,
             Instr::Exit => Request::Finish,
@@ -178,7 +179,7 @@ impl Thread {
         ensures { IfOk result (λ v. v.items ≡ plain.arguments_of self.now.local (plain_instr instr.now)) }
     {
         match instr {
-            Instr::Create { arguments, .. } => values(alloc, arguments, &self.slots),
+            Instr::Create { arguments, .. } => values(alloc, arguments.as_slice(), &self.slots),
             _ => Ok(Vec::new(alloc)),
         }
     }
@@ -295,11 +296,11 @@ impl Thread {
         requires there { handle < length self.old.local.handles }
         ensures { self.new ≡ record self.old {
           local = record (plain.next self.old.local) {
-            handles = slice_set self.old.local.handles handle (Handle.Joined (plain.number_of (plain.handle_of self.old.local handle)));
+            handles = slice_set self.old.local.handles handle (Handle.Joined (plain.child_number (plain.handle_of self.old.local handle)));
           };
         } }
     {
-        let number = number_of(self.handles[handle as usize]);
+        let number = child_number(self.handles[handle as usize]);
         self.handles[handle as usize] = Handle::Joined(number);
         self.go_on();
     }

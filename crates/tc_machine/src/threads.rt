@@ -6,9 +6,9 @@ ghost use Rattle.tc_base.specs.Names.{main, child};
 ghost use Rattle.tc_code.specs.Code as flat;
 ghost use Rattle.tc_code.specs.Seen.{plain_instr};
 ghost use Rattle.tc_code.specs.Step.{local_after, stepped};
-ghost use Rattle.tc_machine.specs.CanDo.{CanAdvance, CanDo, is_branch};
+ghost use Rattle.tc_machine.specs.helpers.CanDo.{CanAdvance, CanDo, is_branch};
 
-use crate::names::Names;
+use crate::names::ThreadNames;
 use crate::thread::Thread;
 use std::alloc::{AllocError, Global};
 use std::collections::BTreeMap;
@@ -20,7 +20,7 @@ use tc_code::Instr;
 #[derive(Debug, Drop)]
 pub(crate) struct Threads {
     by_name: BTreeMap<ThreadName, Thread>,
-    names: Names,
+    names: ThreadNames,
 }
 
 impl Model for Threads {
@@ -33,7 +33,7 @@ impl Model for Threads {
     ghost use Rattle.tc_base.specs.Buffers.{NoBuffer};
     ghost use Rattle.tc_base.specs.Names.{ByName};
     ghost use Rattle.tc_base.specs.States as spec;
-    ghost use Rattle.tc_base.specs.Codes.{coded_name, coded_thread};
+    ghost use Rattle.tc_base.specs.helpers.Codes.{coded_name, coded_thread};
 
     ghost Value = { ByName (spec.Thread NoBuffer) };
 
@@ -49,14 +49,14 @@ impl Threads {
     pub(crate) fn of_main(alloc: Global, thread: Thread) -> Result<Threads, AllocError>
         ensures { IfOk result (λ threads. threads ≡ map.insert map.empty main thread) }
     {
-        let names = Names::of_main(alloc)?;
+        let names = ThreadNames::of_main(alloc)?;
         let mut by_name = BTreeMap::new(alloc);
         by_name.insert(ThreadName::main(alloc), thread)?;
         Ok(Threads { by_name, names })
     }
 
     /// The names, in order.
-    pub(crate) fn names(&self) -> &Names
+    pub(crate) fn names(&self) -> &ThreadNames
         ensures { result.now ≡ map.keys self.now }
     {
         &self.names

@@ -17,7 +17,7 @@ impl Model for WaitSet {
     ghost use Rattle.std.specs.FinSet as set;
     ghost use Rattle.std.specs.Ordering.{nat_cmp};
     ghost use Rattle.std.specs.Cmp.Lexicographic.{slice_cmp};
-    ghost use Rattle.tc_base.specs.Codes.{coded_name};
+    ghost use Rattle.tc_base.specs.helpers.Codes.{coded_name};
 
     ghost Value = { set.FinSet (slice_cmp nat_cmp) };
 

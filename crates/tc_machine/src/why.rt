@@ -15,15 +15,16 @@ pub enum Why {
     Exited,
     /// The instruction needs the thread's store buffer to be empty, and it isn't.
     NotDrained,
-    /// Another thread holds the mutex.
-    Held,
     /// The thread waits, and no signal has woken it.
     NotWoken,
+    /// A thread holds the mutex, this one or another.
+    Held,
     /// The thread that is joined hasn't ended.
     NotEnded,
     /// Threads wait on the condition, and the move doesn't say which of them wakes.
     WaiterNeeded,
-    /// The thread isn't at a signal, or the waiter that it should wake doesn't wait there.
+    /// The waiter that the thread should wake doesn't wait there. Where the thread isn't at a signal this comes
+    /// before `NotDrained`.
     WrongWaiter,
     /// There is no such store to drain.
     NoEntry,
@@ -39,8 +40,8 @@ impl Why {
             Why::NoThread => "NoThread",
             Why::Exited => "Exited",
             Why::NotDrained => "NotDrained",
-            Why::Held => "Held",
             Why::NotWoken => "NotWoken",
+            Why::Held => "Held",
             Why::NotEnded => "NotEnded",
             Why::WaiterNeeded => "WaiterNeeded",
             Why::WrongWaiter => "WrongWaiter",

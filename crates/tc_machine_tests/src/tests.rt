@@ -18,10 +18,13 @@ use tc_machine::{State, Why, enabled, moves, start, step};
 /// The name that the digits of its numbers write: 12 is `0.1.2`, and 0 is main.
 fn name_of(alloc: Global, digits: u32) -> Result<ThreadName, AllocError> {
     let main = ThreadName::main(alloc);
-    match (digits / 10, digits % 10) {
-        (0, 0) => Ok(main),
-        (0, last) => main.child(last),
-        (first, last) => main.child(first)?.child(last),
+    let (first, last) = (digits / 10, digits % 10);
+    if last == 0 {
+        Ok(main)
+    } else if first == 0 {
+        main.child(last)
+    } else {
+        main.child(first)?.child(last)
     }
 }
 

@@ -3,7 +3,8 @@ use Rattle.std.proofs.Common.{◌≡◌, ◌⊎◌, inl, inr, ℕ, ◌+◌, leng
 use Rattle.std.proofs.lemmas.List.{length-set}
 use Rattle.tc_base.specs.States.{Local}
 use Rattle.tc_code.specs.Expr.{Expr}
-use Rattle.tc_code.specs.Code.{Instr, Set, Load, Load_at, Branch, Goto, Lock, Unlock, Sleep, Wake, Create, Join, target}
+use Rattle.tc_code.specs.Instr.{Instr, Set, Load, Load_at, Branch, Goto, Lock, Unlock, Sleep, Wake, Create, Join}
+use Rattle.tc_code.specs.Lawful.{target}
 use Rattle.tc_code.specs.Step.{branched, local_after}
 
 -- a branch changes the place, the outcomes and the count of steps, and nothing else

@@ -9,7 +9,8 @@ use Rattle.tc_base.specs.Buffers.{BufferOps}
 use Rattle.tc_base.specs.States.{Local, Thread, State}
 use Rattle.tc_base.specs.declared.moves.Move.{Move}
 use Rattle.tc_code.specs.Expr.{Expr}
-use Rattle.tc_code.specs.Code.{Code, Instr, Create}
+use Rattle.tc_code.specs.Instr.{Instr, Create}
+use Rattle.tc_code.specs.Code.{Code}
 use Rattle.tc_code.specs.Step.{local_after, arguments_of, born, step, opening}
 use Rattle.tc_code.specs.Run.{IsReached}
 use Rattle.tc_runs.specs.Whole.{AllThreads}

@@ -1,5 +1,26 @@
--- Options and lists.
-use Rattle.std.proofs.Common.{◌≡◌, ◌⊎◌, inl, inr, ℕ, zero, suc, List, [], ◌∷◌, Bool, true, false, cond, IsSome, Option, Some, None, refl, ap, sym, subst, replicate, slice_set, slice_index_or, true≢false}
+-- Tests, options and lists.
+use Rattle.std.proofs.Common.{◌≡◌, ◌⊎◌, inl, inr, ℕ, zero, suc, List, [], ◌∷◌, Bool, true, false, ◌&&◌, IsTrue, cond, IsSome, Option, Some, None, refl, ap, sym, subst, replicate, slice_set, slice_index_or, true≢false}
+use Rattle.std.specs.Option.{option_map_or}
+use Rattle.std.proofs.lemmas.Option.{none-some}
+
+-- what passes two tests passes each
+pub first : (a b : Bool) → IsTrue (a && b) → IsTrue a
+first true b h = refl
+first false b h = h
+
+pub second : (a b : Bool) → IsTrue (a && b) → IsTrue b
+second true b h = h
+second false b h = absurd (true≢false (sym h))
+
+-- a value that passes is there
+pub found : {A : Type 0} (p : A → Bool) (o : Option A) → IsTrue (option_map_or p o false) → (x : A) × (o ≡ Some x) × IsTrue (p x)
+found p None h = absurd (true≢false (sym h))
+found p (Some x) h = (x, refl, h)
+
+-- what stands under a test that failed
+pub unless : {A : Type 0} (b : Bool) (o : Option A) (x : A) → cond b None o ≡ Some x → o ≡ Some x
+unless true o x h = absurd (none-some x h)
+unless false o x h = h
 
 -- what is some value is there
 pub some_is : {X : Type 0} (o : Option X) (x : X) → o ≡ Some x → IsSome o

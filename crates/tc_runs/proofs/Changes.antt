@@ -10,10 +10,12 @@ use Rattle.tc_base.specs.Buffers.{BufferOps}
 use Rattle.tc_base.specs.States.{Local, Thread, State}
 use Rattle.tc_base.specs.declared.moves.Move.{Move}
 use Rattle.tc_base.specs.declared.moves.Move.TheVariants as move
-use Rattle.tc_code.specs.Code.{Code, Instr, Load, Load_at, Store, Store_at, Inside, Holds, Lock, Unlock, Sleep, Wake, Signal, Broadcast, Create, Ready, Assert}
-use Rattle.tc_code.specs.Step.{Request, Wake_one, Fail, request, site, local_after, arguments_of, instr_of, Names, is_let, born, perform, step}
-use Rattle.tc_code.proofs.Lawful.{second}
-use Rattle.tc_runs.proofs.Basics.{index_or-set_cases, either}
+use Rattle.tc_code.specs.Instr.{Instr, Load, Load_at, Store, Store_at, Inside, Holds, Lock, Unlock, Sleep, Wake, Signal, Broadcast, Create, Ready, Assert}
+use Rattle.tc_code.specs.Code.{Code}
+use Rattle.tc_base.specs.declared.request.Request.{Request}
+use Rattle.tc_base.specs.declared.request.Request.TheVariants.{WakeOne, Fail}
+use Rattle.tc_code.specs.Step.{request, site, local_after, arguments_of, instr_of, NameSet, is_let, born, perform, step}
+use Rattle.tc_runs.proofs.Basics.{second, index_or-set_cases, either}
 use Rattle.tc_runs.proofs.Names.{tells_names}
 use Rattle.tc_runs.proofs.Steps.{Went, step_went}
 
@@ -59,7 +61,7 @@ SleepsOn (Sleep c m) d = d ≡ c
 SleepsOn _ d = ⊥
 
 -- the thread of a name waits on a condition
-abbrev pub Waits : List Names → ℕ → Name → Type 0
+abbrev pub Waits : List NameSet → ℕ → Name → Type 0
 Waits waiters c n = IsTrue (set.contains (slice_index_or waiters c set.empty) n)
 
 -- who waits after an instruction waited before, or is the thread that sleeps
@@ -68,11 +70,11 @@ StillWaits s u n i = (q : Name) (d : ℕ) → Waits u.waiters d q → Waits s.wa
 
 -- whether the other threads let a request be met; a signal that wakes a thread is another move
 abbrev pub lets : {B : Type 0} → State B → Name → Request → Bool
-lets s n (Wake_one c) = true
+lets s n (WakeOne c) = true
 lets s n r = is_let s n r
 
 -- who waits after one set is written waited before, or is in that set
-waits_after_set : (waiters : List Names) (c d : ℕ) (new : Names) (q : Name) → Waits (slice_set waiters c new) d q → Waits waiters d q ⊎ ((d ≡ c) × IsTrue (set.contains new q))
+waits_after_set : (waiters : List NameSet) (c d : ℕ) (new : NameSet) (q : Name) → Waits (slice_set waiters c new) d q → Waits waiters d q ⊎ ((d ≡ c) × IsTrue (set.contains new q))
 waits_after_set waiters c d new q h =
     elim (index_or-set_cases waiters c d new set.empty) [
       | inl is ↦ inr (is.0, subst (λ ns. IsTrue (set.contains ns q)) is.1 h)
@@ -80,7 +82,7 @@ waits_after_set waiters c d new q h =
     ]
 
 -- who is in the set with one more was there, or is the one
-added : (ns : Names) (n q : Name) → IsTrue (set.contains (set.insert ns n) q) → IsTrue (set.contains ns q) ⊎ (q ≡ n)
+added : (ns : NameSet) (n q : Name) → IsTrue (set.contains (set.insert ns n) q) → IsTrue (set.contains ns q) ⊎ (q ≡ n)
 added ns n q h =
     elim (tells_names q n) [
       | inl e ↦ inr e.1
@@ -88,7 +90,7 @@ added ns n q h =
     ]
 
 -- who waits after a sleep waited before, or is the one that sleeps
-sleeps : (waiters : List Names) (c : ℕ) (n q : Name) (d : ℕ) → Waits (slice_set waiters c (set.insert (slice_index_or waiters c set.empty) n)) d q → Waits waiters d q ⊎ ((d ≡ c) × (q ≡ n))
+sleeps : (waiters : List NameSet) (c : ℕ) (n q : Name) (d : ℕ) → Waits (slice_set waiters c (set.insert (slice_index_or waiters c set.empty) n)) d q → Waits waiters d q ⊎ ((d ≡ c) × (q ≡ n))
 sleeps waiters c n q d h =
     elim (waits_after_set waiters c d _ q h) [
       | inl old ↦ inl old
@@ -99,7 +101,7 @@ sleeps waiters c n q d h =
     ]
 
 -- who waits after a broadcast waited before
-empties : (waiters : List Names) (c d : ℕ) (q : Name) → Waits (slice_set waiters c set.empty) d q → Waits waiters d q
+empties : (waiters : List NameSet) (c d : ℕ) (q : Name) → Waits (slice_set waiters c set.empty) d q → Waits waiters d q
 empties waiters c d q h =
     elim (waits_after_set waiters c d _ q h) [
       | inl old ↦ old
@@ -107,7 +109,7 @@ empties waiters c d q h =
     ]
 
 -- who waits after a signal waited before
-removes : (waiters : List Names) (c : ℕ) (v : Name) (d : ℕ) (q : Name) → Waits (slice_set waiters c (set.remove (slice_index_or waiters c set.empty) v)) d q → Waits waiters d q
+removes : (waiters : List NameSet) (c : ℕ) (v : Name) (d : ℕ) (q : Name) → Waits (slice_set waiters c (set.remove (slice_index_or waiters c set.empty) v)) d q → Waits waiters d q
 removes waiters c v d q h =
     elim (waits_after_set waiters c d _ q h) [
       | inl old ↦ old

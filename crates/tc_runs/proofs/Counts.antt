@@ -1,12 +1,13 @@
 -- A thread counts no further than the moves that led there.
-use Rattle.std.proofs.Common.{◌≡◌, ℕ, ◌+◌, ◌<◌, ◌≤◌, ◌^◌, length, List, Some, refl, sym, subst, arith, ℤ}
+use Rattle.std.proofs.Common.{◌≡◌, ℕ, ◌+◌, ◌<◌, ◌≤◌, ◌^◌, length, List, [], ◌∷◌, Some, refl, sym, subst, arith, ℤ}
+use Rattle.std.proofs.lemmas.Option.{same_Some, option_and_then_some}
 use Rattle.tc_base.specs.Buffers.{BufferOps}
 use Rattle.tc_base.specs.States.{Local, State}
 use Rattle.tc_base.specs.declared.moves.Move.{Move}
-use Rattle.tc_code.specs.Code.{Code, Instr, Branch}
-use Rattle.tc_code.specs.Step.{local_after, opening}
-use Rattle.tc_code.specs.Run.{run}
-use Rattle.tc_code.proofs.Runs.{counted_by_run}
+use Rattle.tc_code.specs.Instr.{Instr, Branch}
+use Rattle.tc_code.specs.Code.{Code}
+use Rattle.tc_code.specs.Step.{local_after, step, opening}
+use Rattle.tc_code.specs.Run.{run, run_from}
 use Rattle.tc_runs.specs.Counters.{CountersAreBelowLast}
 use Rattle.tc_runs.specs.Whole.{AllThreads}
 use Rattle.tc_runs.proofs.After.{branch_is}
@@ -32,6 +33,16 @@ counted_on : (k : ℕ) (old new : Local) → CountsOne old new → CountsUpTo k 
 counted_on k old new one c = record { steps = omega (arith, one.steps, c.steps); children = omega (arith, one.children, c.children) }
 
 module _ {B : Type 0} (ops : BufferOps B) (code : Code) where
+  -- what each step counts one further, a run counts on by the number of its moves
+  counted_by_run : (P : ℕ → State B → Type 0) → ((k : ℕ) (s u : State B) (m : Move) → step ops code s m ≡ Some u → P k s → P (k + 1) u)
+      → (k : ℕ) (s u : State B) (ms : List Move) → run_from ops code s ms ≡ Some u → P k s → P (k + length ms) u
+  counted_by_run P counts k s u [] h p = let e : k ≡ k + 0 = omega arith in subst (λ j. P j u) e (subst (P k) (same_Some s u h) p)
+  counted_by_run P counts k s u (m ∷ ms) h p =
+      option_and_then_some (λ v. run_from ops code v ms) (step ops code s m) u h
+      (λ v one rest.
+      let e : (k + 1) + length ms ≡ k + length (m ∷ ms) = omega arith in
+      subst (λ j. P j u) e (counted_by_run P counts (k + 1) v u ms rest (counts k s v m one p)))
+
   -- each move keeps that
   keeps_counts : (k : ℕ) (s : State B) → Keeps ops code s (CountsUpTo k) (CountsUpTo (k + 1))
   keeps_counts k s = record {
@@ -45,7 +56,7 @@ module _ {B : Type 0} (ops : BufferOps B) (code : Code) where
   counts_of_run moves s leads =
       let e : 0 + length moves ≡ length moves = omega arith in
       subst (λ k. AllThreads (CountsUpTo k) s.threads) e
-      (counted_by_run ops code (λ k (u : State B). AllThreads (CountsUpTo k) u.threads)
+      (counted_by_run (λ k (u : State B). AllThreads (CountsUpTo k) u.threads)
       (λ k v u m h all. all_after_step ops code v u m (CountsUpTo k) (CountsUpTo (k + 1)) (keeps_counts k v) h all)
       0 (opening ops code) s moves leads
       (all_at_opening ops code (CountsUpTo 0) (record { steps = omega arith; children = omega arith })))

@@ -10,7 +10,8 @@ use Rattle.tc_base.specs.Names.{Name, ByName, main, child}
 use Rattle.tc_base.specs.Buffers.{BufferOps}
 use Rattle.tc_base.specs.States.{Thread, State}
 use Rattle.tc_base.specs.declared.moves.Move.{Move}
-use Rattle.tc_code.specs.Code.{Code, Instr, Branch, Create}
+use Rattle.tc_code.specs.Instr.{Instr, Branch, Create}
+use Rattle.tc_code.specs.Code.{Code}
 use Rattle.tc_code.specs.Step.{opening, step}
 use Rattle.tc_code.specs.Run.{IsReached}
 use Rattle.tc_runs.specs.Laws.{IsCreated, ThreadsAreCreated}

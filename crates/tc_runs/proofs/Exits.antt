@@ -1,5 +1,5 @@
 -- A thread has exited exactly where its last instruction was an exit.
-use Rattle.std.proofs.Common.{◌≡◌, ◌∙◌, ℕ, ◌+◌, ◌<◌, length, List, [], Bool, true, false, IsTrue, Option, Some, None, refl, ap, sym, subst, arith, cond, ℤ, slice_get, inl, inr}
+use Rattle.std.proofs.Common.{◌≡◌, ◌∙◌, ℕ, ◌+◌, ◌-◌, ◌<◌, length, List, [], Bool, true, false, IsTrue, Option, Some, None, refl, ap, sym, subst, arith, cond, ℤ, slice_get, inl, inr}
 use Rattle.std.specs.Prelude.{not, ◌==◌, position}
 use Rattle.std.proofs.lemmas.Bool.{false≢true, true≢false, cases_lt, true_from_ne_false}
 use Rattle.std.proofs.lemmas.Bool.Decides.{nat_tests}
@@ -7,60 +7,32 @@ use Rattle.std.proofs.lemmas.List.Quantifiers.{position-Some}
 use Rattle.std.proofs.lemmas.Option.{none-some, same_Some, option_and_then_some, slice_get_within, get_or_from_slice_get}
 use Rattle.tc_base.specs.Buffers.{BufferOps}
 use Rattle.tc_base.specs.States.{Local, State}
-use Rattle.tc_code.specs.Code.{Code, Func, Instr, Branch, Exit, is_bound, is_exit, target, may_stand, ends_in_exit, is_lawful, is_lawful_function}
+use Rattle.tc_code.specs.Instr.{Instr, Branch, Exit}
+use Rattle.tc_code.specs.Code.{Code}
+use Rattle.tc_code.specs.Lawful.{IsLawfulFunction, IsLawful}
+use Rattle.tc_code.specs.declared.code.Func.{Func}
 use Rattle.tc_code.specs.Step.{local_after, instr_of, born}
 use Rattle.tc_code.specs.Run.{IsReached}
-use Rattle.tc_code.proofs.Lawful.{IsPlaced, second, found, unless, placed_next, list_all_at, lawful_functions}
+use Rattle.tc_code.specs.Facts.{IsPlaced, at_its_place, placed_next}
 use Rattle.tc_runs.specs.Laws.{IsPastExit, ExitedPastExit}
 use Rattle.tc_runs.specs.Whole.{AllThreads}
 use Rattle.tc_runs.proofs.After.{Leads, branch_is, after_has, place_after}
-use Rattle.tc_runs.proofs.Bound.{jumps_unbound}
 use Rattle.tc_runs.proofs.AllThreads.{Keeps, all_in_reached}
 
--- the last instruction is the first exit
-record LastIsExit (is : List Instr) : Type 0 where
-  last : ℕ
-  end : last + 1 ≡ length is
-  first : (k : ℕ) (i : Instr) → slice_get is k ≡ Some i → k < last → is_exit i ≡ false
-  exit : (i : Instr) → slice_get is last ≡ Some i → IsTrue (is_exit i)
-
--- in lawful code the last instruction is the first exit
-last_is_exit : (is : List Instr) → IsTrue (ends_in_exit is) → LastIsExit is
-last_is_exit is ends =
-    let at = found (λ k. (k + 1) == length is) (position is_exit is) ends in
-    let where_it_is = position-Some is_exit is at.0 Exit at.1 in
-    record {
-      last = at.0;
-      end = grind (arith, nat_tests, at.2);
-      first = λ k i there before. ap is_exit (sym (get_or_from_slice_get is k i Exit there)) ∙ where_it_is.2 k before;
-      exit = λ i there. ap is_exit (sym (get_or_from_slice_get is at.0 i Exit there)) ∙ where_it_is.1;
-    }
+abbrev is_exit : Instr → Bool
+is_exit Exit = true
+is_exit _ = false
 
 -- after an instruction that isn't an exit there is another
-goes_on_below : (is : List Instr) (k : ℕ) (i : Instr) → IsTrue (ends_in_exit is) → slice_get is k ≡ Some i → is_exit i ≡ false → k + 1 < length is
-goes_on_below is k i ends at other =
-    let l = last_is_exit is ends in
-    elim (cases_lt k l.last) [
-      | inl before ↦ omega (arith, l.end, before)
+goes_on_below : (code : Code) (g : Func) (k : ℕ) (i : Instr) → IsLawfulFunction code g → slice_get g.instrs k ≡ Some i → is_exit i ≡ false → k + 1 < length g.instrs
+goes_on_below code g k i is at other =
+    let within = slice_get_within g.instrs k i at in
+    elim (cases_lt (k + 1) (length g.instrs)) [
+      | inl below ↦ below
       | inr past ↦
-          let same : k ≡ l.last = omega (arith, l.end, past, slice_get_within is k i at) in
-          absurd (true≢false (sym (l.exit i (subst (λ j. slice_get is j ≡ Some i) same at)) ∙ other))
+          let same : k ≡ length g.instrs - 1 = omega (arith, within, past) in
+          absurd (true≢false (sym (ap is_exit (same_Some i Exit (sym at ∙ ap (slice_get g.instrs) same ∙ is.last))) ∙ other))
     ]
-
--- and after an exit there is none
-exit_is_last : (is : List Instr) (k : ℕ) → IsTrue (ends_in_exit is) → slice_get is k ≡ Some Exit → k + 1 ≡ length is
-exit_is_last is k ends at =
-    let l = last_is_exit is ends in
-    elim (cases_lt k l.last) [
-      | inl before ↦ absurd (true≢false (l.first k Exit at before))
-      | inr past ↦ omega (arith, l.end, past, slice_get_within is k Exit at)
-    ]
-
--- a jump leads to an instruction
-jumps_below : (is : List Instr) (k to : ℕ) (i : Instr) → IsTrue (may_stand is k i) → target i ≡ Some to → to < length is
-jumps_below is k to i h leads =
-    let one = found (λ j. not (is_bound j)) (slice_get is to) (jumps_unbound is k i to h leads) in
-    slice_get_within is to one.0 one.1
 
 -- only an exit exits
 after_stays : (t : Local) (i : Instr) (v : ℤ) → is_exit i ≡ false → (local_after t i v).has_exited ≡ t.has_exited
@@ -79,9 +51,9 @@ record Exits (code : Code) (t : Local) : Type 0 where
   below : (g : Func) → t.has_exited ≡ false → slice_get code.functions t.function ≡ Some g → t.instruction < length g.instrs
 
 -- after an instruction that isn't an exit a thread is at an instruction
-next_below : (is : List Instr) (p k : ℕ) (i : Instr) → IsTrue (ends_in_exit is) → IsTrue (may_stand is p i) → slice_get is p ≡ Some i → is_exit i ≡ false → Leads i p k → k < length is
-next_below is p k i ends stands at other (inl next) = omega (arith, next, goes_on_below is p i ends at other)
-next_below is p k i ends stands at other (inr jump) = jumps_below is p k i stands jump
+next_below : (code : Code) (g : Func) (p k : ℕ) (i : Instr) → IsLawfulFunction code g → slice_get g.instrs p ≡ Some i → is_exit i ≡ false → Leads i p k → k < length g.instrs
+next_below code g p k i is at other (inl next) = omega (arith, next, goes_on_below code g p i is at other)
+next_below code g p k i is at other (inr jump) = let to = is.jump p k i at jump in slice_get_within g.instrs k to.instr to.there
 
 -- so the thread stays in its function
 after_other : (code : Code) (t : Local) (i : Instr) (v : ℤ) → IsPlaced code t.function t.instruction i → t.has_exited ≡ false → is_exit i ≡ false → Exits code (local_after t i v)
@@ -90,32 +62,30 @@ after_other code t i v placed here other = record {
   below = λ g not_yet there.
       let same : placed.function ≡ g = same_Some _ _ (sym placed.there ∙ ap (slice_get code.functions) (sym (after_has t i v).function) ∙ there) in
       subst (λ (f : Func). (local_after t i v).instruction < length f.instrs) same
-      (next_below placed.function.instrs t.instruction _ i placed.ends placed.stands placed.at other (place_after t i v));
+      (next_below code placed.function t.instruction _ i placed.lawful placed.at other (place_after t i v));
 }
 
 -- each instruction keeps that
-after_exits : (code : Code) (t : Local) (i : Instr) (v : ℤ) → IsTrue (is_lawful code) → instr_of code t ≡ Some i → Exits code (local_after t i v)
+after_exits : (code : Code) (t : Local) (i : Instr) (v : ℤ) → IsLawful code → instr_of code t ≡ Some i → Exits code (local_after t i v)
 after_exits code t Exit v lawful at = record {
-  past = λ gone. record { place = t.instruction; next = refl; exit = unless t.has_exited _ Exit at };
+  past = λ gone. record { place = t.instruction; next = refl; exit = at_its_place code t Exit at };
   below = λ g not_yet there. absurd (true≢false not_yet);
 }
 after_exits code t i v lawful at = after_other code t i v (placed_next code t i lawful at) (runs t.has_exited _ i at) refl
 
--- a function of lawful code ends in its one exit
-ends_of : (code : Code) (f : ℕ) (g : Func) → IsTrue (is_lawful code) → slice_get code.functions f ≡ Some g → IsTrue (ends_in_exit g.instrs)
-ends_of code f g lawful there = second _ (ends_in_exit g.instrs) (list_all_at (is_lawful_function code) code.functions f g (lawful_functions code lawful) there)
-
--- so it has an instruction
-begins_below : (code : Code) (f : ℕ) (g : Func) → IsTrue (is_lawful code) → slice_get code.functions f ≡ Some g → 0 < length g.instrs
-begins_below code f g lawful there = let l = last_is_exit g.instrs (ends_of code f g lawful there) in omega (arith, l.end)
+-- a function of lawful code has an instruction
+begins_below : (code : Code) (f : ℕ) (g : Func) → IsLawful code → slice_get code.functions f ≡ Some g → 0 < length g.instrs
+begins_below code f g lawful there =
+    let within = slice_get_within g.instrs (length g.instrs - 1) Exit (lawful.functions f g there).last in
+    omega (arith, within)
 
 module _ {B : Type 0} (ops : BufferOps B) (code : Code) where
   -- a new thread is at its first
-  born_exits : (f : ℕ) (vs : List ℤ) → IsTrue (is_lawful code) → Exits code (born ops code f vs).local
+  born_exits : (f : ℕ) (vs : List ℤ) → IsLawful code → Exits code (born ops code f vs).local
   born_exits f vs lawful = record { past = λ gone. absurd (false≢true gone); below = λ g not_yet there. begins_below code f g lawful there }
 
   -- each step keeps that
-  keeps_exits : IsTrue (is_lawful code) → (s : State B) → Keeps ops code s (Exits code) (Exits code)
+  keeps_exits : IsLawful code → (s : State B) → Keeps ops code s (Exits code) (Exits code)
   keeps_exits lawful s = record {
     stays = λ t steps few h. record { past = λ gone. let p = h.past gone in record { place = p.place; next = p.next; exit = p.exit }; below = h.below };
     does = λ u n i g h. after_exits code g.before.local i g.value lawful g.at;
@@ -123,13 +93,13 @@ module _ {B : Type 0} (ops : BufferOps B) (code : Code) where
   }
 
   -- a thread past an exit has exited
-  not_below : (t : Local) (p : IsPastExit code t) → IsTrue (is_lawful code) → Exits code t → t.has_exited ≡ false → ⊥
+  not_below : (t : Local) (p : IsPastExit code t) → IsLawful code → Exits code t → t.has_exited ≡ false → ⊥
   not_below t p lawful h not_yet =
       option_and_then_some (λ g. slice_get g.instrs p.place) (slice_get code.functions t.function) Exit p.exit
-      (λ g there at. omega (arith, p.next, h.below g not_yet there, exit_is_last g.instrs p.place (ends_of code t.function g lawful there) at))
+      (λ g there at. omega (arith, p.next, h.below g not_yet there, (lawful.functions t.function g there).only p.place at))
 
   -- a thread of lawful code has exited exactly where its last instruction was an exit
-  pub exited_past_exit : (s : State B) → IsTrue (is_lawful code) → IsReached ops code s → AllThreads (ExitedPastExit code) s.threads
+  pub exited_past_exit : (s : State B) → IsLawful code → IsReached ops code s → AllThreads (ExitedPastExit code) s.threads
   exited_past_exit s lawful reached n t there =
       let h = all_in_reached ops code (Exits code) (λ v r. keeps_exits lawful v) (born_exits _ [] lawful) s reached n t there in
       (h.past, λ p. true_from_ne_false _ (not_below t.local p lawful h))

@@ -9,10 +9,13 @@ use Rattle.tc_base.specs.Buffers.{BufferOps}
 use Rattle.tc_base.specs.States.{Local, Thread, State}
 use Rattle.tc_base.specs.declared.moves.Move.{Move}
 use Rattle.tc_base.specs.declared.moves.Move.TheVariants as move
-use Rattle.tc_code.specs.Code.{Code, Instr, Signal}
-use Rattle.tc_code.specs.Step.{Request, Read, Write, Wake_one, Start, Fail, request, stepped, local_after, instr_of, loaded, perform, step}
+use Rattle.tc_code.specs.Instr.{Instr, Signal}
+use Rattle.tc_code.specs.Code.{Code}
+use Rattle.tc_base.specs.declared.request.Request.{Request}
+use Rattle.tc_base.specs.declared.request.Request.TheVariants.{Read, Write, WakeOne, Start, Fail}
+use Rattle.tc_code.specs.Step.{request, stepped, local_after, instr_of, loaded, perform, step}
 use Rattle.tc_code.specs.Run.{IsReached, run_from}
-use Rattle.tc_code.proofs.Runs.{step_is_reached}
+use Rattle.tc_code.specs.Facts.{step_is_reached}
 use Rattle.tc_runs.specs.Alone.{Alone, after_request, goes_on, after_steps, taken_by, taken_in, taken_from}
 use Rattle.tc_runs.proofs.Counts.{after_counts}
 use Rattle.tc_runs.proofs.Basics.{either}
@@ -135,7 +138,7 @@ module _ {B : Type 0} (ops : BufferOps B) (code : Code) where
   went_goes s u (move.Wake q v) n t reached w there =
       subst (λ x. Goes x n t []) (sym w.after)
       (own_or_other s _ n q t w.thread (λ b. []) there w.there
-      (does_one _ q w.thread (Signal w.condition) (Wake_one w.condition) w.thread.buffer w.at refl refl (get_put s.threads q _))
+      (does_one _ q w.thread (Signal w.condition) (WakeOne w.condition) w.thread.buffer w.at refl refl (get_put s.threads q _))
       (λ apart. stays_put _ n t t (get_put_apart s.threads q _ n apart ∙ there) refl))
   went_goes s u (move.Drain q form) n t reached w there =
       subst (λ x. Goes x n t []) (sym w.after)

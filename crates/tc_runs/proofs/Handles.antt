@@ -7,13 +7,13 @@ use Rattle.tc_base.specs.Buffers.{BufferOps}
 use Rattle.tc_base.specs.States.{Local, Thread, State}
 use Rattle.tc_base.specs.declared.handle.Handle.{Handle}
 use Rattle.tc_base.specs.declared.handle.Handle.TheVariants.{Unset, Child, Joined}
-use Rattle.tc_code.specs.Code.{Code, Instr, Branch, Create, Join}
-use Rattle.tc_code.specs.Step.{local_after, handle_of, number_of, child_has_exited, tids_of, born}
+use Rattle.tc_code.specs.Instr.{Instr, Branch, Create, Join}
+use Rattle.tc_code.specs.Code.{Code}
+use Rattle.tc_code.specs.Step.{local_after, handle_of, child_number, child_has_exited, tids_of, born}
 use Rattle.tc_code.specs.Run.{IsReached}
-use Rattle.tc_code.proofs.Lawful.{found}
 use Rattle.tc_runs.specs.Laws.{IsChildOf, ThreadsAreCreated, HoldsChild, HandlesAreChildren}
 use Rattle.tc_runs.specs.Whole.{AllThreads}
-use Rattle.tc_runs.proofs.Basics.{some_is, index_or-replicate, index_or-set_cases}
+use Rattle.tc_runs.proofs.Basics.{found, some_is, index_or-replicate, index_or-set_cases}
 use Rattle.tc_runs.proofs.Names.{child_not_main}
 use Rattle.tc_runs.proofs.After.{branch_is}
 use Rattle.tc_runs.proofs.Changes.{Goes}
@@ -41,7 +41,7 @@ still_children_after t u k x written more is all h =
     ])
 
 -- the child that a join waits for, where it isn't none
-joined_child : (t : Local) (x : Handle) → HoldsChild t x → (number_of x ≡ 0 → ⊥) → IsChildOf t (number_of x)
+joined_child : (t : Local) (x : Handle) → HoldsChild t x → (child_number x ≡ 0 → ⊥) → IsChildOf t (child_number x)
 joined_child t Unset is some = absurd (some refl)
 joined_child t (Child k) is some = is
 joined_child t (Joined k) is some = absurd (some refl)
@@ -60,7 +60,7 @@ module _ {B : Type 0} (ops : BufferOps B) (code : Code) where
       omega (arith, c.created.first, zero_th)
 
   -- so a join that is let waits for a child
-  awaited : (s : State B) (n : Name) (t : Local) (x : Handle) → ThreadsAreCreated s → HoldsChild t x → IsTrue (child_has_exited s n (number_of x)) → IsChildOf t (number_of x)
+  awaited : (s : State B) (n : Name) (t : Local) (x : Handle) → ThreadsAreCreated s → HoldsChild t x → IsTrue (child_has_exited s n (child_number x)) → IsChildOf t (child_number x)
   awaited s n t x created is exited = joined_child t x is (λ none. no_child_zero s n created (subst (λ k. IsTrue (child_has_exited s n k)) none exited))
 
   -- an instruction leaves children in all thread variables
@@ -70,7 +70,7 @@ module _ {B : Type 0} (ops : BufferOps B) (code : Code) where
       still_children_after g.before.local _ h (Child (g.before.local.children + 1)) refl (omega arith) (record { first = omega arith; last = omega arith }) all
   does_keep s u n (Join h) created g all =
       let is = awaited s n g.before.local (handle_of g.before.local h) created (all h) g.allowed in
-      still_children_after g.before.local _ h (Joined (number_of (handle_of g.before.local h))) refl (le_refl _) (record { first = is.first; last = is.last }) all
+      still_children_after g.before.local _ h (Joined (child_number (handle_of g.before.local h))) refl (le_refl _) (record { first = is.first; last = is.last }) all
   does_keep s u n i created g all = still_children g.before.local _ refl (le_refl _) all
 
   -- each step does

@@ -5,7 +5,8 @@ use Rattle.tc_base.specs.Names.{Name, ByName, main}
 use Rattle.tc_base.specs.Buffers.{BufferOps}
 use Rattle.tc_base.specs.States.{Local, Thread, State}
 use Rattle.tc_base.specs.declared.moves.Move.{Move}
-use Rattle.tc_code.specs.Code.{Code, Instr, Create}
+use Rattle.tc_code.specs.Instr.{Instr, Create}
+use Rattle.tc_code.specs.Code.{Code}
 use Rattle.tc_code.specs.Step.{step}
 use Rattle.tc_code.specs.Run.{IsReached}
 use Rattle.tc_runs.proofs.Basics.{some_is}

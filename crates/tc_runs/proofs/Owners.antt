@@ -11,19 +11,20 @@ use Rattle.tc_base.specs.Names.{Name, ByName, main, child}
 use Rattle.tc_base.specs.Buffers.{BufferOps}
 use Rattle.tc_base.specs.States.{Local, Thread, State}
 use Rattle.tc_base.specs.declared.moves.Move.{Move}
-use Rattle.tc_code.specs.Code.{Code, Instr, Branch, Lock, Unlock, Sleep, Wake, Create, is_lawful}
+use Rattle.tc_code.specs.Instr.{Instr, Branch, Lock, Unlock, Sleep, Wake, Create}
+use Rattle.tc_code.specs.Code.{Code}
+use Rattle.tc_code.specs.Lawful.{IsLawful}
 use Rattle.tc_code.specs.Step.{holds, waiting_on, is_free, local_after, opening, step}
 use Rattle.tc_code.specs.Run.{IsReached}
-use Rattle.tc_code.proofs.Lawful.{second, placed_next}
 use Rattle.tc_runs.specs.Laws.{OwnersHold}
 use Rattle.tc_runs.specs.Whole.{IsWhole}
-use Rattle.tc_runs.proofs.Basics.{some_is, some_value, index_or-replicate, index_or-set_default}
+use Rattle.tc_runs.proofs.Basics.{second, some_is, some_value, index_or-replicate, index_or-set_default}
 use Rattle.tc_runs.proofs.Names.{same_or_apart, get_put, get_put_apart, get_put_cases, stays_after_put, child_apart}
 use Rattle.tc_runs.proofs.Steps.{holds_in_reached}
 use Rattle.tc_runs.proofs.After.{branch_is}
 use Rattle.tc_runs.proofs.Changes.{Goes, Stays, Went_on, Stayed, Hold, Keeps, Takes, Leaves, hold_of, held_after, owners_after, step_changes}
 use Rattle.tc_runs.proofs.Created.{child_is_new}
-use Rattle.tc_runs.proofs.Whole.{reached_is_whole}
+use Rattle.tc_runs.proofs.Whole.{names_next, reached_is_whole}
 use Rattle.tc_runs.proofs.Bound.{reached_has_tested}
 
 -- a thread with these marks holds the mutex
@@ -148,13 +149,13 @@ module _ {B : Type 0} (ops : BufferOps B) (code : Code) where
         mark = omega (arith, less, (whole.threads n t there).held);
       }
 
-  module _ (s u : State B) (n : Name) (lawful : IsTrue (is_lawful code)) (r : IsReached ops code s) (agree : Agree s.owners s.threads) where
+  module _ (s u : State B) (n : Name) (lawful : IsLawful code) (r : IsReached ops code s) (agree : Agree s.owners s.threads) where
     -- what a thread of lawful code does with mutexes it may
     may_do : (i : Instr) → (g : Goes ops code s u n i) → May s.owners g.before.local.held n (hold_of i)
-    may_do (Lock m) g = may_take s n g.before m (reached_is_whole ops code s lawful r) g.there (placed_next code g.before.local (Lock m) lawful g.at).names g.allowed
+    may_do (Lock m) g = may_take s n g.before m (reached_is_whole ops code s lawful r) g.there (names_next code g.before.local (Lock m) lawful g.at) g.allowed
     may_do (Wake c m) g =
         may_take s n g.before m (reached_is_whole ops code s lawful r) g.there
-        (second (nat_lt c code.conditions) _ (placed_next code g.before.local (Wake c m) lawful g.at).names)
+        (second (nat_lt c code.conditions) _ (names_next code g.before.local (Wake c m) lawful g.at))
         (second (not (set.contains (waiting_on s c) n)) _ g.allowed)
     may_do (Unlock m) g = (agree.holder n g.before m g.there).0 ((reached_has_tested ops code s lawful r n g.before g.there).unlock m g.at)
     may_do (Sleep c m) g = (agree.holder n g.before m g.there).0 ((reached_has_tested ops code s lawful r n g.before g.there).sleep c m g.at)
@@ -182,7 +183,7 @@ module _ {B : Type 0} (ops : BufferOps B) (code : Code) where
         (agree_goes s.owners s.threads n g.before g.after Keeps g.there (ap (λ t. t.held) g.local) tt agree))
 
   -- each step from a reached state keeps that
-  agreed_after_step : IsTrue (is_lawful code) → (s u : State B) (m : Move) → IsReached ops code s → step ops code s m ≡ Some u → Agree s.owners s.threads → Agree u.owners u.threads
+  agreed_after_step : IsLawful code → (s u : State B) (m : Move) → IsReached ops code s → step ops code s m ≡ Some u → Agree s.owners s.threads → Agree u.owners u.threads
   agreed_after_step lawful s u m r one agree =
       elim (step_changes ops code s u m one) [
         | Went_on n i g ↦ agree_went s u n lawful r agree i g
@@ -199,7 +200,7 @@ module _ {B : Type 0} (ops : BufferOps B) (code : Code) where
       })
 
   -- in each reached state of lawful code a thread holds a mutex exactly where it is its owner, and each owner is a thread
-  pub owners_hold : (s : State B) → IsTrue (is_lawful code) → IsReached ops code s → OwnersHold s
+  pub owners_hold : (s : State B) → IsLawful code → IsReached ops code s → OwnersHold s
   owners_hold s lawful r =
       let agree = holds_in_reached ops code (λ u. Agree u.owners u.threads) opening_agrees (agreed_after_step lawful) s r in
       record { holder = agree.holder; there = agree.there }

@@ -9,11 +9,12 @@ use Rattle.tc_base.specs.Buffers.{BufferOps}
 use Rattle.tc_base.specs.States.{Thread, State}
 use Rattle.tc_base.specs.declared.moves.Move.{Move}
 use Rattle.tc_base.specs.declared.moves.Move.TheVariants as move
-use Rattle.tc_code.specs.Code.{Code, Instr, Signal}
+use Rattle.tc_code.specs.Instr.{Instr, Signal}
+use Rattle.tc_code.specs.Code.{Code}
 use Rattle.tc_code.specs.Step.{request, instr_of, allows, perform, waiting_on, woken, drained, step, move_of, run_of, wake_of, drain_of, opening}
 use Rattle.tc_code.specs.Run.{IsReached}
-use Rattle.tc_code.proofs.Lawful.{second, unless}
-use Rattle.tc_code.proofs.Runs.{kept_by_run, opening_is_reached, step_is_reached}
+use Rattle.tc_code.specs.Facts.{kept_by_run, opening_is_reached, step_is_reached}
+use Rattle.tc_runs.proofs.Basics.{second, unless}
 
 module _ {B : Type 0} (ops : BufferOps B) (code : Code) where
   -- a thread does an instruction that it may

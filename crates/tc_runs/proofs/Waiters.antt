@@ -13,12 +13,14 @@ use Rattle.tc_base.specs.Names.{Name}
 use Rattle.tc_base.specs.Buffers.{BufferOps}
 use Rattle.tc_base.specs.States.{Local, Thread, State}
 use Rattle.tc_base.specs.declared.moves.Move.{Move}
-use Rattle.tc_code.specs.Code.{Code, Instr, Sleep, Wake, Create, instr_at, is_holds, is_wake, is_lawful, passes_before}
+use Rattle.tc_code.specs.Instr.{Instr, Sleep, Wake, Create}
+use Rattle.tc_code.specs.Code.{Code, instr_at}
+use Rattle.tc_code.specs.Lawful.{IsLawful}
 use Rattle.tc_code.specs.Step.{is_free, request, instr_of, opening, step}
 use Rattle.tc_code.specs.Run.{IsReached}
-use Rattle.tc_code.proofs.Lawful.{first, second, found, placed_next}
+use Rattle.tc_code.specs.Facts.{placed_next}
 use Rattle.tc_runs.specs.Laws.{IsAtWake, WaitersAreAtWake}
-use Rattle.tc_runs.proofs.Basics.{index_or-replicate, some_is}
+use Rattle.tc_runs.proofs.Basics.{first, index_or-replicate, some_is}
 use Rattle.tc_runs.proofs.Main.{thread_stays}
 use Rattle.tc_runs.proofs.Names.{same_or_apart, one_under, get_put, get_put_apart}
 use Rattle.tc_runs.proofs.Steps.{holds_in_reached}
@@ -29,22 +31,16 @@ use Rattle.tc_runs.proofs.Created.{not_next_child}
 abbrev pub WaitersAreThere : {B : Type 0} → State B → Type 0
 WaitersAreThere s = (q : Name) (d : ℕ) → Waits s.waiters d q → IsSome (fin.get s.threads q)
 
--- what passes for a wake is one
-wake_is : (c m : ℕ) (i : Instr) → IsTrue (is_wake c m i) → i ≡ Wake c m
-wake_is c m (Wake d n) h = ap₂ Wake ((Decides-eqb d c).0 (first _ (n == m) h)) ((Decides-eqb n m).0 (second (d == c) _ h))
-wake_is c m _ h = absurd (true≢false (sym h))
-
 -- a thread that hasn't exited does what stands at the next place
 goes_on : (b : Bool) (o p : Option Instr) (i j : Instr) → (if b then None else o) ≡ Some i → p ≡ Some j → (if b then None else p) ≡ Some j
 goes_on true o p i j at next = absurd (none-some i at)
 goes_on false o p i j at next = next
 
 -- after a sleep a thread is at the wake
-at_wake_after : (code : Code) (t : Local) (c m : ℕ) → IsTrue (is_lawful code) → instr_of code t ≡ Some (Sleep c m) → instr_at code t.function (t.instruction + 1) ≡ Some (Wake c m)
+at_wake_after : (code : Code) (t : Local) (c m : ℕ) → IsLawful code → instr_of code t ≡ Some (Sleep c m) → instr_at code t.function (t.instruction + 1) ≡ Some (Wake c m)
 at_wake_after code t c m lawful at =
     let here = placed_next code t (Sleep c m) lawful at in
-    let wake = found (is_wake c m) (slice_get here.function.instrs (t.instruction + 1)) (second (passes_before (is_holds m) here.function.instrs t.instruction) _ here.stands) in
-    ap (option_and_then (λ f. slice_get f.instrs (t.instruction + 1))) here.there ∙ wake.1 ∙ ap Some (wake_is c m wake.0 wake.2)
+    ap (option_and_then (λ f. slice_get f.instrs (t.instruction + 1))) here.there ∙ here.lawful.wait t.instruction c m here.at
 
 module _ {B : Type 0} (ops : BufferOps B) (code : Code) where
   -- a waiter can't go on
@@ -52,7 +48,7 @@ module _ {B : Type 0} (ops : BufferOps B) (code : Code) where
   waiter_stays s n t i c m is waits may =
       true≢false (sym (first _ (is_free s m) (subst (λ j. IsTrue (lets s n (request t j))) is may)) ∙ not_from_true _ waits)
 
-  module _ (s u : State B) (n : Name) (lawful : IsTrue (is_lawful code)) (r : IsReached ops code s) (all : WaitersAreAtWake code s) where
+  module _ (s u : State B) (n : Name) (lawful : IsLawful code) (r : IsReached ops code s) (all : WaitersAreAtWake code s) where
     -- the other threads stay as they are
     others_stay : (i : Instr) → Goes ops code s u n i → (q : Name) (t : Thread B) → q ≢ n → fin.get s.threads q ≡ Some t → fin.get u.threads q ≡ Some t
     others_stay (Create h f es) g q t apart there =
@@ -111,7 +107,7 @@ module _ {B : Type 0} (ops : BufferOps B) (code : Code) where
         ]
 
   -- each step from a reached state keeps that
-  at_wake_after_step : IsTrue (is_lawful code) → (s u : State B) (m : Move) → IsReached ops code s → step ops code s m ≡ Some u → WaitersAreAtWake code s → WaitersAreAtWake code u
+  at_wake_after_step : IsLawful code → (s u : State B) (m : Move) → IsReached ops code s → step ops code s m ≡ Some u → WaitersAreAtWake code s → WaitersAreAtWake code u
   at_wake_after_step lawful s u m r one all =
       elim (step_changes ops code s u m one) [
         | Went_on n i g ↦ waiters_went s u n lawful r all i g
@@ -124,7 +120,7 @@ module _ {B : Type 0} (ops : BufferOps B) (code : Code) where
       true≢false (sym waits ∙ ap (λ ns. set.contains ns q) (index_or-replicate code.conditions d set.empty) ∙ set.contains-empty (slice_cmp nat_cmp) q)
 
   -- in each reached state of lawful code a waiter is a thread at a wake of that condition
-  pub waiters_are_at_wake : (s : State B) → IsTrue (is_lawful code) → IsReached ops code s → WaitersAreAtWake code s
+  pub waiters_are_at_wake : (s : State B) → IsLawful code → IsReached ops code s → WaitersAreAtWake code s
   waiters_are_at_wake s lawful = holds_in_reached ops code (WaitersAreAtWake code) (λ q d waits. absurd (nobody_waits q d waits)) (at_wake_after_step lawful) s
 
   -- who waits after a step is there, where who waited was

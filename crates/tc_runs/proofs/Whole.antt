@@ -2,7 +2,7 @@
 use Rattle.std.proofs.Common.{◌≡◌, ◌∙◌, ℕ, ◌-◌, ◌≤◌, length, List, [], ◌++◌, map, false, IsTrue, Some, refl, ap, sym, subst, arith, ℤ, pos, replicate, slice_get, nat_lt}
 use Rattle.std.specs.Prelude.{◌==◌}
 use Rattle.std.specs.Option.{option_map_or}
-use Rattle.std.proofs.lemmas.Bool.Decides.{nat_tests}
+use Rattle.std.proofs.lemmas.Bool.Decides.{Decides-eqb}
 use Rattle.std.proofs.lemmas.List.{length-replicate, length-append, length-map, length-set}
 use Rattle.tc_base.specs.Names.{Name}
 use Rattle.tc_base.specs.Buffers.{BufferOps}
@@ -11,12 +11,17 @@ use Rattle.tc_base.specs.declared.handle.Handle.TheVariants.{Unset}
 use Rattle.tc_base.specs.declared.moves.Move.{Move}
 use Rattle.tc_base.specs.declared.moves.Move.TheVariants as move
 use Rattle.tc_code.specs.Expr.{Expr}
-use Rattle.tc_code.specs.Code.{Code, Func, Instr, Create, is_lawful, is_lawful_function}
-use Rattle.tc_code.specs.Step.{Request, Write, Acquire, Release, Begin_wait, End_wait, Wake_all, request, value_in, local_after, instr_of, ints_of, tids_of, born, perform, step, opening}
+use Rattle.tc_code.specs.Instr.{Instr, Create}
+use Rattle.tc_code.specs.Code.{Code}
+use Rattle.tc_code.specs.Lawful.{names_what_is, IsLawful}
+use Rattle.tc_code.specs.declared.code.Func.{Func}
+use Rattle.tc_base.specs.declared.request.Request.{Request}
+use Rattle.tc_base.specs.declared.request.Request.TheVariants.{Write, Acquire, Release, BeginWait, EndWait, WakeAll}
+use Rattle.tc_code.specs.Step.{request, value_in, local_after, instr_of, ints_of, tids_of, born, perform, step, opening}
 use Rattle.tc_code.specs.Run.{IsReached}
-use Rattle.tc_code.proofs.Lawful.{first, second, found, placed_next, main_of, list_all_at, lawful_functions, lawful_params}
+use Rattle.tc_code.specs.Facts.{placed_next}
 use Rattle.tc_runs.specs.Whole.{IsWholeThread, IsWhole}
-use Rattle.tc_runs.proofs.Basics.{either}
+use Rattle.tc_runs.proofs.Basics.{first, second, found, either}
 use Rattle.tc_runs.proofs.After.{HasAsMuch, after_has}
 use Rattle.tc_runs.proofs.Steps.{Went, step_went, holds_in_reached}
 use Rattle.tc_runs.proofs.AllThreads.{Keeps, all_after_step, all_at_opening}
@@ -38,6 +43,10 @@ whole_as code old new h w =
       held = h.held ∙ w.held;
     }
 
+-- what the next instruction of a thread names is there
+pub names_next : (code : Code) (t : Local) (i : Instr) (lawful : IsLawful code) (at : instr_of code t ≡ Some i) → IsTrue (names_what_is code (placed_next code t i lawful at).function i)
+names_next code t i lawful at = let placed = placed_next code t i lawful at in placed.lawful.names t.instruction i placed.at
+
 -- a create of lawful code hands over what the function takes
 record Fits (code : Code) (f n : ℕ) : Type 0 where
   function : Func
@@ -45,10 +54,10 @@ record Fits (code : Code) (f n : ℕ) : Type 0 where
   few : n ≤ function.ints
 
 -- a function of lawful code fits as many values as it has parameters
-fits_params : (code : Code) (f n : ℕ) (g : Func) → IsTrue (is_lawful code) → slice_get code.functions f ≡ Some g → IsTrue (g.params == n) → Fits code f n
+fits_params : (code : Code) (f n : ℕ) (g : Func) → IsLawful code → slice_get code.functions f ≡ Some g → g.params ≡ n → Fits code f n
 fits_params code f n g lawful there same =
-    let params = lawful_params code g (list_all_at (is_lawful_function code) code.functions f g (lawful_functions code lawful) there) in
-    record { function = g; there = there; few = grind (arith, nat_tests, params, same) }
+    let params = (lawful.functions f g there).params in
+    record { function = g; there = there; few = omega (arith, params, same) }
 
 -- values filled up to a number are so many
 filled_up : (vs : List ℤ) (n : ℕ) → length vs ≤ n → length (vs ++ replicate (n - length vs) (pos 0)) ≡ n
@@ -69,14 +78,14 @@ module _ {B : Type 0} (ops : BufferOps B) (code : Code) where
       }
 
   -- a create of lawful code fits
-  child_fits : (t : Local) (h f : ℕ) (es : List Expr) → IsTrue (is_lawful code) → instr_of code t ≡ Some (Create h f es) → Fits code f (length (map (value_in t) es))
+  child_fits : (t : Local) (h f : ℕ) (es : List Expr) → IsLawful code → instr_of code t ≡ Some (Create h f es) → Fits code f (length (map (value_in t) es))
   child_fits t h f es lawful at =
       let placed = placed_next code t (Create h f es) lawful at in
-      let taken = found (λ g. g.params == length es) (slice_get code.functions f) (second (nat_lt h placed.function.tids) _ (first _ _ placed.names)) in
-      subst (Fits code f) (sym (length-map es (value_in t))) (fits_params code f (length es) taken.0 lawful taken.1 taken.2)
+      let taken = found (λ g. g.params == length es) (slice_get code.functions f) (second (nat_lt h placed.function.tids) _ (first _ _ (names_next code t (Create h f es) lawful at))) in
+      subst (Fits code f) (sym (length-map es (value_in t))) (fits_params code f (length es) taken.0 lawful taken.1 ((Decides-eqb _ _).0 taken.2))
 
   -- each step keeps threads whole
-  keeps_whole : IsTrue (is_lawful code) → (s : State B) → Keeps ops code s (IsWholeThread code) (IsWholeThread code)
+  keeps_whole : IsLawful code → (s : State B) → Keeps ops code s (IsWholeThread code) (IsWholeThread code)
   keeps_whole lawful s = record {
     stays = λ t steps few w. whole_as code t (record t { steps = steps }) (record { function = refl; slots = refl; handles = refl; held = refl }) w;
     does = λ u n i g w. whole_as code g.before.local (local_after g.before.local i g.value) (after_has g.before.local i g.value) w;
@@ -89,9 +98,9 @@ module _ {B : Type 0} (ops : BufferOps B) (code : Code) where
       either (SharesAsMuch s) ops.buffered _ _ (record { memory = refl; owners = refl; waiters = refl }) (record { memory = length-set s.memory c v; owners = refl; waiters = refl })
   performed_shares s n t i (Acquire m) = record { memory = refl; owners = length-set s.owners m _; waiters = refl }
   performed_shares s n t i (Release m) = record { memory = refl; owners = length-set s.owners m _; waiters = refl }
-  performed_shares s n t i (Begin_wait c m) = record { memory = refl; owners = length-set s.owners m _; waiters = length-set s.waiters c _ }
-  performed_shares s n t i (End_wait c m) = record { memory = refl; owners = length-set s.owners m _; waiters = refl }
-  performed_shares s n t i (Wake_all c) = record { memory = refl; owners = refl; waiters = length-set s.waiters c _ }
+  performed_shares s n t i (BeginWait c m) = record { memory = refl; owners = length-set s.owners m _; waiters = length-set s.waiters c _ }
+  performed_shares s n t i (EndWait c m) = record { memory = refl; owners = length-set s.owners m _; waiters = refl }
+  performed_shares s n t i (WakeAll c) = record { memory = refl; owners = refl; waiters = length-set s.waiters c _ }
   performed_shares s n t i _ = record { memory = refl; owners = refl; waiters = refl }
 
   -- so does a move
@@ -105,7 +114,7 @@ module _ {B : Type 0} (ops : BufferOps B) (code : Code) where
   step_shares s u m h = went_shares s u m (step_went ops code s u m h)
 
   -- each step keeps the state whole
-  whole_after_step : IsTrue (is_lawful code) → (s u : State B) (m : Move) → step ops code s m ≡ Some u → IsWhole code s → IsWhole code u
+  whole_after_step : IsLawful code → (s u : State B) (m : Move) → step ops code s m ≡ Some u → IsWhole code s → IsWhole code u
   whole_after_step lawful s u m h w =
       let shares = step_shares s u m h in
       record {
@@ -116,16 +125,16 @@ module _ {B : Type 0} (ops : BufferOps B) (code : Code) where
       }
 
   -- the state at the start is whole
-  opening_is_whole : IsTrue (is_lawful code) → IsWhole code (opening ops code)
+  opening_is_whole : IsLawful code → IsWhole code (opening ops code)
   opening_is_whole lawful =
-      let main = main_of code lawful in
+      let main = lawful.main in
       record {
         cells = refl;
         owners = length-replicate code.mutexes _;
         waiters = length-replicate code.conditions _;
-        threads = all_at_opening ops code (IsWholeThread code) (born_is_whole (length code.functions - 1) [] (fits_params code (length code.functions - 1) 0 main.0 lawful main.1 main.2));
+        threads = all_at_opening ops code (IsWholeThread code) (born_is_whole (length code.functions - 1) [] (fits_params code (length code.functions - 1) 0 main.main lawful main.there main.params));
       }
 
   -- each state that a run of lawful code reaches is whole
-  pub reached_is_whole : (s : State B) → IsTrue (is_lawful code) → IsReached ops code s → IsWhole code s
+  pub reached_is_whole : (s : State B) → IsLawful code → IsReached ops code s → IsWhole code s
   reached_is_whole s lawful = holds_in_reached ops code (IsWhole code) (opening_is_whole lawful) (λ v u m r one w. whole_after_step lawful v u m one w) s

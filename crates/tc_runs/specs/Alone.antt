@@ -10,8 +10,11 @@ use Rattle.tc_base.specs.States.{Local, Thread, State}
 use Rattle.tc_base.specs.declared.moves.Move.{Move}
 use Rattle.tc_base.specs.declared.moves.Move.TheVariants as move
 use Rattle.tc_code.specs.Expr.{Expr}
-use Rattle.tc_code.specs.Code.{Code, Instr, Create}
-use Rattle.tc_code.specs.Step.{Request, Read, Fail, request, stepped, value_in, local_after, instr_of, loaded, born, step}
+use Rattle.tc_code.specs.Instr.{Instr, Create}
+use Rattle.tc_code.specs.Code.{Code}
+use Rattle.tc_base.specs.declared.request.Request.{Request}
+use Rattle.tc_base.specs.declared.request.Request.TheVariants.{Read, Fail}
+use Rattle.tc_code.specs.Step.{request, stepped, value_in, local_after, instr_of, loaded, born, step}
 use Rattle.tc_code.specs.Run.{run}
 
 -- a thread, and the values that its further loads take
@@ -61,7 +64,7 @@ module _ {B : Type 0} (ops : BufferOps B) (code : Code) where
     By_parent : (moves : List Move) (s : State B) (p : Name) (t : Thread B) (h f : ℕ) (es : List Expr) → run ops code moves ≡ Some s → fin.get s.threads p ≡ Some t → instr_of code t.local ≡ Some (Create h f es) → Creation (child p (t.local.children + 1)) (moves ++ move.Run p ∷ []) f (map (value_in t.local) es)
 
   -- where the thread of a name began in a run: the first moves create it, and it is at the start of its function
-  pub record Begins (n : Name) (moves : List Move) : Type 0 where
+  pub record Beginning (n : Name) (moves : List Move) : Type 0 where
     pub first : List Move
     pub rest : List Move
     pub split : moves ≡ first ++ rest
@@ -73,7 +76,7 @@ module _ {B : Type 0} (ops : BufferOps B) (code : Code) where
     pub there : fin.get state.threads n ≡ Some (born ops code function arguments)
 
   -- what a thread that began so has by itself after so many steps
-  abbrev pub alone_since : (n : Name) (moves : List Move) → Begins n moves → ℕ → Local
+  abbrev pub alone_since : (n : Name) (moves : List Move) → Beginning n moves → ℕ → Local
   alone_since n moves b k =
       let start = (born ops code b.function b.arguments).local in
       (after_steps code k (record { local = start; values = taken_from b.state n b.rest })).local

@@ -6,8 +6,9 @@ use Rattle.tc_base.specs.Names.{Name, main, child}
 use Rattle.tc_base.specs.States.{Local, Thread, State}
 use Rattle.tc_base.specs.declared.handle.Handle.{Handle}
 use Rattle.tc_base.specs.declared.handle.Handle.TheVariants.{Unset, Child, Joined}
-use Rattle.tc_code.specs.Code.{Code, Unlock, Sleep, Wake, Join, Exit, instr_at}
-use Rattle.tc_code.specs.Step.{holds, is_ready, handle_of, instr_of, waiting_on}
+use Rattle.tc_code.specs.Instr.{Unlock, Sleep, Wake, Join, Exit}
+use Rattle.tc_code.specs.Code.{Code, instr_at}
+use Rattle.tc_code.specs.Step.{holds, can_be_joined, handle_of, instr_of, waiting_on}
 
 -- the owner of a mutex, if it has one
 abbrev pub owner_of : {B : Type 0} → State B → ℕ → Option Name
@@ -22,7 +23,7 @@ pub record OwnersHold {B : Type 0} (s : State B) : Type 0 where
 pub record HasTested (code : Code) (t : Local) : Type 0 where
   pub unlock : (m : ℕ) → instr_of code t ≡ Some (Unlock m) → IsTrue (holds t m)
   pub sleep : (c m : ℕ) → instr_of code t ≡ Some (Sleep c m) → IsTrue (holds t m)
-  pub join : (h : ℕ) → instr_of code t ≡ Some (Join h) → IsTrue (is_ready (handle_of t h))
+  pub join : (h : ℕ) → instr_of code t ≡ Some (Join h) → IsTrue (can_be_joined (handle_of t h))
 
 -- the thread of a name is at a wake of the condition
 pub record IsAtWake {B : Type 0} (code : Code) (s : State B) (c : ℕ) (n : Name) : Type 0 where

@@ -3,7 +3,9 @@ use Rattle.std.specs.Prelude.{◌≡◌, length, Some, slice_get, IsTrue}
 use Rattle.std.specs.FinMap as fin
 use Rattle.tc_base.specs.Names.{Name, ByName}
 use Rattle.tc_base.specs.States.{Local, Thread, State}
-use Rattle.tc_code.specs.Code.{Code, Func, Instr, Load_at, Store_at}
+use Rattle.tc_code.specs.Instr.{Instr, Load_at, Store_at}
+use Rattle.tc_code.specs.Code.{Code}
+use Rattle.tc_code.specs.declared.code.Func.{Func}
 use Rattle.tc_code.specs.Step.{is_within, value_in}
 
 -- a fact of each thread

@@ -8,10 +8,12 @@ ghost use Rattle.tc_base.specs.Buffers.{BufferOps};
 ghost use Rattle.tc_base.specs.Names.{Name, main, child};
 ghost use Rattle.tc_base.specs.States.{State, Thread};
 ghost use Rattle.tc_base.specs.declared.moves.Move.{Move};
-ghost use Rattle.tc_code.specs.Code.{Code, Instr, is_lawful};
+ghost use Rattle.tc_code.specs.Instr.{Instr};
+ghost use Rattle.tc_code.specs.Code.{Code};
+ghost use Rattle.tc_code.specs.Lawful.{IsLawful};
 ghost use Rattle.tc_code.specs.Run.{IsReached, run, run_from};
 ghost use Rattle.tc_code.specs.Step.{step, instr_of};
-ghost use Rattle.tc_runs.specs.Alone.{after_steps, taken_from, Begins, alone_since};
+ghost use Rattle.tc_runs.specs.Alone.{after_steps, taken_from, Beginning, alone_since};
 ghost use Rattle.tc_runs.specs.Laws.{HasTested, OwnersHold, WaitersAreAtWake, ExitedPastExit, ThreadsAreCreated, HandlesAreChildren};
 ghost use Rattle.tc_runs.specs.Whole.{AllThreads, IsWhole, IndexIsWithin};
 
@@ -37,13 +39,13 @@ pub fn main_is_there<B>()
 /// thread variables and marks of held mutexes that its function may name.
 pub fn states_are_whole<B>()
     ensures { (ops : BufferOps B) (code : Code) (s : State B)
-        → IsTrue (is_lawful code) → IsReached ops code s → IsWhole code s }
+        → IsLawful code → IsReached ops code s → IsWhole code s }
 {}
 
 /// The index of an access that a thread does next is inside its array. So no access ever leaves its array.
 pub fn accesses_are_within<B>()
     ensures { (ops : BufferOps B) (code : Code) (s : State B) (n : Name) (t : Thread B) (i : Instr)
-        → IsTrue (is_lawful code) → IsReached ops code s → fin.get s.threads n ≡ Some t
+        → IsLawful code → IsReached ops code s → fin.get s.threads n ≡ Some t
         → instr_of code t.local ≡ Some i → IndexIsWithin t.local i }
 {}
 
@@ -51,25 +53,25 @@ pub fn accesses_are_within<B>()
 /// joined. So the site before it, which tests that, is all that tests it.
 pub fn tests_stand<B>()
     ensures { (ops : BufferOps B) (code : Code) (s : State B)
-        → IsTrue (is_lawful code) → IsReached ops code s → AllThreads (HasTested code) s.threads }
+        → IsLawful code → IsReached ops code s → AllThreads (HasTested code) s.threads }
 {}
 
 /// A thread holds a mutex exactly where it is its owner, and each owner is a thread.
 pub fn owners_hold<B>()
     ensures { (ops : BufferOps B) (code : Code) (s : State B)
-        → IsTrue (is_lawful code) → IsReached ops code s → OwnersHold s }
+        → IsLawful code → IsReached ops code s → OwnersHold s }
 {}
 
 /// A waiter is a thread at a wake of that condition.
 pub fn waiters_are_at_wake<B>()
     ensures { (ops : BufferOps B) (code : Code) (s : State B)
-        → IsTrue (is_lawful code) → IsReached ops code s → WaitersAreAtWake code s }
+        → IsLawful code → IsReached ops code s → WaitersAreAtWake code s }
 {}
 
 /// A thread has exited exactly where its last instruction was an exit.
 pub fn exited_past_exit<B>()
     ensures { (ops : BufferOps B) (code : Code) (s : State B)
-        → IsTrue (is_lawful code) → IsReached ops code s → AllThreads (ExitedPastExit code) s.threads }
+        → IsLawful code → IsReached ops code s → AllThreads (ExitedPastExit code) s.threads }
 {}
 
 /// Each child that a thread has created is a thread, and each thread but main is a child that its parent has
@@ -101,5 +103,5 @@ pub fn threads_go_alone<B>()
 pub fn threads_live_alone<B>()
     ensures { (ops : BufferOps B) (code : Code) (moves : List Move) (s : State B) (n : Name) (t : Thread B)
         → run ops code moves ≡ Some s → fin.get s.threads n ≡ Some t
-        → (b : Begins ops code n moves) × (t.local ≡ alone_since ops code n moves b t.local.steps) }
+        → (b : Beginning ops code n moves) × (t.local ≡ alone_since ops code n moves b t.local.steps) }
 {}

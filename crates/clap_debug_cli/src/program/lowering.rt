@@ -1,6 +1,7 @@
 //! Trees as flat code.
 ghost use Rattle.std.specs.Prelude.{◌≡◌, ◌+◌, ◌<◌, ◌≤◌, ◌^◌, ◌++◌, length, IfOk, OnOk, IfSome, IsTrue, position, bytes_eq};
-ghost use Rattle.tc_code.specs.Seen.{plain_expr, plain_instrs, plain_func};
+ghost use Rattle.tc_code.specs.Seen.{plain_instrs};
+ghost use Rattle.tc_code.specs.SeenExpr.{plain_expr};
 ghost use Rattle.clap_debug_cli.specs.Program.{plain_program, is_well_named};
 ghost use Rattle.clap_debug_cli.specs.Lowering.{cell_of, evaluated_atom, evaluated, lowered_statement, main_of, code_of};
 
@@ -8,7 +9,7 @@ use super::token::Identifier;
 use super::tree::{Atom, Expression, Statement, Tree};
 use std::alloc::{AllocError, Global};
 use tc_base::BinOp;
-use tc_code::{Code, Expr, Func, Instr};
+use tc_code::{Code, Expr, Func, Instr, Instrs};
 
 /// The code of a program.
 pub(crate) fn lower(alloc: Global, tree: &Tree) -> Result<Code, AllocError>
@@ -34,7 +35,7 @@ fn main_of(
 ) -> Result<Func, AllocError>
     requires cells { length globals.now ≤ 1024 }
     requires few { length statements.now ≤ 65536 }
-    ensures { IfOk result (λ main. plain_func main ≡ main_of globals.now statements.now) }
+    ensures { IfOk result (λ main. main ≡ main_of globals.now statements.now) }
 {
     let mut body = Body {
         instrs: Vec::new(alloc),
@@ -48,7 +49,7 @@ fn main_of(
         params: 0,
         ints: body.free,
         tids: 0,
-        instrs: body.instrs,
+        instrs: Instrs::new(body.instrs),
     })
 }
 

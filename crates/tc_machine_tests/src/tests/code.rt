@@ -1,7 +1,7 @@
 //! Codes of a few instructions, all over mutex 0, condition 0, an array of two cells at 0, and slot 0.
 use std::alloc::{AllocError, Global};
 use tc_base::BinOp;
-use tc_code::{Code, Expr, Func, Instr};
+use tc_code::{Code, Expr, Exprs, Func, Instr, Instrs};
 
 /// An instruction.
 #[derive(Clone, Copy)]
@@ -65,7 +65,7 @@ fn instr_of(alloc: Global, op: Op) -> Result<Instr, AllocError> {
         Op::Create(handle, function) => Instr::Create {
             handle,
             function,
-            arguments: vec![in alloc; slot]?,
+            arguments: Exprs::new(vec![in alloc; slot]?),
         },
         Op::Ready(handle) => Instr::Ready { handle },
         Op::Join(handle) => Instr::Join { handle },
@@ -114,7 +114,7 @@ fn func_of(alloc: Global, params: u32, ops: Function) -> Result<Func, AllocError
         params,
         ints: 1,
         tids: 2,
-        instrs,
+        instrs: Instrs::new(instrs),
     })
 }
 

@@ -1,7 +1,7 @@
 use Rattle.std.proofs.Common.{subst, sym}
 use Rattle.tc_base.specs.Buffers.{no_buffer}
 use Rattle.tc_code.specs.Seen.{plain_instr}
-use Rattle.tc_machine.specs.CanDo.{AsksWithin}
+use Rattle.tc_machine.specs.helpers.CanDo.{AsksWithin}
 use Rattle.tc_machine.proofs.Can.{can_ask, asked_is_there}
 use Rattle.tc_machine.proofs.machine.may_run.Goals as goal
 

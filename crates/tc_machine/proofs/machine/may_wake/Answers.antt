@@ -2,7 +2,7 @@ use Rattle.std.proofs.Common.{subst}
 use Rattle.tc_base.specs.Buffers.{no_buffer}
 use Rattle.tc_code.specs.Seen.{plain_instr}
 use Rattle.tc_code.specs.Step.{request}
-use Rattle.tc_machine.specs.CanDo.{AsksWithin}
+use Rattle.tc_machine.specs.helpers.CanDo.{AsksWithin}
 use Rattle.tc_machine.proofs.Can.{asked_is_there}
 use Rattle.tc_machine.proofs.machine.may_wake.Goals as goal
 

@@ -2,8 +2,7 @@ use Rattle.std.proofs.Common.{subst, sym}
 use Rattle.std.specs.Option.{IsSomeAnd}
 use Rattle.tc_base.specs.Buffers.{no_buffer}
 use Rattle.tc_code.specs.Seen.{plain_instr}
-use Rattle.tc_machine.specs.Asked.{plain_request}
-use Rattle.tc_machine.specs.CanDo.{CanPerform}
+use Rattle.tc_machine.specs.helpers.CanDo.{CanPerform}
 use Rattle.tc_machine.proofs.Can.{can_ask, can_perform}
 use Rattle.tc_machine.proofs.machine.run.Goals as goal
 
@@ -14,5 +13,5 @@ request-request-requires c =
 pub perform-requires : goal.perform-requires
 perform-requires c =
     let can = can_perform no_buffer c.args.code.now c.args.state.now c.args.name.now c.in-Some.thread.now (plain_instr c.in-Some-instr.instr.now) c.in-Some-instr.ensures.lawful c.requires.reached (sym c.in-Some.ensures) (sym c.in-Some-instr.ensures.next) c.requires.counters c.in-Some-instr.ensures.room in
-    subst (λ o. IsSomeAnd o (CanPerform c.args.code.now c.args.state.now c.args.name.now (plain_instr c.in-Some-instr.instr.now) (plain_request c.request-request.result))) c.in-Some.ensures
+    subst (λ o. IsSomeAnd o (CanPerform c.args.code.now c.args.state.now c.args.name.now (plain_instr c.in-Some-instr.instr.now) c.request-request.result)) c.in-Some.ensures
     (subst (λ r. CanPerform c.args.code.now c.args.state.now c.args.name.now (plain_instr c.in-Some-instr.instr.now) r c.in-Some.thread.now) (sym c.request-request.ensures) can)

@@ -1,6 +1,6 @@
 use Rattle.std.proofs.Common.{◌≡◌, map, take}
 use Rattle.tc_code.specs.Expr.{value_of}
-use Rattle.tc_code.specs.Seen.{plain_expr}
+use Rattle.tc_code.specs.SeenExpr.{plain_expr}
 use Rattle.tc_machine.proofs.thread.values.Given as goal
 
 abbrev pub invariant-loop-e : goal.invariant-loop-e

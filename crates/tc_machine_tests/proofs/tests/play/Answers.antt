@@ -3,7 +3,7 @@ use Rattle.std.proofs.lemmas.List.{take_more, length-take}
 use Rattle.tc_base.specs.Buffers.{no_buffer}
 use Rattle.tc_code.specs.Run.{run}
 use Rattle.tc_code.specs.Step.{opening}
-use Rattle.tc_code.proofs.Runs.{run_from-step}
+use Rattle.tc_code.specs.Facts.{run_from-step}
 use Rattle.tc_runs.proofs.Counts.{counters_below_last}
 use Rattle.tc_machine_tests.proofs.tests.play.Goals as goal
 

@@ -9,7 +9,7 @@ use Rattle.std.specs.BTreeMap.{get_by}
 use Rattle.tc_code.specs.Code.{Code}
 use Rattle.tc_code.specs.Seen.{plain_instr}
 use Rattle.tc_code.specs.Step.{local_after}
-use Rattle.tc_machine.specs.CanDo.{CanDo}
+use Rattle.tc_machine.specs.helpers.CanDo.{CanDo}
 use Rattle.tc_machine.proofs.ByName.{get_of_entries, map_of_update, insert_same}
 use Rattle.tc_machine.proofs.threads.Threads.advance.Goals as goal
 use Rattle.tc_machine.proofs.threads.Threads.advance.Goals.{in-Some, in-None}

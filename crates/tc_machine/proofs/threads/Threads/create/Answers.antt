@@ -6,7 +6,7 @@ use Rattle.tc_base.specs.States.{Thread}
 use Rattle.tc_code.specs.Code.{Code}
 use Rattle.tc_code.specs.Seen.{plain_instr}
 use Rattle.tc_code.specs.Step.{local_after}
-use Rattle.tc_machine.specs.CanDo.{CanDo}
+use Rattle.tc_machine.specs.helpers.CanDo.{CanDo}
 use Rattle.tc_machine.proofs.ByName.{there_and, after_new, get-insert_new}
 use Rattle.tc_machine.proofs.threads.Threads.create.Goals as goal
 

@@ -1,0 +1,118 @@
+-- Lawful code: what it keeps.
+use Rattle.std.specs.Prelude.{◌≡◌, ℕ, zero, suc, ◌+◌, ◌-◌, ◌<◌, ◌≤◌, List, length, nat_lt, nat_le, ◌==◌, Bool, true, false, not, ◌&&◌, IsTrue, Option, Some, None, slice_get}
+use Rattle.std.specs.List.{list_all}
+use Rattle.std.specs.Option.{option_map_or}
+use Rattle.tc_code.specs.Expr.{Expr, names_slots, names_slot}
+use Rattle.tc_code.specs.Instr.{Instr, Set, Load, Load_at, Store, Store_at, Inside, Branch, Goto, Holds, Lock, Unlock, Sleep, Wake, Signal, Broadcast, Create, Ready, Join, Assert, Fence, Exit}
+use Rattle.tc_code.specs.Code.{Code}
+use Rattle.tc_code.specs.declared.code.Func.{Func}
+
+-- whether a function is there that has so many parameters
+abbrev pub takes : Code → ℕ → ℕ → Bool
+takes code f n = option_map_or (λ g. g.params == n) (slice_get code.functions f) false
+
+-- whether all that an instruction of a function names is there, but for the target of a jump
+abbrev pub names_what_is : Code → Func → Instr → Bool
+names_what_is code f (Set k e) = nat_lt k f.ints && names_slots f.ints e
+names_what_is code f (Load k c) = nat_lt k f.ints && nat_lt c (length code.memory)
+names_what_is code f (Load_at k a len i) = nat_lt k f.ints && nat_le (a + len) (length code.memory) && names_slots f.ints i
+names_what_is code f (Store c e) = nat_lt c (length code.memory) && names_slots f.ints e
+names_what_is code f (Store_at a len i e) = nat_le (a + len) (length code.memory) && names_slots f.ints i && names_slots f.ints e
+names_what_is code f (Inside len i) = names_slots f.ints i
+names_what_is code f (Branch e to) = names_slots f.ints e
+names_what_is code f (Goto to) = true
+names_what_is code f (Holds m) = nat_lt m code.mutexes
+names_what_is code f (Lock m) = nat_lt m code.mutexes
+names_what_is code f (Unlock m) = nat_lt m code.mutexes
+names_what_is code f (Sleep c m) = nat_lt c code.conditions && nat_lt m code.mutexes
+names_what_is code f (Wake c m) = nat_lt c code.conditions && nat_lt m code.mutexes
+names_what_is code f (Signal c) = nat_lt c code.conditions
+names_what_is code f (Broadcast c) = nat_lt c code.conditions
+names_what_is code f (Create h g es) = nat_lt h f.tids && takes code g (length es) && list_all (names_slots f.ints) es
+names_what_is code f (Ready h) = nat_lt h f.tids
+names_what_is code f (Join h) = nat_lt h f.tids
+names_what_is code f (Assert e) = names_slots f.ints e
+names_what_is code f Fence = true
+names_what_is code f Exit = true
+
+-- whether an instruction goes only with the one directly before it
+abbrev pub is_bound : Instr → Bool
+is_bound (Unlock m) = true
+is_bound (Sleep c m) = true
+is_bound (Wake c m) = true
+is_bound (Join h) = true
+is_bound _ = false
+
+-- the slot that an instruction writes, if it writes one
+abbrev pub written : Instr → Option ℕ
+written (Set k e) = Some k
+written (Load k c) = Some k
+written (Load_at k a len i) = Some k
+written _ = None
+
+-- the place that an instruction may jump to, if there is one
+abbrev pub target : Instr → Option ℕ
+target (Branch e to) = Some to
+target (Goto to) = Some to
+target _ = None
+
+-- whether an instruction leaves the slots of an expression as they are
+abbrev pub keeps : Expr → Instr → Bool
+keeps e i = option_map_or (λ k. not (names_slot k e)) (written i) true
+
+-- an instruction stands directly before a place
+abbrev pub StandsBefore : List Instr → ℕ → Instr → Type 0
+StandsBefore is zero i = ⊥
+StandsBefore is (suc k) i = slice_get is k ≡ Some i
+
+-- a jump may lead to a place: an instruction is there, and doesn't go only with the one before it
+pub record IsTarget (is : List Instr) (k : ℕ) : Type 0 where
+  pub instr : Instr
+  pub there : slice_get is k ≡ Some instr
+  pub unbound : is_bound instr ≡ false
+
+-- the test of an index at a place stands for the access at k: in between nothing writes a slot of the index, and a
+-- jump that leads there comes from there
+pub record Guards (is : List Instr) (len : ℕ) (index : Expr) (place k : ℕ) : Type 0 where
+  pub before : place < k
+  pub test : slice_get is place ≡ Some (Inside len index)
+  pub kept : (at : ℕ) (i : Instr) → slice_get is at ≡ Some i → place < at → at < k → IsTrue (keeps index i)
+  pub enters : (from to : ℕ) (i : Instr) → slice_get is from ≡ Some i → target i ≡ Some to → place < to → to ≤ k → (place < from) × (from < k)
+
+-- the index of the access at k was tested
+abbrev pub IsGuarded : List Instr → ℕ → Expr → ℕ → Type 0
+IsGuarded is len index k = (place : ℕ) × Guards is len index place k
+
+pub record IsLawfulFunction (code : Code) (f : Func) : Type 0 where
+  -- parameters are slots
+  pub params : f.params ≤ f.ints
+  -- all that an instruction names is there
+  pub names : (k : ℕ) (i : Instr) → slice_get f.instrs k ≡ Some i → IsTrue (names_what_is code f i)
+  -- a jump leads to an instruction, and not in between two that go together
+  pub jump : (k to : ℕ) (i : Instr) → slice_get f.instrs k ≡ Some i → target i ≡ Some to → IsTarget f.instrs to
+  -- a mutex is left, and a wait begins, directly after the test that the thread holds the mutex
+  pub unlock : (k m : ℕ) → slice_get f.instrs k ≡ Some (Unlock m) → StandsBefore f.instrs k (Holds m)
+  pub sleep : (k c m : ℕ) → slice_get f.instrs k ≡ Some (Sleep c m) → StandsBefore f.instrs k (Holds m)
+  -- the two halves of a wait stand together
+  pub wait : (k c m : ℕ) → slice_get f.instrs k ≡ Some (Sleep c m) → slice_get f.instrs (k + 1) ≡ Some (Wake c m)
+  pub wake : (k c m : ℕ) → slice_get f.instrs k ≡ Some (Wake c m) → StandsBefore f.instrs k (Sleep c m)
+  -- a child is joined directly after the test that it can be
+  pub join : (k h : ℕ) → slice_get f.instrs k ≡ Some (Join h) → StandsBefore f.instrs k (Ready h)
+  -- the index of an access was tested
+  pub load : (k slot first len : ℕ) (index : Expr) → slice_get f.instrs k ≡ Some (Load_at slot first len index) → IsGuarded f.instrs len index k
+  pub store : (k first len : ℕ) (index value : Expr) → slice_get f.instrs k ≡ Some (Store_at first len index value) → IsGuarded f.instrs len index k
+  -- the last instruction is an exit, and no other is
+  pub last : slice_get f.instrs (length f.instrs - 1) ≡ Some Exit
+  pub only : (k : ℕ) → slice_get f.instrs k ≡ Some Exit → k + 1 ≡ length f.instrs
+
+-- main is there, the last function, and has no parameters
+pub record HasMain (code : Code) : Type 0 where
+  pub main : Func
+  pub there : slice_get code.functions (length code.functions - 1) ≡ Some main
+  pub params : main.params ≡ 0
+
+pub record IsLawful (code : Code) : Type 0 where
+  -- memory has at most 1024 cells
+  pub cells : length code.memory ≤ 1024
+  pub functions : (f : ℕ) (g : Func) → slice_get code.functions f ≡ Some g → IsLawfulFunction code g
+  pub main : HasMain code

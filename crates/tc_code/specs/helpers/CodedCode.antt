@@ -1,0 +1,23 @@
+-- No promise speaks of this file: code as stored data.
+use Rattle.std.specs.Prelude.{ℕ, ℤ, List, refl}
+use Rattle.std.specs.Coded.{Coded, code_by, coded_ℕ, coded_ℤ, coded_list, coded×}
+use Rattle.tc_code.specs.Instr.{Instr}
+use Rattle.tc_code.specs.Code.{Code}
+use Rattle.tc_code.specs.declared.code.Func.{Func}
+use Rattle.tc_code.specs.helpers.CodedInstr.{coded_instr}
+
+abbrev pub coded_func : Coded Func
+coded_func =
+    code_by ((ℕ × ℕ) × (ℕ × List Instr))
+    (coded× (coded× coded_ℕ coded_ℕ) (coded× coded_ℕ (coded_list coded_instr)))
+    (λ f. ((f.params, f.ints), (f.tids, f.instrs)))
+    (λ p. record { params = p.0.0; ints = p.0.1; tids = p.1.0; instrs = p.1.1 })
+    (λ _. refl)
+
+abbrev pub coded_code : Coded Code
+coded_code =
+    code_by ((List ℤ × List Func) × (ℕ × ℕ))
+    (coded× (coded× (coded_list coded_ℤ) (coded_list coded_func)) (coded× coded_ℕ coded_ℕ))
+    (λ c. ((c.memory, c.functions), (c.mutexes, c.conditions)))
+    (λ p. record { memory = p.0.0; mutexes = p.1.0; conditions = p.1.1; functions = p.0.1 })
+    (λ _. refl)
