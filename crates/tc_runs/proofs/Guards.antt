@@ -14,7 +14,7 @@ use Rattle.tc_base.specs.States.{Local, Thread, State}
 use Rattle.tc_base.specs.declared.arith.UnOp.{UnOp}
 use Rattle.tc_base.specs.declared.arith.UnOp.TheVariants.{Neg, Not, Inv}
 use Rattle.tc_base.specs.declared.arith.BinOp.{BinOp}
-use Rattle.tc_base.specs.declared.arith.BinOp.TheVariants.{Add, Sub, Mul, And, Or, Xor, Eq, Ne, Lt, Le, Gt, Ge}
+use Rattle.tc_base.specs.declared.arith.BinOp.TheVariants.{Add, Sub, Mul, And, Or, Xor, Eq, Ne, Lt, Le, Gt, Ge, Div, Rem, Shl, Shr}
 use Rattle.tc_code.specs.Expr.{Expr, Number, Slot, Unary, Binary, value_of, names_slot, same_expr}
 use Rattle.tc_code.specs.Code.{Code, Func, Instr, Set, Load, Load_at, Store_at, Inside, Branch, keeps, target, is_inside, enters_from_between, guards, is_guarded, passes, is_lawful}
 use Rattle.tc_code.specs.Step.{is_within, value_in, request, local_after, instr_of}
@@ -46,6 +46,10 @@ binary_same Lt Lt h = refl
 binary_same Le Le h = refl
 binary_same Gt Gt h = refl
 binary_same Ge Ge h = refl
+binary_same Div Div h = refl
+binary_same Rem Rem h = refl
+binary_same Shl Shl h = refl
+binary_same Shr Shr h = refl
 binary_same _ _ h = absurd (false≢true h)
 
 -- and so are expressions
