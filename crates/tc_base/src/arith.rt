@@ -6,7 +6,7 @@ ghost use Rattle.tc_base.specs.Arith.{plus, minus, times, negated, is_zero, quot
 ghost use Rattle.tc_base.specs.Arith as arithmetic;
 
 /// An operator over one value.
-#[derive(Clone, Copy, Debug, PartialEq, Eq)]
+#[derive(Clone, Copy, Debug, PartialEq, Eq, Hash)]
 pub enum UnOp {
     /// `-`
     Neg,
@@ -17,7 +17,7 @@ pub enum UnOp {
 }
 
 /// An operator over two values.
-#[derive(Clone, Copy, Debug, PartialEq, Eq)]
+#[derive(Clone, Copy, Debug, PartialEq, Eq, Hash)]
 pub enum BinOp {
     /// `+`
     Add,
