@@ -37,7 +37,7 @@ bit_at-number f (suc n) i two less = elim (eq-or-lt_of_le (i_below i n less)) [
 number_is : (m : ℕ) (f : ℕ → ℕ) → m < 2 ^ 32 → ((i : ℕ) → f i < 2) → ((i : ℕ) → i < 32 → bit_at m i ≡ f i) → m ≡ number f 32
 number_is m f below two same = same_from_bits_below 32 m (number f 32) below (number-below f 32 two) (λ i less. same i less ∙ sym (bit_at-number f 32 i two less))
 
-unsigned-below : (a : ℤ) → FitsSigned w32 a → cast_unsigned w32 a < 2 ^ 32
+pub unsigned-below : (a : ℤ) → FitsSigned w32 a → cast_unsigned w32 a < 2 ^ 32
 unsigned-below (pos n) h = omega (arith, h)
 unsigned-below (negsuc n) h = omega (arith, h)
 

@@ -1,11 +1,11 @@
 -- Arithmetic of `int`: 32 bits, two's complement, wrapping.
-use Rattle.std.specs.Prelude.{ℕ, zero, suc, ◌+◌, ◌-◌, ◌*◌, ◌%◌, ◌^◌, min, max, Bool, true, false, not, ℤ, pos, ◌+ℤ◌, ◌-ℤ◌, ◌*ℤ◌, neg_ℤ, int_lt, int_le}
-use Rattle.std.specs.Int.{w32, int_wrap, bit_at, cast_unsigned, cast_signed}
+use Rattle.std.specs.Prelude.{ℕ, zero, suc, ◌+◌, ◌-◌, ◌*◌, ◌/◌, ◌%◌, ◌^◌, min, max, Bool, true, false, not, ◌&&◌, if◌then◌else◌, ℤ, pos, negsuc, ◌+ℤ◌, ◌-ℤ◌, ◌*ℤ◌, neg_ℤ, unsigned_abs, int_lt, int_le}
+use Rattle.std.specs.Int.{w32, int_wrap, int_div_euclid, is_negative, bit_at, cast_unsigned, cast_signed}
 use Rattle.std.specs.Ordering.{int_eq}
 use Rattle.tc_base.specs.declared.arith.UnOp.{UnOp}
 use Rattle.tc_base.specs.declared.arith.UnOp.TheVariants.{Neg, Not, Inv}
 use Rattle.tc_base.specs.declared.arith.BinOp.{BinOp}
-use Rattle.tc_base.specs.declared.arith.BinOp.TheVariants.{Add, Sub, Mul, And, Or, Xor, Eq, Ne, Lt, Le, Gt, Ge}
+use Rattle.tc_base.specs.declared.arith.BinOp.TheVariants.{Add, Sub, Mul, And, Or, Xor, Eq, Ne, Lt, Le, Gt, Ge, Div, Rem, Shl, Shr}
 
 -- a whole number, brought into the range of `int` modulo 2 ^ 32
 abbrev pub wrapped : ℤ → ℤ
@@ -26,6 +26,39 @@ times a b = wrapped (a *ℤ b)
 -- the number with its sign changed, wrapped
 abbrev pub negated : ℤ → ℤ
 negated a = wrapped (neg_ℤ a)
+
+-- the whole number of a magnitude, negative where the flag is set
+abbrev pub with_sign : Bool → ℕ → ℤ
+with_sign false n = pos n
+with_sign true n = neg_ℤ (pos n)
+
+-- whether exactly one of two numbers is negative
+abbrev pub signs_differ : ℤ → ℤ → Bool
+signs_differ (pos _) (negsuc _) = true
+signs_differ (negsuc _) (pos _) = true
+signs_differ _ _ = false
+
+-- the quotient of the magnitudes, negative where the signs differ, wrapped; 0 where the divisor is 0
+abbrev pub quotient : ℤ → ℤ → ℤ
+quotient a b =
+    if int_eq b (pos 0) then pos 0 else wrapped (with_sign (signs_differ a b) (unsigned_abs a / unsigned_abs b))
+
+-- the remainder of the magnitudes, negative where the dividend is; 0 where the divisor is 0
+abbrev pub remainder : ℤ → ℤ → ℤ
+remainder a b =
+    if int_eq b (pos 0) then pos 0 else with_sign (is_negative a) (unsigned_abs a % unsigned_abs b)
+
+-- whether a shift has this distance: from 0 to 31
+abbrev pub is_distance : ℤ → Bool
+is_distance k = int_le (pos 0) k && int_le k (pos 31)
+
+-- the product with 2 ^ k, wrapped; 0 where k is no distance
+abbrev pub shifted_left : ℤ → ℤ → ℤ
+shifted_left a k = if is_distance k then times a (pos (2 ^ unsigned_abs k)) else pos 0
+
+-- the quotient by 2 ^ k rounded down, so that what remains isn't negative; 0 where k is no distance
+abbrev pub shifted_right : ℤ → ℤ → ℤ
+shifted_right a k = if is_distance k then int_div_euclid a (pos (2 ^ unsigned_abs k)) else pos 0
 
 -- the bit at a place of a number's 32 bits in two's complement
 abbrev pub bit : ℤ → ℕ → ℕ
@@ -101,6 +134,10 @@ binary Lt a b = less a b
 binary Le a b = less_or_equal a b
 binary Gt a b = less b a
 binary Ge a b = less_or_equal b a
+binary Div a b = quotient a b
+binary Rem a b = remainder a b
+binary Shl a b = shifted_left a b
+binary Shr a b = shifted_right a b
 
 -- whether two operators are the same
 abbrev pub same_unary : UnOp → UnOp → Bool
@@ -122,4 +159,8 @@ same_binary Lt Lt = true
 same_binary Le Le = true
 same_binary Gt Gt = true
 same_binary Ge Ge = true
+same_binary Div Div = true
+same_binary Rem Rem = true
+same_binary Shl Shl = true
+same_binary Shr Shr = true
 same_binary _ _ = false

@@ -2,11 +2,11 @@
 //!
 //! Tests give 1 where they hold and 0 where they don't, as in C.
 ghost use Rattle.std.specs.Prelude.{◌≡◌};
-ghost use Rattle.tc_base.specs.Arith.{plus, minus, times, negated, is_zero, bits_inverted, bits_and, bits_or, bits_xor, equal, unequal, less, less_or_equal};
+ghost use Rattle.tc_base.specs.Arith.{plus, minus, times, negated, is_zero, quotient, remainder, shifted_left, shifted_right, bits_inverted, bits_and, bits_or, bits_xor, equal, unequal, less, less_or_equal};
 ghost use Rattle.tc_base.specs.Arith as arithmetic;
 
 /// An operator over one value.
-#[derive(Clone, Copy, Debug, PartialEq, Eq)]
+#[derive(Clone, Copy, Debug, PartialEq, Eq, Hash)]
 pub enum UnOp {
     /// `-`
     Neg,
@@ -17,7 +17,7 @@ pub enum UnOp {
 }
 
 /// An operator over two values.
-#[derive(Clone, Copy, Debug, PartialEq, Eq)]
+#[derive(Clone, Copy, Debug, PartialEq, Eq, Hash)]
 pub enum BinOp {
     /// `+`
     Add,
@@ -43,6 +43,14 @@ pub enum BinOp {
     Gt,
     /// `>=`, which is `<=` with the sides changed
     Ge,
+    /// `/`
+    Div,
+    /// `%`
+    Rem,
+    /// `<<`
+    Shl,
+    /// `>>`
+    Shr,
 }
 
 /// `a + b`.
@@ -143,6 +151,50 @@ pub fn le(a: i32, b: i32) -> i32
     i32::from(a <= b)
 }
 
+/// `a / b`, truncated towards zero, as in C; the least `int` by -1, which C leaves open, is the least `int`.
+///
+/// A divisor of 0 gives 0, so that the function is total. Code tests the divisor before.
+#[tactic(auto, using(crate::proofs::Wraps::wraps))]
+pub fn div(a: i32, b: i32) -> i32
+    ensures { result ≡ quotient a b }
+{
+    if b == 0 { 0 } else { a.wrapping_div(b) }
+}
+
+/// `a % b`, with the sign of `a`, as in C; the least `int` by -1 leaves 0.
+///
+/// A divisor of 0 gives 0, so that the function is total. Code tests the divisor before.
+pub fn rem(a: i32, b: i32) -> i32
+    ensures { result ≡ remainder a b }
+{
+    if b == 0 { 0 } else { a.wrapping_rem(b) }
+}
+
+/// `<<`, whose bits past the 32nd are lost.
+///
+/// A distance outside 0 to 31 gives 0, so that the function is total. Code tests the distance before.
+#[tactic(auto, using(crate::proofs::Wraps::wraps))]
+pub fn shl(a: i32, distance: i32) -> i32
+    ensures { result ≡ shifted_left a distance }
+{
+    match distance {
+        0..=31 => a << distance,
+        _ => 0,
+    }
+}
+
+/// `>>`, which copies the sign's bit into the places that are left.
+///
+/// A distance outside 0 to 31 gives 0, so that the function is total. Code tests the distance before.
+pub fn shr(a: i32, distance: i32) -> i32
+    ensures { result ≡ shifted_right a distance }
+{
+    match distance {
+        0..=31 => a >> distance,
+        _ => 0,
+    }
+}
+
 /// What the operator gives of a value.
 pub fn unary(op: UnOp, a: i32) -> i32
     ensures { result ≡ arithmetic.unary op a }
@@ -171,114 +223,9 @@ pub fn binary(op: BinOp, a: i32, b: i32) -> i32
         BinOp::Le => le(a, b),
         BinOp::Gt => lt(b, a),
         BinOp::Ge => le(b, a),
-    }
-}
-
-#[cfg(test)]
-mod tests {
-    use super::{BinOp, UnOp, binary, unary};
-
-    #[test]
-    fn sums_differences_and_products_wrap(rt: HostRuntime) {
-        for (op, a, b, want) in [
-            (BinOp::Add, 2, 3, 5),
-            (BinOp::Add, i32::MAX, 1, i32::MIN),
-            (BinOp::Add, i32::MIN, i32::MIN, 0),
-            (BinOp::Add, i32::MIN, i32::MAX, -1),
-            (BinOp::Add, i32::MAX, i32::MAX, -2),
-            (BinOp::Sub, 2, 3, -1),
-            (BinOp::Sub, i32::MIN, 1, i32::MAX),
-            (BinOp::Sub, i32::MIN, i32::MAX, 1),
-            (BinOp::Sub, i32::MAX, i32::MIN, -1),
-            (BinOp::Sub, 0, i32::MIN, i32::MIN),
-            (BinOp::Mul, -2, 3, -6),
-            (BinOp::Mul, 46341, 46341, -2_147_479_015),
-            (BinOp::Mul, 65536, 65536, 0),
-            (BinOp::Mul, i32::MIN, -1, i32::MIN),
-            (BinOp::Mul, i32::MIN, i32::MAX, i32::MIN),
-            (BinOp::Mul, i32::MAX, i32::MAX, 1),
-        ] {
-            assert_eq!(rt; binary(op, a, b), want, "{a} {op:?} {b}");
-        }
-    }
-
-    #[test]
-    fn bits_of_two_numbers(rt: HostRuntime) {
-        for (op, a, b, want) in [
-            (BinOp::And, 12, 10, 8),
-            (BinOp::And, -1, 255, 255),
-            (BinOp::And, i32::MIN, i32::MAX, 0),
-            (BinOp::And, i32::MIN, -1, i32::MIN),
-            (BinOp::Or, 12, 10, 14),
-            (BinOp::Or, i32::MIN, 1, -2_147_483_647),
-            (BinOp::Or, i32::MIN, i32::MAX, -1),
-            (BinOp::Or, i32::MAX, 0, i32::MAX),
-            (BinOp::Xor, 12, 10, 6),
-            (BinOp::Xor, -1, i32::MAX, i32::MIN),
-            (BinOp::Xor, i32::MIN, i32::MAX, -1),
-            (BinOp::Xor, i32::MIN, i32::MIN, 0),
-        ] {
-            assert_eq!(rt; binary(op, a, b), want, "{a} {op:?} {b}");
-        }
-    }
-
-    #[test]
-    fn equal_and_different_numbers(rt: HostRuntime) {
-        for (a, b, are_equal) in [
-            (0, 0, 1),
-            (-1, 1, 0),
-            (i32::MIN, i32::MIN, 1),
-            (i32::MAX, i32::MAX, 1),
-            (i32::MIN, i32::MAX, 0),
-            (i32::MIN, 0, 0),
-        ] {
-            assert_eq!(rt; binary(BinOp::Eq, a, b), are_equal, "{a} == {b}");
-            assert_eq!(rt; binary(BinOp::Ne, a, b), 1 - are_equal, "{a} != {b}");
-        }
-    }
-
-    #[test]
-    fn order_is_signed(rt: HostRuntime) {
-        for (op, a, b, want) in [
-            (BinOp::Lt, i32::MIN, i32::MAX, 1),
-            (BinOp::Lt, i32::MAX, i32::MIN, 0),
-            (BinOp::Lt, -1, 0, 1),
-            (BinOp::Lt, 7, 7, 0),
-            (BinOp::Le, i32::MIN, i32::MAX, 1),
-            (BinOp::Le, i32::MAX, i32::MIN, 0),
-            (BinOp::Le, 0, -1, 0),
-            (BinOp::Le, 7, 7, 1),
-            (BinOp::Gt, i32::MIN, i32::MAX, 0),
-            (BinOp::Gt, i32::MAX, i32::MIN, 1),
-            (BinOp::Gt, 0, -1, 1),
-            (BinOp::Gt, 7, 7, 0),
-            (BinOp::Ge, i32::MIN, i32::MAX, 0),
-            (BinOp::Ge, i32::MAX, i32::MIN, 1),
-            (BinOp::Ge, -1, 0, 0),
-            (BinOp::Ge, 7, 7, 1),
-        ] {
-            assert_eq!(rt; binary(op, a, b), want, "{a} {op:?} {b}");
-        }
-    }
-
-    #[test]
-    fn operators_over_one_value(rt: HostRuntime) {
-        for (op, a, want) in [
-            (UnOp::Neg, 5, -5),
-            (UnOp::Neg, 0, 0),
-            (UnOp::Neg, i32::MAX, -2_147_483_647),
-            (UnOp::Neg, i32::MIN, i32::MIN),
-            (UnOp::Not, 0, 1),
-            (UnOp::Not, 5, 0),
-            (UnOp::Not, -1, 0),
-            (UnOp::Not, i32::MIN, 0),
-            (UnOp::Not, i32::MAX, 0),
-            (UnOp::Inv, 0, -1),
-            (UnOp::Inv, 5, -6),
-            (UnOp::Inv, i32::MAX, i32::MIN),
-            (UnOp::Inv, i32::MIN, i32::MAX),
-        ] {
-            assert_eq!(rt; unary(op, a), want, "{op:?} {a}");
-        }
+        BinOp::Div => div(a, b),
+        BinOp::Rem => rem(a, b),
+        BinOp::Shl => shl(a, b),
+        BinOp::Shr => shr(a, b),
     }
 }

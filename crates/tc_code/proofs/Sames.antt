@@ -7,7 +7,7 @@ use Rattle.tc_base.specs.Arith.{same_unary, same_binary}
 use Rattle.tc_base.specs.declared.arith.UnOp.{UnOp}
 use Rattle.tc_base.specs.declared.arith.UnOp.TheVariants.{Neg, Not, Inv}
 use Rattle.tc_base.specs.declared.arith.BinOp.{BinOp}
-use Rattle.tc_base.specs.declared.arith.BinOp.TheVariants.{Add, Sub, Mul, And, Or, Xor, Eq, Ne, Lt, Le, Gt, Ge}
+use Rattle.tc_base.specs.declared.arith.BinOp.TheVariants.{Add, Sub, Mul, And, Or, Xor, Eq, Ne, Lt, Le, Gt, Ge, Div, Rem, Shl, Shr}
 use Rattle.tc_code.specs.Expr.{Expr, Number, Slot, Unary, Binary}
 use Rattle.tc_code.specs.Instr.{Instr, Inside, Holds, Sleep, Wake, Ready, Exit}
 use Rattle.tc_code.specs.helpers.Tests.{same_expr, is_holds, is_sleep, is_wake, is_ready, is_inside, is_exit}
@@ -37,6 +37,10 @@ binary_same Lt Lt h = refl
 binary_same Le Le h = refl
 binary_same Gt Gt h = refl
 binary_same Ge Ge h = refl
+binary_same Div Div h = refl
+binary_same Rem Rem h = refl
+binary_same Shl Shl h = refl
+binary_same Shr Shr h = refl
 binary_same _ _ h = absurd (false≢true h)
 
 binary_is_same : (a : BinOp) → IsTrue (same_binary a a)
@@ -52,6 +56,10 @@ binary_is_same Lt = refl
 binary_is_same Le = refl
 binary_is_same Gt = refl
 binary_is_same Ge = refl
+binary_is_same Div = refl
+binary_is_same Rem = refl
+binary_is_same Shl = refl
+binary_is_same Shr = refl
 
 expr_same : (a b : Expr) → IsTrue (same_expr a b) → a ≡ b
 expr_same (Number m) (Number n) h = ap Number ((Decides-int_eq m n).0 h)

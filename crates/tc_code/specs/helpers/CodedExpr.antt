@@ -3,7 +3,7 @@ use Rattle.std.specs.Prelude.{◌≡◌, ℕ, ℤ, List, [], ◌∷◌, ◌++◌
 use Rattle.std.proofs.Common.{ap, ◌∙◌, inl, inr}
 use Rattle.std.specs.Coded.{Coded, code_by, coded_ℕ, coded_ℤ, coded_list, coded⊎}
 use Rattle.tc_base.specs.declared.arith.BinOp.{BinOp}
-use Rattle.tc_base.specs.declared.arith.BinOp.TheVariants.{Add, Sub, Mul, And, Or, Xor, Eq, Ne, Lt, Le, Gt, Ge}
+use Rattle.tc_base.specs.declared.arith.BinOp.TheVariants.{Add, Sub, Mul, And, Or, Xor, Eq, Ne, Lt, Le, Gt, Ge, Div, Rem, Shl, Shr}
 use Rattle.tc_base.specs.declared.arith.UnOp.{UnOp}
 use Rattle.tc_base.specs.declared.arith.UnOp.TheVariants.{Neg, Not, Inv}
 use Rattle.tc_code.specs.Expr.{Expr, Number, Slot, Unary, Binary}
@@ -38,9 +38,13 @@ binary_number Lt = 8
 binary_number Le = 9
 binary_number Gt = 10
 binary_number Ge = 11
+binary_number Div = 12
+binary_number Rem = 13
+binary_number Shl = 14
+binary_number Shr = 15
 
 abbrev binary_op : ℕ → BinOp
-binary_op n = get_or (Add ∷ Sub ∷ Mul ∷ And ∷ Or ∷ Xor ∷ Eq ∷ Ne ∷ Lt ∷ Le ∷ Gt ∷ Ge ∷ []) n Add
+binary_op n = get_or (Add ∷ Sub ∷ Mul ∷ And ∷ Or ∷ Xor ∷ Eq ∷ Ne ∷ Lt ∷ Le ∷ Gt ∷ Ge ∷ Div ∷ Rem ∷ Shl ∷ Shr ∷ []) n Add
 
 pub binary_op-binary_number : (op : BinOp) → binary_op (binary_number op) ≡ op
 binary_op-binary_number Add = refl
@@ -55,6 +59,10 @@ binary_op-binary_number Lt = refl
 binary_op-binary_number Le = refl
 binary_op-binary_number Gt = refl
 binary_op-binary_number Ge = refl
+binary_op-binary_number Div = refl
+binary_op-binary_number Rem = refl
+binary_op-binary_number Shl = refl
+binary_op-binary_number Shr = refl
 
 abbrev parts : Expr → List Part
 parts (Number n) = inl (inl n) ∷ []

@@ -1,0 +1,5 @@
+//! Arithmetic of `int` at its edges.
+#![tactic(auto)]
+
+#[cfg(test)]
+mod tests;
