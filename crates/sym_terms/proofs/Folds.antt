@@ -1,14 +1,14 @@
 -- The values of a list of nodes, of its beginnings, and of a longer list.
 use Rattle.std.proofs.Common.{◌≡◌, ℕ, ◌+◌, ◌<◌, ◌≤◌, min, List, [], ◌∷◌, ◌++◌, length, get_or, take, drop, ℤ, pos, refl, ap, sym, subst, ◌∙◌, arith, length-append}
 use Rattle.std.specs.Prelude.{fold}
-use Rattle.std.proofs.lemmas.List.{append-nil, append_assoc, take-append-drop, length-take, length-take-le, get_or_append_left}
+use Rattle.std.proofs.lemmas.List.{append-nil, append_assoc, take-append-drop, length-take, length-take-le, take-append-le, get_or_append_left}
 use Rattle.std.proofs.Math.Seq.{get_or-append_seam}
 use Rattle.tc_base.specs.Arith.{unary, binary}
 use Rattle.std.proofs.lemmas.List.Sums.{fold-append, fold_push, fold_more}
 use Rattle.sym_terms.specs.declared.node.Node.{Node}
 use Rattle.sym_terms.specs.declared.node.Node.TheVariants.{Constant, Symbol, Unary, Binary}
 use Rattle.sym_terms.specs.Terms.{NamesBelow}
-use Rattle.sym_terms.specs.Values.{node_value, values_of, value_of}
+use Rattle.sym_terms.specs.Values.{node_value, values_of, value_of, Table, AreKnown}
 
 abbrev pub step : List ℤ → List ℤ → Node → List ℤ
 step loads known node = known ++ node_value known loads node ∷ []
@@ -28,29 +28,36 @@ pub length_values : (nodes : List Node) (loads : List ℤ) → length (values_of
 length_values nodes loads = length_fold loads [] nodes ∙ omega arith
 
 -- so a name's value stays
-pub keep : (nodes more : List Node) (loads : List ℤ) (id : ℕ) → id < length nodes → value_of (nodes ++ more) loads id ≡ value_of nodes loads id
+pub keep : (nodes more : List Node) (loads : List ℤ) (id : ℕ) → id < length nodes
+    → value_of (nodes ++ more) loads id ≡ value_of nodes loads id
 keep nodes more loads id within =
     let e = extends loads (values_of nodes loads) more in
     let inside : id < length (values_of nodes loads) = omega (arith, within, length_values nodes loads) in
-    ap (λ vs. get_or vs id (pos 0)) (fold-append (step loads) [] nodes more ∙ e.1) ∙ get_or_append_left (values_of nodes loads) e.0 (pos 0) id inside
+    ap (λ vs. get_or vs id (pos 0)) (fold-append (step loads) [] nodes more ∙ e.1)
+    ∙ get_or_append_left (values_of nodes loads) e.0 (pos 0) id inside
 
 -- the first nodes have the values that they have among all
-pub of_first : (nodes : List Node) (loads : List ℤ) (n id : ℕ) → n ≤ length nodes → id < n → value_of (take n nodes) loads id ≡ value_of nodes loads id
+pub of_first : (nodes : List Node) (loads : List ℤ) (n id : ℕ) → n ≤ length nodes → id < n
+    → value_of (take n nodes) loads id ≡ value_of nodes loads id
 of_first nodes loads n id within below =
     let there : id < length (take n nodes) = omega (arith, below, length-take-le n nodes within) in
     sym (keep (take n nodes) (drop n nodes) loads id there) ∙ ap (λ ns. value_of ns loads id) (take-append-drop n nodes)
 
 -- the next value is that of the next node over those before it
-pub next : (nodes : List Node) (loads : List ℤ) (n : ℕ) (d : Node) → n < length nodes → values_of (take (n + 1) nodes) loads ≡ step loads (values_of (take n nodes) loads) (get_or nodes n d)
+pub next : (nodes : List Node) (loads : List ℤ) (n : ℕ) (d : Node) → n < length nodes
+    → values_of (take (n + 1) nodes) loads ≡ step loads (values_of (take n nodes) loads) (get_or nodes n d)
 next nodes loads n d within = fold_more (step loads) [] nodes n d within
 
 -- a node's value needs only the values of those that it names
-of_named : (loads before all : List ℤ) (n : ℕ) (node : Node) → ((k : ℕ) → k < n → get_or before k (pos 0) ≡ get_or all k (pos 0)) → NamesBelow n node
+of_named : (loads before all : List ℤ) (n : ℕ) (node : Node)
+    → ((k : ℕ) → k < n → get_or before k (pos 0) ≡ get_or all k (pos 0)) → NamesBelow n node
     → node_value before loads node ≡ node_value all loads node
 of_named loads before all n (Constant m) same names = refl
 of_named loads before all n (Symbol k) same names = refl
 of_named loads before all n (Unary op a) same names = ap (unary op) (same a names)
-of_named loads before all n (Binary op a b) same names = ap (λ x. binary op x (get_or before b (pos 0))) (same a names.0) ∙ ap (binary op (get_or all a (pos 0))) (same b names.1)
+of_named loads before all n (Binary op a b) same names =
+    ap (λ x. binary op x (get_or before b (pos 0))) (same a names.0)
+    ∙ ap (binary op (get_or all a (pos 0))) (same b names.1)
 
 -- the value of a name is that of its node
 pub of_node : (nodes : List Node) (loads : List ℤ) (n : ℕ) (d : Node) → n < length nodes → NamesBelow n (get_or nodes n d)
@@ -77,3 +84,8 @@ pub known_value : (nodes : List Node) (loads known : List ℤ) (id : ℕ) → kn
     → get_or known id (pos 0) ≡ value_of nodes loads id
 known_value nodes loads known id are below =
     ap (λ vs. get_or vs id (pos 0)) are ∙ of_first nodes loads (length known) id (known_within nodes loads known are) below
+
+-- a table stays right when there are more nodes
+pub stays_known : (nodes more : List Node) (table : Table) → AreKnown nodes table → AreKnown (nodes ++ more) table
+stays_known nodes more table are =
+    are ∙ ap (λ ns. values_of ns table.symbols) (sym (take-append-le (length table.known) nodes more (known_within nodes table.symbols table.known are)))

@@ -1,9 +1,12 @@
 -- The program's test of two nodes is that of the definitions, and passes only for one and the same node.
-use Rattle.std.proofs.Common.{◌≡◌, ℕ, Bool, true, false, ◌&&◌, ◌==◌, refl, ap, sym, ◌∙◌, rules}
+use Rattle.std.proofs.Common.{◌≡◌, ℕ, Bool, true, false, ◌&&◌, ◌==◌, refl, ap, sym, subst, ◌∙◌, rules}
 use Rattle.std.specs.Ordering.{int_eq}
 use Rattle.std.proofs.lemmas.Bool.{false≢true}
 use Rattle.std.proofs.lemmas.Bool.Decides.{Decides-int_eq, Decides-eqb}
-use denote.Enum.Bare.{sameb, same_true}
+use Rattle.std.specs.Bool.{Decides, one_answer}
+use Rattle.std.specs.Cmp.{IsEquivalence}
+use Rattle.std.proofs.lemmas.Bool.{eq-eqb}
+use denote.Enum.Bare.{sameb, same_true, true_same}
 use Rattle.tc_base.specs.Arith.{same_unary, same_binary}
 use Rattle.tc_base.specs.declared.arith.UnOp.{UnOp}
 use Rattle.tc_base.specs.declared.arith.UnOp.TheVariants.{Neg, Not, Inv}
@@ -77,6 +80,9 @@ second : (p q : Bool) → (p && q) ≡ true → q ≡ true
 second true q h = h
 second false q h = absurd (false≢true h)
 
+both : (p q : Bool) → p ≡ true → q ≡ true → (p && q) ≡ true
+both p q g h = rw (g, h) refl
+
 -- two nodes that are the same are one
 pub same_one : (a b : Node) → same_node a b ≡ true → a ≡ b
 same_one (Constant m) (Constant n) h = ap Constant ((Decides-int_eq m n).0 h)
@@ -90,3 +96,22 @@ same_one (Binary op a b) (Binary oq c d) h =
     ∙ ap (λ x. Binary oq x b) ((Decides-eqb a c).0 (first (a == c) (b == d) parts))
     ∙ ap (Binary oq c) ((Decides-eqb b d).0 (second (a == c) (b == d) parts))
 same_one _ _ h = absurd (false≢true h)
+
+same_self : (a : Node) → same_node a a ≡ true
+same_self (Constant m) = (Decides-int_eq m m).1 refl
+same_self (Symbol k) = eq-eqb k k refl
+same_self (Unary op a) = both (same_unary op op) (a == a) (sym (unary_eq op op) ∙ true_same unary_type op op refl) (eq-eqb a a refl)
+same_self (Binary op a b) =
+    both (same_binary op op) (a == a && b == b) (sym (binary_eq op op) ∙ true_same binary_type op op refl)
+    (both (a == a) (b == b) (eq-eqb a a refl) (eq-eqb b b refl))
+
+-- the test tells whether two nodes are one
+pub same_decides : (a b : Node) → Decides (same_node a b) (a ≡ b)
+same_decides a b = (same_one a b, λ e. subst (λ n. same_node a n ≡ true) e (same_self a))
+
+pub same_equivalence : IsEquivalence same_node
+same_equivalence = record {
+  refl = same_self;
+  symm = λ a b. one_answer (same_node a b) (same_node b a) (same_decides a b) ((λ h. sym (same_one b a h), λ e. (same_decides b a).1 (sym e)));
+  congr = λ a b n h. ap (λ k. same_node k n) (same_one a b h);
+}

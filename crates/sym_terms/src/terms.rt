@@ -10,7 +10,7 @@ use std::marker::Model;
 use tc_base::{BinOp, UnOp};
 
 /// Distinct nodes, each of which names earlier ones. A name stays valid, and means the same, while terms are added.
-#[derive(Drop)]
+#[derive(Debug, Drop)]
 pub struct Terms {
     nodes: IndexSet<Node>,
 }

@@ -1,5 +1,5 @@
 //! What terms come to.
-ghost use Rattle.std.specs.Prelude.{◌≡◌, ◌<◌, ◌≤◌, [], length, IfOk};
+ghost use Rattle.std.specs.Prelude.{◌≡◌, ◌+◌, ◌<◌, ◌≤◌, max, [], length, IfOk};
 ghost use Rattle.sym_terms.specs.Terms.{NamesBelow};
 ghost use Rattle.sym_terms.specs.Values.{AreKnown, node_value, value_of};
 
@@ -31,6 +31,7 @@ impl Values {
         ensures symbols { IfOk result (λ values. values.symbols ≡ loads.now) }
         ensures known { IfOk result (λ values. values.known ≡ []) }
         ensures room { IfOk result (λ values. values.room ≡ length terms.now) }
+        ensures right { IfOk result (λ values. AreKnown terms.now values) }
     {
         Ok(Values {
             symbols: loads.to_vec(alloc)?,
@@ -45,8 +46,7 @@ pub fn value(terms: &Terms, id: Id, values: &mut Values) -> i32
     requires room { length terms.now ≤ values.old.room }
     requires known { AreKnown terms.now values.old }
     ensures value { result ≡ value_of terms.now values.old.symbols id }
-    ensures computed { id < length values.new.known }
-    ensures kept { length values.old.known ≤ length values.new.known }
+    ensures computed { length values.new.known ≡ max (length values.old.known) (id + 1) }
     ensures known { AreKnown terms.now values.new }
     ensures symbols { values.new.symbols ≡ values.old.symbols }
     ensures room { values.old.room ≤ values.new.room }

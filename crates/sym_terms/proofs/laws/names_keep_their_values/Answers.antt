@@ -1,9 +1,8 @@
-use Rattle.sym_terms.proofs.Growth.{grows}
-use Rattle.sym_terms.proofs.Folds.{keep}
+use Rattle.sym_terms.proofs.Folds.{keep, stays_known}
 use Rattle.sym_terms.proofs.laws.names_keep_their_values.Goals as goal
 
-pub returns-clause-grow : goal.returns-clause-grow
-returns-clause-grow c = grows
+pub returns-clause-names : goal.returns-clause-names
+returns-clause-names c = keep
 
-pub returns-clause-keep : goal.returns-clause-keep
-returns-clause-keep c = keep
+pub returns-clause-tables : goal.returns-clause-tables
+returns-clause-tables c = stays_known

@@ -1,4 +1,4 @@
-use Rattle.std.proofs.Common.{◌≡◌, ℕ, ◌+◌, ◌-◌, ◌≤◌, length, take, vec_capacity}
+use Rattle.std.proofs.Common.{◌≡◌, ℕ, ◌+◌, ◌-◌, ◌≤◌, length, max, take, vec_capacity}
 use Rattle.sym_terms.specs.Values.{values_of}
 use Rattle.sym_terms.proofs.values.value.Given as goal
 
@@ -9,6 +9,7 @@ invariant-loop-nodes l = record {
   room : vec_capacity l.initial.values-inside.known ≤ vec_capacity l.values-inside.known;
   spare : length l.nodes ≤ vec_capacity l.values-inside.known;
   kept : length l.initial.values-inside.known.items ≤ length l.values-inside.known.items;
+  needed : length l.values-inside.known.items ≤ max (length l.initial.values-inside.known.items) (l.id + 1);
 }
 
 abbrev pub decreases-loop-nodes : goal.decreases-loop-nodes
