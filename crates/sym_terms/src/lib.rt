@@ -1,0 +1,12 @@
+//! Terms over the values that loads take. Each distinct term is one node, which names the nodes of its parts, so that a
+//! value that is used again and again is kept once.
+#![tactic(auto)]
+
+pub mod laws;
+mod node;
+mod terms;
+mod values;
+
+pub use node::{Id, Node};
+pub use terms::Terms;
+pub use values::{Values, value};

@@ -1,0 +1,50 @@
+//! Nodes, and their names.
+ghost use Rattle.std.specs.Prelude.{◌≡◌};
+
+use std::marker::Model;
+use tc_base::{BinOp, UnOp};
+
+/// The name of a term: the place of its node.
+#[derive(Clone, Copy, Debug, PartialEq, Eq, Hash)]
+pub struct Id {
+    place: usize,
+}
+
+impl Model for Id {
+    ghost use Rattle.std.specs.Prelude.{ℕ};
+
+    ghost Value = { ℕ };
+
+    ghost view = { λ a. a.place };
+
+    ghost inverse = { λ place. record { place = place } };
+}
+
+impl Id {
+    /// The name of the node at a place.
+    pub(crate) fn at(place: usize) -> Id
+        ensures { result ≡ place }
+    {
+        Id { place }
+    }
+
+    /// The place of the node among the nodes of the terms.
+    pub fn place(self) -> usize
+        ensures { result ≡ self }
+    {
+        self.place
+    }
+}
+
+/// The operator of a term, with the names of its parts.
+#[derive(Clone, Copy, Debug, PartialEq, Eq, Hash)]
+pub enum Node {
+    /// A number.
+    Constant(i32),
+    /// The value that the load of that number takes.
+    Symbol(u32),
+    /// An operator over one term.
+    Unary(UnOp, Id),
+    /// An operator over two terms.
+    Binary(BinOp, Id, Id),
+}
