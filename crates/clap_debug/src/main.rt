@@ -2,21 +2,27 @@
 #![tactic(auto)]
 
 use clap_debug_cli::clap_debug;
-use std::env;
+use std::io::ErrorKind;
 use std::process::ExitCode;
+use std::{env, io};
 use tc_io::files::{FileShelf, StdSink};
 
 /// The status where the words find no memory.
 const NO_MEMORY: u8 = 9;
 
+/// The words. Where one is no text there are none, which is answered by the usage.
+fn words_of(rt: &(impl Env + AllocGlobal)) -> io::Result<Vec<String>> {
+    match env::args(rt) {
+        Ok(words) => Ok(words.collect(rt.alloc())?),
+        Err(fault) if fault.kind() == ErrorKind::InvalidData => Ok(Vec::new(rt.alloc())),
+        Err(fault) => Err(fault),
+    }
+}
+
 fn main(rt: HostRuntime) -> ExitCode {
-    let Ok(args) = env::args(&rt) else {
+    let Ok(words) = words_of(&rt) else {
         return ExitCode::from(NO_MEMORY);
     };
-    let Ok(words) = args.collect(rt.alloc()) else {
-        return ExitCode::from(NO_MEMORY);
-    };
-    let words: Vec<String> = words;
     let mut shelf = FileShelf::new(&rt);
     let mut sink = StdSink::new(rt.stdout());
     ExitCode::from(clap_debug(rt.alloc(), &words, &mut shelf, &mut sink))

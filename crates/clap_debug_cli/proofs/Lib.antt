@@ -10,3 +10,4 @@ pub mod OneVerdict
 pub mod OneAnswer
 pub mod Statuses
 pub mod Calls
+pub mod Fetches

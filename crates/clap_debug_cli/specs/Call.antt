@@ -1,6 +1,6 @@
--- What a call of the program answers, over what the shelf and the sink tell.
-use Rattle.std.specs.Prelude.{◌≡◌, ◌≢◌, ℕ, ◌⊎◌, List, Option, Some, None, IfSome, IsSome, IsSomeAnd}
-use Rattle.tc_io.specs.Outside.{Fault, Reading, Files, Rose, TookMore, Wrote, WrotePart}
+-- What a call of the program answers, over what the shelf and the sink tell before and after it.
+use Rattle.std.specs.Prelude.{◌≡◌, ◌≢◌, ℕ, ◌+◌, ◌⊎◌, List, Option, None, IfSome, IsSomeAnd}
+use Rattle.tc_io.specs.Outside.{Files, Reading, ShelfTells, SinkTells, Gave, FailedOnce, WasTooLong, Wrote, WrotePart}
 use Rattle.clap_debug_cli.specs.Words.{Names, words_taken}
 use Rattle.clap_debug_cli.specs.Answers.{Answer, Usage, ReadFault, TooLong, Refused, Replayed, NoMemory, Texts, texts_under, IsTooLong, IsRefused, IsReplayed, IsAnswerTo, limit_of, line_of, status_of}
 use Rattle.clap_debug_cli.specs.declared.replay.Verdict.{Verdict}
@@ -8,84 +8,96 @@ use Rattle.clap_debug_cli.specs.declared.replay.Verdict.TheVariants as verdict
 use Rattle.clap_debug_cli.specs.declared.input.Input.{Input}
 use Rattle.clap_debug_cli.specs.declared.input.Input.TheVariants as input
 
--- what a shelf tells, and how often it failed and how much was taken before and after a call
-pub record ShelfCall : Type 0 where
-  pub held : Option Files
-  pub faults_before : ℕ
-  pub faults_after : ℕ
-  pub taken_before : ℕ
-  pub taken_after : ℕ
-  pub last_fault : Option Fault
+-- the word that names an input
+abbrev pub word_of : Names → Input → List ℕ
+word_of names input.Program = names.program
+word_of names input.Log = names.log
+word_of names input.Schedule = names.schedule
 
--- the name is one of the three words
-abbrev pub IsNamed : Names → List ℕ → Type 0
-IsNamed names name = (name ≡ names.program) ⊎ (name ≡ names.log) ⊎ (name ≡ names.schedule)
+-- the shelf gave these bytes of an input
+abbrev pub GaveInput : Names → Input → ShelfTells → ShelfTells → List ℕ → Type 0
+GaveInput names i old new bytes = Gave old new (word_of names i) (limit_of i) bytes
+
+-- the shelf gave the inputs before this one, and nothing else
+abbrev pub CameTo : Names → Input → ShelfTells → ShelfTells → Type 0
+CameTo names input.Program old new = new ≡ old
+CameTo names input.Log old new = (program : List ℕ) × GaveInput names input.Program old new program
+CameTo names input.Schedule old new =
+    (s : ShelfTells) × (program : List ℕ) × GaveInput names input.Program old s program × (log : List ℕ) × GaveInput names input.Log s new log
+
+-- the shelf gave the three inputs, and nothing else
+pub record GaveAll (names : Names) (old new : ShelfTells) (t : Texts) : Type 0 where
+  pub after_program : ShelfTells
+  pub after_log : ShelfTells
+  pub program : GaveInput names input.Program old after_program t.program
+  pub log : GaveInput names input.Log after_program after_log t.log
+  pub schedule : GaveInput names input.Schedule after_log new t.schedule
+
+-- the shelf gave the inputs before one of this name, and failed at that
+pub record FailsToRead (names : Names) (old new : ShelfTells) (name : List ℕ) : Type 0 where
+  pub input : Input
+  pub named : name ≡ word_of names input
+  pub before : ShelfTells
+  pub came : CameTo names input old before
+  pub failed : FailedOnce before new (Reading name) (limit_of input + 1)
+
+-- the shelf gave the inputs before this one, and this one is too long
+pub record PassesLimit (names : Names) (old new : ShelfTells) (i : Input) : Type 0 where
+  pub before : ShelfTells
+  pub came : CameTo names i old before
+  pub too_long : WasTooLong before new (word_of names i) (limit_of i)
+
+-- why an answer is given: what the words are, what the shelf did, and what the bytes that it gave say
+abbrev pub IsCause : List (List ℕ) → ShelfTells → ShelfTells → Answer → Type 0
+IsCause words old new Usage = (words_taken words ≡ None) × (new ≡ old)
+IsCause words old new (ReadFault name) = IsSomeAnd (words_taken words) (λ names. FailsToRead names old new name)
+IsCause words old new (TooLong i) = IsSomeAnd (words_taken words) (λ names. PassesLimit names old new i)
+IsCause words old new NoMemory = Unit {0}
+IsCause words old new a = IsSomeAnd (words_taken words) (λ names. (t : Texts) × GaveAll names old new t × IsAnswerTo t a)
+
+-- the answer's line stands at the end of what was written
+abbrev pub Puts : SinkTells → SinkTells → Answer → Type 0
+Puts old new a = Wrote old new (line_of a)
+
+-- the sink failed after a part of the answer's line
+abbrev pub FailsToPut : SinkTells → SinkTells → Answer → Type 0
+FailsToPut old new a = WrotePart old new (line_of a)
+
+-- nothing was written, or that there is no memory
+abbrev pub PutsAtMostNoMemory : SinkTells → SinkTells → Type 0
+PutsAtMostNoMemory old new = (new ≡ old) ⊎ Puts old new NoMemory
+
+-- the answer was put, or the put failed; or memory was wanted then, and that was put, or not even that
+abbrev pub Says : Answer → ℕ → SinkTells → SinkTells → Type 0
+Says a status old new =
+    ((status ≡ status_of a) × Puts old new a) ⊎ ((status ≡ 8) × FailsToPut old new a)
+    ⊎ ((status ≡ 9) × PutsAtMostNoMemory old new) ⊎ ((status ≡ 8) × FailsToPut old new NoMemory)
+
+-- the answers that every call may give, by status, over what the shelf and the sink tell before and after it
+pub record CallAnswers (words : List (List ℕ)) (old new : ShelfTells) (status : ℕ) (before after : SinkTells) : Type 0 where
+  pub usage : status ≡ 2 → IsCause words old new Usage × Puts before after Usage
+  -- where the words aren't taken the shelf is as before
+  pub only_usage : words_taken words ≡ None → (new ≡ old) × ((status ≡ 2) ⊎ (status ≡ 8) ⊎ (status ≡ 9))
+  pub limit : status ≡ 6 → (i : Input) × IsCause words old new (TooLong i) × Puts before after (TooLong i)
+  pub read_fault : status ≡ 7 → (name : List ℕ) × IsCause words old new (ReadFault name) × Puts before after (ReadFault name)
+  pub write_fault : status ≡ 8 → (a : Answer) × IsCause words old new a × FailsToPut before after a
+  pub no_memory : status ≡ 9 → PutsAtMostNoMemory before after
+  -- in all other cases an answer was put with its status, and has its cause
+  pub answer : (status ≡ 8 → ⊥) → (status ≡ 9 → ⊥) → (a : Answer) × IsCause words old new a × (status ≡ status_of a) × Puts before after a
+  -- no name of the shelf changes
+  pub kept : new.held ≡ old.held
 
 -- a fact about the three files, where the words are taken and the shelf tells what it holds
 abbrev pub IfTold : List (List ℕ) → Option Files → (Texts → Type 0) → Type 0
 IfTold words held P = IfSome (words_taken words) (λ names. IfSome held (λ files. P (texts_under files names)))
 
--- the shelf failed, and last at a read of that input
-pub record FailsToRead (words : List (List ℕ)) (s : ShelfCall) (name : List ℕ) : Type 0 where
-  pub rose : Rose s.faults_before s.faults_after
-  pub last : s.last_fault ≡ Some (Reading name)
-  pub input : IsSomeAnd (words_taken words) (λ names. IsNamed names name)
-
--- more than the input's limit was taken, and where the shelf tells, the input is the first that is too long
-pub record PassesLimit (words : List (List ℕ)) (s : ShelfCall) (i : Input) : Type 0 where
-  pub taken : IsSome (words_taken words)
-  pub took : TookMore (limit_of i) s.taken_before s.taken_after
-  pub told : IfTold words s.held (λ t. IsTooLong t i)
-
--- why an answer is given
-abbrev pub IsCause : List (List ℕ) → ShelfCall → Answer → Type 0
-IsCause words s Usage = words_taken words ≡ None
-IsCause words s (ReadFault name) = FailsToRead words s name
-IsCause words s (TooLong i) = PassesLimit words s i
-IsCause words s NoMemory = Unit {0}
-IsCause words s a = IsSome (words_taken words) × IfTold words s.held (λ t. IsAnswerTo t a)
-
--- what a sink tells was written, and how often it failed, before and after a call
-pub record SinkCall : Type 0 where
-  pub written_before : Option (List ℕ)
-  pub written_after : Option (List ℕ)
-  pub faults_before : ℕ
-  pub faults_after : ℕ
-
--- the answer's line stands at the end of what was written
-abbrev pub Puts : SinkCall → Answer → Type 0
-Puts k a = Wrote k.written_before k.written_after (line_of a)
-
--- the sink failed after a part of the answer's line
-abbrev pub FailsToPut : SinkCall → Answer → Type 0
-FailsToPut k a = Rose k.faults_before k.faults_after × WrotePart k.written_before k.written_after (line_of a)
-
--- nothing was written, or that there is no memory
-abbrev pub PutsAtMostNoMemory : SinkCall → Type 0
-PutsAtMostNoMemory k = (k.written_after ≡ k.written_before) ⊎ Puts k NoMemory
-
--- the answer was put, or the put failed; or memory was wanted then, and that was put, or not even that
-abbrev pub Says : Answer → ℕ → SinkCall → Type 0
-Says a status k = ((status ≡ status_of a) × Puts k a) ⊎ ((status ≡ 8) × FailsToPut k a) ⊎ ((status ≡ 9) × PutsAtMostNoMemory k) ⊎ ((status ≡ 8) × FailsToPut k NoMemory)
-
--- the answers that every call may give, by status
-pub record CallAnswers (words : List (List ℕ)) (s : ShelfCall) (status : ℕ) (k : SinkCall) : Type 0 where
-  pub usage : status ≡ 2 → (words_taken words ≡ None) × Puts k Usage
-  pub only_usage : words_taken words ≡ None → (status ≡ 2) ⊎ (status ≡ 8) ⊎ (status ≡ 9)
-  pub limit : status ≡ 6 → (i : Input) × PassesLimit words s i × Puts k (TooLong i)
-  pub read_fault : status ≡ 7 → (name : List ℕ) × FailsToRead words s name × Puts k (ReadFault name)
-  pub write_fault : status ≡ 8 → (a : Answer) × IsCause words s a × FailsToPut k a
-  pub no_memory : status ≡ 9 → PutsAtMostNoMemory k
-  -- in all other cases an answer was put with its status, and has its cause
-  pub answer : (status ≡ 8 → ⊥) → (status ≡ 9 → ⊥) → (a : Answer) × IsCause words s a × (status ≡ status_of a) × Puts k a
-
 -- the answers to three files that the shelf tells of, by status
-pub record ReplayAnswers (t : Texts) (status : ℕ) (k : SinkCall) : Type 0 where
-  pub reproduces : status ≡ 0 → IsReplayed t verdict.Reproduces × Puts k (Replayed verdict.Reproduces)
-  pub differs : status ≡ 1 → (v : Verdict) × (v ≢ verdict.Reproduces) × IsReplayed t v × Puts k (Replayed v)
-  pub program : status ≡ 3 → IsRefused t input.Program × Puts k (Refused input.Program)
-  pub log : status ≡ 4 → IsRefused t input.Log × Puts k (Refused input.Log)
-  pub schedule : status ≡ 5 → IsRefused t input.Schedule × Puts k (Refused input.Schedule)
-  pub limit : status ≡ 6 → (i : Input) × IsTooLong t i × Puts k (TooLong i)
+pub record ReplayAnswers (t : Texts) (status : ℕ) (before after : SinkTells) : Type 0 where
+  pub reproduces : status ≡ 0 → IsReplayed t verdict.Reproduces × Puts before after (Replayed verdict.Reproduces)
+  pub differs : status ≡ 1 → (v : Verdict) × (v ≢ verdict.Reproduces) × IsReplayed t v × Puts before after (Replayed v)
+  pub program : status ≡ 3 → IsRefused t input.Program × Puts before after (Refused input.Program)
+  pub log : status ≡ 4 → IsRefused t input.Log × Puts before after (Refused input.Log)
+  pub schedule : status ≡ 5 → IsRefused t input.Schedule × Puts before after (Refused input.Schedule)
+  pub limit : status ≡ 6 → (i : Input) × IsTooLong t i × Puts before after (TooLong i)
   -- and each comes wherever its cause holds, but for a device that fails and for want of memory
   pub exactly : (a : Answer) → IsAnswerTo t a → (status ≡ status_of a) ⊎ (status ≡ 7) ⊎ (status ≡ 8) ⊎ (status ≡ 9)

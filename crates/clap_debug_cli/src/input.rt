@@ -1,10 +1,10 @@
 //! The three files that come in.
-ghost use Rattle.std.specs.Prelude.{◌≡◌, ℕ, ◌≤◌, ◌<◌, length, Some, IfOk, IfErr, IfSome};
-ghost use Rattle.tc_io.specs.Outside.{bytes_at};
-ghost use Rattle.clap_debug_cli.specs.Answers.{limit_of, AreWithin, texts_under};
+ghost use Rattle.std.specs.Prelude.{◌≡◌, IfOk, IfErr};
+ghost use Rattle.tc_io.specs.Outside.{Gave};
+ghost use Rattle.clap_debug_cli.specs.Answers.{limit_of, AreWithin};
+ghost use Rattle.clap_debug_cli.specs.Call.{GaveAll};
 ghost use Rattle.clap_debug_cli.specs.Held.{names_in, texts_in};
 ghost use Rattle.clap_debug_cli.specs.Fetched.{IsWhyMissing, IsWhyNone};
-ghost use Rattle.clap_debug_cli.specs.Call.{ShelfCall};
 
 use crate::words::Names;
 use std::alloc::Global;
@@ -57,17 +57,10 @@ pub(crate) fn fetch_all<'a, H: Shelf>(
     shelf: &mut H,
     names: &Names<'a>,
 ) -> Result<Inputs, Missing<'a>>
+    ensures gave { IfOk result (λ inputs. GaveAll (names_in names.now) (H.tells shelf.old) (H.tells shelf.new) (texts_in inputs)) }
     ensures within { IfOk result (λ inputs. AreWithin (texts_in inputs)) }
-    ensures told { IfOk result (λ inputs. IfSome (H.held shelf.old) (λ files. texts_in inputs ≡ texts_under files (names_in names.now))) }
-    ensures missing { IfErr result (IsWhyNone (names_in names.now) (record {
-      held = H.held shelf.old;
-      faults_before = H.faults shelf.old;
-      faults_after = H.faults shelf.new;
-      taken_before = H.taken shelf.old;
-      taken_after = H.taken shelf.new;
-      last_fault = H.last_fault shelf.new;
-    })) }
-    ensures kept { H.held shelf.new ≡ H.held shelf.old }
+    ensures missing { IfErr result (IsWhyNone (names_in names.now) (H.tells shelf.old) (H.tells shelf.new)) }
+    ensures kept { (H.tells shelf.new).held ≡ (H.tells shelf.old).held }
 {
     let program = fetch(alloc, shelf, Input::Program, names.program)?;
     let log = fetch(alloc, shelf, Input::Log, names.log)?;
@@ -86,19 +79,9 @@ fn fetch<'a, H: Shelf>(
     input: Input,
     name: &'a str,
 ) -> Result<Vec<u8>, Missing<'a>>
-    ensures within { IfOk result (λ bytes. length bytes.items ≤ limit_of input) }
-    ensures told { IfOk result (λ bytes. IfSome (H.held shelf.old) (λ files. bytes.items ≡ bytes_at files name.now)) }
-    ensures missing { IfErr result (IsWhyMissing input name.now (record {
-      held = H.held shelf.old;
-      faults_before = H.faults shelf.old;
-      faults_after = H.faults shelf.new;
-      taken_before = H.taken shelf.old;
-      taken_after = H.taken shelf.new;
-      last_fault = H.last_fault shelf.new;
-    })) }
-    ensures kept { H.held shelf.new ≡ H.held shelf.old }
-    ensures faults { H.faults shelf.old ≤ H.faults shelf.new }
-    ensures taken { H.taken shelf.old ≤ H.taken shelf.new }
+    ensures gave { IfOk result (λ bytes. Gave (H.tells shelf.old) (H.tells shelf.new) name.now (limit_of input) bytes.items) }
+    ensures missing { IfErr result (IsWhyMissing input name.now (H.tells shelf.old) (H.tells shelf.new)) }
+    ensures kept { (H.tells shelf.new).held ≡ (H.tells shelf.old).held }
 {
     match shelf.fetch(alloc, name, input.limit()) {
         Ok(bytes) => Ok(bytes),

@@ -1,11 +1,12 @@
 //! The top call: from the words and the files that come in to the line and the status that go out.
 #![tactic(auto)]
 
-ghost use Rattle.std.specs.Prelude.{◌≡◌, map, string_bytes};
+ghost use Rattle.std.specs.Prelude.{◌≡◌, None, map, string_bytes};
 ghost use Rattle.clap_debug_cli.specs.Answers.{AreWithin};
-ghost use Rattle.clap_debug_cli.specs.Call.{ShelfCall, SinkCall, IfTold, IsCause, Says, CallAnswers, ReplayAnswers, FailsToPut, PutsAtMostNoMemory};
+ghost use Rattle.clap_debug_cli.specs.Call.{IfTold, IsCause, Says, CallAnswers, ReplayAnswers};
+ghost use Rattle.clap_debug_cli.specs.Words.{words_taken};
 ghost use Rattle.clap_debug_cli.specs.Answers as spec;
-ghost use Rattle.clap_debug_cli.specs.Held.{plain_answer, texts_in};
+ghost use Rattle.clap_debug_cli.specs.Held.{plain_answer};
 ghost use Rattle.clap_debug_cli.specs.Judged.{IsJudgedSo};
 
 mod answer;
@@ -36,31 +37,9 @@ pub fn clap_debug<H: Shelf, K: Sink>(
     shelf: &mut H,
     sink: &mut K,
 ) -> u8
-    ensures call { CallAnswers (map string_bytes words.now)
-        (record {
-          held = H.held shelf.old;
-          faults_before = H.faults shelf.old;
-          faults_after = H.faults shelf.new;
-          taken_before = H.taken shelf.old;
-          taken_after = H.taken shelf.new;
-          last_fault = H.last_fault shelf.new;
-        })
-        result
-        (record {
-          written_before = K.written sink.old;
-          written_after = K.written sink.new;
-          faults_before = K.faults sink.old;
-          faults_after = K.faults sink.new;
-        }) }
-    ensures replay { IfTold (map string_bytes words.now) (H.held shelf.old) (λ texts. ReplayAnswers texts result
-        (record {
-          written_before = K.written sink.old;
-          written_after = K.written sink.new;
-          faults_before = K.faults sink.old;
-          faults_after = K.faults sink.new;
-        })) }
-    // No name of the shelf changes.
-    ensures kept { H.held shelf.new ≡ H.held shelf.old }
+    ensures call { CallAnswers (map string_bytes words.now) (H.tells shelf.old) (H.tells shelf.new) result (K.tells sink.old) (K.tells sink.new) }
+    ensures replay { IfTold (map string_bytes words.now) (H.tells shelf.old).held
+        (λ texts. ReplayAnswers texts result (K.tells sink.old) (K.tells sink.new)) }
 {
     let answer = answered(alloc, words, shelf);
     say(alloc, &answer, sink)
@@ -68,17 +47,9 @@ pub fn clap_debug<H: Shelf, K: Sink>(
 
 /// What is answered to the words.
 fn answered<'a, H: Shelf>(alloc: Global, words: &'a [String], shelf: &mut H) -> Answer<'a>
-    ensures cause { IsCause (map string_bytes words.now)
-        (record {
-          held = H.held shelf.old;
-          faults_before = H.faults shelf.old;
-          faults_after = H.faults shelf.new;
-          taken_before = H.taken shelf.old;
-          taken_after = H.taken shelf.new;
-          last_fault = H.last_fault shelf.new;
-        })
-        (plain_answer result) }
-    ensures kept { H.held shelf.new ≡ H.held shelf.old }
+    ensures cause { IsCause (map string_bytes words.now) (H.tells shelf.old) (H.tells shelf.new) (plain_answer result) }
+    ensures unused { words_taken (map string_bytes words.now) ≡ None → H.tells shelf.new ≡ H.tells shelf.old }
+    ensures kept { (H.tells shelf.new).held ≡ (H.tells shelf.old).held }
 {
     let Some(names) = words_taken(words) else {
         return Answer::Usage;
@@ -118,12 +89,7 @@ fn judged<'a>(alloc: Global, program: &[u8], log: &[u8], schedule: &[u8]) -> Ans
 
 /// Puts the line of an answer, and gives the status.
 fn say<K: Sink>(alloc: Global, answer: &Answer, sink: &mut K) -> u8
-    ensures { Says (plain_answer answer.now) result (record {
-      written_before = K.written sink.old;
-      written_after = K.written sink.new;
-      faults_before = K.faults sink.old;
-      faults_after = K.faults sink.new;
-    }) }
+    ensures { Says (plain_answer answer.now) result (K.tells sink.old) (K.tells sink.new) }
 {
     let Ok(text) = line(alloc, answer) else {
         return say_no_memory(sink);
@@ -137,12 +103,7 @@ fn say<K: Sink>(alloc: Global, answer: &Answer, sink: &mut K) -> u8
 
 /// Puts that there is no memory.
 fn say_no_memory<K: Sink>(sink: &mut K) -> u8
-    ensures { Says spec.NoMemory result (record {
-      written_before = K.written sink.old;
-      written_after = K.written sink.new;
-      faults_before = K.faults sink.old;
-      faults_after = K.faults sink.new;
-    }) }
+    ensures { Says spec.NoMemory result (K.tells sink.old) (K.tells sink.new) }
 {
     match sink.put(b"no memory\n") {
         Ok(()) => 9,

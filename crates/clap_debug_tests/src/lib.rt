@@ -1,7 +1,8 @@
-//! The program over a shelf and a sink that never fail; and its worked rows, as tests.
+//! The program over a shelf and a sink that never fail; and what only tests show of it: the answers to want of memory.
 #![tactic(auto)]
 
-ghost use Rattle.std.specs.Prelude.{◌≢◌, map, string_bytes, Some, None};
+ghost use Rattle.std.specs.Prelude.{◌≢◌, map, string_bytes, Some};
+ghost use Rattle.tc_io.specs.Mem.{sure_shelf_tells, sure_sink_tells};
 ghost use Rattle.clap_debug_cli.specs.Call.{IfTold, CallAnswers, ReplayAnswers};
 
 use clap_debug_cli::clap_debug;
@@ -15,19 +16,10 @@ pub fn clap_debug_surely(
     shelf: &mut SureShelf,
     sink: &mut SureSink,
 ) -> u8
-    ensures call { CallAnswers (map string_bytes words.now)
-        (record {
-          held = Some shelf.old.held;
-          faults_before = 0;
-          faults_after = 0;
-          taken_before = shelf.old.taken;
-          taken_after = shelf.new.taken;
-          last_fault = None;
-        })
-        result
-        (record { written_before = Some sink.old; written_after = Some sink.new; faults_before = 0; faults_after = 0 }) }
-    ensures replay { IfTold (map string_bytes words.now) (Some shelf.old.held) (λ texts. ReplayAnswers texts result
-        (record { written_before = Some sink.old; written_after = Some sink.new; faults_before = 0; faults_after = 0 })) }
+    ensures call { CallAnswers (map string_bytes words.now) (sure_shelf_tells shelf.old) (sure_shelf_tells shelf.new) result
+        (sure_sink_tells sink.old) (sure_sink_tells sink.new) }
+    ensures replay { IfTold (map string_bytes words.now) (Some shelf.old.held)
+        (λ texts. ReplayAnswers texts result (sure_sink_tells sink.old) (sure_sink_tells sink.new)) }
     ensures no_read_fault { result ≢ 7 }
     ensures no_write_fault { result ≢ 8 }
 {

@@ -1,8 +1,8 @@
 -- Shelves and sinks in memory.
-use Rattle.std.specs.Prelude.{ℕ, List, []}
+use Rattle.std.specs.Prelude.{ℕ, List, [], Some, None}
 use Rattle.std.specs.FinMap.{empty}
-use Rattle.tc_io.specs.Outside.{Files}
-use Rattle.tc_io.specs.Past.{PlainPast, no_past}
+use Rattle.tc_io.specs.Outside.{Files, ShelfTells, SinkTells}
+use Rattle.tc_io.specs.Past.{PlainPast, no_past, shelf_tells}
 use Rattle.tc_io.specs.Plan.{PlainPlan, no_plan}
 
 -- a shelf: what it holds, which fetches are to fail, and what it remembers
@@ -33,3 +33,19 @@ pub record PlainSureShelf : Type 0 where
 -- one that holds nothing, from which nothing was fetched
 abbrev pub empty_sure_shelf : PlainSureShelf
 empty_sure_shelf = record { held = empty; taken = 0 }
+
+-- what such a shelf tells
+abbrev pub mem_tells : PlainShelf → ShelfTells
+mem_tells shelf = shelf_tells (Some shelf.held) shelf.past
+
+-- what such a sink tells
+abbrev pub sink_tells : PlainSink → SinkTells
+sink_tells sink = record { written = Some sink.written; faults = sink.faults }
+
+-- what a shelf that never fails tells
+abbrev pub sure_shelf_tells : PlainSureShelf → ShelfTells
+sure_shelf_tells shelf = record { held = Some shelf.held; faults = 0; taken = shelf.taken; last_fault = None }
+
+-- what a sink that never fails tells
+abbrev pub sure_sink_tells : List ℕ → SinkTells
+sure_sink_tells written = record { written = Some written; faults = 0 }

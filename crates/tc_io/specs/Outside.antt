@@ -1,5 +1,5 @@
--- What is known of the outside: what it holds, what was written, how often it failed, and how.
-use Rattle.std.specs.Prelude.{◌≡◌, ℕ, ◌+◌, ◌^◌, ◌<◌, ◌⊎◌, List, [], ◌++◌, take, Option, unwrap_or, option_map}
+-- What the outside tells: what it holds, what was written, how often it failed, and how; and what a call makes of it.
+use Rattle.std.specs.Prelude.{◌≡◌, ℕ, ◌+◌, ◌-◌, ◌^◌, ◌<◌, ◌≤◌, min, length, List, [], ◌++◌, take, Option, Some, IfSome, unwrap_or, option_map}
 use Rattle.std.specs.Ordering.{nat_cmp}
 use Rattle.std.specs.Cmp.Lexicographic.{slice_cmp}
 use Rattle.std.specs.FinMap.{FinMap, get}
@@ -17,18 +17,48 @@ Files = FinMap (slice_cmp nat_cmp) (List ℕ)
 abbrev pub bytes_at : Files → List ℕ → List ℕ
 bytes_at files name = unwrap_or (get files name) []
 
--- a count rose in the call, or stands at its last value
-abbrev pub Rose : ℕ → ℕ → Type 0
-Rose before now = (before < now) ⊎ (now + 1 ≡ 2 ^ 64)
+-- a count goes on by so much, as far as there is room below its last value
+abbrev pub counted_on : ℕ → ℕ → ℕ
+counted_on count more = count + min more (2 ^ 64 - 1 - count)
 
--- more than so many bytes were taken in the call, or the count of them stands at its last value
-abbrev pub TookMore : ℕ → ℕ → ℕ → Type 0
-TookMore limit before now = (before + limit < now) ⊎ (now + 1 ≡ 2 ^ 64)
+-- what a shelf tells: what it holds, where it tells that, how often it failed, how many bytes were taken, and the call that failed last
+pub record ShelfTells : Type 0 where
+  pub held : Option Files
+  pub faults : ℕ
+  pub taken : ℕ
+  pub last_fault : Option Fault
 
--- where it is told what was written, the text stands at its end now; where it isn't, it isn't now either
-abbrev pub Wrote : Option (List ℕ) → Option (List ℕ) → List ℕ → Type 0
-Wrote old new text = new ≡ option_map (λ written. written ++ text) old
+-- so many bytes were taken, and all else is as before
+abbrev pub Took : ShelfTells → ShelfTells → ℕ → Type 0
+Took old new count = new ≡ record old { taken = counted_on old.taken count }
 
--- a front of the text was written, maybe none of it and maybe all
-abbrev pub WrotePart : Option (List ℕ) → Option (List ℕ) → List ℕ → Type 0
-WrotePart old new text = (n : ℕ) × Wrote old new (take n text)
+-- at most so many bytes were taken, and all else is as before
+abbrev pub TookAtMost : ShelfTells → ShelfTells → ℕ → Type 0
+TookAtMost old new most = (count : ℕ) × (count ≤ most) × Took old new count
+
+-- the call failed: one fault was counted, at most so many bytes were taken, and all else is as before
+abbrev pub FailedOnce : ShelfTells → ShelfTells → Fault → ℕ → Type 0
+FailedOnce old new fault most =
+    (count : ℕ) × (count ≤ most) × (new ≡ record old { faults = counted_on old.faults 1; taken = counted_on old.taken count; last_fault = Some fault })
+
+-- these bytes were taken, at most the limit; where it's told, they are those under the name
+abbrev pub Gave : ShelfTells → ShelfTells → List ℕ → ℕ → List ℕ → Type 0
+Gave old new name limit bytes = (length bytes ≤ limit) × Took old new (length bytes) × IfSome old.held (λ files. bytes ≡ bytes_at files name)
+
+-- one byte past the limit was taken; where it's told, there are more bytes than the limit under the name
+abbrev pub WasTooLong : ShelfTells → ShelfTells → List ℕ → ℕ → Type 0
+WasTooLong old new name limit = Took old new (limit + 1) × IfSome old.held (λ files. limit < length (bytes_at files name))
+
+-- what a sink tells: what was written, where it tells that, and how often it failed
+pub record SinkTells : Type 0 where
+  pub written : Option (List ℕ)
+  pub faults : ℕ
+
+-- the text stands at the end of what was written, and all else is as before
+abbrev pub Wrote : SinkTells → SinkTells → List ℕ → Type 0
+Wrote old new text = new ≡ record old { written = option_map (λ written. written ++ text) old.written }
+
+-- the put failed: one fault was counted, and a front of the text was written, maybe none of it and maybe all
+abbrev pub WrotePart : SinkTells → SinkTells → List ℕ → Type 0
+WrotePart old new text =
+    (count : ℕ) × (new ≡ record { written = option_map (λ written. written ++ take count text) old.written; faults = counted_on old.faults 1 })

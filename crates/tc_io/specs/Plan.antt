@@ -1,7 +1,7 @@
 -- Which calls are to fail.
 use Rattle.std.specs.Prelude.{ℕ, List, [], find, ◌==◌, Option, option_map}
 use Rattle.tc_io.specs.declared.plan.Fail.{Fail}
-use Rattle.tc_io.specs.Past.{counted_on}
+use Rattle.tc_io.specs.Outside.{counted_on}
 
 -- the number of calls so far, and those that are to fail
 pub record PlainPlan : Type 0 where

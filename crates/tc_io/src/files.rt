@@ -1,12 +1,13 @@
 //! The files of the system and its writers as a shelf and a sink: the edge that is trusted.
 //!
 //! As a shelf and a sink these tell nothing of what they hold or wrote, since real files and standard output don't.
-//! Where a file or a writer does tell, a fetch gives all that the file has, and a put adds its bytes. They count each
-//! failure, and stop on every input.
-ghost use Rattle.std.specs.Prelude.{◌≡◌, ◌≢◌, ◌≤◌, ◌<◌, length, IfOk, IfSome, OnOk, IsErrOf, Err, Some};
-ghost use Rattle.std.specs.Io.KnownBytes.{Appends};
-ghost use Rattle.tc_io.specs.Outside.{Reading, Rose, TookMore};
-ghost use Rattle.tc_io.specs.Past.{no_past};
+//! What a reader gives is promised by [`read_up_to`]; `FileShelf` opens the file of a name and reads it so. What a
+//! writer has is promised by `StdSink`, where the writer tells that. They count each failure, and stop on every input.
+ghost use Rattle.std.specs.Prelude.{◌≡◌, ◌≢◌, ◌+◌, ◌≤◌, ◌<◌, length, take, IfOk, IfSome, OnOk, IsErrOf, Err, None, ℕ};
+ghost use Rattle.std.specs.Io.KnownBytes.{Appends, Consumes, IsAtEnd};
+ghost use Rattle.tc_io.specs.Given.{GaveAtMost};
+ghost use Rattle.tc_io.specs.Outside.{Reading, Gave, FailedOnce, WasTooLong, TookAtMost, Wrote, WrotePart, counted_on};
+ghost use Rattle.tc_io.specs.Past.{no_past, shelf_tells};
 
 use crate::past::Past;
 use crate::{FetchFault, PutFault, Shelf, Sink};
@@ -44,33 +45,28 @@ impl<R: Files + Drop> FileShelf<R> {
 
 impl<R: Files + Drop> Shelf for FileShelf<R> {
     ghost use Rattle.std.specs.Prelude.{None};
+    ghost use Rattle.tc_io.specs.Past.{shelf_tells};
 
-    ghost held = { λ _. None };
-
-    ghost faults = { λ s. s.faults };
-
-    ghost taken = { λ s. s.taken };
-
-    ghost last_fault = { λ s. s.last_fault };
+    ghost tells = { shelf_tells None };
 
     fn fetch(&mut self, alloc: Global, name: &str, limit: u64) -> Result<Vec<u8>, FetchFault>
-        ensures within { IfOk result (λ bytes. length bytes.items ≤ limit) }
-        ensures failed { IsErrOf result FetchFault.Failed → Rose self.old.faults self.new.faults × (self.new.last_fault ≡ Some (Reading name.now)) }
-        ensures too_long { IsErrOf result FetchFault.TooLong → TookMore limit self.old.taken self.new.taken }
-        ensures last { (result ≢ Err FetchFault.Failed) → self.new.last_fault ≡ self.old.last_fault }
-        ensures faults { self.old.faults ≤ self.new.faults }
-        ensures taken { self.old.taken ≤ self.new.taken }
+        ensures ok { IfOk result (λ bytes. Gave (shelf_tells None self.old) (shelf_tells None self.new) name.now limit bytes.items) }
+        ensures failed { IsErrOf result FetchFault.Failed → FailedOnce (shelf_tells None self.old) (shelf_tells None self.new) (Reading name.now) (limit + 1) }
+        ensures too_long { IsErrOf result FetchFault.TooLong → WasTooLong (shelf_tells None self.old) (shelf_tells None self.new) name.now limit }
+        ensures memory { IsErrOf result FetchFault.Memory → TookAtMost (shelf_tells None self.old) (shelf_tells None self.new) (limit + 1) }
 
-        // A file was opened, and the bytes are all that it had, where files tell that.
+        // A file was opened, and the bytes are all that it had left, where files tell that.
         ensures opened { IfOk result (λ bytes. (file : R.File) × IfSome (R.File.remaining file) (λ all. bytes.items ≡ all)) }
     {
         let Ok(copy) = String::from_str(alloc, name) else {
             return Err(FetchFault::Memory);
         };
+        let mut taken = 0;
         let answer = match File::open(&self.files, name) {
-            Ok(mut file) => read_up_to(alloc, &mut file, limit, &mut self.past),
+            Ok(mut file) => read_up_to(alloc, &mut file, limit, &mut taken),
             Err(_) => Err(FetchFault::Failed),
         };
+        self.past.take(taken);
         if let Err(FetchFault::Failed) = answer {
             self.past.fail(copy);
         }
@@ -78,32 +74,35 @@ impl<R: Files + Drop> Shelf for FileShelf<R> {
     }
 }
 
-/// The bytes to the end, or the fault of the first byte past the limit. Each turn takes one at least.
+/// The bytes that a reader has left, at most `limit` of them, each counted as it is taken.
+///
+/// It asks for one byte past the limit at most, which shows it that there are too many. A read of none is the end, and
+/// each error ends the call as a failure, an interruption too.
 #[tactic(auto, using(crate::proofs::Known::consumed))]
-fn read_up_to<F: Read>(
+pub fn read_up_to<R: Read>(
     alloc: Global,
-    file: &mut F,
+    from: &mut R,
     limit: u64,
-    past: &mut Past,
+    taken: &mut u64,
 ) -> Result<Vec<u8>, FetchFault>
+    ensures gave { GaveAtMost (limit + 1) (R.remaining from.old) (R.remaining from.new) taken.old taken.new }
     ensures within { IfOk result (λ bytes. length bytes.items ≤ limit) }
-    ensures too_long { IsErrOf result FetchFault.TooLong → TookMore limit past.old.taken past.new.taken }
-    ensures taken { past.old.taken ≤ past.new.taken }
-    ensures only_taken { past.new ≡ record past.old { taken = past.new.taken } }
-    // Where the file tells what it holds, these are all its bytes.
-    ensures told { IfOk result (λ bytes. IfSome (F.remaining file.old) (λ all. bytes.items ≡ all)) }
-    ensures longer { IsErrOf result FetchFault.TooLong → IfSome (F.remaining file.old) (λ all. limit < length all) }
+    ensures counted { IfOk result (λ bytes. taken.new ≡ counted_on taken.old (length bytes.items)) }
+    // Where the reader tells what it has left, these are all its bytes, and it has none now.
+    ensures all { IfOk result (λ bytes. IfSome (R.remaining from.old) (λ all. bytes.items ≡ all)) }
+    ensures too_long { IsErrOf result FetchFault.TooLong → taken.new ≡ counted_on taken.old (limit + 1) }
+    ensures longer { IsErrOf result FetchFault.TooLong → IfSome (R.remaining from.old) (λ all. limit < length all) }
 {
     let mut bytes = Vec::new(alloc);
     let mut piece = [0u8; 4096];
-    for _ in 0..u64::MAX {
+    loop {
         let room = limit - bytes.len() as u64;
         let want = if room < 4095 { room as usize + 1 } else { 4096 };
-        match file.read(&mut piece[..want]) {
+        match from.read(&mut piece[..want]) {
             Err(_) => return Err(FetchFault::Failed),
             Ok(0) => return Ok(bytes),
             Ok(n) => {
-                past.take(n as u64);
+                *taken = taken.saturating_add(n as u64);
                 if n as u64 > room {
                     return Err(FetchFault::TooLong);
                 }
@@ -113,10 +112,12 @@ fn read_up_to<F: Read>(
             }
         }
     }
-    Err(FetchFault::Failed)
 }
 
-/// A writer as a sink. It doesn't flush, so give it a writer that holds nothing back, as standard output.
+/// A writer as a sink.
+///
+/// Each error of the writer ends the put as a failure, an interruption too, and so does a write that takes none. It
+/// doesn't flush, so give it a writer that holds nothing back, as standard output.
 #[derive(Drop)]
 pub struct StdSink<W: Write + Drop> {
     to: W,
@@ -143,22 +144,27 @@ impl<W: Write + Drop> StdSink<W> {
 impl<W: Write + Drop> Sink for StdSink<W> {
     ghost use Rattle.std.specs.Prelude.{None};
 
-    ghost written = { λ _. None };
-
-    ghost faults = { λ s. s.1 };
+    ghost tells = { λ s. record { written = None; faults = s.1 } };
 
     fn put(&mut self, bytes: &[u8]) -> Result<(), PutFault>
-        // What the writer tells that it holds grows by the bytes.
+        ensures ok { OnOk result (self.new.1 ≡ self.old.1) }
+        ensures failed { IsErrOf result PutFault.Failed → self.new.1 ≡ counted_on self.old.1 1 }
+        ensures memory { result ≢ Err PutFault.Memory }
+
+        // What the writer tells that it has grows by the bytes, and by a front of them where the put failed.
         ensures told { OnOk result (Appends (W.contents self.old.0) (W.contents self.new.0) bytes.now) }
-        ensures failed { IsErrOf result PutFault.Failed → Rose self.old.1 self.new.1 }
-        ensures faults { self.old.1 ≤ self.new.1 }
+        ensures part { IsErrOf result PutFault.Failed → (count : ℕ) × Appends (W.contents self.old.0) (W.contents self.new.0) (take count bytes.now) }
     {
-        match self.to.write_all(bytes) {
-            Ok(()) => Ok(()),
-            Err(_) => {
-                self.faults = self.faults.saturating_add(1);
-                Err(PutFault::Failed)
+        let mut rest = bytes;
+        while !rest.is_empty() {
+            match self.to.write(rest) {
+                Ok(n) if n > 0 => rest = &rest[n..],
+                _ => {
+                    self.faults = self.faults.saturating_add(1);
+                    return Err(PutFault::Failed);
+                }
             }
         }
+        Ok(())
     }
 }

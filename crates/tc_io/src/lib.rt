@@ -4,16 +4,14 @@
 //! the system and its writers, and is the edge that is trusted.
 #![tactic(auto)]
 
-ghost use Rattle.std.specs.Prelude.{◌≡◌, ◌≢◌, ℕ, ◌≤◌, ◌<◌, List, length, Option, Some, Err, IfSome, IfOk, OnOk, IsErrOf};
-ghost use Rattle.tc_io.specs.Outside.{Fault, Reading, Files, bytes_at, Rose, TookMore, Wrote, WrotePart};
+ghost use Rattle.std.specs.Prelude.{◌≡◌, ◌+◌, IfOk, OnOk, IsErrOf};
+ghost use Rattle.tc_io.specs.Outside.{ShelfTells, SinkTells, Reading, Gave, FailedOnce, WasTooLong, TookAtMost, Wrote, WrotePart};
 
 pub mod files;
 pub mod mem;
 mod named;
 mod past;
 mod plan;
-#[cfg(test)]
-mod tests;
 
 use std::alloc::Global;
 
@@ -41,40 +39,28 @@ pub enum PutFault {
 ///
 /// What a shelf doesn't tell it doesn't promise: of real files nothing is known but what came out of them.
 pub trait Shelf {
-    /// What it holds, where it tells that.
-    ghost held: { Self → Option Files };
-    /// How often it has failed. Never falls.
-    ghost faults: { Self → ℕ };
-    /// How many bytes were taken from it. Never falls.
-    ghost taken: { Self → ℕ };
-    /// The call that failed last, and with which name.
-    ghost last_fault: { Self → Option Fault };
+    /// What it tells: what it holds, how often it failed, how many bytes were taken, and the call that failed last.
+    ghost tells: { Self → ShelfTells };
 
     /// The bytes under a name, at most `limit` of them.
     ///
-    /// Before it asks for any it copies the name, so that a fault always has one.
+    /// Before it asks for any it copies the name, so that a fault always has one. It takes one byte past the limit at
+    /// most, which shows it that there are too many.
     fn fetch(&mut self, alloc: Global, name: &str, limit: u64) -> Result<Vec<u8>, FetchFault>
-        ensures bytes { IfOk result (λ bytes. IfSome (held self.old) (λ files. bytes.items ≡ bytes_at files name.now)) }
-        ensures within { IfOk result (λ bytes. length bytes.items ≤ limit) }
-        ensures failed { IsErrOf result FetchFault.Failed → Rose (faults self.old) (faults self.new) × (last_fault self.new ≡ Some (Reading name.now)) }
-        ensures too_long { IsErrOf result FetchFault.TooLong → TookMore limit (taken self.old) (taken self.new) × IfSome (held self.old) (λ files. limit < length (bytes_at files name.now)) }
-        ensures kept { held self.new ≡ held self.old }
-        ensures last { (result ≢ Err FetchFault.Failed) → last_fault self.new ≡ last_fault self.old }
-        ensures faults { faults self.old ≤ faults self.new }
-        ensures taken { taken self.old ≤ taken self.new };
+        ensures ok { IfOk result (λ bytes. Gave (tells self.old) (tells self.new) name.now limit bytes.items) }
+        ensures failed { IsErrOf result FetchFault.Failed → FailedOnce (tells self.old) (tells self.new) (Reading name.now) (limit + 1) }
+        ensures too_long { IsErrOf result FetchFault.TooLong → WasTooLong (tells self.old) (tells self.new) name.now limit }
+        ensures memory { IsErrOf result FetchFault.Memory → TookAtMost (tells self.old) (tells self.new) (limit + 1) };
 }
 
 /// Where answers go, as standard output.
 pub trait Sink {
-    /// What was written, where it tells that.
-    ghost written: { Self → Option (List ℕ) };
-    /// How often it has failed. Never falls.
-    ghost faults: { Self → ℕ };
+    /// What it tells: what was written, and how often it failed.
+    ghost tells: { Self → SinkTells };
 
     /// Writes all of the bytes, at the end of what was written.
     fn put(&mut self, bytes: &[u8]) -> Result<(), PutFault>
-        ensures ok { OnOk result (Wrote (written self.old) (written self.new) bytes.now) }
-        ensures failed { IsErrOf result PutFault.Failed → Rose (faults self.old) (faults self.new) × WrotePart (written self.old) (written self.new) bytes.now }
-        ensures memory { IsErrOf result PutFault.Memory → written self.new ≡ written self.old }
-        ensures faults { faults self.old ≤ faults self.new };
+        ensures ok { OnOk result (Wrote (tells self.old) (tells self.new) bytes.now) }
+        ensures failed { IsErrOf result PutFault.Failed → WrotePart (tells self.old) (tells self.new) bytes.now }
+        ensures memory { IsErrOf result PutFault.Memory → tells self.new ≡ tells self.old };
 }

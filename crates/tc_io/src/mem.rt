@@ -1,9 +1,8 @@
 //! A shelf and a sink in memory, which fail where they are told to, and ones that never fail.
-ghost use Rattle.std.specs.Prelude.{◌≡◌, ◌≢◌, ◌≤◌, ◌<◌, ◌++◌, ◌∷◌, [], ◌⊎◌, length, min, take, unwrap_or, Some, None, IsSome, IsSomeAnd, IfSome, IfOk, IsErrOf, Err, OnOk, OnErr};
+ghost use Rattle.std.specs.Prelude.{◌≡◌, ◌≢◌, ◌≤◌, ◌<◌, ◌+◌, ◌++◌, ◌∷◌, [], ◌⊎◌, length, min, take, unwrap_or, Some, None, IsSome, IsSomeAnd, IfOk, IsErrOf, Err, OnOk, OnErr};
 ghost use Rattle.std.specs.FinMap as map;
-ghost use Rattle.tc_io.specs.Mem.{empty_shelf, empty_sink, empty_sure_shelf};
-ghost use Rattle.tc_io.specs.Outside.{Reading, bytes_at, Rose, TookMore, Wrote, WrotePart};
-ghost use Rattle.tc_io.specs.Past.{counted_on};
+ghost use Rattle.tc_io.specs.Mem.{empty_shelf, empty_sink, empty_sure_shelf, mem_tells, sink_tells};
+ghost use Rattle.tc_io.specs.Outside.{Reading, bytes_at, counted_on, Gave, FailedOnce, WasTooLong, TookAtMost, Wrote, WrotePart};
 ghost use Rattle.tc_io.specs.Plan.{told_at, with_call};
 
 use crate::named::NamedBytes;
@@ -66,31 +65,21 @@ impl MemShelf {
 }
 
 impl Shelf for MemShelf {
-    ghost use Rattle.std.specs.Prelude.{Some};
+    ghost use Rattle.tc_io.specs.Mem.{mem_tells};
 
-    ghost held = { λ s. Some s.held };
-
-    ghost faults = { λ s. s.past.faults };
-
-    ghost taken = { λ s. s.past.taken };
-
-    ghost last_fault = { λ s. s.past.last_fault };
+    ghost tells = { mem_tells };
 
     fn fetch(&mut self, alloc: Global, name: &str, limit: u64) -> Result<Vec<u8>, FetchFault>
-        ensures bytes { IfOk result (λ bytes. IfSome (Some self.old.held) (λ files. bytes.items ≡ bytes_at files name.now)) }
-        ensures within { IfOk result (λ bytes. length bytes.items ≤ limit) }
-        ensures failed { IsErrOf result FetchFault.Failed → Rose self.old.past.faults self.new.past.faults × (self.new.past.last_fault ≡ Some (Reading name.now)) }
-        ensures too_long { IsErrOf result FetchFault.TooLong → TookMore limit self.old.past.taken self.new.past.taken × IfSome (Some self.old.held) (λ files. limit < length (bytes_at files name.now)) }
-        ensures kept { Some self.new.held ≡ Some self.old.held }
-        ensures last { (result ≢ Err FetchFault.Failed) → self.new.past.last_fault ≡ self.old.past.last_fault }
-        ensures faults { self.old.past.faults ≤ self.new.past.faults }
-        ensures taken { self.old.past.taken ≤ self.new.past.taken }
+        ensures ok { IfOk result (λ bytes. Gave (mem_tells self.old) (mem_tells self.new) name.now limit bytes.items) }
+        ensures failed { IsErrOf result FetchFault.Failed → FailedOnce (mem_tells self.old) (mem_tells self.new) (Reading name.now) (limit + 1) }
+        ensures too_long { IsErrOf result FetchFault.TooLong → WasTooLong (mem_tells self.old) (mem_tells self.new) name.now limit }
+        ensures memory { IsErrOf result FetchFault.Memory → TookAtMost (mem_tells self.old) (mem_tells self.new) (limit + 1) }
 
-        // What this shelf alone says: which fetches fail.
+        // What this shelf alone says: which fetches fail, and after how many bytes.
         ensures there { IfOk result (λ bytes. map.get self.old.held name.now ≡ Some bytes.items) }
         ensures told { (result ≢ Err FetchFault.Memory) → IsSome (told_at self.new.plan) → result ≡ Err FetchFault.Failed }
         ensures cause { IsErrOf result FetchFault.Failed → IsSome (told_at self.new.plan) ⊎ (map.get self.old.held name.now ≡ None) }
-        ensures after { IsErrOf result FetchFault.Failed → self.new.past.taken ≡ counted_on self.old.past.taken (min (unwrap_or (told_at self.new.plan) 0) (length (bytes_at self.old.held name.now))) }
+        ensures after { IsErrOf result FetchFault.Failed → self.new.past.taken ≡ counted_on self.old.past.taken (min (unwrap_or (told_at self.new.plan) 0) (min (length (bytes_at self.old.held name.now)) (limit + 1))) }
         ensures counted { (result ≢ Err FetchFault.Memory) → self.new.plan ≡ with_call self.old.plan }
     {
         let Ok(copy) = String::from_str(alloc, name) else {
@@ -103,8 +92,8 @@ impl Shelf for MemShelf {
             }
             (told, found) => {
                 let there = found.map_or(0, |bytes| bytes.len());
-                self.past
-                    .take(told.map_or(0, |after| after.min(there)) as u64);
+                let after = told.map_or(0, |after| after as u64);
+                self.past.take(after.min(taken_by(there, limit)));
                 self.past.fail(copy);
                 Err(FetchFault::Failed)
             }
@@ -114,7 +103,7 @@ impl Shelf for MemShelf {
 
 /// How many of so many bytes a fetch takes: one past the limit shows it that there are too many.
 fn taken_by(there: usize, limit: u64) -> u64
-    ensures { result ≡ min there (counted_on limit 1) }
+    ensures { result ≡ min there (limit + 1) }
 {
     (there as u64).min(limit.saturating_add(1))
 }
@@ -181,17 +170,14 @@ impl MemSink {
 }
 
 impl Sink for MemSink {
-    ghost use Rattle.std.specs.Prelude.{Some};
+    ghost use Rattle.tc_io.specs.Mem.{sink_tells};
 
-    ghost written = { λ s. Some s.written };
-
-    ghost faults = { λ s. s.faults };
+    ghost tells = { sink_tells };
 
     fn put(&mut self, bytes: &[u8]) -> Result<(), PutFault>
-        ensures ok { OnOk result (Wrote (Some self.old.written) (Some self.new.written) bytes.now) }
-        ensures failed { IsErrOf result PutFault.Failed → Rose self.old.faults self.new.faults × WrotePart (Some self.old.written) (Some self.new.written) bytes.now }
-        ensures memory { IsErrOf result PutFault.Memory → Some self.new.written ≡ Some self.old.written }
-        ensures faults { self.old.faults ≤ self.new.faults }
+        ensures ok { OnOk result (Wrote (sink_tells self.old) (sink_tells self.new) bytes.now) }
+        ensures failed { IsErrOf result PutFault.Failed → WrotePart (sink_tells self.old) (sink_tells self.new) bytes.now }
+        ensures memory { IsErrOf result PutFault.Memory → sink_tells self.new ≡ sink_tells self.old }
 
         // What this sink alone says: which puts fail, and after how many bytes.
         ensures told { OnOk result (told_at self.new.plan ≡ None) }
@@ -259,20 +245,12 @@ impl SureShelf {
 }
 
 impl Shelf for SureShelf {
-    ghost use Rattle.std.specs.Prelude.{Some, None};
+    ghost use Rattle.tc_io.specs.Mem.{sure_shelf_tells};
 
-    ghost held = { λ s. Some s.held };
-
-    ghost faults = { λ _. 0 };
-
-    ghost taken = { λ s. s.taken };
-
-    ghost last_fault = { λ _. None };
+    ghost tells = { sure_shelf_tells };
 
     fn fetch(&mut self, alloc: Global, name: &str, limit: u64) -> Result<Vec<u8>, FetchFault> {
-        let Some(bytes) = self.files.get(name) else {
-            return Ok(Vec::new(alloc));
-        };
+        let bytes = self.files.get(name).unwrap_or(&[]);
         self.taken = self.taken.saturating_add(taken_by(bytes.len(), limit));
         copy_within(alloc, bytes, limit)
     }
@@ -311,11 +289,9 @@ impl SureSink {
 }
 
 impl Sink for SureSink {
-    ghost use Rattle.std.specs.Prelude.{Some};
+    ghost use Rattle.tc_io.specs.Mem.{sure_sink_tells};
 
-    ghost written = { λ s. Some s };
-
-    ghost faults = { λ _. 0 };
+    ghost tells = { sure_sink_tells };
 
     fn put(&mut self, bytes: &[u8]) -> Result<(), PutFault> {
         append(&mut self.written, bytes)

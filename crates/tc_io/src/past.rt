@@ -1,5 +1,5 @@
 //! What a shelf remembers of the fetches so far.
-ghost use Rattle.std.specs.Prelude.{◌≡◌, ◌≤◌, string_bytes};
+ghost use Rattle.std.specs.Prelude.{◌≡◌, string_bytes};
 ghost use Rattle.tc_io.specs.Past.{no_past, with_taken, with_failure};
 
 use std::marker::Model;
@@ -39,16 +39,14 @@ impl Past {
 
     /// Counts bytes that were taken.
     pub fn take(&mut self, count: u64)
-        ensures counted { self.new ≡ with_taken self.old count }
-        ensures grows { self.old.taken ≤ self.new.taken }
+        ensures { self.new ≡ with_taken self.old count }
     {
         self.taken = self.taken.saturating_add(count);
     }
 
     /// Counts a fetch of this name that failed.
     pub fn fail(&mut self, name: String)
-        ensures counted { self.new ≡ with_failure self.old (string_bytes name) }
-        ensures grows { self.old.faults ≤ self.new.faults }
+        ensures { self.new ≡ with_failure self.old (string_bytes name) }
     {
         self.faults = self.faults.saturating_add(1);
         self.last = Some(name);

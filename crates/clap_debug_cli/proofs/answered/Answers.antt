@@ -1,5 +1,4 @@
 use Rattle.std.proofs.Common.{map, subst, string_bytes}
-use Rattle.clap_debug_cli.specs.Call.{ShelfCall}
 use Rattle.clap_debug_cli.specs.Judged.{IsJudgedSo}
 use Rattle.clap_debug_cli.specs.Held.{names_in, texts_in, plain_answer}
 use Rattle.clap_debug_cli.proofs.Calls.{cause_of, same_texts}
@@ -7,12 +6,4 @@ use Rattle.clap_debug_cli.proofs.answered.Goals as goal
 
 pub returns-in-Ok-clause-cause : goal.returns-in-Ok-clause-cause
 returns-in-Ok-clause-cause g c =
-    let s : ShelfCall = record {
-      held = g.H.Shelf.held c.args.shelf.now;
-      faults_before = g.H.Shelf.faults c.args.shelf.now;
-      faults_after = g.H.Shelf.faults c.fetch_all.new.shelf;
-      taken_before = g.H.Shelf.taken c.args.shelf.now;
-      taken_after = g.H.Shelf.taken c.fetch_all.new.shelf;
-      last_fault = g.H.Shelf.last_fault c.fetch_all.new.shelf;
-    } in
-    cause_of (map string_bytes c.args.words.now) s (names_in c.in-Some.names) (texts_in c.in-Ok.inputs) (plain_answer c.judged.result) c.in-Some.ensures.taken c.in-Ok.ensures.told (subst (λ t. IsJudgedSo t (plain_answer c.judged.result)) (same_texts _ (texts_in c.in-Ok.inputs) c.deref.ensures.value c.deref-in-Ok.ensures.value c.deref-in-Ok-2.ensures.value) c.judged.ensures)
+    cause_of (map string_bytes c.args.words.now) _ _ (names_in c.in-Some.names) (texts_in c.in-Ok.inputs) (plain_answer c.judged.result) c.in-Some.ensures.taken c.in-Ok.ensures.gave (subst (λ t. IsJudgedSo t (plain_answer c.judged.result)) (same_texts _ (texts_in c.in-Ok.inputs) c.deref.ensures.value c.deref-in-Ok.ensures.value c.deref-in-Ok-2.ensures.value) c.judged.ensures)

@@ -1,12 +1,14 @@
-use Rattle.std.proofs.Common.{◌≡◌, ◌+◌, ◌≤◌, ◌^◌, ◌⊎◌, length}
+use Rattle.std.proofs.Common.{◌≡◌, ◌+◌, ◌-◌, ◌≤◌, length}
 use Rattle.std.specs.Io.KnownBytes.{Consumes}
+use Rattle.tc_io.specs.Outside.{counted_on}
 use Rattle.tc_io.proofs.files.read_up_to.Given as goal
 
-abbrev pub invariant-loop : goal.invariant-loop
-invariant-loop g l = record {
+abbrev pub invariant-loop-want : goal.invariant-loop-want
+invariant-loop-want g l = record {
   within : length l.bytes.items ≤ l.limit;
-  counted : (l.fn.past.taken + length l.bytes.items ≤ l.past.taken) ⊎ (l.past.taken + 1 ≡ 2 ^ 64);
-  taken : l.fn.past.taken ≤ l.past.taken;
-  told : Consumes (g.F.Read.remaining l.fn.file) (g.F.Read.remaining l.file) l.bytes.items;
-  only_taken : l.past ≡ record l.fn.past { taken = l.past.taken };
+  counted : l.taken ≡ counted_on l.fn.taken (length l.bytes.items);
+  told : Consumes (g.R.Read.remaining l.fn.from) (g.R.Read.remaining l.from) l.bytes.items;
 }
+
+abbrev pub decreases-loop-want : goal.decreases-loop-want
+decreases-loop-want g l = (l.limit + 1) - length l.bytes.items

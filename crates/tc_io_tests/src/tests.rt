@@ -1,0 +1,163 @@
+//! What no clause says: what real files do, and that an interruption ends a call.
+use std::io::{self, ErrorKind};
+use std::process::Abort;
+use std::rt::Files;
+use std::time::SystemTime;
+use std::{env, fs, test};
+use tc_io::files::{FileShelf, StdSink, read_up_to};
+use tc_io::{FetchFault, PutFault, Shelf, Sink};
+
+/// The name and the limit of a fetch, and what it is to answer: a text, or a fault.
+type Case<'a> = (&'a str, u64, Result<&'a str, FetchFault>);
+
+fn fetches<H: Shelf>(rt: &(impl Abort + AllocGlobal), shelf: &mut H, cases: &[Case]) {
+    for &(name, limit, want) in cases {
+        let is_wanted = match (shelf.fetch(rt.alloc(), name, limit), want) {
+            (Ok(bytes), Ok(want)) => bytes.as_slice() == want.as_bytes(),
+            (Err(fault), Err(want)) => fault == want,
+            _ => false,
+        };
+        assert!(rt; is_wanted, "{name} within {limit}");
+    }
+}
+
+/// Puts, and what each is to answer.
+fn puts<K: Sink>(rt: &impl Abort, sink: &mut K, cases: &[(&str, Result<(), PutFault>)]) {
+    for &(text, want) in cases {
+        assert!(rt; sink.put(text.as_bytes()) == want, "{text}");
+    }
+}
+
+/// Takes and gives a byte at a time, and is interrupted once, after so many.
+#[derive(Drop)]
+struct Interrupted {
+    before: u8,
+    after: u8,
+}
+
+impl Interrupted {
+    fn turn(&mut self) -> io::Result<usize> {
+        if self.before > 0 {
+            self.before -= 1;
+            return Ok(1);
+        }
+        if self.after == 0 {
+            return Ok(0);
+        }
+        self.before = self.after;
+        self.after = 0;
+        Err(io::Error::from(ErrorKind::Interrupted))
+    }
+}
+
+impl io::Write for Interrupted {
+    fn write(&mut self, bytes: &[u8]) -> io::Result<usize> {
+        if bytes.is_empty() {
+            return Ok(0);
+        }
+        self.turn()
+    }
+
+    fn flush(&mut self) -> io::Result<()> {
+        Ok(())
+    }
+}
+
+impl io::Read for Interrupted {
+    fn read(&mut self, buf: &mut [u8]) -> io::Result<usize> {
+        if buf.is_empty() {
+            return Ok(0);
+        }
+        self.turn()
+    }
+}
+
+/// Writes a file, and fetches it within limits about its length.
+fn fetches_file<H: Shelf>(
+    rt: &(impl Abort + AllocGlobal + Files),
+    shelf: &mut H,
+    name: &str,
+    text: &str,
+) -> io::Result<()> {
+    fs::write(rt, name, text)?;
+    let len = text.len() as u64;
+    let short = if len == 0 {
+        Ok(text)
+    } else {
+        Err(FetchFault::TooLong)
+    };
+    fetches(
+        rt,
+        shelf,
+        &[
+            (name, u64::MAX, Ok(text)),
+            (name, len, Ok(text)),
+            (name, len.saturating_sub(1), short),
+        ],
+    );
+    fs::remove_file(rt, name)
+}
+
+#[test]
+fn real_files(rt: HostRuntime) -> Result<(), test::Fail> {
+    let folder = env::temp_dir(&rt)?;
+    let now = SystemTime::now(&rt)?
+        .duration_since(SystemTime::UNIX_EPOCH)?
+        .as_nanos();
+    let name = format!(in rt.alloc(); "{}/tc_io-{now}", folder.as_str())?;
+    let long = format!(in rt.alloc(); "{:>10000}", "x")?;
+    let mut shelf = FileShelf::new(rt.clone()?);
+    for text in ["", "hello", long.as_str()] {
+        fetches_file(&rt, &mut shelf, name.as_str(), text)?;
+    }
+    // a folder opens, and no byte of it can be read
+    for missing in [name.as_str(), folder.as_str()] {
+        fetches(&rt, &mut shelf, &[(missing, 9, Err(FetchFault::Failed))]);
+    }
+    Ok(())
+}
+
+#[test]
+fn writers(rt: HostRuntime) {
+    let mut written = Vec::new(rt.alloc());
+    puts(
+        &rt,
+        &mut StdSink::new(&mut written),
+        &[("ab", Ok(())), ("", Ok(())), ("c", Ok(()))],
+    );
+    assert!(rt; written.as_slice() == b"abc".as_slice());
+    let mut sink = StdSink::new(Interrupted {
+        before: 3,
+        after: 2,
+    });
+    puts(
+        &rt,
+        &mut sink,
+        &[
+            ("abc", Ok(())),
+            ("", Ok(())),
+            ("d", Err(PutFault::Failed)),
+            ("ef", Ok(())),
+            ("g", Err(PutFault::Failed)),
+        ],
+    );
+}
+
+#[test]
+fn readers(rt: HostRuntime) {
+    let mut taken = 0;
+    let mut text = b"0123456789".as_slice();
+    for (limit, want) in [(3, Err(FetchFault::TooLong)), (6, Ok(6))] {
+        let given = read_up_to(rt.alloc(), &mut text, limit, &mut taken).map(|bytes| bytes.len());
+        assert!(rt; given == want, "within {limit}");
+    }
+    let mut from = Interrupted {
+        before: 3,
+        after: 2,
+    };
+    for want in [Err(FetchFault::Failed), Ok(2)] {
+        let given = read_up_to(rt.alloc(), &mut from, 9, &mut taken).map(|bytes| bytes.len());
+        assert!(rt; given == want, "interrupted");
+    }
+    assert_eq!(rt; taken, 15, "taken");
+}
