@@ -1,5 +1,5 @@
 -- Store buffers, as the operations that the machine asks of them, and those of the three memory models.
-use Rattle.std.specs.Prelude.{ℕ, ◌==◌, ℤ, pos, Bool, true, false, not, ◌&&◌, Option, Some, None, is_none, unwrap_or, List, [], ◌∷◌, ◌++◌, length, drop, slice_index_or, if◌then◌else◌}
+use Rattle.std.specs.Prelude.{ℕ, ◌==◌, ℤ, pos, Bool, true, false, not, ◌&&◌, Option, Some, None, is_none, unwrap_or, List, [], ◌∷◌, ◌++◌, drop, slice_index_or, if◌then◌else◌}
 use Rattle.std.specs.List.{list_all, last_or}
 use Rattle.std.specs.Option.{option_or}
 use Rattle.std.specs.Ordering.{nat_cmp}
@@ -50,6 +50,10 @@ no_buffer = record {
   bar = λ b. b;
 }
 
+abbrev pub is_nil : {A : Type 0} → List A → Bool
+is_nil [] = true
+is_nil (x ∷ xs) = false
+
 -- where nothing may drain, a drain takes this
 abbrev pub no_entry : Entry
 no_entry = record { cell = 0; value = pos 0 }
@@ -64,10 +68,10 @@ abbrev pub fifo_buffer : BufferOps (List Entry)
 fifo_buffer = record {
   buffered = true;
   empty = [];
-  is_empty = λ b. length b == 0;
+  is_empty = λ b. is_nil b;
   issue = λ b c v. b ++ record { cell = c; value = v } ∷ [];
   forward = newest;
-  may_drain = λ b form. is_none form && not (length b == 0);
+  may_drain = λ b form. is_none form && not (is_nil b);
   drain = λ b form. record { entry = slice_index_or b 0 no_entry; rest = drop 1 b };
   bar = λ b. b;
 }
@@ -110,7 +114,7 @@ drop_first (s ∷ ss) c = if has_no_store s then s ∷ drop_first ss c else with
 
 abbrev pub may_drain_cell : List Segment → Option ℕ → Bool
 may_drain_cell ss None = false
-may_drain_cell ss (Some c) = not (length (first_values ss c) == 0)
+may_drain_cell ss (Some c) = not (is_nil (first_values ss c))
 
 abbrev pub drain_cell : List Segment → Option ℕ → Drained (List Segment)
 drain_cell ss None = record { entry = no_entry; rest = ss }
