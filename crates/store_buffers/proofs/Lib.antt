@@ -1,1 +1,3 @@
+pub mod ByCell
+pub mod Skips
 pub mod Forms

@@ -10,12 +10,18 @@ ghost use Rattle.tc_base.specs.declared.model.Model.{Model as SpecModel};
 ghost use Rattle.store_buffers.specs.Pending.{Binding};
 ghost use Rattle.store_buffers.specs.Laws.{Laws, AreForms};
 
+mod pso;
 mod queue;
 mod sc;
+mod segment;
+mod segments;
 mod tso;
+mod values;
 
+pub use pso::PsoModel;
 pub use queue::Queue;
 pub use sc::Sc;
+pub use segments::Segments;
 use std::alloc::{AllocError, Global};
 use std::fmt::Debug;
 use tc_base::Model;

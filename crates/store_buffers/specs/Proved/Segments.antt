@@ -20,7 +20,7 @@ unwrapped true [] o = refl
 unwrapped true (v ∷ vs) o = refl
 unwrapped false vs o = refl
 
-get-with_values : (s : Segment) (c : ℕ) (vs : List ℤ) (d : ℕ) → fin.get (with_values s c vs) d ≡ cond (d == c) (some_values vs) (fin.get s d)
+pub get-with_values : (s : Segment) (c : ℕ) (vs : List ℤ) (d : ℕ) → fin.get (with_values s c vs) d ≡ cond (d == c) (some_values vs) (fin.get s d)
 get-with_values s c [] d = get-remove nat_cmp_total s c d ∙ ap (λ b. cond b None (fin.get s d)) (unsigned_tied d c)
 get-with_values s c (v ∷ vs) d = get-insert nat_cmp_total s c (v ∷ vs) d ∙ ap (λ b. cond b (Some (v ∷ vs)) (fin.get s d)) (unsigned_tied d c)
 
