@@ -1,0 +1,3 @@
+pub mod ByCell
+pub mod Skips
+pub mod Forms

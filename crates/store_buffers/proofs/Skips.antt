@@ -1,0 +1,207 @@
+-- Segments behind empty ones, and a last one.
+use Rattle.std.proofs.Common.{◌≡◌, ◌+◌, ℕ, ℤ, zero, suc, add-one, List, [], ◌∷◌, ◌++◌, replicate, drop, length, refl, ap, sym, subst, ◌∙◌, Option, Some, None, Bool, true, false, cond, not, ◌&&◌, append_assoc, is_some, IsTrue, ◌↔◌, ◌<◌, slice_index_or, length-append, ◌==◌, arith}
+use Rattle.std.proofs.Math.Dec.{eqb-suc-zero}
+use Rattle.std.specs.Ordering.{nat_cmp}
+use Rattle.std.specs.List.{list_all, last_or}
+use Rattle.std.specs.Option.{option_or}
+use Rattle.std.specs.FinMap as fin
+use Rattle.std.specs.FinMap.{empty_of_len}
+use Rattle.std.proofs.lemmas.Bool.{false≢true}
+use Rattle.tc_base.specs.Buffers.{Segment, values_to, with_values, has_no_store, issue_last, last_value, first_values, drop_first, is_nil}
+use Rattle.store_buffers.specs.Proved.Segments.{values-empty, no_store-empty, has_store, eq_is}
+use Rattle.store_buffers.specs.Seen.{after_empty, begins_empty, values_in_first, drop_in_first}
+
+-- a store goes into the last
+pub issue-last : (ss : List Segment) (s : Segment) (c : ℕ) (v : ℤ) → issue_last (ss ++ s ∷ []) c v ≡ ss ++ with_values s c (values_to s c ++ v ∷ []) ∷ []
+issue-last [] s c v = refl
+issue-last (t ∷ []) s c v = refl
+issue-last (t ∷ u ∷ ss) s c v = ap (λ us. t ∷ us) (issue-last (u ∷ ss) s c v)
+
+pub last_value-append : (ss : List Segment) (s : Segment) (c : ℕ) → last_value (ss ++ s ∷ []) c ≡ option_or (last_or None (values_to s c)) (last_value ss c)
+last_value-append [] s c = or_none (last_or None (values_to s c))
+  where
+    or_none : (o : Option ℤ) → o ≡ option_or o None
+    or_none None = refl
+    or_none (Some v) = refl
+last_value-append (t ∷ ss) s c = ap (λ o. option_or o (last_or None (values_to t c))) (last_value-append ss s c) ∙ assoc (last_or None (values_to s c)) (last_value ss c) (last_or None (values_to t c))
+  where
+    assoc : (o p q : Option ℤ) → option_or (option_or o p) q ≡ option_or o (option_or p q)
+    assoc None p q = refl
+    assoc (Some v) p q = refl
+
+pub last_value-after : (n : ℕ) (ss : List Segment) (c : ℕ) → last_value (after_empty n ss) c ≡ last_value ss c
+last_value-after zero ss c = refl
+last_value-after (suc n) ss c = ap (λ vs. option_or (last_value (after_empty n ss) c) (last_or None vs)) (values-empty c) ∙ or_none _ ∙ last_value-after n ss c
+  where
+    or_none : (o : Option ℤ) → option_or o None ≡ o
+    or_none None = refl
+    or_none (Some v) = refl
+
+pub all_empty-after : (n : ℕ) (ss : List Segment) → list_all has_no_store (after_empty n ss) ≡ list_all has_no_store ss
+all_empty-after zero ss = refl
+all_empty-after (suc n) ss = ap (λ b. b && list_all has_no_store (after_empty n ss)) no_store-empty ∙ all_empty-after n ss
+
+pub first_values-after : (n : ℕ) (ss : List Segment) (c : ℕ) → first_values (after_empty n ss) c ≡ first_values ss c
+first_values-after zero ss c = refl
+first_values-after (suc n) ss c = ap (λ b. cond b (first_values (after_empty n ss) c) (values_to fin.empty c)) no_store-empty ∙ first_values-after n ss c
+
+pub drop_first-after : (n : ℕ) (ss : List Segment) (c : ℕ) → drop_first (after_empty n ss) c ≡ after_empty n (drop_first ss c)
+drop_first-after zero ss c = refl
+drop_first-after (suc n) ss c =
+    ap (λ b. cond b (fin.empty ∷ drop_first (after_empty n ss) c) (with_values fin.empty c (drop 1 (values_to fin.empty c)) ∷ after_empty n ss)) no_store-empty
+    ∙ ap (λ us. fin.empty ∷ us) (drop_first-after n ss c)
+
+-- an empty segment is one more of them
+pub one_more : (n : ℕ) (ss : List Segment) → after_empty (n + 1) ss ≡ after_empty n (fin.empty ∷ ss)
+one_more n ss = ap (λ k. after_empty k ss) (add-one n) ∙ one_behind n ss
+  where
+    one_behind : (n : ℕ) (ss : List Segment) → after_empty (suc n) ss ≡ after_empty n (fin.empty ∷ ss)
+    one_behind zero ss = refl
+    one_behind (suc n) ss = ap (λ us. fin.empty ∷ us) (one_behind n ss)
+
+-- a segment without a store is the empty one
+pub empty_is : (s : Segment) → has_no_store s ≡ true → s ≡ fin.empty
+empty_is s e = empty_of_len s (eq_is (fin.len s) 0 e)
+
+no_values : (s : Segment) (c : ℕ) (b : Bool) → has_no_store s ≡ b → cond b [] (values_to s c) ≡ values_to s c
+no_values s c true e = sym (ap (λ t. values_to t c) (empty_is s e) ∙ values-empty c)
+no_values s c false e = refl
+
+-- one segment alone counts whether or not it has a store
+pub first_values-alone : (s : Segment) (c : ℕ) → first_values (s ∷ []) c ≡ values_to s c
+first_values-alone s c = no_values s c _ refl
+
+pub first_values-store : (s : Segment) (ss : List Segment) (c : ℕ) → has_no_store s ≡ false → first_values (s ∷ ss) c ≡ values_to s c
+first_values-store s ss c e = ap (λ b. cond b (first_values ss c) (values_to s c)) e
+
+pub drop_first-store : (s : Segment) (ss : List Segment) (c : ℕ) → has_no_store s ≡ false → drop_first (s ∷ ss) c ≡ with_values s c (drop 1 (values_to s c)) ∷ ss
+drop_first-store s ss c e = ap (λ b. cond b (s ∷ drop_first ss c) (with_values s c (drop 1 (values_to s c)) ∷ ss)) e
+
+-- what a store, a load, a drain and a bar make of them
+pub issued : (n : ℕ) (older : List Segment) (s t : Segment) (now : List Segment) (c : ℕ) (v w : ℤ) → after_empty n (older ++ s ∷ []) ≡ now → w ≡ v → t ≡ with_values s c (values_to s c ++ w ∷ []) → after_empty n (older ++ t ∷ []) ≡ issue_last now c v
+issued n older s t now c v w is same put =
+    ap (λ u. after_empty n (older ++ u ∷ [])) (put ∙ ap (λ x. with_values s c (values_to s c ++ x ∷ [])) same)
+    ∙ sym (
+    ap (λ ss. issue_last ss c v) (sym is ∙ sym (append_assoc (replicate n fin.empty) older (s ∷ [])))
+    ∙ issue-last (replicate n fin.empty ++ older) s c v
+    ∙ append_assoc (replicate n fin.empty) older (with_values s c (values_to s c ++ v ∷ []) ∷ []))
+
+pub forwarded : (n : ℕ) (older : List Segment) (s : Segment) (now : List Segment) (c : ℕ) → after_empty n (older ++ s ∷ []) ≡ now → option_or (last_or None (values_to s c)) (last_value older c) ≡ last_value now c
+forwarded n older s now c is = sym (ap (λ ss. last_value ss c) (sym is) ∙ last_value-after n (older ++ s ∷ []) c ∙ last_value-append older s c)
+
+pub some_or : (o p : Option ℤ) → is_some o ≡ true → option_or o p ≡ o
+some_or None p e = absurd (false≢true e)
+some_or (Some v) p e = refl
+
+pub none_or : (o p : Option ℤ) → is_some o ≡ false → option_or o p ≡ p
+none_or None p e = refl
+none_or (Some v) p e = absurd (false≢true (sym e))
+
+pub front_values : (n : ℕ) (older : List Segment) (s : Segment) (now : List Segment) (c : ℕ) → after_empty n (older ++ s ∷ []) ≡ now → begins_empty older ≡ false → first_values now c ≡ first_values (older ++ s ∷ []) c
+front_values n older s now c is begins = ap (λ ss. first_values ss c) (sym is) ∙ first_values-after n (older ++ s ∷ []) c
+
+pub older_front : (older : List Segment) (s : Segment) (x : Segment) (c : ℕ) → 0 < length older → x ≡ slice_index_or older 0 x → begins_empty older ≡ false → first_values (older ++ s ∷ []) c ≡ values_to x c
+older_front [] s x c some at begins = absurd (omega arith)
+older_front (t ∷ older) s x c some at begins = first_values-store t (older ++ s ∷ []) c begins ∙ ap (λ u. values_to u c) (sym at)
+
+pub older_first : (older : List Segment) (s : Segment) (c : ℕ) → 0 < length older → begins_empty older ≡ false → first_values (older ++ s ∷ []) c ≡ values_in_first older c
+older_first [] s c some begins = absurd (omega arith)
+older_first (t ∷ older) s c some begins = first_values-store t (older ++ s ∷ []) c begins
+
+pub older_dropped : (older : List Segment) (s : Segment) (c : ℕ) → 0 < length older → begins_empty older ≡ false → drop_first (older ++ s ∷ []) c ≡ drop_in_first older c ++ s ∷ []
+older_dropped [] s c some begins = absurd (omega arith)
+older_dropped (t ∷ older) s c some begins = drop_first-store t (older ++ s ∷ []) c begins
+
+pub all_empty : (n : ℕ) (older : List Segment) (s : Segment) (now : List Segment) → after_empty n (older ++ s ∷ []) ≡ now → begins_empty older ≡ false → list_all has_no_store now ≡ is_nil older && has_no_store s
+all_empty n [] s now is begins = ap (list_all has_no_store) (sym is) ∙ all_empty-after n (s ∷ []) ∙ and_true (has_no_store s)
+  where
+    and_true : (b : Bool) → b && true ≡ b
+    and_true true = refl
+    and_true false = refl
+all_empty n (t ∷ older) s now is begins = ap (list_all has_no_store) (sym is) ∙ all_empty-after n (t ∷ older ++ s ∷ []) ∙ ap (λ b. b && list_all has_no_store (older ++ s ∷ [])) begins
+
+pub nil_by_len : {A : Type 0} (xs : List A) (b : Bool) (n : ℕ) → n ≡ length xs → IsTrue b ↔ (n ≡ 0) → b ≡ is_nil xs
+nil_by_len [] true n len is = refl
+nil_by_len [] false n len is = absurd (false≢true (is.1 len))
+nil_by_len (x ∷ xs) true n len is = absurd (not_both n (length xs) len (is.0 refl))
+  where
+    not_both : (n m : ℕ) → n ≡ suc m → n ≡ 0 → ⊥
+    not_both n m e f = omega arith
+nil_by_len (x ∷ xs) false n len is = refl
+
+pub length-after : (n : ℕ) (ss : List Segment) → length (after_empty n ss) ≡ n + length ss
+length-after n ss = length-append (replicate n fin.empty) ss ∙ ap (λ k. k + length ss) (length-replicate n)
+  where
+    length-replicate : (n : ℕ) → length (replicate n (fin.empty {K = ℕ} {X = List ℤ} {R = nat_cmp})) ≡ n
+    length-replicate zero = refl
+    length-replicate (suc n) = ap suc (length-replicate n)
+
+-- how many segments there are
+pub segment_count : (n : ℕ) (older : List Segment) (s : Segment) (now : List Segment) → after_empty n (older ++ s ∷ []) ≡ now → length now ≡ n + (length older + 1)
+segment_count n older s now is = ap length (sym is) ∙ length-after n (older ++ s ∷ []) ∙ ap (λ k. n + k) (length-append older (s ∷ []))
+
+-- a bar behind empty segments alone is one more of them
+pub barred_empty : (n : ℕ) (older : List Segment) (s : Segment) (now : List Segment) → after_empty n (older ++ s ∷ []) ≡ now → begins_empty older ≡ false → list_all has_no_store now ≡ true → after_empty (n + 1) (older ++ s ∷ []) ≡ now ++ fin.empty ∷ []
+barred_empty n [] s now is begins e =
+    let none = empty_is s (sym (all_empty n [] s now is refl) ∙ e) in
+    one_more n (s ∷ [])
+    ∙ ap (λ t. after_empty n (fin.empty ∷ t ∷ [])) none
+    ∙ ap (λ t. after_empty n (t ∷ fin.empty ∷ [])) (sym none)
+    ∙ sym (append_assoc (replicate n fin.empty) (s ∷ []) (fin.empty ∷ []))
+    ∙ ap (λ ss. ss ++ fin.empty ∷ []) is
+barred_empty n (t ∷ older) s now is begins e = absurd (false≢true (sym (all_empty n (t ∷ older) s now is begins) ∙ e))
+
+-- segments that aren't all empty begin with a store once the last is among the older ones
+pub begins_after : (n : ℕ) (older : List Segment) (s : Segment) (now : List Segment) → after_empty n (older ++ s ∷ []) ≡ now → begins_empty older ≡ false → list_all has_no_store now ≡ false → begins_empty (older ++ s ∷ []) ≡ false
+begins_after n [] s now is begins e = sym (all_empty n [] s now is refl) ∙ e
+begins_after n (t ∷ older) s now is begins e = begins
+
+pub nil_of_len : (ss : List Segment) → length ss ≡ 0 → ss ≡ []
+nil_of_len [] e = refl
+nil_of_len (s ∷ ss) e = absurd (omega arith)
+
+-- with no older segment the last counts
+pub alone_front : (older : List Segment) (s : Segment) (c : ℕ) → older ≡ [] → first_values (older ++ s ∷ []) c ≡ values_to s c
+alone_front older s c none = ap (λ ss. first_values (ss ++ s ∷ []) c) none ∙ first_values-alone s c
+
+pub none_by_variant : (ss : List Segment) (n : ℕ) → n ≡ length ss → (0 < n → false ≡ true) → ss ≡ []
+none_by_variant [] n len h = refl
+none_by_variant (s ∷ ss) n len h = absurd (false≢true (h (omega arith)))
+
+pub nil_test : {A : Type 0} (xs : List A) (n : ℕ) → n ≡ length xs → (n == 0) ≡ is_nil xs
+nil_test [] n len = ap (λ k. k == 0) len
+nil_test (x ∷ xs) n len = ap (λ k. k == 0) len ∙ eqb-suc-zero (length xs)
+
+pub some_len : {A : Type 0} (xs : List A) → is_nil xs ≡ false → 0 < length xs
+some_len [] e = absurd (false≢true (sym e))
+some_len (x ∷ xs) e = omega arith
+
+pub nil_is : {A : Type 0} (xs : List A) → is_nil xs ≡ true → xs ≡ []
+nil_is [] e = refl
+nil_is (x ∷ xs) e = absurd (false≢true e)
+
+-- an empty segment in front is skipped
+pub skipped_one : (n : ℕ) (ss ts : List Segment) → begins_empty ss ≡ true → ts ≡ drop 1 ss → after_empty (n + 1) ts ≡ after_empty n ss
+skipped_one n [] ts begins is = absurd (false≢true begins)
+skipped_one n (s ∷ ss) ts begins is = one_more n ts ∙ ap (λ us. after_empty n (fin.empty ∷ us)) is ∙ ap (λ t. after_empty n (t ∷ ss)) (sym (empty_is s begins))
+
+pub skipped_len : (ss ts : List Segment) → begins_empty ss ≡ true → ts ≡ drop 1 ss → length ts + 1 ≡ length ss
+skipped_len [] ts begins is = absurd (false≢true begins)
+skipped_len (s ∷ ss) ts begins is = ap (λ us. length us + 1) is ∙ add-one (length ss)
+
+-- a drain from the last segment, which is alone
+pub drained_last : (n : ℕ) (older : List Segment) (s t : Segment) (now : List Segment) (c : ℕ) → after_empty n (older ++ s ∷ []) ≡ now → older ≡ [] → is_nil (first_values now c) ≡ false → t ≡ with_values s c (drop 1 (values_to s c)) → after_empty n (older ++ t ∷ []) ≡ drop_first now c
+drained_last n older s t now c is none some put =
+    let alone : after_empty n (s ∷ []) ≡ now = ap (λ ss. after_empty n (ss ++ s ∷ [])) (sym none) ∙ is in
+    let values = ap (λ ss. first_values ss c) (sym alone) ∙ first_values-after n (s ∷ []) c ∙ first_values-alone s c in
+    ap (λ ss. after_empty n (ss ++ t ∷ [])) none
+    ∙ ap (λ u. after_empty n (u ∷ [])) put
+    ∙ sym (ap (λ ss. drop_first ss c) (sym alone) ∙ drop_first-after n (s ∷ []) c ∙ ap (after_empty n) (drop_first-store s [] c (has_store s c (sym (ap is_nil values) ∙ some))))
+
+-- and one from the first of those before it
+pub drained_older : (n m : ℕ) (older popped new : List Segment) (s : Segment) (now : List Segment) (c : ℕ) → after_empty n (older ++ s ∷ []) ≡ now → begins_empty older ≡ false → 0 < length older → popped ≡ drop_in_first older c → after_empty m new ≡ after_empty n popped → after_empty m (new ++ s ∷ []) ≡ drop_first now c
+drained_older n m older popped new s now c is begins some put same =
+    sym (append_assoc (replicate m fin.empty) new (s ∷ []))
+    ∙ ap (λ ss. ss ++ s ∷ []) (same ∙ ap (after_empty n) put)
+    ∙ append_assoc (replicate n fin.empty) (drop_in_first older c) (s ∷ [])
+    ∙ sym (ap (λ ss. drop_first ss c) (sym is) ∙ drop_first-after n (older ++ s ∷ []) c ∙ ap (after_empty n) (older_dropped older s c some begins))

@@ -1,0 +1,6 @@
+use Rattle.std.proofs.Common.{◌∙◌, sym, ap, not, List, ℤ}
+use Rattle.tc_base.specs.Buffers.{is_nil}
+use Rattle.store_buffers.proofs.segments.Segments.may_drain.Goals as goal
+
+pub returns : goal.returns
+returns c = c.has.ensures ∙ ap (λ (vs : List ℤ). not (is_nil vs)) (sym (c.front.ensures c.args.cell))

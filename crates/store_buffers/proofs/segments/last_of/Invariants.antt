@@ -1,0 +1,9 @@
+use Rattle.std.proofs.Common.{◌≡◌}
+use Rattle.std.specs.Option.{option_or}
+use Rattle.std.specs.VecDeque.Iter.{deque_iter_rest}
+use Rattle.tc_base.specs.Buffers.{last_value}
+use Rattle.store_buffers.proofs.segments.last_of.Given as goal
+
+-- the last value of all is that of those to come, or else what was found
+abbrev pub invariant-loop-segment : goal.invariant-loop-segment
+invariant-loop-segment l = last_value l.segments.items l.cell ≡ option_or (last_value (deque_iter_rest l.segment-iterator) l.cell) l.last

@@ -1,0 +1,4 @@
+pub mod Pending
+pub mod Laws
+pub mod Seen
+pub mod Proved

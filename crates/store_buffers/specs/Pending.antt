@@ -1,0 +1,57 @@
+-- What a thread has put into its store buffer and hasn't drained yet, as a list, oldest first.
+use Rattle.std.specs.Prelude.{◌≡◌, ℕ, ◌==◌, Bool, true, false, ◌||◌, Option, Some, None, List, [], ◌∷◌, ◌++◌, fold, if◌then◌else◌}
+use Rattle.tc_base.specs.Buffers.{Entry, BufferOps}
+
+pub data Pending : Type 0 where
+  Store : (entry : Entry) → Pending
+  Bar : Pending
+
+abbrev pub stores : List Pending → List Entry
+stores [] = []
+stores (Store e ∷ ps) = e ∷ stores ps
+stores (Bar ∷ ps) = stores ps
+
+abbrev pub has_bar : List Pending → Bool
+has_bar [] = false
+has_bar (Store e ∷ ps) = has_bar ps
+has_bar (Bar ∷ ps) = true
+
+-- whether a store is bound to reach memory before a newer one of its thread, by whether their cells are the same and
+-- whether a bar stands between them
+abbrev pub Binding : Type 0
+Binding = (same_cell barred : Bool) → Bool
+
+-- every store is bound: there is one queue, or none
+abbrev pub binds_all : Binding
+binds_all _ _ = true
+
+-- stores to one cell are bound, and those with a bar between them
+abbrev pub binds_cells : Binding
+binds_cells same_cell barred = same_cell || barred
+
+-- whether a store to a cell that comes after these has to wait for one of them
+abbrev pub waits : Binding → List Pending → ℕ → Bool
+waits bound [] c = false
+waits bound (Store e ∷ ps) c = bound (e.cell == c) (has_bar ps) || waits bound ps c
+waits bound (Bar ∷ ps) c = waits bound ps c
+
+-- the form by which a cell's stores drain: none where all stores are bound, and else the cell
+abbrev pub form_of : Binding → ℕ → Option ℕ
+form_of bound c = if bound false false then None else Some c
+
+-- among these a store may drain by a form: what is older, the store, and what is newer
+pub record Drains (bound : Binding) (ps : List Pending) (form : Option ℕ) (older : List Pending) (store : Entry) (newer : List Pending) : Type 0 where
+  pub there : ps ≡ older ++ Store store ∷ newer
+  pub by_form : form_of bound store.cell ≡ form
+  pub is_free : waits bound older store.cell ≡ false
+
+module _ {B : Type 0} (ops : BufferOps B) where
+  abbrev pub put : B → Pending → B
+  put b (Store e) = ops.issue b e.cell e.value
+  put b Bar = ops.bar b
+
+  -- a buffer stands for the lists that make it: their stores are issued and their bars put in, in turn, from the empty
+  -- one. Without buffers nothing is ever issued
+  pub record Stands (b : B) (ps : List Pending) : Type 0 where
+    pub made : b ≡ fold put ops.empty ps
+    pub issued : ops.buffered ≡ false → stores ps ≡ []

@@ -1,0 +1,20 @@
+-- Sequential consistency meets the laws.
+use Rattle.std.proofs.Common.{◌≡◌, ◌==◌, Bool, true, false, List, [], length, refl, sym, ap, ◌∙◌}
+use Rattle.std.proofs.lemmas.Bool.{false≢true}
+use Rattle.tc_base.specs.Buffers.{no_buffer, newest, is_nil}
+use Rattle.tc_base.specs.declared.model.Model.TheVariants.{Sc}
+use Rattle.store_buffers.specs.Pending.{stores, binds_all}
+use Rattle.store_buffers.specs.Laws.{Laws}
+use Rattle.store_buffers.specs.Proved.Lists.{store_there}
+
+pub sc_laws : Laws no_buffer Sc binds_all
+sc_laws = record {
+  form_law = refl;
+  same_cell = λ _. refl;
+  barred = λ _. refl;
+  empty_law = λ b ps s. sym (ap (λ es. is_nil es) (s.issued refl));
+  forward_stands = λ b ps c s. sym (ap (λ es. newest es c) (s.issued refl));
+  may_drain_stands = λ b ps form s may. absurd (false≢true may);
+  drain_stands = λ b ps form older e newer s d. absurd (store_there older e newer (sym (ap stores d.there) ∙ s.issued refl));
+  unbuffered = λ _ b form. refl;
+}

@@ -1,0 +1,27 @@
+-- The Rust types as the data that the definitions speak of.
+use Rattle.std.specs.Prelude.{ℕ, ℤ, Bool, false, List, [], ◌++◌, ◌∷◌, drop, replicate}
+use Rattle.std.specs.FinMap as fin
+use Rattle.tc_base.specs.Buffers.{Entry, Segment, values_to, with_values, has_no_store}
+use Rattle.store_buffers.specs.declared.queue.Store.{Store}
+
+abbrev pub plain_store : Store → Entry
+plain_store s = record { cell = s.cell; value = s.value }
+
+-- segments behind a number of empty ones
+abbrev pub after_empty : ℕ → List Segment → List Segment
+after_empty n ss = replicate n fin.empty ++ ss
+
+-- whether the first of the segments has no store
+abbrev pub begins_empty : List Segment → Bool
+begins_empty [] = false
+begins_empty (s ∷ ss) = has_no_store s
+
+-- the values to a cell in the first of the segments
+abbrev pub values_in_first : List Segment → ℕ → List ℤ
+values_in_first [] c = []
+values_in_first (s ∷ ss) c = values_to s c
+
+-- the segments without the first of these
+abbrev pub drop_in_first : List Segment → ℕ → List Segment
+drop_in_first [] c = []
+drop_in_first (s ∷ ss) c = with_values s c (drop 1 (values_to s c)) ∷ ss

@@ -1,0 +1,97 @@
+//! The store buffers of the three memory models, and the trait by which all else is generic over them.
+//!
+//! What a generic caller may use is [`MemoryModel`]: the calls compute the operations `ops` on a buffer's meaning, and
+//! the laws say how such a buffer stands for a list of pending stores and bars, oldest first.
+#![tactic(auto)]
+
+ghost use Rattle.std.specs.Prelude.{◌≡◌, ℕ, Bool, true, IfOk, OnOk, OnErr};
+ghost use Rattle.tc_base.specs.Buffers.{BufferOps};
+ghost use Rattle.tc_base.specs.declared.model.Model.{Model as SpecModel};
+ghost use Rattle.store_buffers.specs.Pending.{Binding};
+ghost use Rattle.store_buffers.specs.Laws.{Laws, AreForms};
+
+mod pso;
+mod queue;
+mod sc;
+mod segment;
+mod segments;
+mod tso;
+mod values;
+
+pub use pso::PsoModel;
+pub use queue::Queue;
+pub use sc::Sc;
+pub use segments::Segments;
+use std::alloc::{AllocError, Global};
+use std::fmt::Debug;
+use tc_base::Model;
+pub use tso::TsoModel;
+
+/// How a thread's stores reach memory.
+///
+/// Each thread has a buffer of its own. Under a model without buffers a store goes to memory at once, and the buffer
+/// stays empty.
+pub trait MemoryModel {
+    /// A thread's stores on their way to memory.
+    type Buffer: Debug + Drop;
+
+    /// Which of the three models it is.
+    const MODEL: Model;
+    /// Whether a store goes into the buffer.
+    const BUFFERED: bool;
+
+    ghost MODEL: { SpecModel };
+
+    ghost BUFFERED: { Bool };
+    /// The operations on what a buffer means.
+    ghost ops: { BufferOps Self.Buffer };
+
+    ghost bound: { Binding };
+
+    /// A buffer with nothing in it.
+    fn empty(alloc: Global) -> Self::Buffer
+        ensures { result ≡ ops.empty };
+
+    /// Puts in a store.
+    fn issue(buffer: &mut Self::Buffer, cell: u32, value: i32) -> Result<(), AllocError>
+        requires { BUFFERED ≡ true }
+        ensures ok { OnOk result (buffer.new ≡ ops.issue buffer.old cell value) }
+        ensures err { OnErr result (buffer.new ≡ buffer.old) };
+
+    /// The value of the newest store to a cell, which is what a load of the same thread takes.
+    fn forward(buffer: &Self::Buffer, cell: u32) -> Option<i32>
+        ensures { result ≡ ops.forward buffer.now cell };
+
+    /// Whether no store is pending.
+    fn is_empty(buffer: &Self::Buffer) -> bool
+        ensures { result ≡ ops.is_empty buffer.now };
+
+    /// Whether a store may drain by this form.
+    fn may_drain(buffer: &Self::Buffer, form: Option<u32>) -> bool
+        ensures { result ≡ ops.may_drain buffer.now form };
+
+    /// Takes out the store that drains by this form: its cell and value.
+    fn drain(buffer: &mut Self::Buffer, form: Option<u32>) -> (u32, i32)
+        requires { ops.may_drain buffer.old form ≡ true }
+        ensures cell { result.0 ≡ (ops.drain buffer.old form).entry.cell }
+        ensures value { result.1 ≡ (ops.drain buffer.old form).entry.value }
+        ensures rest { buffer.new ≡ (ops.drain buffer.old form).rest };
+
+    /// Puts in a bar: no store after it reaches memory before one that is there now.
+    fn bar(buffer: &mut Self::Buffer) -> Result<(), AllocError>
+        ensures ok { OnOk result (buffer.new ≡ ops.bar buffer.old) }
+        ensures err { OnErr result (buffer.new ≡ buffer.old) };
+
+    /// The forms by which the buffer may drain, in order: none, or cells that rise.
+    fn forms(alloc: Global, buffer: &Self::Buffer) -> Result<Vec<Option<u32>>, AllocError>
+        ensures { IfOk result (λ forms. AreForms ops buffer.now forms.items) };
+
+    /// Whether a store is bound to reach memory before a newer one of its thread, by whether their cells are the same
+    /// and whether a bar stands between them.
+    fn bound(same_cell: bool, barred: bool) -> bool
+        ensures { result ≡ bound same_cell barred };
+
+    ghost buffered: { BUFFERED ≡ ops.buffered };
+
+    ghost laws: { Laws ops MODEL bound };
+}

@@ -1,0 +1,71 @@
+//! Partial store order: a queue of stores for each cell.
+ghost use Rattle.std.specs.Prelude.{refl, true};
+ghost use Rattle.tc_base.specs.Buffers.{cell_buffer};
+ghost use Rattle.tc_base.specs.declared.model.Model.TheVariants as model;
+ghost use Rattle.store_buffers.specs.Pending.{binds_cells};
+ghost use Rattle.store_buffers.specs.Proved.Partial.{pso_laws};
+
+use crate::MemoryModel;
+use crate::segments::Segments;
+use std::alloc::{AllocError, Global};
+use tc_base::Model;
+
+/// Partial store order.
+#[derive(Clone, Copy, Debug)]
+pub struct PsoModel;
+
+impl MemoryModel for PsoModel {
+    type Buffer = Segments;
+
+    const MODEL: Model = Model::Pso;
+    const BUFFERED: bool = true;
+
+    ghost MODEL = { model.Pso };
+    ghost BUFFERED = { true };
+    ghost ops = { cell_buffer };
+    ghost bound = { binds_cells };
+    ghost buffered = { refl };
+    ghost laws = { pso_laws };
+
+    fn empty(alloc: Global) -> Segments {
+        Segments::new(alloc)
+    }
+
+    fn issue(buffer: &mut Segments, cell: u32, value: i32) -> Result<(), AllocError> {
+        buffer.issue(cell, value)
+    }
+
+    fn forward(buffer: &Segments, cell: u32) -> Option<i32> {
+        buffer.forward(cell)
+    }
+
+    fn is_empty(buffer: &Segments) -> bool {
+        buffer.is_empty()
+    }
+
+    fn may_drain(buffer: &Segments, form: Option<u32>) -> bool {
+        match form {
+            Some(cell) => buffer.may_drain(cell),
+            None => false,
+        }
+    }
+
+    fn drain(buffer: &mut Segments, form: Option<u32>) -> (u32, i32) {
+        match form {
+            Some(cell) => (cell, buffer.drain(cell).unwrap_or(0)),
+            None => (0, 0),
+        }
+    }
+
+    fn bar(buffer: &mut Segments) -> Result<(), AllocError> {
+        buffer.bar()
+    }
+
+    fn forms(alloc: Global, buffer: &Segments) -> Result<Vec<Option<u32>>, AllocError> {
+        buffer.forms(alloc)
+    }
+
+    fn bound(same_cell: bool, barred: bool) -> bool {
+        same_cell || barred
+    }
+}
