@@ -1,0 +1,4 @@
+pub mod Tokens
+pub mod Pieces
+pub mod Places
+pub mod Text
