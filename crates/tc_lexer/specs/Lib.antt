@@ -2,3 +2,4 @@ pub mod Tokens
 pub mod Pieces
 pub mod Places
 pub mod Text
+pub mod helpers

@@ -2,9 +2,15 @@
 #![tactic(auto)]
 
 mod fault;
+mod lexer;
+mod piece;
+mod place;
 mod token;
 mod tokens;
+mod words;
 
 pub use fault::LexFault;
+pub use lexer::lex;
+pub use place::place_after;
 pub use token::{Keyword, Sign, Token, TokenKind};
 pub use tokens::Tokens;

@@ -1,5 +1,6 @@
 //! A token: what it is, and where it stands.
 ghost use Rattle.std.specs.Prelude.{◌≡◌, ◌≤◌, length, slice_range};
+ghost use Rattle.tc_lexer.specs.Tokens.{keyword_text, sign_text};
 
 use tc_base::Place;
 
@@ -48,6 +49,37 @@ pub enum Keyword {
     Cas,
     /// `stbar`, from language 3 on
     Stbar,
+}
+
+impl Keyword {
+    /// How it is written.
+    pub fn text(&self) -> &'static [u8]
+        ensures { result.now ≡ keyword_text self.now }
+    {
+        match self {
+            Keyword::Int => b"int",
+            Keyword::Mutex => b"mutex",
+            Keyword::Cond => b"cond",
+            Keyword::Thread => b"thread",
+            Keyword::Main => b"main",
+            Keyword::Tid => b"tid",
+            Keyword::If => b"if",
+            Keyword::Else => b"else",
+            Keyword::While => b"while",
+            Keyword::Create => b"create",
+            Keyword::Join => b"join",
+            Keyword::Lock => b"lock",
+            Keyword::Unlock => b"unlock",
+            Keyword::Wait => b"wait",
+            Keyword::Signal => b"signal",
+            Keyword::Broadcast => b"broadcast",
+            Keyword::Fence => b"fence",
+            Keyword::Assert => b"assert",
+            Keyword::Swap => b"swap",
+            Keyword::Cas => b"cas",
+            Keyword::Stbar => b"stbar",
+        }
+    }
 }
 
 /// The signs.
@@ -111,6 +143,45 @@ pub enum Sign {
     AndAnd,
     /// `||`
     OrOr,
+}
+
+impl Sign {
+    /// How it is written.
+    pub fn text(&self) -> &'static [u8]
+        ensures { result.now ≡ sign_text self.now }
+    {
+        match self {
+            Sign::OpenParen => b"(",
+            Sign::CloseParen => b")",
+            Sign::OpenBracket => b"[",
+            Sign::CloseBracket => b"]",
+            Sign::OpenBrace => b"{",
+            Sign::CloseBrace => b"}",
+            Sign::Comma => b",",
+            Sign::Semicolon => b";",
+            Sign::Assign => b"=",
+            Sign::Plus => b"+",
+            Sign::Minus => b"-",
+            Sign::Star => b"*",
+            Sign::Slash => b"/",
+            Sign::Percent => b"%",
+            Sign::Bang => b"!",
+            Sign::Tilde => b"~",
+            Sign::Less => b"<",
+            Sign::LessEqual => b"<=",
+            Sign::Greater => b">",
+            Sign::GreaterEqual => b">=",
+            Sign::EqualEqual => b"==",
+            Sign::BangEqual => b"!=",
+            Sign::ShiftLeft => b"<<",
+            Sign::ShiftRight => b">>",
+            Sign::And => b"&",
+            Sign::Caret => b"^",
+            Sign::Or => b"|",
+            Sign::AndAnd => b"&&",
+            Sign::OrOr => b"||",
+        }
+    }
 }
 
 /// What a token is. The name that a `Name` is stands in the text, at the token's span.
