@@ -25,7 +25,7 @@ use Rattle.tc_lexer.proofs.Comments.{HasNoClose, mapped, close_is, close_found}
 
 -- Bytes.
 
-word_no_space : (b : ℕ) → is_word b ≡ true → is_space b ≡ false
+pub word_no_space : (b : ℕ) → is_word b ≡ true → is_space b ≡ false
 word_no_space b h = grind (arith, nat_tests)
 
 digit_no_letter : (b : ℕ) → is_digit b ≡ true → is_letter b ≡ false
@@ -34,7 +34,7 @@ digit_no_letter b h = grind (arith, nat_tests)
 digit_is_word : (b : ℕ) → is_digit b ≡ true → is_word b ≡ true
 digit_is_word b h = grind (arith, nat_tests)
 
-digits_are_words : (bs : List ℕ) → list_all is_digit bs ≡ true → list_all is_word bs ≡ true
+pub digits_are_words : (bs : List ℕ) → list_all is_digit bs ≡ true → list_all is_word bs ≡ true
 digits_are_words [] h = refl
 digits_are_words (b ∷ bs) h =
     let p = and_parts (is_digit b) (list_all is_digit bs) h in
@@ -67,7 +67,7 @@ line_front language body rest h e =
     let run = prefix_len_run other body rest h (ends_run language (LineComment body) other (λ b. refl) rest e) in
     ap (λ (s : List ℕ). Some (LineComment s)) (take_at body rest (prefix_len other (body ++ rest)) (sym run))
 
-block_front : (language : ℕ) (body rest : List ℕ) → HasNoClose body → front language (written (BlockComment body) ++ rest) ≡ Some (BlockComment body)
+pub block_front : (language : ℕ) (body rest : List ℕ) → HasNoClose body → front language (written (BlockComment body) ++ rest) ≡ Some (BlockComment body)
 block_front language body rest h =
     ap (λ (s : List ℕ). option_map BlockComment (before_close s)) (append_assoc body (codes "*/") rest) ∙ ap (option_map BlockComment) (close_found body rest h)
 
@@ -78,7 +78,7 @@ word_front language (b ∷ bs) rest t some all z h =
     let word : take (prefix_len is_word (b ∷ (bs ++ rest))) (b ∷ (bs ++ rest)) ≡ b ∷ bs = take_at (b ∷ bs) rest _ (sym (prefix_len_run is_word (b ∷ bs) rest all z)) in
     cond-false (is_space b) _ _ (word_no_space b first) ∙ (cond-true (is_word b) _ _ first ∙ ap (λ (w : List ℕ). option_map Token (word_token language w)) word ∙ ap (option_map Token) h)
 
-letter_some : (word : List ℕ) → begins_with_letter word ≡ true → 0 < length word
+pub letter_some : (word : List ℕ) → begins_with_letter word ≡ true → 0 < length word
 letter_some [] h = absurd cc
 letter_some (b ∷ bs) h = omega arith
 
@@ -115,7 +115,7 @@ slash_alone b bs e =
     (and_left _ _ (eq_swapped 47 b ∙ p.0), and_left _ _ (eq_swapped 42 b ∙ p.1))
 
 -- a sign begins no blank and no word
-sign_front : (language : ℕ) (s : AnySign) (rest : List ℕ) → SignEnds language s rest → front language (sign_text s ++ rest) ≡ option_map (λ (t : AnySign). Token (Sign t)) (sign_at language (sign_text s ++ rest))
+pub sign_front : (language : ℕ) (s : AnySign) (rest : List ℕ) → SignEnds language s rest → front language (sign_text s ++ rest) ≡ option_map (λ (t : AnySign). Token (Sign t)) (sign_at language (sign_text s ++ rest))
 sign_front language OpenParen rest e = refl
 sign_front language CloseParen rest e = refl
 sign_front language OpenBracket rest e = refl
@@ -181,10 +181,10 @@ found language bytes p rest x = ap (front language) x.split ∙ piece_front lang
 -- What is found stands at the front.
 
 -- the token is what this word writes
-record Writes (language : ℕ) (t : PlainToken) (word : List ℕ) : Type 0 where
-  token : IsToken language t
-  spelled : spelling t ≡ word
-  ends : (b : ℕ) → token_continues language t b ≡ is_word b
+pub record Writes (language : ℕ) (t : PlainToken) (word : List ℕ) : Type 0 where
+  pub token : IsToken language t
+  pub spelled : spelling t ≡ word
+  pub ends : (b : ℕ) → token_continues language t b ≡ is_word b
 
 number_writes : (language : ℕ) (word : List ℕ) (n : ℤ) → 0 < length word → number_of word ≡ Some n → Writes language (Number n) word
 number_writes language word n some e = elim (cases_Bool (list_all is_digit word && not (leads_with_zero word) && nat_lt (digits_value 10 word) (2 ^ 31))) [
@@ -204,7 +204,7 @@ letters_write : (language : ℕ) (word : List ℕ) (o : Option AnyKeyword) → b
 letters_write language word None letter all e = record { token = record { letter = letter; all = all; no_keyword = no_keyword_is language word e }; spelled = refl; ends = λ b. refl }
 letters_write language word (Some k) letter all e = let x = keyword_is language word k e in record { token = x.1; spelled = x.0; ends = λ b. refl }
 
-word_writes : (language : ℕ) (word : List ℕ) (t : PlainToken) → 0 < length word → list_all is_word word ≡ true → word_token language word ≡ Some t → Writes language t word
+pub word_writes : (language : ℕ) (word : List ℕ) (t : PlainToken) → 0 < length word → list_all is_word word ≡ true → word_token language word ≡ Some t → Writes language t word
 word_writes language word t some all e = elim (cases_Bool (begins_with_letter word)) [
   | inl h ↦
       let same : ◌≡◌ {A = Option PlainToken} (Some (keyword_or_name (keyword_of language word) word)) (Some t) = sym (cond-true _ _ _ h) ∙ e in

@@ -6,3 +6,6 @@ pub mod Signs
 pub mod Comments
 pub mod Front
 pub mod Readings
+pub mod OneReading
+pub mod NextLanguage
+pub mod Longest

@@ -100,7 +100,7 @@ in_language b language h e = elim (and_cases b (nat_le 1 language) e) [
   | inr x ↦ let small = leb-false 1 language x in absurd (omega arith)
 ]
 
-ends_alone : (language : ℕ) (s : Sign) → ((b : ℕ) → sign_continues language s b ≡ false) → (rest : List ℕ) → SignEnds language s rest
+pub ends_alone : (language : ℕ) (s : Sign) → ((b : ℕ) → sign_continues language s b ≡ false) → (rest : List ℕ) → SignEnds language s rest
 ends_alone language s h [] = tt
 ends_alone language s h (b ∷ bs) = ap not (h b)
 

@@ -1,5 +1,5 @@
 -- The tokens of a text, and the fault of a text that has none.
-use Rattle.std.specs.Prelude.{◌≡◌, ℕ, ◌+◌, ◌<◌, Bool, false, if◌then◌else◌, nat_eq, List, [], ◌∷◌, ◌++◌, length, codes}
+use Rattle.std.specs.Prelude.{◌≡◌, ℕ, ◌+◌, ◌<◌, ◌≤◌, Bool, false, if◌then◌else◌, nat_eq, List, [], ◌∷◌, ◌++◌, length, take, slice_range, codes}
 use Rattle.std.specs.List.{starts_with}
 use Rattle.tc_base.specs.declared.place.Place.{Place}
 use Rattle.tc_lexer.specs.declared.token.TokenKind.{TokenKind}
@@ -7,7 +7,7 @@ use Rattle.tc_lexer.specs.declared.token.TokenKind.TheVariants as kind
 use Rattle.tc_lexer.specs.declared.token.Token.{Token as SpannedToken}
 use Rattle.tc_lexer.specs.declared.fault.LexFault.{LexFault}
 use Rattle.tc_lexer.specs.declared.fault.LexFault.TheVariants.{BadByte, Number, OpenComment}
-use Rattle.tc_lexer.specs.Tokens.{PlainToken, is_digit, spelling}
+use Rattle.tc_lexer.specs.Tokens.{PlainToken, is_digit, spelling, IsToken, plain_token}
 use Rattle.tc_lexer.specs.Tokens as plain
 use Rattle.tc_lexer.specs.Pieces.{Piece, Token, written, Begins, ArePieces}
 use Rattle.tc_lexer.specs.Places.{place_after}
@@ -52,3 +52,11 @@ pub record IsFault (language : ℕ) (text : List ℕ) (fault : LexFault) : Type 
   pub more : 0 < length rest
   pub none : (p : Piece) (after : List ℕ) → Begins language rest p after → ⊥
   pub fault_is : fault ≡ fault_at (place_after before) rest
+
+-- the token is a span of the text, in which it is written
+pub record IsSpan (language : ℕ) (text : List ℕ) (t : SpannedToken) : Type 0 where
+  pub some : t.start < t.end
+  pub within : t.end ≤ length text
+  pub token : IsToken language (plain_token text t)
+  pub spelled : slice_range text t.start t.end ≡ spelling (plain_token text t)
+  pub place_is : t.place ≡ place_after (take t.start text)
