@@ -1,0 +1,11 @@
+pub mod Lists
+pub mod Numbers
+pub mod Places
+pub mod Keywords
+pub mod Signs
+pub mod Comments
+pub mod Front
+pub mod Readings
+pub mod OneReading
+pub mod NextLanguage
+pub mod Longest

@@ -1,0 +1,6 @@
+pub mod Tokens
+pub mod Pieces
+pub mod Places
+pub mod Text
+pub mod Languages
+pub mod helpers

@@ -1,0 +1,62 @@
+//! From a text to its tokens.
+ghost use Rattle.std.specs.Prelude.{◌≡◌, ◌≢◌, ◌<◌, ◌≤◌, ◌^◌, length, IfOk, IfErr};
+ghost use Rattle.tc_lexer.specs.declared.fault.LexFault.TheVariants as lex_fault;
+ghost use Rattle.tc_lexer.specs.Text.{AreTokens, IsFault, fault_at, begins_with_digit};
+
+use crate::fault::LexFault;
+use crate::piece::piece_at;
+use crate::place::place_from;
+use crate::token::Token;
+use crate::tokens::Tokens;
+use std::alloc::Global;
+use tc_base::Place;
+
+/// The tokens of a text, or its fault.
+///
+/// The text is read in language 3, which has all keywords and signs. A text has either one list of tokens
+/// or one fault, so where there is memory the answer is the only one that there is.
+pub fn lex(alloc: Global, text: &[u8]) -> Result<Tokens, LexFault>
+    requires { length text.now ≤ 65536 }
+    ensures found { IfOk result (λ tokens. AreTokens 3 text.now tokens) }
+    ensures refused { IfErr result (λ fault. fault ≢ lex_fault.Memory → IsFault 3 text.now fault) }
+{
+    let mut tokens = Vec::new(alloc);
+    let mut place = Place { line: 1, col: 1 };
+    let mut start = 0;
+    while start < text.len() {
+        let rest = &text[start..];
+        let piece = piece_at(rest).ok_or(fault_at(place, rest))?;
+        let end = start + piece.len;
+        if let Some(kind) = piece.kind {
+            let token = Token {
+                kind,
+                start,
+                end,
+                place,
+            };
+            tokens.push(token).map_err(|_| LexFault::Memory)?;
+        }
+        place = place_from(place, &rest[..piece.len]);
+        start = end;
+    }
+    Ok(Tokens::from_vec(tokens))
+}
+
+/// What is wrong at this place, where these bytes stand there, which begin no piece.
+fn fault_at(place: Place, rest: &[u8]) -> LexFault
+    ensures { result ≡ fault_at place rest.now }
+{
+    if rest.starts_with(b"/*") {
+        LexFault::OpenComment(place)
+    } else if begins_with_digit(rest) {
+        LexFault::Number(place)
+    } else {
+        LexFault::BadByte(place)
+    }
+}
+
+fn begins_with_digit(text: &[u8]) -> bool
+    ensures { result ≡ begins_with_digit text.now }
+{
+    matches!(text, [first, ..] if first.is_ascii_digit())
+}

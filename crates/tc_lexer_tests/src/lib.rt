@@ -1,0 +1,5 @@
+//! Texts, and the tokens or the fault that each has.
+#![tactic(auto)]
+
+#[cfg(test)]
+mod tests;
