@@ -2,9 +2,9 @@
 #![tactic(auto)]
 
 use clap_debug_cli::clap_debug;
-use std::io::ErrorKind;
+use std::env::{self, Env};
+use std::io::{self, ErrorKind};
 use std::process::ExitCode;
-use std::{env, io};
 use tc_io::files::{FileShelf, StdSink};
 
 /// The status where the words find no memory.

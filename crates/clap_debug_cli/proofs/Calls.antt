@@ -43,11 +43,10 @@ passes_told names files old new input.Log p told =
     (gave_within files old p.before _ _ p.came.0 p.came.1 told, subst (λ o. IfSome o (λ f. limit_of input.Log < length (bytes_at f names.log))) first p.too_long.1)
 passes_told names files old new input.Schedule p told =
     let first = gave_held old p.came.0 _ _ p.came.1 p.came.2 ∙ told in
-    let second = gave_held p.came.0 p.before _ _ p.came.3 p.came.4 ∙ first in
-    (
+    let second = gave_held p.came.0 p.before _ _ p.came.3 p.came.4 ∙ first in (
       gave_within files old p.came.0 _ _ p.came.1 p.came.2 told,
       gave_within files p.came.0 p.before _ _ p.came.3 p.came.4 first,
-      subst (λ o. IfSome o (λ f. limit_of input.Schedule < length (bytes_at f names.schedule))) second p.too_long.1
+      subst (λ o. IfSome o (λ f. limit_of input.Schedule < length (bytes_at f names.schedule))) second p.too_long.1,
     )
 
 -- what the words name is known

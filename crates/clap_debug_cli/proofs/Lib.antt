@@ -11,3 +11,4 @@ pub mod OneAnswer
 pub mod Statuses
 pub mod Calls
 pub mod Fetches
+pub mod Faults

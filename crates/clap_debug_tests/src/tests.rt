@@ -15,12 +15,7 @@ impl Shelf for NoShelf {
 
     ghost tells = { λ _. record { held = None; faults = 0; taken = 0; last_fault = None } };
 
-    fn fetch(
-        &mut self,
-        _alloc: Global,
-        _name: &str,
-        _limit: u64,
-    ) -> Result<Vec<u8>, FetchFault> {
+    fn fetch(&mut self, _alloc: Global, _name: &str, _limit: u64) -> Result<Vec<u8>, FetchFault> {
         Err(FetchFault::Memory)
     }
 }
@@ -57,7 +52,11 @@ fn no_memory(rt: HostRuntime) {
         };
         let status = clap_debug(alloc, &[], &mut shelf, &mut sink);
         assert_eq!(rt; status, 9, "{refused} puts refused");
-        assert_eq!(rt; sink.sink.written(), text.as_bytes(), "{refused} puts refused");
+        assert_eq!(rt;
+            sink.sink.written(),
+            text.as_bytes(),
+            "{refused} puts refused"
+        );
     }
 }
 

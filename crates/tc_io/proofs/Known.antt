@@ -33,12 +33,11 @@ pub ruleset consumed = (consumes_more, consumes_none, consumes_all, consumes_som
 
 -- a write took more of the rest
 pub appends_more : (a b c : Option (List ℕ)) (all front rest : List ℕ) (n : ℕ) → all ≡ front ++ rest → Appends a b front → Appends b c (take n rest) → (more : List ℕ) × (all ≡ more ++ take (length rest - n) (drop n rest)) × Appends a c more
-appends_more a b c all front rest n e p q =
-    (
-      front ++ take n rest,
-      e ∙ ap (λ r. front ++ r) (sym (take-append-drop n rest)) ∙ sym (append_assoc front (take n rest) (drop n rest)) ∙ ap (λ r. (front ++ take n rest) ++ r) (sym (take_rest rest n)),
-      Appends-trans a b c front (take n rest) p q
-    )
+appends_more a b c all front rest n e p q = (
+  front ++ take n rest,
+  e ∙ ap (λ r. front ++ r) (sym (take-append-drop n rest)) ∙ sym (append_assoc front (take n rest) (drop n rest)) ∙ ap (λ r. (front ++ take n rest) ++ r) (sym (take_rest rest n)),
+  Appends-trans a b c front (take n rest) p q,
+)
 
 -- a write that took nothing or failed left the bytes
 pub keeps_unless_taken : {E : Type 0} (a b : Option (List ℕ)) (r : Result ℕ E) (rest : List ℕ) → WriteAppends a b r rest → ((n : ℕ) → r ≡ Ok n → n ≡ 0) → Keeps a b
