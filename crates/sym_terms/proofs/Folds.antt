@@ -1,10 +1,10 @@
 -- The values of a list of nodes, of its beginnings, and of a longer list.
-use Rattle.std.proofs.Common.{◌≡◌, ℕ, ◌+◌, ◌<◌, ◌≤◌, min, List, [], ◌∷◌, ◌++◌, length, get_or, take, drop, ℤ, pos, refl, ap, sym, subst, ◌∙◌, arith, length-append}
+use Rattle.std.proofs.Common.{◌≡◌, ℕ, ◌+◌, ◌<◌, ◌≤◌, min, List, [], ◌∷◌, ◌++◌, length, get_or, take, drop, ℤ, pos, refl, ap, sym, ◌∙◌, arith, length-append}
 use Rattle.std.specs.Prelude.{fold}
 use Rattle.std.proofs.lemmas.List.{append-nil, append_assoc, take-append-drop, length-take, length-take-le, take-append-le, get_or_append_left}
 use Rattle.std.proofs.Math.Seq.{get_or-append_seam}
 use Rattle.tc_base.specs.Arith.{unary, binary}
-use Rattle.std.proofs.lemmas.List.Sums.{fold-append, fold_push, fold_more}
+use Rattle.std.proofs.lemmas.List.Sums.{fold-append, fold_more}
 use Rattle.sym_terms.specs.declared.node.Node.{Node}
 use Rattle.sym_terms.specs.declared.node.Node.TheVariants.{Constant, Symbol, Unary, Binary}
 use Rattle.sym_terms.specs.Terms.{NamesBelow}

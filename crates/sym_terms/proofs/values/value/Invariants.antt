@@ -1,4 +1,4 @@
-use Rattle.std.proofs.Common.{◌≡◌, ℕ, ◌+◌, ◌-◌, ◌≤◌, length, max, take, vec_capacity}
+use Rattle.std.proofs.Common.{◌≡◌, ◌+◌, ◌-◌, ◌≤◌, length, max, take, vec_capacity}
 use Rattle.sym_terms.specs.Values.{values_of}
 use Rattle.sym_terms.proofs.values.value.Given as goal
 

@@ -1,7 +1,7 @@
 use Rattle.std.proofs.Common.{◌≡◌, length, ap, sym, subst, ◌∙◌}
-use Rattle.std.specs.List.{list_any, position_or_len, IsDistinct}
+use Rattle.std.specs.List.{position_or_len, IsDistinct}
 use Rattle.indexmap.specs.IndexSet.{insert_key}
-use Rattle.sym_terms.specs.Terms.{AreTerms, NamesBelow, same_node, with_node, id_of}
+use Rattle.sym_terms.specs.Terms.{NamesBelow, with_node, id_of}
 use Rattle.sym_terms.proofs.Same.{eq_is_same}
 use Rattle.sym_terms.proofs.Growth.{Earlier, earlier_with}
 use Rattle.sym_terms.proofs.terms.Terms.add.Goals as goal

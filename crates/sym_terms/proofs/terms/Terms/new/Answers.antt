@@ -1,6 +1,5 @@
 use Rattle.std.proofs.Common.{sym, subst}
 use Rattle.std.specs.List.{IsDistinct}
-use Rattle.sym_terms.specs.Terms.{AreTerms}
 use Rattle.sym_terms.proofs.Same.{eq_is_same}
 use Rattle.sym_terms.proofs.Growth.{Earlier, earlier_none}
 use Rattle.sym_terms.proofs.terms.Terms.new.Goals as goal
