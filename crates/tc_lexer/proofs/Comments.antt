@@ -31,7 +31,8 @@ is_begun : (bytes : List ℕ) → starts_with nat_eq bytes (codes "*/") ≡ true
 is_begun bytes h = (starts_is Decides-eqb bytes (codes "*/") (starts_with nat_eq bytes (codes "*/")) refl).0 h
 
 -- one byte more in front, where no `*/` begins
-more_no_close : (b : ℕ) (body after : List ℕ) → starts_with nat_eq (b ∷ (body ++ (codes "*/" ++ after))) (codes "*/") ≡ false → HasNoClose body → HasNoClose (b ∷ body)
+more_no_close : (b : ℕ) (body after : List ℕ) → starts_with nat_eq (b ∷ (body ++ (codes "*/" ++ after))) (codes "*/") ≡ false → HasNoClose body
+    → HasNoClose (b ∷ body)
 more_no_close b body after h none [] back e =
     let tail : b ∷ (body ++ (codes "*/" ++ after)) ≡ codes "*/" ++ (back ++ (codes "*/" ++ after)) = ap (λ (s : List ℕ). s ++ (codes "*/" ++ after)) e in
     let yes = begins_so _ _ tail in
@@ -46,13 +47,18 @@ close_is [] body e = absurd cc
 close_is (b ∷ bs) body e = elim (cases_Bool (starts_with nat_eq (b ∷ bs) (codes "*/"))) [
   | inl h ↦
       let found : ◌≡◌ {A = Option (List ℕ)} (Some []) (Some body) = sym (cond-true _ (Some []) _ h) ∙ e in
-      let same : [] ≡ body = cc in
-      (drop 2 (b ∷ bs), is_begun (b ∷ bs) h ∙ ap (λ (s : List ℕ). s ++ (codes "*/" ++ drop 2 (b ∷ bs))) same, λ front back x. nothing_in_nothing front back (same ∙ x))
+      let same : [] ≡ body = cc in (
+        drop 2 (b ∷ bs),
+        is_begun (b ∷ bs) h
+            ∙ ap (λ (s : List ℕ). s ++ (codes "*/" ++ drop 2 (b ∷ bs))) same,
+        λ front back x. nothing_in_nothing front back (same ∙ x),
+      )
   | inr h ↦
       let m = mapped (λ (s : List ℕ). b ∷ s) (before_close bs) body (sym (cond-false _ (Some []) _ h) ∙ e) in
       let r = close_is bs m.0 m.1 in
       let whole : b ∷ bs ≡ b ∷ (m.0 ++ (codes "*/" ++ r.0)) = ap (λ (s : List ℕ). b ∷ s) r.1 in
-      let here : starts_with nat_eq (b ∷ (m.0 ++ (codes "*/" ++ r.0))) (codes "*/") ≡ false = ap (λ (s : List ℕ). starts_with nat_eq s (codes "*/")) (sym whole) ∙ h in
+      let here : starts_with nat_eq (b ∷ (m.0 ++ (codes "*/" ++ r.0))) (codes "*/") ≡ false =
+      ap (λ (s : List ℕ). starts_with nat_eq s (codes "*/")) (sym whole) ∙ h in
       let none = more_no_close b m.0 r.0 here r.2 in
       (r.0, whole ∙ ap (λ (s : List ℕ). s ++ (codes "*/" ++ r.0)) m.2, λ front back x. none front back (m.2 ∙ x))
 ]

@@ -1,22 +1,28 @@
 -- The piece at the front of some bytes is the one that the reader finds there.
-use Rattle.std.proofs.Common.{◌≡◌, ◌+◌, ◌<◌, ◌≤◌, ◌^◌, ℕ, ℤ, pos, negsuc, Bool, true, false, List, [], ◌∷◌, ◌++◌, length, take, drop, refl, sym, ap, inl, inr, ◌∙◌, subst, arith, Option, Some, None, append_assoc, length-take}
+use Rattle.std.proofs.Common.{◌≡◌, ◌+◌, ◌<◌, ◌≤◌, ◌^◌, ℕ, ℤ, pos, negsuc, Bool, true, false, List, [], ◌∷◌, ◌++◌, length, take, drop, refl, sym, ap, inl, inr}
+use Rattle.std.proofs.Common.{◌∙◌, subst, arith, Option, Some, None, append_assoc, length-take}
 use Rattle.std.specs.Prelude.{codes, nat_eq, nat_lt, option_map, slice_get, ◌==◌, ◌&&◌, ◌||◌, not}
 use Rattle.std.specs.List.{list_all, prefix_len, starts_with}
 use Rattle.std.specs.Fmt.{decimal}
 use Rattle.std.specs.Str.Parse.{digits_value}
-use Rattle.std.proofs.lemmas.Bool.{cases_Bool, and_parts, and_from, and_left, or_parts, or_from, not-true, not_from_false, cond-true, cond-false, lt-ltb, ltb-true}
+use Rattle.std.proofs.lemmas.Bool.{cases_Bool, and_parts, and_from, and_left, or_parts, or_from, not-true, not_from_false, cond-true, cond-false, lt-ltb}
+use Rattle.std.proofs.lemmas.Bool.{ltb-true}
 use Rattle.std.proofs.lemmas.Bool.Decides.{nat_tests, Decides-eqb}
 use Rattle.std.proofs.lemmas.List.{take_at, take-append-drop}
 use Rattle.std.proofs.lemmas.Slice.Eq.{starts_is}
 use Rattle.tc_lexer.specs.declared.token.Keyword.{Keyword as AnyKeyword}
 use Rattle.tc_lexer.specs.declared.token.Sign.{Sign as AnySign}
-use Rattle.tc_lexer.specs.declared.token.Sign.TheVariants.{OpenParen, CloseParen, OpenBracket, CloseBracket, OpenBrace, CloseBrace, Comma, Semicolon, Assign, Plus, Minus, Star, Slash, Percent, Bang, Tilde, Less, LessEqual, Greater, GreaterEqual, EqualEqual, BangEqual, ShiftLeft, ShiftRight, And, Caret, Or, AndAnd, OrOr}
+use Rattle.tc_lexer.specs.declared.token.Sign.TheVariants.{OpenParen, CloseParen, OpenBracket, CloseBracket, OpenBrace, CloseBrace, Comma, Semicolon, Assign}
+use Rattle.tc_lexer.specs.declared.token.Sign.TheVariants.{Plus, Minus, Star, Slash, Percent, Bang, Tilde, Less, LessEqual, Greater, GreaterEqual, EqualEqual}
+use Rattle.tc_lexer.specs.declared.token.Sign.TheVariants.{BangEqual, ShiftLeft, ShiftRight, And, Caret, Or, AndAnd, OrOr}
 use Rattle.tc_lexer.specs.declared.token.TokenKind.{TokenKind}
 use Rattle.tc_lexer.specs.declared.piece.Piece.{Piece as Shape}
-use Rattle.tc_lexer.specs.Tokens.{PlainToken, Name, Number, Keyword, Sign, is_digit, is_letter, is_word, begins_with_letter, keyword_text, sign_text, keyword_since, spelling, IsName, IsToken, token_continues}
+use Rattle.tc_lexer.specs.Tokens.{PlainToken, Name, Number, Keyword, Sign, is_digit, is_letter, is_word, begins_with_letter, keyword_text, sign_text}
+use Rattle.tc_lexer.specs.Tokens.{keyword_since, spelling, IsName, IsToken, token_continues}
 use Rattle.tc_lexer.specs.Pieces.{Piece, Space, LineComment, BlockComment, Token, is_space, is_line_feed, written, IsPiece, continues, EndsBefore, Begins}
 use Rattle.tc_lexer.specs.Text.{kind_of}
-use Rattle.tc_lexer.specs.helpers.Reading.{shape_of, keyword_of, sign_at, leads_with_zero, number_of, keyword_or_name, word_token, before_close, word_piece, mark_piece, front}
+use Rattle.tc_lexer.specs.helpers.Reading.{shape_of, keyword_of, sign_at, leads_with_zero, number_of, keyword_or_name, word_token, before_close, word_piece}
+use Rattle.tc_lexer.specs.helpers.Reading.{mark_piece, front}
 use Rattle.tc_lexer.proofs.Lists.{prefix_len_run, run_ends, run_passes, prefix_len_within}
 use Rattle.tc_lexer.proofs.Numbers.{decimal_digits, decimal_some, decimal_cells, decimal_value, decimal_leads, value_written}
 use Rattle.tc_lexer.proofs.Keywords.{keyword_found, keyword_is, keyword_letters, name_no_keyword, no_keyword_is}
@@ -41,7 +47,8 @@ digits_are_words (b ∷ bs) h =
     and_from _ _ (digit_is_word b p.0) (digits_are_words bs p.1)
 
 -- no byte after the piece belongs to it
-ends_run : (language : ℕ) (p : Piece) (belongs : ℕ → Bool) → ((b : ℕ) → continues language p b ≡ belongs b) → (rest : List ℕ) → EndsBefore language p rest → prefix_len belongs rest ≡ 0
+ends_run : (language : ℕ) (p : Piece) (belongs : ℕ → Bool) → ((b : ℕ) → continues language p b ≡ belongs b) → (rest : List ℕ) → EndsBefore language p rest
+    → prefix_len belongs rest ≡ 0
 ends_run language p belongs h [] e = refl
 ends_run language p belongs h (b ∷ bs) e = cond-false (belongs b) _ _ (sym (h b) ∙ not-true _ e)
 
@@ -51,7 +58,8 @@ run_stops belongs b bs z = elim (cases_Bool (belongs b)) [
   | inr h ↦ h
 ]
 
-run_to_ends : (language : ℕ) (p : Piece) (belongs : ℕ → Bool) → ((b : ℕ) → continues language p b ≡ belongs b) → (rest : List ℕ) → prefix_len belongs rest ≡ 0 → EndsBefore language p rest
+run_to_ends : (language : ℕ) (p : Piece) (belongs : ℕ → Bool) → ((b : ℕ) → continues language p b ≡ belongs b) → (rest : List ℕ)
+    → prefix_len belongs rest ≡ 0 → EndsBefore language p rest
 run_to_ends language p belongs h [] z = tt
 run_to_ends language p belongs h (b ∷ bs) z = ap not (h b ∙ run_stops belongs b bs z)
 
@@ -61,7 +69,8 @@ ends_at_once language p h (b ∷ bs) = ap not (h b)
 
 -- What stands at the front is found.
 
-line_front : (language : ℕ) (body rest : List ℕ) → list_all (λ b. not (is_line_feed b)) body ≡ true → EndsBefore language (LineComment body) rest → front language (written (LineComment body) ++ rest) ≡ Some (LineComment body)
+line_front : (language : ℕ) (body rest : List ℕ) → list_all (λ b. not (is_line_feed b)) body ≡ true → EndsBefore language (LineComment body) rest
+    → front language (written (LineComment body) ++ rest) ≡ Some (LineComment body)
 line_front language body rest h e =
     let other = λ (b : ℕ). not (is_line_feed b) in
     let run = prefix_len_run other body rest h (ends_run language (LineComment body) other (λ b. refl) rest e) in
@@ -71,30 +80,36 @@ pub block_front : (language : ℕ) (body rest : List ℕ) → HasNoClose body �
 block_front language body rest h =
     ap (λ (s : List ℕ). option_map BlockComment (before_close s)) (append_assoc body (codes "*/") rest) ∙ ap (option_map BlockComment) (close_found body rest h)
 
-word_front : (language : ℕ) (word rest : List ℕ) (t : PlainToken) → 0 < length word → list_all is_word word ≡ true → prefix_len is_word rest ≡ 0 → word_token language word ≡ Some t → front language (word ++ rest) ≡ Some (Token t)
+word_front : (language : ℕ) (word rest : List ℕ) (t : PlainToken) → 0 < length word → list_all is_word word ≡ true → prefix_len is_word rest ≡ 0
+    → word_token language word ≡ Some t → front language (word ++ rest) ≡ Some (Token t)
 word_front language [] rest t some all z h = absurd (omega arith)
 word_front language (b ∷ bs) rest t some all z h =
     let first = (and_parts (is_word b) (list_all is_word bs) all).0 in
-    let word : take (prefix_len is_word (b ∷ (bs ++ rest))) (b ∷ (bs ++ rest)) ≡ b ∷ bs = take_at (b ∷ bs) rest _ (sym (prefix_len_run is_word (b ∷ bs) rest all z)) in
-    cond-false (is_space b) _ _ (word_no_space b first) ∙ (cond-true (is_word b) _ _ first ∙ ap (λ (w : List ℕ). option_map Token (word_token language w)) word ∙ ap (option_map Token) h)
+    let word : take (prefix_len is_word (b ∷ (bs ++ rest))) (b ∷ (bs ++ rest)) ≡ b ∷ bs =
+    take_at (b ∷ bs) rest _ (sym (prefix_len_run is_word (b ∷ bs) rest all z)) in
+    cond-false (is_space b) _ _ (word_no_space b first)
+    ∙ (cond-true (is_word b) _ _ first ∙ ap (λ (w : List ℕ). option_map Token (word_token language w)) word ∙ ap (option_map Token) h)
 
 pub letter_some : (word : List ℕ) → begins_with_letter word ≡ true → 0 < length word
 letter_some [] h = absurd cc
 letter_some (b ∷ bs) h = omega arith
 
 name_token : (language : ℕ) (word : List ℕ) → IsName language word → word_token language word ≡ Some (Name word)
-name_token language word n = cond-true (begins_with_letter word) _ _ n.letter ∙ ap (λ (o : Option AnyKeyword). Some (keyword_or_name o word)) (name_no_keyword language word n.no_keyword)
+name_token language word n = cond-true (begins_with_letter word) _ _ n.letter
+    ∙ ap (λ (o : Option AnyKeyword). Some (keyword_or_name o word)) (name_no_keyword language word n.no_keyword)
 
 keyword_token : (language : ℕ) (k : AnyKeyword) → keyword_since k ≤ language → word_token language (keyword_text k) ≡ Some (Keyword k)
 keyword_token language k h =
     let letters = and_parts (begins_with_letter (keyword_text k)) (list_all is_word (keyword_text k)) (keyword_letters k) in
-    cond-true (begins_with_letter (keyword_text k)) _ _ letters.0 ∙ ap (λ (o : Option AnyKeyword). Some (keyword_or_name o (keyword_text k))) (keyword_found language k h)
+    cond-true (begins_with_letter (keyword_text k)) _ _ letters.0
+    ∙ ap (λ (o : Option AnyKeyword). Some (keyword_or_name o (keyword_text k))) (keyword_found language k h)
 
 number_found : (n : ℕ) → n < 2 ^ 31 → number_of (decimal n) ≡ Some (pos n)
 number_found n h =
     let value = decimal_value n h in
     let small : nat_lt (digits_value 10 (decimal n)) (2 ^ 31) ≡ true = lt-ltb _ _ (omega arith) in
-    let all : (list_all is_digit (decimal n) && not (leads_with_zero (decimal n))) ≡ true = and_from _ _ (decimal_digits n h) (not_from_false _ (decimal_leads n h)) in
+    let all : (list_all is_digit (decimal n) && not (leads_with_zero (decimal n))) ≡ true =
+    and_from _ _ (decimal_digits n h) (not_from_false _ (decimal_leads n h)) in
     cond-true _ _ _ (and_from _ _ all small) ∙ ap (λ (k : ℕ). Some (pos k)) value
 
 no_letter_first : (bs : List ℕ) (b : ℕ) (rest : List ℕ) → bs ≡ b ∷ rest → is_digit b ≡ true → begins_with_letter bs ≡ false
@@ -109,13 +124,15 @@ and_with_true : (x : Bool) → (x && true) ≡ false → x ≡ false
 and_with_true true h = h
 and_with_true false h = refl
 
-slash_alone : (b : ℕ) (bs : List ℕ) → not (b == 47 || b == 42) ≡ true → (starts_with nat_eq (47 ∷ b ∷ bs) (codes "//") ≡ false) × (starts_with nat_eq (47 ∷ b ∷ bs) (codes "/*") ≡ false)
+slash_alone : (b : ℕ) (bs : List ℕ) → not (b == 47 || b == 42) ≡ true
+    → (starts_with nat_eq (47 ∷ b ∷ bs) (codes "//") ≡ false) × (starts_with nat_eq (47 ∷ b ∷ bs) (codes "/*") ≡ false)
 slash_alone b bs e =
     let p = or_parts (b == 47) (b == 42) (not-true _ e) in
     (and_left _ _ (eq_swapped 47 b ∙ p.0), and_left _ _ (eq_swapped 42 b ∙ p.1))
 
 -- a sign begins no blank and no word
-pub sign_front : (language : ℕ) (s : AnySign) (rest : List ℕ) → SignEnds language s rest → front language (sign_text s ++ rest) ≡ option_map (λ (t : AnySign). Token (Sign t)) (sign_at language (sign_text s ++ rest))
+pub sign_front : (language : ℕ) (s : AnySign) (rest : List ℕ) → SignEnds language s rest
+    → front language (sign_text s ++ rest) ≡ option_map (λ (t : AnySign). Token (Sign t)) (sign_at language (sign_text s ++ rest))
 sign_front language OpenParen rest e = refl
 sign_front language CloseParen rest e = refl
 sign_front language OpenBracket rest e = refl
@@ -155,15 +172,19 @@ from_sign_ends : (language : ℕ) (s : AnySign) (rest : List ℕ) → SignEnds l
 from_sign_ends language s [] e = tt
 from_sign_ends language s (b ∷ bs) e = e
 
-token_front : (language : ℕ) (t : PlainToken) (rest : List ℕ) → IsToken language t → EndsBefore language (Token t) rest → front language (spelling t ++ rest) ≡ Some (Token t)
+token_front : (language : ℕ) (t : PlainToken) (rest : List ℕ) → IsToken language t → EndsBefore language (Token t) rest
+    → front language (spelling t ++ rest) ≡ Some (Token t)
 token_front language (Name word) rest h e =
-    word_front language word rest (Name word) (letter_some word h.letter) h.all (ends_run language (Token (Name word)) is_word (λ b. refl) rest e) (name_token language word h)
+    word_front language word rest (Name word) (letter_some word h.letter) h.all (ends_run language (Token (Name word)) is_word (λ b. refl) rest e)
+    (name_token language word h)
 token_front language (Number (pos n)) rest h e =
-    word_front language (decimal n) rest (Number (pos n)) (decimal_some n h) (digits_are_words (decimal n) (decimal_digits n h)) (ends_run language (Token (Number (pos n))) is_word (λ b. refl) rest e) (number_token language n h)
+    word_front language (decimal n) rest (Number (pos n)) (decimal_some n h) (digits_are_words (decimal n) (decimal_digits n h))
+    (ends_run language (Token (Number (pos n))) is_word (λ b. refl) rest e) (number_token language n h)
 token_front language (Number (negsuc n)) rest h e = absurd h
 token_front language (Keyword k) rest h e =
     let letters = and_parts (begins_with_letter (keyword_text k)) (list_all is_word (keyword_text k)) (keyword_letters k) in
-    word_front language (keyword_text k) rest (Keyword k) (letter_some (keyword_text k) letters.0) letters.1 (ends_run language (Token (Keyword k)) is_word (λ b. refl) rest e) (keyword_token language k h)
+    word_front language (keyword_text k) rest (Keyword k) (letter_some (keyword_text k) letters.0) letters.1
+    (ends_run language (Token (Keyword k)) is_word (λ b. refl) rest e) (keyword_token language k h)
 token_front language (Sign s) rest h e =
     let ends = to_sign_ends language s rest e in
     sign_front language s rest ends ∙ ap (option_map (λ (t : AnySign). Token (Sign t))) (sign_found language s rest h ends)
@@ -194,17 +215,25 @@ number_writes language word n some e = elim (cases_Bool (list_all is_digit word 
       let p = and_parts (list_all is_digit word && not (leads_with_zero word)) _ h in
       let q = and_parts (list_all is_digit word) (not (leads_with_zero word)) p.0 in
       let small = ltb-true _ _ p.1 in
-      subst (λ (m : ℤ). Writes language (Number m) word) value (record { token = small; spelled = value_written word q.0 (not-true _ q.1) some small; ends = λ b. refl })
+      subst (λ (m : ℤ). Writes language (Number m) word) value (record {
+        token = small;
+        spelled = value_written word q.0 (not-true _ q.1) some small;
+        ends =
+            λ b. refl;
+      })
   | inr h ↦
       let none : ◌≡◌ {A = Option ℤ} None (Some n) = sym (cond-false _ _ _ h) ∙ e in
       absurd cc
 ]
 
-letters_write : (language : ℕ) (word : List ℕ) (o : Option AnyKeyword) → begins_with_letter word ≡ true → list_all is_word word ≡ true → keyword_of language word ≡ o → Writes language (keyword_or_name o word) word
-letters_write language word None letter all e = record { token = record { letter = letter; all = all; no_keyword = no_keyword_is language word e }; spelled = refl; ends = λ b. refl }
+letters_write : (language : ℕ) (word : List ℕ) (o : Option AnyKeyword) → begins_with_letter word ≡ true → list_all is_word word ≡ true
+    → keyword_of language word ≡ o → Writes language (keyword_or_name o word) word
+letters_write language word None letter all e =
+    record { token = record { letter = letter; all = all; no_keyword = no_keyword_is language word e }; spelled = refl; ends = λ b. refl }
 letters_write language word (Some k) letter all e = let x = keyword_is language word k e in record { token = x.1; spelled = x.0; ends = λ b. refl }
 
-pub word_writes : (language : ℕ) (word : List ℕ) (t : PlainToken) → 0 < length word → list_all is_word word ≡ true → word_token language word ≡ Some t → Writes language t word
+pub word_writes : (language : ℕ) (word : List ℕ) (t : PlainToken) → 0 < length word → list_all is_word word ≡ true → word_token language word ≡ Some t
+    → Writes language t word
 word_writes language word t some all e = elim (cases_Bool (begins_with_letter word)) [
   | inl h ↦
       let same : ◌≡◌ {A = Option PlainToken} (Some (keyword_or_name (keyword_of language word) word)) (Some t) = sym (cond-true _ _ _ h) ∙ e in
@@ -226,31 +255,44 @@ word_is language bytes p some e =
     let long : 0 < length (take n bytes) = omega (arith, length-take n bytes, prefix_len_within is_word bytes) in
     let w = word_writes language (take n bytes) m.0 long (run_passes is_word bytes) m.1 in
     let split : bytes ≡ spelling m.0 ++ drop n bytes = sym (take-append-drop n bytes) ∙ ap (λ (s : List ℕ). s ++ drop n bytes) (sym w.spelled) in
-    let begins : Begins language bytes (Token m.0) (drop n bytes) = record { split = split; piece = w.token; ends = run_to_ends language (Token m.0) is_word w.ends (drop n bytes) (run_ends is_word bytes) } in
+    let begins : Begins language bytes (Token m.0) (drop n bytes) =
+    record { split = split; piece = w.token; ends = run_to_ends language (Token m.0) is_word w.ends (drop n bytes) (run_ends is_word bytes) } in
     subst (λ (q : Piece). BeginsSo language bytes q) m.2 (drop n bytes, begins)
 
-line_is : (language : ℕ) (body : List ℕ) → Begins language (written (LineComment (take (prefix_len (λ b. not (is_line_feed b)) body) body)) ++ drop (prefix_len (λ b. not (is_line_feed b)) body) body) (LineComment (take (prefix_len (λ b. not (is_line_feed b)) body) body)) (drop (prefix_len (λ b. not (is_line_feed b)) body) body)
+line_is : (language : ℕ) (body : List ℕ)
+    → Begins language (written (LineComment (take (prefix_len (λ b. not (is_line_feed b)) body) body))
+    ++ drop (prefix_len (λ b. not (is_line_feed b)) body) body) (LineComment (take (prefix_len (λ b. not (is_line_feed b)) body) body))
+    (drop (prefix_len (λ b. not (is_line_feed b)) body) body)
 line_is language body =
     let other = λ (b : ℕ). not (is_line_feed b) in
     let n = prefix_len other body in
-    record { split = refl; piece = run_passes other body; ends = run_to_ends language (LineComment (take n body)) other (λ b. refl) (drop n body) (run_ends other body) }
+    record {
+      split = refl;
+      piece = run_passes other body;
+      ends =
+          run_to_ends language (LineComment (take n body)) other (λ b. refl) (drop n body) (run_ends other body);
+    }
 
 begun : (bytes two : List ℕ) → starts_with nat_eq bytes two ≡ true → bytes ≡ two ++ drop (length two) bytes
 begun bytes two h = (starts_is Decides-eqb bytes two (starts_with nat_eq bytes two) refl).0 h
 
-no_comment_after : (language : ℕ) (bytes rest : List ℕ) → bytes ≡ codes "/" ++ rest → starts_with nat_eq bytes (codes "//") ≡ false → starts_with nat_eq bytes (codes "/*") ≡ false → SignEnds language Slash rest
+no_comment_after : (language : ℕ) (bytes rest : List ℕ) → bytes ≡ codes "/" ++ rest → starts_with nat_eq bytes (codes "//") ≡ false
+    → starts_with nat_eq bytes (codes "/*") ≡ false → SignEnds language Slash rest
 no_comment_after language bytes [] e h k = tt
 no_comment_after language bytes (b ∷ bs) e h k =
     let first : starts_with nat_eq (47 ∷ b ∷ bs) (codes "//") ≡ false = ap (λ (s : List ℕ). starts_with nat_eq s (codes "//")) (sym e) ∙ h in
     let second : starts_with nat_eq (47 ∷ b ∷ bs) (codes "/*") ≡ false = ap (λ (s : List ℕ). starts_with nat_eq s (codes "/*")) (sym e) ∙ k in
     not_from_false _ (or_from _ _ (eq_swapped b 47 ∙ and_with_true _ first) (eq_swapped b 42 ∙ and_with_true _ second))
 
-sign_piece_is : (language : ℕ) (bytes : List ℕ) (s : AnySign) → starts_with nat_eq bytes (codes "//") ≡ false → starts_with nat_eq bytes (codes "/*") ≡ false → sign_at language bytes ≡ Some s → BeginsSo language bytes (Token (Sign s))
+sign_piece_is : (language : ℕ) (bytes : List ℕ) (s : AnySign) → starts_with nat_eq bytes (codes "//") ≡ false → starts_with nat_eq bytes (codes "/*") ≡ false
+    → sign_at language bytes ≡ Some s → BeginsSo language bytes (Token (Sign s))
 sign_piece_is language bytes s h k e =
     let x = sign_is language bytes s e in
     let rest = drop (length (sign_text s)) bytes in
     let at_front : sign_at language (sign_text s ++ rest) ≡ Some s = ap (sign_at language) (sym x.0) ∙ e in
-    let comment : s ≡ Slash → SignEnds language s rest = λ same. subst (λ (t : AnySign). SignEnds language t rest) (sym same) (no_comment_after language bytes rest (x.0 ∙ ap (λ (t : AnySign). sign_text t ++ rest) same) h k) in
+    let comment : s ≡ Slash
+    → SignEnds language s rest = λ same. subst (λ (t : AnySign). SignEnds language t rest) (sym same) (no_comment_after language bytes rest (x.0
+    ∙ ap (λ (t : AnySign). sign_text t ++ rest) same) h k) in
     (rest, record { split = x.0; piece = x.1; ends = from_sign_ends language s rest (sign_ends language s rest x.1 at_front comment) })
 
 mark_is : (language : ℕ) (bytes : List ℕ) (p : Piece) → mark_piece language bytes ≡ Some p → BeginsSo language bytes p
@@ -270,15 +312,26 @@ mark_is language bytes p e = elim (cases_Bool (starts_with nat_eq bytes (codes "
         let n = prefix_len (λ b. not (is_line_feed b)) body in
         let same : ◌≡◌ {A = Option Piece} (Some (LineComment (take n body))) (Some p) = sym (cond-true _ _ _ h) ∙ e in
         let piece : LineComment (take n body) ≡ p = cc in
-        let split : bytes ≡ written (LineComment (take n body)) ++ drop n body = begun bytes (codes "//") h ∙ ap (λ (s : List ℕ). codes "//" ++ s) (sym (take-append-drop n body)) in
-        subst (λ (q : Piece). BeginsSo language bytes q) piece (drop n body, subst (λ (s : List ℕ). Begins language s (LineComment (take n body)) (drop n body)) (sym split) (line_is language body))
+        let split : bytes ≡ written (LineComment (take n body)) ++ drop n body = begun bytes (codes "//") h
+        ∙ ap (λ (s : List ℕ). codes "//" ++ s) (sym (take-append-drop n body)) in
+        subst (λ (q : Piece). BeginsSo language bytes q) piece
+        (drop n body, subst (λ (s : List ℕ). Begins language s (LineComment (take n body)) (drop n body)) (sym split) (line_is language body))
 
     block_case : starts_with nat_eq bytes (codes "//") ≡ false → starts_with nat_eq bytes (codes "/*") ≡ true → BeginsSo language bytes p
     block_case h k =
         let m = mapped BlockComment (before_close (drop 2 bytes)) p (sym (cond-true _ _ _ k) ∙ (sym (cond-false _ _ _ h) ∙ e)) in
         let r = close_is (drop 2 bytes) m.0 m.1 in
-        let split : bytes ≡ written (BlockComment m.0) ++ r.0 = begun bytes (codes "/*") k ∙ ap (λ (s : List ℕ). codes "/*" ++ s) (r.1 ∙ sym (append_assoc m.0 (codes "*/") r.0)) in
-        subst (λ (q : Piece). BeginsSo language bytes q) m.2 (r.0, record { split = split; piece = r.2; ends = ends_at_once language (BlockComment m.0) (λ b. refl) r.0 })
+        let split : bytes ≡ written (BlockComment m.0) ++ r.0 = begun bytes (codes "/*") k
+        ∙ ap (λ (s : List ℕ). codes "/*" ++ s) (r.1 ∙ sym (append_assoc m.0 (codes "*/") r.0)) in
+        subst (λ (q : Piece). BeginsSo language bytes q) m.2 (
+          r.0,
+          record {
+            split = split;
+            piece = r.2;
+            ends =
+                ends_at_once language (BlockComment m.0) (λ b. refl) r.0;
+          },
+        )
 
 -- what is found is the piece at the front
 pub is_found : (language : ℕ) (bytes : List ℕ) (p : Piece) → front language bytes ≡ Some p → BeginsSo language bytes p
@@ -304,13 +357,18 @@ front_word (c ∷ cs) b e h k =
     let same : b ≡ c = cc in
     cond-false (is_space c) _ _ (ap is_space (sym same) ∙ h) ∙ cond-true (is_word c) _ _ (ap is_word (sym same) ∙ k)
 
-shape_token : (t : PlainToken) (kind : TokenKind) (len : ℕ) → kind_of t ≡ kind → length (spelling t) ≡ len → ◌≡◌ {A = Option Shape} (Some (record { kind = Some kind; len = len })) (Some (shape_of (Token t)))
+shape_token : (t : PlainToken) (kind : TokenKind) (len : ℕ) → kind_of t ≡ kind → length (spelling t) ≡ len
+    → ◌≡◌ {A = Option Shape} (Some (record { kind = Some kind; len = len })) (Some (shape_of (Token t)))
 shape_token t kind len e f = cc
 
-pub word_shape : (bytes : List ℕ) (n : ℕ) (kind : TokenKind) → n ≡ prefix_len is_word bytes → 0 < n → option_map kind_of (word_token 3 (take n bytes)) ≡ Some kind → ◌≡◌ {A = Option Shape} (Some (record { kind = Some kind; len = n })) (option_map shape_of (word_piece 3 bytes))
+pub word_shape : (bytes : List ℕ) (n : ℕ) (kind : TokenKind) → n ≡ prefix_len is_word bytes → 0 < n
+    → option_map kind_of (word_token 3 (take n bytes)) ≡ Some kind
+    → ◌≡◌ {A = Option Shape} (Some (record { kind = Some kind; len = n })) (option_map shape_of (word_piece 3 bytes))
 word_shape bytes n kind e some h =
     let m = mapped kind_of (word_token 3 (take n bytes)) kind h in
     let long : length (take n bytes) ≡ n = omega (arith, length-take n bytes, prefix_len_within is_word bytes) in
     let passes : list_all is_word (take n bytes) ≡ true = ap (λ (k : ℕ). list_all is_word (take k bytes)) e ∙ run_passes is_word bytes in
     let w = word_writes 3 (take n bytes) m.0 (omega arith) passes m.1 in
-    shape_token m.0 kind n m.2 (ap length w.spelled ∙ long) ∙ (ap (λ (o : Option PlainToken). option_map shape_of (option_map Token o)) (sym m.1) ∙ ap (λ (k : ℕ). option_map shape_of (option_map Token (word_token 3 (take k bytes)))) e)
+    shape_token m.0 kind n m.2 (ap length w.spelled ∙ long)
+    ∙ (ap (λ (o : Option PlainToken). option_map shape_of (option_map Token o)) (sym m.1)
+    ∙ ap (λ (k : ℕ). option_map shape_of (option_map Token (word_token 3 (take k bytes)))) e)

@@ -5,7 +5,8 @@ use Rattle.std.specs.List.{list_all, find}
 use Rattle.std.proofs.lemmas.Bool.{cases_Bool, and_parts, cond-true, cond-false, le-leb, leb-true}
 use Rattle.std.proofs.lemmas.Slice.Eq.{bytes_eq-Decides}
 use Rattle.tc_lexer.specs.declared.token.Keyword.{Keyword}
-use Rattle.tc_lexer.specs.declared.token.Keyword.TheVariants.{Int, Mutex, Cond, Thread, Main, Tid, If, Else, While, Create, Join, Lock, Unlock, Wait, Signal, Broadcast, Fence, Assert, Swap, Cas, Stbar}
+use Rattle.tc_lexer.specs.declared.token.Keyword.TheVariants.{Int, Mutex, Cond, Thread, Main, Tid, If, Else, While, Create, Join, Lock, Unlock, Wait, Signal}
+use Rattle.tc_lexer.specs.declared.token.Keyword.TheVariants.{Broadcast, Fence, Assert, Swap, Cas, Stbar}
 use Rattle.tc_lexer.specs.Tokens.{keyword_text, keyword_since, is_word, begins_with_letter}
 use Rattle.tc_lexer.specs.helpers.Reading.{keywords, keyword_of}
 
@@ -47,7 +48,8 @@ keyword_found language Stbar h = cond-true _ _ _ (le-leb _ _ h)
 -- and what is found is written so
 pub keyword_is : (language : ℕ) (word : List ℕ) (k : Keyword) → keyword_of language word ≡ Some k → (keyword_text k ≡ word) × (keyword_since k ≤ language)
 keyword_is language word k e =
-    let p = and_parts (bytes_eq (keyword_text k) word) (nat_le (keyword_since k) language) (find_passes (λ j. bytes_eq (keyword_text j) word && nat_le (keyword_since j) language) keywords k e) in
+    let p = and_parts (bytes_eq (keyword_text k) word) (nat_le (keyword_since k) language)
+    (find_passes (λ j. bytes_eq (keyword_text j) word && nat_le (keyword_since j) language) keywords k e) in
     ((bytes_eq-Decides (keyword_text k) word).0 p.0, leb-true _ _ p.1)
 
 -- each keyword is letters
@@ -74,12 +76,14 @@ keyword_letters Swap = refl
 keyword_letters Cas = refl
 keyword_letters Stbar = refl
 
-no_keyword_from : (language : ℕ) (word : List ℕ) (o : Option Keyword) → keyword_of language word ≡ o → ((k : Keyword) → keyword_since k ≤ language → keyword_text k ≡ word → ⊥) → o ≡ None
+no_keyword_from : (language : ℕ) (word : List ℕ) (o : Option Keyword) → keyword_of language word ≡ o
+    → ((k : Keyword) → keyword_since k ≤ language → keyword_text k ≡ word → ⊥) → o ≡ None
 no_keyword_from language word None e h = refl
 no_keyword_from language word (Some k) e h = let x = keyword_is language word k e in absurd (h k x.1 x.0)
 
 -- a name is found to be no keyword
-pub name_no_keyword : (language : ℕ) (word : List ℕ) → ((k : Keyword) → keyword_since k ≤ language → keyword_text k ≡ word → ⊥) → keyword_of language word ≡ None
+pub name_no_keyword : (language : ℕ) (word : List ℕ) → ((k : Keyword) → keyword_since k ≤ language → keyword_text k ≡ word → ⊥)
+    → keyword_of language word ≡ None
 name_no_keyword language word h = no_keyword_from language word (keyword_of language word) refl h
 
 -- where no keyword is found, the word is none

@@ -5,9 +5,12 @@ use Rattle.std.specs.Cmp.Lexicographic.{pointwise}
 use Rattle.std.proofs.lemmas.Bool.{and_parts, and_left, both_ways, or_parts, or_from, not-true, not_from_false, false_from_ne_true, eqb-true}
 use Rattle.std.proofs.lemmas.List.Elements.{All-head, All-tail}
 use Rattle.tc_lexer.specs.declared.token.Keyword.{Keyword as AnyKeyword}
-use Rattle.tc_lexer.specs.declared.token.Keyword.TheVariants.{Int, Mutex, Cond, Thread, Main, Tid, If, Else, While, Create, Join, Lock, Unlock, Wait, Signal, Broadcast, Fence, Assert, Swap, Cas, Stbar}
+use Rattle.tc_lexer.specs.declared.token.Keyword.TheVariants.{Int, Mutex, Cond, Thread, Main, Tid, If, Else, While, Create, Join, Lock, Unlock, Wait, Signal}
+use Rattle.tc_lexer.specs.declared.token.Keyword.TheVariants.{Broadcast, Fence, Assert, Swap, Cas, Stbar}
 use Rattle.tc_lexer.specs.declared.token.Sign.{Sign as AnySign}
-use Rattle.tc_lexer.specs.declared.token.Sign.TheVariants.{OpenParen, CloseParen, OpenBracket, CloseBracket, OpenBrace, CloseBrace, Comma, Semicolon, Assign, Plus, Minus, Star, Slash, Percent, Bang, Tilde, Less, LessEqual, Greater, GreaterEqual, EqualEqual, BangEqual, ShiftLeft, ShiftRight, And, Caret, Or, AndAnd, OrOr}
+use Rattle.tc_lexer.specs.declared.token.Sign.TheVariants.{OpenParen, CloseParen, OpenBracket, CloseBracket, OpenBrace, CloseBrace, Comma, Semicolon, Assign}
+use Rattle.tc_lexer.specs.declared.token.Sign.TheVariants.{Plus, Minus, Star, Slash, Percent, Bang, Tilde, Less, LessEqual, Greater, GreaterEqual, EqualEqual}
+use Rattle.tc_lexer.specs.declared.token.Sign.TheVariants.{BangEqual, ShiftLeft, ShiftRight, And, Caret, Or, AndAnd, OrOr}
 use Rattle.tc_lexer.specs.declared.token.Token.{Token as SpannedToken}
 use Rattle.tc_lexer.specs.Tokens.{PlainToken, Name, Number, Keyword, Sign, keyword_text, keyword_since, sign_continues, IsName, plain_tokens}
 use Rattle.tc_lexer.specs.Pieces.{Piece, Space, LineComment, BlockComment, Token, IsPiece, continues, EndsBefore, ArePieces}
@@ -83,7 +86,9 @@ piece_1_2 (Token (Keyword k)) h = omega arith
 piece_1_2 (Token (Sign s)) h = omega arith
 
 -- a sign of language 1 that begins so makes a shift with the sign before it
-shift_after : (more : ℕ) (b : Bool) (c : Bool) (long longer short s : AnySign) → makes_shift (Sign short) (Sign long) ≡ true → makes_shift (Sign short) (Sign short) ≡ true → cond (b && true) (Some long) (cond (c && false) (Some longer) (Some short)) ≡ Some s → makes_shift (Sign short) (Sign s) ≡ true
+shift_after : (more : ℕ) (b : Bool) (c : Bool) (long longer short s : AnySign) → makes_shift (Sign short) (Sign long) ≡ true
+    → makes_shift (Sign short) (Sign short) ≡ true → cond (b && true) (Some long) (cond (c && false) (Some longer) (Some short)) ≡ Some s
+    → makes_shift (Sign short) (Sign s) ≡ true
 shift_after more true c long longer short s h k e = let same : long ≡ s = cc in ap (λ (t : AnySign). makes_shift (Sign short) (Sign t)) (sym same) ∙ h
 shift_after more false true long longer short s h k e = let same : short ≡ s = cc in ap (λ (t : AnySign). makes_shift (Sign short) (Sign t)) (sym same) ∙ k
 shift_after more false false long longer short s h k e = let same : short ≡ s = cc in ap (λ (t : AnySign). makes_shift (Sign short) (Sign t)) (sym same) ∙ k
@@ -92,10 +97,13 @@ less_after : (bs : List ℕ) (s : AnySign) → sign_at 1 (60 ∷ bs) ≡ Some s 
 less_after bs s e = shift_after 0 (pointwise nat_eq (61 ∷ []) (take 1 bs)) (pointwise nat_eq (60 ∷ []) (take 1 bs)) LessEqual ShiftLeft Less s refl refl e
 
 greater_after : (bs : List ℕ) (s : AnySign) → sign_at 1 (62 ∷ bs) ≡ Some s → makes_shift (Sign Greater) (Sign s) ≡ true
-greater_after bs s e = shift_after 0 (pointwise nat_eq (61 ∷ []) (take 1 bs)) (pointwise nat_eq (62 ∷ []) (take 1 bs)) GreaterEqual ShiftRight Greater s refl refl e
+greater_after bs s e =
+    shift_after 0 (pointwise nat_eq (61 ∷ []) (take 1 bs)) (pointwise nat_eq (62 ∷ []) (take 1 bs)) GreaterEqual ShiftRight Greater s refl refl e
 
 -- so no such sign stands right after `<` or `>` where no two neighbours make a shift
-apart : (b : ℕ) (short : AnySign) (bs : List ℕ) → front 1 (b ∷ bs) ≡ option_map (λ (s : AnySign). Token (Sign s)) (sign_at 1 (b ∷ bs)) → ((s : AnySign) → sign_at 1 (b ∷ bs) ≡ Some s → makes_shift (Sign short) (Sign s) ≡ true) → (ps : List Piece) → ArePieces 1 (b ∷ bs) ps [] → have_no_shift (Sign short ∷ plain_among ps) ≡ true → ⊥
+apart : (b : ℕ) (short : AnySign) (bs : List ℕ) → front 1 (b ∷ bs) ≡ option_map (λ (s : AnySign). Token (Sign s)) (sign_at 1 (b ∷ bs))
+    → ((s : AnySign) → sign_at 1 (b ∷ bs) ≡ Some s → makes_shift (Sign short) (Sign s) ≡ true) → (ps : List Piece) → ArePieces 1 (b ∷ bs) ps []
+    → have_no_shift (Sign short ∷ plain_among ps) ≡ true → ⊥
 apart b short bs f shift [] x h = cc
 apart b short bs f shift (q ∷ qs) x h =
     let m = mapped (λ (s : AnySign). Token (Sign s)) (sign_at 1 (b ∷ bs)) q (sym f ∙ found 1 (b ∷ bs) q x.0 x.1) in
@@ -109,7 +117,8 @@ still_ends b c e n =
     let other = false_from_ne_true (b == c) (λ h. n (eqb-true b c h)) in
     not_from_false _ (or_from _ _ p.0 (and_left _ _ other))
 
-ends_1_2 : (p : Piece) (after : List ℕ) (ps : List Piece) → EndsBefore 1 p after → ArePieces 1 after ps [] → have_no_shift (plain_among (p ∷ ps)) ≡ true → EndsBefore 2 p after
+ends_1_2 : (p : Piece) (after : List ℕ) (ps : List Piece) → EndsBefore 1 p after → ArePieces 1 after ps [] → have_no_shift (plain_among (p ∷ ps)) ≡ true
+    → EndsBefore 2 p after
 ends_1_2 (Space b) after ps e x h = ends_same 1 2 (Space b) (λ c. refl) after e
 ends_1_2 (LineComment body) after ps e x h = ends_same 1 2 (LineComment body) (λ c. refl) after e
 ends_1_2 (BlockComment body) after ps e x h = ends_same 1 2 (BlockComment body) (λ c. refl) after e
@@ -133,10 +142,12 @@ ends_1_2 (Token (Sign Percent)) after ps e x h = ends_same 1 2 (Token (Sign Perc
 ends_1_2 (Token (Sign Bang)) after ps e x h = ends_same 1 2 (Token (Sign Bang)) (λ c. refl) after e
 ends_1_2 (Token (Sign Tilde)) after ps e x h = ends_same 1 2 (Token (Sign Tilde)) (λ c. refl) after e
 ends_1_2 (Token (Sign Less)) [] ps e x h = tt
-ends_1_2 (Token (Sign Less)) (b ∷ bs) ps e x h = still_ends b 60 e (λ same. apart 60 Less bs refl (less_after bs) ps (subst (λ (c : ℕ). ArePieces 1 (c ∷ bs) ps []) same x) h)
+ends_1_2 (Token (Sign Less)) (b ∷ bs) ps e x h =
+    still_ends b 60 e (λ same. apart 60 Less bs refl (less_after bs) ps (subst (λ (c : ℕ). ArePieces 1 (c ∷ bs) ps []) same x) h)
 ends_1_2 (Token (Sign LessEqual)) after ps e x h = ends_same 1 2 (Token (Sign LessEqual)) (λ c. refl) after e
 ends_1_2 (Token (Sign Greater)) [] ps e x h = tt
-ends_1_2 (Token (Sign Greater)) (b ∷ bs) ps e x h = still_ends b 62 e (λ same. apart 62 Greater bs refl (greater_after bs) ps (subst (λ (c : ℕ). ArePieces 1 (c ∷ bs) ps []) same x) h)
+ends_1_2 (Token (Sign Greater)) (b ∷ bs) ps e x h =
+    still_ends b 62 e (λ same. apart 62 Greater bs refl (greater_after bs) ps (subst (λ (c : ℕ). ArePieces 1 (c ∷ bs) ps []) same x) h)
 ends_1_2 (Token (Sign GreaterEqual)) after ps e x h = ends_same 1 2 (Token (Sign GreaterEqual)) (λ c. refl) after e
 ends_1_2 (Token (Sign EqualEqual)) after ps e x h = ends_same 1 2 (Token (Sign EqualEqual)) (λ c. refl) after e
 ends_1_2 (Token (Sign BangEqual)) after ps e x h = ends_same 1 2 (Token (Sign BangEqual)) (λ c. refl) after e
@@ -168,7 +179,12 @@ among : (language : ℕ) (text : List ℕ) (ts : List SpannedToken) → (x : Are
 among language text ts x = ap (plain_tokens text) x.tokens_are ∙ plain_are language text x.pieces x.whole
 
 pub from_1_to_2 : (text : List ℕ) (ts : List SpannedToken) → AreTokens 1 text ts → IsTrue (have_no_shift (plain_tokens text ts)) → AreTokens 2 text ts
-from_1_to_2 text ts x h = record { pieces = x.pieces; whole = pieces_1_2 text x.pieces x.whole (ap have_no_shift (sym (among 1 text ts x)) ∙ h); tokens_are = x.tokens_are }
+from_1_to_2 text ts x h = record {
+  pieces = x.pieces;
+  whole = pieces_1_2 text x.pieces x.whole (ap have_no_shift (sym (among 1 text ts x))
+      ∙ h);
+  tokens_are = x.tokens_are;
+}
 
 -- From 2 to 3.
 
@@ -186,7 +202,8 @@ piece_2_3 : (p : Piece) (ps : List Piece) → IsPiece 2 p → HaveNoKeywordOf 3 
 piece_2_3 (Space b) ps h n = h
 piece_2_3 (LineComment body) ps h n = h
 piece_2_3 (BlockComment body) ps h n = h
-piece_2_3 (Token (Name word)) ps h n = name_2_3 word h (λ k since. All-head (λ (t : PlainToken). t ≢ Name (keyword_text k)) (Name word) (plain_among ps) (n k since))
+piece_2_3 (Token (Name word)) ps h n =
+    name_2_3 word h (λ k since. All-head (λ (t : PlainToken). t ≢ Name (keyword_text k)) (Name word) (plain_among ps) (n k since))
 piece_2_3 (Token (Number (pos m))) ps h n = h
 piece_2_3 (Token (Number (negsuc m))) ps h n = h
 piece_2_3 (Token (Keyword k)) ps h n = omega arith
@@ -240,8 +257,17 @@ no_keyword_after (Token t) ps h = λ k since. All-tail (λ (u : PlainToken). u �
 
 pieces_2_3 : (bytes : List ℕ) (ps : List Piece) → ArePieces 2 bytes ps [] → HaveNoKeywordOf 3 (plain_among ps) → ArePieces 3 bytes ps []
 pieces_2_3 bytes [] x h = x
-pieces_2_3 bytes (p ∷ ps) x h =
-    (x.0, record { split = x.1.split; piece = piece_2_3 p ps x.1.piece h; ends = ends_same 2 3 p (continues_2_3 p) x.0 x.1.ends }, pieces_2_3 x.0 ps x.2 (no_keyword_after p ps h))
+pieces_2_3 bytes (p ∷ ps) x h = (
+  x.0,
+  record {
+    split = x.1.split;
+    piece = piece_2_3 p ps x.1.piece h;
+    ends =
+        ends_same 2 3 p (continues_2_3 p) x.0 x.1.ends;
+  },
+  pieces_2_3 x.0 ps x.2 (no_keyword_after p ps h),
+)
 
 pub from_2_to_3 : (text : List ℕ) (ts : List SpannedToken) → AreTokens 2 text ts → HaveNoKeywordOf 3 (plain_tokens text ts) → AreTokens 3 text ts
-from_2_to_3 text ts x h = record { pieces = x.pieces; whole = pieces_2_3 text x.pieces x.whole (subst (HaveNoKeywordOf 3) (among 2 text ts x) h); tokens_are = x.tokens_are }
+from_2_to_3 text ts x h =
+    record { pieces = x.pieces; whole = pieces_2_3 text x.pieces x.whole (subst (HaveNoKeywordOf 3) (among 2 text ts x) h); tokens_are = x.tokens_are }

@@ -1,5 +1,6 @@
 -- Numbers, and how they are written.
-use Rattle.std.proofs.Common.{◌≡◌, ◌<◌, ◌^◌, ℕ, ℤ, zero, suc, pos, Bool, true, false, List, [], ◌∷◌, length, get_or, refl, sym, ap, ◌∙◌, subst, arith, rules, Bor, Some, None, Result, Ok, Err, w32}
+use Rattle.std.proofs.Common.{◌≡◌, ◌<◌, ◌^◌, ℕ, ℤ, zero, suc, pos, Bool, true, false, List, [], ◌∷◌, length, get_or, refl, sym, ap, ◌∙◌, subst, arith, rules}
+use Rattle.std.proofs.Common.{Bor, Some, None, Result, Ok, Err, w32}
 use Rattle.std.specs.List.{list_all}
 use Rattle.std.specs.Fmt.{decimal}
 use Rattle.std.specs.Str.{IsUtf8}
@@ -10,7 +11,8 @@ use Rattle.std.proofs.lemmas.Str.{IsUtf8-from_ascii}
 use Rattle.std.proofs.lemmas.Str.Parse.{IsNumeralModel, IsDigitsTest, numerals_by_value, parse_signed_digits}
 use Rattle.std.proofs.lemmas.Bool.{and_parts, eqb-false}
 use Rattle.std.proofs.lemmas.Bool.Decides.{nat_tests}
-use Rattle.std.proofs.lemmas.Fmt.{digits_decimal, digits_value-decimal, decimal-digits_value, decimal_nonempty, decimal_digit, first_decimal, IsAscii-from_digits}
+use Rattle.std.proofs.lemmas.Fmt.{digits_decimal, digits_value-decimal, decimal-digits_value, decimal_nonempty, decimal_digit, first_decimal}
+use Rattle.std.proofs.lemmas.Fmt.{IsAscii-from_digits}
 use Rattle.tc_lexer.specs.Tokens.{is_digit}
 use Rattle.tc_lexer.specs.helpers.Reading.{leads_with_zero}
 
@@ -52,7 +54,8 @@ alone (b ∷ []) n h e = refl
 alone (b ∷ c ∷ bs) n h e = absurd (eqb-false b 48 h e)
 
 -- digits that don't lead with a zero are how their value is written
-pub value_written : (word : List ℕ) → list_all is_digit word ≡ true → leads_with_zero word ≡ false → 0 < length word → digits_value 10 word < 2 ^ 31 → decimal (digits_value 10 word) ≡ word
+pub value_written : (word : List ℕ) → list_all is_digit word ≡ true → leads_with_zero word ≡ false → 0 < length word → digits_value 10 word < 2 ^ 31
+    → decimal (digits_value 10 word) ≡ word
 value_written word all lead some small = decimal-digits_value own_digits word all some (alone word some lead) (omega arith)
 
 -- Digits are a text, and parse to their value.
@@ -60,11 +63,13 @@ value_written word all lead some small = decimal-digits_value own_digits word al
 digits_text : (bytes : List ℕ) → list_all is_digit bytes ≡ true → IsUtf8 bytes
 digits_text bytes all = IsUtf8-from_ascii bytes (IsAscii-from_digits bytes (own_digits.to bytes all))
 
-pub digits_have_text : {E : Type 0} (r : Result (Bor (List ℕ)) E) (bytes : List ℕ) (Q : E → Type 0) → list_all is_digit bytes ≡ true → MatchResult r (λ s. (s.now ≡ bytes) × IsUtf8 bytes) (λ e. ¬ (IsUtf8 bytes) × Q e) → result_ok r ≡ None → ⊥
+pub digits_have_text : {E : Type 0} (r : Result (Bor (List ℕ)) E) (bytes : List ℕ) (Q : E → Type 0) → list_all is_digit bytes ≡ true
+    → MatchResult r (λ s. (s.now ≡ bytes) × IsUtf8 bytes) (λ e. ¬ (IsUtf8 bytes) × Q e) → result_ok r ≡ None → ⊥
 digits_have_text (Ok s) bytes Q all h e = cc
 digits_have_text (Err x) bytes Q all h e = h.0 (digits_text bytes all)
 
-pub text_is : {E : Type 0} (r : Result (Bor (List ℕ)) E) (bytes : List ℕ) (Q : E → Type 0) (s : Bor (List ℕ)) → MatchResult r (λ s. (s.now ≡ bytes) × IsUtf8 bytes) (λ e. ¬ (IsUtf8 bytes) × Q e) → result_ok r ≡ Some s → s.now ≡ bytes
+pub text_is : {E : Type 0} (r : Result (Bor (List ℕ)) E) (bytes : List ℕ) (Q : E → Type 0) (s : Bor (List ℕ))
+    → MatchResult r (λ s. (s.now ≡ bytes) × IsUtf8 bytes) (λ e. ¬ (IsUtf8 bytes) × Q e) → result_ok r ≡ Some s → s.now ≡ bytes
 text_is (Ok t) bytes Q s h e =
     let same : t ≡ s = cc in
     ap (λ (b : Bor (List ℕ)). b.now) (sym same) ∙ h.0
@@ -74,6 +79,7 @@ some_from_ok : {T E : Type 0} (r : Result T E) (P : Type 0) (v : T) → OkIff r 
 some_from_ok (Ok x) P v h = h
 some_from_ok (Err x) P v h = h
 
-pub parsed_value : {E : Type 0} (r : Result ℤ E) (text bytes : List ℕ) → text ≡ bytes → list_all is_digit bytes ≡ true → ParsesSigned w32 10 text r → SomeIff (result_ok r) ((0 < length bytes) × (digits_value 10 bytes < 2 ^ 31)) (pos (digits_value 10 bytes))
+pub parsed_value : {E : Type 0} (r : Result ℤ E) (text bytes : List ℕ) → text ≡ bytes → list_all is_digit bytes ≡ true → ParsesSigned w32 10 text r
+    → SomeIff (result_ok r) ((0 < length bytes) × (digits_value 10 bytes < 2 ^ 31)) (pos (digits_value 10 bytes))
 parsed_value r text bytes e all h =
     some_from_ok r _ _ (parse_signed_digits own_digits w32 bytes r (subst (λ (s : List ℕ). ParsesSigned w32 10 s r) e h) all)

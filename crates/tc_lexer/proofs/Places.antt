@@ -33,7 +33,8 @@ place_more before b = elim (cases_Bool (is_line_feed b)) [
       same_place _ _ _ _ line col ∙ sym (cond-true (is_line_feed b) _ _ h)
   | inr h ↦
       let none : count_by is_line_feed (b ∷ []) ≡ 0 = ap (λ (n : ℕ). 0 + n) (cond-false (is_line_feed b) 1 0 h) in
-      let one : prefix_len is_other (b ∷ reverse before) ≡ 1 + prefix_len is_other (reverse before) = cond-true (is_other b) _ _ (not_from_false (is_line_feed b) h) in
+      let one : prefix_len is_other (b ∷ reverse before) ≡ 1 + prefix_len is_other (reverse before) =
+      cond-true (is_other b) _ _ (not_from_false (is_line_feed b) h) in
       let line : 1 + count_by is_line_feed (before ++ b ∷ []) ≡ 1 + count_by is_line_feed before = omega (arith, lines_more before b) in
       let col : 1 + suffix_len is_other (before ++ b ∷ []) ≡ (1 + suffix_len is_other before) + 1 = omega (arith, back before b) in
       same_place _ _ _ _ line col ∙ sym (cond-false (is_line_feed b) _ _ h)
@@ -42,7 +43,8 @@ place_more before b = elim (cases_Bool (is_line_feed b)) [
 pub place_after-append : (bytes before : List ℕ) → place_after (before ++ bytes) ≡ place_from (place_after before) bytes
 place_after-append [] before = ap place_after (append-nil before)
 place_after-append (b ∷ bs) before =
-    ap place_after (sym (append_assoc before (b ∷ []) bs)) ∙ (place_after-append bs (before ++ b ∷ []) ∙ ap (λ (p : Place). place_from p bs) (place_more before b))
+    ap place_after (sym (append_assoc before (b ∷ []) bs))
+    ∙ (place_after-append bs (before ++ b ∷ []) ∙ ap (λ (p : Place). place_from p bs) (place_more before b))
 
 -- a place is no further than the bytes before it
 pub place_after-line : (before : List ℕ) → (place_after before).line ≤ 1 + length before

@@ -2,11 +2,14 @@
 use Rattle.std.proofs.Common.{◌≡◌, ◌≤◌, ℕ, Bool, true, false, cond, List, [], ◌∷◌, ◌++◌, length, drop, refl, sym, ap, inl, inr, ◌∙◌, arith, Option, Some, None}
 use Rattle.std.specs.Prelude.{◌&&◌, ◌||◌, ◌==◌, not, nat_le, nat_eq, IsTrue}
 use Rattle.std.specs.List.{starts_with}
-use Rattle.std.proofs.lemmas.Bool.{cases_Bool, and_parts, and_from, and_cases, and_left, and_right, or_parts, or_from, not-true, not_from_false, cond-true, cond-false, le-leb, leb-true, leb-false}
+use Rattle.std.proofs.lemmas.Bool.{cases_Bool, and_parts, and_from, and_cases, and_left, and_right, or_parts, or_from, not-true, not_from_false, cond-true}
+use Rattle.std.proofs.lemmas.Bool.{cond-false, le-leb, leb-true, leb-false}
 use Rattle.std.proofs.lemmas.Bool.Decides.{nat_tests, Decides-eqb}
 use Rattle.std.proofs.lemmas.Slice.Eq.{starts_is}
 use Rattle.tc_lexer.specs.declared.token.Sign.{Sign}
-use Rattle.tc_lexer.specs.declared.token.Sign.TheVariants.{OpenParen, CloseParen, OpenBracket, CloseBracket, OpenBrace, CloseBrace, Comma, Semicolon, Assign, Plus, Minus, Star, Slash, Percent, Bang, Tilde, Less, LessEqual, Greater, GreaterEqual, EqualEqual, BangEqual, ShiftLeft, ShiftRight, And, Caret, Or, AndAnd, OrOr}
+use Rattle.tc_lexer.specs.declared.token.Sign.TheVariants.{OpenParen, CloseParen, OpenBracket, CloseBracket, OpenBrace, CloseBrace, Comma, Semicolon, Assign}
+use Rattle.tc_lexer.specs.declared.token.Sign.TheVariants.{Plus, Minus, Star, Slash, Percent, Bang, Tilde, Less, LessEqual, Greater, GreaterEqual, EqualEqual}
+use Rattle.tc_lexer.specs.declared.token.Sign.TheVariants.{BangEqual, ShiftLeft, ShiftRight, And, Caret, Or, AndAnd, OrOr}
 use Rattle.tc_lexer.specs.Tokens.{sign_text, sign_since, sign_continues}
 use Rattle.tc_lexer.specs.helpers.Reading.{signs, sign_at}
 use Rattle.tc_lexer.proofs.Keywords.{find_passes}
@@ -33,16 +36,19 @@ no_late_pair language since b c h = elim (and_cases (b == c) (nat_le since langu
 ]
 
 -- past one longer sign, or two
-one_longer : (language b c : ℕ) (long short : Sign) → 1 ≤ language → not (b == c) ≡ true → cond (is_pair language 1 b c) (Some long) (cond (nat_le 1 language) (Some short) None) ≡ Some short
+one_longer : (language b c : ℕ) (long short : Sign) → 1 ≤ language → not (b == c) ≡ true
+    → cond (is_pair language 1 b c) (Some long) (cond (nat_le 1 language) (Some short) None) ≡ Some short
 one_longer language b c long short h e = cond-false _ _ _ (no_pair language 1 b c (not-true _ e)) ∙ cond-true _ _ _ (le-leb _ _ h)
 
-two_longer : (language b c d : ℕ) (long longer short : Sign) → 1 ≤ language → not (b == c || (b == d && nat_le 2 language)) ≡ true → cond (is_pair language 1 b c) (Some long) (cond (is_pair language 2 b d) (Some longer) (cond (nat_le 1 language) (Some short) None)) ≡ Some short
+two_longer : (language b c d : ℕ) (long longer short : Sign) → 1 ≤ language → not (b == c || (b == d && nat_le 2 language)) ≡ true
+    → cond (is_pair language 1 b c) (Some long) (cond (is_pair language 2 b d) (Some longer) (cond (nat_le 1 language) (Some short) None)) ≡ Some short
 two_longer language b c d long longer short h e =
     let p = or_parts (b == c) (b == d && nat_le 2 language) (not-true _ e) in
     cond-false _ _ _ (no_pair language 1 b c p.0) ∙ (cond-false _ _ _ (no_late_pair language 2 b d p.1) ∙ cond-true _ _ _ (le-leb _ _ h))
 
 -- the sign at the front is found
-pub sign_found : (language : ℕ) (s : Sign) (rest : List ℕ) → sign_since s ≤ language → SignEnds language s rest → sign_at language (sign_text s ++ rest) ≡ Some s
+pub sign_found : (language : ℕ) (s : Sign) (rest : List ℕ) → sign_since s ≤ language → SignEnds language s rest
+    → sign_at language (sign_text s ++ rest) ≡ Some s
 sign_found language OpenParen rest h e = cond-true _ _ _ (le-leb _ _ h)
 sign_found language CloseParen rest h e = cond-true _ _ _ (le-leb _ _ h)
 sign_found language OpenBracket rest h e = cond-true _ _ _ (le-leb _ _ h)
@@ -80,7 +86,8 @@ sign_found language AndAnd rest h e = cond-true _ _ _ (le-leb _ _ h)
 sign_found language OrOr rest h e = cond-true _ _ _ (le-leb _ _ h)
 
 -- where a shorter sign was found, the longer one isn't there
-no_longer : (language b c since : ℕ) (long short : Sign) (later : Option Sign) → (long ≡ short → ⊥) → cond (is_pair language since b c) (Some long) later ≡ Some short → (b == c && nat_le since language) ≡ false
+no_longer : (language b c since : ℕ) (long short : Sign) (later : Option Sign) → (long ≡ short → ⊥)
+    → cond (is_pair language since b c) (Some long) later ≡ Some short → (b == c && nat_le since language) ≡ false
 no_longer language b c since long short later n e = elim (cases_Bool (b == c && nat_le since language)) [
   | inl h ↦
       let p = and_parts (b == c) (nat_le since language) h in
@@ -90,7 +97,8 @@ no_longer language b c since long short later n e = elim (cases_Bool (b == c && 
   | inr h ↦ h
 ]
 
-past : (language b c since : ℕ) (long short : Sign) (later : Option Sign) → (long ≡ short → ⊥) → cond (is_pair language since b c) (Some long) later ≡ Some short → later ≡ Some short
+past : (language b c since : ℕ) (long short : Sign) (later : Option Sign) → (long ≡ short → ⊥)
+    → cond (is_pair language since b c) (Some long) later ≡ Some short → later ≡ Some short
 past language b c since long short later n e =
     sym (cond-false _ (Some long) later (no_late_pair language since b c (no_longer language b c since long short later n e))) ∙ e
 
@@ -104,17 +112,21 @@ pub ends_alone : (language : ℕ) (s : Sign) → ((b : ℕ) → sign_continues l
 ends_alone language s h [] = tt
 ends_alone language s h (b ∷ bs) = ap not (h b)
 
-one_ends : (language b c : ℕ) (long short : Sign) (later : Option Sign) → 1 ≤ language → (long ≡ short → ⊥) → cond (is_pair language 1 b c) (Some long) later ≡ Some short → not (b == c) ≡ true
+one_ends : (language b c : ℕ) (long short : Sign) (later : Option Sign) → 1 ≤ language → (long ≡ short → ⊥)
+    → cond (is_pair language 1 b c) (Some long) later ≡ Some short → not (b == c) ≡ true
 one_ends language b c long short later h n e = not_from_false _ (in_language (b == c) language h (no_longer language b c 1 long short later n e))
 
-two_end : (language b c d : ℕ) (long longer short : Sign) (later : Option Sign) → 1 ≤ language → (long ≡ short → ⊥) → (longer ≡ short → ⊥) → cond (is_pair language 1 b c) (Some long) (cond (is_pair language 2 b d) (Some longer) later) ≡ Some short → not (b == c || (b == d && nat_le 2 language)) ≡ true
+two_end : (language b c d : ℕ) (long longer short : Sign) (later : Option Sign) → 1 ≤ language → (long ≡ short → ⊥) → (longer ≡ short → ⊥)
+    → cond (is_pair language 1 b c) (Some long) (cond (is_pair language 2 b d) (Some longer) later) ≡ Some short
+    → not (b == c || (b == d && nat_le 2 language)) ≡ true
 two_end language b c d long longer short later h n m e =
     let first = in_language (b == c) language h (no_longer language b c 1 long short _ n e) in
     let second = no_longer language b d 2 longer short later m (past language b c 1 long short _ n e) in
     not_from_false _ (or_from _ _ first second)
 
 -- a sign that is found at the front is as long as it can be, but for a comment
-pub sign_ends : (language : ℕ) (s : Sign) (rest : List ℕ) → sign_since s ≤ language → sign_at language (sign_text s ++ rest) ≡ Some s → (s ≡ Slash → SignEnds language s rest) → SignEnds language s rest
+pub sign_ends : (language : ℕ) (s : Sign) (rest : List ℕ) → sign_since s ≤ language → sign_at language (sign_text s ++ rest) ≡ Some s
+    → (s ≡ Slash → SignEnds language s rest) → SignEnds language s rest
 sign_ends language OpenParen rest h e c = ends_alone language OpenParen (λ b. refl) rest
 sign_ends language CloseParen rest h e c = ends_alone language CloseParen (λ b. refl) rest
 sign_ends language OpenBracket rest h e c = ends_alone language OpenBracket (λ b. refl) rest
@@ -152,7 +164,9 @@ sign_ends language AndAnd rest h e c = ends_alone language AndAnd (λ b. refl) r
 sign_ends language OrOr rest h e c = ends_alone language OrOr (λ b. refl) rest
 
 -- what is found stands at the front
-pub sign_is : (language : ℕ) (bytes : List ℕ) (s : Sign) → sign_at language bytes ≡ Some s → (bytes ≡ sign_text s ++ drop (length (sign_text s)) bytes) × (sign_since s ≤ language)
+pub sign_is : (language : ℕ) (bytes : List ℕ) (s : Sign) → sign_at language bytes ≡ Some s
+    → (bytes ≡ sign_text s ++ drop (length (sign_text s)) bytes) × (sign_since s ≤ language)
 sign_is language bytes s e =
-    let p = and_parts (starts_with nat_eq bytes (sign_text s)) (nat_le (sign_since s) language) (find_passes (λ t. starts_with nat_eq bytes (sign_text t) && nat_le (sign_since t) language) signs s e) in
+    let p = and_parts (starts_with nat_eq bytes (sign_text s)) (nat_le (sign_since s) language)
+    (find_passes (λ t. starts_with nat_eq bytes (sign_text t) && nat_le (sign_since t) language) signs s e) in
     ((starts_is Decides-eqb bytes (sign_text s) (starts_with nat_eq bytes (sign_text s)) refl).0 p.0, leb-true _ _ p.1)

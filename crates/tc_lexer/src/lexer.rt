@@ -11,10 +11,10 @@ use crate::tokens::Tokens;
 use std::alloc::Global;
 use tc_base::Place;
 
-/// The tokens of a text, or its fault.
+/// The tokens of a program's text, in language 3, which has all keywords and signs.
 ///
-/// The text is read in language 3, which has all keywords and signs. A text has either one list of tokens
-/// or one fault, so where there is memory the answer is the only one that there is.
+/// A text has either one list of tokens or one fault, so the answer is the only one that there is, but for
+/// `Memory` where there is none. The time grows linearly with the text.
 pub fn lex(alloc: Global, text: &[u8]) -> Result<Tokens, LexFault>
     requires { length text.now ≤ 65536 }
     ensures found { IfOk result (λ tokens. AreTokens 3 text.now tokens) }
@@ -25,7 +25,9 @@ pub fn lex(alloc: Global, text: &[u8]) -> Result<Tokens, LexFault>
     let mut start = 0;
     while start < text.len() {
         let rest = &text[start..];
-        let piece = piece_at(rest).ok_or(fault_at(place, rest))?;
+        let Some(piece) = piece_at(rest) else {
+            return Err(fault_at(place, rest));
+        };
         let end = start + piece.len;
         if let Some(kind) = piece.kind {
             let token = Token {

@@ -211,7 +211,7 @@ pub struct Token {
 }
 
 impl Token {
-    /// The token's own bytes, in the text that it is a token of.
+    /// The token's own bytes in the text that it is a token of, which `tokens_are_spans` says to be there.
     pub fn text<'a>(&self, source: &'a [u8]) -> &'a [u8]
         requires begins { self.now.start ≤ self.now.end }
         requires ends { self.now.end ≤ length source.now }

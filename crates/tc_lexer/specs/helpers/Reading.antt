@@ -1,12 +1,16 @@
 -- How the reader finds the piece at the front of a text. No promise of a public function speaks of these.
-use Rattle.std.specs.Prelude.{ℕ, ℤ, pos, ◌+◌, ◌^◌, Bool, false, ◌&&◌, not, nat_le, nat_lt, nat_eq, ◌==◌, if◌then◌else◌, List, [], ◌∷◌, length, Option, None, Some, option_map, bytes_eq, codes, drop}
+use Rattle.std.specs.Prelude.{ℕ, ℤ, pos, ◌+◌, ◌^◌, Bool, false, ◌&&◌, not, nat_le, nat_lt, nat_eq, ◌==◌, if◌then◌else◌, List, [], ◌∷◌, length, Option, None}
+use Rattle.std.specs.Prelude.{Some, option_map, bytes_eq, codes, drop}
 use Rattle.std.specs.List.{find, starts_with, list_all, take_while}
 use Rattle.std.specs.Str.Parse.{digits_value}
 use Rattle.tc_base.specs.declared.place.Place.{Place}
 use Rattle.tc_lexer.specs.declared.token.Keyword.{Keyword}
-use Rattle.tc_lexer.specs.declared.token.Keyword.TheVariants.{Int, Mutex, Cond, Thread, Main, Tid, If, Else, While, Create, Join, Lock, Unlock, Wait, Signal, Broadcast, Fence, Assert, Swap, Cas, Stbar}
+use Rattle.tc_lexer.specs.declared.token.Keyword.TheVariants.{Int, Mutex, Cond, Thread, Main, Tid, If, Else, While, Create, Join, Lock, Unlock, Wait, Signal}
+use Rattle.tc_lexer.specs.declared.token.Keyword.TheVariants.{Broadcast, Fence, Assert, Swap, Cas, Stbar}
 use Rattle.tc_lexer.specs.declared.token.Sign.{Sign}
-use Rattle.tc_lexer.specs.declared.token.Sign.TheVariants.{OpenParen, CloseParen, OpenBracket, CloseBracket, OpenBrace, CloseBrace, Comma, Semicolon, Assign, Plus, Minus, Star, Slash, Percent, Bang, Tilde, Less, LessEqual, Greater, GreaterEqual, EqualEqual, BangEqual, ShiftLeft, ShiftRight, And, Caret, Or, AndAnd, OrOr}
+use Rattle.tc_lexer.specs.declared.token.Sign.TheVariants.{OpenParen, CloseParen, OpenBracket, CloseBracket, OpenBrace, CloseBrace, Comma, Semicolon, Assign}
+use Rattle.tc_lexer.specs.declared.token.Sign.TheVariants.{Plus, Minus, Star, Slash, Percent, Bang, Tilde, Less, LessEqual, Greater, GreaterEqual, EqualEqual}
+use Rattle.tc_lexer.specs.declared.token.Sign.TheVariants.{BangEqual, ShiftLeft, ShiftRight, And, Caret, Or, AndAnd, OrOr}
 use Rattle.tc_lexer.specs.declared.token.TokenKind.{TokenKind}
 use Rattle.tc_lexer.specs.declared.piece.Piece.{Piece as Shape}
 use Rattle.tc_lexer.specs.Tokens.{keyword_text, keyword_since, sign_text, sign_since, is_digit, is_word, begins_with_letter, PlainToken}
@@ -15,11 +19,13 @@ use Rattle.tc_lexer.specs.Pieces.{Piece, Space, LineComment, BlockComment, Token
 use Rattle.tc_lexer.specs.Text.{kind_of}
 
 abbrev pub keywords : List Keyword
-keywords = Int ∷ Mutex ∷ Cond ∷ Thread ∷ Main ∷ Tid ∷ If ∷ Else ∷ While ∷ Create ∷ Join ∷ Lock ∷ Unlock ∷ Wait ∷ Signal ∷ Broadcast ∷ Fence ∷ Assert ∷ Swap ∷ Cas ∷ Stbar ∷ []
+keywords = Int ∷ Mutex ∷ Cond ∷ Thread ∷ Main ∷ Tid ∷ If ∷ Else ∷ While ∷ Create ∷ Join ∷ Lock ∷ Unlock ∷ Wait ∷ Signal ∷ Broadcast ∷ Fence ∷ Assert ∷ Swap
+    ∷ Cas ∷ Stbar ∷ []
 
 -- those of two bytes first
 abbrev pub signs : List Sign
-signs = LessEqual ∷ GreaterEqual ∷ EqualEqual ∷ BangEqual ∷ ShiftLeft ∷ ShiftRight ∷ AndAnd ∷ OrOr ∷ OpenParen ∷ CloseParen ∷ OpenBracket ∷ CloseBracket ∷ OpenBrace ∷ CloseBrace ∷ Comma ∷ Semicolon ∷ Assign ∷ Plus ∷ Minus ∷ Star ∷ Slash ∷ Percent ∷ Bang ∷ Tilde ∷ Less ∷ Greater ∷ And ∷ Caret ∷ Or ∷ []
+signs = LessEqual ∷ GreaterEqual ∷ EqualEqual ∷ BangEqual ∷ ShiftLeft ∷ ShiftRight ∷ AndAnd ∷ OrOr ∷ OpenParen ∷ CloseParen ∷ OpenBracket ∷ CloseBracket
+    ∷ OpenBrace ∷ CloseBrace ∷ Comma ∷ Semicolon ∷ Assign ∷ Plus ∷ Minus ∷ Star ∷ Slash ∷ Percent ∷ Bang ∷ Tilde ∷ Less ∷ Greater ∷ And ∷ Caret ∷ Or ∷ []
 
 -- the keyword of the language that is written so
 abbrev pub keyword_of : ℕ → List ℕ → Option Keyword
@@ -36,7 +42,10 @@ leads_with_zero _ = false
 
 -- the number that a word writes
 abbrev pub number_of : List ℕ → Option ℤ
-number_of word = if list_all is_digit word && not (leads_with_zero word) && nat_lt (digits_value 10 word) (2 ^ 31) then Some (pos (digits_value 10 word)) else None
+number_of word =
+    if list_all is_digit word && not (leads_with_zero word) && nat_lt (digits_value 10 word) (2 ^ 31)
+    then Some (pos (digits_value 10 word))
+    else None
 
 -- the keyword that a word is, or else the name
 abbrev pub keyword_or_name : Option Keyword → List ℕ → PlainToken
@@ -45,7 +54,10 @@ keyword_or_name None word = plain.Name word
 
 -- the token that a word is
 abbrev pub word_token : ℕ → List ℕ → Option PlainToken
-word_token language word = if begins_with_letter word then Some (keyword_or_name (keyword_of language word) word) else option_map plain.Number (number_of word)
+word_token language word =
+    if begins_with_letter word
+    then Some (keyword_or_name (keyword_of language word) word)
+    else option_map plain.Number (number_of word)
 
 -- what stands before the first `*/`
 abbrev pub before_close : List ℕ → Option (List ℕ)
