@@ -1,5 +1,34 @@
 -- Bytes that a reader is known to give, and that a writer is known to have.
-use Rattle.std.proofs.Common.{◌≡◌, ◌∙◌, ◌+◌, ◌-◌, ◌<◌, ℕ, List, [], ◌++◌, length, length-append, Option, Some, None, IfSome, Result, Ok, Err, refl, ap, sym, subst, arith, append_assoc, append-nil, take, drop, take-append-drop}
+use Rattle.std.proofs.Common.{
+  ◌≡◌,
+  ◌∙◌,
+  ◌+◌,
+  ◌-◌,
+  ◌<◌,
+  ℕ,
+  List,
+  [],
+  ◌++◌,
+  length,
+  length-append,
+  Option,
+  Some,
+  None,
+  IfSome,
+  Result,
+  Ok,
+  Err,
+  refl,
+  ap,
+  sym,
+  subst,
+  arith,
+  append_assoc,
+  append-nil,
+  take,
+  drop,
+  take-append-drop,
+}
 use lib.Seq.{take-append_seam}
 use Rattle.std.proofs.lemmas.List.{take_rest}
 use Rattle.std.proofs.KnownBytes.{Appends-trans, Appends-kept}
@@ -32,21 +61,25 @@ consumes_some (Some gs) (Some bs) xs limit h lt = let e : length gs ≡ length x
 pub ruleset consumed = (consumes_more, consumes_none, consumes_all, consumes_some)
 
 -- a write took more of the rest
-pub appends_more : (a b c : Option (List ℕ)) (all front rest : List ℕ) (n : ℕ) → all ≡ front ++ rest → Appends a b front → Appends b c (take n rest) → (more : List ℕ) × (all ≡ more ++ take (length rest - n) (drop n rest)) × Appends a c more
+pub appends_more : (a b c : Option (List ℕ)) (all front rest : List ℕ) (n : ℕ) → all ≡ front ++ rest → Appends a b front → Appends b c (take n rest)
+    → (more : List ℕ) × (all ≡ more ++ take (length rest - n) (drop n rest)) × Appends a c more
 appends_more a b c all front rest n e p q = (
   front ++ take n rest,
-  e ∙ ap (λ r. front ++ r) (sym (take-append-drop n rest)) ∙ sym (append_assoc front (take n rest) (drop n rest)) ∙ ap (λ r. (front ++ take n rest) ++ r) (sym (take_rest rest n)),
+  e ∙ ap (λ r. front ++ r) (sym (take-append-drop n rest)) ∙ sym (append_assoc front (take n rest) (drop n rest))
+      ∙ ap (λ r. (front ++ take n rest) ++ r) (sym (take_rest rest n)),
   Appends-trans a b c front (take n rest) p q,
 )
 
 -- a write that took nothing or failed left the bytes
-pub keeps_unless_taken : {E : Type 0} (a b : Option (List ℕ)) (r : Result ℕ E) (rest : List ℕ) → WriteAppends a b r rest → ((n : ℕ) → r ≡ Ok n → n ≡ 0) → Keeps a b
+pub keeps_unless_taken : {E : Type 0} (a b : Option (List ℕ)) (r : Result ℕ E) (rest : List ℕ) → WriteAppends a b r rest
+    → ((n : ℕ) → r ≡ Ok n → n ≡ 0) → Keeps a b
 keeps_unless_taken a b (Err e) rest p none = p
 keeps_unless_taken None b (Ok n) rest p none = tt
 keeps_unless_taken (Some x) None (Ok n) rest p none = absurd p
 keeps_unless_taken (Some x) (Some y) (Ok n) rest p none = p ∙ ap (λ k. x ++ take k rest) (none n refl) ∙ append-nil x
 
 -- then the front that was written stands
-pub appends_front : (a b c : Option (List ℕ)) (all front rest : List ℕ) → all ≡ front ++ rest → Appends a b front → Keeps b c → (n : ℕ) × Appends a c (take n all)
+pub appends_front : (a b c : Option (List ℕ)) (all front rest : List ℕ) → all ≡ front ++ rest → Appends a b front → Keeps b c
+    → (n : ℕ) × Appends a c (take n all)
 appends_front a b c all front rest e p k =
     (length front, subst (Appends a c) (sym (ap (take (length front)) e ∙ take-append_seam front rest)) (Appends-kept a b c front p k))

@@ -1,5 +1,28 @@
 //! A shelf and a sink in memory, which fail where they are told to, and ones that never fail.
-ghost use Rattle.std.specs.Prelude.{◌≡◌, ◌≢◌, ◌≤◌, ◌<◌, ◌+◌, ◌++◌, ◌∷◌, [], ◌⊎◌, length, min, take, unwrap_or, Some, None, IsSome, IsSomeAnd, IfOk, IsErrOf, Err, OnOk, OnErr};
+ghost use Rattle.std.specs.Prelude.{
+  ◌≡◌,
+  ◌≢◌,
+  ◌≤◌,
+  ◌<◌,
+  ◌+◌,
+  ◌++◌,
+  ◌∷◌,
+  [],
+  ◌⊎◌,
+  length,
+  min,
+  take,
+  unwrap_or,
+  Some,
+  None,
+  IsSome,
+  IsSomeAnd,
+  IfOk,
+  IsErrOf,
+  Err,
+  OnOk,
+  OnErr,
+};
 ghost use Rattle.std.specs.FinMap as map;
 ghost use Rattle.tc_io.specs.Mem.{empty_shelf, empty_sink, empty_sure_shelf, mem_tells, sink_tells};
 ghost use Rattle.tc_io.specs.Outside.{Reading, bytes_at, counted_on, Gave, FailedOnce, WasTooLong, TookAtMost, Wrote, WrotePart};
@@ -79,7 +102,8 @@ impl Shelf for MemShelf {
         ensures there { IfOk result (λ bytes. map.get self.old.held name.now ≡ Some bytes.items) }
         ensures told { (result ≢ Err FetchFault.Memory) → IsSome (told_at self.new.plan) → result ≡ Err FetchFault.Failed }
         ensures cause { IsErrOf result FetchFault.Failed → IsSome (told_at self.new.plan) ⊎ (map.get self.old.held name.now ≡ None) }
-        ensures after { IsErrOf result FetchFault.Failed → self.new.past.taken ≡ counted_on self.old.past.taken (min (unwrap_or (told_at self.new.plan) 0) (min (length (bytes_at self.old.held name.now)) (limit + 1))) }
+        ensures after { IsErrOf result FetchFault.Failed → self.new.past.taken ≡ counted_on self.old.past.taken
+            (min (unwrap_or (told_at self.new.plan) 0) (min (length (bytes_at self.old.held name.now)) (limit + 1))) }
         ensures counted { (result ≢ Err FetchFault.Memory) → self.new.plan ≡ with_call self.old.plan }
     {
         let Ok(copy) = String::from_str(alloc, name) else {
@@ -181,7 +205,8 @@ impl Sink for MemSink {
 
         // What this sink alone says: which puts fail, and after how many bytes.
         ensures told { OnOk result (told_at self.new.plan ≡ None) }
-        ensures cause { IsErrOf result PutFault.Failed → IsSomeAnd (told_at self.new.plan) (λ after. self.new.written ≡ self.old.written ++ take after bytes.now) }
+        ensures cause { IsErrOf result PutFault.Failed → IsSomeAnd (told_at self.new.plan)
+            (λ after. self.new.written ≡ self.old.written ++ take after bytes.now) }
         ensures counted { self.new.plan ≡ with_call self.old.plan }
     {
         let Some(after) = self.plan.call() else {

@@ -13,6 +13,8 @@ pub returns-in_default-clause-part : goal.returns-in_default-clause-part
 returns-in_default-clause-part g c _ =
     let done = c.loop-rest.invariant.done in
     elim c.in_default.branch [
-      | in_default-via-in-Ok+else-n-gt0 w ↦ appends_front _ _ _ c.args.bytes.now done.0 c.loop-rest.rest.now done.1 done.2 (keeps_unless_taken _ _ _ _ c.write.ensures.bytes (λ n e. search rules))
-      | in_default-via-in_default w ↦ appends_front _ _ _ c.args.bytes.now done.0 c.loop-rest.rest.now done.1 done.2 (keeps_unless_taken _ _ _ _ c.write.ensures.bytes (λ n e. search rules))
+      | in_default-via-in-Ok+else-n-gt0 w ↦ appends_front _ _ _ c.args.bytes.now done.0 c.loop-rest.rest.now done.1 done.2
+          (keeps_unless_taken _ _ _ _ c.write.ensures.bytes (λ n e. search rules))
+      | in_default-via-in_default w ↦ appends_front _ _ _ c.args.bytes.now done.0 c.loop-rest.rest.now done.1 done.2
+          (keeps_unless_taken _ _ _ _ c.write.ensures.bytes (λ n e. search rules))
     ]
