@@ -6,8 +6,17 @@ use Rattle.std.specs.Int.Bits.{and_lt}
 use Rattle.std.proofs.lemmas.Nat.{or_lt, xor_lt}
 use Rattle.std.proofs.Math.Nat.{pow-suc}
 use Rattle.std.proofs.Math.Nat.{eq-or-lt_of_le}
-use Rattle.std.proofs.lemmas.Nat.Bits.{bit_at_lowest, bit_at-lt, bit_at_and, bit_at_or, bit_at_xor, bit_at_not, same_from_bits_below, bit_at_cat_low,
-    bit_at_cat_high}
+use Rattle.std.proofs.lemmas.Nat.Bits.{
+  bit_at_lowest,
+  bit_at-lt,
+  bit_at_and,
+  bit_at_or,
+  bit_at_xor,
+  bit_at_not,
+  same_from_bits_below,
+  bit_at_cat_low,
+  bit_at_cat_high,
+}
 use Rattle.tc_base.specs.Arith.{bit, number, bits_and, bits_or, bits_xor, bits_inverted}
 
 one_more : (f p n : ℕ) → f < 2 → n < p → f * p + n < p * 2
