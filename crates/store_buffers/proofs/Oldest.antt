@@ -1,5 +1,5 @@
 -- The oldest store of a form.
-use Rattle.std.proofs.Common.{◌≡◌, ℕ, ℤ, ◌==◌, nat_eq, Bool, true, false, cond, ◌||◌, Option, Some, None, List, [], ◌∷◌, ◌++◌, filter, refl, sym, ap, ◌∙◌, subst}
+use Rattle.std.proofs.Common.{◌≡◌, ℕ, ◌==◌, nat_eq, Bool, true, false, cond, Option, Some, None, List, [], ◌∷◌, ◌++◌, filter, refl, sym, ap, ◌∙◌, subst}
 use Rattle.std.specs.Option.{option_eq}
 use Rattle.std.proofs.lemmas.Bool.{false≢true}
 use Rattle.tc_base.specs.Buffers.{Entry, BufferOps}
@@ -7,7 +7,7 @@ use Rattle.tc_base.specs.declared.model.Model.{Model}
 use Rattle.store_buffers.specs.Pending.{Pending, Store, Bar, stores, has_bar, Binding, waits, form_of, stores_by, Drains}
 use Rattle.store_buffers.specs.Laws.{Laws}
 use Rattle.store_buffers.specs.Proved.Lists.{stores-append, or_false}
-use Rattle.store_buffers.specs.Proved.Segments.{eq_is, eq_self}
+use Rattle.store_buffers.specs.Proved.Segments.{eq_self}
 
 -- two stores of one form are bound
 bound_by_form : (bound : Binding) → ((b : Bool) → bound true b ≡ true) → (bound false false ≡ true → bound false true ≡ true) → (c d : ℕ) (b same : Bool) → (d == c) ≡ same → bound same b ≡ false → option_eq nat_eq (form_of bound d) (form_of bound c) ≡ false
