@@ -1,5 +1,5 @@
 -- A `BTreeMap` by cell, seen as a segment.
-use Rattle.std.proofs.Common.{◌≡◌, ◌+◌, ◌==◌, ℕ, ℤ, length, List, [], ◌∷◌, ◌++◌, refl, ap, sym, subst, ◌∙◌, Option, Some, None, Bool, true, false, cond, not, is_some, unwrap_or, IsTrue, IsSome, IfSome, suc, ◌↔◌, ◌<◌, ◌-◌, slice_index_or, pos, drop, arith, Bor, option_copied, Result, Ok, Err, OnOk, OnErr}
+use Rattle.std.proofs.Common.{◌≡◌, ◌==◌, ℕ, ℤ, length, List, [], ◌∷◌, ◌++◌, refl, ap, sym, subst, ◌∙◌, Option, Some, None, Bool, true, false, cond, not, is_some, unwrap_or, IsTrue, IsSome, IfSome, suc, ◌↔◌, ◌<◌, ◌-◌, slice_index_or, drop, arith, Bor, option_copied, Result, Ok, Err, OnOk, OnErr}
 use Rattle.std.specs.List.{last_or}
 use Rattle.std.proofs.lemmas.List.{nil_from_length}
 use Rattle.std.specs.FinMap as fin

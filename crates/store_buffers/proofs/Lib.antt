@@ -1,3 +1,4 @@
 pub mod ByCell
 pub mod Skips
 pub mod Forms
+pub mod Oldest

@@ -1,5 +1,5 @@
 -- Segments behind empty ones, and a last one.
-use Rattle.std.proofs.Common.{◌≡◌, ◌+◌, ℕ, ℤ, zero, suc, add-one, List, [], ◌∷◌, ◌++◌, replicate, drop, length, refl, ap, sym, subst, ◌∙◌, Option, Some, None, Bool, true, false, cond, not, ◌&&◌, append_assoc, is_some, IsTrue, ◌↔◌, ◌<◌, slice_index_or, length-append, ◌==◌, arith}
+use Rattle.std.proofs.Common.{◌≡◌, ◌+◌, ℕ, ℤ, zero, suc, add-one, List, [], ◌∷◌, ◌++◌, replicate, drop, length, refl, ap, sym, ◌∙◌, Option, Some, None, Bool, true, false, cond, ◌&&◌, append_assoc, is_some, IsTrue, ◌↔◌, ◌<◌, slice_index_or, length-append, ◌==◌, arith}
 use Rattle.std.proofs.Math.Dec.{eqb-suc-zero}
 use Rattle.std.specs.Ordering.{nat_cmp}
 use Rattle.std.specs.List.{list_all, last_or}

@@ -1,5 +1,6 @@
 -- What a thread has put into its store buffer and hasn't drained yet, as a list, oldest first.
-use Rattle.std.specs.Prelude.{◌≡◌, ℕ, ◌==◌, Bool, true, false, ◌||◌, Option, Some, None, List, [], ◌∷◌, ◌++◌, fold, if◌then◌else◌}
+use Rattle.std.specs.Prelude.{◌≡◌, ℕ, ◌==◌, Bool, true, false, ◌||◌, Option, Some, None, List, [], ◌∷◌, ◌++◌, fold, filter, nat_eq, if◌then◌else◌}
+use Rattle.std.specs.Option.{option_eq}
 use Rattle.tc_base.specs.Buffers.{Entry, BufferOps}
 
 pub data Pending : Type 0 where
@@ -38,6 +39,10 @@ waits bound (Bar ∷ ps) c = waits bound ps c
 -- the form by which a cell's stores drain: none where all stores are bound, and else the cell
 abbrev pub form_of : Binding → ℕ → Option ℕ
 form_of bound c = if bound false false then None else Some c
+
+-- the stores that drain by a form
+abbrev pub stores_by : Binding → Option ℕ → List Pending → List Entry
+stores_by bound form ps = filter (λ e. option_eq nat_eq (form_of bound e.cell) form) (stores ps)
 
 -- among these a store may drain by a form: what is older, the store, and what is newer
 pub record Drains (bound : Binding) (ps : List Pending) (form : Option ℕ) (older : List Pending) (store : Entry) (newer : List Pending) : Type 0 where

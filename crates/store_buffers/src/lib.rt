@@ -10,6 +10,7 @@ ghost use Rattle.tc_base.specs.declared.model.Model.{Model as SpecModel};
 ghost use Rattle.store_buffers.specs.Pending.{Binding};
 ghost use Rattle.store_buffers.specs.Laws.{Laws, AreForms};
 
+pub mod laws;
 mod pso;
 mod queue;
 mod sc;

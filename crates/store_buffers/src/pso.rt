@@ -18,13 +18,19 @@ impl MemoryModel for PsoModel {
     type Buffer = Segments;
 
     const MODEL: Model = Model::Pso;
+
     const BUFFERED: bool = true;
 
     ghost MODEL = { model.Pso };
+
     ghost BUFFERED = { true };
+
     ghost ops = { cell_buffer };
+
     ghost bound = { binds_cells };
+
     ghost buffered = { refl };
+
     ghost laws = { pso_laws };
 
     fn empty(alloc: Global) -> Segments {

@@ -1,10 +1,10 @@
 -- Lists of pending stores and bars.
-use Rattle.std.proofs.Common.{◌≡◌, ℕ, ◌+◌, ◌==◌, Bool, true, false, not, ◌||◌, Option, Some, None, List, [], ◌∷◌, ◌++◌, length, fold, refl, sym, ap, ◌∙◌, subst, append_assoc, append-nil}
+use Rattle.std.proofs.Common.{◌≡◌, ℕ, ℤ, ◌==◌, Bool, true, false, ◌||◌, Option, Some, None, List, [], ◌∷◌, ◌++◌, fold, if◌then◌else◌, refl, sym, ap, ◌∙◌}
 use Rattle.std.specs.Option.{option_or}
 use Rattle.std.proofs.lemmas.Bool.{false≢true}
 use Rattle.tc_base.specs.Buffers.{Entry, BufferOps, newest}
-use Rattle.store_buffers.specs.Pending.{Pending, Store, Bar, stores, has_bar, Binding, waits, Drains, put}
-use Rattle.store_buffers.specs.Laws.{SomeDrains}
+use Rattle.store_buffers.specs.Pending.{Pending, Store, Bar, stores, Stands, put}
+use Rattle.std.specs.Cmp.{nat_eq_equiv}
 
 pub stores-append : (ps qs : List Pending) → stores (ps ++ qs) ≡ stores ps ++ stores qs
 stores-append [] qs = refl
@@ -25,3 +25,38 @@ or_false false b e = (refl, e)
 pub fold-append : {A B : Type 0} (f : B → A → B) (b : B) (xs ys : List A) → fold f b (xs ++ ys) ≡ fold f (fold f b xs) ys
 fold-append f b [] ys = refl
 fold-append f b (x ∷ xs) ys = fold-append f (f b x) xs ys
+
+-- a list that a buffer stands for, with one more
+pub store_last : {B : Type 0} (ops : BufferOps B) (b : B) (ps : List Pending) (c : ℕ) (v : ℤ) → ops.buffered ≡ true → Stands ops b ps → Stands ops (ops.issue b c v) (ps ++ Store (record { cell = c; value = v }) ∷ [])
+store_last ops b ps c v buffered s = record {
+  made = ap (λ x. ops.issue x c v) s.made ∙ sym (fold-append (put ops) ops.empty ps (Store (record { cell = c; value = v }) ∷ []));
+  issued = λ e. absurd (false≢true (sym e ∙ buffered));
+}
+
+no_more : (ps : List Pending) → stores ps ≡ [] → stores (ps ++ Bar ∷ []) ≡ []
+no_more ps e = stores-append ps (Bar ∷ []) ∙ ap (λ es. es ++ []) e
+
+pub bar_last : {B : Type 0} (ops : BufferOps B) (b : B) (ps : List Pending) → Stands ops b ps → Stands ops (ops.bar b) (ps ++ Bar ∷ [])
+bar_last ops b ps s = record {
+  made = ap ops.bar s.made ∙ sym (fold-append (put ops) ops.empty ps (Bar ∷ []));
+  issued = λ e. no_more ps (s.issued e);
+}
+
+pub newest-append : (es fs : List Entry) (c : ℕ) → newest (es ++ fs) c ≡ option_or (newest fs c) (newest es c)
+newest-append [] fs c = or_none (newest fs c)
+  where
+    or_none : (o : Option ℤ) → o ≡ option_or o None
+    or_none None = refl
+    or_none (Some v) = refl
+newest-append (e ∷ es) fs c = ap (λ o. option_or o (if e.cell == c then Some e.value else None)) (newest-append es fs c) ∙ assoc (newest fs c) (newest es c) (if e.cell == c then Some e.value else None)
+  where
+    assoc : (o p q : Option ℤ) → option_or (option_or o p) q ≡ option_or o (option_or p q)
+    assoc None p q = refl
+    assoc (Some v) p q = refl
+
+-- the newest store to its cell is the last
+pub newest_last : (ps : List Pending) (c : ℕ) (v : ℤ) → newest (stores (ps ++ Store (record { cell = c; value = v }) ∷ [])) c ≡ Some v
+newest_last ps c v =
+    ap (λ es. newest es c) (stores-append ps (Store (record { cell = c; value = v }) ∷ []))
+    ∙ newest-append (stores ps) (record { cell = c; value = v } ∷ []) c
+    ∙ ap (λ b. option_or (if b then Some v else None) (newest (stores ps) c)) (nat_eq_equiv.refl c)

@@ -4,12 +4,12 @@ use Rattle.std.specs.List.{list_all, last_or}
 use Rattle.std.specs.Option.{option_or}
 use Rattle.std.specs.FinMap as fin
 use Rattle.std.proofs.lemmas.Bool.{false≢true}
-use Rattle.tc_base.specs.Buffers.{Entry, Segment, values_to, with_values, has_no_store, issue_last, last_value, first_values, drop_first, may_drain_cell, drain_cell, cell_buffer, newest, is_nil}
+use Rattle.tc_base.specs.Buffers.{Entry, Segment, values_to, with_values, has_no_store, issue_last, last_value, first_values, drop_first, may_drain_cell, cell_buffer, newest, is_nil}
 use Rattle.tc_base.specs.declared.model.Model.TheVariants.{Pso}
-use Rattle.store_buffers.specs.Pending.{Pending, Store, Bar, stores, has_bar, binds_cells, waits, Drains, Stands, put}
+use Rattle.store_buffers.specs.Pending.{Pending, Store, Bar, stores, has_bar, binds_cells, waits, Stands, put}
 use Rattle.store_buffers.specs.Laws.{Laws, SomeDrains, TakesOut}
 use Rattle.store_buffers.specs.Proved.Lists.{or_false}
-use Rattle.store_buffers.specs.Proved.Segments.{IsTidy, values-empty, tidy-empty, no_store-empty, has_store, with_first, with_last, tidy-with_first, eq_is, eq_self, eq_comm, values-with_first-same, values-with_first-other, has_store-with_first, with_values-back, with_values-with_first, with_last-with_first}
+use Rattle.store_buffers.specs.Proved.Segments.{IsTidy, values-empty, tidy-empty, no_store-empty, has_store, with_first, tidy-with_first, eq_is, eq_comm, values-with_first-same, values-with_first-other, has_store-with_first, with_values-back, with_values-with_first, with_last-with_first}
 
 -- the segments that a list makes: the first, and those behind its first bar
 first : List Pending → Segment

@@ -1,5 +1,5 @@
 -- Sequential consistency meets the laws.
-use Rattle.std.proofs.Common.{◌≡◌, ◌==◌, Bool, true, false, List, [], length, refl, sym, ap, ◌∙◌}
+use Rattle.std.proofs.Common.{refl, sym, ap, ◌∙◌}
 use Rattle.std.proofs.lemmas.Bool.{false≢true}
 use Rattle.tc_base.specs.Buffers.{no_buffer, newest, is_nil}
 use Rattle.tc_base.specs.declared.model.Model.TheVariants.{Sc}

@@ -1,11 +1,11 @@
 -- Total store order meets the laws.
-use Rattle.std.proofs.Common.{◌≡◌, ℕ, ◌==◌, Bool, true, false, not, ◌&&◌, Option, Some, None, is_none, List, [], ◌∷◌, ◌++◌, length, drop, slice_index_or, fold, refl, sym, ap, ◌∙◌, subst, append_assoc, append-nil}
+use Rattle.std.proofs.Common.{◌≡◌, ℕ, true, false, not, ◌&&◌, Option, Some, None, is_none, List, [], ◌∷◌, ◌++◌, drop, slice_index_or, fold, refl, sym, ap, ◌∙◌, subst, append_assoc, append-nil}
 use Rattle.std.proofs.lemmas.Bool.{false≢true}
 use Rattle.tc_base.specs.Buffers.{Entry, fifo_buffer, newest, no_entry, is_nil}
 use Rattle.tc_base.specs.declared.model.Model.TheVariants.{Tso}
-use Rattle.store_buffers.specs.Pending.{Pending, Store, Bar, stores, binds_all, waits, Drains, Stands, put}
+use Rattle.store_buffers.specs.Pending.{Pending, Store, Bar, stores, binds_all, waits, Stands, put}
 use Rattle.store_buffers.specs.Laws.{Laws, SomeDrains, TakesOut}
-use Rattle.store_buffers.specs.Proved.Lists.{stores-append, or_false}
+use Rattle.store_buffers.specs.Proved.Lists.{stores-append}
 
 put_all : (b : List Entry) (ps : List Pending) → fold (put fifo_buffer) b ps ≡ b ++ stores ps
 put_all b [] = sym (append-nil b)

@@ -1,4 +1,4 @@
-use Rattle.std.proofs.Common.{◌≡◌, ◌++◌, ◌∙◌, map, Some, List, ℕ, Option, [], ap, sym, subst}
+use Rattle.std.proofs.Common.{◌++◌, ◌∙◌, map, Some, List, ℕ, Option, ap, sym, subst}
 use Rattle.std.specs.FinMap as fin
 use Rattle.std.specs.Ordering.{nat_cmp}
 use Rattle.std.specs.List.Sorted.{IsStrictlySortedBy}

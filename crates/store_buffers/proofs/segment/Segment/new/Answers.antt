@@ -1,4 +1,4 @@
-use Rattle.std.proofs.Common.{List, ℕ, ℤ, [], sym, subst}
+use Rattle.std.proofs.Common.{sym, subst}
 use Rattle.store_buffers.specs.Proved.Segments.{IsTidy, tidy-empty}
 use Rattle.store_buffers.proofs.ByCell.{Entries, segment_of, no_entries}
 use Rattle.store_buffers.proofs.segment.Segment.new.Goals as goal

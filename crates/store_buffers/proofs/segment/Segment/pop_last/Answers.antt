@@ -1,4 +1,4 @@
-use Rattle.std.proofs.Common.{◌≡◌, ◌∙◌, sym, ap, subst, refl, [], None, Some, List, ℤ, drop, slice_get}
+use Rattle.std.proofs.Common.{◌∙◌, sym, ap, [], List, ℤ, slice_get}
 use Rattle.tc_base.specs.Buffers.{with_values}
 use Rattle.store_buffers.proofs.ByCell.{entry_values, out_values, tidy_put, nil_of}
 use Rattle.store_buffers.proofs.segment.Segment.pop_last.Goals as goal

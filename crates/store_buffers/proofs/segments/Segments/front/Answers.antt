@@ -1,6 +1,5 @@
-use Rattle.std.proofs.Common.{◌∙◌, ◌<◌, sym, ap, subst, refl, arith, length}
-use Rattle.tc_base.specs.Buffers.{first_values}
-use Rattle.store_buffers.proofs.Skips.{front_values, older_front, alone_front, nil_of_len, none_by_variant}
+use Rattle.std.proofs.Common.{◌∙◌, ◌<◌, subst, refl}
+use Rattle.store_buffers.proofs.Skips.{front_values, older_front, alone_front, none_by_variant}
 use Rattle.store_buffers.proofs.segments.Segments.front.Goals as goal
 
 pub returns-in-Some : goal.returns-in-Some
