@@ -10,6 +10,8 @@ use std::marker::Model;
 use tc_base::{BinOp, UnOp};
 
 /// Distinct nodes, each of which names earlier ones. A name stays valid, and means the same, while terms are added.
+///
+/// A term that is there already is answered by its name, so equal terms have one name. Each refusal is want of memory.
 #[derive(Debug, Drop)]
 pub struct Terms {
     nodes: IndexSet<Node>,

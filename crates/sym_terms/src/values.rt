@@ -8,8 +8,8 @@ use std::alloc::{AllocError, Global};
 use std::marker::Model;
 use tc_base::arith;
 
-/// The values of terms under the values that the loads took. A value is computed when it, or a later one, is first asked
-/// for.
+/// The values of terms under the values that the loads took. A value is computed when it, or that of a later term, is
+/// first asked for.
 #[derive(Debug, Drop)]
 pub struct Values {
     symbols: Vec<i32>,
@@ -26,7 +26,8 @@ impl Model for Values {
 }
 
 impl Values {
-    /// A table with room for all terms, in which none is computed, for loads that took these values.
+    /// A table with room for all terms, in which none is computed, for loads that took these values. A load past them has 0.
+    /// Refused for want of memory.
     pub fn new(alloc: Global, terms: &Terms, loads: &[i32]) -> Result<Values, AllocError>
         ensures symbols { IfOk result (λ values. values.symbols ≡ loads.now) }
         ensures known { IfOk result (λ values. values.known ≡ []) }
@@ -40,7 +41,8 @@ impl Values {
     }
 }
 
-/// The value of a term. All terms up to it are then computed, and none is computed again.
+/// The value of a term. All terms up to it are then computed, and none is computed again. It takes no memory, so the table
+/// has to be made for these terms, or for later ones.
 pub fn value(terms: &Terms, id: Id, values: &mut Values) -> i32
     requires there { id < length terms.now }
     requires room { length terms.now ≤ values.old.room }

@@ -138,35 +138,30 @@ fn terms_are_kept_once(rt: HostRuntime) -> Result<(), Fail> {
     Ok(())
 }
 
-/// The load 0 doubled so often, and then so many times increased by it.
-fn long(alloc: Global, doubled: u32, increased: u32) -> Result<(usize, i32), Fail> {
+/// The load 0, to which itself, or else the load, is added so many times.
+fn long(alloc: Global, doubles: bool, times: u32) -> Result<(usize, i32), Fail> {
     let mut terms = Terms::new(alloc);
-    let mut last = terms.symbol(0)?;
-    for _ in 0..doubled {
-        let id = term_of(&terms, &[last], 0)?;
-        last = terms.op2(BinOp::Add, id, id)?;
-    }
-    let load = terms.symbol(0)?;
-    for _ in 0..increased {
-        let id = term_of(&terms, &[last, load], 0)?;
-        let load = term_of(&terms, &[last, load], 1)?;
-        last = terms.op2(BinOp::Add, id, load)?;
+    let mut ids = [terms.symbol(0)?; 2];
+    for _ in 0..times {
+        let last = term_of(&terms, &ids, 1)?;
+        let added = term_of(&terms, &ids, usize::from(doubles))?;
+        ids[1] = terms.op2(BinOp::Add, last, added)?;
     }
     let mut values = Values::new(alloc, &terms, &[3])?;
-    let id = term_of(&terms, &[last], 0)?;
-    Ok((terms.len(), value(&terms, id, &mut values)))
+    let last = term_of(&terms, &ids, 1)?;
+    Ok((terms.len(), value(&terms, last, &mut values)))
 }
 
 #[test]
 fn long_terms_take_no_more(rt: HostRuntime) -> Result<(), Fail> {
-    for (doubled, increased, terms, last) in [
-        (3, 0, 4, 24),
-        (40, 0, 41, 0),
-        (30, 0, 31, -1_073_741_824),
-        (0, 100_000, 100_001, 300_003),
-        (1, 2, 4, 12),
+    for (doubles, times, terms, last) in [
+        (true, 3, 4, 24),
+        (true, 30, 31, -1_073_741_824),
+        (true, 40, 41, 0),
+        (false, 2, 3, 9),
+        (false, 100_000, 100_001, 300_003),
     ] {
-        assert_eq!(rt; long(rt.alloc(), doubled, increased)?, (terms, last));
+        assert_eq!(rt; long(rt.alloc(), doubles, times)?, (terms, last));
     }
     Ok(())
 }
