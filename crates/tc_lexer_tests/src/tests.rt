@@ -54,15 +54,24 @@ const WORDS: [Row; 9] = [
 ];
 
 const NAMES: [Row; 5] = [
-    (b"intx Int iF _int int_", "intx 1:1, Int 1:6, iF 1:10, _int 1:13, int_ 1:18"),
-    (b"_ A z Z9_ swap1", "_ 1:1, A 1:3, z 1:5, Z9_ 1:7, swap1 1:11"),
+    (
+        b"intx Int iF _int int_",
+        "intx 1:1, Int 1:6, iF 1:10, _int 1:13, int_ 1:18",
+    ),
+    (
+        b"_ A z Z9_ swap1",
+        "_ 1:1, A 1:3, z 1:5, Z9_ 1:7, swap1 1:11",
+    ),
     (b"int/**/x", "'int' 1:1, x 1:8"),
     (b"int+x", "'int' 1:1, `+` 1:4, x 1:5"),
     (b"x=1;", "x 1:1, `=` 1:2, #1 1:3, `;` 1:4"),
 ];
 
 const NUMBERS: [Row; 8] = [
-    (b"0 7 10 2147483647", "#0 1:1, #7 1:3, #10 1:5, #2147483647 1:8"),
+    (
+        b"0 7 10 2147483647",
+        "#0 1:1, #7 1:3, #10 1:5, #2147483647 1:8",
+    ),
     (b"-2147483648", "Number at 1:2"),
     (b"00", "Number at 1:1"),
     (b"x 01", "Number at 1:3"),
@@ -108,7 +117,9 @@ fn written(alloc: Global, kind: TokenKind, source: &str) -> Result<String, Fail>
 
 /// A token with its place, its kind told by the marks about it.
 fn seen(alloc: Global, token: &Token, source: &[u8]) -> Result<String, Fail> {
-    let bytes = source.get(token.start..token.end).ok_or("a token outside of the text")?;
+    let bytes = source
+        .get(token.start..token.end)
+        .ok_or("a token outside of the text")?;
     let text = str::from_utf8(bytes)?;
     if written(alloc, token.kind, text)?.as_str() != text {
         return Err("a token of another text")?;
