@@ -1,5 +1,47 @@
 -- A `BTreeMap` by cell, seen as a segment.
-use Rattle.std.proofs.Common.{◌≡◌, ◌==◌, ℕ, ℤ, length, List, [], ◌∷◌, ◌++◌, refl, ap, sym, subst, ◌∙◌, Option, Some, None, Bool, true, false, cond, not, is_some, unwrap_or, IsTrue, IsSome, IfSome, suc, ◌↔◌, ◌<◌, ◌-◌, slice_index_or, drop, arith, Bor, option_copied, Result, Ok, Err, OnOk, OnErr}
+use Rattle.std.proofs.Common.{
+  ◌≡◌,
+  ◌==◌,
+  ℕ,
+  ℤ,
+  length,
+  List,
+  [],
+  ◌∷◌,
+  ◌++◌,
+  refl,
+  ap,
+  sym,
+  subst,
+  ◌∙◌,
+  Option,
+  Some,
+  None,
+  Bool,
+  true,
+  false,
+  cond,
+  not,
+  is_some,
+  unwrap_or,
+  IsTrue,
+  IsSome,
+  IfSome,
+  suc,
+  ◌↔◌,
+  ◌<◌,
+  ◌-◌,
+  slice_index_or,
+  drop,
+  arith,
+  Bor,
+  option_copied,
+  Result,
+  Ok,
+  Err,
+  OnOk,
+  OnErr,
+}
 use Rattle.std.specs.List.{last_or}
 use Rattle.std.proofs.lemmas.List.{nil_from_length}
 use Rattle.std.specs.FinMap as fin
@@ -17,7 +59,19 @@ use Rattle.std.proofs.lemmas.Option.{none-some}
 use Rattle.std.proofs.Math.Dec.{eqb-suc-zero}
 use Rattle.std.proofs.lemmas.Bool.Decides.{nat_tests}
 use Rattle.tc_base.specs.Buffers.{Segment, values_to, with_values, has_no_store, is_nil}
-use Rattle.store_buffers.specs.Proved.Segments.{IsTidy, some_values, get-with_values, values-with_values, same_values, tidy-with_values, no_store-empty, has_store, eq_is, eq_self, eq_comm}
+use Rattle.store_buffers.specs.Proved.Segments.{
+  IsTidy,
+  some_values,
+  get-with_values,
+  values-with_values,
+  same_values,
+  tidy-with_values,
+  no_store-empty,
+  has_store,
+  eq_is,
+  eq_self,
+  eq_comm,
+}
 
 abbrev pub Entries : Type 0
 Entries = List (ℕ × List ℤ)
@@ -40,7 +94,8 @@ pub get_of_entries : (es : Entries) (s : Segment) (c : ℕ) → segment_of es �
 get_of_entries es s c e = ap (λ t. fin.get t c) (sym e) ∙ get-segment_of es c
 
 -- entries that differ at one cell make the segment with other values there
-pub segment_of_update : (es fs : Entries) (c : ℕ) (vs : List ℤ) → ((d : ℕ) → at_cell fs d ≡ cond (is_at (nat_cmp c) d) (some_values vs) (at_cell es d)) → segment_of fs ≡ with_values (segment_of es) c vs
+pub segment_of_update : (es fs : Entries) (c : ℕ) (vs : List ℤ)
+    → ((d : ℕ) → at_cell fs d ≡ cond (is_at (nat_cmp c) d) (some_values vs) (at_cell es d)) → segment_of fs ≡ with_values (segment_of es) c vs
 segment_of_update es fs c vs h = same_map nat_cmp_total nat_cmp-IsAntisymmetric _ _ (λ d.
     get-segment_of fs d ∙ h d
     ∙ ap (λ b. cond b (some_values vs) (at_cell es d)) (unsigned_tied c d ∙ eq_comm c d)
@@ -61,7 +116,8 @@ back_there false f c d e = refl
 
 -- what is there already is put in without a change
 pub with_values-same : (s : Segment) (c : ℕ) → IsTidy s → with_values s c (values_to s c) ≡ s
-with_values-same s c t = same_values _ s (tidy-with_values s c _ t) t (λ d. values-with_values s c (values_to s c) d ∙ back_there (d == c) (values_to s) c d refl)
+with_values-same s c t = same_values _ s (tidy-with_values s c _ t) t (λ d. values-with_values s c (values_to s c) d
+    ∙ back_there (d == c) (values_to s) c d refl)
 
 some_entry : (vs ws : List ℤ) → some_values vs ≡ Some ws → is_nil vs ≡ false
 some_entry [] ws e = absurd (none-some ws e)
@@ -98,7 +154,8 @@ last_is (x ∷ xs) n (Some y) len is at = ap Some (at ∙ ap (λ k. slice_index_
     one_less : (n m : ℕ) → n ≡ suc m → n - 1 ≡ m
     one_less n m e = omega arith
 
-pub last_of_back : (xs : List ℤ) (n : ℕ) (r : Option (Bor ℤ)) → n ≡ length xs → IsSome r ↔ (0 < n) → IfSome r (λ x. x.now ≡ slice_index_or xs (n - 1) x.now) → option_copied r ≡ last_or None xs
+pub last_of_back : (xs : List ℤ) (n : ℕ) (r : Option (Bor ℤ)) → n ≡ length xs → IsSome r ↔ (0 < n)
+    → IfSome r (λ x. x.now ≡ slice_index_or xs (n - 1) x.now) → option_copied r ≡ last_or None xs
 last_of_back xs n None len is at = last_is xs n None len is tt
 last_of_back xs n (Some x) len is at = last_is xs n (Some x.now) len is at
 
@@ -111,14 +168,18 @@ entry_of [] e = absurd (false≢true (sym e))
 entry_of (v ∷ vs) e = refl
 
 -- values that are put in at a cell
-pub put_values : (es fs : Entries) (s : Segment) (c : ℕ) (vs : List ℤ) → segment_of es ≡ s → is_nil vs ≡ false → ((d : ℕ) → at_cell fs d ≡ cond (is_at (nat_cmp c) d) (Some vs) (at_cell es d)) → segment_of fs ≡ with_values s c vs
-put_values es fs s c vs is some h = segment_of_update es fs c vs (λ d. h d ∙ ap (λ o. cond (is_at (nat_cmp c) d) o (at_cell es d)) (sym (entry_of vs some))) ∙ ap (λ t. with_values t c vs) is
+pub put_values : (es fs : Entries) (s : Segment) (c : ℕ) (vs : List ℤ) → segment_of es ≡ s → is_nil vs ≡ false
+    → ((d : ℕ) → at_cell fs d ≡ cond (is_at (nat_cmp c) d) (Some vs) (at_cell es d)) → segment_of fs ≡ with_values s c vs
+put_values es fs s c vs is some h = segment_of_update es fs c vs
+    (λ d. h d ∙ ap (λ o. cond (is_at (nat_cmp c) d) o (at_cell es d)) (sym (entry_of vs some))) ∙ ap (λ t. with_values t c vs) is
 
 -- and taken out
-pub out_values : (es fs : Entries) (s : Segment) (c : ℕ) → segment_of es ≡ s → ((d : ℕ) → at_cell fs d ≡ cond (is_at (nat_cmp c) d) None (at_cell es d)) → segment_of fs ≡ with_values s c []
+pub out_values : (es fs : Entries) (s : Segment) (c : ℕ) → segment_of es ≡ s
+    → ((d : ℕ) → at_cell fs d ≡ cond (is_at (nat_cmp c) d) None (at_cell es d)) → segment_of fs ≡ with_values s c []
 out_values es fs s c is h = segment_of_update es fs c [] h ∙ ap (λ t. with_values t c []) is
 
-pub tidy_put : (es fs : Entries) (s : Segment) (c : ℕ) (vs : List ℤ) → segment_of es ≡ s → IsTidy (segment_of es) → segment_of fs ≡ with_values s c vs → IsTidy (segment_of fs)
+pub tidy_put : (es fs : Entries) (s : Segment) (c : ℕ) (vs : List ℤ) → segment_of es ≡ s → IsTidy (segment_of es) → segment_of fs ≡ with_values s c vs
+    → IsTidy (segment_of fs)
 tidy_put es fs s c vs is t put = subst IsTidy (sym put) (tidy-with_values s c vs (subst IsTidy is t))
 
 pub nil_drop : (vs : List ℤ) → is_nil (drop 1 vs) ≡ false → is_nil vs ≡ false
@@ -134,7 +195,8 @@ nil-append [] v = refl
 nil-append (w ∷ vs) v = refl
 
 -- values stay some, whether or not one is added
-pub some_after : {T E : Type 0} (r : Result T E) (old new : List ℤ) (v : ℤ) → OnOk r (new ≡ old ++ v ∷ []) → OnErr r (new ≡ old) → is_nil old ≡ false → is_nil new ≡ false
+pub some_after : {T E : Type 0} (r : Result T E) (old new : List ℤ) (v : ℤ) → OnOk r (new ≡ old ++ v ∷ []) → OnErr r (new ≡ old) → is_nil old ≡ false
+    → is_nil new ≡ false
 some_after (Ok x) old new v ok err some = ap is_nil ok ∙ nil-append old v
 some_after (Err x) old new v ok err some = ap is_nil err ∙ some
 

@@ -1,5 +1,29 @@
 -- The forms by which a buffer may drain.
-use Rattle.std.proofs.Common.{◌≡◌, ℕ, true, false, not, ◌&&◌, ◌||◌, Option, Some, None, is_none, List, [], ◌∷◌, ◌++◌, map, refl, sym, ap, ◌∙◌, subst, append-nil, nat_eq}
+use Rattle.std.proofs.Common.{
+  ◌≡◌,
+  ℕ,
+  true,
+  false,
+  not,
+  ◌&&◌,
+  ◌||◌,
+  Option,
+  Some,
+  None,
+  is_none,
+  List,
+  [],
+  ◌∷◌,
+  ◌++◌,
+  map,
+  refl,
+  sym,
+  ap,
+  ◌∙◌,
+  subst,
+  append-nil,
+  nat_eq,
+}
 use Rattle.std.specs.Option.{option_cmp, option_eq}
 use Rattle.std.specs.Ordering.{nat_cmp, eq_by_cmp}
 use Rattle.std.specs.Cmp.{unsigned_tied}
@@ -40,7 +64,8 @@ unfolding IsStrictlySortedBy
 rising [] h = tt
 rising (k ∷ ks) h = (above k ks h.0, rising ks h.1)
   where
-    above : (k : ℕ) (ks : List ℕ) → AllByRecursion (λ j. nat_cmp k j ≡ Less) ks → AllByRecursion (λ f. option_cmp nat_cmp (Some k) f ≡ Less) (map (λ j. Some j) ks)
+    above : (k : ℕ) (ks : List ℕ) → AllByRecursion (λ j. nat_cmp k j ≡ Less) ks
+        → AllByRecursion (λ f. option_cmp nat_cmp (Some k) f ≡ Less) (map (λ j. Some j) ks)
     above k [] h = tt
     above k (j ∷ ks) h = (h.0, above k ks h.1)
 
@@ -50,7 +75,8 @@ no_form (k ∷ ks) = no_form ks
 
 cell_form : (ks : List ℕ) (c : ℕ) → list_any (option_eq nat_eq (Some c)) (map (λ k. Some k) ks) ≡ list_any (eq_by_cmp nat_cmp c) ks
 cell_form [] c = refl
-cell_form (k ∷ ks) c = ap (λ b. b || list_any (option_eq nat_eq (Some c)) (map (λ j. Some j) ks)) (sym (unsigned_tied c k)) ∙ ap (λ b. eq_by_cmp nat_cmp c k || b) (cell_form ks c)
+cell_form (k ∷ ks) c = ap (λ b. b || list_any (option_eq nat_eq (Some c)) (map (λ j. Some j) ks)) (sym (unsigned_tied c k))
+    ∙ ap (λ b. eq_by_cmp nat_cmp c k || b) (cell_form ks c)
 
 exact_cells : (s : Segment) → IsTidy s → (form : Option ℕ) → list_any (option_eq nat_eq form) (map (λ k. Some k) (fin.keys s)) ≡ may_drain_cell (s ∷ []) form
 exact_cells s t None = no_form (fin.keys s)
@@ -59,15 +85,18 @@ exact_cells s t (Some c) =
     ∙ ap (λ vs. not (is_nil vs)) (sym (first_values-alone s c))
 
 -- the cells of a segment are the forms of its drains
-pub cells_are_forms : (s : Segment) (forms : List (Option ℕ)) (rest : List ℕ) → IsTidy s → IsStrictlySortedBy nat_cmp (fin.keys s) → rest ≡ [] → forms ++ map (λ k. Some k) rest ≡ map (λ k. Some k) (fin.keys s) → AreForms cell_buffer (s ∷ []) forms
+pub cells_are_forms : (s : Segment) (forms : List (Option ℕ)) (rest : List ℕ) → IsTidy s → IsStrictlySortedBy nat_cmp (fin.keys s) → rest ≡ []
+    → forms ++ map (λ k. Some k) rest ≡ map (λ k. Some k) (fin.keys s) → AreForms cell_buffer (s ∷ []) forms
 cells_are_forms s forms rest t sorted none is =
     subst (AreForms cell_buffer (s ∷ [])) (sym (sym (append-nil forms) ∙ ap (λ ks. forms ++ map (λ k. Some k) ks) (sym none) ∙ is))
     (record { rise = rising (fin.keys s) sorted; exact = exact_cells s t })
 
-same_forms : (now : List Segment) (s : Segment) → ((c : ℕ) → first_values now c ≡ values_to s c) → (form : Option ℕ) → may_drain_cell (s ∷ []) form ≡ may_drain_cell now form
+same_forms : (now : List Segment) (s : Segment) → ((c : ℕ) → first_values now c ≡ values_to s c) → (form : Option ℕ)
+    → may_drain_cell (s ∷ []) form ≡ may_drain_cell now form
 same_forms now s front None = refl
 same_forms now s front (Some c) = ap (λ vs. not (is_nil vs)) (first_values-alone s c ∙ sym (front c))
 
 -- and those of all segments where it is the first that isn't empty
-pub forms_in_front : (now : List Segment) (s : Segment) (forms : List (Option ℕ)) → ((c : ℕ) → first_values now c ≡ values_to s c) → AreForms cell_buffer (s ∷ []) forms → AreForms cell_buffer now forms
+pub forms_in_front : (now : List Segment) (s : Segment) (forms : List (Option ℕ)) → ((c : ℕ) → first_values now c ≡ values_to s c)
+    → AreForms cell_buffer (s ∷ []) forms → AreForms cell_buffer now forms
 forms_in_front now s forms front f = record { rise = f.rise; exact = λ form. f.exact form ∙ same_forms now s front form }

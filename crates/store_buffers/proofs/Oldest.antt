@@ -10,7 +10,8 @@ use Rattle.store_buffers.specs.Proved.Lists.{stores-append, or_false}
 use Rattle.store_buffers.specs.Proved.Segments.{eq_self}
 
 -- two stores of one form are bound
-bound_by_form : (bound : Binding) → ((b : Bool) → bound true b ≡ true) → (bound false false ≡ true → bound false true ≡ true) → (c d : ℕ) (b same : Bool) → (d == c) ≡ same → bound same b ≡ false → option_eq nat_eq (form_of bound d) (form_of bound c) ≡ false
+bound_by_form : (bound : Binding) → ((b : Bool) → bound true b ≡ true) → (bound false false ≡ true → bound false true ≡ true)
+    → (c d : ℕ) (b same : Bool) → (d == c) ≡ same → bound same b ≡ false → option_eq nat_eq (form_of bound d) (form_of bound c) ≡ false
 bound_by_form bound one barred c d b true e free = absurd (false≢true (sym free ∙ one b))
 bound_by_form bound one barred c d b false e free = other (bound false false) b refl free
   where
@@ -19,11 +20,13 @@ bound_by_form bound one barred c d b false e free = other (bound false false) b 
     other true false is free = absurd (false≢true (sym free ∙ is))
     other false b is free = e
 
-none_by_form : (bound : Binding) → ((b : Bool) → bound true b ≡ true) → (bound false false ≡ true → bound false true ≡ true) → (older : List Pending) (c : ℕ) → waits bound older c ≡ false → stores_by bound (form_of bound c) older ≡ []
+none_by_form : (bound : Binding) → ((b : Bool) → bound true b ≡ true) → (bound false false ≡ true → bound false true ≡ true)
+    → (older : List Pending) (c : ℕ) → waits bound older c ≡ false → stores_by bound (form_of bound c) older ≡ []
 none_by_form bound one barred [] c free = refl
 none_by_form bound one barred (Store d ∷ older) c free =
     let both = or_false (bound (d.cell == c) (has_bar older)) (waits bound older c) free in
-    ap (λ b. cond b (d ∷ stores_by bound (form_of bound c) older) (stores_by bound (form_of bound c) older)) (bound_by_form bound one barred c d.cell (has_bar older) _ refl both.0)
+    ap (λ b. cond b (d ∷ stores_by bound (form_of bound c) older) (stores_by bound (form_of bound c) older))
+    (bound_by_form bound one barred c d.cell (has_bar older) _ refl both.0)
     ∙ none_by_form bound one barred older c both.1
 none_by_form bound one barred (Bar ∷ older) c free = none_by_form bound one barred older c free
 
@@ -39,7 +42,9 @@ filter-append p (x ∷ xs) ys = ap (λ zs. cond (p x) (x ∷ zs) zs) (filter-app
     pushed true x xs ys = refl
     pushed false x xs ys = refl
 
-oldest_by : (bound : Binding) → ((b : Bool) → bound true b ≡ true) → (bound false false ≡ true → bound false true ≡ true) → (older newer : List Pending) (e : Entry) → waits bound older e.cell ≡ false → stores_by bound (form_of bound e.cell) (older ++ Store e ∷ newer) ≡ e ∷ stores_by bound (form_of bound e.cell) newer
+oldest_by : (bound : Binding) → ((b : Bool) → bound true b ≡ true) → (bound false false ≡ true → bound false true ≡ true)
+    → (older newer : List Pending) (e : Entry) → waits bound older e.cell ≡ false
+    → stores_by bound (form_of bound e.cell) (older ++ Store e ∷ newer) ≡ e ∷ stores_by bound (form_of bound e.cell) newer
 oldest_by bound one barred older newer e free =
     let p : Entry → Bool = λ d. option_eq nat_eq (form_of bound d.cell) (form_of bound e.cell) in
     ap (filter p) (stores-append older (Store e ∷ newer))
@@ -47,7 +52,9 @@ oldest_by bound one barred older newer e free =
     ∙ ap (λ es. es ++ filter p (e ∷ stores newer)) (none_by_form bound one barred older e.cell free)
     ∙ ap (λ b. cond b (e ∷ filter p (stores newer)) (filter p (stores newer))) (same_form (form_of bound e.cell))
 
-pub oldest : {B : Type 0} (ops : BufferOps B) (model : Model) (bound : Binding) (ps older newer : List Pending) (form : Option ℕ) (e : Entry) → Laws ops model bound → Drains bound ps form older e newer → stores_by bound form ps ≡ e ∷ stores_by bound form newer
+pub oldest : {B : Type 0} (ops : BufferOps B) (model : Model) (bound : Binding) (ps older newer : List Pending) (form : Option ℕ) (e : Entry)
+    → Laws ops model bound → Drains bound ps form older e newer → stores_by bound form ps ≡ e ∷ stores_by bound form newer
 oldest ops model bound ps older newer form e laws d =
     ap (stores_by bound form) d.there
-    ∙ subst (λ f. stores_by bound f (older ++ Store e ∷ newer) ≡ e ∷ stores_by bound f newer) d.by_form (oldest_by bound laws.same_cell laws.barred older newer e d.is_free)
+    ∙ subst (λ f. stores_by bound f (older ++ Store e ∷ newer) ≡ e ∷ stores_by bound f newer) d.by_form
+    (oldest_by bound laws.same_cell laws.barred older newer e d.is_free)

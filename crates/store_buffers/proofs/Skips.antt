@@ -1,5 +1,41 @@
 -- Segments behind empty ones, and a last one.
-use Rattle.std.proofs.Common.{◌≡◌, ◌+◌, ℕ, ℤ, zero, suc, add-one, List, [], ◌∷◌, ◌++◌, replicate, drop, length, refl, ap, sym, ◌∙◌, Option, Some, None, Bool, true, false, cond, ◌&&◌, append_assoc, is_some, IsTrue, ◌↔◌, ◌<◌, slice_index_or, length-append, ◌==◌, arith}
+use Rattle.std.proofs.Common.{
+  ◌≡◌,
+  ◌+◌,
+  ℕ,
+  ℤ,
+  zero,
+  suc,
+  add-one,
+  List,
+  [],
+  ◌∷◌,
+  ◌++◌,
+  replicate,
+  drop,
+  length,
+  refl,
+  ap,
+  sym,
+  ◌∙◌,
+  Option,
+  Some,
+  None,
+  Bool,
+  true,
+  false,
+  cond,
+  ◌&&◌,
+  append_assoc,
+  is_some,
+  IsTrue,
+  ◌↔◌,
+  ◌<◌,
+  slice_index_or,
+  length-append,
+  ◌==◌,
+  arith,
+}
 use Rattle.std.proofs.Math.Dec.{eqb-suc-zero}
 use Rattle.std.specs.Ordering.{nat_cmp}
 use Rattle.std.specs.List.{list_all, last_or}
@@ -23,7 +59,8 @@ last_value-append [] s c = or_none (last_or None (values_to s c))
     or_none : (o : Option ℤ) → o ≡ option_or o None
     or_none None = refl
     or_none (Some v) = refl
-last_value-append (t ∷ ss) s c = ap (λ o. option_or o (last_or None (values_to t c))) (last_value-append ss s c) ∙ assoc (last_or None (values_to s c)) (last_value ss c) (last_or None (values_to t c))
+last_value-append (t ∷ ss) s c = ap (λ o. option_or o (last_or None (values_to t c))) (last_value-append ss s c)
+    ∙ assoc (last_or None (values_to s c)) (last_value ss c) (last_or None (values_to t c))
   where
     assoc : (o p q : Option ℤ) → option_or (option_or o p) q ≡ option_or o (option_or p q)
     assoc None p q = refl
@@ -74,11 +111,13 @@ first_values-alone s c = no_values s c _ refl
 pub first_values-store : (s : Segment) (ss : List Segment) (c : ℕ) → has_no_store s ≡ false → first_values (s ∷ ss) c ≡ values_to s c
 first_values-store s ss c e = ap (λ b. cond b (first_values ss c) (values_to s c)) e
 
-pub drop_first-store : (s : Segment) (ss : List Segment) (c : ℕ) → has_no_store s ≡ false → drop_first (s ∷ ss) c ≡ with_values s c (drop 1 (values_to s c)) ∷ ss
+pub drop_first-store : (s : Segment) (ss : List Segment) (c : ℕ) → has_no_store s ≡ false
+    → drop_first (s ∷ ss) c ≡ with_values s c (drop 1 (values_to s c)) ∷ ss
 drop_first-store s ss c e = ap (λ b. cond b (s ∷ drop_first ss c) (with_values s c (drop 1 (values_to s c)) ∷ ss)) e
 
 -- what a store, a load, a drain and a bar make of them
-pub issued : (n : ℕ) (older : List Segment) (s t : Segment) (now : List Segment) (c : ℕ) (v w : ℤ) → after_empty n (older ++ s ∷ []) ≡ now → w ≡ v → t ≡ with_values s c (values_to s c ++ w ∷ []) → after_empty n (older ++ t ∷ []) ≡ issue_last now c v
+pub issued : (n : ℕ) (older : List Segment) (s t : Segment) (now : List Segment) (c : ℕ) (v w : ℤ) → after_empty n (older ++ s ∷ []) ≡ now → w ≡ v
+    → t ≡ with_values s c (values_to s c ++ w ∷ []) → after_empty n (older ++ t ∷ []) ≡ issue_last now c v
 issued n older s t now c v w is same put =
     ap (λ u. after_empty n (older ++ u ∷ [])) (put ∙ ap (λ x. with_values s c (values_to s c ++ x ∷ [])) same)
     ∙ sym (
@@ -86,7 +125,8 @@ issued n older s t now c v w is same put =
     ∙ issue-last (replicate n fin.empty ++ older) s c v
     ∙ append_assoc (replicate n fin.empty) older (with_values s c (values_to s c ++ v ∷ []) ∷ []))
 
-pub forwarded : (n : ℕ) (older : List Segment) (s : Segment) (now : List Segment) (c : ℕ) → after_empty n (older ++ s ∷ []) ≡ now → option_or (last_or None (values_to s c)) (last_value older c) ≡ last_value now c
+pub forwarded : (n : ℕ) (older : List Segment) (s : Segment) (now : List Segment) (c : ℕ) → after_empty n (older ++ s ∷ []) ≡ now
+    → option_or (last_or None (values_to s c)) (last_value older c) ≡ last_value now c
 forwarded n older s now c is = sym (ap (λ ss. last_value ss c) (sym is) ∙ last_value-after n (older ++ s ∷ []) c ∙ last_value-append older s c)
 
 pub some_or : (o p : Option ℤ) → is_some o ≡ true → option_or o p ≡ o
@@ -97,28 +137,34 @@ pub none_or : (o p : Option ℤ) → is_some o ≡ false → option_or o p ≡ p
 none_or None p e = refl
 none_or (Some v) p e = absurd (false≢true (sym e))
 
-pub front_values : (n : ℕ) (older : List Segment) (s : Segment) (now : List Segment) (c : ℕ) → after_empty n (older ++ s ∷ []) ≡ now → begins_empty older ≡ false → first_values now c ≡ first_values (older ++ s ∷ []) c
+pub front_values : (n : ℕ) (older : List Segment) (s : Segment) (now : List Segment) (c : ℕ) → after_empty n (older ++ s ∷ []) ≡ now
+    → begins_empty older ≡ false → first_values now c ≡ first_values (older ++ s ∷ []) c
 front_values n older s now c is begins = ap (λ ss. first_values ss c) (sym is) ∙ first_values-after n (older ++ s ∷ []) c
 
-pub older_front : (older : List Segment) (s : Segment) (x : Segment) (c : ℕ) → 0 < length older → x ≡ slice_index_or older 0 x → begins_empty older ≡ false → first_values (older ++ s ∷ []) c ≡ values_to x c
+pub older_front : (older : List Segment) (s : Segment) (x : Segment) (c : ℕ) → 0 < length older → x ≡ slice_index_or older 0 x
+    → begins_empty older ≡ false → first_values (older ++ s ∷ []) c ≡ values_to x c
 older_front [] s x c some at begins = absurd (omega arith)
 older_front (t ∷ older) s x c some at begins = first_values-store t (older ++ s ∷ []) c begins ∙ ap (λ u. values_to u c) (sym at)
 
-pub older_first : (older : List Segment) (s : Segment) (c : ℕ) → 0 < length older → begins_empty older ≡ false → first_values (older ++ s ∷ []) c ≡ values_in_first older c
+pub older_first : (older : List Segment) (s : Segment) (c : ℕ) → 0 < length older → begins_empty older ≡ false
+    → first_values (older ++ s ∷ []) c ≡ values_in_first older c
 older_first [] s c some begins = absurd (omega arith)
 older_first (t ∷ older) s c some begins = first_values-store t (older ++ s ∷ []) c begins
 
-pub older_dropped : (older : List Segment) (s : Segment) (c : ℕ) → 0 < length older → begins_empty older ≡ false → drop_first (older ++ s ∷ []) c ≡ drop_in_first older c ++ s ∷ []
+pub older_dropped : (older : List Segment) (s : Segment) (c : ℕ) → 0 < length older → begins_empty older ≡ false
+    → drop_first (older ++ s ∷ []) c ≡ drop_in_first older c ++ s ∷ []
 older_dropped [] s c some begins = absurd (omega arith)
 older_dropped (t ∷ older) s c some begins = drop_first-store t (older ++ s ∷ []) c begins
 
-pub all_empty : (n : ℕ) (older : List Segment) (s : Segment) (now : List Segment) → after_empty n (older ++ s ∷ []) ≡ now → begins_empty older ≡ false → list_all has_no_store now ≡ is_nil older && has_no_store s
+pub all_empty : (n : ℕ) (older : List Segment) (s : Segment) (now : List Segment) → after_empty n (older ++ s ∷ []) ≡ now → begins_empty older ≡ false
+    → list_all has_no_store now ≡ is_nil older && has_no_store s
 all_empty n [] s now is begins = ap (list_all has_no_store) (sym is) ∙ all_empty-after n (s ∷ []) ∙ and_true (has_no_store s)
   where
     and_true : (b : Bool) → b && true ≡ b
     and_true true = refl
     and_true false = refl
-all_empty n (t ∷ older) s now is begins = ap (list_all has_no_store) (sym is) ∙ all_empty-after n (t ∷ older ++ s ∷ []) ∙ ap (λ b. b && list_all has_no_store (older ++ s ∷ [])) begins
+all_empty n (t ∷ older) s now is begins = ap (list_all has_no_store) (sym is) ∙ all_empty-after n (t ∷ older ++ s ∷ [])
+    ∙ ap (λ b. b && list_all has_no_store (older ++ s ∷ [])) begins
 
 pub nil_by_len : {A : Type 0} (xs : List A) (b : Bool) (n : ℕ) → n ≡ length xs → IsTrue b ↔ (n ≡ 0) → b ≡ is_nil xs
 nil_by_len [] true n len is = refl
@@ -137,11 +183,13 @@ length-after n ss = length-append (replicate n fin.empty) ss ∙ ap (λ k. k + l
     length-replicate (suc n) = ap suc (length-replicate n)
 
 -- how many segments there are
-pub segment_count : (n : ℕ) (older : List Segment) (s : Segment) (now : List Segment) → after_empty n (older ++ s ∷ []) ≡ now → length now ≡ n + (length older + 1)
+pub segment_count : (n : ℕ) (older : List Segment) (s : Segment) (now : List Segment) → after_empty n (older ++ s ∷ []) ≡ now
+    → length now ≡ n + (length older + 1)
 segment_count n older s now is = ap length (sym is) ∙ length-after n (older ++ s ∷ []) ∙ ap (λ k. n + k) (length-append older (s ∷ []))
 
 -- a bar behind empty segments alone is one more of them
-pub barred_empty : (n : ℕ) (older : List Segment) (s : Segment) (now : List Segment) → after_empty n (older ++ s ∷ []) ≡ now → begins_empty older ≡ false → list_all has_no_store now ≡ true → after_empty (n + 1) (older ++ s ∷ []) ≡ now ++ fin.empty ∷ []
+pub barred_empty : (n : ℕ) (older : List Segment) (s : Segment) (now : List Segment) → after_empty n (older ++ s ∷ []) ≡ now
+    → begins_empty older ≡ false → list_all has_no_store now ≡ true → after_empty (n + 1) (older ++ s ∷ []) ≡ now ++ fin.empty ∷ []
 barred_empty n [] s now is begins e =
     let none = empty_is s (sym (all_empty n [] s now is refl) ∙ e) in
     one_more n (s ∷ [])
@@ -152,7 +200,8 @@ barred_empty n [] s now is begins e =
 barred_empty n (t ∷ older) s now is begins e = absurd (false≢true (sym (all_empty n (t ∷ older) s now is begins) ∙ e))
 
 -- segments that aren't all empty begin with a store once the last is among the older ones
-pub begins_after : (n : ℕ) (older : List Segment) (s : Segment) (now : List Segment) → after_empty n (older ++ s ∷ []) ≡ now → begins_empty older ≡ false → list_all has_no_store now ≡ false → begins_empty (older ++ s ∷ []) ≡ false
+pub begins_after : (n : ℕ) (older : List Segment) (s : Segment) (now : List Segment) → after_empty n (older ++ s ∷ []) ≡ now
+    → begins_empty older ≡ false → list_all has_no_store now ≡ false → begins_empty (older ++ s ∷ []) ≡ false
 begins_after n [] s now is begins e = sym (all_empty n [] s now is refl) ∙ e
 begins_after n (t ∷ older) s now is begins e = begins
 
@@ -190,16 +239,20 @@ skipped_len [] ts begins is = absurd (false≢true begins)
 skipped_len (s ∷ ss) ts begins is = ap (λ us. length us + 1) is ∙ add-one (length ss)
 
 -- a drain from the last segment, which is alone
-pub drained_last : (n : ℕ) (older : List Segment) (s t : Segment) (now : List Segment) (c : ℕ) → after_empty n (older ++ s ∷ []) ≡ now → older ≡ [] → is_nil (first_values now c) ≡ false → t ≡ with_values s c (drop 1 (values_to s c)) → after_empty n (older ++ t ∷ []) ≡ drop_first now c
+pub drained_last : (n : ℕ) (older : List Segment) (s t : Segment) (now : List Segment) (c : ℕ) → after_empty n (older ++ s ∷ []) ≡ now → older ≡ []
+    → is_nil (first_values now c) ≡ false → t ≡ with_values s c (drop 1 (values_to s c)) → after_empty n (older ++ t ∷ []) ≡ drop_first now c
 drained_last n older s t now c is none some put =
     let alone : after_empty n (s ∷ []) ≡ now = ap (λ ss. after_empty n (ss ++ s ∷ [])) (sym none) ∙ is in
     let values = ap (λ ss. first_values ss c) (sym alone) ∙ first_values-after n (s ∷ []) c ∙ first_values-alone s c in
     ap (λ ss. after_empty n (ss ++ t ∷ [])) none
     ∙ ap (λ u. after_empty n (u ∷ [])) put
-    ∙ sym (ap (λ ss. drop_first ss c) (sym alone) ∙ drop_first-after n (s ∷ []) c ∙ ap (after_empty n) (drop_first-store s [] c (has_store s c (sym (ap is_nil values) ∙ some))))
+    ∙ sym (ap (λ ss. drop_first ss c) (sym alone) ∙ drop_first-after n (s ∷ []) c
+    ∙ ap (after_empty n) (drop_first-store s [] c (has_store s c (sym (ap is_nil values) ∙ some))))
 
 -- and one from the first of those before it
-pub drained_older : (n m : ℕ) (older popped new : List Segment) (s : Segment) (now : List Segment) (c : ℕ) → after_empty n (older ++ s ∷ []) ≡ now → begins_empty older ≡ false → 0 < length older → popped ≡ drop_in_first older c → after_empty m new ≡ after_empty n popped → after_empty m (new ++ s ∷ []) ≡ drop_first now c
+pub drained_older : (n m : ℕ) (older popped new : List Segment) (s : Segment) (now : List Segment) (c : ℕ) → after_empty n (older ++ s ∷ []) ≡ now
+    → begins_empty older ≡ false → 0 < length older → popped ≡ drop_in_first older c → after_empty m new ≡ after_empty n popped
+    → after_empty m (new ++ s ∷ []) ≡ drop_first now c
 drained_older n m older popped new s now c is begins some put same =
     sym (append_assoc (replicate m fin.empty) new (s ∷ []))
     ∙ ap (λ ss. ss ++ s ∷ []) (same ∙ ap (after_empty n) put)

@@ -45,6 +45,7 @@ module _ {B : Type 0} (ops : BufferOps B) where
     -- it may drain only where a store of the form is pending for which no older one is bound
     pub may_drain_stands : (b : B) (ps : List Pending) (form : Option ℕ) → Stands ops b ps → ops.may_drain b form ≡ true → SomeDrains bound ps form
     -- and then it takes out that store
-    pub drain_stands : (b : B) (ps : List Pending) (form : Option ℕ) (older : List Pending) (store : Entry) (newer : List Pending) → Stands ops b ps → Drains bound ps form older store newer → TakesOut b form older store newer
+    pub drain_stands : (b : B) (ps : List Pending) (form : Option ℕ) (older : List Pending) (store : Entry) (newer : List Pending) → Stands ops b ps
+        → Drains bound ps form older store newer → TakesOut b form older store newer
     -- without buffers nothing may drain
     pub unbuffered : ops.buffered ≡ false → (b : B) (form : Option ℕ) → ops.may_drain b form ≡ false

@@ -1,5 +1,27 @@
 -- Store buffers, as the operations that the machine asks of them, and those of the three memory models.
-use Rattle.std.specs.Prelude.{ℕ, ◌==◌, ℤ, pos, Bool, true, false, not, ◌&&◌, Option, Some, None, is_none, unwrap_or, List, [], ◌∷◌, ◌++◌, drop, slice_index_or, if◌then◌else◌}
+use Rattle.std.specs.Prelude.{
+  ℕ,
+  ◌==◌,
+  ℤ,
+  pos,
+  Bool,
+  true,
+  false,
+  not,
+  ◌&&◌,
+  Option,
+  Some,
+  None,
+  is_none,
+  unwrap_or,
+  List,
+  [],
+  ◌∷◌,
+  ◌++◌,
+  drop,
+  slice_index_or,
+  if◌then◌else◌,
+}
 use Rattle.std.specs.List.{list_all, last_or}
 use Rattle.std.specs.Option.{option_or}
 use Rattle.std.specs.Ordering.{nat_cmp}

@@ -2,7 +2,25 @@
 //!
 //! Tests give 1 where they hold and 0 where they don't, as in C.
 ghost use Rattle.std.specs.Prelude.{◌≡◌};
-ghost use Rattle.tc_base.specs.Arith.{plus, minus, times, negated, is_zero, quotient, remainder, shifted_left, shifted_right, bits_inverted, bits_and, bits_or, bits_xor, equal, unequal, less, less_or_equal};
+ghost use Rattle.tc_base.specs.Arith.{
+  plus,
+  minus,
+  times,
+  negated,
+  is_zero,
+  quotient,
+  remainder,
+  shifted_left,
+  shifted_right,
+  bits_inverted,
+  bits_and,
+  bits_or,
+  bits_xor,
+  equal,
+  unequal,
+  less,
+  less_or_equal,
+};
 ghost use Rattle.tc_base.specs.Arith as arithmetic;
 
 /// An operator over one value.

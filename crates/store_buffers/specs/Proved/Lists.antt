@@ -27,7 +27,8 @@ fold-append f b [] ys = refl
 fold-append f b (x ∷ xs) ys = fold-append f (f b x) xs ys
 
 -- a list that a buffer stands for, with one more
-pub store_last : {B : Type 0} (ops : BufferOps B) (b : B) (ps : List Pending) (c : ℕ) (v : ℤ) → ops.buffered ≡ true → Stands ops b ps → Stands ops (ops.issue b c v) (ps ++ Store (record { cell = c; value = v }) ∷ [])
+pub store_last : {B : Type 0} (ops : BufferOps B) (b : B) (ps : List Pending) (c : ℕ) (v : ℤ) → ops.buffered ≡ true → Stands ops b ps
+    → Stands ops (ops.issue b c v) (ps ++ Store (record { cell = c; value = v }) ∷ [])
 store_last ops b ps c v buffered s = record {
   made = ap (λ x. ops.issue x c v) s.made ∙ sym (fold-append (put ops) ops.empty ps (Store (record { cell = c; value = v }) ∷ []));
   issued = λ e. absurd (false≢true (sym e ∙ buffered));
@@ -48,7 +49,8 @@ newest-append [] fs c = or_none (newest fs c)
     or_none : (o : Option ℤ) → o ≡ option_or o None
     or_none None = refl
     or_none (Some v) = refl
-newest-append (e ∷ es) fs c = ap (λ o. option_or o (if e.cell == c then Some e.value else None)) (newest-append es fs c) ∙ assoc (newest fs c) (newest es c) (if e.cell == c then Some e.value else None)
+newest-append (e ∷ es) fs c = ap (λ o. option_or o (if e.cell == c then Some e.value else None)) (newest-append es fs c)
+    ∙ assoc (newest fs c) (newest es c) (if e.cell == c then Some e.value else None)
   where
     assoc : (o p q : Option ℤ) → option_or (option_or o p) q ≡ option_or o (option_or p q)
     assoc None p q = refl

@@ -1,15 +1,75 @@
 -- Partial store order meets the laws.
-use Rattle.std.proofs.Common.{◌≡◌, ℕ, ◌==◌, ℤ, pos, Bool, true, false, cond, not, ◌&&◌, ◌||◌, Option, Some, None, List, [], ◌∷◌, ◌++◌, drop, slice_index_or, fold, refl, sym, ap, ◌∙◌, subst, append_assoc, append-nil}
+use Rattle.std.proofs.Common.{
+  ◌≡◌,
+  ℕ,
+  ◌==◌,
+  ℤ,
+  pos,
+  Bool,
+  true,
+  false,
+  cond,
+  not,
+  ◌&&◌,
+  ◌||◌,
+  Option,
+  Some,
+  None,
+  List,
+  [],
+  ◌∷◌,
+  ◌++◌,
+  drop,
+  slice_index_or,
+  fold,
+  refl,
+  sym,
+  ap,
+  ◌∙◌,
+  subst,
+  append_assoc,
+  append-nil,
+}
 use Rattle.std.specs.List.{list_all, last_or}
 use Rattle.std.specs.Option.{option_or}
 use Rattle.std.specs.FinMap as fin
 use Rattle.std.proofs.lemmas.Bool.{false≢true}
-use Rattle.tc_base.specs.Buffers.{Entry, Segment, values_to, with_values, has_no_store, issue_last, last_value, first_values, drop_first, may_drain_cell, cell_buffer, newest, is_nil}
+use Rattle.tc_base.specs.Buffers.{
+  Entry,
+  Segment,
+  values_to,
+  with_values,
+  has_no_store,
+  issue_last,
+  last_value,
+  first_values,
+  drop_first,
+  may_drain_cell,
+  cell_buffer,
+  newest,
+  is_nil,
+}
 use Rattle.tc_base.specs.declared.model.Model.TheVariants.{Pso}
 use Rattle.store_buffers.specs.Pending.{Pending, Store, Bar, stores, has_bar, binds_cells, waits, Stands, put}
 use Rattle.store_buffers.specs.Laws.{Laws, SomeDrains, TakesOut}
 use Rattle.store_buffers.specs.Proved.Lists.{or_false}
-use Rattle.store_buffers.specs.Proved.Segments.{IsTidy, values-empty, tidy-empty, no_store-empty, has_store, with_first, tidy-with_first, eq_is, eq_comm, values-with_first-same, values-with_first-other, has_store-with_first, with_values-back, with_values-with_first, with_last-with_first}
+use Rattle.store_buffers.specs.Proved.Segments.{
+  IsTidy,
+  values-empty,
+  tidy-empty,
+  no_store-empty,
+  has_store,
+  with_first,
+  tidy-with_first,
+  eq_is,
+  eq_comm,
+  values-with_first-same,
+  values-with_first-other,
+  has_store-with_first,
+  with_values-back,
+  with_values-with_first,
+  with_last-with_first,
+}
 
 -- the segments that a list makes: the first, and those behind its first bar
 first : List Pending → Segment
@@ -35,13 +95,15 @@ abbrev in_first : ℕ → ℤ → List Segment → List Segment
 in_first d w [] = []
 in_first d w (s ∷ ss) = with_first d w s ∷ ss
 
-issue_behind : (s : Segment) (ss : List Segment) (c : ℕ) (v : ℤ) (d : ℕ) (w : ℤ) → IsTidy s → issue_last (with_first d w s ∷ ss) c v ≡ in_first d w (issue_last (s ∷ ss) c v)
+issue_behind : (s : Segment) (ss : List Segment) (c : ℕ) (v : ℤ) (d : ℕ) (w : ℤ) → IsTidy s
+    → issue_last (with_first d w s ∷ ss) c v ≡ in_first d w (issue_last (s ∷ ss) c v)
 issue_behind s [] c v d w t = ap (λ u. u ∷ []) (with_last-with_first s c v d w t)
 issue_behind s (x ∷ ss) c v d w t = refl
 
 issue_at_end : (ps : List Pending) (e : Entry) → issue_last (segments ps) e.cell e.value ≡ segments (ps ++ Store e ∷ [])
 unfolding first rest
-issue_at_end [] e = ap (λ vs. with_values fin.empty e.cell vs ∷ []) (ap (λ us. us ++ e.value ∷ []) (values-empty e.cell) ∙ sym (ap (λ us. e.value ∷ us) (values-empty e.cell)))
+issue_at_end [] e = ap (λ vs. with_values fin.empty e.cell vs ∷ []) (ap (λ us. us ++ e.value ∷ []) (values-empty e.cell)
+    ∙ sym (ap (λ us. e.value ∷ us) (values-empty e.cell)))
 issue_at_end (Store d ∷ ps) e = issue_behind (first ps) (rest ps) e.cell e.value d.cell d.value (tidy ps) ∙ ap (in_first d.cell d.value) (issue_at_end ps e)
 issue_at_end (Bar ∷ ps) e = ap (λ ss. fin.empty ∷ ss) (issue_at_end ps e)
 
@@ -93,7 +155,8 @@ last_after x [] = refl
 last_after x (y ∷ xs) = last_after y xs ∙ some_either (last_or None xs) y x ∙ ap (λ o. option_or o (Some x)) (sym (last_after y xs))
 
 -- one more store before the others counts where it is to that cell and there is no other
-forward_behind : (s : Segment) (o : Option ℤ) (d : ℕ) (w : ℤ) (c : ℕ) (b : Bool) → (d == c) ≡ b → option_or o (last_or None (values_to (with_first d w s) c)) ≡ option_or (option_or o (last_or None (values_to s c))) (cond b (Some w) None)
+forward_behind : (s : Segment) (o : Option ℤ) (d : ℕ) (w : ℤ) (c : ℕ) (b : Bool) → (d == c) ≡ b
+    → option_or o (last_or None (values_to (with_first d w s) c)) ≡ option_or (option_or o (last_or None (values_to s c))) (cond b (Some w) None)
 forward_behind s o d w c true e =
     ap (λ x. option_or o (last_or None (values_to (with_first d w s) x))) (sym (eq_is d c e))
     ∙ ap (λ vs. option_or o (last_or None vs)) (values-with_first-same d w s)
@@ -135,10 +198,12 @@ record IsFirst (ps : List Pending) (c : ℕ) : Type 0 where
   no_bar : has_bar older ≡ false
   is_free : waits binds_cells older c ≡ false
 
-waits_not : (d : Entry) (older : List Pending) (c : ℕ) → (d.cell == c) ≡ false → has_bar older ≡ false → waits binds_cells older c ≡ false → waits binds_cells (Store d ∷ older) c ≡ false
+waits_not : (d : Entry) (older : List Pending) (c : ℕ) → (d.cell == c) ≡ false → has_bar older ≡ false → waits binds_cells older c ≡ false
+    → waits binds_cells (Store d ∷ older) c ≡ false
 waits_not d older c p q r = ap (λ b. (b || has_bar older) || waits binds_cells older c) p ∙ ap (λ b. b || waits binds_cells older c) q ∙ r
 
-is_first_by : (d : Entry) (ps : List Pending) (c : ℕ) (b : Bool) → (d.cell == c) ≡ b → is_nil (values_to (with_first d.cell d.value (first ps)) c) ≡ false → (is_nil (values_to (first ps) c) ≡ false → IsFirst ps c) → IsFirst (Store d ∷ ps) c
+is_first_by : (d : Entry) (ps : List Pending) (c : ℕ) (b : Bool) → (d.cell == c) ≡ b
+    → is_nil (values_to (with_first d.cell d.value (first ps)) c) ≡ false → (is_nil (values_to (first ps) c) ≡ false → IsFirst ps c) → IsFirst (Store d ∷ ps) c
 is_first_by d ps c true e some behind = record { older = []; store = d; newer = ps; there = refl; to = eq_is d.cell c e; no_bar = refl; is_free = refl }
 is_first_by d ps c false e some behind =
     let f = behind (sym (ap is_nil (values-with_first-other d.cell d.value (first ps) c (eq_comm c d.cell ∙ e))) ∙ some) in
@@ -177,20 +242,29 @@ some_drains (Store d ∷ ps) c may =
     not_true false e = refl
 some_drains (Bar ∷ ps) c may =
     let s = some_drains ps c (sym (ap (λ vs. not (is_nil vs)) (first_past (segments ps) c)) ∙ may) in
-    record { older = Bar ∷ s.older; store = s.store; newer = s.newer; drains = record { there = ap (λ qs. Bar ∷ qs) s.drains.there; by_form = s.drains.by_form; is_free = s.drains.is_free } }
+    record {
+      older = Bar ∷ s.older;
+      store = s.store;
+      newer = s.newer;
+      drains =
+          record { there = ap (λ qs. Bar ∷ qs) s.drains.there; by_form = s.drains.by_form; is_free = s.drains.is_free };
+    }
 
 may_drain : (ps : List Pending) (form : Option ℕ) → may_drain_cell (segments ps) form ≡ true → SomeDrains cell_buffer binds_cells ps form
 may_drain ps None may = absurd (false≢true may)
 may_drain ps (Some c) may = some_drains ps c may
 
 -- with no bar before it a store is in the first segment
-in_first_segment : (older : List Pending) (e : Entry) (newer : List Pending) → has_bar older ≡ false → is_nil (values_to (first (older ++ Store e ∷ newer)) e.cell) ≡ false
+in_first_segment : (older : List Pending) (e : Entry) (newer : List Pending) → has_bar older ≡ false
+    → is_nil (values_to (first (older ++ Store e ∷ newer)) e.cell) ≡ false
 unfolding first
 in_first_segment [] e newer none = ap is_nil (values-with_first-same e.cell e.value (first newer))
 in_first_segment (Store d ∷ older) e newer none = some_behind d (first (older ++ Store e ∷ newer)) e.cell _ refl (in_first_segment older e newer none)
   where
-    some_behind : (d : Entry) (s : Segment) (c : ℕ) (b : Bool) → (c == d.cell) ≡ b → is_nil (values_to s c) ≡ false → is_nil (values_to (with_first d.cell d.value s) c) ≡ false
-    some_behind d s c true e some = ap (λ x. is_nil (values_to (with_first d.cell d.value s) x)) (eq_is c d.cell e) ∙ ap is_nil (values-with_first-same d.cell d.value s)
+    some_behind : (d : Entry) (s : Segment) (c : ℕ) (b : Bool) → (c == d.cell) ≡ b → is_nil (values_to s c) ≡ false
+        → is_nil (values_to (with_first d.cell d.value s) c) ≡ false
+    some_behind d s c true e some = ap (λ x. is_nil (values_to (with_first d.cell d.value s) x)) (eq_is c d.cell e)
+        ∙ ap is_nil (values-with_first-same d.cell d.value s)
     some_behind d s c false e some = ap is_nil (values-with_first-other d.cell d.value s c e) ∙ some
 in_first_segment (Bar ∷ older) e newer none = absurd (false≢true (sym none))
 
@@ -210,7 +284,8 @@ leaves_first e s ss t = record {
       ∙ ap (λ u. u ∷ ss) (with_values-back s e.cell (e.value ∷ values_to s e.cell) t);
 }
 
-leaves_behind : (d : Entry) (c : ℕ) (v : ℤ) (s : Segment) (ss left : List Segment) → (d.cell == c) ≡ false → IsTidy s → has_no_store s ≡ false → Leaves (s ∷ ss) c v left → Leaves (with_first d.cell d.value s ∷ ss) c v (in_first d.cell d.value left)
+leaves_behind : (d : Entry) (c : ℕ) (v : ℤ) (s : Segment) (ss left : List Segment) → (d.cell == c) ≡ false → IsTidy s → has_no_store s ≡ false
+    → Leaves (s ∷ ss) c v left → Leaves (with_first d.cell d.value s ∷ ss) c v (in_first d.cell d.value left)
 leaves_behind d c v s ss left other t some l =
     let same = values-with_first-other d.cell d.value s c (eq_comm c d.cell ∙ other) in
     let after = has_store-with_first d.cell d.value s in
@@ -224,13 +299,15 @@ leaves_behind d c v s ss left other t some l =
           ∙ ap (in_first d.cell d.value) (sym (dropped_of s ss c some) ∙ l.are_left);
     }
 
-leaves : (older : List Pending) (e : Entry) (newer : List Pending) → waits binds_cells older e.cell ≡ false → Leaves (segments (older ++ Store e ∷ newer)) e.cell e.value (segments (older ++ newer))
+leaves : (older : List Pending) (e : Entry) (newer : List Pending) → waits binds_cells older e.cell ≡ false
+    → Leaves (segments (older ++ Store e ∷ newer)) e.cell e.value (segments (older ++ newer))
 unfolding first rest
 leaves [] e newer free = leaves_first e (first newer) (rest newer) (tidy newer)
 leaves (Store d ∷ older) e newer free =
     let both = or_false _ _ free in
     let other = or_false _ _ both.0 in
-    leaves_behind d e.cell e.value (first (older ++ Store e ∷ newer)) (rest (older ++ Store e ∷ newer)) (segments (older ++ newer)) other.0 (tidy (older ++ Store e ∷ newer))
+    leaves_behind d e.cell e.value (first (older ++ Store e ∷ newer)) (rest (older ++ Store e ∷ newer)) (segments (older ++ newer)) other.0
+    (tidy (older ++ Store e ∷ newer))
     (has_store (first (older ++ Store e ∷ newer)) e.cell (in_first_segment older e newer other.1)) (leaves older e newer both.1)
 leaves (Bar ∷ older) e newer free =
     let l = leaves older e newer free in
@@ -240,7 +317,8 @@ leaves (Bar ∷ older) e newer free =
       are_left = dropped_past (segments (older ++ Store e ∷ newer)) e.cell ∙ ap (λ ss. fin.empty ∷ ss) l.are_left;
     }
 
-takes_out : (b : List Segment) (older : List Pending) (e : Entry) (newer : List Pending) → b ≡ segments (older ++ Store e ∷ newer) → waits binds_cells older e.cell ≡ false → TakesOut cell_buffer b (Some e.cell) older e newer
+takes_out : (b : List Segment) (older : List Pending) (e : Entry) (newer : List Pending) → b ≡ segments (older ++ Store e ∷ newer)
+    → waits binds_cells older e.cell ≡ false → TakesOut cell_buffer b (Some e.cell) older e newer
 takes_out b older e newer is free =
     let l = leaves older e newer free in
     record {

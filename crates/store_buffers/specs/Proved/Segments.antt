@@ -1,5 +1,29 @@
 -- Segments, by the values that they have to each cell.
-use Rattle.std.proofs.Common.{◌≡◌, ℕ, ◌==◌, Bool, true, false, cond, Option, Some, None, unwrap_or, List, [], ◌∷◌, ◌++◌, ℤ, refl, sym, ap, ◌∙◌, subst, eqb→eq, T}
+use Rattle.std.proofs.Common.{
+  ◌≡◌,
+  ℕ,
+  ◌==◌,
+  Bool,
+  true,
+  false,
+  cond,
+  Option,
+  Some,
+  None,
+  unwrap_or,
+  List,
+  [],
+  ◌∷◌,
+  ◌++◌,
+  ℤ,
+  refl,
+  sym,
+  ap,
+  ◌∙◌,
+  subst,
+  eqb→eq,
+  T,
+}
 use Rattle.std.specs.FinMap as fin
 use Rattle.std.specs.FinMap.{get-empty, get-insert, get-remove, len-empty, empty_of_len, same_map, nat_cmp-IsAntisymmetric}
 use Rattle.std.specs.Ordering.{nat_cmp}
@@ -39,7 +63,8 @@ some-cond false vs ws = refl
 
 pub tidy-with_values : (s : Segment) (c : ℕ) (vs : List ℤ) → IsTidy s → IsTidy (with_values s c vs)
 tidy-with_values s c vs t = record {
-  at = λ d. get-with_values s c vs d ∙ ap (cond (d == c) (some_values vs)) (t.at d) ∙ some-cond (d == c) vs (values_to s d) ∙ ap some_values (sym (values-with_values s c vs d));
+  at = λ d. get-with_values s c vs d ∙ ap (cond (d == c) (some_values vs)) (t.at d) ∙ some-cond (d == c) vs (values_to s d)
+      ∙ ap some_values (sym (values-with_values s c vs d));
 }
 
 -- tidy segments with the same values are the same
@@ -54,7 +79,8 @@ pub eq_is : (m n : ℕ) → (m == n) ≡ true → m ≡ n
 eq_is m n e = eqb→eq m n (subst T (sym e) tt)
 
 has_store_by : (s : Segment) (c : ℕ) (b : Bool) → has_no_store s ≡ b → is_nil (values_to s c) ≡ false → b ≡ false
-has_store_by s c true none some = absurd (false≢true (sym some ∙ ap (λ t. is_nil (values_to t c)) (empty_of_len s (eq_is _ 0 none)) ∙ ap is_nil (values-empty c)))
+has_store_by s c true none some = absurd (false≢true (sym some ∙ ap (λ t. is_nil (values_to t c)) (empty_of_len s (eq_is _ 0 none))
+    ∙ ap is_nil (values-empty c)))
 has_store_by s c false none some = refl
 
 -- a segment with a value to some cell has a store
@@ -103,7 +129,8 @@ not_both : (x c d : ℕ) → (c == d) ≡ false → (x == c) ≡ true → (x == 
 not_both x c d other p q = false≢true (sym other ∙ ap (λ y. y == d) (sym (eq_is x c p)) ∙ q)
 
 -- values to one cell, and a first store to another
-pub with_values-with_first : (s : Segment) (c : ℕ) (vs : List ℤ) (d : ℕ) (w : ℤ) → (c == d) ≡ false → IsTidy s → with_values (with_first d w s) c vs ≡ with_first d w (with_values s c vs)
+pub with_values-with_first : (s : Segment) (c : ℕ) (vs : List ℤ) (d : ℕ) (w : ℤ) → (c == d) ≡ false → IsTidy s
+    → with_values (with_first d w s) c vs ≡ with_first d w (with_values s c vs)
 with_values-with_first s c vs d w other t =
     same_values _ _ (tidy-with_values _ c vs (tidy-with_first d w s t)) (tidy-with_first d w _ (tidy-with_values s c vs t)) (λ x.
     values-with_values (with_first d w s) c vs x
@@ -111,7 +138,8 @@ with_values-with_first s c vs d w other t =
     ∙ either_first (x == c) (x == d) vs (w ∷ values_to s d) (values_to s x) (λ p q. absurd (not_both x c d other p q))
     ∙ sym (
     values-with_values (with_values s c vs) d _ x
-    ∙ ap (λ us. cond (x == d) (w ∷ us) (values_to (with_values s c vs) x)) (values-with_values s c vs d ∙ ap (λ b. cond b vs (values_to s d)) (eq_comm d c ∙ other))
+    ∙ ap (λ us. cond (x == d) (w ∷ us) (values_to (with_values s c vs) x)) (values-with_values s c vs d
+    ∙ ap (λ b. cond b vs (values_to s d)) (eq_comm d c ∙ other))
     ∙ ap (cond (x == d) (w ∷ values_to s d)) (values-with_values s c vs x)))
 
 -- one more store after those of a segment
@@ -128,15 +156,18 @@ with_last-with_first-same s c v w t =
     ∙ twice (x == c) (w ∷ values_to s c ++ v ∷ []) (w ∷ values_to s c) (values_to s x) (values_to s c ++ v ∷ [])
     ∙ sym (
     values-with_values (with_last c v s) c _ x
-    ∙ ap (λ us. cond (x == c) (w ∷ us) (values_to (with_last c v s) x)) (values-with_values s c _ c ∙ ap (λ b. cond b (values_to s c ++ v ∷ []) (values_to s c)) (eq_self c))
+    ∙ ap (λ us. cond (x == c) (w ∷ us) (values_to (with_last c v s) x)) (values-with_values s c _ c
+    ∙ ap (λ b. cond b (values_to s c ++ v ∷ []) (values_to s c)) (eq_self c))
     ∙ ap (cond (x == c) (w ∷ values_to s c ++ v ∷ [])) (values-with_values s c (values_to s c ++ v ∷ []) x)))
   where
     twice : {A : Type 0} (b : Bool) (x y z u : A) → cond b x (cond b y z) ≡ cond b x (cond b u z)
     twice true x y z u = refl
     twice false x y z u = refl
 
-by_cell : (s : Segment) (c : ℕ) (v : ℤ) (d : ℕ) (w : ℤ) (b : Bool) → (c == d) ≡ b → IsTidy s → with_last c v (with_first d w s) ≡ with_first d w (with_last c v s)
-by_cell s c v d w true e t = subst (λ d. with_last c v (with_first d w s) ≡ with_first d w (with_last c v s)) (eq_is c d e) (with_last-with_first-same s c v w t)
+by_cell : (s : Segment) (c : ℕ) (v : ℤ) (d : ℕ) (w : ℤ) (b : Bool) → (c == d) ≡ b → IsTidy s
+    → with_last c v (with_first d w s) ≡ with_first d w (with_last c v s)
+by_cell s c v d w true e t = subst (λ d. with_last c v (with_first d w s) ≡ with_first d w (with_last c v s)) (eq_is c d e)
+    (with_last-with_first-same s c v w t)
 by_cell s c v d w false e t =
     ap (λ us. with_values (with_first d w s) c (us ++ v ∷ [])) (values-with_first-other d w s c e)
     ∙ with_values-with_first s c _ d w e t

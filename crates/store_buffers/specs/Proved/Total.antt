@@ -1,5 +1,30 @@
 -- Total store order meets the laws.
-use Rattle.std.proofs.Common.{◌≡◌, ℕ, true, false, not, ◌&&◌, Option, Some, None, is_none, List, [], ◌∷◌, ◌++◌, drop, slice_index_or, fold, refl, sym, ap, ◌∙◌, subst, append_assoc, append-nil}
+use Rattle.std.proofs.Common.{
+  ◌≡◌,
+  ℕ,
+  true,
+  false,
+  not,
+  ◌&&◌,
+  Option,
+  Some,
+  None,
+  is_none,
+  List,
+  [],
+  ◌∷◌,
+  ◌++◌,
+  drop,
+  slice_index_or,
+  fold,
+  refl,
+  sym,
+  ap,
+  ◌∙◌,
+  subst,
+  append_assoc,
+  append-nil,
+}
 use Rattle.std.proofs.lemmas.Bool.{false≢true}
 use Rattle.tc_base.specs.Buffers.{Entry, fifo_buffer, newest, no_entry, is_nil}
 use Rattle.tc_base.specs.declared.model.Model.TheVariants.{Tso}
@@ -30,17 +55,26 @@ first_drains [] e = absurd (false≢true e)
 first_drains (Store d ∷ ps) e = record { older = []; store = d; newer = ps; drains = record { there = refl; by_form = refl; is_free = refl } }
 first_drains (Bar ∷ ps) e =
     let s = first_drains ps e in
-    record { older = Bar ∷ s.older; store = s.store; newer = s.newer; drains = record { there = ap (λ qs. Bar ∷ qs) s.drains.there; by_form = refl; is_free = s.drains.is_free } }
+    record {
+      older = Bar ∷ s.older;
+      store = s.store;
+      newer = s.newer;
+      drains =
+          record { there = ap (λ qs. Bar ∷ qs) s.drains.there; by_form = refl; is_free = s.drains.is_free };
+    }
 
-may_drain : (b : List Entry) (ps : List Pending) (form : Option ℕ) → b ≡ stores ps → is_none form && not (is_nil b) ≡ true → SomeDrains fifo_buffer binds_all ps form
+may_drain : (b : List Entry) (ps : List Pending) (form : Option ℕ) → b ≡ stores ps → is_none form && not (is_nil b) ≡ true
+    → SomeDrains fifo_buffer binds_all ps form
 may_drain b ps None is e = first_drains ps (ap (λ es. not (is_nil es)) (sym is) ∙ e)
 may_drain b ps (Some c) is e = absurd (false≢true e)
 
-takes_out : (b : List Entry) (older : List Pending) (e : Entry) (newer : List Pending) → b ≡ e ∷ stores newer → stores older ≡ [] → TakesOut fifo_buffer b None older e newer
+takes_out : (b : List Entry) (older : List Pending) (e : Entry) (newer : List Pending) → b ≡ e ∷ stores newer → stores older ≡ []
+    → TakesOut fifo_buffer b None older e newer
 takes_out b older e newer is none = record {
   may = ap (λ es. not (is_nil es)) is;
   takes = ap (λ es. slice_index_or es 0 no_entry) is;
-  leaves = subst (λ es. Stands fifo_buffer es (older ++ newer)) (stores-append older newer ∙ ap (λ es. es ++ stores newer) none ∙ ap (drop 1) (sym is)) (stands (older ++ newer));
+  leaves = subst (λ es. Stands fifo_buffer es (older ++ newer)) (stores-append older newer ∙ ap (λ es. es ++ stores newer) none
+      ∙ ap (drop 1) (sym is)) (stands (older ++ newer));
 }
 
 pub tso_laws : Laws fifo_buffer Tso binds_all

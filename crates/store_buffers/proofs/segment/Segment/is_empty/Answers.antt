@@ -4,4 +4,5 @@ use Rattle.store_buffers.proofs.ByCell.{no_entry-none, tested}
 use Rattle.store_buffers.proofs.segment.Segment.is_empty.Goals as goal
 
 pub returns : goal.returns
-returns c = tested c.is_empty.result _ c.is_empty.ensures ∙ sym (no_entry-none c.self.inside.by_cell.entries c.self.invariant.0) ∙ ap has_no_store c.self.view_is
+returns c = tested c.is_empty.result _ c.is_empty.ensures ∙ sym (no_entry-none c.self.inside.by_cell.entries c.self.invariant.0)
+    ∙ ap has_no_store c.self.view_is
