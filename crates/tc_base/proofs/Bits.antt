@@ -6,7 +6,8 @@ use Rattle.std.specs.Int.Bits.{and_lt}
 use Rattle.std.proofs.lemmas.Nat.{or_lt, xor_lt}
 use Rattle.std.proofs.Math.Nat.{pow-suc}
 use Rattle.std.proofs.Math.Nat.{eq-or-lt_of_le}
-use Rattle.std.proofs.lemmas.Nat.Bits.{bit_at_lowest, bit_at-lt, bit_at_and, bit_at_or, bit_at_xor, bit_at_not, same_from_bits_below, bit_at_cat_low, bit_at_cat_high}
+use Rattle.std.proofs.lemmas.Nat.Bits.{bit_at_lowest, bit_at-lt, bit_at_and, bit_at_or, bit_at_xor, bit_at_not}
+use Rattle.std.proofs.lemmas.Nat.Bits.{same_from_bits_below, bit_at_cat_low, bit_at_cat_high}
 use Rattle.tc_base.specs.Arith.{bit, number, bits_and, bits_or, bits_xor, bits_inverted}
 
 one_more : (f p n : ℕ) → f < 2 → n < p → f * p + n < p * 2
@@ -35,7 +36,8 @@ bit_at-number f (suc n) i two less = elim (eq-or-lt_of_le (i_below i n less)) [
 
 -- a number below 2 ^ 32 that has these bits
 number_is : (m : ℕ) (f : ℕ → ℕ) → m < 2 ^ 32 → ((i : ℕ) → f i < 2) → ((i : ℕ) → i < 32 → bit_at m i ≡ f i) → m ≡ number f 32
-number_is m f below two same = same_from_bits_below 32 m (number f 32) below (number-below f 32 two) (λ i less. same i less ∙ sym (bit_at-number f 32 i two less))
+number_is m f below two same =
+    same_from_bits_below 32 m (number f 32) below (number-below f 32 two) (λ i less. same i less ∙ sym (bit_at-number f 32 i two less))
 
 pub unsigned-below : (a : ℤ) → FitsSigned w32 a → cast_unsigned w32 a < 2 ^ 32
 unsigned-below (pos n) h = omega (arith, h)

@@ -1,5 +1,6 @@
 -- Quotients and shifts to the left, brought into the range of `int`.
-use Rattle.std.proofs.Common.{◌≡◌, ℕ, zero, suc, ◌*◌, ◌/◌, ◌%◌, ◌^◌, ◌<◌, ◌≤◌, ℤ, pos, negsuc, neg_ℤ, ◌*ℤ◌, FitsSigned, to_z, of_z, refl, ap, ◌∙◌, true, pow_mono, lit<, arith}
+use Rattle.std.proofs.Common.{◌≡◌, ℕ, zero, suc, ◌*◌, ◌/◌, ◌%◌, ◌^◌, ◌<◌, ◌≤◌, ℤ, pos, negsuc, neg_ℤ, ◌*ℤ◌}
+use Rattle.std.proofs.Common.{FitsSigned, to_z, of_z, refl, ap, ◌∙◌, true, pow_mono, lit<, arith}
 use Rattle.std.specs.Prelude.{int_div, unsigned_abs}
 use Rattle.std.specs.Int.{w32, int_wrap}
 pub use Rattle.std.proofs.lemmas.Int.{to_z-of_z}

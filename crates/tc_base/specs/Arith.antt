@@ -1,5 +1,6 @@
 -- Arithmetic of `int`: 32 bits, two's complement, wrapping.
-use Rattle.std.specs.Prelude.{ℕ, zero, suc, ◌+◌, ◌-◌, ◌*◌, ◌/◌, ◌%◌, ◌^◌, min, max, Bool, true, false, not, ◌&&◌, if◌then◌else◌, ℤ, pos, negsuc, ◌+ℤ◌, ◌-ℤ◌, ◌*ℤ◌, neg_ℤ, unsigned_abs, int_lt, int_le}
+use Rattle.std.specs.Prelude.{ℕ, zero, suc, ◌+◌, ◌-◌, ◌*◌, ◌/◌, ◌%◌, ◌^◌, min, max, Bool, true, false, not, ◌&&◌, if◌then◌else◌}
+use Rattle.std.specs.Prelude.{ℤ, pos, negsuc, ◌+ℤ◌, ◌-ℤ◌, ◌*ℤ◌, neg_ℤ, unsigned_abs, int_lt, int_le}
 use Rattle.std.specs.Int.{w32, int_wrap, int_div_euclid, is_negative, bit_at, cast_unsigned, cast_signed}
 use Rattle.std.specs.Ordering.{int_eq}
 use Rattle.tc_base.specs.declared.arith.UnOp.{UnOp}

@@ -24,6 +24,8 @@ pub record BufferOps (B : Type 0) : Type 0 where
   -- whether there is a store to drain by this form: none, or a cell
   pub may_drain : B → Option ℕ → Bool
   pub drain : B → Option ℕ → Drained B
+  -- puts a bar at the end: no later store reaches memory before an earlier one
+  pub bar : B → B
 
 -- a buffer that holds nothing
 abbrev pub NoBuffer : Type 0
@@ -39,4 +41,5 @@ no_buffer = record {
   forward = λ _ _. None;
   may_drain = λ _ _. false;
   drain = λ b _. record { entry = record { cell = 0; value = pos 0 }; rest = b };
+  bar = λ b. b;
 }

@@ -23,7 +23,7 @@ pub const DEPTH: usize = 8;
 /// Steps of a thread.
 pub const STEPS: u32 = 65_535;
 /// Events of the logged paths.
-pub const EVENTS: usize = 64;
+pub const EVENTS: usize = 256;
 /// Operators that the logged paths execute.
 pub const OPERATORS: usize = 4_096;
 /// Conflicts of a search.

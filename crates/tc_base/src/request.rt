@@ -9,6 +9,12 @@ pub enum Request {
     Read(u32),
     /// That a cell takes a value.
     Write(u32, i32),
+    /// That a cell takes the value, and what it had before.
+    Exchange(u32, i32),
+    /// What a cell has, and that it takes the second value where it has the first.
+    CompareExchange(u32, i32, i32),
+    /// That the thread's later stores reach memory after its earlier ones.
+    Bar,
     /// A mutex.
     Acquire(u32),
     /// That a mutex is free.

@@ -6,4 +6,5 @@ use Rattle.tc_base.proofs.name.ThreadNameDisplay.fmt.Given as goal
 
 abbrev pub invariant-loop-child : goal.invariant-loop-child
 invariant-loop-child g l =
-    IsPlainFormatter l.initial.f → HasWritten g.W.Write.write_str_gives l.initial.f (flat_map (λ child. codes "." ++ decimal child) (take l.child-index l.child-items)) l.f
+    IsPlainFormatter l.initial.f → HasWritten g.W.Write.write_str_gives l.initial.f
+    (flat_map (λ child. codes "." ++ decimal child) (take l.child-index l.child-items)) l.f
