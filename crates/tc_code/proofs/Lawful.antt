@@ -1,5 +1,6 @@
 -- Code passes the test exactly where it is lawful.
-use Rattle.std.proofs.Common.{◌≡◌, ◌↔◌, ℕ, zero, suc, ◌+◌, ◌-◌, ◌<◌, ◌≤◌, length, List, [], ◌∷◌, Bool, true, false, cond, not, ◌&&◌, ◌||◌, IsTrue, Option, Some, None, refl, ap, sym, subst, ◌∙◌, slice_get, arith, inl, inr, nat_lt, nat_le}
+use Rattle.std.proofs.Common.{◌≡◌, ◌↔◌, ℕ, zero, suc, ◌+◌, ◌-◌, ◌<◌, ◌≤◌, length, List, [], ◌∷◌, Bool, true, false, cond, not, ◌&&◌, ◌||◌}
+use Rattle.std.proofs.Common.{IsTrue, Option, Some, None, refl, ap, sym, subst, ◌∙◌, slice_get, arith, inl, inr, nat_lt, nat_le}
 use Rattle.std.specs.Prelude.{◌==◌, position}
 use Rattle.std.specs.Option.{option_map_or}
 use Rattle.std.specs.List.{list_all, range_with_len, prefix_len}
@@ -11,7 +12,8 @@ use Rattle.tc_code.specs.Expr.{Expr}
 use Rattle.tc_code.specs.Instr.{Instr, Load_at, Store_at, Inside, Branch, Goto, Holds, Unlock, Sleep, Wake, Ready, Join, Exit}
 use Rattle.tc_code.specs.Code.{Code}
 use Rattle.tc_code.specs.Lawful.{names_what_is, target, is_bound, keeps, StandsBefore, IsTarget, Guards, IsGuarded, IsLawfulFunction, HasMain, IsLawful}
-use Rattle.tc_code.specs.helpers.Tests.{is_holds, is_sleep, is_wake, is_ready, is_inside, is_exit, passes, passes_before, enters_from_between, guards, is_guarded, may_stand, all_may_stand, ends_in_exit, is_lawful_function, ends_in_main, is_lawful}
+use Rattle.tc_code.specs.helpers.Tests.{is_holds, is_sleep, is_wake, is_ready, is_inside, is_exit, passes, passes_before, enters_from_between, guards}
+use Rattle.tc_code.specs.helpers.Tests.{is_guarded, may_stand, all_may_stand, ends_in_exit, is_lawful_function, ends_in_main, is_lawful}
 use Rattle.tc_code.specs.declared.code.Func.{Func}
 use Rattle.tc_code.proofs.Tests.{first, second, both, found, passes_there, there_at, list_all_at, all_at, list_all_in, all_in, list_any_in, any_in}
 use Rattle.tc_code.proofs.Sames.{holds_is, sleep_is, wake_is, ready_is, inside_is, exit_is, is_same_number, is_same_pair, is_same_test}
@@ -23,7 +25,8 @@ stands_at : (p : Instr → Bool) (is : List Instr) (k : ℕ) (i : Instr) → ((j
 stands_at p is k i only h = let at = found p (slice_get is k) h in at.1 ∙ ap Some (only at.0 at.2)
 
 -- and what passes before it stands there
-stands_before : (p : Instr → Bool) (is : List Instr) (k : ℕ) (i : Instr) → ((j : Instr) → IsTrue (p j) → j ≡ i) → IsTrue (passes_before p is k) → StandsBefore is k i
+stands_before : (p : Instr → Bool) (is : List Instr) (k : ℕ) (i : Instr) → ((j : Instr) → IsTrue (p j) → j ≡ i) → IsTrue (passes_before p is k)
+    → StandsBefore is k i
 stands_before p is zero i only h = false≢true h
 stands_before p is (suc k) i only h = stands_at p is k i only h
 
@@ -33,7 +36,8 @@ passes_before_there p is (suc k) i h there = passes_there p (slice_get is k) i t
 
 -- ---- jumps
 
-passes_for_target : (is : List Instr) (k : ℕ) (i : Instr) (to : ℕ) → IsTrue (may_stand is k i) → target i ≡ Some to → IsTrue (passes (λ j. not (is_bound j)) is to)
+passes_for_target : (is : List Instr) (k : ℕ) (i : Instr) (to : ℕ) → IsTrue (may_stand is k i) → target i ≡ Some to
+    → IsTrue (passes (λ j. not (is_bound j)) is to)
 passes_for_target is k (Branch e to) at h leads = subst (λ p. IsTrue (passes (λ j. not (is_bound j)) is p)) (same_Some to at leads) h
 passes_for_target is k (Goto to) at h leads = subst (λ p. IsTrue (passes (λ j. not (is_bound j)) is p)) (same_Some to at leads) h
 passes_for_target is k _ at h leads = absurd (none-some at leads)
@@ -74,10 +78,15 @@ guards_where_passed is len index g k before h =
       before = before;
       test = stands_at (is_inside len index) is g (Inside len index) (inside_is len index) (first _ _ kept);
       kept = λ at i there low high.
-          let one = found (keeps index) (slice_get is at) (list_all_in (passes (keeps index) is) (g + 1) (k - (g + 1)) at (second (passes (is_inside len index) is g) _ kept) (omega (arith, low)) (omega (arith, low, high))) in
+          let one =
+          found (keeps index) (slice_get is at) (list_all_in (passes (keeps index) is) (g + 1) (k - (g + 1)) at
+          (second (passes (is_inside len index) is g) _ kept) (omega (arith, low)) (omega (arith, low, high))) in
           subst (λ j. IsTrue (keeps index j)) (same_Some one.0 i (sym one.1 ∙ there)) one.2;
       enters = λ from to i there leads low high.
-          let one = found (enters_from_between g k from) (slice_get is from) (list_all_in (λ j. passes (enters_from_between g k j) is j) 0 (length is) from (second _ _ h) (omega arith) (omega (arith, slice_get_within is from i there))) in
+          let one =
+          found (enters_from_between g k from) (slice_get is from)
+          (list_all_in (λ j. passes (enters_from_between g k j) is j) 0 (length is) from (second _ _ h) (omega arith)
+          (omega (arith, slice_get_within is from i there))) in
           from_between g k from to one.0 one.2 (ap target (same_Some one.0 i (sym one.1 ∙ there)) ∙ leads) low high;
     }
 
@@ -91,7 +100,8 @@ passed_where_guards is len index g k within guard =
     passes_there (keeps index) (slice_get is at) i.0 i.1 (guard.kept at i.0 i.1 (omega (arith, low)) (omega (arith, low, high))))))
     (all_in (λ from. passes (enters_from_between g k from) is from) 0 (length is) (λ from low high.
     let i = there_at is from (omega (arith, high)) in
-    passes_there (enters_from_between g k from) (slice_get is from) i.0 i.1 (leads_from_between g k from (target i.0) (λ to leads above below. guard.enters from to i.0 i.1 leads above below))))
+    passes_there (enters_from_between g k from) (slice_get is from) i.0 i.1
+    (leads_from_between g k from (target i.0) (λ to leads above below. guard.enters from to i.0 i.1 leads above below))))
 
 guarded_where_passed : (is : List Instr) (len : ℕ) (index : Expr) (k : ℕ) → IsTrue (is_guarded is len index k) → IsGuarded is len index k
 guarded_where_passed is len index k h =
@@ -100,7 +110,8 @@ guarded_where_passed is len index k h =
 
 passed_where_guarded : (is : List Instr) (len : ℕ) (index : Expr) (k : ℕ) → k < length is → IsGuarded is len index k → IsTrue (is_guarded is len index k)
 passed_where_guarded is len index k within guarded =
-    any_in (λ g. guards is len index g k) 0 k guarded.0 (omega arith) (omega (arith, guarded.1.before)) (passed_where_guards is len index guarded.0 k within guarded.1)
+    any_in (λ g. guards is len index g k) 0 k guarded.0 (omega arith) (omega (arith, guarded.1.before))
+    (passed_where_guards is len index guarded.0 k within guarded.1)
 
 -- ---- the exit
 
@@ -150,7 +161,8 @@ others_before (i ∷ is) (suc n) at end only =
     let rest = others_before is n at (omega (arith, end)) (λ k there. omega (arith, only (suc k) there)) in
     others_before_head (is_exit i) i is n refl at (omega (arith, end)) only rest
 
-ends_where_last : (is : List Instr) → slice_get is (length is - 1) ≡ Some Exit → ((k : ℕ) → slice_get is k ≡ Some Exit → k + 1 ≡ length is) → IsTrue (ends_in_exit is)
+ends_where_last : (is : List Instr) → slice_get is (length is - 1) ≡ Some Exit → ((k : ℕ) → slice_get is k ≡ Some Exit → k + 1 ≡ length is)
+    → IsTrue (ends_in_exit is)
 ends_where_last is last only =
     let end = only (length is - 1) last in
     let place : prefix_len (λ i. not (is_exit i)) is ≡ length is - 1 = others_before is (length is - 1) last end only in
@@ -171,14 +183,17 @@ module _ (code : Code) (f : Func) where
       let stands : (k : ℕ) (i : Instr) → slice_get is k ≡ Some i → IsTrue (may_stand is k i) =
       λ k i there.
       subst (λ o. IsTrue (option_map_or (may_stand is k) o false)) there
-      (list_all_in (λ j. passes (may_stand is j) is j) 0 (length is) k (second _ (all_may_stand is) names_and) (omega arith) (omega (arith, slice_get_within is k i there))) in
+      (list_all_in (λ j. passes (may_stand is j) is j) 0 (length is) k (second _ (all_may_stand is) names_and) (omega arith)
+      (omega (arith, slice_get_within is k i there))) in
       record {
         params = grind (arith, nat_tests);
         names = λ k i there. list_all_at _ is k i (second (nat_le f.params f.ints) _ (first _ (all_may_stand is) names_and)) there;
         jump = λ k to i there leads. is_target is to (passes_for_target is k i to (stands k i there) leads);
         unlock = λ k m there. stands_before (is_holds m) is k (Holds m) (holds_is m) (stands k (Unlock m) there);
         sleep = λ k c m there. stands_before (is_holds m) is k (Holds m) (holds_is m) (first _ (passes (is_wake c m) is (k + 1)) (stands k (Sleep c m) there));
-        wait = λ k c m there. stands_at (is_wake c m) is (k + 1) (Wake c m) (wake_is c m) (second (passes_before (is_holds m) is k) _ (stands k (Sleep c m) there));
+        wait =
+            λ k c m there. stands_at (is_wake c m) is (k + 1) (Wake c m) (wake_is c m)
+            (second (passes_before (is_holds m) is k) _ (stands k (Sleep c m) there));
         wake = λ k c m there. stands_before (is_sleep c m) is k (Sleep c m) (sleep_is c m) (stands k (Wake c m) there);
         join = λ k v there. stands_before (is_ready v) is k (Ready v) (ready_is v) (stands k (Join v) there);
         load = λ k slot a len index there. guarded_where_passed is len index k (stands k (Load_at slot a len index) there);
@@ -197,8 +212,10 @@ module _ (code : Code) (f : Func) where
   may_stand_there h k (Join v) there = passes_before_there (is_ready v) f.instrs k (Ready v) (is_same_number v) (h.join k v there)
   may_stand_there h k (Branch e to) there = passes_as_target f.instrs to (h.jump k to (Branch e to) there refl)
   may_stand_there h k (Goto to) there = passes_as_target f.instrs to (h.jump k to (Goto to) there refl)
-  may_stand_there h k (Load_at slot a len index) there = passed_where_guarded f.instrs len index k (slice_get_within f.instrs k _ there) (h.load k slot a len index there)
-  may_stand_there h k (Store_at a len index value) there = passed_where_guarded f.instrs len index k (slice_get_within f.instrs k _ there) (h.store k a len index value there)
+  may_stand_there h k (Load_at slot a len index) there =
+      passed_where_guarded f.instrs len index k (slice_get_within f.instrs k _ there) (h.load k slot a len index there)
+  may_stand_there h k (Store_at a len index value) there =
+      passed_where_guarded f.instrs len index k (slice_get_within f.instrs k _ there) (h.store k a len index value there)
   may_stand_there h k _ there = refl
 
   passed_where_lawful : IsLawfulFunction code f → IsTrue (is_lawful_function code f)
@@ -222,7 +239,8 @@ module _ (code : Code) where
       record { main = main.0; there = main.1; params = (Decides-eqb _ 0).0 main.2 }
 
   main_passes : HasMain code → IsTrue (ends_in_main code.functions)
-  main_passes m = passes_there (λ (f : Func). f.params == 0) (slice_get code.functions (length code.functions - 1)) m.main m.there ((Decides-eqb _ 0).1 m.params)
+  main_passes m =
+      passes_there (λ (f : Func). f.params == 0) (slice_get code.functions (length code.functions - 1)) m.main m.there ((Decides-eqb _ 0).1 m.params)
 
   lawful_after_test : IsTrue (is_lawful code) → IsLawful code
   lawful_after_test h =
@@ -230,7 +248,9 @@ module _ (code : Code) where
       let few : IsTrue (nat_le (length code.memory) 1024) = first _ _ cells_and in
       record {
         cells = grind (arith, nat_tests);
-        functions = λ f g there. lawful_where_passed code g (list_all_at (is_lawful_function code) code.functions f g (second (nat_le (length code.memory) 1024) _ cells_and) there);
+        functions =
+            λ f g there. lawful_where_passed code g (list_all_at (is_lawful_function code) code.functions f g
+            (second (nat_le (length code.memory) 1024) _ cells_and) there);
         main = has_main (second _ (ends_in_main code.functions) h);
       }
 

@@ -1,5 +1,6 @@
 -- Searches of lists.
-use Rattle.std.proofs.Common.{◌≡◌, ℕ, zero, suc, ◌+◌, ◌-◌, ◌<◌, length, List, [], ◌∷◌, map, Bool, true, false, ◌||◌, refl, ap, sym, cond, Some, None, not, nat_lt, arith, ◌∙◌}
+use Rattle.std.proofs.Common.{◌≡◌, ℕ, zero, suc, ◌+◌, ◌-◌, ◌<◌, length, List, [], ◌∷◌, map, Bool, true}
+use Rattle.std.proofs.Common.{false, ◌||◌, refl, ap, sym, cond, Some, None, not, nat_lt, arith, ◌∙◌}
 use Rattle.std.specs.List.{prefix_len, position, list_any, range_with_len}
 use Rattle.std.proofs.Math.Bool.{or-false, or_assoc}
 use Rattle.std.proofs.lemmas.Bool.{or_right}
@@ -41,9 +42,12 @@ any_last p (suc n) some =
     ∙ ap (λ k. list_any p (range_with_len 0 k) || p k) less
 
 -- a search that goes down from k, and has only the numbers below n left, ends where n - 1 passes
-pub any_found : (p : ℕ → Bool) (k n : ℕ) → 0 < n → list_any p (range_with_len 0 k) ≡ list_any p (range_with_len 0 n) → p (n - 1) ≡ true → list_any p (range_with_len 0 k) ≡ true
+pub any_found : (p : ℕ → Bool) (k n : ℕ) → 0 < n → list_any p (range_with_len 0 k) ≡ list_any p (range_with_len 0 n) → p (n - 1) ≡ true
+    → list_any p (range_with_len 0 k) ≡ true
 any_found p k n some rest here = rest ∙ any_last p n some ∙ or_right (list_any p (range_with_len 0 (n - 1))) (p (n - 1)) here
 
 -- and else has only the numbers below n - 1 left
-pub any_further : (p : ℕ → Bool) (k n : ℕ) → 0 < n → list_any p (range_with_len 0 k) ≡ list_any p (range_with_len 0 n) → p (n - 1) ≡ false → list_any p (range_with_len 0 k) ≡ list_any p (range_with_len 0 (n - 1))
-any_further p k n some rest here = rest ∙ any_last p n some ∙ ap (λ b. list_any p (range_with_len 0 (n - 1)) || b) here ∙ or-false (list_any p (range_with_len 0 (n - 1)))
+pub any_further : (p : ℕ → Bool) (k n : ℕ) → 0 < n → list_any p (range_with_len 0 k) ≡ list_any p (range_with_len 0 n) → p (n - 1) ≡ false
+    → list_any p (range_with_len 0 k) ≡ list_any p (range_with_len 0 (n - 1))
+any_further p k n some rest here =
+    rest ∙ any_last p n some ∙ ap (λ b. list_any p (range_with_len 0 (n - 1)) || b) here ∙ or-false (list_any p (range_with_len 0 (n - 1)))

@@ -39,17 +39,20 @@ placed_next code t i lawful at = placed code t.function t.instruction i lawful (
 module _ {B : Type 0} (ops : BufferOps B) (code : Code) where
   and_then-and_then : (o : Option (State B)) (xs ys : List Move)
       → ((u : State B) → run_from ops code u (xs ++ ys) ≡ option_and_then (λ v. run_from ops code v ys) (run_from ops code u xs))
-      → option_and_then (λ u. run_from ops code u (xs ++ ys)) o ≡ option_and_then (λ v. run_from ops code v ys) (option_and_then (λ u. run_from ops code u xs) o)
+      → option_and_then (λ u. run_from ops code u (xs ++ ys)) o ≡ option_and_then (λ v. run_from ops code v ys)
+      (option_and_then (λ u. run_from ops code u xs) o)
   and_then-and_then None xs ys h = refl
   and_then-and_then (Some u) xs ys h = h u
 
   -- the moves of a list, and then those of another
-  pub run_from-append : (s : State B) (xs ys : List Move) → run_from ops code s (xs ++ ys) ≡ option_and_then (λ u. run_from ops code u ys) (run_from ops code s xs)
+  pub run_from-append : (s : State B) (xs ys : List Move)
+      → run_from ops code s (xs ++ ys) ≡ option_and_then (λ u. run_from ops code u ys) (run_from ops code s xs)
   run_from-append s [] ys = refl
   run_from-append s (x ∷ xs) ys = and_then-and_then (step ops code s x) xs ys (λ u. run_from-append u xs ys)
 
   -- a run, and one step more
-  pub run_from-step : (s u v : State B) (ms : List Move) (m : Move) → run_from ops code s ms ≡ Some u → step ops code u m ≡ Some v → run_from ops code s (ms ++ m ∷ []) ≡ Some v
+  pub run_from-step : (s u v : State B) (ms : List Move) (m : Move) → run_from ops code s ms ≡ Some u → step ops code u m ≡ Some v
+      → run_from ops code s (ms ++ m ∷ []) ≡ Some v
   run_from-step s u v ms m h one =
       run_from-append s ms (m ∷ [])
       ∙ ap (option_and_then (λ w. run_from ops code w (m ∷ []))) h

@@ -34,4 +34,14 @@ pub data Instr : Type 0 where
   Assert : (condition : Expr) → Instr
   -- it waits until all stores of the thread are in memory
   Fence : Instr
+  -- a site: it fails where the value is 0
+  Nonzero : (value : Expr) → Instr
+  -- a site: it fails where the value is no distance of a shift, from 0 to 31
+  In_range : (value : Expr) → Instr
+  -- the slot takes the value of the cell, and the cell takes the value
+  Swap : (slot cell : ℕ) (value : Expr) → Instr
+  -- the same, but the cell takes the value only where it had the expected one
+  Cas : (slot cell : ℕ) (expected value : Expr) → Instr
+  -- no later store of the thread reaches memory before an earlier one
+  Stbar : Instr
   Exit : Instr

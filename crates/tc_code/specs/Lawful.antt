@@ -1,9 +1,11 @@
 -- Lawful code: what it keeps.
-use Rattle.std.specs.Prelude.{◌≡◌, ℕ, zero, suc, ◌+◌, ◌-◌, ◌<◌, ◌≤◌, List, length, nat_lt, nat_le, ◌==◌, Bool, true, false, not, ◌&&◌, IsTrue, Option, Some, None, slice_get}
+use Rattle.std.specs.Prelude.{◌≡◌, ℕ, zero, suc, ◌+◌, ◌-◌, ◌<◌, ◌≤◌, List, length, nat_lt, nat_le, ◌==◌}
+use Rattle.std.specs.Prelude.{Bool, true, false, not, ◌&&◌, IsTrue, Option, Some, None, slice_get}
 use Rattle.std.specs.List.{list_all}
 use Rattle.std.specs.Option.{option_map_or}
 use Rattle.tc_code.specs.Expr.{Expr, names_slots, names_slot}
-use Rattle.tc_code.specs.Instr.{Instr, Set, Load, Load_at, Store, Store_at, Inside, Branch, Goto, Holds, Lock, Unlock, Sleep, Wake, Signal, Broadcast, Create, Ready, Join, Assert, Fence, Exit}
+use Rattle.tc_code.specs.Instr.{Instr, Set, Load, Load_at, Store, Store_at, Inside, Branch, Goto, Holds, Lock, Unlock, Sleep, Wake}
+use Rattle.tc_code.specs.Instr.{Signal, Broadcast, Create, Ready, Join, Assert, Nonzero, In_range, Swap, Cas, Fence, Stbar, Exit}
 use Rattle.tc_code.specs.Code.{Code}
 use Rattle.tc_code.specs.declared.code.Func.{Func}
 
@@ -32,7 +34,12 @@ names_what_is code f (Create h g es) = nat_lt h f.tids && takes code g (length e
 names_what_is code f (Ready h) = nat_lt h f.tids
 names_what_is code f (Join h) = nat_lt h f.tids
 names_what_is code f (Assert e) = names_slots f.ints e
+names_what_is code f (Nonzero e) = names_slots f.ints e
+names_what_is code f (In_range e) = names_slots f.ints e
+names_what_is code f (Swap k c e) = nat_lt k f.ints && nat_lt c (length code.memory) && names_slots f.ints e
+names_what_is code f (Cas k c e new) = nat_lt k f.ints && nat_lt c (length code.memory) && names_slots f.ints e && names_slots f.ints new
 names_what_is code f Fence = true
+names_what_is code f Stbar = true
 names_what_is code f Exit = true
 
 -- whether an instruction goes only with the one directly before it
@@ -48,7 +55,29 @@ abbrev pub written : Instr → Option ℕ
 written (Set k e) = Some k
 written (Load k c) = Some k
 written (Load_at k a len i) = Some k
-written _ = None
+written (Store c e) = None
+written (Store_at a len i e) = None
+written (Inside len i) = None
+written (Branch e to) = None
+written (Goto to) = None
+written (Holds m) = None
+written (Lock m) = None
+written (Unlock m) = None
+written (Sleep c m) = None
+written (Wake c m) = None
+written (Signal c) = None
+written (Broadcast c) = None
+written (Create h g es) = None
+written (Ready h) = None
+written (Join h) = None
+written (Assert e) = None
+written (Nonzero e) = None
+written (In_range e) = None
+written (Swap k c e) = Some k
+written (Cas k c e new) = Some k
+written Fence = None
+written Stbar = None
+written Exit = None
 
 -- the place that an instruction may jump to, if there is one
 abbrev pub target : Instr → Option ℕ

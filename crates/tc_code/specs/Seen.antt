@@ -3,7 +3,9 @@ use Rattle.std.specs.Prelude.{List, map}
 use Rattle.tc_code.specs.Instr as flat
 use Rattle.tc_code.specs.SeenExpr.{plain_expr}
 use Rattle.tc_code.specs.declared.instr.Instr.{Instr}
-use Rattle.tc_code.specs.declared.instr.Instr.TheVariants.{Set, Load, LoadAt, Store, StoreAt, Inside, Branch, Goto, Holds, Lock, Unlock, Sleep, Wake, Signal, Broadcast, Create, Ready, Join, Assert, Fence, Exit}
+use Rattle.tc_code.specs.declared.instr.Instr.TheVariants.{Set, Load, LoadAt, Store, StoreAt, Inside, Branch, Goto, Holds}
+use Rattle.tc_code.specs.declared.instr.Instr.TheVariants.{Lock, Unlock, Sleep, Wake, Signal, Broadcast, Create, Ready, Join}
+use Rattle.tc_code.specs.declared.instr.Instr.TheVariants.{Assert, Nonzero, InRange, Swap, Cas, Fence, Stbar, Exit}
 
 abbrev pub plain_instr : Instr → flat.Instr
 plain_instr (Set k e) = flat.Set k (plain_expr e)
@@ -25,7 +27,12 @@ plain_instr (Create h f es) = flat.Create h f es
 plain_instr (Ready h) = flat.Ready h
 plain_instr (Join h) = flat.Join h
 plain_instr (Assert e) = flat.Assert (plain_expr e)
+plain_instr (Nonzero e) = flat.Nonzero (plain_expr e)
+plain_instr (InRange e) = flat.In_range (plain_expr e)
+plain_instr (Swap k c e) = flat.Swap k c (plain_expr e)
+plain_instr (Cas k c e new) = flat.Cas k c (plain_expr e) (plain_expr new)
 plain_instr Fence = flat.Fence
+plain_instr Stbar = flat.Stbar
 plain_instr Exit = flat.Exit
 
 abbrev pub plain_instrs : List Instr → List flat.Instr

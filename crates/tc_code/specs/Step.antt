@@ -1,10 +1,13 @@
 -- One step of the machine, for every memory model.
-use Rattle.std.specs.Prelude.{ℕ, ◌+◌, ◌-◌, ◌==◌, ℤ, pos, List, [], ◌∷◌, ◌++◌, length, map, Bool, true, false, not, ◌&&◌, ◌||◌, is_some, is_none, Option, Some, None, unwrap_or, option_and_then, slice_get, slice_set, slice_index_or, if◌then◌else◌, replicate, unsigned_abs, int_lt, int_le}
+use Rattle.std.specs.Prelude.{ℕ, ◌+◌, ◌-◌, ◌==◌, ℤ, pos, List, [], ◌∷◌, ◌++◌, length, map, Bool, true, false, not, ◌&&◌}
+use Rattle.std.specs.Prelude.{◌||◌, is_some, is_none, Option, Some, None, unwrap_or, option_and_then, slice_get, slice_set}
+use Rattle.std.specs.Prelude.{slice_index_or, if◌then◌else◌, replicate, unsigned_abs, int_lt, int_le}
 use Rattle.std.specs.Option.{option_map_or}
 use Rattle.std.specs.Ordering.{nat_cmp, int_eq}
 use Rattle.std.specs.Cmp.Lexicographic.{slice_cmp}
 use Rattle.std.specs.FinMap as fin
 use Rattle.std.specs.FinSet as set
+use Rattle.tc_base.specs.Arith.{is_distance}
 use Rattle.tc_base.specs.Names.{Name, main, child}
 use Rattle.tc_base.specs.Buffers.{BufferOps}
 use Rattle.tc_base.specs.States.{Local, Thread, State}
@@ -13,9 +16,11 @@ use Rattle.tc_base.specs.declared.handle.Handle.TheVariants.{Unset, Child, Joine
 use Rattle.tc_base.specs.declared.moves.Move.{Move}
 use Rattle.tc_base.specs.declared.moves.Move.TheVariants as move
 use Rattle.tc_base.specs.declared.request.Request.{Request}
-use Rattle.tc_base.specs.declared.request.Request.TheVariants.{Silent, Read, Write, Acquire, Release, BeginWait, EndWait, WakeOne, WakeAll, Start, Await, OrderStores, Finish, Fail}
+use Rattle.tc_base.specs.declared.request.Request.TheVariants.{Silent, Read, Write, Exchange, CompareExchange, Bar, Acquire, Release, BeginWait}
+use Rattle.tc_base.specs.declared.request.Request.TheVariants.{EndWait, WakeOne, WakeAll, Start, Await, OrderStores, Finish, Fail}
 use Rattle.tc_code.specs.Expr.{Expr, value_of}
-use Rattle.tc_code.specs.Instr.{Instr, Set, Load, Load_at, Store, Store_at, Inside, Branch, Goto, Holds, Lock, Unlock, Sleep, Wake, Signal, Broadcast, Create, Ready, Join, Assert, Fence, Exit}
+use Rattle.tc_code.specs.Instr.{Instr, Set, Load, Load_at, Store, Store_at, Inside, Branch, Goto, Holds, Lock, Unlock, Sleep, Wake}
+use Rattle.tc_code.specs.Instr.{Signal, Broadcast, Create, Ready, Join, Assert, Nonzero, In_range, Swap, Cas, Fence, Stbar, Exit}
 use Rattle.tc_code.specs.Code.{Code, instr_at}
 
 -- a site asks for nothing where it is true
@@ -74,7 +79,12 @@ request t (Create h f es) = Start f
 request t (Ready h) = site (can_be_joined (handle_of t h))
 request t (Join h) = Await (child_number (handle_of t h))
 request t (Assert e) = site (is_nonzero (value_in t e))
+request t (Nonzero e) = site (is_nonzero (value_in t e))
+request t (In_range e) = site (is_distance (value_in t e))
+request t (Swap k c e) = Exchange c (value_in t e)
+request t (Cas k c e new) = CompareExchange c (value_in t e) (value_in t new)
 request t Fence = OrderStores
+request t Stbar = Bar
 request t Exit = Finish
 
 -- the thread after a step, at the same place
@@ -98,21 +108,34 @@ branched t false to = record (jumped t to) { outcomes = t.outcomes ++ false ∷ 
 abbrev pub holding : Local → ℕ → Bool → Local
 holding t m b = record (next t) { held = slice_set t.held m b }
 
--- the thread after an instruction that didn't fail; v is the value that a load takes
+-- the thread after an instruction that didn't fail; v is the value that it takes from memory, if it takes one
 abbrev pub local_after : Local → Instr → ℤ → Local
 local_after t (Set k e) v = record (next t) { slots = slice_set t.slots k (value_in t e) }
 local_after t (Load k c) v = record (next t) { slots = slice_set t.slots k v }
-local_after t (Load_at k first len i) v = record (next t) { slots = slice_set t.slots k v }
+local_after t (Load_at k a len i) v = record (next t) { slots = slice_set t.slots k v }
+local_after t (Store c e) v = next t
+local_after t (Store_at a len i e) v = next t
+local_after t (Inside len i) v = next t
 local_after t (Branch e to) v = branched t (is_nonzero (value_in t e)) to
 local_after t (Goto to) v = jumped t to
+local_after t (Holds m) v = next t
 local_after t (Lock m) v = holding t m true
 local_after t (Unlock m) v = holding t m false
 local_after t (Sleep c m) v = holding t m false
 local_after t (Wake c m) v = holding t m true
-local_after t (Create h f es) v = record (next t) { handles = slice_set t.handles h (Child (t.children + 1)); children = t.children + 1 }
+local_after t (Signal c) v = next t
+local_after t (Broadcast c) v = next t
+local_after t (Create h g es) v = record (next t) { handles = slice_set t.handles h (Child (t.children + 1)); children = t.children + 1 }
+local_after t (Ready h) v = next t
 local_after t (Join h) v = record (next t) { handles = slice_set t.handles h (Joined (child_number (handle_of t h))) }
+local_after t (Assert e) v = next t
+local_after t (Nonzero e) v = next t
+local_after t (In_range e) v = next t
+local_after t (Swap k c e) v = record (next t) { slots = slice_set t.slots k v }
+local_after t (Cas k c e new) v = record (next t) { slots = slice_set t.slots k v }
+local_after t Fence v = next t
+local_after t Stbar v = next t
 local_after t Exit v = record (next t) { has_exited = true }
-local_after t _ v = next t
 
 -- the values that a create hands to the child
 abbrev pub arguments_of : Local → Instr → List ℤ
@@ -137,25 +160,77 @@ waiting_on s c = slice_index_or s.waiters c set.empty
 abbrev pub is_free : {B : Type 0} → State B → ℕ → Bool
 is_free s m = is_none (slice_index_or s.owners m None)
 
+-- the value of a cell in memory
+abbrev pub in_memory : {B : Type 0} → State B → ℕ → ℤ
+in_memory s c = slice_index_or s.memory c (pos 0)
+
+-- what a cell has after a compare-and-exchange: the new value where it had the expected one, and else what it had
+abbrev pub replaced : ℤ → ℤ → ℤ → ℤ
+replaced old expected value = if int_eq old expected then value else old
+
 -- whether a thread's child of that number has exited
 abbrev pub child_has_exited : {B : Type 0} → State B → Name → ℕ → Bool
 child_has_exited s n k = option_map_or (λ t. t.local.has_exited) (fin.get s.threads (child n k)) false
+
+-- whether a request is an event of a thread's path: neither silent nor a bar
+abbrev pub is_event : Request → Bool
+is_event Silent = false
+is_event (Read c) = true
+is_event (Write c v) = true
+is_event (Exchange c v) = true
+is_event (CompareExchange c e v) = true
+is_event Bar = false
+is_event (Acquire m) = true
+is_event (Release m) = true
+is_event (BeginWait c m) = true
+is_event (EndWait c m) = true
+is_event (WakeOne c) = true
+is_event (WakeAll c) = true
+is_event (Start f) = true
+is_event (Await k) = true
+is_event OrderStores = true
+is_event Finish = true
+is_event Fail = true
 
 -- whether a request can only be met once all stores of the thread are in memory
 abbrev pub drains_first : Request → Bool
 drains_first Silent = false
 drains_first (Read c) = false
 drains_first (Write c v) = false
+drains_first (Exchange c v) = true
+drains_first (CompareExchange c e v) = true
+drains_first Bar = false
+drains_first (Acquire m) = true
+drains_first (Release m) = true
+drains_first (BeginWait c m) = true
+drains_first (EndWait c m) = true
+drains_first (WakeOne c) = true
+drains_first (WakeAll c) = true
+drains_first (Start f) = true
+drains_first (Await k) = true
+drains_first OrderStores = true
+drains_first Finish = true
 drains_first Fail = false
-drains_first _ = true
 
 -- whether the other threads let a request be met
 abbrev pub is_let : {B : Type 0} → State B → Name → Request → Bool
+is_let s n Silent = true
+is_let s n (Read c) = true
+is_let s n (Write c v) = true
+is_let s n (Exchange c v) = true
+is_let s n (CompareExchange c e v) = true
+is_let s n Bar = true
 is_let s n (Acquire m) = is_free s m
+is_let s n (Release m) = true
+is_let s n (BeginWait c m) = true
 is_let s n (EndWait c m) = not (set.contains (waiting_on s c) n) && is_free s m
 is_let s n (WakeOne c) = set.len (waiting_on s c) == 0
+is_let s n (WakeAll c) = true
+is_let s n (Start f) = true
 is_let s n (Await k) = child_has_exited s n k
-is_let s n _ = true
+is_let s n OrderStores = true
+is_let s n Finish = true
+is_let s n Fail = true
 
 -- the number of int slots of a function, and of its thread variables
 abbrev pub ints_of : Code → ℕ → ℕ
@@ -171,9 +246,9 @@ module _ {B : Type 0} (ops : BufferOps B) where
 
   -- what a load takes: the thread's own newest store to the cell, and else memory
   abbrev pub loaded : State B → Thread B → ℕ → ℤ
-  loaded s t c = unwrap_or (ops.forward t.buffer c) (slice_index_or s.memory c (pos 0))
+  loaded s t c = unwrap_or (ops.forward t.buffer c) (in_memory s c)
 
-  -- the state in which the thread has done the instruction, having taken a value
+  -- the state in which the thread has done the instruction, having taken a value from memory
   abbrev pub done : State B → Name → Thread B → Instr → ℤ → State B
   done s n t i v = with_thread s n (record t { local = local_after t.local i v })
 
@@ -187,6 +262,10 @@ module _ {B : Type 0} (ops : BufferOps B) where
       if ops.buffered
       then with_thread s n (record { local = local_after t.local i (pos 0); buffer = ops.issue t.buffer c v })
       else record (did s n t i) { memory = slice_set s.memory c v }
+
+  -- the thread takes what the cell has, and the cell takes a value, in one step
+  abbrev pub exchanged : State B → Name → Thread B → Instr → ℕ → ℤ → State B
+  exchanged s n t i c v = record (done s n t i (in_memory s c)) { memory = slice_set s.memory c v }
 
   -- a thread at the start of a function: its first slots are the arguments, and all else is 0, unset and free
   abbrev pub born : Code → ℕ → List ℤ → Thread B
@@ -205,17 +284,26 @@ module _ {B : Type 0} (ops : BufferOps B) where
     buffer = ops.empty;
   }
 
+  -- the state after a request is met
   abbrev pub perform : Code → State B → Name → Thread B → Instr → Request → State B
+  perform code s n t i Silent = did s n t i
   perform code s n t i (Read c) = done s n t i (loaded s t c)
   perform code s n t i (Write c v) = stored s n t i c v
+  perform code s n t i (Exchange c v) = exchanged s n t i c v
+  perform code s n t i (CompareExchange c e v) = exchanged s n t i c (replaced (in_memory s c) e v)
+  perform code s n t i Bar = with_thread s n (record { local = local_after t.local i (pos 0); buffer = ops.bar t.buffer })
   perform code s n t i (Acquire m) = record (did s n t i) { owners = slice_set s.owners m (Some n) }
   perform code s n t i (Release m) = record (did s n t i) { owners = slice_set s.owners m None }
-  perform code s n t i (BeginWait c m) = record (did s n t i) { owners = slice_set s.owners m None; waiters = slice_set s.waiters c (set.insert (waiting_on s c) n) }
+  perform code s n t i (BeginWait c m) =
+      record (did s n t i) { owners = slice_set s.owners m None; waiters = slice_set s.waiters c (set.insert (waiting_on s c) n) }
   perform code s n t i (EndWait c m) = record (did s n t i) { owners = slice_set s.owners m (Some n) }
+  perform code s n t i (WakeOne c) = did s n t i
   perform code s n t i (WakeAll c) = record (did s n t i) { waiters = slice_set s.waiters c set.empty }
   perform code s n t i (Start f) = with_thread (did s n t i) (child n (t.local.children + 1)) (born code f (arguments_of t.local i))
+  perform code s n t i (Await k) = did s n t i
+  perform code s n t i OrderStores = did s n t i
+  perform code s n t i Finish = did s n t i
   perform code s n t i Fail = record (with_thread s n (record t { local = stepped t.local })) { failed = Some n }
-  perform code s n t i _ = did s n t i
 
   -- a thread does an instruction, where its request may be met
   abbrev pub run_of : Code → State B → Name → Thread B → Instr → Option (State B)

@@ -98,8 +98,27 @@ pub enum Instr {
     },
     /// A site, which fails where the value is 0.
     Assert(Expr),
+    /// A site, which fails where the value is 0: a divisor must not be.
+    Nonzero(Expr),
+    /// A site, which fails where the value is below 0 or above 31: the distance of a shift must not be.
+    InRange(Expr),
+    /// The slot takes the value of the cell, and the cell takes the value, at once.
+    Swap {
+        slot: u32,
+        cell: u32,
+        value: Expr,
+    },
+    /// The slot takes the value of the cell, and where that is the expected one the cell takes the value, at once.
+    Cas {
+        slot: u32,
+        cell: u32,
+        expected: Expr,
+        value: Expr,
+    },
     /// The thread waits until all its stores are in memory.
     Fence,
+    /// The thread's later stores reach memory after its earlier ones.
+    Stbar,
     /// The thread ends.
     Exit,
 }

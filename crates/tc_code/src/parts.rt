@@ -100,7 +100,23 @@ impl Parts {
             } => self.names_element(f, *first, *length, index) && names_slots(value, f.ints),
             Instr::Inside { index: e, .. }
             | Instr::Branch { condition: e, .. }
-            | Instr::Assert(e) => { names_slots(e, f.ints) }
+            | Instr::Assert(e)
+            | Instr::Nonzero(e)
+            | Instr::InRange(e) => { names_slots(e, f.ints) }
+            Instr::Swap { slot, cell, value } => {
+                *slot < f.ints && self.has_cell(*cell) && names_slots(value, f.ints)
+            }
+            Instr::Cas {
+                slot,
+                cell,
+                expected,
+                value,
+            } => {
+                *slot < f.ints
+                    && self.has_cell(*cell)
+                    && names_slots(expected, f.ints)
+                    && names_slots(value, f.ints)
+            }
             Instr::Holds { mutex } | Instr::Lock { mutex } | Instr::Unlock { mutex } => {
                 *mutex < self.mutexes
             }
@@ -116,7 +132,7 @@ impl Parts {
                 arguments,
             } => self.may_create(f, *handle, *function, arguments.as_slice()),
             Instr::Ready { handle } | Instr::Join { handle } => *handle < f.tids,
-            Instr::Goto { .. } | Instr::Fence | Instr::Exit => true,
+            Instr::Goto { .. } | Instr::Fence | Instr::Stbar | Instr::Exit => true,
         }
     }
 

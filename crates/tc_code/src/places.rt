@@ -11,7 +11,8 @@ use crate::instr::Instr;
 
 /// Whether each instruction may stand where it does.
 pub(crate) fn all_may_stand(instrs: &[Instr]) -> bool
-    ensures { result ≡ list_all (λ k. test.passes (test.may_stand (plain_instrs instrs.now) k) (plain_instrs instrs.now) k) (range_with_len 0 (length instrs.now)) }
+    ensures { result
+        ≡ list_all (λ k. test.passes (test.may_stand (plain_instrs instrs.now) k) (plain_instrs instrs.now) k) (range_with_len 0 (length instrs.now)) }
 {
     (0..instrs.len()).all(|k| may_stand(instrs, k))
 }
@@ -196,16 +197,19 @@ fn keeps(i: &Instr, index: &Expr) -> bool
     ensures { result ≡ spec.keeps (plain_expr index.now) (plain_instr i.now) }
 {
     match i {
-        Instr::Set { slot, .. } | Instr::Load { slot, .. } | Instr::LoadAt { slot, .. } => {
-            !names_slot(index, *slot)
-        }
+        Instr::Set { slot, .. }
+        | Instr::Load { slot, .. }
+        | Instr::LoadAt { slot, .. }
+        | Instr::Swap { slot, .. }
+        | Instr::Cas { slot, .. } => !names_slot(index, *slot),
         _ => true,
     }
 }
 
 /// Whether each jump that leads past `g` and up to `k` comes from between the two.
 fn enter_from_between(instrs: &[Instr], g: usize, k: usize) -> bool
-    ensures { result ≡ list_all (λ from. test.passes (test.enters_from_between g k from) (plain_instrs instrs.now) from) (range_with_len 0 (length instrs.now)) }
+    ensures { result
+        ≡ list_all (λ from. test.passes (test.enters_from_between g k from) (plain_instrs instrs.now) from) (range_with_len 0 (length instrs.now)) }
 {
     (0..instrs.len()).all(|from| enters_at(instrs, g, k, from))
 }

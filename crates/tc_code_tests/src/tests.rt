@@ -1,6 +1,7 @@
 //! Lawful code, code with one defect each, and values by hand.
 use Step::{
-    Branch, Goto, Holds, Inside, Join, LoadAt, Other, Ready, Set, Sleep, StoreAt, Unlock, Wake,
+    Branch, Cas, Goto, Holds, Inside, Join, LoadAt, Other, Ready, Set, Sleep, StoreAt, Swap,
+    Unlock, Wake,
 };
 use std::alloc::{AllocError, Global};
 use std::test::Fail;
@@ -136,6 +137,10 @@ enum Step {
     LoadAt(u32, u32),
     /// A store to such an array.
     StoreAt(u32),
+    /// A swap into a slot.
+    Swap(u32),
+    /// A compare-and-swap into a slot.
+    Cas(u32),
 }
 
 fn instr(step: Step) -> Instr {
@@ -177,6 +182,17 @@ fn access(step: Step) -> Instr {
             first: 1,
             length,
             index: Expr::Slot(0),
+        },
+        Step::Swap(slot) => Instr::Swap {
+            slot,
+            cell: 0,
+            value: Expr::Number(1),
+        },
+        Step::Cas(slot) => Instr::Cas {
+            slot,
+            cell: 0,
+            expected: Expr::Number(1),
+            value: Expr::Number(2),
         },
         Step::StoreAt(length) => Instr::StoreAt {
             first: 1,
@@ -387,6 +403,10 @@ fn a_test_stands_up_to_its_access(rt: HostRuntime) -> Result<(), AllocError> {
         ("a set of another slot", [Other, Set(1)], 0, true),
         ("a set of the index", [Set(0), Other], 0, false),
         ("a load to the index", [LoadAt(0, 2), Other], 0, false),
+        ("a swap into the index", [Swap(0), Other], 0, false),
+        ("a swap into another slot", [Swap(1), Other], 0, true),
+        ("a cas into the index", [Other, Cas(0)], 0, false),
+        ("a swap into no slot", [Swap(2), Other], 0, false),
         ("a jump between the two", [Other, Other], 1, false),
         ("a jump to the access", [Other, Other], 3, false),
         ("a jump past the access", [Other, Other], 4, true),

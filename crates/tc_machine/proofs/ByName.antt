@@ -1,5 +1,6 @@
 -- A `BTreeMap` by name, seen as a finite map.
-use Rattle.std.proofs.Common.{◌≡◌, ◌+◌, ◌≤◌, ℕ, zero, suc, length, List, [], ◌∷◌, refl, ap, sym, subst, ◌∙◌, Option, Some, None, Bool, true, false, cond, not, arith}
+use Rattle.std.proofs.Common.{◌≡◌, ◌+◌, ◌≤◌, ℕ, zero, suc, length, List, [], ◌∷◌, refl, ap, sym, subst}
+use Rattle.std.proofs.Common.{◌∙◌, Option, Some, None, Bool, true, false, cond, not, arith}
 use Rattle.std.specs.Option.{IfSome, IsSomeAnd}
 use Rattle.std.specs.FinMap as fin
 use Rattle.std.specs.FinMap.{get, insert, find, put, get-from_entries, from_entries, entries, entries-insert, get-insert, len-entries, len-empty, same_map}
@@ -42,7 +43,8 @@ pub get_of_entries : {X : Type 0} (es : List (Name × X)) (m : ByName X) (n : Na
 get_of_entries es m n e = ap (λ k. get k n) (sym e) ∙ get-map_of es n
 
 -- entries that differ at one name make maps that differ there
-pub map_of_update : {X : Type 0} (es fs : List (Name × X)) (n : Name) (x : X) → ((q : Name) → at_name fs q ≡ cond (is_at (slice_cmp nat_cmp n) q) (Some x) (at_name es q)) → map_of fs ≡ insert (map_of es) n x
+pub map_of_update : {X : Type 0} (es fs : List (Name × X)) (n : Name) (x : X)
+    → ((q : Name) → at_name fs q ≡ cond (is_at (slice_cmp nat_cmp n) q) (Some x) (at_name es q)) → map_of fs ≡ insert (map_of es) n x
 map_of_update es fs n x h = same_map nat_list_cmp_total exact_bytes _ _ (λ q.
     get-map_of fs q ∙ h q ∙ ap (λ b. cond b (Some x) (at_name es q)) ((eq_by_cmp_equiv nat_list_cmp_total).symm n q)
     ∙ sym (get-insert nat_list_cmp_total (map_of es) n x q ∙ ap (cond (is_at (slice_cmp nat_cmp q) n) (Some x)) (get-map_of es q)))
@@ -57,7 +59,8 @@ insert_same m n x there = same_map nat_list_cmp_total exact_bytes _ _ (λ q.
     get-insert nat_list_cmp_total m n x q
     ∙ cond_same _ (Some x) (get m q) (λ same. sym there ∙ ap (get m) (sym (exact_bytes q n ((Equal-is _).0 same)))))
 
-put_first : {X : Type 0} (n : Name) (x : X) (es : List (Name × X)) → AllByRecursion (λ q. slice_cmp nat_cmp n q ≡ Less) (keys_of es) → put (slice_cmp nat_cmp) n x es ≡ (n, x) ∷ es
+put_first : {X : Type 0} (n : Name) (x : X) (es : List (Name × X)) → AllByRecursion (λ q. slice_cmp nat_cmp n q ≡ Less) (keys_of es)
+    → put (slice_cmp nat_cmp) n x es ≡ (n, x) ∷ es
 put_first n x [] h = refl
 put_first n x (e ∷ es) h = rw h.0 refl
 
@@ -80,7 +83,10 @@ place_of n ks = position_or_len (λ k. is_lt (slice_cmp nat_cmp n k)) ks
 shifted : (k n : Name) (ks : List Name) (i j : ℕ) → j ≡ suc i → list.insert (k ∷ ks) j n ≡ k ∷ list.insert ks i n
 shifted k n ks i j e = ap (λ j. list.insert (k ∷ ks) j n) e
 
-listed_at : {X : Type 0} (n : Name) (x : X) (e : Name × X) (es : List (Name × X)) (o : Ordering) → slice_cmp nat_cmp n e.0 ≡ o → at_name (e ∷ es) n ≡ None → (at_name es n ≡ None → keys_of (insert_entry (slice_cmp nat_cmp) es n x) ≡ list.insert (keys_of es) (place_of n (keys_of es)) n) → keys_of (match_ordering o ((n, x) ∷ e ∷ es) ((e.0, x) ∷ es) (e ∷ insert_entry (slice_cmp nat_cmp) es n x)) ≡ list.insert (e.0 ∷ keys_of es) (cond (not (is_lt o)) (1 + place_of n (keys_of es)) 0) n
+listed_at : {X : Type 0} (n : Name) (x : X) (e : Name × X) (es : List (Name × X)) (o : Ordering) → slice_cmp nat_cmp n e.0 ≡ o
+    → at_name (e ∷ es) n ≡ None → (at_name es n ≡ None → keys_of (insert_entry (slice_cmp nat_cmp) es n x) ≡ list.insert (keys_of es)
+    (place_of n (keys_of es)) n) → keys_of (match_ordering o ((n, x) ∷ e ∷ es) ((e.0, x) ∷ es) (e ∷ insert_entry (slice_cmp nat_cmp) es n x))
+    ≡ list.insert (e.0 ∷ keys_of es) (cond (not (is_lt o)) (1 + place_of n (keys_of es)) 0) n
 listed_at n x e es Less is none rest = refl
 listed_at n x e es Equal is none rest = absurd (none-some e.1 (sym none ∙ rw is refl))
 listed_at n x e es Greater is none rest =
@@ -88,12 +94,14 @@ listed_at n x e es Greater is none rest =
     ∙ sym (shifted e.0 n (keys_of es) (place_of n (keys_of es)) (1 + place_of n (keys_of es)) (omega arith))
 
 -- a new entry's name goes to its place among the names
-pub keys_of_insert : {X : Type 0} (n : Name) (x : X) (es : List (Name × X)) → at_name es n ≡ None → keys_of (insert_entry (slice_cmp nat_cmp) es n x) ≡ list.insert (keys_of es) (place_of n (keys_of es)) n
+pub keys_of_insert : {X : Type 0} (n : Name) (x : X) (es : List (Name × X)) → at_name es n ≡ None
+    → keys_of (insert_entry (slice_cmp nat_cmp) es n x) ≡ list.insert (keys_of es) (place_of n (keys_of es)) n
 keys_of_insert n x [] none = refl
 keys_of_insert n x (e ∷ es) none = listed_at n x e es _ refl none (keys_of_insert n x es)
 
 -- so the names stay those of the entries, where an entry is put in
-pub keys_after_insert : {X : Type 0} (es fs : List (Name × X)) (names new : List Name) (at : ℕ) (n k : Name) (x : X) → at_name es n ≡ None → names ≡ keys_of es → k ≡ n → at ≡ place_of k names → new ≡ list.insert names at k → fs ≡ insert_entry (slice_cmp nat_cmp) es n x → new ≡ keys_of fs
+pub keys_after_insert : {X : Type 0} (es fs : List (Name × X)) (names new : List Name) (at : ℕ) (n k : Name) (x : X) → at_name es n ≡ None
+    → names ≡ keys_of es → k ≡ n → at ≡ place_of k names → new ≡ list.insert names at k → fs ≡ insert_entry (slice_cmp nat_cmp) es n x → new ≡ keys_of fs
 keys_after_insert es fs names new at n k x none keys same place put is =
     put ∙ ap (λ j. list.insert names j k) place
     ∙ ap (λ ns. list.insert ns (place_of k ns) k) keys
@@ -107,7 +115,8 @@ remove-insert [] (suc i) x h = absurd (omega arith)
 remove-insert (y ∷ ys) (suc i) x h = ap (λ zs. y ∷ zs) (remove-insert ys i x (omega arith))
 
 -- and they stay where the name is taken out again, and no entry is put in
-pub keys_after_undo : {X : Type 0} (es fs : List (Name × X)) (names new back : List Name) (at : ℕ) (k : Name) → names ≡ keys_of es → at ≡ place_of k names → new ≡ list.insert names at k → back ≡ list.remove new at → fs ≡ es → back ≡ keys_of fs
+pub keys_after_undo : {X : Type 0} (es fs : List (Name × X)) (names new back : List Name) (at : ℕ) (k : Name) → names ≡ keys_of es
+    → at ≡ place_of k names → new ≡ list.insert names at k → back ≡ list.remove new at → fs ≡ es → back ≡ keys_of fs
 keys_after_undo es fs names new back at k keys place put out same =
     out ∙ ap (λ ns. list.remove ns at) put
     ∙ remove-insert names at k (subst (λ j. j ≤ length names) (sym place) (prefix_len-le-length (λ m. not (is_lt (slice_cmp nat_cmp k m))) names))
@@ -120,7 +129,8 @@ unlike m n k t there new same = none-some t (sym new ∙ ap (get m) (sym same) �
 pub tied : (n k : Name) → eq_by_cmp (slice_cmp nat_cmp) n k ≡ true → n ≡ k
 tied n k e = exact_bytes n k ((Equal-is _).0 e)
 
-other_at : {X : Type 0} (m : ByName X) (n k : Name) (t y : X) → get m n ≡ Some t → get m k ≡ None → (b : Bool) → eq_by_cmp (slice_cmp nat_cmp) n k ≡ b → cond b (Some y) (get m n) ≡ get m n
+other_at : {X : Type 0} (m : ByName X) (n k : Name) (t y : X) → get m n ≡ Some t → get m k ≡ None → (b : Bool)
+    → eq_by_cmp (slice_cmp nat_cmp) n k ≡ b → cond b (Some y) (get m n) ≡ get m n
 other_at m n k t y there new true e = absurd (unlike m n k t there new (tied n k e))
 other_at m n k t y there new false e = refl
 
@@ -128,13 +138,16 @@ other_at m n k t y there new false e = refl
 pub get-insert_new : {X : Type 0} (m : ByName X) (n k : Name) (t y : X) → get m n ≡ Some t → get m k ≡ None → get (insert m k y) n ≡ get m n
 get-insert_new m n k t y there new = get-insert nat_list_cmp_total m k y n ∙ other_at m n k t y there new _ refl
 
-either_first : {X : Type 0} (m : ByName X) (n k q : Name) (t x y : X) → get m n ≡ Some t → get m k ≡ None → (b c : Bool) → eq_by_cmp (slice_cmp nat_cmp) q n ≡ b → eq_by_cmp (slice_cmp nat_cmp) q k ≡ c → cond b (Some x) (cond c (Some y) (get m q)) ≡ cond c (Some y) (cond b (Some x) (get m q))
+either_first : {X : Type 0} (m : ByName X) (n k q : Name) (t x y : X) → get m n ≡ Some t → get m k ≡ None → (b c : Bool)
+    → eq_by_cmp (slice_cmp nat_cmp) q n ≡ b → eq_by_cmp (slice_cmp nat_cmp) q k ≡ c
+    → cond b (Some x) (cond c (Some y) (get m q)) ≡ cond c (Some y) (cond b (Some x) (get m q))
 either_first m n k q t x y there new true true e f = absurd (unlike m n k t there new (sym (tied q n e) ∙ tied q k f))
 either_first m n k q t x y there new true false e f = refl
 either_first m n k q t x y there new false c e f = refl
 
 -- a new name and one that is there may be put in either way round
-pub insert-insert_new : {X : Type 0} (m : ByName X) (n k : Name) (t x y : X) → get m n ≡ Some t → get m k ≡ None → insert (insert m k y) n x ≡ insert (insert m n x) k y
+pub insert-insert_new : {X : Type 0} (m : ByName X) (n k : Name) (t x y : X) → get m n ≡ Some t → get m k ≡ None
+    → insert (insert m k y) n x ≡ insert (insert m n x) k y
 insert-insert_new m n k t x y there new = same_map nat_list_cmp_total exact_bytes _ _ (λ q.
     get-insert nat_list_cmp_total (insert m k y) n x q
     ∙ ap (cond (eq_by_cmp (slice_cmp nat_cmp) q n) (Some x)) (get-insert nat_list_cmp_total m k y q)
@@ -163,7 +176,8 @@ there_and P None h = absurd h
 there_and P (Some x) h = (x, refl, h)
 
 -- one new name, and then another value at a name that is there
-pub after_new : {X : Type 0} (m u v : ByName X) (n k : Name) (y : X) (f : X → X) (t : X) → get m n ≡ Some t → get m k ≡ None → u ≡ insert m k y → IfSome (get u n) (λ t. v ≡ insert u n (f t)) → IfSome (get m n) (λ t. v ≡ insert (insert m n (f t)) k y)
+pub after_new : {X : Type 0} (m u v : ByName X) (n k : Name) (y : X) (f : X → X) (t : X) → get m n ≡ Some t → get m k ≡ None → u ≡ insert m k y
+    → IfSome (get u n) (λ t. v ≡ insert u n (f t)) → IfSome (get m n) (λ t. v ≡ insert (insert m n (f t)) k y)
 after_new m u v n k y f t there new e h =
     let at : get u n ≡ Some t = ap (λ w. get w n) e ∙ get-insert_new m n k t y there new ∙ there in
     let is : v ≡ insert u n (f t) = subst (λ o. IfSome o (λ t. v ≡ insert u n (f t))) at h in

@@ -1,5 +1,6 @@
 -- In a state that a run of lawful code reaches, a thread can do the instruction at its place.
-use Rattle.std.proofs.Common.{◌≡◌, ◌∙◌, ℕ, ◌+◌, ◌<◌, ◌≤◌, ◌^◌, ◌==◌, length, Bool, true, false, IsTrue, Some, refl, ap, sym, subst, arith, nat_lt, nat_le, ◌&&◌, ℤ, pos, slice_get}
+use Rattle.std.proofs.Common.{◌≡◌, ◌∙◌, ℕ, ◌+◌, ◌<◌, ◌≤◌, ◌^◌, ◌==◌, length, Bool, true, false, IsTrue, Some}
+use Rattle.std.proofs.Common.{refl, ap, sym, subst, arith, nat_lt, nat_le, ◌&&◌, ℤ, pos, slice_get}
 use Rattle.std.specs.Prelude.{int_le, int_lt}
 use Rattle.std.proofs.lemmas.Bool.{false≢true}
 use Rattle.std.proofs.lemmas.Bool.Decides.{nat_tests, Decides-eqb}
@@ -11,7 +12,8 @@ use Rattle.std.specs.Option.{option_map_or}
 use Rattle.tc_base.specs.Names.{Name}
 use Rattle.tc_base.specs.Buffers.{BufferOps}
 use Rattle.tc_base.specs.States.{Local, Thread, State}
-use Rattle.tc_code.specs.Instr.{Instr, Set, Load, Load_at, Store, Store_at, Inside, Branch, Goto, Holds, Lock, Unlock, Sleep, Wake, Signal, Broadcast, Create, Ready, Join, Assert, Fence, Exit}
+use Rattle.tc_code.specs.Instr.{Instr, Set, Load, Load_at, Store, Store_at, Inside, Branch, Goto, Holds, Lock, Unlock, Sleep, Wake}
+use Rattle.tc_code.specs.Instr.{Signal, Broadcast, Create, Ready, Join, Assert, Nonzero, In_range, Swap, Cas, Fence, Stbar, Exit}
 use Rattle.tc_code.specs.Code.{Code}
 use Rattle.tc_code.specs.Lawful.{takes, names_what_is, IsLawful}
 use Rattle.tc_code.specs.helpers.Tests.{is_lawful_function}
@@ -29,7 +31,8 @@ use Rattle.tc_runs.specs.Counters.{CountersAreBelowLast}
 use Rattle.tc_runs.specs.Whole.{IsWhole, IndexIsWithin}
 
 -- what a function names, one of the same size names
-names-sized : (code : Code) (f : Func) (t : Local) (i : Instr) → length t.slots ≡ f.ints → length t.handles ≡ f.tids → IsTrue (names_what_is code f i) → IsTrue (names_what_is code (sized f t) i)
+names-sized : (code : Code) (f : Func) (t : Local) (i : Instr) → length t.slots ≡ f.ints → length t.handles ≡ f.tids
+    → IsTrue (names_what_is code f i) → IsTrue (names_what_is code (sized f t) i)
 names-sized code f t i slots handles h =
     subst (λ k. IsTrue (names_what_is code (record f { ints = length t.slots; tids = k }) i)) (sym handles)
     (subst (λ k. IsTrue (names_what_is code (record f { ints = k }) i)) (sym slots) h)
@@ -68,9 +71,11 @@ module _ {B : Type 0} (code : Code) (s : State B) (whole : IsWhole code s) where
   asks_within : (f : Func) (t : Local) (i : Instr) → IsTrue (names_what_is code f i) → IndexIsWithin t i → AsksWithin s (request t i)
   asks_within f t (Set k e) h at = tt
   asks_within f t (Load k c) h at = subst (λ n. c < n) (sym whole.cells) (and_below _ _ _ h)
-  asks_within f t (Load_at k a len i) h at = subst (λ n. cell_at a (value_in t i) < n) (sym whole.cells) (cell_within (length code.memory) a len (value_in t i) (second _ _ (first _ _ h)) at)
+  asks_within f t (Load_at k a len i) h at =
+      subst (λ n. cell_at a (value_in t i) < n) (sym whole.cells) (cell_within (length code.memory) a len (value_in t i) (second _ _ (first _ _ h)) at)
   asks_within f t (Store c e) h at = subst (λ n. c < n) (sym whole.cells) (below _ _ _ h)
-  asks_within f t (Store_at a len i e) h at = subst (λ n. cell_at a (value_in t i) < n) (sym whole.cells) (cell_within (length code.memory) a len (value_in t i) (first _ _ (first _ _ h)) at)
+  asks_within f t (Store_at a len i e) h at =
+      subst (λ n. cell_at a (value_in t i) < n) (sym whole.cells) (cell_within (length code.memory) a len (value_in t i) (first _ _ (first _ _ h)) at)
   asks_within f t (Inside len i) h at = site_asks _
   asks_within f t (Branch e to) h at = tt
   asks_within f t (Goto to) h at = tt
@@ -85,7 +90,12 @@ module _ {B : Type 0} (code : Code) (s : State B) (whole : IsWhole code s) where
   asks_within f t (Ready v) h at = site_asks _
   asks_within f t (Join v) h at = tt
   asks_within f t (Assert e) h at = site_asks _
+  asks_within f t (Nonzero e) h at = site_asks _
+  asks_within f t (In_range e) h at = site_asks _
+  asks_within f t (Swap k c e) h at = subst (λ n. c < n) (sym whole.cells) (and_below _ _ _ (first _ _ h))
+  asks_within f t (Cas k c e new) h at = subst (λ n. c < n) (sym whole.cells) (and_below _ _ _ (first _ _ (first _ _ h)))
   asks_within f t Fence h at = tt
+  asks_within f t Stbar h at = tt
   asks_within f t Exit h at = tt
 
 site_starts : (code : Code) (t : Local) (i : Instr) (b : Bool) → Starts code t i (site b)
@@ -100,6 +110,8 @@ starts code f t (Inside len i) lawful h = site_starts code t (Inside len i) _
 starts code f t (Holds m) lawful h = site_starts code t (Holds m) _
 starts code f t (Ready v) lawful h = site_starts code t (Ready v) _
 starts code f t (Assert e) lawful h = site_starts code t (Assert e) _
+starts code f t (Nonzero e) lawful h = site_starts code t (Nonzero e) _
+starts code f t (In_range e) lawful h = site_starts code t (In_range e) _
 starts code f t i lawful h = tt
 
 -- a branch asks for nothing
@@ -107,7 +119,8 @@ branch_asks_nothing : (t : Local) (i : Instr) → IsTrue (is_branch i) → reque
 branch_asks_nothing t (Branch e to) h = refl
 branch_asks_nothing t i h = absurd (false≢true h)
 
-module _ {B : Type 0} (ops : BufferOps B) (code : Code) (s : State B) (n : Name) (t : Thread B) (i : Instr) (lawful : IsLawful code) (reached : IsReached ops code s) (there : fin.get s.threads n ≡ Some t) (at : instr_of code t.local ≡ Some i) where
+module _ {B : Type 0} (ops : BufferOps B) (code : Code) (s : State B) (n : Name) (t : Thread B) (i : Instr) (lawful : IsLawful code)
+    (reached : IsReached ops code s) (there : fin.get s.threads n ≡ Some t) (at : instr_of code t.local ≡ Some i) where
   -- what the instruction names is there
   pub can_ask : CanAsk code t.local i
   can_ask =
@@ -116,7 +129,9 @@ module _ {B : Type 0} (ops : BufferOps B) (code : Code) (s : State B) (n : Name)
       let same : whole.function ≡ placed.function = same_Some _ _ (sym whole.there ∙ placed.there) in
       record {
         function = placed.function;
-        names = names-sized code placed.function t.local i (whole.slots ∙ ap (λ f. f.ints) same) (whole.handles ∙ ap (λ f. f.tids) same) (names_next code t.local i lawful at);
+        names =
+            names-sized code placed.function t.local i (whole.slots ∙ ap (λ f. f.ints) same) (whole.handles ∙ ap (λ f. f.tids) same)
+            (names_next code t.local i lawful at);
         held = whole.held;
         cells = lawful.cells;
         index = index_is_within ops code s n t i lawful reached there at;
@@ -124,7 +139,9 @@ module _ {B : Type 0} (ops : BufferOps B) (code : Code) (s : State B) (n : Name)
 
   -- what it asks for is there
   pub asked_is_there : AsksWithin s (request t.local i)
-  asked_is_there = asks_within code s (reached_is_whole ops code s lawful reached) (placed_next code t.local i lawful at).function t.local i (names_next code t.local i lawful at) (index_is_within ops code s n t i lawful reached there at)
+  asked_is_there =
+      asks_within code s (reached_is_whole ops code s lawful reached) (placed_next code t.local i lawful at).function t.local i
+      (names_next code t.local i lawful at) (index_is_within ops code s n t i lawful reached there at)
 
   module _ (counters : CountersAreBelowLast s) (next : t.local.instruction + 1 < 2 ^ 64) where
     pub can_do : CanDo code t.local i

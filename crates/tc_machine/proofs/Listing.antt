@@ -1,5 +1,6 @@
 -- Moves that are listed one after another, and that no enabled one is left out.
-use Rattle.std.proofs.Common.{◌≡◌, ◌+◌, ◌<◌, ℕ, zero, suc, List, [], ◌∷◌, ◌++◌, length, take, get_or, map, cond, Bool, true, false, Option, Some, None, refl, ap, sym, subst, ◌∙◌, append_assoc, arith}
+use Rattle.std.proofs.Common.{◌≡◌, ◌+◌, ◌<◌, ℕ, zero, suc, List, [], ◌∷◌, ◌++◌, length, take, get_or, map, cond, Bool}
+use Rattle.std.proofs.Common.{true, false, Option, Some, None, refl, ap, sym, subst, ◌∙◌, append_assoc, arith}
 use Rattle.std.specs.List.{filter, flat_map, range_with_len, Contains}
 use Rattle.std.specs.Option.{is_some, IsSome, option_and_then}
 use Rattle.std.specs.FinMap as fin
@@ -25,7 +26,8 @@ use Rattle.tc_runs.proofs.Waiters.{waiters_are_threads}
 
 module _ (p : Move → Bool) where
   -- one more candidate
-  pub listed_more : (f : Name → Move) (names : List Name) (i : ℕ) (n : Name) (start old new : List Move) → i < length names → n ≡ get_or names i n → old ≡ start ++ filter p (map f (take i names)) → new ≡ old ++ filter p (f n ∷ []) → new ≡ start ++ filter p (map f (take (i + 1) names))
+  pub listed_more : (f : Name → Move) (names : List Name) (i : ℕ) (n : Name) (start old new : List Move) → i < length names → n ≡ get_or names i n
+      → old ≡ start ++ filter p (map f (take i names)) → new ≡ old ++ filter p (f n ∷ []) → new ≡ start ++ filter p (map f (take (i + 1) names))
   listed_more f names i n start old new lt here so_far e =
       e ∙ ap (λ ms. ms ++ filter p (f n ∷ [])) so_far
       ∙ append_assoc start (filter p (map f (take i names))) (filter p (f n ∷ []))
@@ -61,12 +63,14 @@ none_drains code s n (c ∷ cs) =
     ap (λ b. cond b (Drain n (Some c) ∷ rest) rest) (drain_is_disabled code s n (Some c)) ∙ none_drains code s n cs
 
 -- so the steps are all moves
-pub without_drains : (code : Code) (s : State NoBuffer) (n : Name) → filter (is_enabled no_buffer code s) (steps_of no_buffer code s n) ≡ moves_of no_buffer code s n
+pub without_drains : (code : Code) (s : State NoBuffer) (n : Name)
+    → filter (is_enabled no_buffer code s) (steps_of no_buffer code s n) ≡ moves_of no_buffer code s n
 without_drains code s n =
     let p = is_enabled no_buffer code s in
     let rest = filter p (map (λ c. Drain n (Some c)) (range_with_len 0 (length s.memory))) in
     sym (append-nil (filter p (steps_of no_buffer code s n)))
-    ∙ ap (λ ms. filter p (steps_of no_buffer code s n) ++ ms) (sym (ap (λ b. cond b (Drain n None ∷ rest) rest) (drain_is_disabled code s n None) ∙ none_drains code s n (range_with_len 0 (length s.memory))))
+    ∙ ap (λ ms. filter p (steps_of no_buffer code s n) ++ ms)
+    (sym (ap (λ b. cond b (Drain n None ∷ rest) rest) (drain_is_disabled code s n None) ∙ none_drains code s n (range_with_len 0 (length s.memory))))
     ∙ sym (filter-append p (steps_of no_buffer code s n) (drains_of no_buffer code s n))
 
 first_in : {X : Type 0} (y x : X) (ys : List X) → y ≡ x → Contains (y ∷ ys) x
@@ -94,7 +98,8 @@ in_map f [] k n lt is = absurd (omega arith)
 in_map f (x ∷ names) zero n lt is = first_in (f x) (f n) (map f names) (ap f is)
 in_map f (x ∷ names) (suc k) n lt is = later_in (f x) (f n) (map f names) (in_map f names k n (omega arith) is)
 
-in_flat_map : (f : Name → List Move) (names : List Name) (k : ℕ) (n : Name) (m : Move) → k < length names → get_or names k n ≡ n → Contains (f n) m → Contains (flat_map f names) m
+in_flat_map : (f : Name → List Move) (names : List Name) (k : ℕ) (n : Name) (m : Move) → k < length names → get_or names k n ≡ n → Contains (f n) m
+    → Contains (flat_map f names) m
 in_flat_map f [] k n m lt is c = absurd (omega arith)
 in_flat_map f (x ∷ names) zero n m lt is c = Contains-append_left (f x) (flat_map f names) m (subst (λ y. Contains (f y) m) (sym is) c)
 in_flat_map f (x ∷ names) (suc k) n m lt is c = Contains-append_right (f x) (flat_map f names) m (in_flat_map f names k n m (omega arith) is c)
@@ -108,7 +113,8 @@ module _ (code : Code) (s : State NoBuffer) (reached : IsReached no_buffer code 
   thread_is_listed : (n : Name) → IsSome (fin.get s.threads n) → Contains (fin.keys s.threads) n
   thread_is_listed n there = Contains-from_any tied n (fin.keys s.threads) (sym (fin.contains_key-keys s.threads n) ∙ there)
 
-  step_is_listed : (n : Name) (m : Move) → IsSome (fin.get s.threads n) → Contains (steps_of no_buffer code s n) m → is_enabled no_buffer code s m ≡ true → Contains (enabled_moves no_buffer code s) m
+  step_is_listed : (n : Name) (m : Move) → IsSome (fin.get s.threads n) → Contains (steps_of no_buffer code s n) m
+      → is_enabled no_buffer code s m ≡ true → Contains (enabled_moves no_buffer code s) m
   step_is_listed n m there c enabled =
       let name = thread_is_listed n there in
       let all = Contains-append_left (steps_of no_buffer code s n) (drains_of no_buffer code s n) m c in
@@ -121,10 +127,12 @@ module _ (code : Code) (s : State NoBuffer) (reached : IsReached no_buffer code 
       later_in (Run n) (Wake n u) (map (λ v. Wake n v) (fin.keys s.threads)) (in_map (λ v. Wake n v) (fin.keys s.threads) name.0 u name.1 name.2)
 
   woken_is_thread : (n u : Name) (t : Thread NoBuffer) (i : Instr) (v : State NoBuffer) → wake_of no_buffer s n u t i ≡ Some v → IsSome (fin.get s.threads u)
-  woken_is_thread n u t (Signal c) v h = waiters_are_threads no_buffer code s reached u c (cond_some (set.contains (waiting_on s c) u) (woken no_buffer s n u t c) v h).0
+  woken_is_thread n u t (Signal c) v h =
+      waiters_are_threads no_buffer code s reached u c (cond_some (set.contains (waiting_on s c) u) (woken no_buffer s n u t c) v h).0
   woken_is_thread n u t i v h = absurd (none-some v h)
 
-  listed_move : (m : Move) (v : State NoBuffer) → move_of no_buffer code s m ≡ Some v → is_enabled no_buffer code s m ≡ true → Contains (enabled_moves no_buffer code s) m
+  listed_move : (m : Move) (v : State NoBuffer) → move_of no_buffer code s m ≡ Some v → is_enabled no_buffer code s m ≡ true
+      → Contains (enabled_moves no_buffer code s) m
   listed_move (Run n) v h enabled =
       option_and_then_some _ (fin.get s.threads n) v h (λ t there g.
       step_is_listed n (Run n) (subst IsSome (sym there) refl) (first_in (Run n) (Run n) (map (λ u. Wake n u) (fin.keys s.threads)) refl) enabled)

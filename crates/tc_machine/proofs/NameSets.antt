@@ -36,7 +36,8 @@ taken_out true c = refl
 taken_out false c = refl
 
 -- names that have one more make the set with it
-pub set_of_insert : (ks ls : List Name) (s : FinSet (slice_cmp nat_cmp)) (n : Name) → set_of ks ≡ s → ((q : Name) → is_listed ls q ≡ cond (is_at (slice_cmp nat_cmp n) q) true (is_listed ks q)) → set_of ls ≡ set.insert s n
+pub set_of_insert : (ks ls : List Name) (s : FinSet (slice_cmp nat_cmp)) (n : Name) → set_of ks ≡ s
+    → ((q : Name) → is_listed ls q ≡ cond (is_at (slice_cmp nat_cmp n) q) true (is_listed ks q)) → set_of ls ≡ set.insert s n
 set_of_insert ks ls s n e h = set.same_set nat_list_cmp_total exact_bytes _ _ (λ q.
     contains-set_of ls q ∙ h q
     ∙ ap (λ b. cond b true (is_listed ks q)) ((eq_by_cmp_equiv nat_list_cmp_total).symm n q)
@@ -45,7 +46,8 @@ set_of_insert ks ls s n e h = set.same_set nat_list_cmp_total exact_bytes _ _ (�
     ∙ sym (set.contains-insert nat_list_cmp_total s n q))
 
 -- names that lack one make the set without it
-pub set_of_remove : (ks ls : List Name) (s : FinSet (slice_cmp nat_cmp)) (n : Name) → set_of ks ≡ s → ((q : Name) → is_listed ls q ≡ cond (is_at (slice_cmp nat_cmp n) q) false (is_listed ks q)) → set_of ls ≡ set.remove s n
+pub set_of_remove : (ks ls : List Name) (s : FinSet (slice_cmp nat_cmp)) (n : Name) → set_of ks ≡ s
+    → ((q : Name) → is_listed ls q ≡ cond (is_at (slice_cmp nat_cmp n) q) false (is_listed ks q)) → set_of ls ≡ set.remove s n
 set_of_remove ks ls s n e h = set.same_set nat_list_cmp_total exact_bytes _ _ (λ q.
     contains-set_of ls q ∙ h q
     ∙ ap (λ b. cond b false (is_listed ks q)) ((eq_by_cmp_equiv nat_list_cmp_total).symm n q)

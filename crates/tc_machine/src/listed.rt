@@ -52,7 +52,8 @@ fn push_steps(
     name: &ThreadName,
 ) -> Result<(), AllocError>
     requires reached { IsReached no_buffer code.now state.now }
-    ensures { OnOk result (found.new.items ≡ found.old.items ++ filter (is_enabled no_buffer code.now state.now) (steps_of no_buffer code.now state.now name.now)) }
+    ensures { OnOk result (found.new.items
+        ≡ found.old.items ++ filter (is_enabled no_buffer code.now state.now) (steps_of no_buffer code.now state.now name.now)) }
 {
     push_enabled(found, code, state, Move::Run(name.clone()?))?;
     if signals(code, state, name) {

@@ -1,5 +1,6 @@
 //! What the requests of instructions are made of.
 ghost use Rattle.std.specs.Prelude.{◌≡◌, ◌+◌, ◌<◌, ◌^◌, unsigned_abs};
+ghost use Rattle.tc_base.specs.Arith.{is_distance};
 ghost use Rattle.tc_code.specs.Step as plain;
 
 use tc_base::{Handle, Request};
@@ -20,6 +21,13 @@ pub(crate) fn is_within(length: u32, index: i32) -> bool
     ensures { result ≡ plain.is_within length index }
 {
     0 <= index && i64::from(index) < i64::from(length)
+}
+
+/// Whether a number is the distance of a shift.
+pub(crate) fn is_distance(number: i32) -> bool
+    ensures { result ≡ is_distance number }
+{
+    0 <= number && number < 32
 }
 
 /// The cell at an index of the array that begins at a cell.

@@ -1,5 +1,6 @@
 //! States of the machine.
-ghost use Rattle.std.specs.Prelude.{◌≡◌, ◌+◌, ◌-◌, ◌<◌, ◌^◌, ℕ, false, length, replicate, slice_set, IfOk, IfSome, OnOk, OnErr, MatchResult, option_map, Option, Some, None, IsSome, IsSomeAnd};
+ghost use Rattle.std.specs.Prelude.{◌≡◌, ◌+◌, ◌-◌, ◌<◌, ◌^◌, ℕ, false, length, replicate, slice_set};
+ghost use Rattle.std.specs.Prelude.{IfOk, IfSome, OnOk, OnErr, MatchResult, option_map, Option, Some, None, IsSome, IsSomeAnd};
 ghost use Rattle.std.specs.FinMap as map;
 ghost use Rattle.std.specs.FinSet as set;
 ghost use Rattle.tc_base.specs.Buffers.{no_buffer};
@@ -207,6 +208,7 @@ impl State {
             | Request::WakeOne(_)
             | Request::Await(_)
             | Request::OrderStores
+            | Request::Bar
             | Request::Finish => self.threads.advance(name, instr, 0)?,
             Request::Read(cell) => {
                 let taken = self.memory[cell as usize];
@@ -215,6 +217,16 @@ impl State {
             Request::Write(cell, value) => {
                 self.threads.advance(name, instr, 0)?;
                 self.memory[cell as usize] = value;
+            }
+            Request::Exchange(cell, value) => {
+                let taken = self.memory[cell as usize];
+                self.threads.advance(name, instr, taken)?;
+                self.memory[cell as usize] = value;
+            }
+            Request::CompareExchange(cell, expected, value) => {
+                let taken = self.memory[cell as usize];
+                self.threads.advance(name, instr, taken)?;
+                self.memory[cell as usize] = if taken == expected { value } else { taken };
             }
             Request::Acquire(mutex) | Request::EndWait(_, mutex) => self.take(name, instr, mutex)?,
             Request::Release(mutex) => {

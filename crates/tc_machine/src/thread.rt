@@ -12,7 +12,7 @@ ghost use Rattle.tc_code.specs.Step as plain;
 ghost use Rattle.tc_machine.specs.helpers.CanDo.{CanAsk, CanDo, HasRoom, is_branch};
 
 use crate::outcomes::Outcomes;
-use crate::request::{can_be_joined, cell_at, child_number, is_within, site};
+use crate::request::{can_be_joined, cell_at, child_number, is_distance, is_within, site};
 use std::alloc::{AllocError, Global};
 use std::marker::Model;
 use tc_base::{Handle, Request};
@@ -168,7 +168,21 @@ impl Thread {
             Instr::Ready { handle } => site(can_be_joined(self.handles[*handle as usize])),
             Instr::Join { handle } => Request::Await(child_number(self.handles[*handle as usize])),
             Instr::Assert(condition) => site(value(condition, &self.slots) != 0),
+            Instr::Nonzero(e) => site(value(e, &self.slots) != 0),
+            Instr::InRange(e) => site(is_distance(value(e, &self.slots))),
+            Instr::Swap { cell, value: e, .. } => Request::Exchange(*cell, value(e, &self.slots)),
+            Instr::Cas {
+                cell,
+                expected,
+                value: e,
+                ..
+            } => Request::CompareExchange(
+                *cell,
+                value(expected, &self.slots),
+                value(e, &self.slots),
+            ),
             Instr::Fence => Request::OrderStores,
+            Instr::Stbar => Request::Bar,
             Instr::Exit => Request::Finish,
         }
     }
@@ -184,7 +198,7 @@ impl Thread {
         }
     }
 
-    /// Does an instruction that doesn't fail, `taken` being what a load takes. Only the outcome of a branch takes
+    /// Does an instruction that doesn't fail, `taken` being what it takes from memory, if it takes anything. Only the outcome of a branch takes
     /// memory, before anything changes.
     pub(crate) fn advance(&mut self, instr: &Instr, taken: i32) -> Result<(), AllocError>
         requires { (code : flat.Code) × CanDo code self.old.local (plain_instr instr.now) }
@@ -197,7 +211,10 @@ impl Thread {
                 let value = value(e, &self.slots);
                 self.set(*slot, value);
             }
-            Instr::Load { slot, .. } | Instr::LoadAt { slot, .. } => self.set(*slot, taken),
+            Instr::Load { slot, .. }
+            | Instr::LoadAt { slot, .. }
+            | Instr::Swap { slot, .. }
+            | Instr::Cas { slot, .. } => self.set(*slot, taken),
             Instr::Branch { condition, target } => {
                 let outcome = value(condition, &self.slots) != 0;
                 self.branch(outcome, *target)?;
@@ -216,7 +233,10 @@ impl Thread {
             | Instr::Broadcast { .. }
             | Instr::Ready { .. }
             | Instr::Assert(_)
-            | Instr::Fence => self.go_on(),
+            | Instr::Nonzero(_)
+            | Instr::InRange(_)
+            | Instr::Fence
+            | Instr::Stbar => self.go_on(),
         }
         Ok(())
     }

@@ -69,7 +69,7 @@ impl Threads {
         self.by_name.get(name)
     }
 
-    /// The thread does an instruction that doesn't fail, `taken` being what a load takes.
+    /// The thread does an instruction that doesn't fail, `taken` being what it takes from memory, if it takes anything.
     pub(crate) fn advance(
         &mut self,
         name: &ThreadName,
@@ -117,7 +117,8 @@ impl Threads {
         requires is_new { map.get self.old child ≡ None }
         requires no_branch { is_branch (plain_instr instr.now) ≡ false }
         ensures ok { OnOk result (IfSome (map.get self.old name.now)
-            (λ t. self.new ≡ map.insert (map.insert self.old name.now (record t { local = local_after t.local (plain_instr instr.now) (pos 0) })) child thread)) }
+            (λ t. self.new
+            ≡ map.insert (map.insert self.old name.now (record t { local = local_after t.local (plain_instr instr.now) (pos 0) })) child thread)) }
         ensures err { OnErr result (self.new ≡ self.old) }
     {
         self.add(child, thread)?;

@@ -3,12 +3,13 @@ use Rattle.std.proofs.Common.{◌≡◌, ◌⊎◌, inl, inr, ℕ, ◌+◌, leng
 use Rattle.std.proofs.lemmas.List.{length-set}
 use Rattle.tc_base.specs.States.{Local}
 use Rattle.tc_code.specs.Expr.{Expr}
-use Rattle.tc_code.specs.Instr.{Instr, Set, Load, Load_at, Branch, Goto, Lock, Unlock, Sleep, Wake, Create, Join}
+use Rattle.tc_code.specs.Instr.{Instr, Set, Load, Load_at, Branch, Goto, Lock, Unlock, Sleep, Wake, Create, Join, Swap, Cas}
 use Rattle.tc_code.specs.Lawful.{target}
 use Rattle.tc_code.specs.Step.{branched, local_after}
 
 -- a branch changes the place, the outcomes and the count of steps, and nothing else
-pub branch_is : (t : Local) (b : Bool) (to : ℕ) → branched t b to ≡ record t { instruction = cond b (t.instruction + 1) to; outcomes = t.outcomes ++ b ∷ []; steps = t.steps + 1 }
+pub branch_is : (t : Local) (b : Bool) (to : ℕ) → branched t b to ≡ record t
+    { instruction = cond b (t.instruction + 1) to; outcomes = t.outcomes ++ b ∷ []; steps = t.steps + 1 }
 branch_is t true to = refl
 branch_is t false to = refl
 
@@ -39,6 +40,8 @@ pub after_has : (t : Local) (i : Instr) (v : ℤ) → HasAsMuch t (local_after t
 after_has t (Set k e) v = record { function = refl; slots = length-set t.slots k _; handles = refl; held = refl }
 after_has t (Load k c) v = record { function = refl; slots = length-set t.slots k v; handles = refl; held = refl }
 after_has t (Load_at k first len i) v = record { function = refl; slots = length-set t.slots k v; handles = refl; held = refl }
+after_has t (Swap k c e) v = record { function = refl; slots = length-set t.slots k v; handles = refl; held = refl }
+after_has t (Cas k c e new) v = record { function = refl; slots = length-set t.slots k v; handles = refl; held = refl }
 after_has t (Branch e to) v = subst (HasAsMuch t) (sym (branch_is t _ to)) (record { function = refl; slots = refl; handles = refl; held = refl })
 after_has t (Lock m) v = record { function = refl; slots = refl; handles = refl; held = length-set t.held m true }
 after_has t (Unlock m) v = record { function = refl; slots = refl; handles = refl; held = length-set t.held m false }

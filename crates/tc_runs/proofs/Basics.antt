@@ -1,5 +1,6 @@
 -- Tests, options and lists.
-use Rattle.std.proofs.Common.{◌≡◌, ◌⊎◌, inl, inr, ℕ, zero, suc, List, [], ◌∷◌, Bool, true, false, ◌&&◌, IsTrue, cond, IsSome, Option, Some, None, refl, ap, sym, subst, replicate, slice_set, slice_index_or, true≢false}
+use Rattle.std.proofs.Common.{◌≡◌, ◌⊎◌, inl, inr, ℕ, zero, suc, List, [], ◌∷◌, Bool, true, false, ◌&&◌, IsTrue, cond, IsSome}
+use Rattle.std.proofs.Common.{Option, Some, None, refl, ap, sym, subst, replicate, slice_set, slice_index_or, true≢false}
 use Rattle.std.specs.Option.{option_map_or}
 use Rattle.std.proofs.lemmas.Option.{none-some}
 
@@ -49,7 +50,8 @@ index_or-set_default (x ∷ xs) zero d = refl
 index_or-set_default (x ∷ xs) (suc k) d = index_or-set_default xs k d
 
 -- what is there after a write was written, or was there
-pub index_or-set_cases : {X : Type 0} (xs : List X) (k j : ℕ) (x d : X) → ((j ≡ k) × (slice_index_or (slice_set xs k x) j d ≡ x)) ⊎ (slice_index_or (slice_set xs k x) j d ≡ slice_index_or xs j d)
+pub index_or-set_cases : {X : Type 0} (xs : List X) (k j : ℕ) (x d : X)
+    → ((j ≡ k) × (slice_index_or (slice_set xs k x) j d ≡ x)) ⊎ (slice_index_or (slice_set xs k x) j d ≡ slice_index_or xs j d)
 index_or-set_cases [] k j x d = inr refl
 index_or-set_cases (y ∷ ys) zero zero x d = inl (refl, refl)
 index_or-set_cases (y ∷ ys) zero (suc j) x d = inr refl

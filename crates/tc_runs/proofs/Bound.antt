@@ -23,12 +23,14 @@ not_target : (is : List Instr) (k : ℕ) (j : Instr) → slice_get is k ≡ Some
 not_target is k j there bound t = true≢false (sym bound ∙ ap is_bound (same_Some j t.instr (sym there ∙ t.there)) ∙ t.unbound)
 
 -- so a thread comes to it from the place before
-from_before : (is : List Instr) (p k : ℕ) (i j : Instr) → slice_get is p ≡ Some i → (target i ≡ Some k → IsTarget is k) → slice_get is k ≡ Some j → is_bound j ≡ true → Leads i p k → k ≡ suc p
+from_before : (is : List Instr) (p k : ℕ) (i j : Instr) → slice_get is p ≡ Some i → (target i ≡ Some k → IsTarget is k) → slice_get is k ≡ Some j
+    → is_bound j ≡ true → Leads i p k → k ≡ suc p
 from_before is p k i j at jumps there bound (inl next) = omega (arith, next)
 from_before is p k i j at jumps there bound (inr jump) = absurd (not_target is k j there bound (jumps jump))
 
 -- what stands before a bound instruction is what the thread did
-came_before : (code : Code) (t : Local) (i j b : Instr) (v : ℤ) → IsLawful code → instr_of code t ≡ Some i → instr_of code (local_after t i v) ≡ Some j → is_bound j ≡ true
+came_before : (code : Code) (t : Local) (i j b : Instr) (v : ℤ) → IsLawful code → instr_of code t ≡ Some i
+    → instr_of code (local_after t i v) ≡ Some j → is_bound j ≡ true
     → ((g : Func) → IsLawfulFunction code g → (k : ℕ) → slice_get g.instrs k ≡ Some j → StandsBefore g.instrs k b) → i ≡ b
 came_before code t i j b v lawful at next bound stands =
     let here = placed_next code t i lawful at in
@@ -51,7 +53,8 @@ ready_after t i v h is went =
     (site_is_true (can_be_joined (handle_of t h)) (subst (λ j. is_fail (request t j) ≡ false) is went))
 
 -- after each instruction a thread has what a bound one needs
-has_tested_after : (code : Code) (t : Local) (i : Instr) (v : ℤ) → IsLawful code → instr_of code t ≡ Some i → is_fail (request t i) ≡ false → HasTested code (local_after t i v)
+has_tested_after : (code : Code) (t : Local) (i : Instr) (v : ℤ) → IsLawful code → instr_of code t ≡ Some i → is_fail (request t i) ≡ false
+    → HasTested code (local_after t i v)
 has_tested_after code t i v lawful at went = record {
   unlock = λ m next. holds_after t i v m (came_before code t i (Unlock m) (Holds m) v lawful at next refl (λ g is k. is.unlock k m)) went;
   sleep = λ c m next. holds_after t i v m (came_before code t i (Sleep c m) (Holds m) v lawful at next refl (λ g is k. is.sleep k c m)) went;

@@ -1,5 +1,6 @@
 -- What a step changes.
-use Rattle.std.proofs.Common.{◌≡◌, ◌∙◌, ◌⊎◌, inl, inr, ℕ, ◌+◌, ◌≤◌, ℤ, pos, List, Bool, true, false, IsTrue, Option, Some, None, refl, ap, sym, subst, arith, slice_set, slice_index_or, ◌||◌, true≢false}
+use Rattle.std.proofs.Common.{◌≡◌, ◌∙◌, ◌⊎◌, inl, inr, ℕ, ◌+◌, ◌≤◌, ℤ, pos, List, Bool, true, false, IsTrue, Option, Some}
+use Rattle.std.proofs.Common.{None, refl, ap, sym, subst, arith, slice_set, slice_index_or, ◌||◌, true≢false}
 use Rattle.std.specs.FinMap as fin
 use Rattle.std.specs.FinSet as set
 use Rattle.std.specs.Ordering.{nat_cmp}
@@ -10,7 +11,8 @@ use Rattle.tc_base.specs.Buffers.{BufferOps}
 use Rattle.tc_base.specs.States.{Local, Thread, State}
 use Rattle.tc_base.specs.declared.moves.Move.{Move}
 use Rattle.tc_base.specs.declared.moves.Move.TheVariants as move
-use Rattle.tc_code.specs.Instr.{Instr, Load, Load_at, Store, Store_at, Inside, Holds, Lock, Unlock, Sleep, Wake, Signal, Broadcast, Create, Ready, Assert}
+use Rattle.tc_code.specs.Instr.{Instr, Load, Load_at, Store, Store_at, Inside, Holds, Lock, Unlock, Sleep, Wake}
+use Rattle.tc_code.specs.Instr.{Signal, Broadcast, Create, Ready, Assert, Nonzero, In_range, Swap, Cas}
 use Rattle.tc_code.specs.Code.{Code}
 use Rattle.tc_base.specs.declared.request.Request.{Request}
 use Rattle.tc_base.specs.declared.request.Request.TheVariants.{WakeOne, Fail}
@@ -74,7 +76,8 @@ lets s n (WakeOne c) = true
 lets s n r = is_let s n r
 
 -- who waits after one set is written waited before, or is in that set
-waits_after_set : (waiters : List NameSet) (c d : ℕ) (new : NameSet) (q : Name) → Waits (slice_set waiters c new) d q → Waits waiters d q ⊎ ((d ≡ c) × IsTrue (set.contains new q))
+waits_after_set : (waiters : List NameSet) (c d : ℕ) (new : NameSet) (q : Name) → Waits (slice_set waiters c new) d q
+    → Waits waiters d q ⊎ ((d ≡ c) × IsTrue (set.contains new q))
 waits_after_set waiters c d new q h =
     elim (index_or-set_cases waiters c d new set.empty) [
       | inl is ↦ inr (is.0, subst (λ ns. IsTrue (set.contains ns q)) is.1 h)
@@ -90,7 +93,8 @@ added ns n q h =
     ]
 
 -- who waits after a sleep waited before, or is the one that sleeps
-sleeps : (waiters : List NameSet) (c : ℕ) (n q : Name) (d : ℕ) → Waits (slice_set waiters c (set.insert (slice_index_or waiters c set.empty) n)) d q → Waits waiters d q ⊎ ((d ≡ c) × (q ≡ n))
+sleeps : (waiters : List NameSet) (c : ℕ) (n q : Name) (d : ℕ) → Waits (slice_set waiters c (set.insert (slice_index_or waiters c set.empty) n)) d q
+    → Waits waiters d q ⊎ ((d ≡ c) × (q ≡ n))
 sleeps waiters c n q d h =
     elim (waits_after_set waiters c d _ q h) [
       | inl old ↦ inl old
@@ -109,11 +113,13 @@ empties waiters c d q h =
     ]
 
 -- who waits after a signal waited before
-removes : (waiters : List NameSet) (c : ℕ) (v : Name) (d : ℕ) (q : Name) → Waits (slice_set waiters c (set.remove (slice_index_or waiters c set.empty) v)) d q → Waits waiters d q
+removes : (waiters : List NameSet) (c : ℕ) (v : Name) (d : ℕ) (q : Name)
+    → Waits (slice_set waiters c (set.remove (slice_index_or waiters c set.empty) v)) d q → Waits waiters d q
 removes waiters c v d q h =
     elim (waits_after_set waiters c d _ q h) [
       | inl old ↦ old
-      | inr is ↦ subst (λ k. Waits waiters k q) (sym is.0) (second _ _ (sym (set.contains-remove nat_list_cmp_total (slice_index_or waiters c set.empty) v q) ∙ is.1))
+      | inr is ↦ subst (λ k. Waits waiters k q) (sym is.0)
+          (second _ _ (sym (set.contains-remove nat_list_cmp_total (slice_index_or waiters c set.empty) v q) ∙ is.1))
     ]
 
 module _ {B : Type 0} (ops : BufferOps B) (code : Code) where
@@ -155,7 +161,9 @@ module _ {B : Type 0} (ops : BufferOps B) (code : Code) where
 
   module _ (s : State B) (n : Name) (t : Thread B) (there : fin.get s.threads n ≡ Some t) where
     -- a thread goes on
-    goes : (u : State B) (i : Instr) (v : ℤ) (new : Thread B) → instr_of code t.local ≡ Some i → is_fail (request t.local i) ≡ false → IsTrue (lets s n (request t.local i)) → new.local ≡ local_after t.local i v → u.threads ≡ with_child t.local n i (fin.insert s.threads n new) → u.owners ≡ owners_after s.owners n (hold_of i) → StillWaits s u n i → Change s u
+    goes : (u : State B) (i : Instr) (v : ℤ) (new : Thread B) → instr_of code t.local ≡ Some i → is_fail (request t.local i) ≡ false
+        → IsTrue (lets s n (request t.local i)) → new.local ≡ local_after t.local i v
+        → u.threads ≡ with_child t.local n i (fin.insert s.threads n new) → u.owners ≡ owners_after s.owners n (hold_of i) → StillWaits s u n i → Change s u
     goes u i v new at passes allowed local threads owners waiters =
         Went_on n i (record {
           before = t;
@@ -172,11 +180,23 @@ module _ {B : Type 0} (ops : BufferOps B) (code : Code) where
         })
 
     -- a site goes on, or fails at its place
-    site_performed : (i : Instr) (b : Bool) → instr_of code t.local ≡ Some i → request t.local i ≡ site b → ((threads : ByName (Thread B)) → threads ≡ with_child t.local n i threads) → s.owners ≡ owners_after s.owners n (hold_of i) → Change s (perform ops code s n t i (site b))
+    site_performed : (i : Instr) (b : Bool) → instr_of code t.local ≡ Some i → request t.local i ≡ site b
+        → ((threads : ByName (Thread B)) → threads ≡ with_child t.local n i threads) → s.owners ≡ owners_after s.owners n (hold_of i)
+        → Change s (perform ops code s n t i (site b))
     site_performed i true at asks threads owners =
         goes _ i (pos 0) _ at (ap is_fail asks) (ap (lets s n) asks) refl (threads _) owners (λ q d h. inl h)
     site_performed i false at asks threads owners =
-        Stayed n (record { before = t; there = there; after = _; steps = t.local.steps + 1; few = omega arith; local = refl; threads = refl; owners = refl; waiters = refl })
+        Stayed n (record {
+          before = t;
+          there = there;
+          after = _;
+          steps = t.local.steps + 1;
+          few = omega arith;
+          local = refl;
+          threads = refl;
+          owners = refl;
+          waiters = refl;
+        })
 
     -- what an instruction changes
     performed : (i : Instr) → instr_of code t.local ≡ Some i → IsTrue (is_let s n (request t.local i)) → Change s (perform ops code s n t i (request t.local i))
@@ -190,6 +210,10 @@ module _ {B : Type 0} (ops : BufferOps B) (code : Code) where
         either (Change s) ops.buffered _ _
         (goes _ (Store_at a len i e) (pos 0) _ at refl may refl refl refl (λ q d h. inl h))
         (goes _ (Store_at a len i e) (pos 0) _ at refl may refl refl refl (λ q d h. inl h))
+    performed (Swap k c e) at may = goes _ (Swap k c e) _ _ at refl may refl refl refl (λ q d h. inl h)
+    performed (Cas k c e new) at may = goes _ (Cas k c e new) _ _ at refl may refl refl refl (λ q d h. inl h)
+    performed (Nonzero e) at may = site_performed (Nonzero e) _ at refl (λ m. refl) refl
+    performed (In_range e) at may = site_performed (In_range e) _ at refl (λ m. refl) refl
     performed (Inside len e) at may = site_performed (Inside len e) _ at refl (λ m. refl) refl
     performed (Holds m) at may = site_performed (Holds m) _ at refl (λ m. refl) refl
     performed (Ready k) at may = site_performed (Ready k) _ at refl (λ m. refl) refl

@@ -55,7 +55,8 @@ module _ {B : Type 0} where
   next_is_new threads n k tree count = none_unless _ (λ some. omega (arith, ((tree n (k + 1)).0 some).1, count))
 
   -- a thread that is put in with as many children leaves all counts as they were
-  same_children : (threads : ByName (Thread B)) (n : Name) (t : Thread B) → t.local.children ≡ children_of threads n → (q : Name) → children_of (fin.insert threads n t) q ≡ children_of threads q
+  same_children : (threads : ByName (Thread B)) (n : Name) (t : Thread B) → t.local.children ≡ children_of threads n → (q : Name)
+      → children_of (fin.insert threads n t) q ≡ children_of threads q
   same_children threads n t same q =
       elim (same_or_apart q n) [
         | inl e ↦ ap (children_of (fin.insert threads n t)) e ∙ ap count (get_put threads n t) ∙ same ∙ ap (children_of threads) (sym e)
@@ -63,14 +64,16 @@ module _ {B : Type 0} where
       ]
 
   -- so it keeps the tree
-  kept_tree : (threads : ByName (Thread B)) (n : Name) (t new : Thread B) → fin.get threads n ≡ Some t → new.local.children ≡ t.local.children → IsTree threads → IsTree (fin.insert threads n new)
+  kept_tree : (threads : ByName (Thread B)) (n : Name) (t new : Thread B) → fin.get threads n ≡ Some t → new.local.children ≡ t.local.children
+      → IsTree threads → IsTree (fin.insert threads n new)
   kept_tree threads n t new there same tree q k =
       let counts = same_children threads n new (same ∙ sym (ap count there)) q in (
         λ some. let is = (tree q k).0 (there_before_put threads n new (child q k) (some_is _ t there) some) in (is.0, omega (arith, is.1, counts)),
         λ is. stays_after_put threads n new (child q k) ((tree q k).1 (is.0, omega (arith, is.1, counts))),
       )
 
-  module _ (threads : ByName (Thread B)) (n : Name) (t new baby : Thread B) (there : fin.get threads n ≡ Some t) (more : new.local.children ≡ t.local.children + 1) (none : baby.local.children ≡ 0) (tree : IsTree threads) where
+  module _ (threads : ByName (Thread B)) (n : Name) (t new baby : Thread B) (there : fin.get threads n ≡ Some t)
+      (more : new.local.children ≡ t.local.children + 1) (none : baby.local.children ≡ 0) (tree : IsTree threads) where
     -- the name of the new child
     abbrev child_name : Name
     child_name = child n (t.local.children + 1)
@@ -92,8 +95,10 @@ module _ {B : Type 0} where
     -- it is there, and its parent has created it
     new_child : (q : Name) (k : ℕ) → child q k ≡ child_name → IsSome (fin.get grown (child q k)) ↔ ((1 ≤ k) × (k ≤ children_of grown q))
     new_child q k same =
-        let parts = same_from_push q n k (t.local.children + 1) same in
-        (λ some. (omega (arith, parts.1), omega (arith, parts.1, parent_counts q parts.0)), λ is. some_is _ baby (ap (fin.get grown) same ∙ get_put (fin.insert threads n new) child_name baby))
+        let parts = same_from_push q n k (t.local.children + 1) same in (
+          λ some. (omega (arith, parts.1), omega (arith, parts.1, parent_counts q parts.0)),
+          λ is. some_is _ baby (ap (fin.get grown) same ∙ get_put (fin.insert threads n new) child_name baby),
+        )
 
     -- no other number of a child is new
     other_numbers : (q : Name) (k : ℕ) → child q k ≢ child_name → (k ≤ children_of grown q) ↔ (k ≤ children_of threads q)
@@ -116,7 +121,9 @@ module _ {B : Type 0} where
           | inl same ↦ new_child q k same
           | inr old ↦
               let was = get_put_apart (fin.insert threads n new) child_name baby (child q k) old in (
-                λ some. let is = (tree q k).0 (there_before_put threads n new (child q k) (some_is _ t there) (subst IsSome was some)) in (is.0, (other_numbers q k old).1 is.1),
+                λ some. let is =
+                    (tree q k).0 (there_before_put threads n new (child q k) (some_is _ t there) (subst IsSome was some)) in
+                    (is.0, (other_numbers q k old).1 is.1),
                 λ is. subst IsSome (sym was) (stays_after_put threads n new (child q k) ((tree q k).1 (is.0, (other_numbers q k old).0 is.1))),
               )
         ]
@@ -124,7 +131,8 @@ module _ {B : Type 0} where
 module _ {B : Type 0} (ops : BufferOps B) (code : Code) where
   -- an instruction keeps the tree
   tree_goes : (s u : State B) (n : Name) (i : Instr) → Goes ops code s u n i → IsTree s.threads → IsTree u.threads
-  tree_goes s u n (Create h f es) g tree = subst IsTree (sym g.threads) (grown_tree s.threads n g.before g.after _ g.there (ap (λ t. t.children) g.local) refl tree)
+  tree_goes s u n (Create h f es) g tree =
+      subst IsTree (sym g.threads) (grown_tree s.threads n g.before g.after _ g.there (ap (λ t. t.children) g.local) refl tree)
   tree_goes s u n (Branch e to) g tree =
       subst IsTree (sym g.threads) (kept_tree s.threads n g.before g.after g.there (ap (λ t. t.children) (g.local ∙ branch_is g.before.local _ to)) tree)
   tree_goes s u n _ g tree = subst IsTree (sym g.threads) (kept_tree s.threads n g.before g.after g.there (ap (λ t. t.children) g.local) tree)
@@ -182,9 +190,11 @@ module _ {B : Type 0} (ops : BufferOps B) (code : Code) where
       }
 
   -- the next child of a thread isn't there
-  pub child_is_new : (s : State B) (n : Name) (t : Thread B) → IsReached ops code s → fin.get s.threads n ≡ Some t → fin.get s.threads (child n (t.local.children + 1)) ≡ None
+  pub child_is_new : (s : State B) (n : Name) (t : Thread B) → IsReached ops code s → fin.get s.threads n ≡ Some t
+      → fin.get s.threads (child n (t.local.children + 1)) ≡ None
   child_is_new s n t r there = next_is_new s.threads n t.local.children (reached_tree s r) (ap count there)
 
   -- no thread that is there has the name of a next child
-  pub not_next_child : (s : State B) (n q : Name) (t x : Thread B) → IsReached ops code s → fin.get s.threads n ≡ Some t → fin.get s.threads q ≡ Some x → q ≢ child n (t.local.children + 1)
+  pub not_next_child : (s : State B) (n q : Name) (t x : Thread B) → IsReached ops code s → fin.get s.threads n ≡ Some t
+      → fin.get s.threads q ≡ Some x → q ≢ child n (t.local.children + 1)
   not_next_child s n q t x r there here same = none-some x (sym (child_is_new s n t r there) ∙ ap (fin.get s.threads) (sym same) ∙ here)

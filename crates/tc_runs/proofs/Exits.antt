@@ -1,5 +1,6 @@
 -- A thread has exited exactly where its last instruction was an exit.
-use Rattle.std.proofs.Common.{◌≡◌, ◌∙◌, ℕ, ◌+◌, ◌-◌, ◌<◌, length, List, [], Bool, true, false, IsTrue, Option, Some, None, refl, ap, sym, subst, arith, cond, ℤ, slice_get, inl, inr}
+use Rattle.std.proofs.Common.{◌≡◌, ◌∙◌, ℕ, ◌+◌, ◌-◌, ◌<◌, length, List, [], Bool, true, false, IsTrue, Option}
+use Rattle.std.proofs.Common.{Some, None, refl, ap, sym, subst, arith, cond, ℤ, slice_get, inl, inr}
 use Rattle.std.specs.Prelude.{not, ◌==◌, position}
 use Rattle.std.proofs.lemmas.Bool.{false≢true, true≢false, cases_lt, true_from_ne_false}
 use Rattle.std.proofs.lemmas.Bool.Decides.{nat_tests}
@@ -24,7 +25,8 @@ is_exit Exit = true
 is_exit _ = false
 
 -- after an instruction that isn't an exit there is another
-goes_on_below : (code : Code) (g : Func) (k : ℕ) (i : Instr) → IsLawfulFunction code g → slice_get g.instrs k ≡ Some i → is_exit i ≡ false → k + 1 < length g.instrs
+goes_on_below : (code : Code) (g : Func) (k : ℕ) (i : Instr) → IsLawfulFunction code g → slice_get g.instrs k ≡ Some i → is_exit i ≡ false
+    → k + 1 < length g.instrs
 goes_on_below code g k i is at other =
     let within = slice_get_within g.instrs k i at in
     elim (cases_lt (k + 1) (length g.instrs)) [
@@ -51,12 +53,14 @@ record Exits (code : Code) (t : Local) : Type 0 where
   below : (g : Func) → t.has_exited ≡ false → slice_get code.functions t.function ≡ Some g → t.instruction < length g.instrs
 
 -- after an instruction that isn't an exit a thread is at an instruction
-next_below : (code : Code) (g : Func) (p k : ℕ) (i : Instr) → IsLawfulFunction code g → slice_get g.instrs p ≡ Some i → is_exit i ≡ false → Leads i p k → k < length g.instrs
+next_below : (code : Code) (g : Func) (p k : ℕ) (i : Instr) → IsLawfulFunction code g → slice_get g.instrs p ≡ Some i → is_exit i ≡ false
+    → Leads i p k → k < length g.instrs
 next_below code g p k i is at other (inl next) = omega (arith, next, goes_on_below code g p i is at other)
 next_below code g p k i is at other (inr jump) = let to = is.jump p k i at jump in slice_get_within g.instrs k to.instr to.there
 
 -- so the thread stays in its function
-after_other : (code : Code) (t : Local) (i : Instr) (v : ℤ) → IsPlaced code t.function t.instruction i → t.has_exited ≡ false → is_exit i ≡ false → Exits code (local_after t i v)
+after_other : (code : Code) (t : Local) (i : Instr) (v : ℤ) → IsPlaced code t.function t.instruction i → t.has_exited ≡ false → is_exit i ≡ false
+    → Exits code (local_after t i v)
 after_other code t i v placed here other = record {
   past = λ gone. absurd (false≢true (sym (after_stays t i v other ∙ here) ∙ gone));
   below = λ g not_yet there.

@@ -1,5 +1,6 @@
 -- A thread goes by itself, with the values that its loads take.
-use Rattle.std.proofs.Common.{◌≡◌, ◌≢◌, ◌∙◌, inl, inr, ℕ, zero, suc, ◌+◌, List, [], ◌∷◌, ◌++◌, Bool, true, false, Option, Some, refl, ap, sym, subst, arith, cond, ℤ, pos}
+use Rattle.std.proofs.Common.{◌≡◌, ◌≢◌, ◌∙◌, inl, inr, ℕ, zero, suc, ◌+◌, List, [], ◌∷◌, ◌++◌, Bool, true}
+use Rattle.std.proofs.Common.{false, Option, Some, refl, ap, sym, subst, arith, cond, ℤ, pos}
 use Rattle.std.specs.Option.{option_map_or}
 use Rattle.std.specs.FinMap as fin
 use Rattle.std.proofs.lemmas.Bool.{true≢false}
@@ -12,8 +13,8 @@ use Rattle.tc_base.specs.declared.moves.Move.TheVariants as move
 use Rattle.tc_code.specs.Instr.{Instr, Signal}
 use Rattle.tc_code.specs.Code.{Code}
 use Rattle.tc_base.specs.declared.request.Request.{Request}
-use Rattle.tc_base.specs.declared.request.Request.TheVariants.{Read, Write, WakeOne, Start, Fail}
-use Rattle.tc_code.specs.Step.{request, stepped, local_after, instr_of, loaded, perform, step}
+use Rattle.tc_base.specs.declared.request.Request.TheVariants.{Read, Write, Exchange, CompareExchange, Bar, WakeOne, Start, Fail}
+use Rattle.tc_code.specs.Step.{request, stepped, local_after, instr_of, loaded, in_memory, perform, step}
 use Rattle.tc_code.specs.Run.{IsReached, run_from}
 use Rattle.tc_code.specs.Facts.{step_is_reached}
 use Rattle.tc_runs.specs.Alone.{Alone, after_request, goes_on, after_steps, taken_by, taken_in, taken_from}
@@ -23,9 +24,11 @@ use Rattle.tc_runs.proofs.Names.{same_name, tells_names, one_under, get_put, get
 use Rattle.tc_runs.proofs.Created.{not_next_child}
 use Rattle.tc_runs.proofs.Steps.{Went, step_went}
 
--- whether a request is a load
+-- whether a request takes a value from memory
 abbrev is_read : Request → Bool
 is_read (Read c) = true
+is_read (Exchange c v) = true
+is_read (CompareExchange c e v) = true
 is_read _ = false
 
 -- the thread after a request that takes no value
@@ -33,11 +36,13 @@ abbrev local_by : Local → Instr → Request → Local
 local_by t i Fail = stepped t
 local_by t i _ = local_after t i (pos 0)
 
--- a request that is no load leaves all values
+-- a request that takes none leaves all values
 takes_none : (t : Local) (i : Instr) (vs : List ℤ) (r : Request) → is_read r ≡ false → after_request t i vs r ≡ record { local = local_by t i r; values = vs }
 takes_none t i [] Fail h = refl
 takes_none t i [] _ h = refl
 takes_none t i (v ∷ vs) (Read c) h = absurd (true≢false h)
+takes_none t i (v ∷ vs) (Exchange c _) h = absurd (true≢false h)
+takes_none t i (v ∷ vs) (CompareExchange c _ _) h = absurd (true≢false h)
 takes_none t i (v ∷ vs) _ h = refl
 
 -- some steps, and then some more, are all of them
@@ -48,7 +53,8 @@ after_both code (suc j) k a =
     ap (λ n. after_steps code n a) e ∙ after_both code j k (goes_on code a)
 
 -- an instruction that is there is done
-goes_by : (code : Code) (t : Local) (i : Instr) (vs : List ℤ) → instr_of code t ≡ Some i → goes_on code (record { local = t; values = vs }) ≡ after_request t i vs (request t i)
+goes_by : (code : Code) (t : Local) (i : Instr) (vs : List ℤ) → instr_of code t ≡ Some i
+    → goes_on code (record { local = t; values = vs }) ≡ after_request t i vs (request t i)
 goes_by code t i vs at = ap (λ o. option_map_or (λ j. after_request t j vs (request t j)) o (record { local = t; values = vs })) at
 
 module _ {B : Type 0} (ops : BufferOps B) (code : Code) where
@@ -76,7 +82,8 @@ module _ {B : Type 0} (ops : BufferOps B) (code : Code) where
   steps_one t i _ = (after_counts t i (pos 0)).steps
 
   -- it may do an instruction that takes no value
-  does_one : (w : State B) (n : Name) (t : Thread B) (i : Instr) (r : Request) (buffer : B) → instr_of code t.local ≡ Some i → request t.local i ≡ r → is_read r ≡ false → fin.get w.threads n ≡ Some (record { local = local_by t.local i r; buffer = buffer }) → Goes w n t []
+  does_one : (w : State B) (n : Name) (t : Thread B) (i : Instr) (r : Request) (buffer : B) → instr_of code t.local ≡ Some i → request t.local i ≡ r
+      → is_read r ≡ false → fin.get w.threads n ≡ Some (record { local = local_by t.local i r; buffer = buffer }) → Goes w n t []
   does_one w n t i r buffer at e reads there = record {
     after = record { local = local_by t.local i r; buffer = buffer };
     there = there;
@@ -85,15 +92,28 @@ module _ {B : Type 0} (ops : BufferOps B) (code : Code) where
     goes = λ vs. goes_by code t.local i vs at ∙ ap (after_request t.local i vs) e ∙ takes_none t.local i vs r reads;
   }
 
-  -- a thread that does an instruction takes what a load takes
-  own_goes : (s : State B) (n : Name) (t : Thread B) (i : Instr) (r : Request) → instr_of code t.local ≡ Some i → request t.local i ≡ r → Goes (perform ops code s n t i r) n t (taken_by ops code s t r)
-  own_goes s n t i (Read c) at e = record {
-    after = record t { local = local_after t.local i (loaded ops s t c) };
-    there = get_put s.threads n _;
+  -- or one that takes a value
+  takes_one : (w : State B) (n : Name) (t : Thread B) (i : Instr) (v : ℤ) → instr_of code t.local ≡ Some i
+      → ((vs : List ℤ) → after_request t.local i (v ∷ vs) (request t.local i) ≡ record { local = local_after t.local i v; values = vs })
+      → fin.get w.threads n ≡ Some (record t { local = local_after t.local i v }) → Goes w n t (v ∷ [])
+  takes_one w n t i v at takes there = record {
+    after = record t { local = local_after t.local i v };
+    there = there;
     count = 1;
-    steps = (after_counts t.local i (loaded ops s t c)).steps;
-    goes = λ vs. goes_by code t.local i (loaded ops s t c ∷ vs) at ∙ ap (after_request t.local i (loaded ops s t c ∷ vs)) e;
+    steps = (after_counts t.local i v).steps;
+    goes = λ vs. goes_by code t.local i (v ∷ vs) at ∙ takes vs;
   }
+
+  -- a thread that does an instruction takes what its request takes
+  own_goes : (s : State B) (n : Name) (t : Thread B) (i : Instr) (r : Request) → instr_of code t.local ≡ Some i → request t.local i ≡ r
+      → Goes (perform ops code s n t i r) n t (taken_by ops code s t r)
+  own_goes s n t i (Read c) at e =
+      takes_one _ n t i (loaded ops s t c) at (λ vs. ap (after_request t.local i (loaded ops s t c ∷ vs)) e) (get_put s.threads n _)
+  own_goes s n t i (Exchange c v) at e =
+      takes_one _ n t i (in_memory s c) at (λ vs. ap (after_request t.local i (in_memory s c ∷ vs)) e) (get_put s.threads n _)
+  own_goes s n t i (CompareExchange c x v) at e =
+      takes_one _ n t i (in_memory s c) at (λ vs. ap (after_request t.local i (in_memory s c ∷ vs)) e) (get_put s.threads n _)
+  own_goes s n t i Bar at e = does_one _ n t i Bar (ops.bar t.buffer) at e refl (get_put s.threads n _)
   own_goes s n t i (Write c v) at e =
       either (λ w. Goes w n t []) ops.buffered _ _
       (does_one _ n t i (Write c v) (ops.issue t.buffer c v) at e refl (get_put s.threads n _))
@@ -104,14 +124,17 @@ module _ {B : Type 0} (ops : BufferOps B) (code : Code) where
   own_goes s n t i r at e = does_one _ n t i r t.buffer at e refl (get_put s.threads n _)
 
   -- another thread's instruction leaves a thread as it is
-  leaves : (s : State B) (q : Name) (x : Thread B) (i : Instr) (r : Request) (n : Name) (t : Thread B) → fin.get s.threads n ≡ Some t → n ≢ q → n ≢ child q (x.local.children + 1) → fin.get (perform ops code s q x i r).threads n ≡ Some t
+  leaves : (s : State B) (q : Name) (x : Thread B) (i : Instr) (r : Request) (n : Name) (t : Thread B) → fin.get s.threads n ≡ Some t → n ≢ q
+      → n ≢ child q (x.local.children + 1) → fin.get (perform ops code s q x i r).threads n ≡ Some t
   leaves s q x i (Write c v) n t there other new =
-      either (λ (w : State B). fin.get w.threads n ≡ Some t) ops.buffered _ _ (get_put_apart s.threads q _ n other ∙ there) (get_put_apart s.threads q _ n other ∙ there)
+      either (λ (w : State B). fin.get w.threads n ≡ Some t) ops.buffered _ _ (get_put_apart s.threads q _ n other ∙ there)
+      (get_put_apart s.threads q _ n other ∙ there)
   leaves s q x i (Start f) n t there other new = get_put_apart _ _ _ n new ∙ get_put_apart s.threads q _ n other ∙ there
   leaves s q x i _ n t there other new = get_put_apart s.threads q _ n other ∙ there
 
   -- what the thread of a name does where it is the one that moves, and where it is another
-  own_or_other : (s w : State B) (n q : Name) (t x : Thread B) (taken : Bool → List ℤ) → fin.get s.threads n ≡ Some t → fin.get s.threads q ≡ Some x → Goes w q x (taken true) → (n ≢ q → Goes w n t (taken false)) → Goes w n t (taken (same_name n q))
+  own_or_other : (s w : State B) (n q : Name) (t x : Thread B) (taken : Bool → List ℤ) → fin.get s.threads n ≡ Some t → fin.get s.threads q ≡ Some x
+      → Goes w q x (taken true) → (n ≢ q → Goes w n t (taken false)) → Goes w n t (taken (same_name n q))
   own_or_other s w n q t x taken there here own other =
       elim (tells_names n q) [
         | inl e ↦
@@ -125,11 +148,13 @@ module _ {B : Type 0} (ops : BufferOps B) (code : Code) where
   taken_at s o = option_map_or (λ t. option_map_or (λ i. taken_by ops code s t (request t.local i)) (instr_of code t.local) []) o []
 
   -- it is what its instruction takes
-  taken_is : (s : State B) (q : Name) (x : Thread B) (i : Instr) → fin.get s.threads q ≡ Some x → instr_of code x.local ≡ Some i → taken_at s (fin.get s.threads q) ≡ taken_by ops code s x (request x.local i)
+  taken_is : (s : State B) (q : Name) (x : Thread B) (i : Instr) → fin.get s.threads q ≡ Some x → instr_of code x.local ≡ Some i
+      → taken_at s (fin.get s.threads q) ≡ taken_by ops code s x (request x.local i)
   taken_is s q x i here at = ap (taken_at s) here ∙ ap (λ o. option_map_or (λ j. taken_by ops code s x (request x.local j)) o []) at
 
   -- what each thread does in a move
-  went_goes : (s u : State B) (m : Move) (n : Name) (t : Thread B) → IsReached ops code s → Went ops code s u m → fin.get s.threads n ≡ Some t → Goes u n t (taken_in ops code s n m)
+  went_goes : (s u : State B) (m : Move) (n : Name) (t : Thread B) → IsReached ops code s → Went ops code s u m → fin.get s.threads n ≡ Some t
+      → Goes u n t (taken_in ops code s n m)
   went_goes s u (move.Run q) n t reached w there =
       subst (λ x. Goes x n t (taken_in ops code s n (move.Run q))) (sym w.after)
       (own_or_other s _ n q t w.thread (λ b. cond b (taken_at s (fin.get s.threads q)) []) there w.there
@@ -153,7 +178,8 @@ module _ {B : Type 0} (ops : BufferOps B) (code : Code) where
       × (v.local ≡ (after_steps code k (record { local = t.local; values = taken_from ops code s n moves })).local)
 
   -- a thread goes alone from a state, where it does so from the next
-  goes_further : (s u : State B) (m : Move) (ms : List Move) (n : Name) (t v : Thread B) → step ops code s m ≡ Some u → (g : Goes u n t (taken_in ops code s n m)) → GoesAlone u ms n g.after v → GoesAlone s (m ∷ ms) n t v
+  goes_further : (s u : State B) (m : Move) (ms : List Move) (n : Name) (t v : Thread B) → step ops code s m ≡ Some u
+      → (g : Goes u n t (taken_in ops code s n m)) → GoesAlone u ms n g.after v → GoesAlone s (m ∷ ms) n t v
   goes_further s u m ms n t v one g rest =
       let later = taken_from ops code u n ms in
       let all : taken_from ops code s n (m ∷ ms) ≡ taken_in ops code s n m ++ later =
@@ -167,7 +193,8 @@ module _ {B : Type 0} (ops : BufferOps B) (code : Code) where
       )
 
   -- in a run each thread goes alone
-  pub threads_go_alone : (s u : State B) (moves : List Move) (n : Name) (t v : Thread B) → IsReached ops code s → run_from ops code s moves ≡ Some u → fin.get s.threads n ≡ Some t → fin.get u.threads n ≡ Some v → GoesAlone s moves n t v
+  pub threads_go_alone : (s u : State B) (moves : List Move) (n : Name) (t v : Thread B) → IsReached ops code s → run_from ops code s moves ≡ Some u
+      → fin.get s.threads n ≡ Some t → fin.get u.threads n ≡ Some v → GoesAlone s moves n t v
   threads_go_alone s u [] n t v reached leads there then =
       let same : v ≡ t = same_Some v t (sym then ∙ ap (λ (x : State B). fin.get x.threads n) (sym (same_Some s u leads)) ∙ there) in
       (0, ap (λ (x : Thread B). x.local.steps) same ∙ omega arith, ap (λ (x : Thread B). x.local) same)

@@ -1,5 +1,6 @@
 -- The index of an access that a thread does next is inside its array.
-use Rattle.std.proofs.Common.{◌≡◌, ◌∙◌, ℕ, ◌+◌, ◌-◌, ◌<◌, ◌≤◌, length, List, true, false, ◌&&◌, IsTrue, Some, refl, ap, ap₂, sym, subst, arith, ℤ, pos, slice_get, slice_set, nat_lt, inl, inr}
+use Rattle.std.proofs.Common.{◌≡◌, ◌∙◌, ℕ, ◌+◌, ◌-◌, ◌<◌, ◌≤◌, length, List, true, false, ◌&&◌, IsTrue, Some, refl}
+use Rattle.std.proofs.Common.{ap, ap₂, sym, subst, arith, ℤ, pos, slice_get, slice_set, nat_lt, inl, inr}
 use Rattle.std.specs.Prelude.{◌==◌, ◌||◌, nat_le, not}
 use Rattle.std.specs.Option.{option_map_or}
 use Rattle.std.specs.FinMap as fin
@@ -16,7 +17,7 @@ use Rattle.tc_base.specs.declared.arith.UnOp.TheVariants.{Neg, Not, Inv}
 use Rattle.tc_base.specs.declared.arith.BinOp.{BinOp}
 use Rattle.tc_base.specs.declared.arith.BinOp.TheVariants.{Add, Sub, Mul, And, Or, Xor, Eq, Ne, Lt, Le, Gt, Ge}
 use Rattle.tc_code.specs.Expr.{Expr, Number, Slot, Unary, Binary, value_of, names_slot}
-use Rattle.tc_code.specs.Instr.{Instr, Set, Load, Load_at, Store_at, Inside, Branch}
+use Rattle.tc_code.specs.Instr.{Instr, Set, Load, Load_at, Store_at, Inside, Branch, Swap, Cas}
 use Rattle.tc_code.specs.Code.{Code}
 use Rattle.tc_code.specs.Lawful.{keeps, Guards, IsGuarded, IsLawful}
 use Rattle.tc_code.specs.declared.code.Func.{Func}
@@ -42,6 +43,8 @@ after_keeps : (t : Local) (i : Instr) (v : ℤ) (e : Expr) → IsTrue (keeps e i
 after_keeps t (Set k a) v e h = value_of-set e t.slots k _ (not-true _ h)
 after_keeps t (Load k c) v e h = value_of-set e t.slots k v (not-true _ h)
 after_keeps t (Load_at k first len i) v e h = value_of-set e t.slots k v (not-true _ h)
+after_keeps t (Swap k c a) v e h = value_of-set e t.slots k v (not-true _ h)
+after_keeps t (Cas k c a b) v e h = value_of-set e t.slots k v (not-true _ h)
 after_keeps t (Branch a to) v e h = ap (λ u. value_of e u.slots) (branch_is t _ to)
 after_keeps t _ v e h = refl
 
@@ -60,7 +63,8 @@ module _ (len : ℕ) (e : Expr) where
   kept_between t i v kept h = subst (λ n. IsTrue (is_within len n)) (sym (after_keeps t i v e kept)) h
 
   -- an instruction keeps an index inside from its test to its access
-  goes_within : (is : List Instr) (p k : ℕ) (t : Local) (i : Instr) (v : ℤ) → Guards is len e p k → slice_get is t.instruction ≡ Some i → is_fail (request t i) ≡ false
+  goes_within : (is : List Instr) (p k : ℕ) (t : Local) (i : Instr) (v : ℤ) → Guards is len e p k → slice_get is t.instruction ≡ Some i
+      → is_fail (request t i) ≡ false
       → p < (local_after t i v).instruction → (local_after t i v).instruction ≤ k → (p < t.instruction → t.instruction ≤ k → IsInside len e t)
       → Leads i t.instruction (local_after t i v).instruction → IsInside len e (local_after t i v)
   goes_within is p k t i v g at passes low high before (inl next) =
@@ -81,13 +85,15 @@ GuardsHold code t =
     → p < t.instruction → t.instruction ≤ k → IsInside len e t
 
 -- the instruction that a thread does next is in its function
-next_in : (code : Code) (t : Local) (i : Instr) (g : Func) → instr_of code t ≡ Some i → slice_get code.functions t.function ≡ Some g → slice_get g.instrs t.instruction ≡ Some i
+next_in : (code : Code) (t : Local) (i : Instr) (g : Func) → instr_of code t ≡ Some i → slice_get code.functions t.function ≡ Some g
+    → slice_get g.instrs t.instruction ≡ Some i
 next_in code t i g at there =
     option_and_then_some (λ f. slice_get f.instrs t.instruction) (slice_get code.functions t.function) i (at_its_place code t i at)
     (λ f is here. subst (λ f. slice_get f.instrs t.instruction ≡ Some i) (same_Some f g (sym is ∙ there)) here)
 
 -- an instruction keeps that
-after_guards : (code : Code) (t : Local) (i : Instr) (v : ℤ) → instr_of code t ≡ Some i → is_fail (request t i) ≡ false → GuardsHold code t → GuardsHold code (local_after t i v)
+after_guards : (code : Code) (t : Local) (i : Instr) (v : ℤ) → instr_of code t ≡ Some i → is_fail (request t i) ≡ false → GuardsHold code t
+    → GuardsHold code (local_after t i v)
 after_guards code t i v at passes before g len e p k there h low high =
     let here = sym (ap (slice_get code.functions) (after_has t i v).function) ∙ there in
     goes_within len e g.instrs p k t i v h (next_in code t i g at here) passes low high (before g len e p k here h) (place_after t i v)
@@ -106,16 +112,20 @@ module _ {B : Type 0} (ops : BufferOps B) (code : Code) where
   guards_hold = all_in_reached ops code (GuardsHold code) (λ s r. keeps_guards s) (λ g len e p k is guarded low high. absurd (omega (arith, low)))
 
   -- an access that a test stands for is inside
-  access_is_within : (t : Local) (g : Func) (len : ℕ) (e : Expr) → slice_get code.functions t.function ≡ Some g → IsGuarded g.instrs len e t.instruction → GuardsHold code t → IsInside len e t
+  access_is_within : (t : Local) (g : Func) (len : ℕ) (e : Expr) → slice_get code.functions t.function ≡ Some g
+      → IsGuarded g.instrs len e t.instruction → GuardsHold code t → IsInside len e t
   access_is_within t g len e there guarded holds =
       holds g len e guarded.0 t.instruction there guarded.1 guarded.1.before (omega arith)
 
   -- the index of an access that a thread does next is inside its array
-  pub index_is_within : (s : State B) (n : Name) (t : Thread B) (i : Instr) → IsLawful code → IsReached ops code s → fin.get s.threads n ≡ Some t → instr_of code t.local ≡ Some i → IndexIsWithin t.local i
+  pub index_is_within : (s : State B) (n : Name) (t : Thread B) (i : Instr) → IsLawful code → IsReached ops code s → fin.get s.threads n ≡ Some t
+      → instr_of code t.local ≡ Some i → IndexIsWithin t.local i
   index_is_within s n t (Load_at k first len e) lawful reached there at =
       let placed = placed_next code t.local (Load_at k first len e) lawful at in
-      access_is_within t.local placed.function len e placed.there (placed.lawful.load t.local.instruction k first len e placed.at) (guards_hold s reached n t there)
+      access_is_within t.local placed.function len e placed.there (placed.lawful.load t.local.instruction k first len e placed.at)
+      (guards_hold s reached n t there)
   index_is_within s n t (Store_at first len e a) lawful reached there at =
       let placed = placed_next code t.local (Store_at first len e a) lawful at in
-      access_is_within t.local placed.function len e placed.there (placed.lawful.store t.local.instruction first len e a placed.at) (guards_hold s reached n t there)
+      access_is_within t.local placed.function len e placed.there (placed.lawful.store t.local.instruction first len e a placed.at)
+      (guards_hold s reached n t there)
   index_is_within s n t _ lawful reached there at = tt

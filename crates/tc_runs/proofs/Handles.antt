@@ -32,7 +32,8 @@ still_children t u same more all h =
     still_child t u (handle_of u h) more (subst (λ hs. HoldsChild t (slice_index_or hs h Unset)) (sym same) (all h))
 
 -- and one that takes a child, and the others
-still_children_after : (t u : Local) (k : ℕ) (x : Handle) → u.handles ≡ slice_set t.handles k x → t.children ≤ u.children → HoldsChild u x → HandlesAreChildren t → HandlesAreChildren u
+still_children_after : (t u : Local) (k : ℕ) (x : Handle) → u.handles ≡ slice_set t.handles k x → t.children ≤ u.children → HoldsChild u x
+    → HandlesAreChildren t → HandlesAreChildren u
 still_children_after t u k x written more is all h =
     subst (λ hs. HoldsChild u (slice_index_or hs h Unset)) (sym written)
     (elim (index_or-set_cases t.handles k h x Unset) [
@@ -60,17 +61,21 @@ module _ {B : Type 0} (ops : BufferOps B) (code : Code) where
       omega (arith, c.created.first, zero_th)
 
   -- so a join that is let waits for a child
-  awaited : (s : State B) (n : Name) (t : Local) (x : Handle) → ThreadsAreCreated s → HoldsChild t x → IsTrue (child_has_exited s n (child_number x)) → IsChildOf t (child_number x)
+  awaited : (s : State B) (n : Name) (t : Local) (x : Handle) → ThreadsAreCreated s → HoldsChild t x → IsTrue (child_has_exited s n (child_number x))
+      → IsChildOf t (child_number x)
   awaited s n t x created is exited = joined_child t x is (λ none. no_child_zero s n created (subst (λ k. IsTrue (child_has_exited s n k)) none exited))
 
   -- an instruction leaves children in all thread variables
-  does_keep : (s u : State B) (n : Name) (i : Instr) → ThreadsAreCreated s → (g : Goes ops code s u n i) → HandlesAreChildren g.before.local → HandlesAreChildren (local_after g.before.local i g.value)
-  does_keep s u n (Branch e to) created g all = subst HandlesAreChildren (sym (branch_is g.before.local _ to)) (still_children g.before.local _ refl (le_refl _) all)
+  does_keep : (s u : State B) (n : Name) (i : Instr) → ThreadsAreCreated s → (g : Goes ops code s u n i) → HandlesAreChildren g.before.local
+      → HandlesAreChildren (local_after g.before.local i g.value)
+  does_keep s u n (Branch e to) created g all =
+      subst HandlesAreChildren (sym (branch_is g.before.local _ to)) (still_children g.before.local _ refl (le_refl _) all)
   does_keep s u n (Create h f es) created g all =
       still_children_after g.before.local _ h (Child (g.before.local.children + 1)) refl (omega arith) (record { first = omega arith; last = omega arith }) all
   does_keep s u n (Join h) created g all =
       let is = awaited s n g.before.local (handle_of g.before.local h) created (all h) g.allowed in
-      still_children_after g.before.local _ h (Joined (child_number (handle_of g.before.local h))) refl (le_refl _) (record { first = is.first; last = is.last }) all
+      still_children_after g.before.local _ h (Joined (child_number (handle_of g.before.local h))) refl (le_refl _)
+      (record { first = is.first; last = is.last }) all
   does_keep s u n i created g all = still_children g.before.local _ refl (le_refl _) all
 
   -- each step does

@@ -16,7 +16,8 @@ use Rattle.tc_runs.proofs.Changes.{Went_on, Stayed, with_child, step_changes}
 
 module _ {B : Type 0} (ops : BufferOps B) (code : Code) where
   -- a thread that is there stays where an instruction may create a child
-  stays_with_child : (t : Local) (n : Name) (i : Instr) (threads : ByName (Thread B)) (q : Name) → IsSome (fin.get threads q) → IsSome (fin.get (with_child ops code t n i threads) q)
+  stays_with_child : (t : Local) (n : Name) (i : Instr) (threads : ByName (Thread B)) (q : Name) → IsSome (fin.get threads q)
+      → IsSome (fin.get (with_child ops code t n i threads) q)
   stays_with_child t n (Create h f es) threads q there = stays_after_put threads _ _ q there
   stays_with_child t n _ threads q there = there
 
@@ -24,7 +25,8 @@ module _ {B : Type 0} (ops : BufferOps B) (code : Code) where
   pub thread_stays : (q : Name) (s u : State B) (m : Move) → step ops code s m ≡ Some u → IsSome (fin.get s.threads q) → IsSome (fin.get u.threads q)
   thread_stays q s u m one there =
       elim (step_changes ops code s u m one) [
-        | Went_on n i g ↦ subst (λ m. IsSome (fin.get m q)) (sym g.threads) (stays_with_child g.before.local n i _ q (stays_after_put s.threads n g.after q there))
+        | Went_on n i g ↦ subst (λ m. IsSome (fin.get m q)) (sym g.threads)
+            (stays_with_child g.before.local n i _ q (stays_after_put s.threads n g.after q there))
         | Stayed n g ↦ subst (λ m. IsSome (fin.get m q)) (sym g.threads) (stays_after_put s.threads n g.after q there)
       ]
 

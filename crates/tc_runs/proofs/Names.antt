@@ -44,7 +44,8 @@ get_put_apart m n x q apart =
     ]
 
 -- what is found after something is put in is that, or was there
-pub get_put_cases : {X : Type 0} (m : ByName X) (n : Name) (x : X) (q : Name) (y : X) → fin.get (fin.insert m n x) q ≡ Some y → ((q ≡ n) × (x ≡ y)) ⊎ ((q ≢ n) × (fin.get m q ≡ Some y))
+pub get_put_cases : {X : Type 0} (m : ByName X) (n : Name) (x : X) (q : Name) (y : X) → fin.get (fin.insert m n x) q ≡ Some y
+    → ((q ≡ n) × (x ≡ y)) ⊎ ((q ≢ n) × (fin.get m q ≡ Some y))
 get_put_cases m n x q y h =
     elim (same_or_apart q n) [
       | inl same ↦ inl (same, one_under (fin.insert m n x) n q x y (sym same) (get_put m n x) h)
@@ -60,7 +61,8 @@ stays_after_put m n x q there =
     ]
 
 -- where something is put in under a name that is there already, no name is new
-pub there_before_put : {X : Type 0} (m : ByName X) (n : Name) (x : X) (q : Name) → IsSome (fin.get m n) → IsSome (fin.get (fin.insert m n x) q) → IsSome (fin.get m q)
+pub there_before_put : {X : Type 0} (m : ByName X) (n : Name) (x : X) (q : Name) → IsSome (fin.get m n) → IsSome (fin.get (fin.insert m n x) q)
+    → IsSome (fin.get m q)
 there_before_put m n x q before there =
     elim (same_or_apart q n) [
       | inl same ↦ subst (λ p. IsSome (fin.get m p)) (sym same) before

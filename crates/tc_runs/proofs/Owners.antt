@@ -1,5 +1,6 @@
 -- A thread holds a mutex exactly where it is its owner.
-use Rattle.std.proofs.Common.{◌≡◌, ◌≢◌, ◌↔◌, ◌∙◌, inl, inr, ℕ, ◌+◌, ◌<◌, length, ℤ, List, Bool, true, false, not, IsTrue, IsSome, Option, Some, None, is_none, refl, ap, sym, subst, arith, nat_lt, slice_set, slice_index_or, true≢false}
+use Rattle.std.proofs.Common.{◌≡◌, ◌≢◌, ◌↔◌, ◌∙◌, inl, inr, ℕ, ◌+◌, ◌<◌, length, ℤ, List, Bool, true, false, not, IsTrue, IsSome, Option}
+use Rattle.std.proofs.Common.{Some, None, is_none, refl, ap, sym, subst, arith, nat_lt, slice_set, slice_index_or, true≢false}
 use Rattle.std.specs.FinMap as fin
 use Rattle.std.specs.FinSet as set
 use Rattle.std.specs.Ordering.{nat_cmp}
@@ -41,7 +42,8 @@ record Agree {B : Type 0} (owners : List (Option Name)) (threads : ByName (Threa
   there : (n : Name) (m : ℕ) → Owns owners n m → IsSome (fin.get threads n)
 
 -- a thread that holds what it owns is put in, and the others own what they did
-agree_after : {B : Type 0} (owners new : List (Option Name)) (threads : ByName (Thread B)) (n : Name) (t : Thread B) → Agree owners threads → ((m : ℕ) → Has t.local.held m ↔ Owns new n m) → ((q : Name) (m : ℕ) → q ≢ n → Owns owners q m ↔ Owns new q m) → Agree new (fin.insert threads n t)
+agree_after : {B : Type 0} (owners new : List (Option Name)) (threads : ByName (Thread B)) (n : Name) (t : Thread B) → Agree owners threads
+    → ((m : ℕ) → Has t.local.held m ↔ Owns new n m) → ((q : Name) (m : ℕ) → q ≢ n → Owns owners q m ↔ Owns new q m) → Agree new (fin.insert threads n t)
 agree_after {B} owners new threads n t agree own others = record {
   holder = λ q x m e. elim (get_put_cases threads n t q x e) [
     | inl is ↦
@@ -64,7 +66,9 @@ record IsFree (owners : List (Option Name)) (held : List Bool) (k : ℕ) : Type 
   mark : k < length held
 
 -- who writes what it holds and owns of a mutex holds what it owns
-writer_owns : (owners : List (Option Name)) (held : List Bool) (n : Name) (k m : ℕ) (o : Option Name) (b : Bool) → slice_index_or (slice_set owners k o) k None ≡ o → slice_index_or (slice_set held k b) k false ≡ b → IsTrue b ↔ (o ≡ Some n) → Has held m ↔ Owns owners n m → Has (slice_set held k b) m ↔ Owns (slice_set owners k o) n m
+writer_owns : (owners : List (Option Name)) (held : List Bool) (n : Name) (k m : ℕ) (o : Option Name) (b : Bool)
+    → slice_index_or (slice_set owners k o) k None ≡ o → slice_index_or (slice_set held k b) k false ≡ b → IsTrue b ↔ (o ≡ Some n)
+    → Has held m ↔ Owns owners n m → Has (slice_set held k b) m ↔ Owns (slice_set owners k o) n m
 writer_owns owners held n k m o b owner mark new old =
     elim (cases_eq m k) [
       | inl same ↦
@@ -78,7 +82,8 @@ writer_owns owners held n k m o b owner mark new old =
     ]
 
 -- and who neither owned that mutex nor does so now owns what it did
-others_own_after : (owners : List (Option Name)) (k m : ℕ) (o : Option Name) (q : Name) → slice_index_or (slice_set owners k o) k None ≡ o → (Owns owners q k → ⊥) → (o ≡ Some q → ⊥) → Owns owners q m ↔ Owns (slice_set owners k o) q m
+others_own_after : (owners : List (Option Name)) (k m : ℕ) (o : Option Name) (q : Name) → slice_index_or (slice_set owners k o) k None ≡ o
+    → (Owns owners q k → ⊥) → (o ≡ Some q → ⊥) → Owns owners q m ↔ Owns (slice_set owners k o) q m
 others_own_after owners k m o q owner was is =
     elim (cases_eq m k) [
       | inl same ↦ (
@@ -95,18 +100,23 @@ May owners held n (Takes k) = IsFree owners held k
 May owners held n (Leaves k) = Owns owners n k
 
 -- who does what it may holds what it owns
-goer_owns : (owners : List (Option Name)) (held : List Bool) (n : Name) (h : Hold) → May owners held n h → (m : ℕ) → Has held m ↔ Owns owners n m → Has (held_after held h) m ↔ Owns (owners_after owners n h) n m
+goer_owns : (owners : List (Option Name)) (held : List Bool) (n : Name) (h : Hold) → May owners held n h → (m : ℕ) → Has held m ↔ Owns owners n m
+    → Has (held_after held h) m ↔ Owns (owners_after owners n h) n m
 goer_owns owners held n Keeps may m old = old
 goer_owns owners held n (Takes k) may m old =
-    writer_owns owners held n k m (Some n) true (get_or-set_same owners k (Some n) None may.owner) (get_or-set_same held k true false may.mark) (λ h. refl, λ h. refl) old
+    writer_owns owners held n k m (Some n) true (get_or-set_same owners k (Some n) None may.owner) (get_or-set_same held k true false may.mark)
+    (λ h. refl, λ h. refl) old
 goer_owns owners held n (Leaves k) may m old =
-    writer_owns owners held n k m None false (index_or-set_default owners k None) (index_or-set_default held k false) (λ h. absurd (true≢false (sym h)), λ h. absurd (none-some n h)) old
+    writer_owns owners held n k m None false (index_or-set_default owners k None) (index_or-set_default held k false)
+    (λ h. absurd (true≢false (sym h)), λ h. absurd (none-some n h)) old
 
 -- and the others own what they did
-others_own : (owners : List (Option Name)) (held : List Bool) (n : Name) (h : Hold) → May owners held n h → (q : Name) (m : ℕ) → q ≢ n → Owns owners q m ↔ Owns (owners_after owners n h) q m
+others_own : (owners : List (Option Name)) (held : List Bool) (n : Name) (h : Hold) → May owners held n h → (q : Name) (m : ℕ) → q ≢ n
+    → Owns owners q m ↔ Owns (owners_after owners n h) q m
 others_own owners held n Keeps may q m other = (λ o. o, λ o. o)
 others_own owners held n (Takes k) may q m other =
-    others_own_after owners k m (Some n) q (get_or-set_same owners k (Some n) None may.owner) (λ h. none-some q (sym may.free ∙ h)) (λ h. other (sym (same_Some n q h)))
+    others_own_after owners k m (Some n) q (get_or-set_same owners k (Some n) None may.owner) (λ h. none-some q (sym may.free ∙ h))
+    (λ h. other (sym (same_Some n q h)))
 others_own owners held n (Leaves k) may q m other =
     others_own_after owners k m None q (index_or-set_default owners k None) (λ h. other (sym (same_Some n q (sym may ∙ h)))) (λ h. none-some q h)
 
@@ -117,14 +127,17 @@ held_is t _ v = refl
 
 module _ {B : Type 0} where
   -- owners and threads agree after a thread did what it may
-  agree_goes : (owners : List (Option Name)) (threads : ByName (Thread B)) (n : Name) (t new : Thread B) (h : Hold) → fin.get threads n ≡ Some t → new.local.held ≡ held_after t.local.held h → May owners t.local.held n h → Agree owners threads → Agree (owners_after owners n h) (fin.insert threads n new)
+  agree_goes : (owners : List (Option Name)) (threads : ByName (Thread B)) (n : Name) (t new : Thread B) (h : Hold) → fin.get threads n ≡ Some t
+      → new.local.held ≡ held_after t.local.held h → May owners t.local.held n h → Agree owners threads
+      → Agree (owners_after owners n h) (fin.insert threads n new)
   agree_goes owners threads n t new h there held may agree =
       agree_after owners (owners_after owners n h) threads n new agree
       (λ m. subst (λ hs. Has hs m ↔ Owns (owners_after owners n h) n m) (sym held) (goer_owns owners t.local.held n h may m (agree.holder n t m there)))
       (others_own owners t.local.held n h may)
 
   -- a thread that holds nothing, of a name that no thread has
-  agree_born : (owners : List (Option Name)) (threads : ByName (Thread B)) (c : Name) (baby : Thread B) → fin.get threads c ≡ None → ((m : ℕ) → holds baby.local m ≡ false) → Agree owners threads → Agree owners (fin.insert threads c baby)
+  agree_born : (owners : List (Option Name)) (threads : ByName (Thread B)) (c : Name) (baby : Thread B) → fin.get threads c ≡ None
+      → ((m : ℕ) → holds baby.local m ≡ false) → Agree owners threads → Agree owners (fin.insert threads c baby)
   agree_born owners threads c baby none free agree =
       agree_after owners owners threads c baby agree
       (λ m. (
@@ -140,7 +153,8 @@ is_free_none (Some n) h = absurd (true≢false (sym h))
 
 module _ {B : Type 0} (ops : BufferOps B) (code : Code) where
   -- a thread may take a mutex that is free
-  may_take : (s : State B) (n : Name) (t : Thread B) (m : ℕ) → IsWhole code s → fin.get s.threads n ≡ Some t → IsTrue (nat_lt m code.mutexes) → IsTrue (is_free s m) → IsFree s.owners t.local.held m
+  may_take : (s : State B) (n : Name) (t : Thread B) (m : ℕ) → IsWhole code s → fin.get s.threads n ≡ Some t → IsTrue (nat_lt m code.mutexes)
+      → IsTrue (is_free s m) → IsFree s.owners t.local.held m
   may_take s n t m whole there few free =
       let less = ltb-true m code.mutexes few in
       record {
@@ -183,7 +197,8 @@ module _ {B : Type 0} (ops : BufferOps B) (code : Code) where
         (agree_goes s.owners s.threads n g.before g.after Keeps g.there (ap (λ t. t.held) g.local) tt agree))
 
   -- each step from a reached state keeps that
-  agreed_after_step : IsLawful code → (s u : State B) (m : Move) → IsReached ops code s → step ops code s m ≡ Some u → Agree s.owners s.threads → Agree u.owners u.threads
+  agreed_after_step : IsLawful code → (s u : State B) (m : Move) → IsReached ops code s → step ops code s m ≡ Some u → Agree s.owners s.threads
+      → Agree u.owners u.threads
   agreed_after_step lawful s u m r one agree =
       elim (step_changes ops code s u m one) [
         | Went_on n i g ↦ agree_went s u n lawful r agree i g

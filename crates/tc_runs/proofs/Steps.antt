@@ -48,7 +48,8 @@ module _ {B : Type 0} (ops : BufferOps B) (code : Code) where
   Went s u (move.Drain n form) = Drained s u n form
 
   -- a wake is done at a signal
-  woke_at : (s u : State B) (n v : Name) (t : Thread B) (i : Instr) → fin.get s.threads n ≡ Some t → instr_of code t.local ≡ Some i → wake_of ops s n v t i ≡ Some u → Woke s u n v
+  woke_at : (s u : State B) (n v : Name) (t : Thread B) (i : Instr) → fin.get s.threads n ≡ Some t → instr_of code t.local ≡ Some i
+      → wake_of ops s n v t i ≡ Some u → Woke s u n v
   woke_at s u n v t (Signal c) there at h =
       let may = cond_some (ops.is_empty t.buffer && set.contains (waiting_on s c) v) _ u h in
       record { thread = t; there = there; condition = c; at = at; waits = second (ops.is_empty t.buffer) _ may.0; after = sym may.1 }
@@ -73,7 +74,8 @@ module _ {B : Type 0} (ops : BufferOps B) (code : Code) where
   step_went s u m h = went s u m (unless (is_some s.failed) _ u h)
 
   -- what holds at the start, and what each step from a reached state keeps, holds in each reached state
-  pub holds_in_reached : (P : State B → Type 0) → P (opening ops code) → ((s u : State B) (m : Move) → IsReached ops code s → step ops code s m ≡ Some u → P s → P u) → (s : State B) → IsReached ops code s → P s
+  pub holds_in_reached : (P : State B → Type 0) → P (opening ops code)
+      → ((s u : State B) (m : Move) → IsReached ops code s → step ops code s m ≡ Some u → P s → P u) → (s : State B) → IsReached ops code s → P s
   holds_in_reached P start keeps s r =
       (kept_by_run ops code (λ u. IsReached ops code u × P u) (λ v u m one h. (step_is_reached ops code v u m one h.0, keeps v u m h.0 one h.1))
       (opening ops code) s r.moves r.leads (opening_is_reached ops code, start)).1

@@ -1,5 +1,6 @@
 -- A waiter is a thread at a wake of the condition.
-use Rattle.std.proofs.Common.{◌≡◌, ◌≢◌, ◌∙◌, inl, inr, ℕ, ◌+◌, Bool, true, false, IsTrue, IsSome, Option, Some, None, ap, ap₂, sym, subst, slice_get, true≢false}
+use Rattle.std.proofs.Common.{◌≡◌, ◌≢◌, ◌∙◌, inl, inr, ℕ, ◌+◌, Bool, true, false, IsTrue, IsSome}
+use Rattle.std.proofs.Common.{Option, Some, None, ap, ap₂, sym, subst, slice_get, true≢false}
 use Rattle.std.specs.Prelude.{◌==◌, if◌then◌else◌}
 use Rattle.std.specs.Option.{option_and_then}
 use Rattle.std.specs.FinMap as fin
@@ -37,7 +38,8 @@ goes_on true o p i j at next = absurd (none-some i at)
 goes_on false o p i j at next = next
 
 -- after a sleep a thread is at the wake
-at_wake_after : (code : Code) (t : Local) (c m : ℕ) → IsLawful code → instr_of code t ≡ Some (Sleep c m) → instr_at code t.function (t.instruction + 1) ≡ Some (Wake c m)
+at_wake_after : (code : Code) (t : Local) (c m : ℕ) → IsLawful code → instr_of code t ≡ Some (Sleep c m)
+    → instr_at code t.function (t.instruction + 1) ≡ Some (Wake c m)
 at_wake_after code t c m lawful at =
     let here = placed_next code t (Sleep c m) lawful at in
     ap (option_and_then (λ f. slice_get f.instrs (t.instruction + 1))) here.there ∙ here.lawful.wait t.instruction c m here.at
@@ -103,11 +105,18 @@ module _ {B : Type 0} (ops : BufferOps B) (code : Code) where
                 mutex = w.mutex;
                 at = ap (instr_of code) g.local ∙ ap (λ t. instr_of code t.local) (sym is) ∙ w.at;
               }
-          | inr apart ↦ record { thread = w.thread; there = ap (λ m. fin.get m q) g.threads ∙ get_put_apart s.threads n g.after q apart ∙ w.there; mutex = w.mutex; at = w.at }
+          | inr apart ↦ record {
+            thread = w.thread;
+            there = ap (λ m. fin.get m q) g.threads ∙ get_put_apart s.threads n g.after q apart
+                ∙ w.there;
+            mutex = w.mutex;
+            at = w.at;
+          }
         ]
 
   -- each step from a reached state keeps that
-  at_wake_after_step : IsLawful code → (s u : State B) (m : Move) → IsReached ops code s → step ops code s m ≡ Some u → WaitersAreAtWake code s → WaitersAreAtWake code u
+  at_wake_after_step : IsLawful code → (s u : State B) (m : Move) → IsReached ops code s → step ops code s m ≡ Some u → WaitersAreAtWake code s
+      → WaitersAreAtWake code u
   at_wake_after_step lawful s u m r one all =
       elim (step_changes ops code s u m one) [
         | Went_on n i g ↦ waiters_went s u n lawful r all i g

@@ -1,5 +1,6 @@
 -- What stands in each state that a run reaches.
-use Rattle.std.proofs.Common.{◌≡◌, ◌∙◌, ℕ, ◌-◌, ◌≤◌, length, List, [], ◌++◌, map, false, IsTrue, Some, refl, ap, sym, subst, arith, ℤ, pos, replicate, slice_get, nat_lt}
+use Rattle.std.proofs.Common.{◌≡◌, ◌∙◌, ℕ, ◌-◌, ◌≤◌, length, List, [], ◌++◌, map, false, IsTrue, Some}
+use Rattle.std.proofs.Common.{refl, ap, sym, subst, arith, ℤ, pos, replicate, slice_get, nat_lt}
 use Rattle.std.specs.Prelude.{◌==◌}
 use Rattle.std.specs.Option.{option_map_or}
 use Rattle.std.proofs.lemmas.Bool.Decides.{Decides-eqb}
@@ -16,7 +17,7 @@ use Rattle.tc_code.specs.Code.{Code}
 use Rattle.tc_code.specs.Lawful.{names_what_is, IsLawful}
 use Rattle.tc_code.specs.declared.code.Func.{Func}
 use Rattle.tc_base.specs.declared.request.Request.{Request}
-use Rattle.tc_base.specs.declared.request.Request.TheVariants.{Write, Acquire, Release, BeginWait, EndWait, WakeAll}
+use Rattle.tc_base.specs.declared.request.Request.TheVariants.{Write, Exchange, CompareExchange, Acquire, Release, BeginWait, EndWait, WakeAll}
 use Rattle.tc_code.specs.Step.{request, value_in, local_after, instr_of, ints_of, tids_of, born, perform, step, opening}
 use Rattle.tc_code.specs.Run.{IsReached}
 use Rattle.tc_code.specs.Facts.{placed_next}
@@ -44,7 +45,8 @@ whole_as code old new h w =
     }
 
 -- what the next instruction of a thread names is there
-pub names_next : (code : Code) (t : Local) (i : Instr) (lawful : IsLawful code) (at : instr_of code t ≡ Some i) → IsTrue (names_what_is code (placed_next code t i lawful at).function i)
+pub names_next : (code : Code) (t : Local) (i : Instr) (lawful : IsLawful code) (at : instr_of code t ≡ Some i)
+    → IsTrue (names_what_is code (placed_next code t i lawful at).function i)
 names_next code t i lawful at = let placed = placed_next code t i lawful at in placed.lawful.names t.instruction i placed.at
 
 -- a create of lawful code hands over what the function takes
@@ -81,7 +83,9 @@ module _ {B : Type 0} (ops : BufferOps B) (code : Code) where
   child_fits : (t : Local) (h f : ℕ) (es : List Expr) → IsLawful code → instr_of code t ≡ Some (Create h f es) → Fits code f (length (map (value_in t) es))
   child_fits t h f es lawful at =
       let placed = placed_next code t (Create h f es) lawful at in
-      let taken = found (λ g. g.params == length es) (slice_get code.functions f) (second (nat_lt h placed.function.tids) _ (first _ _ (names_next code t (Create h f es) lawful at))) in
+      let taken =
+      found (λ g. g.params == length es) (slice_get code.functions f)
+      (second (nat_lt h placed.function.tids) _ (first _ _ (names_next code t (Create h f es) lawful at))) in
       subst (Fits code f) (sym (length-map es (value_in t))) (fits_params code f (length es) taken.0 lawful taken.1 ((Decides-eqb _ _).0 taken.2))
 
   -- each step keeps threads whole
@@ -95,7 +99,10 @@ module _ {B : Type 0} (ops : BufferOps B) (code : Code) where
   -- an instruction leaves as much as there was
   performed_shares : (s : State B) (n : Name) (t : Thread B) (i : Instr) (r : Request) → SharesAsMuch s (perform ops code s n t i r)
   performed_shares s n t i (Write c v) =
-      either (SharesAsMuch s) ops.buffered _ _ (record { memory = refl; owners = refl; waiters = refl }) (record { memory = length-set s.memory c v; owners = refl; waiters = refl })
+      either (SharesAsMuch s) ops.buffered _ _ (record { memory = refl; owners = refl; waiters = refl })
+      (record { memory = length-set s.memory c v; owners = refl; waiters = refl })
+  performed_shares s n t i (Exchange c v) = record { memory = length-set s.memory c _; owners = refl; waiters = refl }
+  performed_shares s n t i (CompareExchange c e v) = record { memory = length-set s.memory c _; owners = refl; waiters = refl }
   performed_shares s n t i (Acquire m) = record { memory = refl; owners = length-set s.owners m _; waiters = refl }
   performed_shares s n t i (Release m) = record { memory = refl; owners = length-set s.owners m _; waiters = refl }
   performed_shares s n t i (BeginWait c m) = record { memory = refl; owners = length-set s.owners m _; waiters = length-set s.waiters c _ }
@@ -106,7 +113,8 @@ module _ {B : Type 0} (ops : BufferOps B) (code : Code) where
   -- so does a move
   went_shares : (s u : State B) (m : Move) → Went ops code s u m → SharesAsMuch s u
   went_shares s u (move.Run n) w = subst (SharesAsMuch s) (sym w.after) (performed_shares s n w.thread w.instr (request w.thread.local w.instr))
-  went_shares s u (move.Wake n v) w = subst (SharesAsMuch s) (sym w.after) (record { memory = refl; owners = refl; waiters = length-set s.waiters w.condition _ })
+  went_shares s u (move.Wake n v) w =
+      subst (SharesAsMuch s) (sym w.after) (record { memory = refl; owners = refl; waiters = length-set s.waiters w.condition _ })
   went_shares s u (move.Drain n form) w = subst (SharesAsMuch s) (sym w.after) (record { memory = length-set s.memory _ _; owners = refl; waiters = refl })
 
   -- each step leaves as much as there was
@@ -132,7 +140,9 @@ module _ {B : Type 0} (ops : BufferOps B) (code : Code) where
         cells = refl;
         owners = length-replicate code.mutexes _;
         waiters = length-replicate code.conditions _;
-        threads = all_at_opening ops code (IsWholeThread code) (born_is_whole (length code.functions - 1) [] (fits_params code (length code.functions - 1) 0 main.main lawful main.there main.params));
+        threads =
+            all_at_opening ops code (IsWholeThread code) (born_is_whole (length code.functions - 1) []
+            (fits_params code (length code.functions - 1) 0 main.main lawful main.there main.params));
       }
 
   -- each state that a run of lawful code reaches is whole

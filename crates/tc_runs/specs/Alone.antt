@@ -13,8 +13,8 @@ use Rattle.tc_code.specs.Expr.{Expr}
 use Rattle.tc_code.specs.Instr.{Instr, Create}
 use Rattle.tc_code.specs.Code.{Code}
 use Rattle.tc_base.specs.declared.request.Request.{Request}
-use Rattle.tc_base.specs.declared.request.Request.TheVariants.{Read, Fail}
-use Rattle.tc_code.specs.Step.{request, stepped, value_in, local_after, instr_of, loaded, born, step}
+use Rattle.tc_base.specs.declared.request.Request.TheVariants.{Read, Exchange, CompareExchange, Fail}
+use Rattle.tc_code.specs.Step.{request, stepped, value_in, local_after, instr_of, loaded, in_memory, born, step}
 use Rattle.tc_code.specs.Run.{run}
 
 -- a thread, and the values that its further loads take
@@ -22,9 +22,11 @@ pub record Alone : Type 0 where
   pub local : Local
   pub values : List ℤ
 
--- after an instruction that asks this: a load takes the first of the values
+-- after an instruction that asks this: one that takes a value from memory takes the first of the values
 abbrev pub after_request : Local → Instr → List ℤ → Request → Alone
 after_request t i (v ∷ vs) (Read c) = record { local = local_after t i v; values = vs }
+after_request t i (v ∷ vs) (Exchange c _) = record { local = local_after t i v; values = vs }
+after_request t i (v ∷ vs) (CompareExchange c _ _) = record { local = local_after t i v; values = vs }
 after_request t i vs Fail = record { local = stepped t; values = vs }
 after_request t i vs _ = record { local = local_after t i (pos 0); values = vs }
 
@@ -38,9 +40,11 @@ after_steps code zero a = a
 after_steps code (suc k) a = after_steps code k (goes_on code a)
 
 module _ {B : Type 0} (ops : BufferOps B) (code : Code) where
-  -- the value that a request of a thread takes, if it is a load
+  -- the value that a request of a thread takes from memory, if it takes one
   abbrev pub taken_by : State B → Thread B → Request → List ℤ
   taken_by s t (Read c) = loaded ops s t c ∷ []
+  taken_by s t (Exchange c _) = in_memory s c ∷ []
+  taken_by s t (CompareExchange c _ _) = in_memory s c ∷ []
   taken_by s t _ = []
 
   -- the value that a move's load by the thread of a name takes, if it is one
@@ -61,7 +65,9 @@ module _ {B : Type 0} (ops : BufferOps B) (code : Code) where
     -- main is there before the first move, and does the last function
     Of_main : Creation main [] (length code.functions - 1) []
     -- its parent does a create, which names the function and the arguments
-    By_parent : (moves : List Move) (s : State B) (p : Name) (t : Thread B) (h f : ℕ) (es : List Expr) → run ops code moves ≡ Some s → fin.get s.threads p ≡ Some t → instr_of code t.local ≡ Some (Create h f es) → Creation (child p (t.local.children + 1)) (moves ++ move.Run p ∷ []) f (map (value_in t.local) es)
+    By_parent : (moves : List Move) (s : State B) (p : Name) (t : Thread B) (h f : ℕ) (es : List Expr) → run ops code moves ≡ Some s
+        → fin.get s.threads p ≡ Some t → instr_of code t.local ≡ Some (Create h f es)
+        → Creation (child p (t.local.children + 1)) (moves ++ move.Run p ∷ []) f (map (value_in t.local) es)
 
   -- where the thread of a name began in a run: the first moves create it, and it is at the start of its function
   pub record Beginning (n : Name) (moves : List Move) : Type 0 where

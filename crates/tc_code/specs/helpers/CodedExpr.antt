@@ -95,7 +95,8 @@ closed-parts (Unary op a) trees =
     ∙ ap (λ o. Unary o a ∷ trees) (unary_op-unary_number op)
 closed-parts (Binary op a b) trees =
     closed-append trees (parts a ++ parts b) _
-    ∙ ap (λ t. closed t (inr (inr (binary_number op)) ∷ [])) (closed-append trees (parts a) (parts b) ∙ ap (λ t. closed t (parts b)) (closed-parts a trees) ∙ closed-parts b (a ∷ trees))
+    ∙ ap (λ t. closed t (inr (inr (binary_number op)) ∷ []))
+    (closed-append trees (parts a) (parts b) ∙ ap (λ t. closed t (parts b)) (closed-parts a trees) ∙ closed-parts b (a ∷ trees))
     ∙ ap (λ o. Binary o a b ∷ trees) (binary_op-binary_number op)
 
 abbrev first : List Expr → Expr

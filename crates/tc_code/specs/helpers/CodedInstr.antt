@@ -2,7 +2,8 @@
 use Rattle.std.specs.Prelude.{◌≡◌, ℕ, List, [], ◌∷◌, refl, get_or}
 use Rattle.std.specs.Coded.{Coded, code_by, coded_ℕ, coded_list, coded×}
 use Rattle.tc_code.specs.Expr.{Expr, Slot}
-use Rattle.tc_code.specs.Instr.{Instr, Set, Load, Load_at, Store, Store_at, Inside, Branch, Goto, Holds, Lock, Unlock, Sleep, Wake, Signal, Broadcast, Create, Ready, Join, Assert, Fence, Exit}
+use Rattle.tc_code.specs.Instr.{Instr, Set, Load, Load_at, Store, Store_at, Inside, Branch, Goto, Holds, Lock, Unlock, Sleep, Wake}
+use Rattle.tc_code.specs.Instr.{Signal, Broadcast, Create, Ready, Join, Assert, Nonzero, In_range, Swap, Cas, Fence, Stbar, Exit}
 use Rattle.tc_code.specs.helpers.CodedExpr.{coded_expr}
 
 -- an instruction as its number in the list of kinds, the numbers that it names, and its expressions
@@ -31,6 +32,11 @@ split (Join h) = (17, (h ∷ [], []))
 split (Assert e) = (18, ([], e ∷ []))
 split Fence = (19, ([], []))
 split Exit = (20, ([], []))
+split (Nonzero e) = (21, ([], e ∷ []))
+split (In_range e) = (22, ([], e ∷ []))
+split (Swap k c e) = (23, (k ∷ c ∷ [], e ∷ []))
+split (Cas k c e new) = (24, (k ∷ c ∷ [], e ∷ new ∷ []))
+split Stbar = (25, ([], []))
 
 abbrev number : List ℕ → ℕ → ℕ
 number ns k = get_or ns k 0
@@ -61,6 +67,11 @@ kinds ns es =
     ∷ Assert (expr es 0)
     ∷ Fence
     ∷ Exit
+    ∷ Nonzero (expr es 0)
+    ∷ In_range (expr es 0)
+    ∷ Swap (number ns 0) (number ns 1) (expr es 0)
+    ∷ Cas (number ns 0) (number ns 1) (expr es 0) (expr es 1)
+    ∷ Stbar
     ∷ []
 
 abbrev whole : Split → Instr
@@ -88,6 +99,11 @@ whole-split (Join h) = refl
 whole-split (Assert e) = refl
 whole-split Fence = refl
 whole-split Exit = refl
+whole-split (Nonzero e) = refl
+whole-split (In_range e) = refl
+whole-split (Swap k c e) = refl
+whole-split (Cas k c e new) = refl
+whole-split Stbar = refl
 
 abbrev pub coded_instr : Coded Instr
 coded_instr = code_by Split (coded× coded_ℕ (coded× (coded_list coded_ℕ) (coded_list coded_expr))) split whole whole-split

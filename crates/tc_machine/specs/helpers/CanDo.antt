@@ -8,7 +8,8 @@ use Rattle.tc_code.specs.Code.{Code}
 use Rattle.tc_code.specs.Lawful.{names_what_is}
 use Rattle.tc_code.specs.declared.code.Func.{Func}
 use Rattle.tc_base.specs.declared.request.Request.{Request}
-use Rattle.tc_base.specs.declared.request.Request.TheVariants.{Silent, Read, Write, Acquire, Release, BeginWait, EndWait, WakeOne, WakeAll, Start}
+use Rattle.tc_base.specs.declared.request.Request.TheVariants.{Silent, Read, Write, Exchange, CompareExchange, Acquire}
+use Rattle.tc_base.specs.declared.request.Request.TheVariants.{Release, BeginWait, EndWait, WakeOne, WakeAll, Start}
 use Rattle.tc_code.specs.Step.{ints_of, arguments_of}
 use Rattle.tc_runs.specs.Counters.{IsBelowLast}
 use Rattle.tc_runs.specs.Whole.{IndexIsWithin}
@@ -52,6 +53,8 @@ module _ {B : Type 0} where
   abbrev pub AsksWithin : State B → Request → Type 0
   AsksWithin s (Read c) = c < length s.memory
   AsksWithin s (Write c v) = c < length s.memory
+  AsksWithin s (Exchange c v) = c < length s.memory
+  AsksWithin s (CompareExchange c e v) = c < length s.memory
   AsksWithin s (Acquire m) = m < length s.owners
   AsksWithin s (Release m) = m < length s.owners
   AsksWithin s (BeginWait c m) = (c < length s.waiters) × (m < length s.owners)

@@ -36,6 +36,13 @@ pub(super) enum Op {
     Goto(u32),
     Fence,
     Exit,
+    Nonzero,
+    InRange,
+    /// The slot and cell 0 change their values.
+    Swap,
+    /// The slot takes cell 0, which takes 6 where it has the number.
+    Cas(i32),
+    Stbar,
 }
 
 /// What a thread does.
@@ -102,6 +109,20 @@ fn instr_of(alloc: Global, op: Op) -> Result<Instr, AllocError> {
         Op::Goto(target) => Instr::Goto { target },
         Op::Fence => Instr::Fence,
         Op::Exit => Instr::Exit,
+        Op::Nonzero => Instr::Nonzero(slot),
+        Op::InRange => Instr::InRange(slot),
+        Op::Swap => Instr::Swap {
+            slot: 0,
+            cell: 0,
+            value: slot,
+        },
+        Op::Cas(expected) => Instr::Cas {
+            slot: 0,
+            cell: 0,
+            expected: Expr::Number(expected),
+            value: Expr::Number(6),
+        },
+        Op::Stbar => Instr::Stbar,
     })
 }
 

@@ -272,8 +272,18 @@ fn wakes_and_drains_are_refused(rt: HostRuntime) -> Result<(), Fail> {
     for (functions, moves, refused, want) in [
         (SIGNALS, [0].as_slice(), Refused::Wake(2, 1), "NoThread"),
         (BROADCASTS, [0; 4].as_slice(), Refused::Wake(0, 1), "Exited"),
-        (SIGNALS, [0, 0].as_slice(), Refused::Wake(0, 3), "WrongWaiter"),
-        (ADDS, [0, 1, 1].as_slice(), Refused::Drain(1, None), "NoEntry"),
+        (
+            SIGNALS,
+            [0, 0].as_slice(),
+            Refused::Wake(0, 3),
+            "WrongWaiter",
+        ),
+        (
+            ADDS,
+            [0, 1, 1].as_slice(),
+            Refused::Drain(1, None),
+            "NoEntry",
+        ),
         (ADDS, [0].as_slice(), Refused::Drain(1, Some(0)), "NoEntry"),
         (ADDS, [].as_slice(), Refused::Drain(1, None), "NoThread"),
         (UNLOCKS, [0].as_slice(), Refused::Drain(0, None), "Stopped"),
@@ -283,6 +293,64 @@ fn wakes_and_drains_are_refused(rt: HostRuntime) -> Result<(), Fail> {
         let m = move_of(alloc, refused)?;
         let why = enabled(&code, &end.state, &m).err().ok_or("enabled")?;
         assert_eq!(rt; format!(in alloc; "{why}")?.as_str(), want);
+    }
+    Ok(())
+}
+
+/// A swap takes 5 and gives 3, and then it takes 3 and gives 5.
+const SWAPS: Function = &[
+    Op::Set(4),
+    Op::StoreNext,
+    Op::Set(3),
+    Op::Swap,
+    Op::Is(5),
+    Op::Swap,
+    Op::Is(3),
+    Op::Load,
+    Op::Is(5),
+    Op::Is(6),
+    Op::Exit,
+];
+
+/// Cell 0 has 5, and takes 6 where it has the expected number. The slot takes 5 in both cases.
+fn exchanges(expected: i32) -> [Op; 7] {
+    [
+        Op::Set(4),
+        Op::StoreNext,
+        Op::Cas(expected),
+        Op::Is(5),
+        Op::Load,
+        Op::Is(6),
+        Op::Exit,
+    ]
+}
+
+#[test]
+fn exchanges_take_and_give(rt: HostRuntime) -> Result<(), Fail> {
+    let alloc = rt.alloc();
+    let succeeds = exchanges(5);
+    let fails = exchanges(4);
+    for (main, moves, want) in [
+        (SWAPS, 11, "0 failed, 0 10, Stopped at 11"),
+        (succeeds.as_slice(), 7, "none failed, 0 7"),
+        (fails.as_slice(), 7, "0 failed, 0 6, Stopped at 7"),
+        (&[Op::Stbar, Op::Is(0), Op::Exit], 3, "none failed, 0 3"),
+        (&[Op::Nonzero, Op::Exit], 1, "0 failed, 0 1"),
+    ] {
+        let numbers = &[0; 12][..moves];
+        assert_eq!(rt; seen_after(alloc, &[main], numbers)?.as_str(), want);
+    }
+    for (site, number, want) in [
+        (Op::Nonzero, -1, "none failed, 0 3"),
+        (Op::Nonzero, 0, "0 failed, 0 2, Stopped at 3"),
+        (Op::InRange, -1, "0 failed, 0 2, Stopped at 3"),
+        (Op::InRange, 0, "none failed, 0 3"),
+        (Op::InRange, 31, "none failed, 0 3"),
+        (Op::InRange, 32, "0 failed, 0 2, Stopped at 3"),
+    ] {
+        let main = [Op::Set(number), site, Op::Exit];
+        let end = seen_after(alloc, &[main.as_slice()], &[0; 3])?;
+        assert_eq!(rt; end.as_str(), want, "{number}");
     }
     Ok(())
 }

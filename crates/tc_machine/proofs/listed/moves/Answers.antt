@@ -9,5 +9,6 @@ use Rattle.tc_machine.proofs.listed.moves.Goals as goal
 pub returns-clause-all : goal.returns-clause-all
 returns-clause-all c m enabled =
     let names = take_all c.loop-name.name-index c.as_slice-name-items.result.now c.loop-name-test.false ∙ c.as_slice-name-items.ensures ∙ c.threads.ensures in
-    let whole : c.loop-name.found.items ≡ enabled_moves no_buffer c.args.code.now c.args.state.now = c.loop-name.invariant ∙ ap (flat_map (moves_of no_buffer c.args.code.now c.args.state.now)) names in
+    let whole : c.loop-name.found.items ≡ enabled_moves no_buffer c.args.code.now c.args.state.now =
+    c.loop-name.invariant ∙ ap (flat_map (moves_of no_buffer c.args.code.now c.args.state.now)) names in
     subst (λ moves. Contains moves m) (sym whole) (every_enabled_move_is_listed c.args.code.now c.args.state.now c.requires.reached m enabled)

@@ -6,4 +6,5 @@ use Rattle.tc_machine.proofs.listed.push_enabled.Goals as goal
 
 pub returns-in-Err : goal.returns-in-Err
 returns-in-Err c =
-    sym (ap (λ b. c.args.found.now.items ++ cond b (c.args.m ∷ []) []) (disabled_with_reason no_buffer c.args.code.now c.args.state.now c.args.m c.in-Err.field-0 c.in-Err.ensures) ∙ append-nil c.args.found.now.items)
+    sym (ap (λ b. c.args.found.now.items ++ cond b (c.args.m ∷ []) [])
+    (disabled_with_reason no_buffer c.args.code.now c.args.state.now c.args.m c.in-Err.field-0 c.in-Err.ensures) ∙ append-nil c.args.found.now.items)

@@ -12,4 +12,5 @@ returns-else-signals c =
     c.in_ok-push_enabled.ensures
     ∙ ap (λ n. c.args.found.now.items ++ filter (is_enabled no_buffer c.args.code.now c.args.state.now) (Run n ∷ [])) c.in_ok-clone.ensures.cases
     ∙ ap (λ moves. c.args.found.now.items ++ moves)
-    (first_only (is_enabled no_buffer c.args.code.now c.args.state.now) (λ u. Wake c.args.name.now u) (fin.keys c.args.state.now.threads) (Run c.args.name.now) c.if-signals.ensures)
+    (first_only (is_enabled no_buffer c.args.code.now c.args.state.now) (λ u. Wake c.args.name.now u) (fin.keys c.args.state.now.threads)
+    (Run c.args.name.now) c.if-signals.ensures)

@@ -9,8 +9,11 @@ use Rattle.tc_machine.proofs.listed.push_wakes.Goals as goal
 
 pub loop-waiter-preserved : goal.loop-waiter-preserved
 loop-waiter-preserved c =
-    let same : Wake c.in_ok-clone.field-0 c.in_ok-clone-2.field-0 ≡ Wake c.args.name.now c.waiter-item.result = ap (λ n. Wake n c.in_ok-clone-2.field-0) c.in_ok-clone.ensures.cases ∙ ap (λ u. Wake c.args.name.now u) c.in_ok-clone-2.ensures.cases in
-    listed_more (is_enabled no_buffer c.args.code.now c.args.state.now) (λ u. Wake c.args.name.now u) c.as_slice-waiter-items.result.now c.loop-waiter.waiter-index c.waiter-item.result c.args.found.now.items c.loop-waiter.found.items c.push_enabled-in-loop-waiter.new.found.items c.loop-waiter-test.true c.waiter-item.is c.loop-waiter.invariant
+    let same : Wake c.in_ok-clone.field-0 c.in_ok-clone-2.field-0 ≡ Wake c.args.name.now c.waiter-item.result =
+    ap (λ n. Wake n c.in_ok-clone-2.field-0) c.in_ok-clone.ensures.cases ∙ ap (λ u. Wake c.args.name.now u) c.in_ok-clone-2.ensures.cases in
+    listed_more (is_enabled no_buffer c.args.code.now c.args.state.now)
+    (λ u. Wake c.args.name.now u) c.as_slice-waiter-items.result.now c.loop-waiter.waiter-index c.waiter-item.result c.args.found.now.items
+    c.loop-waiter.found.items c.push_enabled-in-loop-waiter.new.found.items c.loop-waiter-test.true c.waiter-item.is c.loop-waiter.invariant
     (c.in_ok-push_enabled.ensures ∙ ap (λ m. c.loop-waiter.found.items ++ filter (is_enabled no_buffer c.args.code.now c.args.state.now) (m ∷ [])) same)
 
 pub returns : goal.returns

@@ -6,4 +6,5 @@ use Rattle.tc_machine.specs.Moves.{is_enabled}
 use Rattle.tc_machine.proofs.listed.push_wakes.Given as goal
 
 abbrev pub invariant-loop-waiter : goal.invariant-loop-waiter
-invariant-loop-waiter l = l.found.items ≡ l.initial.found.items ++ filter (is_enabled no_buffer l.code l.state) (map (λ u. Wake l.name u) (take l.waiter-index l.waiter-items))
+invariant-loop-waiter l =
+    l.found.items ≡ l.initial.found.items ++ filter (is_enabled no_buffer l.code l.state) (map (λ u. Wake l.name u) (take l.waiter-index l.waiter-items))

@@ -6,10 +6,14 @@ use Rattle.tc_machine.proofs.Can.{can_ask, asked_is_there}
 use Rattle.tc_machine.proofs.machine.may_run.Goals as goal
 
 pub request-request-requires : goal.request-request-requires
-request-request-requires c =
-    (c.args.code.now, can_ask no_buffer c.args.code.now c.args.state.now c.args.name.now c.in_ok-thread.thread.now (plain_instr c.in_ok-thread.instr.now) c.in_ok-thread.ensures.lawful c.requires.reached c.in_ok-thread.ensures.thread c.in_ok-thread.ensures.instr)
+request-request-requires c = (
+  c.args.code.now,
+  can_ask no_buffer c.args.code.now c.args.state.now c.args.name.now c.in_ok-thread.thread.now
+      (plain_instr c.in_ok-thread.instr.now) c.in_ok-thread.ensures.lawful c.requires.reached c.in_ok-thread.ensures.thread c.in_ok-thread.ensures.instr,
+)
 
 pub lets-requires : goal.lets-requires
 lets-requires c =
     subst (AsksWithin c.args.state.now) (sym c.request-request.ensures)
-    (asked_is_there no_buffer c.args.code.now c.args.state.now c.args.name.now c.in_ok-thread.thread.now (plain_instr c.in_ok-thread.instr.now) c.in_ok-thread.ensures.lawful c.requires.reached c.in_ok-thread.ensures.thread c.in_ok-thread.ensures.instr)
+    (asked_is_there no_buffer c.args.code.now c.args.state.now c.args.name.now c.in_ok-thread.thread.now
+    (plain_instr c.in_ok-thread.instr.now) c.in_ok-thread.ensures.lawful c.requires.reached c.in_ok-thread.ensures.thread c.in_ok-thread.ensures.instr)

@@ -9,4 +9,5 @@ use Rattle.tc_machine.proofs.machine.may_wake.Goals as goal
 pub waiting_on-requires : goal.waiting_on-requires
 waiting_on-requires c =
     subst (λ i. AsksWithin c.args.state.now (request c.in_ok-instr.field-0-0.now.local (plain_instr i))) c.in-Signal.is
-    (asked_is_there no_buffer c.args.code.now c.args.state.now c.args.name.now c.in_ok-instr.field-0-0.now (plain_instr c.in_ok-instr.instr.now) c.in_ok-instr.ensures.lawful c.requires.reached c.in_ok-instr.ensures.thread c.in_ok-instr.ensures.instr)
+    (asked_is_there no_buffer c.args.code.now c.args.state.now c.args.name.now c.in_ok-instr.field-0-0.now
+    (plain_instr c.in_ok-instr.instr.now) c.in_ok-instr.ensures.lawful c.requires.reached c.in_ok-instr.ensures.thread c.in_ok-instr.ensures.instr)

@@ -7,11 +7,19 @@ use Rattle.tc_machine.proofs.Can.{can_ask, can_perform}
 use Rattle.tc_machine.proofs.machine.run.Goals as goal
 
 pub request-request-requires : goal.request-request-requires
-request-request-requires c =
-    (c.args.code.now, can_ask no_buffer c.args.code.now c.args.state.now c.args.name.now c.in-Some.thread.now (plain_instr c.in-Some-instr.instr.now) c.in-Some-instr.ensures.lawful c.requires.reached (sym c.in-Some.ensures) (sym c.in-Some-instr.ensures.next))
+request-request-requires c = (
+  c.args.code.now,
+  can_ask no_buffer c.args.code.now c.args.state.now c.args.name.now c.in-Some.thread.now
+      (plain_instr c.in-Some-instr.instr.now) c.in-Some-instr.ensures.lawful c.requires.reached (sym c.in-Some.ensures) (sym c.in-Some-instr.ensures.next),
+)
 
 pub perform-requires : goal.perform-requires
 perform-requires c =
-    let can = can_perform no_buffer c.args.code.now c.args.state.now c.args.name.now c.in-Some.thread.now (plain_instr c.in-Some-instr.instr.now) c.in-Some-instr.ensures.lawful c.requires.reached (sym c.in-Some.ensures) (sym c.in-Some-instr.ensures.next) c.requires.counters c.in-Some-instr.ensures.room in
-    subst (λ o. IsSomeAnd o (CanPerform c.args.code.now c.args.state.now c.args.name.now (plain_instr c.in-Some-instr.instr.now) c.request-request.result)) c.in-Some.ensures
-    (subst (λ r. CanPerform c.args.code.now c.args.state.now c.args.name.now (plain_instr c.in-Some-instr.instr.now) r c.in-Some.thread.now) (sym c.request-request.ensures) can)
+    let can =
+    can_perform no_buffer c.args.code.now c.args.state.now c.args.name.now c.in-Some.thread.now
+    (plain_instr c.in-Some-instr.instr.now) c.in-Some-instr.ensures.lawful c.requires.reached (sym c.in-Some.ensures)
+    (sym c.in-Some-instr.ensures.next) c.requires.counters c.in-Some-instr.ensures.room in
+    subst (λ o. IsSomeAnd o (CanPerform c.args.code.now c.args.state.now c.args.name.now
+    (plain_instr c.in-Some-instr.instr.now) c.request-request.result)) c.in-Some.ensures
+    (subst (λ r. CanPerform c.args.code.now c.args.state.now c.args.name.now (plain_instr c.in-Some-instr.instr.now) r c.in-Some.thread.now)
+    (sym c.request-request.ensures) can)

@@ -9,10 +9,15 @@ use Rattle.tc_machine.proofs.machine.wake.Goals as goal
 
 pub wake-requires-clause-can : goal.wake-requires-clause-can
 wake-requires-clause-can c =
-    subst (λ o. IfSome o (λ t. (code : Code) × CanDo code t.local (plain_instr c.in-Some-instr.instr.now))) c.in-Some.ensures
-    (c.args.code.now, can_do no_buffer c.args.code.now c.args.state.now c.args.name.now c.in-Some.thread.now (plain_instr c.in-Some-instr.instr.now) c.in-Some-instr.ensures.lawful c.requires.reached (sym c.in-Some.ensures) (sym c.in-Some-instr.ensures.next) c.requires.counters c.in-Some-instr.ensures.room)
+    subst (λ o. IfSome o (λ t. (code : Code) × CanDo code t.local (plain_instr c.in-Some-instr.instr.now))) c.in-Some.ensures (
+      c.args.code.now,
+      can_do no_buffer c.args.code.now c.args.state.now c.args.name.now c.in-Some.thread.now
+          (plain_instr c.in-Some-instr.instr.now) c.in-Some-instr.ensures.lawful c.requires.reached (sym c.in-Some.ensures)
+          (sym c.in-Some-instr.ensures.next) c.requires.counters c.in-Some-instr.ensures.room,
+    )
 
 pub wake-requires-clause-there : goal.wake-requires-clause-there
 wake-requires-clause-there c =
     subst (λ i. AsksWithin c.args.state.now (request c.in-Some.thread.now.local (plain_instr i))) c.in-Signal.is
-    (asked_is_there no_buffer c.args.code.now c.args.state.now c.args.name.now c.in-Some.thread.now (plain_instr c.in-Some-instr.instr.now) c.in-Some-instr.ensures.lawful c.requires.reached (sym c.in-Some.ensures) (sym c.in-Some-instr.ensures.next))
+    (asked_is_there no_buffer c.args.code.now c.args.state.now c.args.name.now c.in-Some.thread.now
+    (plain_instr c.in-Some-instr.instr.now) c.in-Some-instr.ensures.lawful c.requires.reached (sym c.in-Some.ensures) (sym c.in-Some-instr.ensures.next))

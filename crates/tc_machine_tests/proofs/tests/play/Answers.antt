@@ -9,10 +9,12 @@ use Rattle.tc_machine_tests.proofs.tests.play.Goals as goal
 
 pub step-requires-clause-counters : goal.step-requires-clause-counters
 step-requires-clause-counters c =
-    counters_below_last no_buffer c.args.code.now (take c.loop-k.k c.args.moves.now) c.loop-k.state c.loop-k.invariant (omega (arith, length-take c.loop-k.k c.args.moves.now))
+    counters_below_last no_buffer c.args.code.now (take c.loop-k.k c.args.moves.now) c.loop-k.state c.loop-k.invariant
+    (omega (arith, length-take c.loop-k.k c.args.moves.now))
 
 pub loop-k-preserved : goal.loop-k-preserved
 loop-k-preserved c =
     let more = take_more c.args.moves.now c.loop-k.k c.index-moves-k.result c.loop-k-test.true in
     ap (run no_buffer c.args.code.now) (more ∙ ap (λ m. take c.loop-k.k c.args.moves.now ++ m ∷ []) (sym c.index-moves-k.is))
-    ∙ run_from-step no_buffer c.args.code.now (opening no_buffer c.args.code.now) c.loop-k.state c.step.new.state (take c.loop-k.k c.args.moves.now) c.index-moves-k.result c.loop-k.invariant c.in_ok-step.ensures.ok
+    ∙ run_from-step no_buffer c.args.code.now (opening no_buffer c.args.code.now) c.loop-k.state c.step.new.state
+    (take c.loop-k.k c.args.moves.now) c.index-moves-k.result c.loop-k.invariant c.in_ok-step.ensures.ok

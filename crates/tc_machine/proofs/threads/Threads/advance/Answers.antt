@@ -23,14 +23,24 @@ pub returns : goal.returns
 returns c = elim c.match-get_mut.branch [
   | in-Some w ↦
       let there = get_of_entries _ _ c.args.name.now c.self.view_is ∙ sym c.get_mut.ensures.value ∙ ap option_copied_mut w.in-Some.is in
-      let is_there : IsSome (get_by (slice_cmp nat_cmp c.args.name.now) c.self.inside.by_name) = subst IsSome (sym (ap option_copied_mut w.in-Some.is) ∙ c.get_mut.ensures.value) refl in
+      let is_there : IsSome (get_by (slice_cmp nat_cmp c.args.name.now) c.self.inside.by_name) =
+      subst IsSome (sym (ap option_copied_mut w.in-Some.is) ∙ c.get_mut.ensures.value) refl in
       let put =
-      map_of_update c.self.inside.by_name.entries (c.get_mut.follows.lender w.advance.new.self).entries c.args.name.now w.advance.new.self ((c.get_mut.follows.holds w.advance.new.self).3 is_there).0
+      map_of_update c.self.inside.by_name.entries (c.get_mut.follows.lender w.advance.new.self).entries c.args.name.now w.advance.new.self
+      ((c.get_mut.follows.holds w.advance.new.self).3 is_there).0
       ∙ ap (λ m. map.insert m c.args.name.now w.advance.new.self) c.self.view_is in
       record {
-        ok = rw (there, w.result-is, w.self-inside-is) (on_ok_weaker w.advance.result (λ done. put ∙ ap (map.insert c.args.self.now c.args.name.now) done ∙ ap (λ v. map.insert c.args.self.now c.args.name.now (record w.in-Some.thread.now { local = local_after w.in-Some.thread.now.local (plain_instr c.args.instr.now) v })) (to_z-of_z w32 c.args.taken c.ranges.taken)) w.advance.ensures.ok);
+        ok =
+            rw (there, w.result-is, w.self-inside-is) (on_ok_weaker w.advance.result
+            (λ done. put ∙ ap (map.insert c.args.self.now c.args.name.now) done
+            ∙ ap (λ v. map.insert c.args.self.now c.args.name.now
+            (record w.in-Some.thread.now { local = local_after w.in-Some.thread.now.local (plain_instr c.args.instr.now) v }))
+            (to_z-of_z w32 c.args.taken c.ranges.taken)) w.advance.ensures.ok);
         only = rw w.result-is w.advance.ensures.only;
-        err = rw (w.result-is, w.self-inside-is) (on_err_weaker w.advance.result (λ same. put ∙ ap (map.insert c.args.self.now c.args.name.now) same ∙ insert_same c.args.self.now c.args.name.now w.in-Some.thread.now there) w.advance.ensures.err);
+        err =
+            rw (w.result-is, w.self-inside-is) (on_err_weaker w.advance.result
+            (λ same. put ∙ ap (map.insert c.args.self.now c.args.name.now) same
+            ∙ insert_same c.args.self.now c.args.name.now w.in-Some.thread.now there) w.advance.ensures.err);
       }
   | in-None w ↦ record {
     ok = rw (get_of_entries _ _ c.args.name.now c.self.view_is ∙ sym c.get_mut.ensures.value ∙ ap option_copied_mut w.in-None.is, w.result-is) tt;

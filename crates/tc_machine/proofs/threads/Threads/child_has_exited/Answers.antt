@@ -13,9 +13,13 @@ loop-name-init c =
 pub returns-then-is_child : goal.returns-then-is_child
 returns-then-is_child c =
     c.has_exited.ensures
-    ∙ ap (λ o. option_map_or (λ t. t.local.has_exited) o false) (sym (c.loop-name.invariant ∙ first_at_name c.loop-name.name-iterator c.next.new.self c.in-Some.name.now (child c.args.parent.now c.args.number) c.in-Some.thread.now c.in-Some.ensures.steps (c.is_child.ensures.0 c.if-is_child.true)))
+    ∙ ap (λ o. option_map_or (λ t. t.local.has_exited) o false)
+    (sym (c.loop-name.invariant ∙ first_at_name c.loop-name.name-iterator c.next.new.self c.in-Some.name.now
+    (child c.args.parent.now c.args.number) c.in-Some.thread.now c.in-Some.ensures.steps (c.is_child.ensures.0 c.if-is_child.true)))
 
 pub loop-name-preserved : goal.loop-name-preserved
 loop-name-preserved c =
     c.loop-name.invariant
-    ∙ further_at_name c.loop-name.name-iterator c.next.new.self c.in-Some.name.now (child c.args.parent.now c.args.number) c.in-Some.thread.now c.in-Some.ensures.steps (λ same. false≢true (sym c.if-is_child.false ∙ c.is_child.ensures.1 same))
+    ∙ further_at_name c.loop-name.name-iterator c.next.new.self c.in-Some.name.now
+    (child c.args.parent.now c.args.number) c.in-Some.thread.now c.in-Some.ensures.steps
+    (λ same. false≢true (sym c.if-is_child.false ∙ c.is_child.ensures.1 same))

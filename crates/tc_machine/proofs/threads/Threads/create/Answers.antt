@@ -12,13 +12,19 @@ use Rattle.tc_machine.proofs.threads.Threads.create.Goals as goal
 
 pub advance-requires : goal.advance-requires
 advance-requires c =
-    let t = there_and (λ (t : Thread NoBuffer). (code : Code) × CanDo code t.local (plain_instr c.args.instr.now)) (map.get c.args.self.now c.args.name.now) c.requires.can in
+    let t =
+    there_and (λ (t : Thread NoBuffer). (code : Code) × CanDo code t.local (plain_instr c.args.instr.now))
+    (map.get c.args.self.now c.args.name.now) c.requires.can in
     subst (λ o. IfSome o (λ t. (code : Code) × CanDo code t.local (plain_instr c.args.instr.now)))
-    (sym (ap (λ m. map.get m c.args.name.now) c.in_ok-add.ensures.ok ∙ get-insert_new c.args.self.now c.args.name.now c.args.child t.0 c.args.thread t.1 c.requires.is_new ∙ t.1)) t.2
+    (sym (ap (λ m. map.get m c.args.name.now) c.in_ok-add.ensures.ok
+    ∙ get-insert_new c.args.self.now c.args.name.now c.args.child t.0 c.args.thread t.1 c.requires.is_new ∙ t.1)) t.2
 
 pub returns-clause-ok : goal.returns-clause-ok
 returns-clause-ok c =
-    let t = there_and (λ (t : Thread NoBuffer). (code : Code) × CanDo code t.local (plain_instr c.args.instr.now)) (map.get c.args.self.now c.args.name.now) c.requires.can in
+    let t =
+    there_and (λ (t : Thread NoBuffer). (code : Code) × CanDo code t.local (plain_instr c.args.instr.now))
+    (map.get c.args.self.now c.args.name.now) c.requires.can in
     on_ok_weaker c.advance.result
-    (after_new c.args.self.now c.add.new.self c.advance.new.self c.args.name.now c.args.child c.args.thread (λ t. record t { local = local_after t.local (plain_instr c.args.instr.now) (pos 0) }) t.0 t.1 c.requires.is_new c.in_ok-add.ensures.ok)
+    (after_new c.args.self.now c.add.new.self c.advance.new.self c.args.name.now c.args.child c.args.thread
+    (λ t. record t { local = local_after t.local (plain_instr c.args.instr.now) (pos 0) }) t.0 t.1 c.requires.is_new c.in_ok-add.ensures.ok)
     c.advance.ensures.ok

@@ -17,9 +17,13 @@ pub returns : goal.returns
 returns c = elim c.match-get_mut.branch [
   | in-Some w ↦
       let there = get_of_entries _ _ c.args.name.now c.self.view_is ∙ sym c.get_mut.ensures.value ∙ ap option_copied_mut w.in-Some.is in
-      let is_there : IsSome (get_by (slice_cmp nat_cmp c.args.name.now) c.self.inside.by_name) = subst IsSome (sym (ap option_copied_mut w.in-Some.is) ∙ c.get_mut.ensures.value) refl in
-      let put = map_of_update c.self.inside.by_name.entries (c.get_mut.follows.lender w.count_step.new.self).entries c.args.name.now w.count_step.new.self ((c.get_mut.follows.holds w.count_step.new.self).3 is_there).0 in
-      rw (there, w.self-inside-is) (put ∙ ap (λ m. map.insert m c.args.name.now w.count_step.new.self) c.self.view_is ∙ ap (map.insert c.args.self.now c.args.name.now) w.count_step.ensures)
+      let is_there : IsSome (get_by (slice_cmp nat_cmp c.args.name.now) c.self.inside.by_name) =
+      subst IsSome (sym (ap option_copied_mut w.in-Some.is) ∙ c.get_mut.ensures.value) refl in
+      let put =
+      map_of_update c.self.inside.by_name.entries (c.get_mut.follows.lender w.count_step.new.self).entries c.args.name.now w.count_step.new.self
+      ((c.get_mut.follows.holds w.count_step.new.self).3 is_there).0 in
+      rw (there, w.self-inside-is) (put ∙ ap (λ m. map.insert m c.args.name.now w.count_step.new.self) c.self.view_is
+      ∙ ap (map.insert c.args.self.now c.args.name.now) w.count_step.ensures)
   | in_default w ↦
       rw (get_of_entries _ _ c.args.name.now c.self.view_is ∙ sym c.get_mut.ensures.value ∙ ap option_copied_mut w.in_default.is) tt
 ]
