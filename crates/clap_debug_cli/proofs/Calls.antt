@@ -3,7 +3,25 @@ use Rattle.std.proofs.Common.{◌≡◌, ◌≢◌, ◌≤◌, ◌<◌, ℕ, Lis
 use Rattle.std.specs.Option.{IsSomeAnd}
 use Rattle.tc_io.specs.Outside.{Files, ShelfTells, SinkTells, Gave, bytes_at}
 use Rattle.clap_debug_cli.specs.Words.{Names, words_taken}
-use Rattle.clap_debug_cli.specs.Answers.{Answer, Usage, ReadFault, TooLong, Refused, Replayed, NoMemory, Texts, texts_under, IsTooLong, IsRefused, IsReplayed, IsAnswerTo, limit_of, status_of, verdict_status, refused_status}
+use Rattle.clap_debug_cli.specs.Answers.{
+  Answer,
+  Usage,
+  ReadFault,
+  TooLong,
+  Refused,
+  Replayed,
+  NoMemory,
+  Texts,
+  texts_under,
+  IsTooLong,
+  IsRefused,
+  IsReplayed,
+  IsAnswerTo,
+  limit_of,
+  status_of,
+  verdict_status,
+  refused_status,
+}
 use Rattle.clap_debug_cli.specs.Call.{IfTold, IsCause, GaveAll, Puts, FailsToPut, PutsAtMostNoMemory, Says, CallAnswers, ReplayAnswers, PassesLimit}
 use Rattle.clap_debug_cli.specs.Judged.{IsJudgedSo}
 use Rattle.clap_debug_cli.specs.declared.replay.Verdict.{Verdict}
@@ -11,17 +29,32 @@ use Rattle.clap_debug_cli.specs.declared.replay.Verdict.TheVariants as verdict
 use Rattle.clap_debug_cli.specs.declared.input.Input.{Input}
 use Rattle.clap_debug_cli.specs.declared.input.Input.TheVariants as input
 use Rattle.clap_debug_cli.proofs.OneAnswer.{one_answer}
-use Rattle.clap_debug_cli.proofs.Statuses.{is_usage, is_too_long, is_refused, is_replayed, is_reproduces, is_other, is_program, is_log, is_schedule, is_read_fault, is_no_memory, is_not_eight}
+use Rattle.clap_debug_cli.proofs.Statuses.{
+  is_usage,
+  is_too_long,
+  is_refused,
+  is_replayed,
+  is_reproduces,
+  is_other,
+  is_program,
+  is_log,
+  is_schedule,
+  is_read_fault,
+  is_no_memory,
+  is_not_eight,
+}
 
 -- a shelf that gave bytes holds what it held
 pub gave_held : (old new : ShelfTells) (name : List ℕ) (limit : ℕ) (bytes : List ℕ) → Gave old new name limit bytes → new.held ≡ old.held
 gave_held old new name limit bytes g = ap (λ s. s.held) g.1
 
 -- where it tells what it holds, these are the bytes of the name
-gave_told : (files : Files) (old new : ShelfTells) (name : List ℕ) (limit : ℕ) (bytes : List ℕ) → Gave old new name limit bytes → old.held ≡ Some files → bytes ≡ bytes_at files name
+gave_told : (files : Files) (old new : ShelfTells) (name : List ℕ) (limit : ℕ) (bytes : List ℕ) → Gave old new name limit bytes
+    → old.held ≡ Some files → bytes ≡ bytes_at files name
 gave_told files old new name limit bytes g told = subst (λ o. IfSome o (λ f. bytes ≡ bytes_at f name)) told g.2
 
-gave_within : (files : Files) (old new : ShelfTells) (name : List ℕ) (limit : ℕ) (bytes : List ℕ) → Gave old new name limit bytes → old.held ≡ Some files → length (bytes_at files name) ≤ limit
+gave_within : (files : Files) (old new : ShelfTells) (name : List ℕ) (limit : ℕ) (bytes : List ℕ) → Gave old new name limit bytes
+    → old.held ≡ Some files → length (bytes_at files name) ≤ limit
 gave_within files old new name limit bytes g told = subst (λ b. length b ≤ limit) (gave_told files old new name limit bytes g told) g.0
 
 -- texts are the same where each is
@@ -33,14 +66,20 @@ gave_all : (names : Names) (files : Files) (old new : ShelfTells) (t : Texts) �
 gave_all names files old new t g told =
     let first = gave_held old g.after_program _ _ t.program g.program ∙ told in
     let second = gave_held g.after_program g.after_log _ _ t.log g.log ∙ first in
-    same_texts t (texts_under files names) (gave_told files old g.after_program _ _ t.program g.program told) (gave_told files g.after_program g.after_log _ _ t.log g.log first) (gave_told files g.after_log new _ _ t.schedule g.schedule second)
+    same_texts t (texts_under files names) (gave_told files old g.after_program _ _ t.program g.program told)
+    (gave_told files g.after_program g.after_log _ _ t.log g.log first) (gave_told files g.after_log new _ _ t.schedule g.schedule second)
 
 -- an input that passes its limit is the first of those that the shelf tells
-passes_told : (names : Names) (files : Files) (old new : ShelfTells) (i : Input) → PassesLimit names old new i → old.held ≡ Some files → IsTooLong (texts_under files names) i
-passes_told names files old new input.Program p told = subst (λ o. IfSome o (λ f. limit_of input.Program < length (bytes_at f names.program))) (ap (λ s. s.held) p.came ∙ told) p.too_long.1
+passes_told : (names : Names) (files : Files) (old new : ShelfTells) (i : Input) → PassesLimit names old new i → old.held ≡ Some files
+    → IsTooLong (texts_under files names) i
+passes_told names files old new input.Program p told = subst (λ o. IfSome o (λ f. limit_of input.Program < length (bytes_at f names.program)))
+    (ap (λ s. s.held) p.came ∙ told) p.too_long.1
 passes_told names files old new input.Log p told =
-    let first = gave_held old p.before _ _ p.came.0 p.came.1 ∙ told in
-    (gave_within files old p.before _ _ p.came.0 p.came.1 told, subst (λ o. IfSome o (λ f. limit_of input.Log < length (bytes_at f names.log))) first p.too_long.1)
+    let first = gave_held old p.before _ _ p.came.0 p.came.1 ∙ told in (
+      gave_within files old p.before _ _ p.came.0 p.came.1 told,
+      subst (λ o. IfSome o (λ f. limit_of input.Log < length (bytes_at f names.log))) first
+          p.too_long.1,
+    )
 passes_told names files old new input.Schedule p told =
     let first = gave_held old p.came.0 _ _ p.came.1 p.came.2 ∙ told in
     let second = gave_held p.came.0 p.before _ _ p.came.3 p.came.4 ∙ first in (
@@ -60,7 +99,8 @@ unnamed : (P : Names → Type 0) (o : Option Names) → o ≡ None → IsSomeAnd
 unnamed P o none p = subst (λ o. IsSomeAnd o P) none p
 
 -- an answer to the texts that the shelf gave has its cause
-pub cause_of : (words : List (List ℕ)) (old new : ShelfTells) (names : Names) (t : Texts) (a : Answer) → words_taken words ≡ Some names → GaveAll names old new t → IsJudgedSo t a → IsCause words old new a
+pub cause_of : (words : List (List ℕ)) (old new : ShelfTells) (names : Names) (t : Texts) (a : Answer) → words_taken words ≡ Some names
+    → GaveAll names old new t → IsJudgedSo t a → IsCause words old new a
 cause_of words old new names t (Refused i) taken g h = named_of _ (words_taken words) names taken (t, g, h)
 cause_of words old new names t (Replayed v) taken g h = named_of _ (words_taken words) names taken (t, g, h)
 cause_of words old new names t NoMemory taken g h = tt
@@ -75,7 +115,8 @@ put_at a status j k (inr (inl failed)) eight nine = absurd (eight failed.0)
 put_at a status j k (inr (inr (inl wanted))) eight nine = absurd (nine wanted.0)
 put_at a status j k (inr (inr (inr failed))) eight nine = absurd (eight failed.0)
 
-module _ (words : List (List ℕ)) (old new : ShelfTells) (a : Answer) (status : ℕ) (j k : SinkTells) (cause : IsCause words old new a) (says : Says a status j k) (unused : words_taken words ≡ None → new ≡ old) (kept : new.held ≡ old.held) where
+module _ (words : List (List ℕ)) (old new : ShelfTells) (a : Answer) (status : ℕ) (j k : SinkTells) (cause : IsCause words old new a)
+    (says : Says a status j k) (unused : words_taken words ≡ None → new ≡ old) (kept : new.held ≡ old.held) where
   failed_at : Says a status j k → status ≡ 8 → (b : Answer) × IsCause words old new b × FailsToPut j k b
   failed_at (inl done) h = absurd (is_not_eight a (sym done.0 ∙ h))
   failed_at (inr (inl failed)) h = (a, cause, failed.1)
@@ -143,7 +184,8 @@ module _ (words : List (List ℕ)) (old new : ShelfTells) (a : Answer) (status :
 IsKnown : Texts → Answer → Type 0
 IsKnown t a = IsAnswerTo t a ⊎ (status_of a ≡ 7) ⊎ (status_of a ≡ 9)
 
-known_of : (words : List (List ℕ)) (old new : ShelfTells) (a : Answer) (names : Names) (files : Files) → words_taken words ≡ Some names → old.held ≡ Some files → IsCause words old new a → IsKnown (texts_under files names) a
+known_of : (words : List (List ℕ)) (old new : ShelfTells) (a : Answer) (names : Names) (files : Files) → words_taken words ≡ Some names
+    → old.held ≡ Some files → IsCause words old new a → IsKnown (texts_under files names) a
 unfolding IsKnown
 known_of words old new Usage names files taken told c = cc (taken, c.0)
 known_of words old new (ReadFault _) names files taken told c = inr (inl refl)
@@ -236,11 +278,15 @@ module _ (t : Texts) (a : Answer) (status : ℕ) (j k : SinkTells) (says : Says 
     exactly = exactly_at says known;
   }
 
-if_told : (o : Option Names) (held : Option Files) (P : Texts → Type 0) → ((names : Names) (files : Files) → o ≡ Some names → held ≡ Some files → P (texts_under files names)) → IfSome o (λ names. IfSome held (λ files. P (texts_under files names)))
+if_told : (o : Option Names) (held : Option Files) (P : Texts → Type 0)
+    → ((names : Names) (files : Files) → o ≡ Some names → held ≡ Some files → P (texts_under files names))
+    → IfSome o (λ names. IfSome held (λ files. P (texts_under files names)))
 if_told None held P h = tt
 if_told (Some names) None P h = tt
 if_told (Some names) (Some files) P h = h names files refl refl
 
-pub told_answers : (words : List (List ℕ)) (old new : ShelfTells) (a : Answer) (status : ℕ) (j k : SinkTells) → IsCause words old new a → Says a status j k → IfTold words old.held (λ t. ReplayAnswers t status j k)
+pub told_answers : (words : List (List ℕ)) (old new : ShelfTells) (a : Answer) (status : ℕ) (j k : SinkTells) → IsCause words old new a
+    → Says a status j k → IfTold words old.held (λ t. ReplayAnswers t status j k)
 told_answers words old new a status j k cause says =
-    if_told (words_taken words) old.held (λ t. ReplayAnswers t status j k) (λ names files taken told. replay_answers (texts_under files names) a status j k says (known_of words old new a names files taken told cause))
+    if_told (words_taken words) old.held (λ t. ReplayAnswers t status j k)
+    (λ names files taken told. replay_answers (texts_under files names) a status j k says (known_of words old new a names files taken told cause))

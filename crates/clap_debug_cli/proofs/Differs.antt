@@ -54,7 +54,8 @@ module _ (s : State NoBuffer) (steps : ℕ) where
     below (y ∷ ys) lt = no_path (y ∷ ys) (get-entries s.threads (y ∷ ys) ∙ other_least (entries s.threads) (entries_sorted s.threads) x xs e y ys lt)
 
 -- the verdict on the state that all moves led to is the verdict on them
-pub verdict_of : (code : Code) (log : Log) (moves : List Move) (s : State NoBuffer) → run no_buffer code moves ≡ Some s → (v : Verdict) → IsJudged s log v → IsVerdict code log moves v
+pub verdict_of : (code : Code) (log : Log) (moves : List Move) (s : State NoBuffer) → run no_buffer code moves ≡ Some s → (v : Verdict)
+    → IsJudged s log v → IsVerdict code log moves v
 verdict_of code log moves s leads verdict.Reproduces judged = record { state = s; leads = leads; failing = judged.0; paths = judged.1 }
 verdict_of code log moves s leads (verdict.Stops _ _) judged = absurd judged
 verdict_of code log moves s leads verdict.NoFailure judged = (s, leads, judged)

@@ -1,5 +1,5 @@
 -- From the fetch of one input to the fetches of all.
-use Rattle.std.proofs.Common.{◌≡◌, ◌+◌, sym, subst}
+use Rattle.std.proofs.Common.{◌+◌, sym, subst}
 use Rattle.tc_io.specs.Outside.{Reading, ShelfTells, FailedOnce}
 use Rattle.clap_debug_cli.specs.Words.{Names}
 use Rattle.clap_debug_cli.specs.Answers.{limit_of}
@@ -10,7 +10,8 @@ use Rattle.clap_debug_cli.specs.declared.input.Missing.{Missing}
 use Rattle.clap_debug_cli.specs.declared.input.Missing.TheVariants.{Read, TooLong, Memory}
 
 -- where the inputs before it were given, why an input couldn't be had is why not all could
-pub fails_at : (names : Names) (i : Input) (old before new : ShelfTells) (m : Missing) → CameTo names i old before → IsWhyMissing i (word_of names i) before new m → IsWhyNone names old new m
+pub fails_at : (names : Names) (i : Input) (old before new : ShelfTells) (m : Missing) → CameTo names i old before
+    → IsWhyMissing i (word_of names i) before new m → IsWhyNone names old new m
 fails_at names i old before new (Read n) came h = record {
   input = i;
   named = h.0;

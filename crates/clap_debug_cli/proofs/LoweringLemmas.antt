@@ -1,9 +1,8 @@
 -- The code of a program is lawful.
-use Rattle.std.proofs.Common.{◌≡◌, ℕ, zero, suc, ◌+◌, ◌-◌, slice_get, ◌<◌, ◌≤◌, Bool, true, false, cond, ◌&&◌, ◌||◌, not, List, [], ◌∷◌, ◌++◌, length, map, Some, None, ℤ, pos, replicate, refl, sym, ap, subst, ◌∙◌, length-append, arith, eq-eqb}
-use Rattle.std.specs.Prelude.{bytes_eq, IsTrue, nat_lt, nat_le, ◌==◌, unwrap_or}
-use Rattle.std.specs.Option.{option_map_or}
+use Rattle.std.proofs.Common.{◌≡◌, ℕ, zero, suc, ◌+◌, ◌-◌, slice_get, ◌<◌, ◌≤◌, Bool, true, false, cond, ◌&&◌, ◌||◌, not, List, [], ◌∷◌, ◌++◌, length, Some, None, ℤ, pos, replicate, refl, sym, ap, subst, ◌∙◌, length-append, arith}
+use Rattle.std.specs.Prelude.{bytes_eq, IsTrue, nat_lt, nat_le, unwrap_or}
 use Rattle.std.specs.List.{list_all, list_any, prefix_len}
-use Rattle.std.proofs.lemmas.Bool.{false≢true, ltb-true, lt-ltb, le-leb}
+use Rattle.std.proofs.lemmas.Bool.{false≢true, ltb-true, lt-ltb}
 use Rattle.std.proofs.lemmas.List.{length-replicate}
 use Rattle.std.proofs.lemmas.List.Folds.{list_all-append}
 use Rattle.std.proofs.lemmas.Bool.Decides.{nat_tests}
@@ -94,7 +93,8 @@ atom_grows : (globals : List (List ℕ)) (free : ℕ) (a : Atom) → (free ≤ (
 atom_grows globals free (Number n) = (omega arith, omega arith)
 atom_grows globals free (Name x) = (omega arith, omega arith)
 
-evaluated_grows : (globals : List (List ℕ)) (free : ℕ) (e : Expression) → (free ≤ (evaluated globals free e).free) × ((evaluated globals free e).free ≤ free + 2)
+evaluated_grows : (globals : List (List ℕ)) (free : ℕ) (e : Expression) → (free ≤ (evaluated globals free e).free)
+    × ((evaluated globals free e).free ≤ free + 2)
 evaluated_grows globals free (expression.Atom a) = let h = atom_grows globals free a in (omega arith, omega arith)
 evaluated_grows globals free (expression.Equal a b) =
     let h = atom_grows globals free a in
@@ -102,7 +102,8 @@ evaluated_grows globals free (expression.Equal a b) =
     (omega arith, omega arith)
 
 -- a statement loads two variables at most
-pub statement_grows : (globals : List (List ℕ)) (free : ℕ) (s : Statement) → (free ≤ (lowered_statement globals free s).free) × ((lowered_statement globals free s).free ≤ free + 2)
+pub statement_grows : (globals : List (List ℕ)) (free : ℕ) (s : Statement) → (free ≤ (lowered_statement globals free s).free)
+    × ((lowered_statement globals free s).free ≤ free + 2)
 statement_grows globals free (Assign x e) = evaluated_grows globals free e
 statement_grows globals free (Assert e) = evaluated_grows globals free e
 
@@ -165,7 +166,8 @@ exit_at : (is : List Instr) → slice_get (is ++ Exit ∷ []) (length is) ≡ So
 exit_at [] = refl
 exit_at (i ∷ is) = exit_at is
 
-exit_is_last : (is : List Instr) (k : ℕ) → list_all (λ i. not (is_exit i)) is ≡ true → slice_get (is ++ Exit ∷ []) k ≡ Some Exit → k + 1 ≡ length (is ++ Exit ∷ [])
+exit_is_last : (is : List Instr) (k : ℕ) → list_all (λ i. not (is_exit i)) is ≡ true → slice_get (is ++ Exit ∷ []) k ≡ Some Exit
+    → k + 1 ≡ length (is ++ Exit ∷ [])
 exit_is_last [] zero h at = refl
 exit_is_last [] (suc k) h at = absurd (none-some Exit at)
 exit_is_last (i ∷ is) zero h at = absurd (false≢true (sym (ap (λ j. not (is_exit j)) (same_Some i Exit at)) ∙ (both (not (is_exit i)) _ h).0))
@@ -176,14 +178,16 @@ no_target (Branch e l) to h leads = false≢true h
 no_target (Goto l) to h leads = false≢true h
 no_target _ to h leads = none-some to leads
 
-main_is_lawful : (p : Program) → list_all (statement_names_globals p.globals) p.statements ≡ true → IsLawfulFunction (code_of p) (main_of p.globals p.statements)
+main_is_lawful : (p : Program) → list_all (statement_names_globals p.globals) p.statements ≡ true
+    → IsLawfulFunction (code_of p) (main_of p.globals p.statements)
 main_is_lawful p h =
     let main = main_of p.globals p.statements in
     let body = lowered p.globals 0 p.statements in
     let within = lowered_in (code_of p) main p.globals (sym (length-replicate (length p.globals) (pos 0))) 0 p.statements h (omega arith) in
     let names = list_all-append (names_what_is (code_of p) main) body.instrs (Exit ∷ []) ∙ together _ true within.names refl in
     let all = list_all-append stands_anywhere body.instrs (Exit ∷ []) ∙ together _ true within.anywhere refl in
-    let anywhere : (k : ℕ) (i : Instr) → slice_get main.instrs k ≡ Some i → stands_anywhere i ≡ true = λ k i at. all_at stands_anywhere main.instrs k i all at in
+    let anywhere : (k : ℕ) (i : Instr) → slice_get main.instrs k ≡ Some i
+    → stands_anywhere i ≡ true = λ k i at. all_at stands_anywhere main.instrs k i all at in
     let end : length main.instrs - 1 ≡ length body.instrs = omega (arith, length-append body.instrs (Exit ∷ [])) in
     record {
       params = omega arith;
@@ -200,7 +204,8 @@ main_is_lawful p h =
       only = λ k at. exit_is_last body.instrs k within.no_exit at;
     }
 
-only_function : (p : Program) (k : ℕ) (g : Func) → list_all (statement_names_globals p.globals) p.statements ≡ true → slice_get (code_of p).functions k ≡ Some g → IsLawfulFunction (code_of p) g
+only_function : (p : Program) (k : ℕ) (g : Func) → list_all (statement_names_globals p.globals) p.statements ≡ true
+    → slice_get (code_of p).functions k ≡ Some g → IsLawfulFunction (code_of p) g
 only_function p zero g h at = subst (IsLawfulFunction (code_of p)) (same_Some _ g at) (main_is_lawful p h)
 only_function p (suc k) g h at = absurd (none-some g at)
 
@@ -217,7 +222,8 @@ code_is_lawful p h =
     }
 
 -- the same of what is built as code
-pub built_lawful : (p : Program) (memory : List ℤ) (functions : List Func) (main : Func) → IsTrue (is_well_named p) → memory ≡ replicate (length p.globals) (pos 0) → functions ≡ main ∷ [] → main ≡ main_of p.globals p.statements
+pub built_lawful : (p : Program) (memory : List ℤ) (functions : List Func) (main : Func) → IsTrue (is_well_named p)
+    → memory ≡ replicate (length p.globals) (pos 0) → functions ≡ main ∷ [] → main ≡ main_of p.globals p.statements
     → IsLawful (made.code_of memory 0 0 functions)
 built_lawful p memory functions main h cells one is =
     let same : made.code_of memory 0 0 functions ≡ code_of p =

@@ -8,7 +8,21 @@ use Rattle.tc_base.specs.Names.{main}
 use Rattle.clap_debug_cli.specs.Files.{IsLog, IsSchedule, log_of, log_text, lines, schedule_text}
 use Rattle.clap_debug_cli.specs.Program.{Program, IsProgram, program_tokens}
 use Rattle.clap_debug_cli.specs.Lowering.{code_of}
-use Rattle.clap_debug_cli.specs.Answers.{Answer, Usage, ReadFault, TooLong, Refused, Replayed, NoMemory, Texts, AreWithin, IsTooLong, IsRefused, IsReplayed, IsAnswerTo}
+use Rattle.clap_debug_cli.specs.Answers.{
+  Answer,
+  Usage,
+  ReadFault,
+  TooLong,
+  Refused,
+  Replayed,
+  NoMemory,
+  Texts,
+  AreWithin,
+  IsTooLong,
+  IsRefused,
+  IsReplayed,
+  IsAnswerTo,
+}
 use Rattle.clap_debug_cli.specs.Verdicts.{IsVerdict}
 use Rattle.clap_debug_cli.specs.declared.replay.Verdict.{Verdict}
 use Rattle.clap_debug_cli.specs.declared.input.Input.{Input}
@@ -84,7 +98,8 @@ one_replayed t v w f g =
     let programs = one_program_of t.program g.program f.program g.programs f.programs in
     let logs = one_log t.log g.log f.log g.logs f.logs in
     let schedules = one_schedule t.schedule g.moves f.moves g.schedules f.schedules in
-    let judged : IsVerdict (code_of f.program) f.log f.moves w = subst (λ p. IsVerdict (code_of p) f.log f.moves w) programs (subst (λ l. IsVerdict (code_of g.program) l f.moves w) logs (subst (λ m. IsVerdict (code_of g.program) g.log m w) schedules g.verdict)) in
+    let judged : IsVerdict (code_of f.program) f.log f.moves w = subst (λ p. IsVerdict (code_of p) f.log f.moves w) programs
+    (subst (λ l. IsVerdict (code_of g.program) l f.moves w) logs (subst (λ m. IsVerdict (code_of g.program) g.log m w) schedules g.verdict)) in
     one_verdict (code_of f.program) f.log f.moves v w f.verdict judged
 
 pub one_answer : (t : Texts) (a b : Answer) → IsAnswerTo t a → IsAnswerTo t b → a ≡ b

@@ -43,12 +43,15 @@ module _ (code : Code) where
   stays_none : (o : Option (State NoBuffer)) (ms : List Move) → o ≡ None → option_and_then (λ u. run_from no_buffer code u ms) o ≡ None
   stays_none o ms e = ap (option_and_then (λ u. run_from no_buffer code u ms)) e
 
-  made_first : (o : Option (State NoBuffer)) (ms : List Move) (s : State NoBuffer) → option_and_then (λ u. run_from no_buffer code u ms) o ≡ Some s → (u : State NoBuffer) × (o ≡ Some u) × (run_from no_buffer code u ms ≡ Some s)
+  made_first : (o : Option (State NoBuffer)) (ms : List Move) (s : State NoBuffer) → option_and_then (λ u. run_from no_buffer code u ms) o ≡ Some s
+      → (u : State NoBuffer) × (o ≡ Some u) × (run_from no_buffer code u ms ≡ Some s)
   made_first None ms s e = cc
   made_first (Some u) ms s e = (u, refl, e)
 
   -- two first moves that aren't enabled are one
-  one_stop : (from : State NoBuffer) (b c : List Move) (m n : Move) (x y : List Move) (s t : State NoBuffer) (q r : Why) → b ++ m ∷ x ≡ c ++ n ∷ y → run_from no_buffer code from b ≡ Some s → run_from no_buffer code from c ≡ Some t → why no_buffer code s m ≡ Some q → why no_buffer code t n ≡ Some r → (length b ≡ length c) × (q ≡ r)
+  one_stop : (from : State NoBuffer) (b c : List Move) (m n : Move) (x y : List Move) (s t : State NoBuffer) (q r : Why) → b ++ m ∷ x ≡ c ++ n ∷ y
+      → run_from no_buffer code from b ≡ Some s → run_from no_buffer code from c ≡ Some t → why no_buffer code s m ≡ Some q
+      → why no_buffer code t n ≡ Some r → (length b ≡ length c) × (q ≡ r)
   one_stop from [] [] m n x y s t q r e ls lt sq tr =
       let states : s ≡ t = some_of s t (sym ls ∙ lt) in
       let moves : m ≡ n = cc in
@@ -122,7 +125,8 @@ pub record Led (code : Code) (log : Log) (moves : List Move) (v : Verdict) : Typ
   pub leads : run no_buffer code moves ≡ Some state
   pub judged : IsJudged state log v
 
-led : (code : Code) (log : Log) (moves : List Move) (s : State NoBuffer) → run no_buffer code moves ≡ Some s → (v : Verdict) → IsVerdict code log moves v → Led code log moves v
+led : (code : Code) (log : Log) (moves : List Move) (s : State NoBuffer) → run no_buffer code moves ≡ Some s → (v : Verdict)
+    → IsVerdict code log moves v → Led code log moves v
 led code log moves s leads (verdict.Stops number reason) h = absurd (stops_nowhere code moves number reason s h leads)
 led code log moves s leads verdict.Reproduces h = record { state = h.state; leads = h.leads; judged = (h.failing, h.paths) }
 led code log moves s leads verdict.NoFailure h = record { state = h.0; leads = h.1; judged = h.2 }
@@ -135,13 +139,18 @@ both_led code log moves v w f g =
 
 pub one_verdict : (code : Code) (log : Log) (moves : List Move) (v w : Verdict) → IsVerdict code log moves v → IsVerdict code log moves w → v ≡ w
 one_verdict code log moves (verdict.Stops k q) (verdict.Stops j r) f g =
-    let one = one_stop code (opening no_buffer code) f.before g.before f.move g.move f.after g.after f.state g.state q r (sym f.split ∙ g.split) f.leads g.leads f.stops g.stops in
+    let one = one_stop code (opening no_buffer code) f.before g.before f.move g.move f.after g.after f.state g.state q r (sym f.split ∙ g.split)
+    f.leads g.leads f.stops g.stops in
     ap (λ n. verdict.Stops n q) (f.counted ∙ ap (λ n. n + 1) one.0 ∙ sym g.counted) ∙ ap (verdict.Stops j) one.1
 one_verdict code log moves (verdict.Stops k q) verdict.Reproduces f g = absurd (stops_nowhere code moves k q g.state f g.leads)
 one_verdict code log moves (verdict.Stops k q) verdict.NoFailure f g = absurd (stops_nowhere code moves k q g.0 f g.1)
 one_verdict code log moves (verdict.Stops k q) (verdict.OtherFailure _) f g = absurd (stops_nowhere code moves k q g.0 f g.1)
 one_verdict code log moves (verdict.Stops k q) (verdict.OtherPath _) f g = absurd (stops_nowhere code moves k q g.0 f g.1)
-one_verdict code log moves verdict.Reproduces w f g = both_led code log moves verdict.Reproduces w (led code log moves f.state f.leads verdict.Reproduces f) (led code log moves f.state f.leads w g)
-one_verdict code log moves verdict.NoFailure w f g = both_led code log moves verdict.NoFailure w (led code log moves f.0 f.1 verdict.NoFailure f) (led code log moves f.0 f.1 w g)
-one_verdict code log moves (verdict.OtherFailure n) w f g = both_led code log moves (verdict.OtherFailure n) w (led code log moves f.0 f.1 (verdict.OtherFailure n) f) (led code log moves f.0 f.1 w g)
-one_verdict code log moves (verdict.OtherPath n) w f g = both_led code log moves (verdict.OtherPath n) w (led code log moves f.0 f.1 (verdict.OtherPath n) f) (led code log moves f.0 f.1 w g)
+one_verdict code log moves verdict.Reproduces w f g =
+    both_led code log moves verdict.Reproduces w (led code log moves f.state f.leads verdict.Reproduces f) (led code log moves f.state f.leads w g)
+one_verdict code log moves verdict.NoFailure w f g = both_led code log moves verdict.NoFailure w (led code log moves f.0 f.1 verdict.NoFailure f)
+    (led code log moves f.0 f.1 w g)
+one_verdict code log moves (verdict.OtherFailure n) w f g = both_led code log moves (verdict.OtherFailure n) w
+    (led code log moves f.0 f.1 (verdict.OtherFailure n) f) (led code log moves f.0 f.1 w g)
+one_verdict code log moves (verdict.OtherPath n) w f g =
+    both_led code log moves (verdict.OtherPath n) w (led code log moves f.0 f.1 (verdict.OtherPath n) f) (led code log moves f.0 f.1 w g)

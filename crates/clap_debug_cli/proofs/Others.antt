@@ -57,7 +57,8 @@ module _ {X : Type 0} where
       skipped m p.0 p.1 _ (nat_list_cmp_total.trans m n p.0 e (is_less _ (left _ _ h))) ∙ below_none es m n (right _ _ h) e
 
   there_at : (n k : Name) (v : X) (o : Option X) → k ≡ n → IsSome (cond (is_eq (by_name n k)) (Some v) o)
-  there_at n k v o e = subst (λ j. IsSome (cond (is_eq (by_name n j)) (Some v) o)) (sym e) (subst (λ r. IsSome (cond (is_eq r) (Some v) o)) (sym (tied_itself nat_list_cmp_total n)) refl)
+  there_at n k v o e = subst (λ j. IsSome (cond (is_eq (by_name n j)) (Some v) o)) (sym e)
+      (subst (λ r. IsSome (cond (is_eq r) (Some v) o)) (sym (tied_itself nat_list_cmp_total n)) refl)
 
   -- the first other name is there
   pub other_there : (es : List (Name × X)) (x : ℕ) (xs : Name) → list.find is_other (map (λ e. e.0) es) ≡ Some (x ∷ xs) → IsSome (find by_name (x ∷ xs) es)
@@ -66,7 +67,8 @@ module _ {X : Type 0} where
   other_there ((y ∷ ys, v) ∷ es) x xs e = there_at (x ∷ xs) (y ∷ ys) v _ (some_of _ _ e)
 
   -- and no other name below it is
-  pub other_least : (es : List (Name × X)) → T (is_sorted by_name es) → (x : ℕ) (xs : Name) → list.find is_other (map (λ e. e.0) es) ≡ Some (x ∷ xs) → (y : ℕ) (ys : Name) → by_name (y ∷ ys) (x ∷ xs) ≡ Less → find by_name (y ∷ ys) es ≡ None
+  pub other_least : (es : List (Name × X)) → T (is_sorted by_name es) → (x : ℕ) (xs : Name) → list.find is_other (map (λ e. e.0) es) ≡ Some (x ∷ xs)
+      → (y : ℕ) (ys : Name) → by_name (y ∷ ys) (x ∷ xs) ≡ Less → find by_name (y ∷ ys) es ≡ None
   other_least [] h x xs e y ys lt = refl
   other_least (([], v) ∷ es) h x xs e y ys lt = other_least es (right _ _ h) x xs e y ys lt
   other_least ((k ∷ ks, v) ∷ es) h x xs e y ys lt =

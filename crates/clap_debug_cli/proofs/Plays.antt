@@ -1,13 +1,12 @@
 -- Moves that were made one after another.
 use Rattle.std.proofs.Common.{◌≡◌, ℕ, ◌+◌, ◌<◌, ◌^◌, List, [], ◌∷◌, ◌++◌, length, take, drop, get_or, Some, ap, sym, ◌∙◌, arith, add-one, drop-cons, suc}
-use Rattle.std.specs.Option.{option_and_then}
 use Rattle.std.proofs.lemmas.List.{take_more, take-append-drop, length-take}
 use Rattle.tc_base.specs.Buffers.{NoBuffer, no_buffer}
 use Rattle.tc_base.specs.States.{State}
 use Rattle.tc_base.specs.declared.moves.Move.{Move}
 use Rattle.tc_code.specs.Code.{Code}
 use Rattle.tc_code.specs.Step.{step, opening}
-use Rattle.tc_code.specs.Run.{run, run_from}
+use Rattle.tc_code.specs.Run.{run}
 use Rattle.tc_code.specs.Facts.{run_from-step}
 use Rattle.tc_machine.specs.Why.{why}
 use Rattle.tc_machine.specs.declared.why.Why.{Why}
@@ -22,7 +21,8 @@ split_at xs i x lt e =
 taken : {A : Type 0} (xs : List A) (i : ℕ) → i < length xs → length (take i xs) ≡ i
 taken xs i lt = omega (arith, length-take i xs)
 
-module _ (code : Code) (moves : List Move) (i : ℕ) (m : Move) (s : State NoBuffer) (lt : i < length moves) (here : m ≡ get_or moves i m) (leads : run no_buffer code (take i moves) ≡ Some s) where
+module _ (code : Code) (moves : List Move) (i : ℕ) (m : Move) (s : State NoBuffer) (lt : i < length moves) (here : m ≡ get_or moves i m)
+    (leads : run no_buffer code (take i moves) ≡ Some s) where
   -- the moves stop at one that isn't enabled
   pub stops_here : (r : Why) → why no_buffer code s m ≡ Some r → StopsAt code moves (i + 1) r
   stops_here r e = record {

@@ -1,5 +1,28 @@
 -- A program is read again from its tokens, and from no others.
-use Rattle.std.proofs.Common.{◌≡◌, ℕ, ◌<◌, ◌≤◌, true, false, List, [], ◌∷◌, ◌++◌, length, Option, Some, None, refl, sym, ap, subst, ◌∙◌, append_assoc, length-append, arith}
+use Rattle.std.proofs.Common.{
+  ◌≡◌,
+  ℕ,
+  ◌<◌,
+  ◌≤◌,
+  true,
+  false,
+  List,
+  [],
+  ◌∷◌,
+  ◌++◌,
+  length,
+  Option,
+  Some,
+  None,
+  refl,
+  sym,
+  ap,
+  subst,
+  ◌∙◌,
+  append_assoc,
+  length-append,
+  arith,
+}
 use Rattle.std.proofs.lemmas.List.{append-nil}
 use Rattle.std.proofs.lemmas.List.Concat.{flat_map-append}
 use Rattle.clap_debug_cli.specs.declared.program.ProgramFault.{ProgramFault}
@@ -15,7 +38,18 @@ use Rattle.clap_debug_cli.specs.declared.program.tree.Statement.{Statement}
 use Rattle.clap_debug_cli.specs.declared.program.tree.Statement.TheVariants.{Assign, Assert}
 use Rattle.clap_debug_cli.specs.declared.program.tree.Tree.{Tree}
 use Rattle.clap_debug_cli.specs.Program.{Program, plain_program, atom_tokens, expression_tokens, statement_tokens, global_tokens, program_tokens}
-use Rattle.clap_debug_cli.specs.ProgramReading.{◌>>=◌, Fails, atom_at, after_atom, expression_at, past_semicolon, past_paren, statement_at, global_at, begins_main}
+use Rattle.clap_debug_cli.specs.ProgramReading.{
+  ◌>>=◌,
+  Fails,
+  atom_at,
+  after_atom,
+  expression_at,
+  past_semicolon,
+  past_paren,
+  statement_at,
+  global_at,
+  begins_main,
+}
 
 -- the value of a step that gave one
 bind_some : {A B : Type 0} (o : Option A) (f : A → Option B) (y : B) → (o >>= f) ≡ Some y → (x : A) × (o ≡ Some x) × (f x ≡ Some y)
@@ -35,11 +69,13 @@ atom_takes (token.Number n ∷ rest) x h = subst (λ (p : Atom × List Token). t
 atom_takes (token.Name y ∷ rest) x h = subst (λ (p : Atom × List Token). token.Name y ∷ rest ≡ atom_tokens p.0 ++ p.1) (some_is (Name y, rest) x h) refl
 atom_takes _ x h = absurd cc
 
-after_atom_takes : (a : Atom) (tokens : List Token) (x : Expression × List Token) → after_atom a tokens ≡ Some x → atom_tokens a ++ tokens ≡ expression_tokens x.0 ++ x.1
+after_atom_takes : (a : Atom) (tokens : List Token) (x : Expression × List Token) → after_atom a tokens ≡ Some x
+    → atom_tokens a ++ tokens ≡ expression_tokens x.0 ++ x.1
 after_atom_takes a (token.Equal ∷ rest) x h =
     let b = bind_some (atom_at rest) _ x h in
     subst (λ (p : Expression × List Token). atom_tokens a ++ token.Equal ∷ rest ≡ expression_tokens p.0 ++ p.1) (some_is _ x b.2)
-    (ap (λ (ts : List Token). atom_tokens a ++ token.Equal ∷ ts) (atom_takes rest b.0 b.1) ∙ sym (append_assoc (atom_tokens a) (token.Equal ∷ atom_tokens b.0.0) b.0.1))
+    (ap (λ (ts : List Token). atom_tokens a ++ token.Equal ∷ ts) (atom_takes rest b.0 b.1)
+    ∙ sym (append_assoc (atom_tokens a) (token.Equal ∷ atom_tokens b.0.0) b.0.1))
 after_atom_takes a tokens x h = subst (λ (p : Expression × List Token). atom_tokens a ++ tokens ≡ expression_tokens p.0 ++ p.1) (some_is _ x h) refl
 
 expression_takes : (tokens : List Token) (x : Expression × List Token) → expression_at tokens ≡ Some x → tokens ≡ expression_tokens x.0 ++ x.1
@@ -60,21 +96,27 @@ statement_takes (token.Name y ∷ token.Assign ∷ tokens) x h =
     let e = bind_some (expression_at tokens) _ x h in
     let rest = bind_some (past_semicolon e.0.1) _ x e.2 in
     subst (λ (p : Statement × List Token). token.Name y ∷ token.Assign ∷ tokens ≡ statement_tokens p.0 ++ p.1) (some_is _ x rest.2)
-    (ap (λ (ts : List Token). token.Name y ∷ token.Assign ∷ ts) (expression_takes tokens e.0 e.1 ∙ ap (λ (ts : List Token). expression_tokens e.0.0 ++ ts) (past_semicolon_takes e.0.1 rest.0 rest.1) ∙ sym (append_assoc (expression_tokens e.0.0) (token.Semicolon ∷ []) rest.0)))
+    (ap (λ (ts : List Token). token.Name y ∷ token.Assign ∷ ts) (expression_takes tokens e.0 e.1
+    ∙ ap (λ (ts : List Token). expression_tokens e.0.0 ++ ts) (past_semicolon_takes e.0.1 rest.0 rest.1)
+    ∙ sym (append_assoc (expression_tokens e.0.0) (token.Semicolon ∷ []) rest.0)))
 statement_takes (token.Assert ∷ token.OpenParen ∷ tokens) x h =
     let e = bind_some (expression_at tokens) _ x h in
     let rest = bind_some (past_paren e.0.1) _ x e.2 in
     subst (λ (p : Statement × List Token). token.Assert ∷ token.OpenParen ∷ tokens ≡ statement_tokens p.0 ++ p.1) (some_is _ x rest.2)
-    (ap (λ (ts : List Token). token.Assert ∷ token.OpenParen ∷ ts) (expression_takes tokens e.0 e.1 ∙ ap (λ (ts : List Token). expression_tokens e.0.0 ++ ts) (past_paren_takes e.0.1 rest.0 rest.1) ∙ sym (append_assoc (expression_tokens e.0.0) (token.CloseParen ∷ token.Semicolon ∷ []) rest.0)))
+    (ap (λ (ts : List Token). token.Assert ∷ token.OpenParen ∷ ts) (expression_takes tokens e.0 e.1
+    ∙ ap (λ (ts : List Token). expression_tokens e.0.0 ++ ts) (past_paren_takes e.0.1 rest.0 rest.1)
+    ∙ sym (append_assoc (expression_tokens e.0.0) (token.CloseParen ∷ token.Semicolon ∷ []) rest.0)))
 statement_takes _ x h = absurd cc
 
 pub global_takes : (tokens : List Token) (x : List ℕ × List Token) → global_at tokens ≡ Some x → tokens ≡ global_tokens x.0 ++ x.1
-global_takes (token.Int ∷ token.Name y ∷ token.Semicolon ∷ rest) x h = subst (λ (p : List ℕ × List Token). token.Int ∷ token.Name y ∷ token.Semicolon ∷ rest ≡ global_tokens p.0 ++ p.1) (some_is (y, rest) x h) refl
+global_takes (token.Int ∷ token.Name y ∷ token.Semicolon ∷ rest) x h =
+    subst (λ (p : List ℕ × List Token). token.Int ∷ token.Name y ∷ token.Semicolon ∷ rest ≡ global_tokens p.0 ++ p.1) (some_is (y, rest) x h) refl
 global_takes _ x h = absurd cc
 
 -- ---- what stands there is read
 
-expression_again : (e : Expression) (t : Token) (rest : List Token) → ((a : Atom) → after_atom a (t ∷ rest) ≡ Some (expression.Atom a, t ∷ rest)) → expression_at (expression_tokens e ++ t ∷ rest) ≡ Some (e, t ∷ rest)
+expression_again : (e : Expression) (t : Token) (rest : List Token) → ((a : Atom) → after_atom a (t ∷ rest) ≡ Some (expression.Atom a, t ∷ rest))
+    → expression_at (expression_tokens e ++ t ∷ rest) ≡ Some (e, t ∷ rest)
 expression_again (expression.Atom (Number n)) t rest h = h (Number n)
 expression_again (expression.Atom (Name x)) t rest h = h (Name x)
 expression_again (expression.Equal (Number m) (Number n)) t rest h = refl
@@ -85,10 +127,13 @@ expression_again (expression.Equal (Name x) (Name y)) t rest h = refl
 pub statement_again : (s : Statement) (rest : List Token) → statement_at (statement_tokens s ++ rest) ≡ Some (s, rest)
 statement_again (Assign x e) rest =
     ap (λ (ts : List Token). statement_at (token.Name x ∷ token.Assign ∷ ts)) (append_assoc (expression_tokens e) (token.Semicolon ∷ []) rest)
-    ∙ ap (λ (o : Option (Expression × List Token)). o >>= λ e. past_semicolon e.1 >>= λ rest. Some (Assign x e.0, rest)) (expression_again e token.Semicolon rest (λ a. refl))
+    ∙ ap (λ (o : Option (Expression × List Token)). o >>= λ e. past_semicolon e.1 >>= λ rest. Some (Assign x e.0, rest))
+    (expression_again e token.Semicolon rest (λ a. refl))
 statement_again (Assert e) rest =
-    ap (λ (ts : List Token). statement_at (token.Assert ∷ token.OpenParen ∷ ts)) (append_assoc (expression_tokens e) (token.CloseParen ∷ token.Semicolon ∷ []) rest)
-    ∙ ap (λ (o : Option (Expression × List Token)). o >>= λ e. past_paren e.1 >>= λ rest. Some (Assert e.0, rest)) (expression_again e token.CloseParen (token.Semicolon ∷ rest) (λ a. refl))
+    ap (λ (ts : List Token). statement_at (token.Assert ∷ token.OpenParen ∷ ts))
+    (append_assoc (expression_tokens e) (token.CloseParen ∷ token.Semicolon ∷ []) rest)
+    ∙ ap (λ (o : Option (Expression × List Token)). o >>= λ e. past_paren e.1 >>= λ rest. Some (Assert e.0, rest))
+    (expression_again e token.CloseParen (token.Semicolon ∷ rest) (λ a. refl))
 
 -- ---- one piece after another
 
@@ -103,20 +148,24 @@ record Continues {A : Type 0} (piece : A → List Token) (stop : List Token) (fi
   all_is : all ≡ first ++ others
   rest_is : rest ≡ flat_map piece others ++ stop
 
-same_next : {A : Type 0} (at : List Token → Option (A × List Token)) (ts us : List Token) (x y : A × List Token) → ts ≡ us → at ts ≡ Some x → at us ≡ Some y → (x.0 ≡ y.0) × (x.1 ≡ y.1)
+same_next : {A : Type 0} (at : List Token → Option (A × List Token)) (ts us : List Token) (x y : A × List Token) → ts ≡ us → at ts ≡ Some x
+    → at us ≡ Some y → (x.0 ≡ y.0) × (x.1 ≡ y.1)
 same_next at ts us x y e h k =
     let xy : x ≡ y = some_is x y (sym h ∙ (ap at e ∙ k)) in
     (ap (λ p. p.0) xy, ap (λ p. p.1) xy)
 
-continues : {A : Type 0} (piece : A → List Token) (at : List Token → Option (A × List Token)) (stop : List Token) → IsReader piece at stop → (first all : List A) (rest : List Token)
+continues : {A : Type 0} (piece : A → List Token) (at : List Token → Option (A × List Token)) (stop : List Token) → IsReader piece at stop
+    → (first all : List A) (rest : List Token)
     → flat_map piece first ++ rest ≡ flat_map piece all ++ stop → Continues piece stop first all rest
 continues piece at stop r [] all rest e = record { others = all; all_is = refl; rest_is = e }
 continues piece at stop r (a ∷ first) [] rest e =
-    let one : at ((piece a ++ flat_map piece first) ++ rest) ≡ Some (a, flat_map piece first ++ rest) = ap at (append_assoc (piece a) (flat_map piece first) rest) ∙ r.again a (flat_map piece first ++ rest) in
+    let one : at ((piece a ++ flat_map piece first) ++ rest) ≡ Some (a, flat_map piece first ++ rest) =
+    ap at (append_assoc (piece a) (flat_map piece first) rest) ∙ r.again a (flat_map piece first ++ rest) in
     let none : at ((piece a ++ flat_map piece first) ++ rest) ≡ None = ap at e ∙ r.stops in
     absurd cc
 continues piece at stop r (a ∷ first) (b ∷ all) rest e =
-    let next = same_next at (piece a ++ (flat_map piece first ++ rest)) (piece b ++ (flat_map piece all ++ stop)) (a, flat_map piece first ++ rest) (b, flat_map piece all ++ stop)
+    let next = same_next at (piece a ++ (flat_map piece first ++ rest)) (piece b ++ (flat_map piece all ++ stop)) (a, flat_map piece first ++ rest)
+    (b, flat_map piece all ++ stop)
     (sym (append_assoc (piece a) (flat_map piece first) rest) ∙ (e ∙ append_assoc (piece b) (flat_map piece all) stop)) (r.again a _) (r.again b _) in
     let more = continues piece at stop r first all rest next.1 in
     record { others = more.others; all_is = ap (λ xs. b ∷ xs) more.all_is ∙ sym (ap (λ x. x ∷ (first ++ more.others)) next.0); rest_is = more.rest_is }
@@ -129,23 +178,27 @@ statement_reader = record { again = statement_again; stops = refl }
 
 -- ---- the variables
 
-global_next : (others : List (List ℕ)) (rest tail : List Token) → rest ≡ flat_map global_tokens others ++ token.Main ∷ token.OpenBrace ∷ tail → begins_main rest ≡ false → global_at rest ≡ None → ⊥
+global_next : (others : List (List ℕ)) (rest tail : List Token) → rest ≡ flat_map global_tokens others ++ token.Main ∷ token.OpenBrace ∷ tail
+    → begins_main rest ≡ false → global_at rest ≡ None → ⊥
 global_next [] rest tail e begins none = let b : begins_main rest ≡ true = ap begins_main e in cc
 global_next (x ∷ others) rest tail e begins none =
     let some : global_at rest ≡ Some (x, flat_map global_tokens others ++ token.Main ∷ token.OpenBrace ∷ tail) = ap global_at e in
     cc
 
 -- where no variable can be read and main doesn't begin, there are no variables and then main
-pub no_globals : (found names : List (List ℕ)) (rest tail tokens : List Token) → tokens ≡ flat_map global_tokens found ++ rest → tokens ≡ flat_map global_tokens names ++ token.Main ∷ token.OpenBrace ∷ tail → begins_main rest ≡ false → global_at rest ≡ None → ⊥
+pub no_globals : (found names : List (List ℕ)) (rest tail tokens : List Token) → tokens ≡ flat_map global_tokens found ++ rest
+    → tokens ≡ flat_map global_tokens names ++ token.Main ∷ token.OpenBrace ∷ tail → begins_main rest ≡ false → global_at rest ≡ None → ⊥
 no_globals found names rest tail tokens e f begins none =
     let more = continues global_tokens global_at (token.Main ∷ token.OpenBrace ∷ tail) (global_reader tail) found names rest (sym e ∙ f) in
     global_next more.others rest tail more.rest_is begins none
 
-globals_end : (others : List (List ℕ)) (rest tail : List Token) → token.Main ∷ token.OpenBrace ∷ rest ≡ flat_map global_tokens others ++ token.Main ∷ token.OpenBrace ∷ tail → (others ≡ []) × (rest ≡ tail)
+globals_end : (others : List (List ℕ)) (rest tail : List Token)
+    → token.Main ∷ token.OpenBrace ∷ rest ≡ flat_map global_tokens others ++ token.Main ∷ token.OpenBrace ∷ tail → (others ≡ []) × (rest ≡ tail)
 globals_end [] rest tail e = (refl, cc)
 globals_end (x ∷ others) rest tail e = absurd cc
 
-pub same_globals : (xs ys : List (List ℕ)) (a b : List Token) → flat_map global_tokens xs ++ token.Main ∷ token.OpenBrace ∷ a ≡ flat_map global_tokens ys ++ token.Main ∷ token.OpenBrace ∷ b → (xs ≡ ys) × (a ≡ b)
+pub same_globals : (xs ys : List (List ℕ)) (a b : List Token)
+    → flat_map global_tokens xs ++ token.Main ∷ token.OpenBrace ∷ a ≡ flat_map global_tokens ys ++ token.Main ∷ token.OpenBrace ∷ b → (xs ≡ ys) × (a ≡ b)
 same_globals xs ys a b e =
     let more = continues global_tokens global_at (token.Main ∷ token.OpenBrace ∷ b) (global_reader b) xs ys (token.Main ∷ token.OpenBrace ∷ a) e in
     let end = globals_end more.others a b more.rest_is in
@@ -153,7 +206,8 @@ same_globals xs ys a b e =
 
 -- ---- the statements
 
-statement_next : (others : List Statement) (rest : List Token) → rest ≡ flat_map statement_tokens others ++ token.CloseBrace ∷ [] → (rest ≡ token.CloseBrace ∷ [] → ⊥) → statement_at rest ≡ None → ⊥
+statement_next : (others : List Statement) (rest : List Token) → rest ≡ flat_map statement_tokens others ++ token.CloseBrace ∷ []
+    → (rest ≡ token.CloseBrace ∷ [] → ⊥) → statement_at rest ≡ None → ⊥
 statement_next [] rest e goes none = goes e
 statement_next (s ∷ others) rest e goes none =
     let some : statement_at rest ≡ Some (s, flat_map statement_tokens others ++ token.CloseBrace ∷ []) =
@@ -161,7 +215,8 @@ statement_next (s ∷ others) rest e goes none =
     cc
 
 -- where no statement can be read and it isn't the end, there are no statements and then the end
-pub no_statements : (found ss : List Statement) (rest tokens : List Token) → tokens ≡ flat_map statement_tokens found ++ rest → tokens ≡ flat_map statement_tokens ss ++ token.CloseBrace ∷ [] → (rest ≡ token.CloseBrace ∷ [] → ⊥) → statement_at rest ≡ None → ⊥
+pub no_statements : (found ss : List Statement) (rest tokens : List Token) → tokens ≡ flat_map statement_tokens found ++ rest
+    → tokens ≡ flat_map statement_tokens ss ++ token.CloseBrace ∷ [] → (rest ≡ token.CloseBrace ∷ [] → ⊥) → statement_at rest ≡ None → ⊥
 no_statements found ss rest tokens e f goes none =
     let more = continues statement_tokens statement_at (token.CloseBrace ∷ []) statement_reader found ss rest (sym e ∙ f) in
     statement_next more.others rest more.rest_is goes none
@@ -171,7 +226,8 @@ statements_end [] e = refl
 statements_end (Assign x v ∷ others) e = absurd cc
 statements_end (Assert v ∷ others) e = absurd cc
 
-pub same_statements : (ss us : List Statement) → flat_map statement_tokens ss ++ token.CloseBrace ∷ [] ≡ flat_map statement_tokens us ++ token.CloseBrace ∷ [] → ss ≡ us
+pub same_statements : (ss us : List Statement) → flat_map statement_tokens ss ++ token.CloseBrace ∷ [] ≡ flat_map statement_tokens us ++
+    token.CloseBrace ∷ [] → ss ≡ us
 same_statements ss us e =
     let more = continues statement_tokens statement_at (token.CloseBrace ∷ []) statement_reader ss us (token.CloseBrace ∷ []) e in
     sym (more.all_is ∙ (ap (λ os. ss ++ os) (statements_end more.others more.rest_is) ∙ append-nil ss))
@@ -179,8 +235,10 @@ same_statements ss us e =
 -- ---- programs
 
 -- the variables, and then main
-pub tokens_by_parts : (p : Program) → program_tokens p ≡ flat_map global_tokens p.globals ++ token.Main ∷ token.OpenBrace ∷ (flat_map statement_tokens p.statements ++ token.CloseBrace ∷ [])
-tokens_by_parts p = append_assoc (flat_map global_tokens p.globals) (token.Main ∷ token.OpenBrace ∷ flat_map statement_tokens p.statements) (token.CloseBrace ∷ [])
+pub tokens_by_parts : (p : Program) → program_tokens p ≡ flat_map global_tokens p.globals ++ token.Main ∷ token.OpenBrace ∷
+    (flat_map statement_tokens p.statements ++ token.CloseBrace ∷ [])
+tokens_by_parts p = append_assoc (flat_map global_tokens p.globals) (token.Main ∷ token.OpenBrace ∷ flat_map statement_tokens p.statements)
+    (token.CloseBrace ∷ [])
 
 -- tokens are those of at most one program
 pub one_program : (p q : Program) → program_tokens p ≡ program_tokens q → p ≡ q
@@ -221,8 +279,10 @@ refused_none Refused read e h = h
 refused_none Memory read e h = absurd cc
 
 -- one more statement
-pub statement_more : (found : List Statement) (rest tokens : List Token) (x : Statement × List Token) → tokens ≡ flat_map statement_tokens found ++ rest → statement_at rest ≡ Some x → tokens ≡ flat_map statement_tokens (found ++ x.0 ∷ []) ++ x.1
+pub statement_more : (found : List Statement) (rest tokens : List Token) (x : Statement × List Token)
+    → tokens ≡ flat_map statement_tokens found ++ rest → statement_at rest ≡ Some x → tokens ≡ flat_map statement_tokens (found ++ x.0 ∷ []) ++ x.1
 statement_more found rest tokens x e h =
     let front = flat_map statement_tokens found in
     e ∙ ap (λ (ts : List Token). front ++ ts) (statement_takes rest x h) ∙ sym (append_assoc front (statement_tokens x.0) x.1)
-    ∙ ap (λ (ts : List Token). ts ++ x.1) (ap (λ (ts : List Token). front ++ ts) (sym (append-nil (statement_tokens x.0))) ∙ sym (flat_map-append statement_tokens found (x.0 ∷ [])))
+    ∙ ap (λ (ts : List Token). ts ++ x.1) (ap (λ (ts : List Token). front ++ ts) (sym (append-nil (statement_tokens x.0)))
+    ∙ sym (flat_map-append statement_tokens found (x.0 ∷ [])))

@@ -26,7 +26,8 @@ is_nothing zero rest e stuck more = omega (arith, ap length e)
 is_nothing (suc k) rest e stuck more = stuck (lines k) e
 
 -- where the rest is no line and not nothing, the text is no lines
-pub lines_refused : (text rest : List ℕ) (n m : ℕ) → text ≡ lines n ++ rest → ((others : List ℕ) → rest ≡ line ++ others → ⊥) → 0 < length rest → text ≡ lines m → ⊥
+pub lines_refused : (text rest : List ℕ) (n m : ℕ) → text ≡ lines n ++ rest → ((others : List ℕ) → rest ≡ line ++ others → ⊥) → 0 < length rest
+    → text ≡ lines m → ⊥
 lines_refused text rest n m e stuck more f =
     let k = lines-rest n m rest (sym e ∙ f) in
     is_nothing k.0 rest k.1 stuck more
@@ -36,10 +37,12 @@ replicate-more zero x = refl
 replicate-more (suc n) x = ap (λ xs. x ∷ xs) (replicate-more n x)
 
 -- one more of the same was pushed
-pub replicate_push : {A : Type 0} (old new : List A) (x : A) → old ≡ replicate (length old) x → new ≡ old ++ x ∷ [] → length new ≡ length old + 1 → new ≡ replicate (length new) x
+pub replicate_push : {A : Type 0} (old new : List A) (x : A) → old ≡ replicate (length old) x → new ≡ old ++ x ∷ [] → length new ≡ length old + 1
+    → new ≡ replicate (length new) x
 replicate_push old new x e f g = f ∙ ap (λ xs. xs ++ x ∷ []) e ∙ replicate-more (length old) x ∙ ap (λ n. replicate n x) (sym (g ∙ add-one (length old)))
 
 -- where no line was found, the rest is none
-pub none_found : (rest : List ℕ) (found : Option (Bor (List ℕ))) → ((x : Bor (List ℕ)) → found ≡ Some x → ⊥) → MatchOption found ((others : List ℕ) → rest ≡ line ++ others → ⊥) (λ others. rest ≡ line ++ others.now) → (others : List ℕ) → rest ≡ line ++ others → ⊥
+pub none_found : (rest : List ℕ) (found : Option (Bor (List ℕ))) → ((x : Bor (List ℕ)) → found ≡ Some x → ⊥)
+    → MatchOption found ((others : List ℕ) → rest ≡ line ++ others → ⊥) (λ others. rest ≡ line ++ others.now) → (others : List ℕ) → rest ≡ line ++ others → ⊥
 none_found rest None stuck h = h
 none_found rest (Some x) stuck h = absurd (stuck x refl)

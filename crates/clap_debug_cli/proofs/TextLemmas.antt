@@ -1,5 +1,35 @@
 -- A text has at most one list of tokens.
-use Rattle.std.proofs.Common.{◌≡◌, ◌+◌, ◌<◌, ◌^◌, ℕ, suc, pos, negsuc, Bool, true, false, cond, List, [], ◌∷◌, ◌++◌, length, take, drop, refl, sym, ap, inl, inr, ◌∙◌, subst, arith, rules, length-append}
+use Rattle.std.proofs.Common.{
+  ◌≡◌,
+  ◌+◌,
+  ◌<◌,
+  ◌^◌,
+  ℕ,
+  suc,
+  pos,
+  negsuc,
+  Bool,
+  true,
+  false,
+  cond,
+  List,
+  [],
+  ◌∷◌,
+  ◌++◌,
+  length,
+  take,
+  drop,
+  refl,
+  sym,
+  ap,
+  inl,
+  inr,
+  ◌∙◌,
+  subst,
+  arith,
+  rules,
+  length-append,
+}
 use Rattle.std.specs.Prelude.{◌==◌, ◌&&◌, not, codes, bytes_eq, IsTrue}
 use Rattle.std.specs.List.{list_all, prefix_len}
 use Rattle.std.specs.Fmt.{decimal}
@@ -10,7 +40,20 @@ use Rattle.std.proofs.lemmas.Fmt.{digits_decimal, digits_value-decimal, decimal_
 use Rattle.std.proofs.lemmas.List.{take_at, drop_at}
 use Rattle.std.proofs.lemmas.Str.Parse.{IsNumeralModel, IsDigitsTest, numerals_by_value}
 use Rattle.clap_debug_cli.specs.declared.program.token.Token.{Token}
-use Rattle.clap_debug_cli.specs.declared.program.token.Token.TheVariants.{Name, Number, Int, Main, Assert, Semicolon, OpenBrace, CloseBrace, OpenParen, CloseParen, Assign, Equal}
+use Rattle.clap_debug_cli.specs.declared.program.token.Token.TheVariants.{
+  Name,
+  Number,
+  Int,
+  Main,
+  Assert,
+  Semicolon,
+  OpenBrace,
+  CloseBrace,
+  OpenParen,
+  CloseParen,
+  Assign,
+  Equal,
+}
 use Rattle.clap_debug_cli.specs.Text.{is_blank, is_digit, is_letter, is_word, is_keyword, is_name, IsToken, spelling, continues, EndsBefore, IsText}
 use Rattle.clap_debug_cli.specs.Reading.{Begins, IsSpelled}
 
@@ -95,12 +138,14 @@ equals_token [] = Assign
 equals_token (_ ∷ _) = Equal
 
 abbrev sign_token : ℕ → List ℕ → Token
-sign_token b bs = cond (b == 59) Semicolon (cond (b == 123) OpenBrace (cond (b == 125) CloseBrace (cond (b == 40) OpenParen (cond (b == 41) CloseParen (equals_token bs)))))
+sign_token b bs = cond (b == 59) Semicolon (cond (b == 123) OpenBrace
+    (cond (b == 125) CloseBrace (cond (b == 40) OpenParen (cond (b == 41) CloseParen (equals_token bs)))))
 
 abbrev token_of : List ℕ → Token
 token_of [] = Assign
 token_of (b ∷ bs) =
-    cond (is_letter b) (cond (is_keyword (b ∷ bs)) (keyword_token (b ∷ bs)) (Name (b ∷ bs))) (cond (is_digit b) (Number (pos (digits_value 10 (b ∷ bs)))) (sign_token b bs))
+    cond (is_letter b) (cond (is_keyword (b ∷ bs)) (keyword_token (b ∷ bs)) (Name (b ∷ bs)))
+    (cond (is_digit b) (Number (pos (digits_value 10 (b ∷ bs)))) (sign_token b bs))
 
 name_token : (word : List ℕ) → is_name word ≡ true → token_of word ≡ Name word
 name_token [] h = absurd cc
@@ -117,7 +162,8 @@ number_token (b ∷ bs) h all =
 spelled_token : (t : Token) → IsToken t → token_of (spelling t) ≡ t
 spelled_token (Name word) h = name_token word h
 spelled_token (Number (pos n)) h =
-    number_token (decimal n) (decimal_nonempty n (omega arith)) (decimal_digits n h) ∙ ap (λ (k : ℕ). Number (pos k)) (digits_value-decimal own_digits n (omega arith))
+    number_token (decimal n) (decimal_nonempty n (omega arith)) (decimal_digits n h)
+    ∙ ap (λ (k : ℕ). Number (pos k)) (digits_value-decimal own_digits n (omega arith))
 spelled_token (Number (negsuc _)) h = absurd h
 spelled_token Int h = refl
 spelled_token Main h = refl
@@ -172,7 +218,8 @@ assign_len (b ∷ bs) h = cond-false (b == 61) _ _ (not-true _ h)
 spelled_len : (t : Token) (rest : List ℕ) → IsToken t → EndsBefore t rest → token_len (spelling t ++ rest) ≡ length (spelling t)
 spelled_len (Name word) rest h e = let w = name_is_word word h in word_len word rest w.0 w.1 (word_stops (Name word) rest (λ b. refl) e)
 spelled_len (Number (pos n)) rest h e =
-    word_len (decimal n) rest (decimal_nonempty n (omega arith)) (digits_are_words (decimal n) (decimal_digits n h)) (word_stops (Number (pos n)) rest (λ b. refl) e)
+    word_len (decimal n) rest (decimal_nonempty n (omega arith)) (digits_are_words (decimal n) (decimal_digits n h))
+    (word_stops (Number (pos n)) rest (λ b. refl) e)
 spelled_len (Number (negsuc _)) rest h e = absurd h
 spelled_len Int rest h e = word_len (codes "int") rest (omega arith) refl (word_stops Int rest (λ b. refl) e)
 spelled_len Main rest h e = word_len (codes "main") rest (omega arith) refl (word_stops Main rest (λ b. refl) e)
@@ -190,8 +237,10 @@ pub one_token : (bytes : List ℕ) (t u : Token) (after rest : List ℕ) → Beg
 one_token bytes t u after rest a b =
     let m = ap token_len a.text ∙ spelled_len t after a.token a.ends in
     let n = ap token_len b.text ∙ spelled_len u rest b.token b.ends in
-    let same = sym (take_at (spelling t) after (token_len bytes) (sym m)) ∙ ap (take (token_len bytes)) (sym a.text ∙ b.text) ∙ take_at (spelling u) rest (token_len bytes) (sym n) in
-    let left = sym (drop_at (spelling t) after (token_len bytes) (sym m)) ∙ ap (drop (token_len bytes)) (sym a.text ∙ b.text) ∙ drop_at (spelling u) rest (token_len bytes) (sym n) in
+    let same = sym (take_at (spelling t) after (token_len bytes) (sym m)) ∙ ap (take (token_len bytes)) (sym a.text ∙ b.text)
+    ∙ take_at (spelling u) rest (token_len bytes) (sym n) in
+    let left = sym (drop_at (spelling t) after (token_len bytes) (sym m)) ∙ ap (drop (token_len bytes)) (sym a.text ∙ b.text)
+    ∙ drop_at (spelling u) rest (token_len bytes) (sym n) in
     (one_word t u (spelling u) (record { token = a.token; spelled = same }) (record { token = b.token; spelled = refl }), left)
 
 run_len : (bytes : List ℕ) → 0 < prefix_len is_word bytes → token_len bytes ≡ prefix_len is_word bytes
@@ -202,7 +251,8 @@ run_len (b ∷ bs) h = elim (cases_Bool (is_word b)) [
 ]
 
 -- where bytes of a word are at the front, the token is that word, all of it
-pub word_is_front : (bytes : List ℕ) (t : Token) (rest : List ℕ) → 0 < prefix_len is_word bytes → Begins bytes t rest → IsSpelled t (take (prefix_len is_word bytes) bytes)
+pub word_is_front : (bytes : List ℕ) (t : Token) (rest : List ℕ) → 0 < prefix_len is_word bytes → Begins bytes t rest
+    → IsSpelled t (take (prefix_len is_word bytes) bytes)
 word_is_front bytes t rest h x =
     let len : length (spelling t) ≡ prefix_len is_word bytes = sym (ap token_len x.text ∙ spelled_len t rest x.token x.ends) ∙ run_len bytes h in
     record { token = x.token; spelled = sym (ap (take (prefix_len is_word bytes)) x.text ∙ take_at (spelling t) rest (prefix_len is_word bytes) len) }
@@ -227,7 +277,8 @@ token_no_blank b bytes t rest e h =
     let same : b ≡ f.0 = cc in
     ap is_blank same ∙ f.3
 
-blank_off : (b : ℕ) (bytes blanks : List ℕ) (t : Token) (rest : List ℕ) (ts : List Token) → is_blank b ≡ true → IsTrue (list_all is_blank blanks) → b ∷ bytes ≡ blanks ++ (spelling t ++ rest) → IsToken t → EndsBefore t rest → IsText rest ts → IsText bytes (t ∷ ts)
+blank_off : (b : ℕ) (bytes blanks : List ℕ) (t : Token) (rest : List ℕ) (ts : List Token) → is_blank b ≡ true → IsTrue (list_all is_blank blanks)
+    → b ∷ bytes ≡ blanks ++ (spelling t ++ rest) → IsToken t → EndsBefore t rest → IsText rest ts → IsText bytes (t ∷ ts)
 blank_off b bytes [] t rest ts h all e k n x = absurd (both_ways (is_blank b) (token_no_blank b bytes t rest e k) h)
 blank_off b bytes (d ∷ ds) t rest ts h all e k n x =
     let tail : bytes ≡ ds ++ (spelling t ++ rest) = cc in
@@ -268,13 +319,16 @@ text_before_blanks (b ∷ bytes) ts x = elim (cases_Bool (is_blank b)) [
 ]
 
 -- where no blank is at the front, the first token is
-front : (bytes blanks : List ℕ) (t : Token) (rest : List ℕ) → prefix_len is_blank bytes ≡ 0 → IsTrue (list_all is_blank blanks) → bytes ≡ blanks ++ (spelling t ++ rest) → IsToken t → EndsBefore t rest → Begins bytes t rest
+front : (bytes blanks : List ℕ) (t : Token) (rest : List ℕ) → prefix_len is_blank bytes ≡ 0 → IsTrue (list_all is_blank blanks)
+    → bytes ≡ blanks ++ (spelling t ++ rest) → IsToken t → EndsBefore t rest → Begins bytes t rest
 front bytes [] t rest z all e k n = record { text = e; token = k; ends = n }
 front bytes (d ∷ ds) t rest z all e k n =
-    let one : prefix_len is_blank bytes ≡ 1 + prefix_len is_blank (ds ++ (spelling t ++ rest)) = ap (prefix_len is_blank) e ∙ cond-true (is_blank d) _ _ (and_parts (is_blank d) (list_all is_blank ds) all).0 in
+    let one : prefix_len is_blank bytes ≡ 1 + prefix_len is_blank (ds ++ (spelling t ++ rest)) = ap (prefix_len is_blank) e
+    ∙ cond-true (is_blank d) _ _ (and_parts (is_blank d) (list_all is_blank ds) all).0 in
     absurd (omega arith)
 
-pub text_front : (bytes : List ℕ) (t : Token) (ts : List Token) → prefix_len is_blank bytes ≡ 0 → IsText bytes (t ∷ ts) → (rest : List ℕ) × Begins bytes t rest × IsText rest ts
+pub text_front : (bytes : List ℕ) (t : Token) (ts : List Token) → prefix_len is_blank bytes ≡ 0 → IsText bytes (t ∷ ts)
+    → (rest : List ℕ) × Begins bytes t rest × IsText rest ts
 text_front bytes t ts z x = (x.1, front bytes x.0 t x.1 z x.2 x.3 x.4 x.5, x.6)
 
 -- a text with a token isn't blanks alone

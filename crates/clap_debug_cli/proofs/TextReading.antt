@@ -1,5 +1,46 @@
 -- What the reader of a text finds at its front.
-use Rattle.std.proofs.Common.{◌≡◌, ◌≢◌, ◌+◌, ◌<◌, ◌^◌, ℕ, ℤ, zero, suc, pos, negsuc, Bool, true, false, List, [], ◌∷◌, ◌++◌, length, get_or, take, drop, refl, sym, ap, inl, inr, ◌∙◌, subst, arith, append_assoc, length-append, Bor, Option, Some, None, Result, Ok, Err, w32}
+use Rattle.std.proofs.Common.{
+  ◌≡◌,
+  ◌≢◌,
+  ◌+◌,
+  ◌<◌,
+  ◌^◌,
+  ℕ,
+  ℤ,
+  zero,
+  suc,
+  pos,
+  negsuc,
+  Bool,
+  true,
+  false,
+  List,
+  [],
+  ◌∷◌,
+  ◌++◌,
+  length,
+  get_or,
+  take,
+  drop,
+  refl,
+  sym,
+  ap,
+  inl,
+  inr,
+  ◌∙◌,
+  subst,
+  arith,
+  append_assoc,
+  length-append,
+  Bor,
+  Option,
+  Some,
+  None,
+  Result,
+  Ok,
+  Err,
+  w32,
+}
 use Rattle.std.specs.Prelude.{◌==◌, ◌&&◌, ◌||◌, not, bytes_eq}
 use Rattle.std.specs.List.{list_all, list_any, prefix_len}
 use Rattle.std.specs.Fmt.{decimal}
@@ -14,10 +55,35 @@ use Rattle.std.proofs.lemmas.Bool.Decides.{nat_tests}
 use Rattle.std.proofs.lemmas.Fmt.{digits_value-decimal, decimal-digits_value, decimal_nonempty, decimal_digit, first_decimal, IsAscii-from_digits}
 use Rattle.std.proofs.lemmas.List.{take-append-drop}
 use Rattle.clap_debug_cli.specs.declared.program.token.Token.{Token}
-use Rattle.clap_debug_cli.specs.declared.program.token.Token.TheVariants.{Name, Number, Int, Main, Assert, Semicolon, OpenBrace, CloseBrace, OpenParen, CloseParen, Assign, Equal}
+use Rattle.clap_debug_cli.specs.declared.program.token.Token.TheVariants.{
+  Name,
+  Number,
+  Int,
+  Main,
+  Assert,
+  Semicolon,
+  OpenBrace,
+  CloseBrace,
+  OpenParen,
+  CloseParen,
+  Assign,
+  Equal,
+}
 use Rattle.clap_debug_cli.specs.Text.{is_blank, is_digit, is_letter, is_word, keywords, is_keyword, IsToken, spelling, continues, EndsBefore, IsText}
 use Rattle.clap_debug_cli.specs.Reading.{Begins, BeginsWithNone, IsSpelled, SpellsNone, leads_with_zero}
-use Rattle.clap_debug_cli.proofs.TextLemmas.{own_digits, decimal_digits, decimal_cells, name_begins, spelling_nonempty, word_is_front, text_front, run_ends, text_before_blanks, text_after_blanks, one_token}
+use Rattle.clap_debug_cli.proofs.TextLemmas.{
+  own_digits,
+  decimal_digits,
+  decimal_cells,
+  name_begins,
+  spelling_nonempty,
+  word_is_front,
+  text_front,
+  run_ends,
+  text_before_blanks,
+  text_after_blanks,
+  one_token,
+}
 
 eq_swapped : (a b : ℕ) → (a == b) ≡ (b == a)
 eq_swapped a b = grind (arith, nat_tests)
@@ -96,7 +162,8 @@ alone (b ∷ []) n h e = refl
 alone (b ∷ c ∷ bs) n h e = absurd (eqb-false b 48 h e)
 
 -- digits that don't lead with a zero spell their value
-pub value_spelled : (word : List ℕ) → list_all is_digit word ≡ true → leads_with_zero word ≡ false → 0 < length word → digits_value 10 word < 2 ^ 31 → IsSpelled (Number (pos (digits_value 10 word))) word
+pub value_spelled : (word : List ℕ) → list_all is_digit word ≡ true → leads_with_zero word ≡ false → 0 < length word → digits_value 10 word < 2 ^ 31
+    → IsSpelled (Number (pos (digits_value 10 word))) word
 value_spelled word all lead some small =
     record { token = small; spelled = decimal-digits_value own_digits word all some (alone word some lead) (omega arith) }
 
@@ -112,11 +179,13 @@ number_value (negsuc n) word x = absurd x.token
 digits_text : (bytes : List ℕ) → list_all is_digit bytes ≡ true → IsUtf8 bytes
 digits_text bytes all = IsUtf8-from_ascii bytes (IsAscii-from_digits bytes (own_digits.to bytes all))
 
-pub digits_have_text : {E : Type 0} (r : Result (Bor (List ℕ)) E) (bytes : List ℕ) (Q : E → Type 0) → list_all is_digit bytes ≡ true → MatchResult r (λ s. (s.now ≡ bytes) × IsUtf8 bytes) (λ e. ¬ (IsUtf8 bytes) × Q e) → result_ok r ≡ None → ⊥
+pub digits_have_text : {E : Type 0} (r : Result (Bor (List ℕ)) E) (bytes : List ℕ) (Q : E → Type 0) → list_all is_digit bytes ≡ true
+    → MatchResult r (λ s. (s.now ≡ bytes) × IsUtf8 bytes) (λ e. ¬ (IsUtf8 bytes) × Q e) → result_ok r ≡ None → ⊥
 digits_have_text (Ok s) bytes Q all h e = cc
 digits_have_text (Err x) bytes Q all h e = h.0 (digits_text bytes all)
 
-pub text_is : {E : Type 0} (r : Result (Bor (List ℕ)) E) (bytes : List ℕ) (Q : E → Type 0) (s : Bor (List ℕ)) → MatchResult r (λ s. (s.now ≡ bytes) × IsUtf8 bytes) (λ e. ¬ (IsUtf8 bytes) × Q e) → result_ok r ≡ Some s → s.now ≡ bytes
+pub text_is : {E : Type 0} (r : Result (Bor (List ℕ)) E) (bytes : List ℕ) (Q : E → Type 0) (s : Bor (List ℕ))
+    → MatchResult r (λ s. (s.now ≡ bytes) × IsUtf8 bytes) (λ e. ¬ (IsUtf8 bytes) × Q e) → result_ok r ≡ Some s → s.now ≡ bytes
 text_is (Ok t) bytes Q s h e =
     let same : t ≡ s = cc in
     ap (λ (b : Bor (List ℕ)). b.now) (sym same) ∙ h.0
@@ -126,15 +195,18 @@ some_from_ok : {T E : Type 0} (r : Result T E) (P : Type 0) (v : T) → OkIff r 
 some_from_ok (Ok x) P v h = h
 some_from_ok (Err x) P v h = h
 
-pub parsed_value : {E : Type 0} (r : Result ℤ E) (text bytes : List ℕ) → text ≡ bytes → list_all is_digit bytes ≡ true → ParsesSigned w32 10 text r → SomeIff (result_ok r) ((0 < length bytes) × (digits_value 10 bytes < 2 ^ 31)) (pos (digits_value 10 bytes))
+pub parsed_value : {E : Type 0} (r : Result ℤ E) (text bytes : List ℕ) → text ≡ bytes → list_all is_digit bytes ≡ true → ParsesSigned w32 10 text r
+    → SomeIff (result_ok r) ((0 < length bytes) × (digits_value 10 bytes < 2 ^ 31)) (pos (digits_value 10 bytes))
 parsed_value r text bytes e all h =
     some_from_ok r _ _ (parse_signed_digits own_digits w32 bytes r (subst (λ (s : List ℕ). ParsesSigned w32 10 s r) e h) all)
 
-pub number_found : (o : Option ℤ) (word : List ℕ) → list_all is_digit word ≡ true → leads_with_zero word ≡ false → SomeIff o ((0 < length word) × (digits_value 10 word < 2 ^ 31)) (pos (digits_value 10 word)) → IfSome o (λ n. IsSpelled (Number n) word)
+pub number_found : (o : Option ℤ) (word : List ℕ) → list_all is_digit word ≡ true → leads_with_zero word ≡ false
+    → SomeIff o ((0 < length word) × (digits_value 10 word < 2 ^ 31)) (pos (digits_value 10 word)) → IfSome o (λ n. IsSpelled (Number n) word)
 number_found None word all lead h = tt
 number_found (Some n) word all lead h = subst (λ (m : ℤ). IsSpelled (Number m) word) (sym h.1) (value_spelled word all lead h.0.0 h.0.1)
 
-pub number_none : (o : Option ℤ) (word : List ℕ) → SomeIff o ((0 < length word) × (digits_value 10 word < 2 ^ 31)) (pos (digits_value 10 word)) → IfNone o ((n : ℤ) → IsSpelled (Number n) word → ⊥)
+pub number_none : (o : Option ℤ) (word : List ℕ) → SomeIff o ((0 < length word) × (digits_value 10 word < 2 ^ 31)) (pos (digits_value 10 word))
+    → IfNone o ((n : ℤ) → IsSpelled (Number n) word → ⊥)
 number_none None word h = λ n x. h (number_value n word x)
 number_none (Some n) word h = tt
 
@@ -209,9 +281,11 @@ begins_shorter bytes t rest x =
     omega (arith, ap length x.text, length-append (spelling t) rest)
 
 -- what the tokens so far and the next one are followed by
-pub text_more : (text bytes : List ℕ) (ts : List Token) (t : Token) (rest : List ℕ) → ((us : List Token) → IsText bytes us → IsText text (ts ++ us)) → Begins bytes t rest → (us : List Token) → IsText (drop (prefix_len is_blank rest) rest) us → IsText text ((ts ++ t ∷ []) ++ us)
+pub text_more : (text bytes : List ℕ) (ts : List Token) (t : Token) (rest : List ℕ) → ((us : List Token) → IsText bytes us → IsText text (ts ++ us))
+    → Begins bytes t rest → (us : List Token) → IsText (drop (prefix_len is_blank rest) rest) us → IsText text ((ts ++ t ∷ []) ++ us)
 text_more text bytes ts t rest h x us y =
-    subst (λ (vs : List Token). IsText text vs) (sym (append_assoc ts (t ∷ []) us)) (h (t ∷ us) ([], rest, refl, x.text, x.token, x.ends, text_before_blanks rest us y))
+    subst (λ (vs : List Token). IsText text vs) (sym (append_assoc ts (t ∷ []) us))
+    (h (t ∷ us) ([], rest, refl, x.text, x.token, x.ends, text_before_blanks rest us y))
 
 no_blank_text : (bytes : List ℕ) → 0 < length bytes → prefix_len is_blank bytes ≡ 0 → list_all is_blank bytes ≡ true → ⊥
 no_blank_text [] some z all = omega arith
@@ -220,7 +294,8 @@ no_blank_text (b ∷ bs) some z all =
     omega arith
 
 -- what follows the token at the front of a text is a text
-pub text_rest : (bytes : List ℕ) (t : Token) (rest : List ℕ) → 0 < length bytes → prefix_len is_blank bytes ≡ 0 → Begins bytes t rest → (us : List Token) → IsText bytes us → (vs : List Token) × IsText (drop (prefix_len is_blank rest) rest) vs
+pub text_rest : (bytes : List ℕ) (t : Token) (rest : List ℕ) → 0 < length bytes → prefix_len is_blank bytes ≡ 0 → Begins bytes t rest
+    → (us : List Token) → IsText bytes us → (vs : List Token) × IsText (drop (prefix_len is_blank rest) rest) vs
 text_rest bytes t rest some z x [] y = absurd (no_blank_text bytes some z y)
 text_rest bytes t rest some z x (u ∷ us) y =
     let f = text_front bytes u us z y in

@@ -59,7 +59,8 @@ usage_text =
 abbrev pub line_of : Answer → List ℕ
 line_of Usage = usage_text
 line_of (ReadFault name) = codes "read fault: " ++ (name ++ codes "\n")
-line_of (TooLong i) = codes "limit " ++ (input_text i ++ (codes "-bytes " ++ (decimal (limit_of i + 1) ++ (codes " of " ++ (decimal (limit_of i) ++ codes "\n")))))
+line_of (TooLong i) = codes "limit " ++ (input_text i ++
+    (codes "-bytes " ++ (decimal (limit_of i + 1) ++ (codes " of " ++ (decimal (limit_of i) ++ codes "\n")))))
 line_of (Refused i) = input_text i ++ codes " refused\n"
 line_of (Replayed v) = verdict_line v
 line_of NoMemory = codes "no memory\n"

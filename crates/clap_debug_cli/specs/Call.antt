@@ -2,7 +2,24 @@
 use Rattle.std.specs.Prelude.{◌≡◌, ◌≢◌, ℕ, ◌+◌, ◌⊎◌, List, Option, None, IfSome, IsSomeAnd}
 use Rattle.tc_io.specs.Outside.{Files, Reading, ShelfTells, SinkTells, Gave, FailedOnce, WasTooLong, Wrote, WrotePart}
 use Rattle.clap_debug_cli.specs.Words.{Names, words_taken}
-use Rattle.clap_debug_cli.specs.Answers.{Answer, Usage, ReadFault, TooLong, Refused, Replayed, NoMemory, Texts, texts_under, IsTooLong, IsRefused, IsReplayed, IsAnswerTo, limit_of, line_of, status_of}
+use Rattle.clap_debug_cli.specs.Answers.{
+  Answer,
+  Usage,
+  ReadFault,
+  TooLong,
+  Refused,
+  Replayed,
+  NoMemory,
+  Texts,
+  texts_under,
+  IsTooLong,
+  IsRefused,
+  IsReplayed,
+  IsAnswerTo,
+  limit_of,
+  line_of,
+  status_of,
+}
 use Rattle.clap_debug_cli.specs.declared.replay.Verdict.{Verdict}
 use Rattle.clap_debug_cli.specs.declared.replay.Verdict.TheVariants as verdict
 use Rattle.clap_debug_cli.specs.declared.input.Input.{Input}

@@ -1,4 +1,5 @@
--- How the parser goes, one small reader after another: each answers what stands at the front and the tokens after it. What the parser finds is said without these, by program_tokens.
+-- How the parser goes, one small reader after another: each answers what stands at the front and the tokens after it.
+-- What the parser finds is said without these, by program_tokens.
 use Rattle.std.specs.Prelude.{◌≡◌, ℕ, List, ◌∷◌, Bool, true, false, Option, Some, None, option_and_then, Result, Ok, Err}
 use Rattle.clap_debug_cli.specs.declared.program.ProgramFault.{ProgramFault}
 use Rattle.clap_debug_cli.specs.declared.program.ProgramFault.TheVariants.{Refused, Memory}

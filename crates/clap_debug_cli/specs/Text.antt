@@ -3,7 +3,20 @@ use Rattle.std.specs.Prelude.{◌≡◌, ℕ, ◌^◌, ◌<◌, pos, negsuc, Lis
 use Rattle.std.specs.List.{list_all, list_any}
 use Rattle.std.specs.Fmt.{decimal}
 use Rattle.clap_debug_cli.specs.declared.program.token.Token.{Token}
-use Rattle.clap_debug_cli.specs.declared.program.token.Token.TheVariants.{Name, Number, Int, Main, Assert, Semicolon, OpenBrace, CloseBrace, OpenParen, CloseParen, Assign, Equal}
+use Rattle.clap_debug_cli.specs.declared.program.token.Token.TheVariants.{
+  Name,
+  Number,
+  Int,
+  Main,
+  Assert,
+  Semicolon,
+  OpenBrace,
+  CloseBrace,
+  OpenParen,
+  CloseParen,
+  Assign,
+  Equal,
+}
 
 -- a space, a tab, a line feed or a carriage return
 abbrev pub is_blank : ℕ → Bool
@@ -26,7 +39,8 @@ begins_with_letter (b ∷ _) = is_letter b
 
 abbrev pub keywords : List (List ℕ)
 keywords =
-    codes "int" ∷ codes "mutex" ∷ codes "cond" ∷ codes "thread" ∷ codes "main" ∷ codes "tid" ∷ codes "if" ∷ codes "else" ∷ codes "while" ∷ codes "create" ∷ codes "join" ∷ codes "lock"
+    codes "int" ∷ codes "mutex" ∷ codes "cond" ∷ codes "thread" ∷ codes "main" ∷ codes "tid" ∷ codes "if" ∷ codes "else" ∷ codes "while" ∷ codes
+    "create" ∷ codes "join" ∷ codes "lock"
     ∷ codes "unlock" ∷ codes "wait" ∷ codes "signal" ∷ codes "broadcast" ∷ codes "fence" ∷ codes "assert" ∷ []
 
 abbrev pub is_keyword : List ℕ → Bool

@@ -7,7 +7,8 @@ use Rattle.clap_debug_cli.specs.Answers.{Answer}
 use Rattle.clap_debug_cli.specs.Call.{FailsToRead, FailsToPut}
 use Rattle.clap_debug_cli.proofs.Faults.{counts_one}
 
-pub never_fails_to_read : (o : Option Names) (old new : ShelfTells) (name : List ℕ) → IsSomeAnd o (λ names. FailsToRead names old new name) → old.faults ≡ 0 → new.faults ≡ 0 → ⊥
+pub never_fails_to_read : (o : Option Names) (old new : ShelfTells) (name : List ℕ) → IsSomeAnd o (λ names. FailsToRead names old new name)
+    → old.faults ≡ 0 → new.faults ≡ 0 → ⊥
 never_fails_to_read None old new name f none still = absurd f
 never_fails_to_read (Some names) old new name f none still = let counted = counts_one names old new name f in omega (arith, counted, none, still)
 

@@ -9,11 +9,13 @@ returns-clause-call g c =
     let old = g.H.Shelf.tells c.args.shelf.now in
     let new = g.H.Shelf.tells c.answered-answer.new.shelf in
     let answered = c.answered-answer.ensures in
-    call_answers words old new (plain_answer c.answered-answer.result) c.say.result (g.K.Sink.tells c.args.sink.now) (g.K.Sink.tells c.say.new.sink) answered.cause c.say.ensures answered.unused answered.kept
+    call_answers words old new (plain_answer c.answered-answer.result) c.say.result (g.K.Sink.tells c.args.sink.now) (g.K.Sink.tells c.say.new.sink)
+    answered.cause c.say.ensures answered.unused answered.kept
 
 pub returns-clause-replay : goal.returns-clause-replay
 returns-clause-replay g c =
     let words = map string_bytes c.args.words.now in
     let old = g.H.Shelf.tells c.args.shelf.now in
     let new = g.H.Shelf.tells c.answered-answer.new.shelf in
-    told_answers words old new (plain_answer c.answered-answer.result) c.say.result (g.K.Sink.tells c.args.sink.now) (g.K.Sink.tells c.say.new.sink) c.answered-answer.ensures.cause c.say.ensures
+    told_answers words old new (plain_answer c.answered-answer.result) c.say.result (g.K.Sink.tells c.args.sink.now) (g.K.Sink.tells c.say.new.sink)
+    c.answered-answer.ensures.cause c.say.ensures

@@ -69,7 +69,8 @@ impl Body {
     ) -> Result<(), AllocError>
         requires cells { length globals.now ≤ 1024 }
         requires slots { self.old.free + 2 < 2 ^ 32 }
-        ensures instrs { OnOk result (plain_instrs self.new.instrs.items ≡ plain_instrs self.old.instrs.items ++ (lowered_statement globals.now self.old.free statement.now).instrs) }
+        ensures instrs { OnOk result (plain_instrs self.new.instrs.items ≡ plain_instrs self.old.instrs.items ++
+            (lowered_statement globals.now self.old.free statement.now).instrs) }
         ensures free { OnOk result (self.new.free ≡ (lowered_statement globals.now self.old.free statement.now).free) }
     {
         match statement {
@@ -96,7 +97,8 @@ impl Body {
         requires cells { length globals.now ≤ 1024 }
         requires slots { self.old.free + 2 < 2 ^ 32 }
         ensures value { IfOk result (λ value. plain_expr value ≡ (evaluated globals.now self.old.free expression.now).value) }
-        ensures instrs { OnOk result (plain_instrs self.new.instrs.items ≡ plain_instrs self.old.instrs.items ++ (evaluated globals.now self.old.free expression.now).instrs) }
+        ensures instrs { OnOk result (plain_instrs self.new.instrs.items ≡ plain_instrs self.old.instrs.items ++
+            (evaluated globals.now self.old.free expression.now).instrs) }
         ensures free { OnOk result (self.new.free ≡ (evaluated globals.now self.old.free expression.now).free) }
     {
         match expression {
@@ -115,7 +117,8 @@ impl Body {
         requires cells { length globals.now ≤ 1024 }
         requires slots { self.old.free + 1 < 2 ^ 32 }
         ensures value { IfOk result (λ value. plain_expr value ≡ (evaluated_atom globals.now self.old.free atom.now).value) }
-        ensures instrs { OnOk result (plain_instrs self.new.instrs.items ≡ plain_instrs self.old.instrs.items ++ (evaluated_atom globals.now self.old.free atom.now).instrs) }
+        ensures instrs { OnOk result (plain_instrs self.new.instrs.items ≡ plain_instrs self.old.instrs.items ++
+            (evaluated_atom globals.now self.old.free atom.now).instrs) }
         ensures free { OnOk result (self.new.free ≡ (evaluated_atom globals.now self.old.free atom.now).free) }
     {
         match atom {

@@ -4,8 +4,30 @@ ghost use Rattle.std.specs.List.{flat_map, list_all};
 ghost use Rattle.clap_debug_cli.specs.declared.program.token.Token.{Token};
 ghost use Rattle.clap_debug_cli.specs.declared.program.token.Token.TheVariants.{Main, OpenBrace, CloseBrace};
 ghost use Rattle.clap_debug_cli.specs.declared.program.tree.Statement.{Statement};
-ghost use Rattle.clap_debug_cli.specs.Program.{Program, plain_program, program_tokens, global_tokens, statement_tokens, is_well_named, is_among, are_distinct, atom_names_global, expression_names_globals, statement_names_globals};
-ghost use Rattle.clap_debug_cli.specs.ProgramReading.{Gives, atom_at, after_atom, expression_at, past_semicolon, past_paren, statement_at, global_at, begins_main};
+ghost use Rattle.clap_debug_cli.specs.Program.{
+  Program,
+  plain_program,
+  program_tokens,
+  global_tokens,
+  statement_tokens,
+  is_well_named,
+  is_among,
+  are_distinct,
+  atom_names_global,
+  expression_names_globals,
+  statement_names_globals,
+};
+ghost use Rattle.clap_debug_cli.specs.ProgramReading.{
+  Gives,
+  atom_at,
+  after_atom,
+  expression_at,
+  past_semicolon,
+  past_paren,
+  statement_at,
+  global_at,
+  begins_main,
+};
 
 use super::ProgramFault;
 use super::token::{Identifier, Token};
@@ -42,7 +64,8 @@ fn tree_of(alloc: Global, tokens: &[Token]) -> Result<Tree, ProgramFault>
 /// The variables that are declared, and the tokens after the opening of main.
 fn globals(alloc: Global, tokens: &[Token]) -> Result<(Vec<Identifier>, &[Token]), ProgramFault>
     ensures found { IfOk result (λ x. tokens.now ≡ flat_map global_tokens x.0.items ++ Main ∷ OpenBrace ∷ x.1.now) }
-    ensures refused { result ≡ Err ProgramFault.Refused → (names : List (List ℕ)) (rest : List Token) → tokens.now ≡ flat_map global_tokens names ++ Main ∷ OpenBrace ∷ rest → ⊥ }
+    ensures refused { result ≡ Err ProgramFault.Refused → (names : List (List ℕ)) (rest : List Token)
+        → tokens.now ≡ flat_map global_tokens names ++ Main ∷ OpenBrace ∷ rest → ⊥ }
 {
     let mut names = Vec::new(alloc);
     let mut rest = tokens;

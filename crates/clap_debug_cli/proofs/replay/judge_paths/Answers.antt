@@ -5,8 +5,11 @@ use Rattle.clap_debug_cli.proofs.Differs.{main_differs, all_go, other_differs}
 use Rattle.clap_debug_cli.proofs.replay.judge_paths.Goals as goal
 
 pub returns-then-not-main_goes_as_logged : goal.returns-then-not-main_goes_as_logged
-returns-then-not-main_goes_as_logged c =
-    (c.requires.failed, subst (IsFirstToDiffer c.args.state.now (log_of c.args.log.now.steps)) (sym c.requires.main) (main_differs c.args.state.now c.args.log.now.steps c.main_goes_as_logged.result c.main_goes_as_logged.ensures c.if-not-main_goes_as_logged.true))
+returns-then-not-main_goes_as_logged c = (
+  c.requires.failed,
+  subst (IsFirstToDiffer c.args.state.now (log_of c.args.log.now.steps)) (sym c.requires.main)
+      (main_differs c.args.state.now c.args.log.now.steps c.main_goes_as_logged.result c.main_goes_as_logged.ensures c.if-not-main_goes_as_logged.true),
+)
 
 pub returns-in-Some : goal.returns-in-Some
 returns-in-Some c =
@@ -15,4 +18,8 @@ returns-in-Some c =
     (c.requires.failed, other_differs c.args.state.now c.args.log.now.steps goes c.in_ok-clone-in-Some.field-0 found)
 
 pub returns : goal.returns
-returns c = (c.requires.failed, all_go c.args.state.now c.args.log.now.steps (c.main_goes_as_logged.ensures.0 c.if-not-main_goes_as_logged.false) (sym c.in-None.ensures))
+returns c = (
+  c.requires.failed,
+  all_go c.args.state.now c.args.log.now.steps (c.main_goes_as_logged.ensures.0 c.if-not-main_goes_as_logged.false)
+      (sym c.in-None.ensures),
+)

@@ -10,4 +10,5 @@ pub returns-in-Ended : goal.returns-in-Ended
 returns-in-Ended c =
     let log = log_of c.args.log.now.steps in
     let leads = subst (IsPlayed c.args.code.now c.args.moves.now) c.in-Ended.is c.in_ok-number.ensures in
-    IfOk-weaker c.judge.result (IsJudged c.in-Ended.state log) (IsVerdict c.args.code.now log c.args.moves.now) (verdict_of c.args.code.now log c.args.moves.now c.in-Ended.state leads) c.judge.ensures
+    IfOk-weaker c.judge.result (IsJudged c.in-Ended.state log) (IsVerdict c.args.code.now log c.args.moves.now)
+    (verdict_of c.args.code.now log c.args.moves.now c.in-Ended.state leads) c.judge.ensures

@@ -47,7 +47,11 @@ returns-in_err-token-clause-refused c =
 pub loop-rest-smaller : goal.loop-rest-smaller
 loop-rest-smaller c =
     let after = c.in_ok-token.after.now in
-    omega (arith, begins_shorter c.loop-rest.rest.now c.in_ok-token.token after c.in_ok-token.ensures.found, past_no_longer after c.after_blanks-rest-in-loop-rest.result.now c.after_blanks-rest-in-loop-rest.ensures)
+    omega (
+      arith,
+      begins_shorter c.loop-rest.rest.now c.in_ok-token.token after c.in_ok-token.ensures.found,
+      past_no_longer after c.after_blanks-rest-in-loop-rest.result.now c.after_blanks-rest-in-loop-rest.ensures,
+    )
 
 pub loop-rest-preserved : goal.loop-rest-preserved
 loop-rest-preserved c =
@@ -61,13 +65,21 @@ loop-rest-preserved c =
     let more = eqb-false _ _ (sym c.loop-rest-test.ensures) in
     let some : 0 < length rest = omega (arith, more) in
     record {
-      found = λ us x. rw c.in_ok-push.ensures.items (text_more text rest c.loop-rest.tokens.items token after c.loop-rest.invariant.found begins us (subst (λ (s : List ℕ). IsText s us) past x));
+      found = λ us x. rw c.in_ok-push.ensures.items (text_more text rest c.loop-rest.tokens.items token after c.loop-rest.invariant.found begins us
+          (subst (λ (s : List ℕ). IsText s us) past x));
       only = λ us x.
           let left = c.loop-rest.invariant.only us x in
           let here = text_rest rest token after some c.loop-rest.invariant.no_blank begins left.0 left.1 in
           (here.0, subst (λ (s : List ℕ). IsText s here.0) (sym past) here.1);
       no_blank = past_no_blank after next past;
-      few = omega (arith, c.loop-rest.invariant.few, begins_shorter rest token after begins, past_no_longer after next past, ap length c.in_ok-push.ensures.items, length-append c.loop-rest.tokens.items (token ∷ []));
+      few = omega (
+        arith,
+        c.loop-rest.invariant.few,
+        begins_shorter rest token after begins,
+        past_no_longer after next past,
+        ap length c.in_ok-push.ensures.items,
+        length-append c.loop-rest.tokens.items (token ∷ []),
+      );
     }
 
 pub returns-clause-found : goal.returns-clause-found

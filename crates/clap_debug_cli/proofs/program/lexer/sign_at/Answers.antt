@@ -11,4 +11,5 @@ returns-in_err-first-clause-none c = rw c.from_residual.ensures (none_in_nothing
 pub returns-in_default-clause-none : goal.returns-in_default-clause-none
 returns-in_default-clause-none c =
     let text = c.in_ok-first.ensures.cases.0 in
-    subst BeginsWithNone (sym text) (no_sign c.in_ok-first.first.now c.in_ok-first.rest.now (ap (prefix_len is_word) (sym text) ∙ c.requires) (omega arith) (omega arith) (omega arith) (omega arith) (omega arith) (omega arith))
+    subst BeginsWithNone (sym text) (no_sign c.in_ok-first.first.now c.in_ok-first.rest.now (ap (prefix_len is_word) (sym text) ∙ c.requires)
+    (omega arith) (omega arith) (omega arith) (omega arith) (omega arith) (omega arith))

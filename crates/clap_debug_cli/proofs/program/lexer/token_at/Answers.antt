@@ -26,4 +26,5 @@ returns-clause-found c =
     let text = c.args.text.now in
     let word = c.split_at.ensures.front ∙ ap (λ (n : ℕ). take n text) c.word_len.ensures.run in
     let after = c.split_at.ensures.back ∙ ap (λ (n : ℕ). drop n text) c.word_len.ensures.run in
-    subst (Begins text c.in_ok-token.token) (sym after) (word_begins text c.in_ok-token.token (subst (IsSpelled c.in_ok-token.token) word c.in_ok-token.ensures.found))
+    subst (Begins text c.in_ok-token.token) (sym after)
+    (word_begins text c.in_ok-token.token (subst (IsSpelled c.in_ok-token.token) word c.in_ok-token.ensures.found))

@@ -3,7 +3,8 @@ use Rattle.clap_debug_cli.proofs.TextReading.{digits_have_text, text_is, parsed_
 use Rattle.clap_debug_cli.proofs.program.lexer.value_of.Goals as goal
 
 pub returns-in_err-ok : goal.returns-in_err-ok
-returns-in_err-ok c = absurd (digits_have_text c.from_utf8.result c.args.digits.now _ c.requires c.from_utf8.ensures.cases (sym c.ok.ensures.value ∙ c.in_err-ok.was))
+returns-in_err-ok c = absurd (digits_have_text c.from_utf8.result c.args.digits.now _ c.requires c.from_utf8.ensures.cases (sym c.ok.ensures.value
+    ∙ c.in_err-ok.was))
 
 pub returns : goal.returns
 returns c =
