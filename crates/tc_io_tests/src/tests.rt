@@ -1,4 +1,6 @@
 //! What no clause says: what real files do, and that an interruption ends a call.
+ghost use Rattle.std.specs.Prelude.{◌≤◌, IfOk};
+
 use std::io::{self, ErrorKind};
 use std::process::Abort;
 use std::rt::Files;
@@ -36,7 +38,9 @@ struct Interrupted {
 }
 
 impl Interrupted {
-    fn turn(&mut self) -> io::Result<usize> {
+    fn turn(&mut self) -> io::Result<usize>
+        ensures { IfOk result (λ count. count ≤ 1) }
+    {
         if self.before > 0 {
             self.before -= 1;
             return Ok(1);
