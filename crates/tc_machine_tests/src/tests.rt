@@ -95,7 +95,12 @@ fn end_of(alloc: Global, code: &Code, numbers: &[i32]) -> Result<End, Fail>
 /// What is seen after these moves, and the first that isn't enabled.
 fn seen_after(alloc: Global, functions: &[Function], numbers: &[i32]) -> Result<String, Fail> {
     let code = code_of(alloc, functions)?.ok_or("unlawful")?;
-    let end = end_of(alloc, &code, numbers)?;
+    seen_over(alloc, &code, numbers)
+}
+
+/// The same, over this code.
+fn seen_over(alloc: Global, code: &Code, numbers: &[i32]) -> Result<String, Fail> {
+    let end = end_of(alloc, code, numbers)?;
     let state = seen(alloc, &end.state)?;
     Ok(match end.stop {
         Some((k, why)) => format!(in alloc; "{state}, {why} at {k}")?,

@@ -1,6 +1,6 @@
 //! What moves lead to. The expected ends are worked out by hand from the rules of the machine.
-use super::code::{Function, Op, code_of};
-use super::{end_of, name_of, seen_after};
+use super::code::{Function, Op, code_from, code_of};
+use super::{end_of, name_of, seen_after, seen_over};
 use std::alloc::{AllocError, Global};
 use std::test::Fail;
 use tc_base::Move;
@@ -325,6 +325,12 @@ fn exchanges(expected: i32) -> [Op; 7] {
     ]
 }
 
+/// Where cell 0 begins at 5: the slot takes 5, and is to be the 6 that the cell takes.
+const FINDS_FIVE: Function = &[Op::Cas(5), Op::Keep, Op::Is(6), Op::Exit];
+
+/// There too: the cell isn't 4, so it stays 5, and is to be another.
+const FINDS_NO_FOUR: Function = &[Op::Cas(4), Op::Keep, Op::Load, Op::IsNot(5), Op::Exit];
+
 #[test]
 fn exchanges_take_and_give(rt: HostRuntime) -> Result<(), Fail> {
     let alloc = rt.alloc();
@@ -339,6 +345,14 @@ fn exchanges_take_and_give(rt: HostRuntime) -> Result<(), Fail> {
     ] {
         let numbers = &[0; 12][..moves];
         assert_eq!(rt; seen_after(alloc, &[main], numbers)?.as_str(), want);
+    }
+    for (main, moves, want) in [
+        (FINDS_FIVE, 3, "0 failed, 0 3"),
+        (FINDS_NO_FOUR, 4, "0 failed, 0 4"),
+    ] {
+        let code = code_from(alloc, 5, &[main])?.ok_or("unlawful")?;
+        let numbers = &[0; 4][..moves];
+        assert_eq!(rt; seen_over(alloc, &code, numbers)?.as_str(), want);
     }
     for (site, number, want) in [
         (Op::Nonzero, -1, "none failed, 0 3"),
