@@ -190,6 +190,7 @@ main_is_lawful p h =
     → stands_anywhere i ≡ true = λ k i at. all_at stands_anywhere main.instrs k i all at in
     let end : length main.instrs - 1 ≡ length body.instrs = omega (arith, length-append body.instrs (Exit ∷ [])) in
     record {
+      lines = length-replicate (length main.instrs) 1;
       params = omega arith;
       names = λ k i at. all_at (names_what_is (code_of p) main) main.instrs k i names at;
       jump = λ k to i at leads. absurd (no_target i to (anywhere k i at) leads);

@@ -1,5 +1,5 @@
 -- The code of a program.
-use Rattle.std.specs.Prelude.{ℕ, ◌+◌, pos, List, [], ◌∷◌, ◌++◌, length, unwrap_or, position, bytes_eq, replicate}
+use Rattle.std.specs.Prelude.{ℕ, ◌+◌, pos, List, [], ◌∷◌, ◌++◌, length, unwrap_or, position, bytes_eq, replicate, codes}
 use Rattle.tc_base.specs.declared.arith.BinOp.TheVariants.{Eq}
 use Rattle.tc_code.specs.Expr.{Expr, Binary, Slot}
 use Rattle.tc_code.specs.Expr as expr
@@ -58,11 +58,12 @@ lowered globals free (s ∷ ss) =
     let rest = lowered globals first.free ss in
     record { instrs = first.instrs ++ rest.instrs; free = rest.free }
 
--- main does these statements, and then exits
+-- main does these statements, and then exits; lines of the text aren't kept, and each instruction has line 1
 abbrev pub main_of : List (List ℕ) → List Statement → Func
 main_of globals statements =
     let body = lowered globals 0 statements in
-    record { params = 0; ints = body.free; tids = 0; instrs = body.instrs ++ Exit ∷ [] }
+    let instrs = body.instrs ++ Exit ∷ [] in
+    record { name = codes "main"; params = 0; ints = body.free; tids = 0; instrs = instrs; lines = replicate (length instrs) 1 }
 
 -- each variable is a cell that begins at 0
 abbrev pub code_of : Program → Code

@@ -3,7 +3,7 @@ use Rattle.std.proofs.Common.{◌≡◌, ◌↔◌, ℕ, zero, suc, ◌+◌, ◌
 use Rattle.std.proofs.Common.{IsTrue, Option, Some, None, refl, ap, sym, subst, ◌∙◌, slice_get, arith, inl, inr, nat_lt, nat_le}
 use Rattle.std.specs.Prelude.{◌==◌, position}
 use Rattle.std.specs.Option.{option_map_or}
-use Rattle.std.specs.List.{list_all, range_with_len, prefix_len}
+use Rattle.std.specs.List.{prefix_len}
 use Rattle.std.proofs.lemmas.Bool.{false≢true, true≢false, cases_lt, not-true}
 use Rattle.std.proofs.lemmas.Bool.Decides.{nat_tests, Decides-eqb}
 use Rattle.std.proofs.lemmas.List.Quantifiers.{position-Some}
@@ -179,15 +179,18 @@ module _ (code : Code) (f : Func) where
       let is = f.instrs in
       let ends = last_is_exit is (second _ (ends_in_exit is) h) in
       let names_and = first _ (ends_in_exit is) h in
-      let few : IsTrue (nat_le f.params f.ints) = first _ _ (first _ (all_may_stand is) names_and) in
+      let lines_and = first _ _ (first _ (all_may_stand is) names_and) in
+      let same : IsTrue (length f.lines == length is) = first _ (nat_le f.params f.ints) lines_and in
+      let few : IsTrue (nat_le f.params f.ints) = second (length f.lines == length is) _ lines_and in
       let stands : (k : ℕ) (i : Instr) → slice_get is k ≡ Some i → IsTrue (may_stand is k i) =
       λ k i there.
       subst (λ o. IsTrue (option_map_or (may_stand is k) o false)) there
       (list_all_in (λ j. passes (may_stand is j) is j) 0 (length is) k (second _ (all_may_stand is) names_and) (omega arith)
       (omega (arith, slice_get_within is k i there))) in
       record {
+        lines = (Decides-eqb (length f.lines) (length is)).0 same;
         params = grind (arith, nat_tests);
-        names = λ k i there. list_all_at _ is k i (second (nat_le f.params f.ints) _ (first _ (all_may_stand is) names_and)) there;
+        names = λ k i there. list_all_at _ is k i (second ((length f.lines == length is) && nat_le f.params f.ints) _ (first _ (all_may_stand is) names_and)) there;
         jump = λ k to i there leads. is_target is to (passes_for_target is k i to (stands k i there) leads);
         unlock = λ k m there. stands_before (is_holds m) is k (Holds m) (holds_is m) (stands k (Unlock m) there);
         sleep = λ k c m there. stands_before (is_holds m) is k (Holds m) (holds_is m) (first _ (passes (is_wake c m) is (k + 1)) (stands k (Sleep c m) there));
@@ -221,10 +224,11 @@ module _ (code : Code) (f : Func) where
   passed_where_lawful : IsLawfulFunction code f → IsTrue (is_lawful_function code f)
   passed_where_lawful h =
       let is = f.instrs in
+      let same : IsTrue (length f.lines == length is) = (Decides-eqb (length f.lines) (length is)).1 h.lines in
       let few : IsTrue (nat_le f.params f.ints) = grind (arith, nat_tests, h.params) in
       both _ _
       (both _ _
-      (both _ _ few (all_at (names_what_is code f) is h.names))
+      (both _ _ (both _ _ same few) (all_at (names_what_is code f) is h.names))
       (all_in (λ k. passes (may_stand is k) is k) 0 (length is) (λ k low high.
       let i = there_at is k (omega (arith, high)) in
       passes_there (may_stand is k) (slice_get is k) i.0 i.1 (may_stand_there h k i.0 i.1))))

@@ -2,3 +2,4 @@ pub mod Lawful
 pub mod Lists
 pub mod Sames
 pub mod Tests
+pub mod Texts

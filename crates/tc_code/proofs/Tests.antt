@@ -1,6 +1,6 @@
 -- Tests in booleans, and what they say.
 use Rattle.std.proofs.Common.{◌≡◌, ℕ, zero, suc, ◌+◌, ◌<◌, ◌≤◌, length, List, [], ◌∷◌, Bool, true, false, ◌&&◌}
-use Rattle.std.proofs.Common.{◌||◌, IsTrue, Option, Some, None, refl, ap, sym, subst, ◌∙◌, slice_get, arith}
+use Rattle.std.proofs.Common.{◌||◌, IsTrue, Option, Some, None, refl, sym, subst, slice_get, arith}
 use Rattle.std.specs.Prelude.{◌==◌}
 use Rattle.std.specs.Option.{option_map_or}
 use Rattle.std.specs.List.{list_all, list_any, range_with_len}

@@ -113,6 +113,8 @@ abbrev pub IsGuarded : List Instr → ℕ → Expr → ℕ → Type 0
 IsGuarded is len index k = (place : ℕ) × Guards is len index place k
 
 pub record IsLawfulFunction (code : Code) (f : Func) : Type 0 where
+  -- each instruction has its line
+  pub lines : length f.lines ≡ length f.instrs
   -- parameters are slots
   pub params : f.params ≤ f.ints
   -- all that an instruction names is there

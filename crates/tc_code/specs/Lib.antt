@@ -6,5 +6,6 @@ pub mod SeenExpr
 pub mod Seen
 pub mod Step
 pub mod Run
+pub mod Listing
 pub mod Facts
 pub mod helpers

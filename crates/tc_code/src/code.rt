@@ -1,17 +1,19 @@
 //! Code that is lawful by its type.
-ghost use Rattle.std.specs.Prelude.{◌≡◌, ℕ, Option, Some, None, IfSome, ◌↔◌, IsSome, option_map, ◌<◌, ◌+◌, ◌^◌, OnSome};
-ghost use Rattle.tc_code.specs.Code.{code_of, instr_at};
+ghost use Rattle.std.specs.Prelude.{◌≡◌, ℕ, Option, Some, None, IfSome, ◌↔◌, IsSome, option_map, ◌<◌, ◌+◌, ◌^◌, OnSome, is_some};
+ghost use Rattle.tc_code.specs.Code.{code_of, instr_at, line_at};
 ghost use Rattle.tc_code.specs.Code as spec;
 ghost use Rattle.tc_code.specs.Lawful.{IsLawful};
 ghost use Rattle.tc_code.specs.Seen.{plain_instr};
 
 use crate::parts::Parts;
-use crate::{Instr, Instrs};
+use crate::{FuncName, Instr, Instrs, Lines};
 use std::marker::Model;
 
 /// A function, which a thread does from its first instruction on.
 #[derive(Debug, Drop)]
 pub struct Func {
+    /// Its name in the text.
+    pub name: FuncName,
     /// How many of the int slots, from the first on, are parameters.
     pub params: u32,
     /// How many int slots it has.
@@ -20,9 +22,12 @@ pub struct Func {
     pub tids: u32,
     /// The instructions, in order.
     pub instrs: Instrs,
+    /// The line of each instruction: that of the first token of its statement, and of the closing brace for the exit.
+    pub lines: Lines,
 }
 
 /// Lawful code, in which
+/// - each instruction has its line;
 /// - all that an instruction names is there, and memory has at most `CELLS` cells;
 /// - a child's function has as many parameters as it is given arguments, and parameters are slots;
 /// - a mutex is left, and a wait begins, directly after the test that the thread holds the mutex;
@@ -112,5 +117,19 @@ impl Code {
         ensures room { OnSome result (instruction + 1 < 2 ^ 64) }
     {
         self.parts.functions.get(function)?.instrs.get(instruction)
+    }
+
+    /// The line in the text, from 1, of the instruction at a place, if there is one.
+    pub fn line(&self, function: usize, instruction: usize) -> Option<u32>
+        ensures seen { result ≡ line_at self.now function instruction }
+        ensures there { is_some result ≡ is_some (instr_at self.now function instruction) }
+    {
+        self.parts
+            .functions
+            .get(function)?
+            .lines
+            .as_slice()
+            .get(instruction)
+            .copied()
     }
 }

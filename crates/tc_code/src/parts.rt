@@ -66,7 +66,8 @@ impl Parts {
         ensures { result ≡ test.is_lawful_function self.now f.now }
     {
         let instrs = f.instrs.as_slice();
-        f.params <= f.ints
+        f.lines.as_slice().len() == instrs.len()
+            && f.params <= f.ints
             && self.all_name_what_is(f, instrs)
             && places::all_may_stand(instrs)
             && places::ends_in_exit(instrs)

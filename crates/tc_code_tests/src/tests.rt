@@ -6,20 +6,24 @@ use Step::{
 use std::alloc::{AllocError, Global};
 use std::test::Fail;
 use tc_base::{BinOp, UnOp};
-use tc_code::{Code, Expr, Exprs, Func, Instr, Instrs, names_slots, value};
+use tc_code::{
+    Code, Expr, Exprs, Func, FuncName, Instr, Instrs, Lines, listing, names_slots, value,
+};
 
 fn equal(alloc: Global, left: Expr, right: Expr) -> Result<Expr, AllocError> {
     Ok(Expr::Binary(BinOp::Eq, Box::new(alloc, left)?, Box::new(alloc, right)?))
 }
 
 /// A function of so many parameters, with two slots and two thread variables.
-fn of_instrs(params: u32, instrs: Vec<Instr>) -> Func {
-    Func {
+fn of_instrs(alloc: Global, params: u32, instrs: Vec<Instr>) -> Result<Func, AllocError> {
+    Ok(Func {
+        name: FuncName::new(Vec::new(alloc)),
         params,
         ints: 2,
         tids: 2,
+        lines: Lines::new(vec![in alloc; 1; instrs.len()]?),
         instrs: Instrs::new(instrs),
-    }
+    })
 }
 
 /// `main { x = 1; assert(x == 2); }`
@@ -33,7 +37,7 @@ fn stores_one(alloc: Global) -> Result<Func, AllocError> {
     instrs.push(Instr::Load { slot: 0, cell: 0 })?;
     instrs.push(Instr::Assert(is_two))?;
     instrs.push(Instr::Exit)?;
-    Ok(of_instrs(0, instrs))
+    of_instrs(alloc, 0, instrs)
 }
 
 /// A load, a store and an assertion of these slots and cells, and so many exits.
@@ -53,7 +57,7 @@ fn naming(
     for _ in 0..exits {
         instrs.push(Instr::Exit)?;
     }
-    Ok(of_instrs(params, instrs))
+    of_instrs(alloc, params, instrs)
 }
 
 /// A set and a branch of these slots, and jumps to these places. The exit is at 4.
@@ -73,7 +77,7 @@ fn jumping(
     instrs.push(Instr::Goto { target: goto })?;
     instrs.push(Instr::Fence)?;
     instrs.push(Instr::Exit)?;
-    Ok(of_instrs(0, instrs))
+    of_instrs(alloc, 0, instrs)
 }
 
 /// A wait, and a broadcast, of these mutexes and conditions.
@@ -92,7 +96,7 @@ fn waiting(
         condition: broadcast,
     })?;
     instrs.push(Instr::Exit)?;
-    Ok(of_instrs(0, instrs))
+    of_instrs(alloc, 0, instrs)
 }
 
 /// A child of a function with so many arguments, each a slot, and the test and the join of a thread variable.
@@ -114,7 +118,7 @@ fn creating(
     instrs.push(Instr::Ready { handle: ready })?;
     instrs.push(Instr::Join { handle: join })?;
     instrs.push(Instr::Exit)?;
-    Ok(of_instrs(0, instrs))
+    of_instrs(alloc, 0, instrs)
 }
 
 /// An instruction of the tables below, of mutex, condition and thread variable 0, with slot 0 as the index.
@@ -211,14 +215,14 @@ fn in_order(alloc: Global, steps: &[Step]) -> Result<Func, AllocError> {
         instrs.push(instr(*step))?;
     }
     instrs.push(Instr::Exit)?;
-    Ok(of_instrs(0, instrs))
+    of_instrs(alloc, 0, instrs)
 }
 
 /// Whether code is lawful of so many cells, two mutexes, two conditions, and a function of so many parameters
 /// before main.
 fn is_lawful(alloc: Global, cells: usize, params: u32, main: Func) -> Result<bool, AllocError> {
     let mut functions = Vec::new(alloc);
-    functions.push(of_instrs(params, vec![in alloc; Instr::Exit]?))?;
+    functions.push(of_instrs(alloc, params, vec![in alloc; Instr::Exit]?)?)?;
     functions.push(main)?;
     Ok(Code::new(vec![in alloc; 0; cells]?, 2, 2, functions).is_some())
 }
@@ -455,5 +459,281 @@ fn lawful_code_is_read(rt: HostRuntime) -> Result<(), Fail> {
     assert!(rt; matches!(code.instr(0, 3).ok_or("no exit")?, Instr::Exit));
     assert!(rt; code.instr(0, 4).is_none());
     assert!(rt; code.instr(1, 0).is_none());
+    Ok(())
+}
+
+/// A function of that name, with so many parameters, slots and thread variables, and instructions from that line on,
+/// each on its own.
+fn named(
+    alloc: Global,
+    name: &str,
+    [params, ints, tids]: [u32; 3],
+    first_line: u32,
+    instrs: Vec<Instr>,
+) -> Result<Func, AllocError> {
+    let mut bytes = Vec::new(alloc);
+    bytes.extend_from_slice(name.as_bytes())?;
+    let mut lines = Vec::new(alloc);
+    let mut line = first_line;
+    for _ in instrs.as_slice() {
+        lines.push(line)?;
+        line = line.saturating_add(1);
+    }
+    Ok(Func {
+        name: FuncName::new(bytes),
+        params,
+        ints,
+        tids,
+        instrs: Instrs::new(instrs),
+        lines: Lines::new(lines),
+    })
+}
+
+fn unary(alloc: Global, op: UnOp, operand: Expr) -> Result<Expr, AllocError> {
+    Ok(Expr::Unary(op, Box::new(alloc, operand)?))
+}
+
+fn binary(alloc: Global, op: BinOp, left: Expr, right: Expr) -> Result<Expr, AllocError> {
+    Ok(Expr::Binary(op, Box::new(alloc, left)?, Box::new(alloc, right)?))
+}
+
+#[test]
+fn operators_stand_in_brackets(rt: HostRuntime) -> Result<(), AllocError> {
+    let alloc = rt.alloc();
+    for (op, want) in [
+        (UnOp::Neg, "(-$7)"),
+        (UnOp::Not, "(!$7)"),
+        (UnOp::Inv, "(~$7)"),
+    ] {
+        let e = unary(alloc, op, Expr::Slot(7))?;
+        assert_eq!(rt; format!(in alloc; "{e}")?.as_str(), want);
+    }
+    for (op, want) in [
+        (BinOp::Add, "($0 + -2147483648)"),
+        (BinOp::Sub, "($0 - -2147483648)"),
+        (BinOp::Mul, "($0 * -2147483648)"),
+        (BinOp::Div, "($0 / -2147483648)"),
+        (BinOp::Rem, "($0 % -2147483648)"),
+        (BinOp::Shl, "($0 << -2147483648)"),
+        (BinOp::Shr, "($0 >> -2147483648)"),
+        (BinOp::And, "($0 & -2147483648)"),
+        (BinOp::Or, "($0 | -2147483648)"),
+        (BinOp::Xor, "($0 ^ -2147483648)"),
+        (BinOp::Eq, "($0 == -2147483648)"),
+        (BinOp::Ne, "($0 != -2147483648)"),
+        (BinOp::Lt, "($0 < -2147483648)"),
+        (BinOp::Le, "($0 <= -2147483648)"),
+        (BinOp::Gt, "($0 > -2147483648)"),
+        (BinOp::Ge, "($0 >= -2147483648)"),
+    ] {
+        let e = binary(alloc, op, Expr::Slot(0), Expr::Number(-2147483648))?;
+        assert_eq!(rt; format!(in alloc; "{e}")?.as_str(), want);
+    }
+    let nested = unary(alloc, UnOp::Neg, negated_is_no_less(alloc)?)?;
+    assert_eq!(rt;
+        format!(in alloc; "{nested}")?.as_str(),
+        "(-((-$0) >= ($1 > 2)))"
+    );
+    Ok(())
+}
+
+/// Each instruction that takes no expression but a slot or a number, in a lawful order.
+fn without_operators(alloc: Global) -> Result<Vec<Instr>, AllocError> {
+    let mut instrs = vec![in alloc;
+        Instr::Inside {
+            length: 3,
+            index: Expr::Slot(1)
+        },
+        Instr::LoadAt {
+            slot: 0,
+            first: 1,
+            length: 3,
+            index: Expr::Slot(1)
+        },
+        Instr::StoreAt {
+            first: 1,
+            length: 3,
+            index: Expr::Slot(1),
+            value: Expr::Number(-7)
+        },
+        Instr::Set {
+            slot: 0,
+            value: Expr::Number(2147483647)
+        },
+        Instr::Load { slot: 2, cell: 3 },
+        Instr::Goto { target: 6 },
+        Instr::Lock { mutex: 0 },
+        Instr::Holds { mutex: 0 },
+        Instr::Sleep {
+            condition: 1,
+            mutex: 0
+        },
+        Instr::Wake {
+            condition: 1,
+            mutex: 0
+        },
+        Instr::Signal { condition: 1 },
+        Instr::Broadcast { condition: 0 },
+    ]?;
+    for instr in [
+        Instr::Holds { mutex: 0 },
+        Instr::Unlock { mutex: 0 },
+        Instr::Fence,
+        Instr::Stbar,
+    ] {
+        instrs.push(instr)?;
+    }
+    Ok(instrs)
+}
+
+/// The other instructions, with operators where they take an expression.
+fn with_operators(alloc: Global, instrs: &mut Vec<Instr>) -> Result<(), AllocError> {
+    let negated = unary(alloc, UnOp::Neg, Expr::Slot(1))?;
+    instrs.push(Instr::Store {
+        cell: 0,
+        value: binary(alloc, BinOp::Add, Expr::Slot(0), Expr::Number(1))?,
+    })?;
+    instrs.push(Instr::Branch {
+        condition: unary(alloc, UnOp::Not, Expr::Slot(0))?,
+        target: 18,
+    })?;
+    instrs.push(Instr::Create {
+        handle: 1,
+        function: 0,
+        arguments: Exprs::new(vec![in alloc; Expr::Slot(0), negated]?),
+    })?;
+    instrs.push(Instr::Ready { handle: 1 })?;
+    instrs.push(Instr::Join { handle: 1 })?;
+    instrs.push(Instr::Nonzero(Expr::Slot(2)))?;
+    instrs.push(Instr::InRange(unary(alloc, UnOp::Inv, Expr::Slot(2))?))?;
+    instrs.push(Instr::Swap {
+        slot: 0,
+        cell: 2,
+        value: Expr::Slot(1),
+    })?;
+    let less = binary(alloc, BinOp::Sub, Expr::Slot(1), Expr::Number(2))?;
+    instrs.push(Instr::Cas {
+        slot: 0,
+        cell: 2,
+        expected: Expr::Number(-1),
+        value: less,
+    })?;
+    instrs.push(Instr::Assert(equal(alloc, Expr::Slot(0), Expr::Slot(2))?))?;
+    instrs.push(Instr::Exit)?;
+    Ok(())
+}
+
+const EVERY_INSTRUCTION: &str = "worker 2 2 1
+0 3 create 0 1
+1 4 exit
+idle 0 0 0
+0 7 exit
+main 0 3 2
+0 9 inside 3 $1
+1 10 loadat $0 1 3 $1
+2 11 storeat 1 3 $1 -7
+3 12 set $0 2147483647
+4 13 load $2 3
+5 14 goto 6
+6 15 lock 0
+7 16 holds 0
+8 17 sleep 1 0
+9 18 wake 1 0
+10 19 signal 1
+11 20 broadcast 0
+12 21 holds 0
+13 22 unlock 0
+14 23 fence
+15 24 stbar
+16 25 store 0 ($0 + 1)
+17 26 branch (!$0) 18
+18 27 create 1 0 $0 (-$1)
+19 28 ready 1
+20 29 join 1
+21 30 nonzero $2
+22 31 inrange (~$2)
+23 32 swap $0 2 $1
+24 33 cas $0 2 -1 ($1 - 2)
+25 34 assert ($0 == $2)
+26 35 exit
+";
+
+#[test]
+fn every_instruction_is_listed(rt: HostRuntime) -> Result<(), Fail> {
+    let alloc = rt.alloc();
+    let create = Instr::Create {
+        handle: 0,
+        function: 1,
+        arguments: Exprs::new(Vec::new(alloc)),
+    };
+    let mut functions = Vec::new(alloc);
+    functions.push(named(
+        alloc,
+        "worker",
+        [2, 2, 1],
+        3,
+        vec![in alloc; create, Instr::Exit]?,
+    )?)?;
+    functions.push(named(alloc, "idle", [0, 0, 0], 7, vec![in alloc; Instr::Exit]?)?)?;
+    let mut instrs = without_operators(alloc)?;
+    with_operators(alloc, &mut instrs)?;
+    functions.push(named(alloc, "main", [0, 3, 2], 9, instrs)?)?;
+    let code = Code::new(vec![in alloc; 0; 4]?, 1, 2, functions).ok_or("unlawful")?;
+    assert_eq!(rt;
+        listing(alloc, &code)?.as_slice(),
+        EVERY_INSTRUCTION.as_bytes()
+    );
+    assert_eq!(rt; code.line(0, 1), Some(4));
+    assert_eq!(rt; code.line(2, 26), Some(35));
+    assert_eq!(rt; code.line(2, 27), None);
+    assert_eq!(rt; code.line(3, 0), None);
+    Ok(())
+}
+
+/// `int x; main { assert(x && 1); }`, all in line 1.
+#[test]
+fn a_conjunction_is_listed(rt: HostRuntime) -> Result<(), Fail> {
+    let alloc = rt.alloc();
+    let one = binary(alloc, BinOp::Ne, Expr::Number(1), Expr::Number(0))?;
+    let mut main = of_instrs(
+        alloc,
+        0,
+        vec![in alloc;
+            Instr::Load { slot: 0, cell: 0 },
+            Instr::Set {
+                slot: 1,
+                value: Expr::Number(0)
+            },
+            Instr::Branch {
+                condition: Expr::Slot(0),
+                target: 4
+            },
+            Instr::Set {
+                slot: 1,
+                value: one
+            },
+            Instr::Assert(Expr::Slot(1)),
+            Instr::Exit,
+        ]?,
+    )?;
+    let mut name = Vec::new(alloc);
+    name.extend_from_slice(b"main")?;
+    main.name = FuncName::new(name);
+    main.tids = 0;
+    let code = Code::new(vec![in alloc; 0]?, 0, 0, vec![in alloc; main]?).ok_or("unlawful")?;
+    let want =
+        "main 0 2 0\n0 1 load $0 0\n1 1 set $1 0\n2 1 branch $0 4\n3 1 set $1 (1 != 0)\n4 1 assert $1\n5 1 exit\n";
+    assert_eq!(rt; listing(alloc, &code)?.as_slice(), want.as_bytes());
+    Ok(())
+}
+
+#[test]
+fn each_instruction_has_a_line(rt: HostRuntime) -> Result<(), Fail> {
+    let alloc = rt.alloc();
+    for (lines, want) in [(3, false), (4, true), (5, false)] {
+        let mut main = stores_one(alloc)?;
+        main.lines = Lines::new(vec![in alloc; 1; lines]?);
+        assert_eq!(rt; is_lawful(alloc, 1, 0, main)?, want, "{lines} lines");
+    }
     Ok(())
 }

@@ -9,7 +9,7 @@ use super::token::Identifier;
 use super::tree::{Atom, Expression, Statement, Tree};
 use std::alloc::{AllocError, Global};
 use tc_base::BinOp;
-use tc_code::{Code, Expr, Func, Instr, Instrs};
+use tc_code::{Code, Expr, Func, FuncName, Instr, Instrs, Lines};
 
 /// The code of a program.
 pub(crate) fn lower(alloc: Global, tree: &Tree) -> Result<Code, AllocError>
@@ -45,10 +45,14 @@ fn main_of(
         body.write_statement(alloc, globals, statement)?;
     }
     body.instrs.push(Instr::Exit)?;
+    let mut name = Vec::new(alloc);
+    name.extend_from_slice(b"main")?;
     Ok(Func {
+        name: FuncName::new(name),
         params: 0,
         ints: body.free,
         tids: 0,
+        lines: Lines::new(vec![in alloc; 1; body.instrs.len()]?),
         instrs: Instrs::new(body.instrs),
     })
 }

@@ -8,10 +8,10 @@ use Rattle.tc_code.specs.helpers.CodedInstr.{coded_instr}
 
 abbrev pub coded_func : Coded Func
 coded_func =
-    code_by ((ℕ × ℕ) × (ℕ × List Instr))
-    (coded× (coded× coded_ℕ coded_ℕ) (coded× coded_ℕ (coded_list coded_instr)))
-    (λ f. ((f.params, f.ints), (f.tids, f.instrs)))
-    (λ p. record { params = p.0.0; ints = p.0.1; tids = p.1.0; instrs = p.1.1 })
+    code_by ((ℕ × (ℕ × ℕ)) × (List Instr × (List ℕ × List ℕ)))
+    (coded× (coded× coded_ℕ (coded× coded_ℕ coded_ℕ)) (coded× (coded_list coded_instr) (coded× (coded_list coded_ℕ) (coded_list coded_ℕ))))
+    (λ f. ((f.params, (f.ints, f.tids)), (f.instrs, (f.lines, f.name))))
+    (λ p. record { params = p.0.0; ints = p.0.1.0; tids = p.0.1.1; instrs = p.1.0; lines = p.1.1.0; name = p.1.1.1 })
     (λ _. refl)
 
 abbrev pub coded_code : Coded Code

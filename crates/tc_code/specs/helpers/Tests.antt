@@ -88,7 +88,9 @@ abbrev pub ends_in_exit : List Instr → Bool
 ends_in_exit is = option_map_or (λ at. (at + 1) == length is) (position is_exit is) false
 
 abbrev pub is_lawful_function : Code → Func → Bool
-is_lawful_function code f = nat_le f.params f.ints && list_all (names_what_is code f) f.instrs && all_may_stand f.instrs && ends_in_exit f.instrs
+is_lawful_function code f =
+    (length f.lines == length f.instrs) && nat_le f.params f.ints && list_all (names_what_is code f) f.instrs
+    && all_may_stand f.instrs && ends_in_exit f.instrs
 
 -- whether main is there, the last function, and takes no parameters
 abbrev pub ends_in_main : List Func → Bool

@@ -1,7 +1,7 @@
 //! Codes of a few instructions, all over mutex 0, condition 0, an array of two cells at 0, and slot 0.
 use std::alloc::{AllocError, Global};
 use tc_base::BinOp;
-use tc_code::{Code, Expr, Exprs, Func, Instr, Instrs};
+use tc_code::{Code, Expr, Exprs, Func, FuncName, Instr, Instrs, Lines};
 
 /// An instruction.
 #[derive(Clone, Copy)]
@@ -141,9 +141,11 @@ fn func_of(alloc: Global, params: u32, ops: Function) -> Result<Func, AllocError
         instrs.push(instr_of(alloc, *op)?)?;
     }
     Ok(Func {
+        name: FuncName::new(Vec::new(alloc)),
         params,
         ints: 1,
         tids: 2,
+        lines: Lines::new(vec![in alloc; 1; instrs.len()]?),
         instrs: Instrs::new(instrs),
     })
 }

@@ -1,0 +1,103 @@
+-- The listing of code: a line of text for each function, and one for each of its instructions.
+use Rattle.std.specs.Prelude.{ℕ, List, [], ◌∷◌, ◌++◌, map, codes, zip, flat_map}
+use Rattle.std.specs.List.{enumerate_from}
+use Rattle.std.specs.Fmt.{decimal, signed_decimal}
+use Rattle.tc_base.specs.declared.arith.UnOp.{UnOp}
+use Rattle.tc_base.specs.declared.arith.UnOp.TheVariants as unary
+use Rattle.tc_base.specs.declared.arith.BinOp.{BinOp}
+use Rattle.tc_base.specs.declared.arith.BinOp.TheVariants as binary
+use Rattle.tc_code.specs.Expr.{Expr, Number, Slot, Unary, Binary}
+use Rattle.tc_code.specs.Instr.{Instr, Set, Load, Load_at, Store, Store_at, Inside, Branch, Goto, Holds, Lock, Unlock, Sleep, Wake}
+use Rattle.tc_code.specs.Instr.{Signal, Broadcast, Create, Ready, Join, Assert, Nonzero, In_range, Swap, Cas, Fence, Stbar, Exit}
+use Rattle.tc_code.specs.Code.{Code}
+use Rattle.tc_code.specs.declared.code.Func.{Func}
+
+-- parts with a blank between any two
+abbrev pub spaced : List (List ℕ) → List ℕ
+spaced [] = []
+spaced (w ∷ []) = w
+spaced (w ∷ v ∷ ws) = w ++ (codes " " ++ spaced (v ∷ ws))
+
+-- parts as a line of the listing
+abbrev pub as_line : List (List ℕ) → List ℕ
+as_line ws = spaced ws ++ codes "\n"
+
+abbrev pub unary_text : UnOp → List ℕ
+unary_text unary.Neg = codes "-"
+unary_text unary.Not = codes "!"
+unary_text unary.Inv = codes "~"
+
+abbrev pub binary_text : BinOp → List ℕ
+binary_text binary.Add = codes "+"
+binary_text binary.Sub = codes "-"
+binary_text binary.Mul = codes "*"
+binary_text binary.And = codes "&"
+binary_text binary.Or = codes "|"
+binary_text binary.Xor = codes "^"
+binary_text binary.Eq = codes "=="
+binary_text binary.Ne = codes "!="
+binary_text binary.Lt = codes "<"
+binary_text binary.Le = codes "<="
+binary_text binary.Gt = codes ">"
+binary_text binary.Ge = codes ">="
+binary_text binary.Div = codes "/"
+binary_text binary.Rem = codes "%"
+binary_text binary.Shl = codes "<<"
+binary_text binary.Shr = codes ">>"
+
+abbrev pub slot_text : ℕ → List ℕ
+slot_text k = codes "$" ++ decimal k
+
+-- an operator stands in brackets with what it takes
+abbrev pub expr_text : Expr → List ℕ
+expr_text (Number n) = signed_decimal n
+expr_text (Slot k) = slot_text k
+expr_text (Unary op a) = codes "(" ++ (unary_text op ++ (expr_text a ++ codes ")"))
+expr_text (Binary op a b) = codes "(" ++ (spaced (expr_text a ∷ binary_text op ∷ expr_text b ∷ []) ++ codes ")")
+
+-- an instruction's word, and then all that it names, by number
+abbrev pub instr_text : Instr → List ℕ
+instr_text (Set k e) = spaced (codes "set" ∷ slot_text k ∷ expr_text e ∷ [])
+instr_text (Load k c) = spaced (codes "load" ∷ slot_text k ∷ decimal c ∷ [])
+instr_text (Load_at k a len i) = spaced (codes "loadat" ∷ slot_text k ∷ decimal a ∷ decimal len ∷ expr_text i ∷ [])
+instr_text (Store c e) = spaced (codes "store" ∷ decimal c ∷ expr_text e ∷ [])
+instr_text (Store_at a len i e) = spaced (codes "storeat" ∷ decimal a ∷ decimal len ∷ expr_text i ∷ expr_text e ∷ [])
+instr_text (Inside len i) = spaced (codes "inside" ∷ decimal len ∷ expr_text i ∷ [])
+instr_text (Branch e to) = spaced (codes "branch" ∷ expr_text e ∷ decimal to ∷ [])
+instr_text (Goto to) = spaced (codes "goto" ∷ decimal to ∷ [])
+instr_text (Holds m) = spaced (codes "holds" ∷ decimal m ∷ [])
+instr_text (Lock m) = spaced (codes "lock" ∷ decimal m ∷ [])
+instr_text (Unlock m) = spaced (codes "unlock" ∷ decimal m ∷ [])
+instr_text (Sleep c m) = spaced (codes "sleep" ∷ decimal c ∷ decimal m ∷ [])
+instr_text (Wake c m) = spaced (codes "wake" ∷ decimal c ∷ decimal m ∷ [])
+instr_text (Signal c) = spaced (codes "signal" ∷ decimal c ∷ [])
+instr_text (Broadcast c) = spaced (codes "broadcast" ∷ decimal c ∷ [])
+instr_text (Create h f es) = spaced (codes "create" ∷ decimal h ∷ decimal f ∷ map expr_text es)
+instr_text (Ready h) = spaced (codes "ready" ∷ decimal h ∷ [])
+instr_text (Join h) = spaced (codes "join" ∷ decimal h ∷ [])
+instr_text (Assert e) = spaced (codes "assert" ∷ expr_text e ∷ [])
+instr_text (Nonzero e) = spaced (codes "nonzero" ∷ expr_text e ∷ [])
+instr_text (In_range e) = spaced (codes "inrange" ∷ expr_text e ∷ [])
+instr_text (Swap k c e) = spaced (codes "swap" ∷ slot_text k ∷ decimal c ∷ expr_text e ∷ [])
+instr_text (Cas k c e new) = spaced (codes "cas" ∷ slot_text k ∷ decimal c ∷ expr_text e ∷ expr_text new ∷ [])
+instr_text Fence = codes "fence"
+instr_text Stbar = codes "stbar"
+instr_text Exit = codes "exit"
+
+-- the number of an instruction in its function, its line in the program's text, and its own text
+abbrev pub row_text : ℕ → ℕ → Instr → List ℕ
+row_text n line i = as_line (decimal n ∷ decimal line ∷ instr_text i ∷ [])
+
+-- a row for each instruction; they are numbered from 0
+abbrev pub instrs_text : Func → List ℕ
+instrs_text f = flat_map (λ r. row_text r.0 r.1.0 r.1.1) (enumerate_from 0 (zip f.lines f.instrs))
+
+-- a function's name, and how many parameters, int slots and thread variables it has
+abbrev pub head_text : Func → List ℕ
+head_text f = as_line (f.name ∷ decimal f.params ∷ decimal f.ints ∷ decimal f.tids ∷ [])
+
+abbrev pub function_text : Func → List ℕ
+function_text f = head_text f ++ instrs_text f
+
+abbrev pub listing_of : Code → List ℕ
+listing_of code = flat_map function_text code.functions

@@ -1,0 +1,145 @@
+//! The texts of expressions and instructions.
+ghost use Rattle.std.specs.Prelude.{◌≡◌};
+ghost use Rattle.tc_code.specs.Listing.{unary_text, binary_text};
+
+use crate::{Expr, Exprs, Instr};
+use std::fmt;
+use tc_base::{BinOp, UnOp};
+
+fn unary_text(op: UnOp) -> &'static str
+    ensures { result.now ≡ unary_text op }
+{
+    match op {
+        UnOp::Neg => "-",
+        UnOp::Not => "!",
+        UnOp::Inv => "~",
+    }
+}
+
+fn binary_text(op: BinOp) -> &'static str
+    ensures { result.now ≡ binary_text op }
+{
+    match op {
+        BinOp::Add => "+",
+        BinOp::Sub => "-",
+        BinOp::Mul => "*",
+        BinOp::Div => "/",
+        BinOp::Rem => "%",
+        BinOp::Shl => "<<",
+        BinOp::Shr => ">>",
+        BinOp::And => "&",
+        BinOp::Or => "|",
+        BinOp::Xor => "^",
+        BinOp::Eq => "==",
+        BinOp::Ne => "!=",
+        BinOp::Lt => "<",
+        BinOp::Le => "<=",
+        BinOp::Gt => ">",
+        BinOp::Ge => ">=",
+    }
+}
+
+/// An operator stands in brackets with what it takes, so the text needs no rule on what binds more tightly.
+impl fmt::Display for Expr {
+    ghost use Rattle.std.specs.Prelude.{Some};
+    ghost use Rattle.tc_code.specs.Listing.{expr_text};
+    ghost use Rattle.tc_code.specs.SeenExpr.{plain_expr};
+
+    ghost output = { λ e. Some (expr_text (plain_expr e)) };
+
+    fn fmt<W: fmt::Write>(&self, f: &mut fmt::Formatter<W>) -> fmt::Result {
+        match self {
+            Expr::Number(n) => write!(f, "{n}"),
+            Expr::Slot(k) => write!(f, "${k}"),
+            Expr::Unary(op, operand) => {
+                let op = unary_text(*op);
+                write!(f, "({op}")?;
+                (**operand).fmt(f)?;
+                write!(f, ")")
+            }
+            Expr::Binary(op, left, right) => {
+                let op = binary_text(*op);
+                write!(f, "(")?;
+                (**left).fmt(f)?;
+                write!(f, " {op} ")?;
+                (**right).fmt(f)?;
+                write!(f, ")")
+            }
+        }
+    }
+}
+
+/// The expressions, each after a blank.
+impl fmt::Display for Exprs {
+    ghost use Rattle.std.specs.Prelude.{Some, ◌++◌, codes};
+    ghost use Rattle.std.specs.List.{flat_map};
+    ghost use Rattle.tc_code.specs.Listing.{expr_text};
+
+    ghost output = { λ es. Some (flat_map (λ e. codes " " ++ expr_text e) es) };
+
+    fn fmt<W: fmt::Write>(&self, f: &mut fmt::Formatter<W>) -> fmt::Result {
+        for e in self.as_slice() {
+            write!(f, " {e}")?;
+        }
+        Ok(())
+    }
+}
+
+/// The instruction's word, and then all that it names, by number.
+impl fmt::Display for Instr {
+    ghost use Rattle.std.specs.Prelude.{Some};
+    ghost use Rattle.tc_code.specs.Listing.{instr_text};
+    ghost use Rattle.tc_code.specs.Seen.{plain_instr};
+
+    ghost output = { λ i. Some (instr_text (plain_instr i)) };
+
+    fn fmt<W: fmt::Write>(&self, f: &mut fmt::Formatter<W>) -> fmt::Result {
+        match self {
+            Instr::Set { slot, value } => write!(f, "set ${slot} {value}"),
+            Instr::Load { slot, cell } => write!(f, "load ${slot} {cell}"),
+            Instr::LoadAt {
+                slot,
+                first,
+                length,
+                index,
+            } => write!(f, "loadat ${slot} {first} {length} {index}"),
+            Instr::Store { cell, value } => write!(f, "store {cell} {value}"),
+            Instr::StoreAt {
+                first,
+                length,
+                index,
+                value,
+            } => write!(f, "storeat {first} {length} {index} {value}"),
+            Instr::Inside { length, index } => write!(f, "inside {length} {index}"),
+            Instr::Branch { condition, target } => write!(f, "branch {condition} {target}"),
+            Instr::Goto { target } => write!(f, "goto {target}"),
+            Instr::Holds { mutex } => write!(f, "holds {mutex}"),
+            Instr::Lock { mutex } => write!(f, "lock {mutex}"),
+            Instr::Unlock { mutex } => write!(f, "unlock {mutex}"),
+            Instr::Sleep { condition, mutex } => write!(f, "sleep {condition} {mutex}"),
+            Instr::Wake { condition, mutex } => write!(f, "wake {condition} {mutex}"),
+            Instr::Signal { condition } => write!(f, "signal {condition}"),
+            Instr::Broadcast { condition } => write!(f, "broadcast {condition}"),
+            Instr::Create {
+                handle,
+                function,
+                arguments,
+            } => write!(f, "create {handle} {function}{arguments}"),
+            Instr::Ready { handle } => write!(f, "ready {handle}"),
+            Instr::Join { handle } => write!(f, "join {handle}"),
+            Instr::Assert(e) => write!(f, "assert {e}"),
+            Instr::Nonzero(e) => write!(f, "nonzero {e}"),
+            Instr::InRange(e) => write!(f, "inrange {e}"),
+            Instr::Swap { slot, cell, value } => write!(f, "swap ${slot} {cell} {value}"),
+            Instr::Cas {
+                slot,
+                cell,
+                expected,
+                value,
+            } => write!(f, "cas ${slot} {cell} {expected} {value}"),
+            Instr::Fence => write!(f, "fence"),
+            Instr::Stbar => write!(f, "stbar"),
+            Instr::Exit => write!(f, "exit"),
+        }
+    }
+}
