@@ -6,7 +6,7 @@ use Rattle.std.specs.Option.{is_some, IsSome, option_and_then}
 use Rattle.std.specs.FinMap as fin
 use Rattle.std.specs.FinSet as set
 use Rattle.std.proofs.lemmas.Bool.{false≢true}
-use Rattle.std.proofs.lemmas.List.{append-nil, map-append, take_more}
+use Rattle.std.proofs.lemmas.List.{append-nil, get_or_default, map-append, take_more}
 use Rattle.std.proofs.lemmas.List.Elements.{filter-append, Contains-append_left, Contains-append_right}
 use Rattle.std.proofs.lemmas.Map.Views.{Contains-from_any}
 use Rattle.std.proofs.lemmas.Option.{none-some, same_Some, option_and_then_some, cond_some}
@@ -42,6 +42,12 @@ module _ {X : Type 0} (p : Move → Bool) where
       ∙ ap (λ m. start ++ filter p (map f (take i names ++ m ∷ []))) here
       ∙ ap (λ ns. start ++ filter p (map f ns)) (sym (take_more names i n lt))
 
+  -- the same, of one that is read at its place
+  pub listed_next : (f : X → Move) (names : List X) (i : ℕ) (d : X) (start old new : List Move) → i < length names
+      → old ≡ start ++ filter p (map f (take i names)) → new ≡ old ++ filter p (f (get_or names i d) ∷ []) → new ≡ start ++ filter p (map f (take (i + 1) names))
+  listed_next f names i d start old new lt so_far e =
+      listed_more f names i (get_or names i d) start old new lt (get_or_default names i d (get_or names i d) lt) so_far e
+
   none_passes : (f : X → Move) (names : List X) → ((n : X) → p (f n) ≡ false) → filter p (map f names) ≡ []
   none_passes f [] h = refl
   none_passes f (n ∷ ns) h = ap (λ b. cond b (f n ∷ filter p (map f ns)) (filter p (map f ns))) (h n) ∙ none_passes f ns h
@@ -50,13 +56,14 @@ module _ {X : Type 0} (p : Move → Bool) where
   pub first_only : (f : X → Move) (names : List X) (m : Move) → ((n : X) → p (f n) ≡ false) → filter p (m ∷ []) ≡ filter p (m ∷ map f names)
   first_only f names m h = ap (λ ms. cond (p m) (m ∷ ms) ms) (sym (none_passes f names h))
 
+kept : (f : Option ℕ → Move) (g : Option ℕ) (ms : List Move) (gs : List (Option ℕ)) → ms ≡ map f gs → (b : Bool)
+    → cond b (f g ∷ ms) ms ≡ map f (cond b (g ∷ gs) gs)
+kept f g ms gs e true = ap (λ ns. f g ∷ ns) e
+kept f g ms gs e false = e
+
 filter_map : (p : Move → Bool) (f : Option ℕ → Move) (fs : List (Option ℕ)) → filter p (map f fs) ≡ map f (filter (λ g. p (f g)) fs)
 filter_map p f [] = refl
-filter_map p f (g ∷ gs) = kept (p (f g))
-  where
-    kept : (b : Bool) → cond b (f g ∷ filter p (map f gs)) (filter p (map f gs)) ≡ map f (cond b (g ∷ filter (λ h. p (f h)) gs) (filter (λ h. p (f h)) gs))
-    kept true = ap (λ ms. f g ∷ ms) (filter_map p f gs)
-    kept false = filter_map p f gs
+filter_map p f (g ∷ gs) = kept f g (filter p (map f gs)) (filter (λ h. p (f h)) gs) (filter_map p f gs) (p (f g))
 
 cell_drains : (n : Name) (cells : List ℕ) → map (λ f. Drain n f) (map (λ c. Some c) cells) ≡ map (λ c. Drain n (Some c)) cells
 cell_drains n [] = refl
@@ -170,8 +177,8 @@ module _ {B : Type 0} (ops : BufferOps B) (model : Model) (bound : Binding) (law
   drain_is_one n t None there may = first_in (Drain n None) (Drain n None) _ refl
   drain_is_one n t (Some c) there may =
       later_in (Drain n None) (Drain n (Some c)) _
-      (in_range (λ d. Drain n (Some d)) 0 (length s.memory) c (omega arith)
-      (form_is_there ops model bound laws code lawful s reached n t there (Some c) may c refl))
+      (let lt : c < length s.memory = form_is_there ops model bound laws code lawful s reached n t there (Some c) may c refl in
+      in_range (λ d. Drain n (Some d)) 0 (length s.memory) c (omega arith) (omega (arith, lt)))
 
   wake_is_step : (n u : Name) → IsSome (fin.get s.threads u) → Contains (steps_of ops code s n) (Wake n u)
   wake_is_step n u there =
