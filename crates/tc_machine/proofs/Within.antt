@@ -1,5 +1,5 @@
 -- In a state that a run of lawful code reaches, each buffered store is to a cell that is there.
-use Rattle.std.proofs.Common.{◌≡◌, ◌∙◌, inl, inr, ℕ, ◌+◌, ◌<◌, ℤ, pos, slice_set, length, List, [], ◌∷◌, ◌++◌, Bool, true, false, cond, Option, Some, None, refl, ap, sym, subst}
+use Rattle.std.proofs.Common.{◌≡◌, ◌∙◌, inl, inr, ℕ, ◌+◌, ◌<◌, ℤ, pos, slice_set, length, List, [], ◌∷◌, ◌++◌, Bool, true, false, cond, Option, Some, None, refl, sym, subst}
 use Rattle.std.specs.Prelude.{is_some, IsSome, IfSome}
 use Rattle.std.specs.FinMap as fin
 use Rattle.std.specs.Ordering.{nat_cmp}
@@ -17,10 +17,10 @@ use Rattle.tc_code.specs.Instr.{Instr}
 use Rattle.tc_code.specs.Code.{Code}
 use Rattle.tc_code.specs.Lawful.{IsLawful}
 use Rattle.tc_code.specs.Run.{IsReached}
-use Rattle.tc_code.specs.Step.{request, local_after, with_thread, did, perform, stored, drained, drain_of, born, step, opening}
+use Rattle.tc_code.specs.Step.{request, local_after, with_thread, did, perform, stored, drained, drain_of, born, step}
 use Rattle.tc_runs.proofs.Basics.{some_value, unless}
 use Rattle.tc_runs.proofs.Names.{get_put_cases}
-use Rattle.tc_runs.proofs.Steps.{Went, step_went, holds_in_reached}
+use Rattle.tc_runs.proofs.Steps.{step_went, holds_in_reached}
 use Rattle.tc_runs.proofs.Whole.{reached_is_whole}
 use Rattle.store_buffers.specs.Pending.{Pending, Store, Bar as PendingBar, Binding, Stands, form_of}
 use Rattle.store_buffers.specs.Laws.{Laws}
@@ -139,7 +139,6 @@ module _ {B : Type 0} (ops : BufferOps B) (model : Model) (bound : Binding) (law
     performed_within s q t i _ cells asks all h = all_put n s.threads q _ all h
 
   module _ (code : Code) (lawful : IsLawful code) where
-
     went_within : (s u : State B) (m : Move) → IsReached ops code s → step ops code s m ≡ Some u → AllWithin (length code.memory) s.threads
         → AllWithin (length code.memory) u.threads
     went_within s u (move.Run q) reached one all =

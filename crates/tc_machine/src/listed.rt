@@ -17,7 +17,11 @@ use tc_code::{Code, Instr};
 
 /// The enabled moves, by the names of the threads. Each thread's are to run or, at a signal on which others wait, to
 /// wake one of these, by their names; then the drains of its buffer, those of named cells by rising cell.
-pub fn moves<M: MemoryModel>(alloc: Global, code: &Code, state: &State<M>) -> Result<Vec<Move>, AllocError>
+pub fn moves<M: MemoryModel>(
+    alloc: Global,
+    code: &Code,
+    state: &State<M>,
+) -> Result<Vec<Move>, AllocError>
     requires reached { IsReached M.ops code.now state.now }
     ensures listed { IfOk result (λ moves. moves.items ≡ enabled_moves M.ops code.now state.now) }
     // No enabled move is left out.

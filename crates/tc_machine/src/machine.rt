@@ -53,7 +53,12 @@ fn may_run<M: MemoryModel>(code: &Code, state: &State<M>, name: &ThreadName) -> 
 }
 
 /// Whether a thread can signal, and wake another.
-fn may_wake<M: MemoryModel>(code: &Code, state: &State<M>, name: &ThreadName, waiter: &ThreadName) -> Result<(), Why>
+fn may_wake<M: MemoryModel>(
+    code: &Code,
+    state: &State<M>,
+    name: &ThreadName,
+    waiter: &ThreadName,
+) -> Result<(), Why>
     requires reached { IsReached M.ops code.now state.now }
     ensures { MatchResult result
         (λ _. why_doing M.ops code.now state.now name.now (why_unwoken M.ops state.now waiter.now) ≡ None)
@@ -110,7 +115,12 @@ fn next<'a, M: MemoryModel>(
 }
 
 /// Does a move that is enabled. Where memory is refused, the state stays as it was.
-pub fn step<M: MemoryModel>(alloc: Global, code: &Code, state: &mut State<M>, m: &Move) -> Result<(), AllocError>
+pub fn step<M: MemoryModel>(
+    alloc: Global,
+    code: &Code,
+    state: &mut State<M>,
+    m: &Move,
+) -> Result<(), AllocError>
     requires reached { IsReached M.ops code.now state.old }
     requires enabled { IsSome (step M.ops code.now state.old m.now) }
     requires counters { CountersAreBelowLast state.old }
@@ -128,7 +138,12 @@ pub fn step<M: MemoryModel>(alloc: Global, code: &Code, state: &mut State<M>, m:
 }
 
 /// A thread does the instruction at its place.
-fn run<M: MemoryModel>(alloc: Global, code: &Code, state: &mut State<M>, name: &ThreadName) -> Result<(), AllocError>
+fn run<M: MemoryModel>(
+    alloc: Global,
+    code: &Code,
+    state: &mut State<M>,
+    name: &ThreadName,
+) -> Result<(), AllocError>
     requires reached { IsReached M.ops code.now state.old }
     requires enabled { IsSome (step M.ops code.now state.old (Move.Run name.now)) }
     requires counters { CountersAreBelowLast state.old }

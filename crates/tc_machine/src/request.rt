@@ -61,10 +61,6 @@ pub(crate) fn drains_first(request: Request) -> bool
 {
     !matches!(
         request,
-        Request::Silent
-            | Request::Read(_)
-            | Request::Write(..)
-            | Request::Bar
-            | Request::Fail
+        Request::Silent | Request::Read(_) | Request::Write(..) | Request::Bar | Request::Fail
     )
 }

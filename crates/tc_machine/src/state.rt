@@ -269,7 +269,9 @@ impl<M: MemoryModel> State<M> {
         ensures err { OnErr result (self.new ≡ self.old) }
     {
         if M::BUFFERED {
-            return self.threads.advance(name, instr, Effect::Issues(cell, value));
+            return self
+                .threads
+                .advance(name, instr, Effect::Issues(cell, value));
         }
         self.threads.advance(name, instr, Effect::Takes(0))?;
         self.memory[cell as usize] = value;

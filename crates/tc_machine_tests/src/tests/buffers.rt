@@ -12,8 +12,7 @@ use tc_base::Move;
 /// Main alone: a store that a load finds, a bar between the two, and a bar with nothing before it.
 const FORWARDS: &[Function] = &[&[Op::StoreNext, Op::Load, Op::Is(1), Op::Exit]];
 
-const FORWARDS_BARRED: &[Function] =
-    &[&[Op::StoreNext, Op::Stbar, Op::Load, Op::Is(1), Op::Exit]];
+const FORWARDS_BARRED: &[Function] = &[&[Op::StoreNext, Op::Stbar, Op::Load, Op::Is(1), Op::Exit]];
 
 const BARS: &[Function] = &[&[Op::Stbar, Op::Fence, Op::Exit]];
 
@@ -146,7 +145,11 @@ const CASES: &[Case] = &[
         ],
     ),
     (BARS, &[Run(0), Run(0), Run(0)], ["none failed, 0 3"; 3]),
-    (BARS, &[Run(0), Drain(0, None)], ["none failed, 0 1, NoEntry at 2"; 3]),
+    (
+        BARS,
+        &[Run(0), Drain(0, None)],
+        ["none failed, 0 1, NoEntry at 2"; 3],
+    ),
     // A swap waits for it.
     (
         &[SWAPS],
@@ -307,8 +310,14 @@ fn stores_wait_in_buffers(rt: HostRuntime) -> Result<(), Fail> {
     for (functions, acts, [sc, tso, pso]) in CASES {
         let moves = moves_of(alloc, acts)?;
         assert_eq!(rt; seen_under::<Sc>(alloc, functions, &moves)?.as_str(), *sc);
-        assert_eq!(rt; seen_under::<TsoModel>(alloc, functions, &moves)?.as_str(), *tso);
-        assert_eq!(rt; seen_under::<PsoModel>(alloc, functions, &moves)?.as_str(), *pso);
+        assert_eq!(rt;
+            seen_under::<TsoModel>(alloc, functions, &moves)?.as_str(),
+            *tso
+        );
+        assert_eq!(rt;
+            seen_under::<PsoModel>(alloc, functions, &moves)?.as_str(),
+            *pso
+        );
     }
     Ok(())
 }
@@ -325,8 +334,14 @@ fn drains_are_listed_after_steps(rt: HostRuntime) -> Result<(), Fail> {
     ] {
         let moves = moves_of(alloc, &[Run(0); 6][..steps])?;
         assert_eq!(rt; listed_after::<Sc>(alloc, functions, &moves)?.as_str(), sc);
-        assert_eq!(rt; listed_after::<TsoModel>(alloc, functions, &moves)?.as_str(), tso);
-        assert_eq!(rt; listed_after::<PsoModel>(alloc, functions, &moves)?.as_str(), pso);
+        assert_eq!(rt;
+            listed_after::<TsoModel>(alloc, functions, &moves)?.as_str(),
+            tso
+        );
+        assert_eq!(rt;
+            listed_after::<PsoModel>(alloc, functions, &moves)?.as_str(),
+            pso
+        );
     }
     Ok(())
 }

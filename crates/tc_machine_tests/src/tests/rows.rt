@@ -257,18 +257,8 @@ fn wakes_and_drains_are_refused(rt: HostRuntime) -> Result<(), Fail> {
     for (functions, moves, refused, want) in [
         (SIGNALS, [0].as_slice(), Act::Wake(2, 1), "NoThread"),
         (BROADCASTS, [0; 4].as_slice(), Act::Wake(0, 1), "Exited"),
-        (
-            SIGNALS,
-            [0, 0].as_slice(),
-            Act::Wake(0, 3),
-            "WrongWaiter",
-        ),
-        (
-            ADDS,
-            [0, 1, 1].as_slice(),
-            Act::Drain(1, None),
-            "NoEntry",
-        ),
+        (SIGNALS, [0, 0].as_slice(), Act::Wake(0, 3), "WrongWaiter"),
+        (ADDS, [0, 1, 1].as_slice(), Act::Drain(1, None), "NoEntry"),
         (ADDS, [0].as_slice(), Act::Drain(1, Some(0)), "NoEntry"),
         (ADDS, [].as_slice(), Act::Drain(1, None), "NoThread"),
         (UNLOCKS, [0].as_slice(), Act::Drain(0, None), "Stopped"),

@@ -1,4 +1,3 @@
-use Rattle.std.proofs.Common.{◌<◌, length, subst, sym}
 use Rattle.tc_machine.proofs.Within.{drains_within_memory}
 use Rattle.tc_machine.proofs.machine.drain.Goals as goal
 
