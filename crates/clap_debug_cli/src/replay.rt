@@ -7,6 +7,7 @@ ghost use Rattle.clap_debug_cli.specs.Played.{IsPlayed, IsJudged};
 
 use crate::log::Log;
 use std::alloc::{AllocError, Global};
+use store_buffers::Sc;
 use tc_base::{Move, ThreadName};
 use tc_code::Code;
 use tc_machine::{State, Why, enabled, start, step};
@@ -32,7 +33,7 @@ enum Played {
     /// To a move that isn't enabled: its number, from 1, and why.
     Stopped(usize, Why),
     /// To the state after them all.
-    Ended(State),
+    Ended(State<Sc>),
 }
 
 /// The first verdict on these moves that holds.
@@ -56,7 +57,7 @@ fn play(alloc: Global, code: &Code, moves: &[Move]) -> Result<Played, AllocError
     requires few { length moves.now < 2 ^ 31 }
     ensures { IfOk result (IsPlayed code.now moves.now) }
 {
-    let mut state = start(alloc, code)?;
+    let mut state = start::<Sc>(alloc, code)?;
     for (i, m) in moves.iter().enumerate() {
         if let Err(why) = enabled(code, &state, m) {
             return Ok(Played::Stopped(i + 1, why));
@@ -67,7 +68,7 @@ fn play(alloc: Global, code: &Code, moves: &[Move]) -> Result<Played, AllocError
 }
 
 /// The verdict on the state that all moves led to.
-fn judge(alloc: Global, log: &Log, state: &State) -> Result<Verdict, AllocError>
+fn judge(alloc: Global, log: &Log, state: &State<Sc>) -> Result<Verdict, AllocError>
     ensures { IfOk result (IsJudged state.now (log_of log.now.steps)) }
 {
     let main = ThreadName::main(alloc);
@@ -79,7 +80,7 @@ fn judge(alloc: Global, log: &Log, state: &State) -> Result<Verdict, AllocError>
 }
 
 /// The verdict where main has failed.
-fn judge_paths(log: &Log, state: &State, main: ThreadName) -> Result<Verdict, AllocError>
+fn judge_paths(log: &Log, state: &State<Sc>, main: ThreadName) -> Result<Verdict, AllocError>
     requires main { main ≡ [] }
     requires failed { state.now.failed ≡ Some [] }
     ensures { IfOk result (IsJudged state.now (log_of log.now.steps)) }
@@ -93,7 +94,7 @@ fn judge_paths(log: &Log, state: &State, main: ThreadName) -> Result<Verdict, Al
     }
 }
 
-fn main_goes_as_logged(log: &Log, state: &State, main: &ThreadName) -> bool
+fn main_goes_as_logged(log: &Log, state: &State<Sc>, main: &ThreadName) -> bool
     requires main { main.now ≡ [] }
     ensures { IsTrue result ↔ GoesAsLogged state.now (log_of log.now.steps) [] }
 {
@@ -104,7 +105,7 @@ fn main_goes_as_logged(log: &Log, state: &State, main: &ThreadName) -> bool
 }
 
 /// The least name but main's.
-fn first_other<'a>(state: &'a State, main: &ThreadName) -> Option<&'a ThreadName>
+fn first_other<'a>(state: &'a State<Sc>, main: &ThreadName) -> Option<&'a ThreadName>
     requires main { main.now ≡ [] }
     ensures { option_map (λ n. n.now) result ≡ find (λ n. not (bytes_eq n [])) (map.keys state.now.threads) }
 {

@@ -16,7 +16,6 @@ use Rattle.tc_code.specs.Instr.{Instr, Set, Load, Load_at, Store, Store_at, Insi
 use Rattle.tc_code.specs.Instr.{Signal, Broadcast, Create, Ready, Join, Assert, Nonzero, In_range, Swap, Cas, Fence, Stbar, Exit}
 use Rattle.tc_code.specs.Code.{Code}
 use Rattle.tc_code.specs.Lawful.{takes, names_what_is, IsLawful}
-use Rattle.tc_code.specs.helpers.Tests.{is_lawful_function}
 use Rattle.tc_code.specs.declared.code.Func.{Func}
 use Rattle.tc_base.specs.declared.request.Request.TheVariants.{Silent}
 use Rattle.tc_code.specs.Step.{request, site, is_within, cell_at, instr_of, ints_of, value_in}

@@ -1,32 +1,38 @@
 -- Moves that are listed one after another, and that no enabled one is left out.
-use Rattle.std.proofs.Common.{◌≡◌, ◌+◌, ◌<◌, ℕ, zero, suc, List, [], ◌∷◌, ◌++◌, length, take, get_or, map, cond, Bool}
+use Rattle.std.proofs.Common.{◌≡◌, ◌+◌, ◌<◌, ◌≤◌, ◌&&◌, inl, inr, ℕ, zero, suc, List, [], ◌∷◌, ◌++◌, length, take, get_or, map, cond, Bool}
 use Rattle.std.proofs.Common.{true, false, Option, Some, None, refl, ap, sym, subst, ◌∙◌, append_assoc, arith}
 use Rattle.std.specs.List.{filter, flat_map, range_with_len, Contains}
 use Rattle.std.specs.Option.{is_some, IsSome, option_and_then}
 use Rattle.std.specs.FinMap as fin
 use Rattle.std.specs.FinSet as set
 use Rattle.std.proofs.lemmas.Bool.{false≢true}
-use Rattle.std.proofs.lemmas.List.{append-nil, map-append, take_more}
+use Rattle.std.proofs.lemmas.List.{append-nil, get_or_default, map-append, take_more}
 use Rattle.std.proofs.lemmas.List.Elements.{filter-append, Contains-append_left, Contains-append_right}
 use Rattle.std.proofs.lemmas.Map.Views.{Contains-from_any}
-use Rattle.std.proofs.lemmas.Option.{none-some, option_and_then_some, cond_some}
+use Rattle.std.proofs.lemmas.Option.{none-some, same_Some, option_and_then_some, cond_some}
 use Rattle.tc_base.specs.Names.{Name}
-use Rattle.tc_base.specs.Buffers.{NoBuffer, no_buffer}
+use Rattle.tc_base.specs.Buffers.{BufferOps}
+use Rattle.tc_base.specs.declared.model.Model.{Model}
+use Rattle.store_buffers.specs.Pending.{Binding}
+use Rattle.store_buffers.specs.Laws.{Laws, AreForms}
 use Rattle.tc_base.specs.States.{Thread, State}
 use Rattle.tc_base.specs.declared.moves.Move.{Move}
 use Rattle.tc_base.specs.declared.moves.Move.TheVariants.{Run, Wake, Drain}
 use Rattle.tc_code.specs.Instr.{Instr, Signal}
 use Rattle.tc_code.specs.Code.{Code}
+use Rattle.tc_code.specs.Lawful.{IsLawful}
 use Rattle.tc_code.specs.Run.{IsReached}
-use Rattle.tc_code.specs.Step.{step, wake_of, woken, move_of, instr_of, waiting_on}
-use Rattle.tc_runs.proofs.Basics.{unless}
+use Rattle.tc_code.specs.Step.{step, wake_of, woken, drain_of, drained, move_of, instr_of, waiting_on}
+use Rattle.tc_runs.proofs.Basics.{second, unless}
 use Rattle.tc_machine.specs.Moves.{is_enabled, steps_of, drains_of, moves_of, enabled_moves}
 use Rattle.tc_machine.proofs.ByName.{tied}
+use Rattle.tc_machine.proofs.Drains.{same_or_more, passing_forms}
+use Rattle.tc_machine.proofs.Within.{form_is_there}
 use Rattle.tc_runs.proofs.Waiters.{waiters_are_threads}
 
-module _ (p : Move → Bool) where
+module _ {X : Type 0} (p : Move → Bool) where
   -- one more candidate
-  pub listed_more : (f : Name → Move) (names : List Name) (i : ℕ) (n : Name) (start old new : List Move) → i < length names → n ≡ get_or names i n
+  pub listed_more : (f : X → Move) (names : List X) (i : ℕ) (n : X) (start old new : List Move) → i < length names → n ≡ get_or names i n
       → old ≡ start ++ filter p (map f (take i names)) → new ≡ old ++ filter p (f n ∷ []) → new ≡ start ++ filter p (map f (take (i + 1) names))
   listed_more f names i n start old new lt here so_far e =
       e ∙ ap (λ ms. ms ++ filter p (f n ∷ [])) so_far
@@ -36,42 +42,32 @@ module _ (p : Move → Bool) where
       ∙ ap (λ m. start ++ filter p (map f (take i names ++ m ∷ []))) here
       ∙ ap (λ ns. start ++ filter p (map f ns)) (sym (take_more names i n lt))
 
-  none_passes : (f : Name → Move) (names : List Name) → ((n : Name) → p (f n) ≡ false) → filter p (map f names) ≡ []
+  -- the same, of one that is read at its place
+  pub listed_next : (f : X → Move) (names : List X) (i : ℕ) (d : X) (start old new : List Move) → i < length names
+      → old ≡ start ++ filter p (map f (take i names)) → new ≡ old ++ filter p (f (get_or names i d) ∷ []) → new ≡ start ++ filter p (map f (take (i + 1) names))
+  listed_next f names i d start old new lt so_far e =
+      listed_more f names i (get_or names i d) start old new lt (get_or_default names i d (get_or names i d) lt) so_far e
+
+  none_passes : (f : X → Move) (names : List X) → ((n : X) → p (f n) ≡ false) → filter p (map f names) ≡ []
   none_passes f [] h = refl
   none_passes f (n ∷ ns) h = ap (λ b. cond b (f n ∷ filter p (map f ns)) (filter p (map f ns))) (h n) ∙ none_passes f ns h
 
   -- where none of the further candidates is enabled, the first is all
-  pub first_only : (f : Name → Move) (names : List Name) (m : Move) → ((n : Name) → p (f n) ≡ false) → filter p (m ∷ []) ≡ filter p (m ∷ map f names)
+  pub first_only : (f : X → Move) (names : List X) (m : Move) → ((n : X) → p (f n) ≡ false) → filter p (m ∷ []) ≡ filter p (m ∷ map f names)
   first_only f names m h = ap (λ ms. cond (p m) (m ∷ ms) ms) (sym (none_passes f names h))
 
--- without buffers no drain is enabled
-abbrev nothing : Thread NoBuffer → Option (State NoBuffer)
-nothing t = None
+kept : (f : Option ℕ → Move) (g : Option ℕ) (ms : List Move) (gs : List (Option ℕ)) → ms ≡ map f gs → (b : Bool)
+    → cond b (f g ∷ ms) ms ≡ map f (cond b (g ∷ gs) gs)
+kept f g ms gs e true = ap (λ ns. f g ∷ ns) e
+kept f g ms gs e false = e
 
-no_drain : (b : Bool) (o : Option (Thread NoBuffer)) → is_some (cond b None (option_and_then nothing o)) ≡ false
-no_drain true o = refl
-no_drain false None = refl
-no_drain false (Some t) = refl
+filter_map : (p : Move → Bool) (f : Option ℕ → Move) (fs : List (Option ℕ)) → filter p (map f fs) ≡ map f (filter (λ g. p (f g)) fs)
+filter_map p f [] = refl
+filter_map p f (g ∷ gs) = kept f g (filter p (map f gs)) (filter (λ h. p (f h)) gs) (filter_map p f gs) (p (f g))
 
-drain_is_disabled : (code : Code) (s : State NoBuffer) (n : Name) (form : Option ℕ) → is_enabled no_buffer code s (Drain n form) ≡ false
-drain_is_disabled code s n form = no_drain (is_some s.failed) (fin.get s.threads n)
-
-none_drains : (code : Code) (s : State NoBuffer) (n : Name) (cells : List ℕ) → filter (is_enabled no_buffer code s) (map (λ c. Drain n (Some c)) cells) ≡ []
-none_drains code s n [] = refl
-none_drains code s n (c ∷ cs) =
-    let rest = filter (is_enabled no_buffer code s) (map (λ c. Drain n (Some c)) cs) in
-    ap (λ b. cond b (Drain n (Some c) ∷ rest) rest) (drain_is_disabled code s n (Some c)) ∙ none_drains code s n cs
-
--- so the steps are all moves
-pub without_drains : (code : Code) (s : State NoBuffer) (n : Name)
-    → filter (is_enabled no_buffer code s) (steps_of no_buffer code s n) ≡ moves_of no_buffer code s n
-without_drains code s n =
-    let p = is_enabled no_buffer code s in
-    let rest = filter p (map (λ c. Drain n (Some c)) (range_with_len 0 (length s.memory))) in
-    sym (append-nil (filter p (steps_of no_buffer code s n)))
-    ∙ ap (λ ms. filter p (steps_of no_buffer code s n) ++ ms)
-    (sym (ap (λ b. cond b (Drain n None ∷ rest) rest) (drain_is_disabled code s n None) ∙ none_drains code s n (range_with_len 0 (length s.memory))))
-    ∙ sym (filter-append p (steps_of no_buffer code s n) (drains_of no_buffer code s n))
+cell_drains : (n : Name) (cells : List ℕ) → map (λ f. Drain n f) (map (λ c. Some c) cells) ≡ map (λ c. Drain n (Some c)) cells
+cell_drains n [] = refl
+cell_drains n (c ∷ cs) = ap (λ ms. Drain n (Some c) ∷ ms) (cell_drains n cs)
 
 first_in : {X : Type 0} (y x : X) (ys : List X) → y ≡ x → Contains (y ∷ ys) x
 first_in y x ys e = (0, omega arith, e)
@@ -104,46 +100,112 @@ in_flat_map f [] k n m lt is c = absurd (omega arith)
 in_flat_map f (x ∷ names) zero n m lt is c = Contains-append_left (f x) (flat_map f names) m (subst (λ y. Contains (f y) m) (sym is) c)
 in_flat_map f (x ∷ names) (suc k) n m lt is c = Contains-append_right (f x) (flat_map f names) m (in_flat_map f names k n m (omega arith) is c)
 
+in_range : (f : ℕ → Move) (a n c : ℕ) → a ≤ c → c < a + n → Contains (map f (range_with_len a n)) (f c)
+in_range f a zero c low high = absurd (omega (arith, low, high))
+in_range f a (suc n) c low high = elim (same_or_more a c low) [
+  | inl same ↦ first_in (f a) (f c) _ (ap f same)
+  | inr lt ↦ later_in (f a) (f c) _ (in_range f (a + 1) n c (omega (arith, lt)) (omega (arith, high)))
+]
+
 some_of : {X : Type 0} (o : Option X) → IsSome o → (x : X) × (o ≡ Some x)
 some_of None h = absurd (false≢true h)
 some_of (Some x) h = (x, refl)
 
-module _ (code : Code) (s : State NoBuffer) (reached : IsReached no_buffer code s) where
+module _ {B : Type 0} (ops : BufferOps B) (code : Code) (s : State B) (n : Name) where
+  -- where a thread may drain by a form, its buffer says so
+  drain_enabled : (t : Thread B) (form : Option ℕ) → fin.get s.threads n ≡ Some t → is_enabled ops code s (Drain n form) ≡ true
+      → ops.may_drain t.buffer form ≡ true
+  drain_enabled t form there enabled =
+      let after = some_of (step ops code s (Drain n form)) enabled in
+      option_and_then_some (λ u. drain_of ops s n u form) (fin.get s.threads n) after.0 (unless (is_some s.failed) _ after.0 after.1) (λ u here g.
+      subst (λ (v : Thread B). ops.may_drain v.buffer form ≡ true) (same_Some u t (sym here ∙ there))
+      (cond_some (ops.may_drain u.buffer form) (drained ops s n u form) after.0 g).0)
+
+  nobody_drains : (b : Bool) (form : Option ℕ) (o : Option (Thread B)) → o ≡ None
+      → is_some (cond b None (option_and_then (λ t. drain_of ops s n t form) o)) ≡ false
+  nobody_drains true form o none = refl
+  nobody_drains false form None none = refl
+  nobody_drains false form (Some t) none = absurd (none-some t (sym none))
+
+  -- where there is no thread nothing drains
+  pub no_drains : (found : List Move) → fin.get s.threads n ≡ None → found ≡ found ++ filter (is_enabled ops code s) (drains_of ops code s n)
+  no_drains found none =
+      let p = is_enabled ops code s in
+      let rest = map (λ c. Drain n (Some c)) (range_with_len 0 (length s.memory)) in
+      sym (ap (λ ms. found ++ ms)
+      (ap (λ b. cond b (Drain n None ∷ filter p rest) (filter p rest)) (nobody_drains (is_some s.failed) None (fin.get s.threads n) none)
+      ∙ none_passes p (λ c. Drain n (Some c)) (range_with_len 0 (length s.memory))
+      (λ c. nobody_drains (is_some s.failed) (Some c) (fin.get s.threads n) none)) ∙ append-nil found)
+
+module _ {B : Type 0} (ops : BufferOps B) (model : Model) (bound : Binding) (laws : Laws ops model bound) (code : Code) (lawful : IsLawful code) (s : State B)
+    (reached : IsReached ops code s) where
+  -- the enabled drains of a thread are those of its buffer's forms
+  pub enabled_drains : (n : Name) (t : Thread B) (forms : List (Option ℕ)) → fin.get s.threads n ≡ Some t → AreForms ops t.buffer forms
+      → filter (is_enabled ops code s) (map (λ f. Drain n f) forms) ≡ filter (is_enabled ops code s) (drains_of ops code s n)
+  enabled_drains n t forms there are =
+      let p = is_enabled ops code s in
+      let all = map (λ c. Some c) (range_with_len 0 (length s.memory)) in
+      filter_map p (λ f. Drain n f) forms
+      ∙ ap (map (λ f. Drain n f))
+      (passing_forms (λ f. p (Drain n f)) forms (length s.memory) are.rise
+      (λ f enabled. are.exact f ∙ drain_enabled ops code s n t f there enabled)
+      (λ c h. form_is_there ops model bound laws code lawful s reached n t there (Some c) (sym (are.exact (Some c)) ∙ h) c refl))
+      ∙ sym (filter_map p (λ f. Drain n f) (None ∷ all))
+      ∙ ap (λ ms. filter p (Drain n None ∷ ms)) (cell_drains n (range_with_len 0 (length s.memory)))
+
   -- the name of a thread is among those of the threads
   thread_is_listed : (n : Name) → IsSome (fin.get s.threads n) → Contains (fin.keys s.threads) n
   thread_is_listed n there = Contains-from_any tied n (fin.keys s.threads) (sym (fin.contains_key-keys s.threads n) ∙ there)
 
-  step_is_listed : (n : Name) (m : Move) → IsSome (fin.get s.threads n) → Contains (steps_of no_buffer code s n) m
-      → is_enabled no_buffer code s m ≡ true → Contains (enabled_moves no_buffer code s) m
-  step_is_listed n m there c enabled =
+  move_is_listed : (n : Name) (m : Move) → IsSome (fin.get s.threads n) → Contains (steps_of ops code s n ++ drains_of ops code s n) m
+      → is_enabled ops code s m ≡ true → Contains (enabled_moves ops code s) m
+  move_is_listed n m there all enabled =
       let name = thread_is_listed n there in
-      let all = Contains-append_left (steps_of no_buffer code s n) (drains_of no_buffer code s n) m c in
-      in_flat_map (moves_of no_buffer code s) (fin.keys s.threads) name.0 n m name.1 name.2
-      (in_filter (is_enabled no_buffer code s) (steps_of no_buffer code s n ++ drains_of no_buffer code s n) all.0 m all.1 all.2 enabled)
+      in_flat_map (moves_of ops code s) (fin.keys s.threads) name.0 n m name.1 name.2
+      (in_filter (is_enabled ops code s) (steps_of ops code s n ++ drains_of ops code s n) all.0 m all.1 all.2 enabled)
 
-  wake_is_step : (n u : Name) → IsSome (fin.get s.threads u) → Contains (steps_of no_buffer code s n) (Wake n u)
+  step_is_listed : (n : Name) (m : Move) → IsSome (fin.get s.threads n) → Contains (steps_of ops code s n) m
+      → is_enabled ops code s m ≡ true → Contains (enabled_moves ops code s) m
+  step_is_listed n m there c = move_is_listed n m there (Contains-append_left (steps_of ops code s n) (drains_of ops code s n) m c)
+
+  drain_is_listed : (n : Name) (m : Move) → IsSome (fin.get s.threads n) → Contains (drains_of ops code s n) m
+      → is_enabled ops code s m ≡ true → Contains (enabled_moves ops code s) m
+  drain_is_listed n m there c = move_is_listed n m there (Contains-append_right (steps_of ops code s n) (drains_of ops code s n) m c)
+
+  drain_is_one : (n : Name) (t : Thread B) (form : Option ℕ) → fin.get s.threads n ≡ Some t → ops.may_drain t.buffer form ≡ true
+      → Contains (drains_of ops code s n) (Drain n form)
+  drain_is_one n t None there may = first_in (Drain n None) (Drain n None) _ refl
+  drain_is_one n t (Some c) there may =
+      later_in (Drain n None) (Drain n (Some c)) _
+      (let lt : c < length s.memory = form_is_there ops model bound laws code lawful s reached n t there (Some c) may c refl in
+      in_range (λ d. Drain n (Some d)) 0 (length s.memory) c (omega arith) (omega (arith, lt)))
+
+  wake_is_step : (n u : Name) → IsSome (fin.get s.threads u) → Contains (steps_of ops code s n) (Wake n u)
   wake_is_step n u there =
       let name = thread_is_listed u there in
       later_in (Run n) (Wake n u) (map (λ v. Wake n v) (fin.keys s.threads)) (in_map (λ v. Wake n v) (fin.keys s.threads) name.0 u name.1 name.2)
 
-  woken_is_thread : (n u : Name) (t : Thread NoBuffer) (i : Instr) (v : State NoBuffer) → wake_of no_buffer s n u t i ≡ Some v → IsSome (fin.get s.threads u)
+  woken_is_thread : (n u : Name) (t : Thread B) (i : Instr) (v : State B) → wake_of ops s n u t i ≡ Some v → IsSome (fin.get s.threads u)
   woken_is_thread n u t (Signal c) v h =
-      waiters_are_threads no_buffer code s reached u c (cond_some (set.contains (waiting_on s c) u) (woken no_buffer s n u t c) v h).0
+      waiters_are_threads ops code s reached u c (second (ops.is_empty t.buffer) _ (cond_some (ops.is_empty t.buffer && set.contains (waiting_on s c) u) (woken ops s n u t c) v h).0)
   woken_is_thread n u t i v h = absurd (none-some v h)
 
-  listed_move : (m : Move) (v : State NoBuffer) → move_of no_buffer code s m ≡ Some v → is_enabled no_buffer code s m ≡ true
-      → Contains (enabled_moves no_buffer code s) m
+  listed_move : (m : Move) (v : State B) → move_of ops code s m ≡ Some v → is_enabled ops code s m ≡ true
+      → Contains (enabled_moves ops code s) m
   listed_move (Run n) v h enabled =
       option_and_then_some _ (fin.get s.threads n) v h (λ t there g.
       step_is_listed n (Run n) (subst IsSome (sym there) refl) (first_in (Run n) (Run n) (map (λ u. Wake n u) (fin.keys s.threads)) refl) enabled)
   listed_move (Wake n u) v h enabled =
       option_and_then_some _ (fin.get s.threads n) v h (λ t there g.
-      option_and_then_some (wake_of no_buffer s n u t) (instr_of code t.local) v g (λ i at k.
+      option_and_then_some (wake_of ops s n u t) (instr_of code t.local) v g (λ i at k.
       step_is_listed n (Wake n u) (subst IsSome (sym there) refl) (wake_is_step n u (woken_is_thread n u t i v k)) enabled))
-  listed_move (Drain n form) v h enabled = option_and_then_some _ (fin.get s.threads n) v h (λ t there g. absurd (none-some v g))
+  listed_move (Drain n form) v h enabled =
+      option_and_then_some (λ t. drain_of ops s n t form) (fin.get s.threads n) v h (λ t there g.
+      drain_is_listed n (Drain n form) (subst IsSome (sym there) refl)
+      (drain_is_one n t form there (cond_some (ops.may_drain t.buffer form) (drained ops s n t form) v g).0) enabled)
 
   -- every enabled move is listed
-  pub every_enabled_move_is_listed : (m : Move) → IsSome (step no_buffer code s m) → Contains (enabled_moves no_buffer code s) m
+  pub every_enabled_move_is_listed : (m : Move) → IsSome (step ops code s m) → Contains (enabled_moves ops code s) m
   every_enabled_move_is_listed m h =
-      let after = some_of (step no_buffer code s m) h in
+      let after = some_of (step ops code s m) h in
       listed_move m after.0 (unless (is_some s.failed) _ after.0 after.1) h

@@ -64,11 +64,15 @@ module _ {B : Type 0} (ops : BufferOps B) where
   why_unwoken s u t (Signal c) = if ops.is_empty t.buffer then why_not_there s u c else Some NotDrained
   why_unwoken s u t _ = Some WrongWaiter
 
+  -- why no store of a thread can drain by a form
+  abbrev pub why_undrained : Option ℕ → Thread B → Option Why
+  why_undrained form t = if ops.may_drain t.buffer form then None else Some NoEntry
+
   -- where no thread has failed yet
   abbrev pub why_not : Code → State B → Move → Option Why
   why_not code s (Run n) = why_doing code s n (λ t i. why_unmet s n t (request t.local i))
   why_not code s (Wake n u) = why_doing code s n (why_unwoken s u)
-  why_not code s (Drain n form) = why_at s n (λ t. if ops.may_drain t.buffer form then None else Some NoEntry)
+  why_not code s (Drain n form) = why_at s n (why_undrained form)
 
   -- the first reason for which the move isn't enabled, and none where it is; after a failure no move is
   abbrev pub why : Code → State B → Move → Option Why

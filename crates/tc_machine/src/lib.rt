@@ -1,8 +1,10 @@
-//! The machine under sequential consistency: its states, its steps, and why a move isn't enabled.
+//! The machine over every memory model: its states, its steps, and why a move isn't enabled.
 #![tactic(auto)]
 
+mod effect;
 pub mod laws;
 mod listed;
+mod local;
 mod machine;
 mod names;
 mod outcomes;

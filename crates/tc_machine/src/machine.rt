@@ -1,29 +1,30 @@
 //! Steps of the machine.
 ghost use Rattle.std.specs.Prelude.{◌≡◌, IsSome, Option, Some, None, OnOk, OnErr, IfOk, IfErr, IsTrue, MatchResult};
 ghost use Rattle.std.specs.FinMap as map;
-ghost use Rattle.tc_base.specs.Buffers.{NoBuffer, no_buffer};
 ghost use Rattle.tc_base.specs.States as states;
 ghost use Rattle.tc_code.specs.Instr as flat;
 ghost use Rattle.tc_code.specs.Lawful.{IsLawful};
 ghost use Rattle.tc_code.specs.Run.{IsReached};
 ghost use Rattle.tc_code.specs.Seen.{plain_instr};
 ghost use Rattle.tc_code.specs.Step.{step, instr_of, request};
-ghost use Rattle.tc_machine.specs.Why.{why, why_doing, why_unmet, why_unwoken};
+ghost use Rattle.tc_machine.specs.Why.{why, why_at, why_doing, why_undrained, why_unmet, why_unwoken};
 ghost use Rattle.tc_runs.specs.Counters.{CountersAreBelowLast};
 
+use crate::request::drains_first;
 use crate::state::State;
 use crate::thread::Thread;
 use crate::why::Why;
 use std::alloc::{AllocError, Global};
+use store_buffers::MemoryModel;
 use tc_base::{Move, ThreadName};
 use tc_code::{Code, Instr};
 
 /// Whether a move is enabled, and the first reason why not.
-pub fn enabled(code: &Code, state: &State, m: &Move) -> Result<(), Why>
-    requires reached { IsReached no_buffer code.now state.now }
+pub fn enabled<M: MemoryModel>(code: &Code, state: &State<M>, m: &Move) -> Result<(), Why>
+    requires reached { IsReached M.ops code.now state.now }
     ensures { MatchResult result
-        (λ _. why no_buffer code.now state.now m.now ≡ None)
-        (λ w. why no_buffer code.now state.now m.now ≡ Some w) }
+        (λ _. why M.ops code.now state.now m.now ≡ None)
+        (λ w. why M.ops code.now state.now m.now ≡ Some w) }
 {
     if state.failed().is_some() {
         return Err(Why::Stopped);
@@ -31,37 +32,44 @@ pub fn enabled(code: &Code, state: &State, m: &Move) -> Result<(), Why>
     match m {
         Move::Run(name) => may_run(code, state, name),
         Move::Wake(name, waiter) => may_wake(code, state, name, waiter),
-        Move::Drain(name, _) => {
-            state.thread(name).ok_or(Why::NoThread)?;
-            Err(Why::NoEntry)
-        }
+        Move::Drain(name, form) => may_drain(state, name, *form),
     }
 }
 
 /// Whether a thread can do the instruction at its place.
-fn may_run(code: &Code, state: &State, name: &ThreadName) -> Result<(), Why>
-    requires reached { IsReached no_buffer code.now state.now }
-    ensures { let reason = λ (t : states.Thread NoBuffer) (i : flat.Instr). why_unmet no_buffer state.now name.now t (request t.local i) in
+fn may_run<M: MemoryModel>(code: &Code, state: &State<M>, name: &ThreadName) -> Result<(), Why>
+    requires reached { IsReached M.ops code.now state.now }
+    ensures { let reason = λ (t : states.Thread M.Buffer) (i : flat.Instr). why_unmet M.ops state.now name.now t (request t.local i) in
         MatchResult result
-        (λ _. why_doing no_buffer code.now state.now name.now reason ≡ None)
-        (λ w. why_doing no_buffer code.now state.now name.now reason ≡ Some w) }
+        (λ _. why_doing M.ops code.now state.now name.now reason ≡ None)
+        (λ w. why_doing M.ops code.now state.now name.now reason ≡ Some w) }
 {
     let (thread, instr) = next(code, state, name)?;
     let request = thread.request(instr);
+    if drains_first(request) && !thread.is_drained() {
+        return Err(Why::NotDrained);
+    }
     state.lets(name, request)
 }
 
 /// Whether a thread can signal, and wake another.
-fn may_wake(code: &Code, state: &State, name: &ThreadName, waiter: &ThreadName) -> Result<(), Why>
-    requires reached { IsReached no_buffer code.now state.now }
+fn may_wake<M: MemoryModel>(
+    code: &Code,
+    state: &State<M>,
+    name: &ThreadName,
+    waiter: &ThreadName,
+) -> Result<(), Why>
+    requires reached { IsReached M.ops code.now state.now }
     ensures { MatchResult result
-        (λ _. why_doing no_buffer code.now state.now name.now (why_unwoken no_buffer state.now waiter.now) ≡ None)
-        (λ w. why_doing no_buffer code.now state.now name.now (why_unwoken no_buffer state.now waiter.now) ≡ Some w) }
+        (λ _. why_doing M.ops code.now state.now name.now (why_unwoken M.ops state.now waiter.now) ≡ None)
+        (λ w. why_doing M.ops code.now state.now name.now (why_unwoken M.ops state.now waiter.now) ≡ Some w) }
 {
-    let (_, instr) = next(code, state, name)?;
+    let (thread, instr) = next(code, state, name)?;
     match instr {
         Instr::Signal { condition } => {
-            if state.waiting_on(*condition).contains(waiter) {
+            if !thread.is_drained() {
+                Err(Why::NotDrained)
+            } else if state.waiting_on(*condition).contains(waiter) {
                 Ok(())
             } else {
                 Err(Why::WrongWaiter)
@@ -71,17 +79,35 @@ fn may_wake(code: &Code, state: &State, name: &ThreadName, waiter: &ThreadName) 
     }
 }
 
-/// A thread and the instruction that it does next, if there are both.
-fn next<'a>(
-    code: &'a Code,
-    state: &'a State,
+/// Whether a store of a thread may drain by this form.
+fn may_drain<M: MemoryModel>(
+    state: &State<M>,
     name: &ThreadName,
-) -> Result<(&'a Thread, &'a Instr), Why>
+    form: Option<u32>,
+) -> Result<(), Why>
+    ensures { MatchResult result
+        (λ _. why_at M.ops state.now name.now (why_undrained M.ops form) ≡ None)
+        (λ w. why_at M.ops state.now name.now (why_undrained M.ops form) ≡ Some w) }
+{
+    let thread = state.thread(name).ok_or(Why::NoThread)?;
+    if thread.may_drain(form) {
+        Ok(())
+    } else {
+        Err(Why::NoEntry)
+    }
+}
+
+/// A thread and the instruction that it does next, if there are both.
+fn next<'a, M: MemoryModel>(
+    code: &'a Code,
+    state: &'a State<M>,
+    name: &ThreadName,
+) -> Result<(&'a Thread<M>, &'a Instr), Why>
     ensures thread { IfOk result (λ p. map.get state.now.threads name.now ≡ Some p.0.now) }
     ensures instr { IfOk result (λ p. instr_of code.now p.0.now.local ≡ Some (plain_instr p.1.now)) }
     ensures lawful { OnOk result (IsLawful code.now) }
-    ensures err { IfErr result (λ w. (reason : states.Thread NoBuffer → flat.Instr → Option Why)
-        → why_doing no_buffer code.now state.now name.now reason ≡ Some w) }
+    ensures err { IfErr result (λ w. (reason : states.Thread M.Buffer → flat.Instr → Option Why)
+        → why_doing M.ops code.now state.now name.now reason ≡ Some w) }
 {
     let thread = state.thread(name).ok_or(Why::NoThread)?;
     let instr = thread.instr(code).ok_or(Why::Exited)?;
@@ -89,26 +115,39 @@ fn next<'a>(
 }
 
 /// Does a move that is enabled. Where memory is refused, the state stays as it was.
-pub fn step(alloc: Global, code: &Code, state: &mut State, m: &Move) -> Result<(), AllocError>
-    requires reached { IsReached no_buffer code.now state.old }
-    requires enabled { IsSome (step no_buffer code.now state.old m.now) }
+pub fn step<M: MemoryModel>(
+    alloc: Global,
+    code: &Code,
+    state: &mut State<M>,
+    m: &Move,
+) -> Result<(), AllocError>
+    requires reached { IsReached M.ops code.now state.old }
+    requires enabled { IsSome (step M.ops code.now state.old m.now) }
     requires counters { CountersAreBelowLast state.old }
-    ensures ok { OnOk result (step no_buffer code.now state.old m.now ≡ Some state.new) }
+    ensures ok { OnOk result (step M.ops code.now state.old m.now ≡ Some state.new) }
     ensures err { OnErr result (state.new ≡ state.old) }
 {
     match m {
         Move::Run(name) => run(alloc, code, state, name),
         Move::Wake(name, waiter) => wake(code, state, name, waiter),
-        Move::Drain(..) => unreachable!(),
+        Move::Drain(name, form) => {
+            drain(code, state, name, *form);
+            Ok(())
+        }
     }
 }
 
 /// A thread does the instruction at its place.
-fn run(alloc: Global, code: &Code, state: &mut State, name: &ThreadName) -> Result<(), AllocError>
-    requires reached { IsReached no_buffer code.now state.old }
-    requires enabled { IsSome (step no_buffer code.now state.old (Move.Run name.now)) }
+fn run<M: MemoryModel>(
+    alloc: Global,
+    code: &Code,
+    state: &mut State<M>,
+    name: &ThreadName,
+) -> Result<(), AllocError>
+    requires reached { IsReached M.ops code.now state.old }
+    requires enabled { IsSome (step M.ops code.now state.old (Move.Run name.now)) }
     requires counters { CountersAreBelowLast state.old }
-    ensures ok { OnOk result (step no_buffer code.now state.old (Move.Run name.now) ≡ Some state.new) }
+    ensures ok { OnOk result (step M.ops code.now state.old (Move.Run name.now) ≡ Some state.new) }
     ensures err { OnErr result (state.new ≡ state.old) }
 {
     let Some(thread) = state.thread(name) else {
@@ -122,16 +161,16 @@ fn run(alloc: Global, code: &Code, state: &mut State, name: &ThreadName) -> Resu
 }
 
 /// A thread signals, and wakes another.
-fn wake(
+fn wake<M: MemoryModel>(
     code: &Code,
-    state: &mut State,
+    state: &mut State<M>,
     name: &ThreadName,
     waiter: &ThreadName,
 ) -> Result<(), AllocError>
-    requires reached { IsReached no_buffer code.now state.old }
-    requires enabled { IsSome (step no_buffer code.now state.old (Move.Wake name.now waiter.now)) }
+    requires reached { IsReached M.ops code.now state.old }
+    requires enabled { IsSome (step M.ops code.now state.old (Move.Wake name.now waiter.now)) }
     requires counters { CountersAreBelowLast state.old }
-    ensures ok { OnOk result (step no_buffer code.now state.old (Move.Wake name.now waiter.now) ≡ Some state.new) }
+    ensures ok { OnOk result (step M.ops code.now state.old (Move.Wake name.now waiter.now) ≡ Some state.new) }
     ensures err { OnErr result (state.new ≡ state.old) }
 {
     let Some(thread) = state.thread(name) else {
@@ -144,4 +183,21 @@ fn wake(
         unreachable!()
     };
     state.wake(name, waiter, instr, *condition)
+}
+
+/// A buffered store of a thread reaches memory.
+fn drain<M: MemoryModel>(code: &Code, state: &mut State<M>, name: &ThreadName, form: Option<u32>)
+    requires reached { IsReached M.ops code.now state.old }
+    requires enabled { IsSome (step M.ops code.now state.old (Move.Drain name.now form)) }
+    ensures { step M.ops code.now state.old (Move.Drain name.now form) ≡ Some state.new }
+{
+    recall_lawful(code);
+    state.drain(name, form);
+}
+
+/// A code is lawful by its type: so each buffered store is to a cell that is there.
+pub(crate) fn recall_lawful(code: &Code)
+    ensures { IsLawful code.now }
+{
+    let _ = code.functions();
 }

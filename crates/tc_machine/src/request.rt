@@ -54,3 +54,13 @@ pub(crate) fn child_number(handle: Handle) -> u32
         Handle::Unset | Handle::Joined(_) => 0,
     }
 }
+
+/// Whether a request can only be met once all stores of the thread are in memory.
+pub(crate) fn drains_first(request: Request) -> bool
+    ensures { result ≡ plain.drains_first request }
+{
+    !matches!(
+        request,
+        Request::Silent | Request::Read(_) | Request::Write(..) | Request::Bar | Request::Fail
+    )
+}

@@ -1,16 +1,16 @@
 //! States of the machine.
-ghost use Rattle.std.specs.Prelude.{◌≡◌, ◌+◌, ◌-◌, ◌<◌, ◌^◌, ℕ, false, length, replicate, slice_set};
+ghost use Rattle.std.specs.Prelude.{◌≡◌, ◌+◌, ◌-◌, ◌<◌, ◌^◌, ℕ, true, false, length, replicate, slice_set};
 ghost use Rattle.std.specs.Prelude.{IfOk, IfSome, OnOk, OnErr, MatchResult, option_map, Option, Some, None, IsSome, IsSomeAnd};
 ghost use Rattle.std.specs.FinMap as map;
 ghost use Rattle.std.specs.FinSet as set;
-ghost use Rattle.tc_base.specs.Buffers.{no_buffer};
 ghost use Rattle.tc_code.specs.Instr as flat;
 ghost use Rattle.tc_code.specs.Seen.{plain_instr};
-ghost use Rattle.tc_code.specs.Step.{opening, perform, did, stepped, with_thread, woken, waiting_on};
+ghost use Rattle.tc_code.specs.Step.{opening, perform, did, loaded, stored, drained, stepped, with_thread, woken, waiting_on};
 ghost use Rattle.tc_code.specs.Step as plain;
 ghost use Rattle.tc_machine.specs.helpers.CanDo.{AsksWithin, CanAdvance, CanPerform, HasRoom, is_branch};
 ghost use Rattle.tc_machine.specs.Why.{why_let, why_taken};
 
+use crate::effect::Effect;
 use crate::names::ThreadNames;
 use crate::outcomes::Outcomes;
 use crate::thread::Thread;
@@ -19,28 +19,28 @@ use crate::waiting::WaitSet;
 use crate::why::Why;
 use std::alloc::{AllocError, Global};
 use std::marker::Model;
+use store_buffers::MemoryModel;
 use tc_base::{Request, ThreadName};
 use tc_code::{Code, Instr};
 
 /// A state of the machine.
-#[derive(Debug, Drop)]
-pub struct State {
+#[derive(Drop)]
+#[derive_where(Debug)]
+pub struct State<M: MemoryModel> {
     memory: Vec<i32>,
     owners: Vec<Option<ThreadName>>,
     waiters: Vec<WaitSet>,
-    threads: Threads,
+    threads: Threads<M>,
     failed: Option<ThreadName>,
 }
 
-impl Model for State {
-    ghost use base.Stored.{coded_unit};
-    ghost use Rattle.tc_base.specs.Buffers.{NoBuffer};
+impl<M: MemoryModel> Model for State<M> {
     ghost use Rattle.tc_base.specs.States as spec;
     ghost use Rattle.tc_base.specs.helpers.Codes.{coded_state};
 
-    ghost Value = { spec.State NoBuffer };
+    ghost Value = { spec.State M.Buffer };
 
-    ghost coded = { coded_state coded_unit };
+    ghost coded = { coded_state M.Buffer.code };
 
     ghost view = { λ s. record {
       memory = s.memory.items;
@@ -52,8 +52,8 @@ impl Model for State {
 }
 
 /// The state that a run begins in: main alone, at its first instruction.
-pub fn start(alloc: Global, code: &Code) -> Result<State, AllocError>
-    ensures { IfOk result (λ s. s ≡ opening no_buffer code.now) }
+pub fn start<M: MemoryModel>(alloc: Global, code: &Code) -> Result<State<M>, AllocError>
+    ensures { IfOk result (λ s. s ≡ opening M.ops code.now) }
 {
     let memory = code.memory().to_vec(alloc)?;
     let owners = no_owners(alloc, code.mutexes())?;
@@ -90,7 +90,7 @@ fn no_waiters(alloc: Global, count: u32) -> Result<Vec<WaitSet>, AllocError>
     Ok(waiters)
 }
 
-impl State {
+impl<M: MemoryModel> State<M> {
     /// The thread whose assertion failed.
     pub fn failed(&self) -> Option<&ThreadName>
         ensures { option_map (λ n. n.now) result ≡ self.now.failed }
@@ -109,7 +109,7 @@ impl State {
     pub fn steps_of(&self, name: &ThreadName) -> Option<u32>
         ensures { result ≡ option_map (λ t. t.local.steps) (map.get self.now.threads name.now) }
     {
-        Some(self.thread(name)?.steps())
+        Some(self.thread(name)?.local().steps())
     }
 
     /// The outcomes of a thread's branches.
@@ -117,7 +117,7 @@ impl State {
         ensures { option_map (λ o. o.now) result
             ≡ option_map (λ t. t.local.outcomes) (map.get self.now.threads name.now) }
     {
-        Some(self.thread(name)?.outcomes())
+        Some(self.thread(name)?.local().outcomes())
     }
 
     /// The function that a thread runs, and the instruction there that it does next, by their numbers.
@@ -125,10 +125,10 @@ impl State {
         ensures { result
             ≡ option_map (λ t. (t.local.function, t.local.instruction)) (map.get self.now.threads name.now) }
     {
-        Some(self.thread(name)?.place())
+        Some(self.thread(name)?.local().place())
     }
 
-    pub(crate) fn thread(&self, name: &ThreadName) -> Option<&Thread>
+    pub(crate) fn thread(&self, name: &ThreadName) -> Option<&Thread<M>>
         ensures { option_map (λ t. t.now) result ≡ map.get self.now.threads name.now }
     {
         self.threads.get(name)
@@ -200,7 +200,7 @@ impl State {
         requires { IsSomeAnd (map.get self.old.threads name.now)
             (CanPerform code.now self.old name.now (plain_instr instr.now) request) }
         ensures ok { OnOk result (IfSome (map.get self.old.threads name.now)
-            (λ t. self.new ≡ perform no_buffer code.now self.old name.now t (plain_instr instr.now) request)) }
+            (λ t. self.new ≡ perform M.ops code.now self.old name.now t (plain_instr instr.now) request)) }
         ensures err { OnErr result (self.new ≡ self.old) }
     {
         match request {
@@ -208,39 +208,73 @@ impl State {
             | Request::WakeOne(_)
             | Request::Await(_)
             | Request::OrderStores
-            | Request::Bar
-            | Request::Finish => self.threads.advance(name, instr, 0)?,
+            | Request::Finish => self.threads.advance(name, instr, Effect::Takes(0))?,
             Request::Read(cell) => {
-                let taken = self.memory[cell as usize];
-                self.threads.advance(name, instr, taken)?;
+                let taken = self.loaded(name, cell);
+                self.threads.advance(name, instr, Effect::Takes(taken))?;
             }
-            Request::Write(cell, value) => {
-                self.threads.advance(name, instr, 0)?;
-                self.memory[cell as usize] = value;
-            }
+            Request::Write(cell, value) => self.store(name, instr, cell, value)?,
+            Request::Bar => self.threads.advance(name, instr, Effect::Bars)?,
             Request::Exchange(cell, value) => {
                 let taken = self.memory[cell as usize];
-                self.threads.advance(name, instr, taken)?;
+                self.threads.advance(name, instr, Effect::Takes(taken))?;
                 self.memory[cell as usize] = value;
             }
             Request::CompareExchange(cell, expected, value) => {
                 let taken = self.memory[cell as usize];
-                self.threads.advance(name, instr, taken)?;
+                self.threads.advance(name, instr, Effect::Takes(taken))?;
                 self.memory[cell as usize] = if taken == expected { value } else { taken };
             }
             Request::Acquire(mutex) | Request::EndWait(_, mutex) => self.take(name, instr, mutex)?,
             Request::Release(mutex) => {
-                self.threads.advance(name, instr, 0)?;
+                self.threads.advance(name, instr, Effect::Takes(0))?;
                 self.owners[mutex as usize] = None;
             }
             Request::BeginWait(condition, mutex) => self.sleep(name, instr, condition, mutex)?,
             Request::WakeAll(condition) => {
-                self.threads.advance(name, instr, 0)?;
+                self.threads.advance(name, instr, Effect::Takes(0))?;
                 self.waiters[condition as usize].clear();
             }
             Request::Start(function) => self.create(alloc, code, name, instr, function)?,
             Request::Fail => self.fail(name)?,
         }
+        Ok(())
+    }
+
+    /// What a load of a thread takes: its own newest store to the cell, and else memory.
+    fn loaded(&self, name: &ThreadName, cell: u32) -> i32
+        requires { cell < length self.now.memory }
+        ensures { IfSome (map.get self.now.threads name.now) (λ t. result ≡ loaded M.ops self.now t cell) }
+    {
+        let own = match self.threads.get(name) {
+            Some(thread) => thread.forward(cell),
+            None => None,
+        };
+        own.unwrap_or(self.memory[cell as usize])
+    }
+
+    /// A thread's store goes to memory, or into its buffer where the model has buffers.
+    fn store(
+        &mut self,
+        name: &ThreadName,
+        instr: &Instr,
+        cell: u32,
+        value: i32,
+    ) -> Result<(), AllocError>
+        requires can { CanAdvance self.old.threads name.now (plain_instr instr.now) }
+        requires there { cell < length self.old.memory }
+        requires no_branch { is_branch (plain_instr instr.now) ≡ false }
+        ensures ok { OnOk result (IfSome (map.get self.old.threads name.now)
+            (λ t. self.new ≡ stored M.ops self.old name.now t (plain_instr instr.now) cell value)) }
+        ensures err { OnErr result (self.new ≡ self.old) }
+    {
+        if M::BUFFERED {
+            return self
+                .threads
+                .advance(name, instr, Effect::Issues(cell, value));
+        }
+        self.threads.advance(name, instr, Effect::Takes(0))?;
+        self.memory[cell as usize] = value;
         Ok(())
     }
 
@@ -262,11 +296,11 @@ impl State {
         requires can { CanAdvance self.old.threads name.now (plain_instr instr.now) }
         requires there { mutex < length self.old.owners }
         ensures ok { OnOk result (IfSome (map.get self.old.threads name.now)
-            (λ t. self.new ≡ record (did no_buffer self.old name.now t (plain_instr instr.now)) { owners = slice_set self.old.owners mutex (Some name.now) })) }
+            (λ t. self.new ≡ record (did M.ops self.old name.now t (plain_instr instr.now)) { owners = slice_set self.old.owners mutex (Some name.now) })) }
         ensures err { OnErr result (self.new ≡ self.old) }
     {
         let owner = name.clone()?;
-        self.threads.advance(name, instr, 0)?;
+        self.threads.advance(name, instr, Effect::Takes(0))?;
         self.owners[mutex as usize] = Some(owner);
         Ok(())
     }
@@ -284,7 +318,7 @@ impl State {
         requires mutex { mutex < length self.old.owners }
         requires no_branch { is_branch (plain_instr instr.now) ≡ false }
         ensures ok { OnOk result (IfSome (map.get self.old.threads name.now)
-            (λ t. self.new ≡ record (did no_buffer self.old name.now t (plain_instr instr.now)) {
+            (λ t. self.new ≡ record (did M.ops self.old name.now t (plain_instr instr.now)) {
               owners = slice_set self.old.owners mutex None;
               waiters = slice_set self.old.waiters condition (set.insert (waiting_on self.old condition) name.now);
             })) }
@@ -292,7 +326,7 @@ impl State {
     {
         let waiter = name.clone()?;
         self.waiters[condition as usize].insert(waiter)?;
-        self.threads.advance(name, instr, 0)?;
+        self.threads.advance(name, instr, Effect::Takes(0))?;
         self.owners[mutex as usize] = None;
         Ok(())
     }
@@ -309,12 +343,13 @@ impl State {
         requires { IsSomeAnd (map.get self.old.threads name.now)
             (CanPerform code.now self.old name.now (plain_instr instr.now) (Request.Start function)) }
         ensures ok { OnOk result (IfSome (map.get self.old.threads name.now)
-            (λ t. self.new ≡ perform no_buffer code.now self.old name.now t (plain_instr instr.now) (Request.Start function))) }
+            (λ t. self.new ≡ perform M.ops code.now self.old name.now t (plain_instr instr.now) (Request.Start function))) }
         ensures err { OnErr result (self.new ≡ self.old) }
     {
-        let Some(parent) = self.threads.get(name) else {
+        let Some(thread) = self.threads.get(name) else {
             unreachable!()
         };
+        let parent = thread.local();
         let arguments = parent.arguments(alloc, instr)?;
         let child = name.child(parent.children() + 1)?;
         let thread = Thread::at_start(alloc, code, function as usize, arguments)?;
@@ -333,11 +368,22 @@ impl State {
         requires there { condition < length self.old.waiters }
         requires signals { plain_instr instr.now ≡ flat.Signal condition }
         ensures ok { OnOk result (IfSome (map.get self.old.threads name.now)
-            (λ t. self.new ≡ woken no_buffer self.old name.now waiter.now t condition)) }
+            (λ t. self.new ≡ woken M.ops self.old name.now waiter.now t condition)) }
         ensures err { OnErr result (self.new ≡ self.old) }
     {
-        self.threads.advance(name, instr, 0)?;
+        self.threads.advance(name, instr, Effect::Takes(0))?;
         self.waiters[condition as usize].remove(waiter);
         Ok(())
+    }
+
+    /// A buffered store of a thread reaches memory.
+    pub(crate) fn drain(&mut self, name: &ThreadName, form: Option<u32>)
+        requires can { IsSomeAnd (map.get self.old.threads name.now) (λ t. M.ops.may_drain t.buffer form ≡ true) }
+        requires within { IfSome (map.get self.old.threads name.now)
+            (λ t. (M.ops.drain t.buffer form).entry.cell < length self.old.memory) }
+        ensures { IfSome (map.get self.old.threads name.now) (λ t. self.new ≡ drained M.ops self.old name.now t form) }
+    {
+        let (cell, value) = self.threads.drain(name, form);
+        self.memory[cell as usize] = value;
     }
 }

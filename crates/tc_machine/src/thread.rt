@@ -1,124 +1,62 @@
-//! A thread, and what an instruction asks and does.
-ghost use Rattle.std.specs.Prelude.{◌≡◌, ℕ, ◌+◌, ◌<◌, ◌≤◌, ◌^◌, length, slice_set, map, true, IsTrue, IfOk, OnOk, OnErr, OnSome, option_map};
-ghost use Rattle.std.specs.List.{list_all};
-ghost use Rattle.tc_base.specs.Buffers.{no_buffer};
-ghost use Rattle.tc_base.specs.declared.handle.Handle.{Handle};
+//! A thread: what it has to itself, and its store buffer.
+ghost use Rattle.std.specs.Prelude.{◌≡◌, ◌+◌, ◌<◌, ◌≤◌, ◌^◌, length, true, IfOk, OnOk, OnErr, OnSome, option_map};
+ghost use Rattle.store_buffers.specs.Laws.{AreForms};
 ghost use Rattle.tc_code.specs.Code as flat;
 ghost use Rattle.tc_code.specs.Lawful.{IsLawful};
-ghost use Rattle.tc_code.specs.Expr.{value_of, names_slots};
 ghost use Rattle.tc_code.specs.Seen.{plain_instr};
-ghost use Rattle.tc_code.specs.SeenExpr.{plain_expr};
 ghost use Rattle.tc_code.specs.Step as plain;
-ghost use Rattle.tc_machine.specs.helpers.CanDo.{CanAsk, CanDo, HasRoom, is_branch};
+ghost use Rattle.tc_machine.specs.helpers.CanDo.{CanAsk, CanDo};
+ghost use Rattle.tc_machine.specs.helpers.Effects.{MayHave, MayRefuse, affected};
 
-use crate::outcomes::Outcomes;
-use crate::request::{can_be_joined, cell_at, child_number, is_distance, is_within, site};
+use crate::effect::Effect;
+use crate::local::Local;
 use std::alloc::{AllocError, Global};
 use std::marker::Model;
-use tc_base::{Handle, Request};
-use tc_code::{Code, Expr, Instr, value};
+use store_buffers::MemoryModel;
+use tc_base::Request;
+use tc_code::{Code, Instr};
 
 /// A thread.
-#[derive(Debug, Drop)]
-pub(crate) struct Thread {
-    function: usize,
-    instruction: usize,
-    slots: Vec<i32>,
-    handles: Vec<Handle>,
-    held: Vec<bool>,
-    children: u32,
-    has_exited: bool,
-    outcomes: Outcomes,
-    steps: u32,
+#[derive(Drop)]
+#[derive_where(Debug)]
+pub(crate) struct Thread<M: MemoryModel> {
+    local: Local,
+    buffer: M::Buffer,
 }
 
-impl Model for Thread {
-    ghost use base.Stored.{coded_unit};
-    ghost use Rattle.tc_base.specs.Buffers.{NoBuffer};
+impl<M: MemoryModel> Model for Thread<M> {
     ghost use Rattle.tc_base.specs.States as spec;
     ghost use Rattle.tc_base.specs.helpers.Codes.{coded_thread};
 
-    ghost Value = { spec.Thread NoBuffer };
+    ghost Value = { spec.Thread M.Buffer };
 
-    ghost coded = { coded_thread coded_unit };
-
-    ghost view = { λ t. record {
-      local = record {
-        function = t.function;
-        instruction = t.instruction;
-        slots = t.slots.items;
-        handles = t.handles.items;
-        held = t.held.items;
-        children = t.children;
-        has_exited = t.has_exited;
-        outcomes = t.outcomes;
-        steps = t.steps;
-      };
-      buffer = tt;
-    } };
+    ghost view = { λ t. record { local = t.local; buffer = t.buffer } };
 }
 
-impl Thread {
-    /// A thread at the start of a function: its first slots are the arguments, and all else is 0, unset and free.
+impl<M: MemoryModel> Thread<M> {
+    /// A thread at the start of a function: its first slots are the arguments, all else is 0, unset and free, and its
+    /// buffer is empty.
     pub(crate) fn at_start(
         alloc: Global,
         code: &Code,
         function: usize,
         arguments: Vec<i32>,
-    ) -> Result<Thread, AllocError>
+    ) -> Result<Thread<M>, AllocError>
         requires there { function < length code.now.functions }
         requires room { length arguments.items ≤ plain.ints_of code.now function }
-        ensures { IfOk result (λ t. t ≡ plain.born no_buffer code.now function arguments.items) }
+        ensures { IfOk result (λ t. t ≡ plain.born M.ops code.now function arguments.items) }
     {
-        let func = &code.functions()[function];
-        let mut slots = arguments;
-        slots.resize(func.ints as usize, 0)?;
         Ok(Thread {
-            function,
-            instruction: 0,
-            slots,
-            handles: vec![in alloc; Handle::Unset; func.tids as usize]?,
-            held: vec![in alloc; false; code.mutexes() as usize]?,
-            children: 0,
-            has_exited: false,
-            outcomes: Outcomes::new(alloc),
-            steps: 0,
+            local: Local::at_start(alloc, code, function, arguments)?,
+            buffer: M::empty(alloc),
         })
     }
 
-    /// The function and the instruction that it does next.
-    pub(crate) fn place(&self) -> (usize, usize)
-        ensures { result ≡ (self.now.local.function, self.now.local.instruction) }
+    /// What it has to itself, but for its buffer.
+    pub(crate) fn local(&self) -> &Local
+        ensures { result.now ≡ self.now.local }
     {
-        (self.function, self.instruction)
-    }
-
-    /// How many instructions it has done.
-    pub(crate) fn steps(&self) -> u32
-        ensures { result ≡ self.now.local.steps }
-    {
-        self.steps
-    }
-
-    /// The outcomes of its branches.
-    pub(crate) fn outcomes(&self) -> &Outcomes
-        ensures { result.now ≡ self.now.local.outcomes }
-    {
-        &self.outcomes
-    }
-
-    /// How many threads it has created.
-    pub(crate) fn children(&self) -> u32
-        ensures { result ≡ self.now.local.children }
-    {
-        self.children
-    }
-
-    /// Whether it has exited.
-    pub(crate) fn has_exited(&self) -> bool
-        ensures { result ≡ self.now.local.has_exited }
-    {
-        self.has_exited
+        &self.local
     }
 
     /// The instruction that it does next, and none once it has exited.
@@ -127,10 +65,7 @@ impl Thread {
         ensures lawful { OnSome result (IsLawful code.now) }
         ensures room { OnSome result (self.now.local.instruction + 1 < 2 ^ 64) }
     {
-        if self.has_exited {
-            return None;
-        }
-        code.instr(self.function, self.instruction)
+        self.local.instr(code)
     }
 
     /// What an instruction asks.
@@ -138,200 +73,69 @@ impl Thread {
         requires { (code : flat.Code) × CanAsk code self.now.local (plain_instr instr.now) }
         ensures { result ≡ plain.request self.now.local (plain_instr instr.now) }
     {
-        match instr {
-            Instr::Set { .. } | Instr::Branch { .. } | Instr::Goto { .. } => Request::Silent,
-            Instr::Load { cell, .. } => Request::Read(*cell),
-            Instr::LoadAt { first, index, .. } => {
-                Request::Read(cell_at(*first, value(index, &self.slots)))
-            }
-            Instr::Store { cell, value: e } => Request::Write(*cell, value(e, &self.slots)),
-            Instr::StoreAt {
-                first,
-                index,
-                value: e,
-                ..
-            } => Request::Write(
-                cell_at(*first, value(index, &self.slots)),
-                value(e, &self.slots),
-            ),
-            Instr::Inside { length, index } => {
-                site(is_within(*length, value(index, &self.slots)))
-            }
-            Instr::Holds { mutex } => site(self.held[*mutex as usize]),
-            Instr::Lock { mutex } => Request::Acquire(*mutex),
-            Instr::Unlock { mutex } => Request::Release(*mutex),
-            Instr::Sleep { condition, mutex } => Request::BeginWait(*condition, *mutex),
-            Instr::Wake { condition, mutex } => Request::EndWait(*condition, *mutex),
-            Instr::Signal { condition } => Request::WakeOne(*condition),
-            Instr::Broadcast { condition } => Request::WakeAll(*condition),
-            Instr::Create { function, .. } => Request::Start(*function),
-            Instr::Ready { handle } => site(can_be_joined(self.handles[*handle as usize])),
-            Instr::Join { handle } => Request::Await(child_number(self.handles[*handle as usize])),
-            Instr::Assert(condition) => site(value(condition, &self.slots) != 0),
-            Instr::Nonzero(e) => site(value(e, &self.slots) != 0),
-            Instr::InRange(e) => site(is_distance(value(e, &self.slots))),
-            Instr::Swap { cell, value: e, .. } => Request::Exchange(*cell, value(e, &self.slots)),
-            Instr::Cas {
-                cell,
-                expected,
-                value: e,
-                ..
-            } => Request::CompareExchange(
-                *cell,
-                value(expected, &self.slots),
-                value(e, &self.slots),
-            ),
-            Instr::Fence => Request::OrderStores,
-            Instr::Stbar => Request::Bar,
-            Instr::Exit => Request::Finish,
-        }
+        self.local.request(instr)
     }
 
-    /// The values that a create hands to the child.
-    pub(crate) fn arguments(&self, alloc: Global, instr: &Instr) -> Result<Vec<i32>, AllocError>
-        requires { (code : flat.Code) × CanAsk code self.now.local (plain_instr instr.now) }
-        ensures { IfOk result (λ v. v.items ≡ plain.arguments_of self.now.local (plain_instr instr.now)) }
+    /// The value of its newest store to a cell that hasn't reached memory.
+    pub(crate) fn forward(&self, cell: u32) -> Option<i32>
+        ensures { result ≡ M.ops.forward self.now.buffer cell }
     {
-        match instr {
-            Instr::Create { arguments, .. } => values(alloc, arguments.as_slice(), &self.slots),
-            _ => Ok(Vec::new(alloc)),
-        }
+        M::forward(&self.buffer, cell)
     }
 
-    /// Does an instruction that doesn't fail, `taken` being what it takes from memory, if it takes anything. Only the outcome of a branch takes
-    /// memory, before anything changes.
-    pub(crate) fn advance(&mut self, instr: &Instr, taken: i32) -> Result<(), AllocError>
-        requires { (code : flat.Code) × CanDo code self.old.local (plain_instr instr.now) }
-        ensures ok { OnOk result (self.new ≡ record self.old { local = plain.local_after self.old.local (plain_instr instr.now) taken }) }
+    /// Whether all its stores have reached memory.
+    pub(crate) fn is_drained(&self) -> bool
+        ensures { result ≡ M.ops.is_empty self.now.buffer }
+    {
+        M::is_empty(&self.buffer)
+    }
+
+    /// Whether a store may drain by this form.
+    pub(crate) fn may_drain(&self, form: Option<u32>) -> bool
+        ensures { result ≡ M.ops.may_drain self.now.buffer form }
+    {
+        M::may_drain(&self.buffer, form)
+    }
+
+    /// The forms by which its stores may drain, in order.
+    pub(crate) fn forms(&self, alloc: Global) -> Result<Vec<Option<u32>>, AllocError>
+        ensures { IfOk result (λ forms. AreForms M.ops self.now.buffer forms.items) }
+    {
+        M::forms(alloc, &self.buffer)
+    }
+
+    /// Does an instruction that doesn't fail, with this effect. Memory is taken before anything changes.
+    pub(crate) fn advance(&mut self, instr: &Instr, effect: Effect) -> Result<(), AllocError>
+        requires can { (code : flat.Code) × CanDo code self.old.local (plain_instr instr.now) }
+        requires may { MayHave M.ops (plain_instr instr.now) effect }
+        ensures ok { OnOk result (self.new ≡ affected M.ops self.old (plain_instr instr.now) effect) }
         ensures err { OnErr result (self.new ≡ self.old) }
-        ensures only { OnErr result (IsTrue (is_branch (plain_instr instr.now))) }
+        ensures only { OnErr result (MayRefuse (plain_instr instr.now) effect) }
     {
-        match instr {
-            Instr::Set { slot, value: e } => {
-                let value = value(e, &self.slots);
-                self.set(*slot, value);
+        match effect {
+            Effect::Takes(value) => self.local.advance(instr, value),
+            Effect::Issues(cell, value) => {
+                M::issue(&mut self.buffer, cell, value)?;
+                self.local.advance(instr, 0)
             }
-            Instr::Load { slot, .. }
-            | Instr::LoadAt { slot, .. }
-            | Instr::Swap { slot, .. }
-            | Instr::Cas { slot, .. } => self.set(*slot, taken),
-            Instr::Branch { condition, target } => {
-                let outcome = value(condition, &self.slots) != 0;
-                self.branch(outcome, *target)?;
+            Effect::Bars => {
+                M::bar(&mut self.buffer)?;
+                self.local.advance(instr, 0)
             }
-            Instr::Goto { target } => self.jump(*target),
-            Instr::Lock { mutex } | Instr::Wake { mutex, .. } => self.hold(*mutex, true),
-            Instr::Unlock { mutex } | Instr::Sleep { mutex, .. } => self.hold(*mutex, false),
-            Instr::Create { handle, .. } => self.create(*handle),
-            Instr::Join { handle } => self.join(*handle),
-            Instr::Exit => self.exit(),
-            Instr::Store { .. }
-            | Instr::StoreAt { .. }
-            | Instr::Inside { .. }
-            | Instr::Holds { .. }
-            | Instr::Signal { .. }
-            | Instr::Broadcast { .. }
-            | Instr::Ready { .. }
-            | Instr::Assert(_)
-            | Instr::Nonzero(_)
-            | Instr::InRange(_)
-            | Instr::Fence
-            | Instr::Stbar => self.go_on(),
         }
-        Ok(())
     }
 
-    /// Goes to the next place.
-    fn go_on(&mut self)
-        requires { HasRoom self.old.local }
-        ensures { self.new ≡ record self.old { local = plain.next self.old.local } }
+    /// Takes out the store that drains by this form: its cell and value.
+    pub(crate) fn drain(&mut self, form: Option<u32>) -> (u32, i32)
+        requires { M.ops.may_drain self.old.buffer form ≡ true }
+        ensures cell { result.0 ≡ (M.ops.drain self.old.buffer form).entry.cell }
+        ensures value { result.1 ≡ (M.ops.drain self.old.buffer form).entry.value }
+        ensures rest { self.new ≡ record self.old { buffer = (M.ops.drain self.old.buffer form).rest } }
     {
-        self.instruction += 1;
-        self.count_step();
-    }
-
-    /// Goes to another place.
-    fn jump(&mut self, target: u32)
-        requires { HasRoom self.old.local }
-        ensures { self.new ≡ record self.old { local = plain.jumped self.old.local target } }
-    {
-        self.instruction = target as usize;
-        self.count_step();
-    }
-
-    /// Goes on after a branch, and keeps its outcome.
-    fn branch(&mut self, outcome: bool, target: u32) -> Result<(), AllocError>
-        requires { HasRoom self.old.local }
-        ensures ok { OnOk result (self.new ≡ record self.old { local = plain.branched self.old.local outcome target }) }
-        ensures err { OnErr result (self.new ≡ self.old) }
-    {
-        self.outcomes.push(outcome)?;
-        if outcome {
-            self.go_on();
-        } else {
-            self.jump(target);
-        }
-        Ok(())
-    }
-
-    /// A slot takes a value.
-    fn set(&mut self, slot: u32, value: i32)
-        requires room { HasRoom self.old.local }
-        requires there { slot < length self.old.local.slots }
-        ensures { self.new ≡ record self.old { local = record (plain.next self.old.local) { slots = slice_set self.old.local.slots slot value } } }
-    {
-        self.slots[slot as usize] = value;
-        self.go_on();
-    }
-
-    /// Takes a mutex, or leaves it.
-    fn hold(&mut self, mutex: u32, holds: bool)
-        requires room { HasRoom self.old.local }
-        requires there { mutex < length self.old.local.held }
-        ensures { self.new ≡ record self.old { local = plain.holding self.old.local mutex holds } }
-    {
-        self.held[mutex as usize] = holds;
-        self.go_on();
-    }
-
-    /// A thread variable takes a new child.
-    fn create(&mut self, handle: u32)
-        requires room { HasRoom self.old.local }
-        requires there { handle < length self.old.local.handles }
-        ensures { self.new ≡ record self.old {
-          local = record (plain.next self.old.local) {
-            handles = slice_set self.old.local.handles handle (Handle.Child (self.old.local.children + 1));
-            children = self.old.local.children + 1;
-          };
-        } }
-    {
-        self.go_on();
-        self.children += 1;
-        self.handles[handle as usize] = Handle::Child(self.children);
-    }
-
-    /// The child of a thread variable is joined.
-    fn join(&mut self, handle: u32)
-        requires room { HasRoom self.old.local }
-        requires there { handle < length self.old.local.handles }
-        ensures { self.new ≡ record self.old {
-          local = record (plain.next self.old.local) {
-            handles = slice_set self.old.local.handles handle (Handle.Joined (plain.child_number (plain.handle_of self.old.local handle)));
-          };
-        } }
-    {
-        let number = child_number(self.handles[handle as usize]);
-        self.handles[handle as usize] = Handle::Joined(number);
-        self.go_on();
-    }
-
-    /// Ends.
-    fn exit(&mut self)
-        requires { HasRoom self.old.local }
-        ensures { self.new ≡ record self.old { local = record (plain.next self.old.local) { has_exited = true } } }
-    {
-        self.has_exited = true;
-        self.go_on();
+        let Some(store) = M::drain(&mut self.buffer, form) else {
+            unreachable!()
+        };
+        store
     }
 
     /// Counts a step, at the same place.
@@ -339,18 +143,6 @@ impl Thread {
         requires { self.old.local.steps + 1 < 2 ^ 32 }
         ensures { self.new ≡ record self.old { local = plain.stepped self.old.local } }
     {
-        self.steps += 1;
+        self.local.count_step();
     }
-}
-
-/// The values of expressions, over these slots.
-fn values(alloc: Global, arguments: &[Expr], slots: &[i32]) -> Result<Vec<i32>, AllocError>
-    requires { IsTrue (list_all (names_slots (length slots.now)) (map plain_expr arguments.now)) }
-    ensures { IfOk result (λ v. v.items ≡ map (λ e. value_of e slots.now) (map plain_expr arguments.now)) }
-{
-    let mut found = Vec::new(alloc);
-    for e in arguments {
-        found.push(value(e, slots))?;
-    }
-    Ok(found)
 }

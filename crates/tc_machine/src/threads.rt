@@ -1,5 +1,5 @@
 //! Threads by name.
-ghost use Rattle.std.specs.Prelude.{◌≡◌, ◌↔◌, ◌+◌, ◌<◌, ◌^◌, length, IsTrue, IfOk, IfSome, OnOk, OnErr, option_map, Some, None, IsSomeAnd, false, pos};
+ghost use Rattle.std.specs.Prelude.{◌≡◌, ◌↔◌, ◌+◌, ◌<◌, ◌^◌, length, IsTrue, IfOk, IfSome, OnOk, OnErr, option_map, Some, None, IsSomeAnd, true, false, pos};
 ghost use Rattle.std.specs.FinMap as map;
 ghost use Rattle.std.specs.Option.{option_map_or};
 ghost use Rattle.tc_base.specs.Names.{main, child};
@@ -7,46 +7,48 @@ ghost use Rattle.tc_code.specs.Code as flat;
 ghost use Rattle.tc_code.specs.Seen.{plain_instr};
 ghost use Rattle.tc_code.specs.Step.{local_after, stepped};
 ghost use Rattle.tc_machine.specs.helpers.CanDo.{CanAdvance, CanDo, is_branch};
+ghost use Rattle.tc_machine.specs.helpers.Effects.{DrainsTo, MayHave, MayRefuse, affected};
 
+use crate::effect::Effect;
 use crate::names::ThreadNames;
 use crate::thread::Thread;
 use std::alloc::{AllocError, Global};
 use std::collections::BTreeMap;
 use std::marker::Model;
+use store_buffers::MemoryModel;
 use tc_base::ThreadName;
 use tc_code::Instr;
 
 /// Threads by name, and the list of their names.
-#[derive(Debug, Drop)]
-pub(crate) struct Threads {
-    by_name: BTreeMap<ThreadName, Thread>,
+#[derive(Drop)]
+#[derive_where(Debug)]
+pub(crate) struct Threads<M: MemoryModel> {
+    by_name: BTreeMap<ThreadName, Thread<M>>,
     names: ThreadNames,
 }
 
-impl Model for Threads {
+impl<M: MemoryModel> Model for Threads<M> {
     ghost use Rattle.std.specs.Prelude.{◌≡◌};
     ghost use Rattle.std.specs.FinMap as map;
     ghost use Rattle.std.specs.Ordering.{nat_cmp};
     ghost use Rattle.std.specs.Cmp.Lexicographic.{slice_cmp};
     ghost use Rattle.std.specs.BTreeMap.{keys, IsOrdered};
-    ghost use base.Stored.{coded_unit};
-    ghost use Rattle.tc_base.specs.Buffers.{NoBuffer};
     ghost use Rattle.tc_base.specs.Names.{ByName};
     ghost use Rattle.tc_base.specs.States as spec;
     ghost use Rattle.tc_base.specs.helpers.Codes.{coded_name, coded_thread};
 
-    ghost Value = { ByName (spec.Thread NoBuffer) };
+    ghost Value = { ByName (spec.Thread M.Buffer) };
 
-    ghost coded = { map.code coded_name (coded_thread coded_unit) };
+    ghost coded = { map.code coded_name (coded_thread M.Buffer.code) };
 
     ghost view = { λ a. map.from_entries a.by_name.entries };
 
     ghost invariant = { λ a. (a.names ≡ keys a.by_name) × IsOrdered (slice_cmp nat_cmp) a.by_name };
 }
 
-impl Threads {
+impl<M: MemoryModel> Threads<M> {
     /// Main alone.
-    pub(crate) fn of_main(alloc: Global, thread: Thread) -> Result<Threads, AllocError>
+    pub(crate) fn of_main(alloc: Global, thread: Thread<M>) -> Result<Threads<M>, AllocError>
         ensures { IfOk result (λ threads. threads ≡ map.insert map.empty main thread) }
     {
         let names = ThreadNames::of_main(alloc)?;
@@ -63,33 +65,34 @@ impl Threads {
     }
 
     /// The thread of a name, if there is one.
-    pub(crate) fn get(&self, name: &ThreadName) -> Option<&Thread>
+    pub(crate) fn get(&self, name: &ThreadName) -> Option<&Thread<M>>
         ensures { option_map (λ t. t.now) result ≡ map.get self.now name.now }
     {
         self.by_name.get(name)
     }
 
-    /// The thread does an instruction that doesn't fail, `taken` being what it takes from memory, if it takes anything.
+    /// The thread does an instruction that doesn't fail, with this effect.
     pub(crate) fn advance(
         &mut self,
         name: &ThreadName,
         instr: &Instr,
-        taken: i32,
+        effect: Effect,
     ) -> Result<(), AllocError>
-        requires { CanAdvance self.old name.now (plain_instr instr.now) }
+        requires can { CanAdvance self.old name.now (plain_instr instr.now) }
+        requires may { MayHave M.ops (plain_instr instr.now) effect }
         ensures ok { OnOk result (IfSome (map.get self.old name.now)
-            (λ t. self.new ≡ map.insert self.old name.now (record t { local = local_after t.local (plain_instr instr.now) taken }))) }
+            (λ t. self.new ≡ map.insert self.old name.now (affected M.ops t (plain_instr instr.now) effect))) }
         ensures err { OnErr result (self.new ≡ self.old) }
-        ensures only { OnErr result (IsTrue (is_branch (plain_instr instr.now))) }
+        ensures only { OnErr result (MayRefuse (plain_instr instr.now) effect) }
     {
         match self.by_name.get_mut(name) {
-            Some(thread) => thread.advance(instr, taken),
+            Some(thread) => thread.advance(instr, effect),
             None => Ok(()),
         }
     }
 
     /// One thread more.
-    pub(crate) fn add(&mut self, name: ThreadName, thread: Thread) -> Result<(), AllocError>
+    pub(crate) fn add(&mut self, name: ThreadName, thread: Thread<M>) -> Result<(), AllocError>
         requires { map.get self.old name ≡ None }
         ensures ok { OnOk result (self.new ≡ map.insert self.old name thread) }
         ensures err { OnErr result (self.new ≡ self.old) }
@@ -110,7 +113,7 @@ impl Threads {
         name: &ThreadName,
         instr: &Instr,
         child: ThreadName,
-        thread: Thread,
+        thread: Thread<M>,
     ) -> Result<(), AllocError>
         requires can { IsSomeAnd (map.get self.old name.now)
             (λ t. (code : flat.Code) × CanDo code t.local (plain_instr instr.now)) }
@@ -122,7 +125,7 @@ impl Threads {
         ensures err { OnErr result (self.new ≡ self.old) }
     {
         self.add(child, thread)?;
-        self.advance(name, instr, 0)
+        self.advance(name, instr, Effect::Takes(0))
     }
 
     /// Whether a thread's child of that number has exited.
@@ -131,7 +134,7 @@ impl Threads {
     {
         for (name, thread) in &self.by_name {
             if is_child(name, parent, number) {
-                return thread.has_exited();
+                return thread.local().has_exited();
             }
         }
         false
@@ -146,6 +149,17 @@ impl Threads {
         if let Some(thread) = self.by_name.get_mut(name) {
             thread.count_step();
         }
+    }
+
+    /// Takes out the store of a thread that drains by this form: its cell and value.
+    pub(crate) fn drain(&mut self, name: &ThreadName, form: Option<u32>) -> (u32, i32)
+        requires { IsSomeAnd (map.get self.old name.now) (λ t. M.ops.may_drain t.buffer form ≡ true) }
+        ensures { IfSome (map.get self.old name.now) (λ t. DrainsTo M.ops self.old name.now t form result self.new) }
+    {
+        let Some(thread) = self.by_name.get_mut(name) else {
+            unreachable!()
+        };
+        thread.drain(form)
     }
 }
 

@@ -1,8 +1,8 @@
 //! Codes and moves by hand. A case is a list of moves over a code, and what is seen at its end.
 ghost use Rattle.std.specs.Prelude.{◌<◌, length, IfOk};
-ghost use Rattle.tc_base.specs.Buffers.{no_buffer};
 ghost use Rattle.tc_code.specs.Run.{IsReached};
 
+mod buffers;
 mod code;
 mod lists;
 mod rows;
@@ -11,6 +11,7 @@ use code::{Function, code_of};
 use std::alloc::{AllocError, Global};
 use std::fmt::Write;
 use std::test::Fail;
+use store_buffers::{MemoryModel, Sc};
 use tc_base::{Move, ThreadName};
 use tc_code::Code;
 use tc_machine::{State, Why, enabled, moves, start, step};
@@ -28,33 +29,50 @@ fn name_of(alloc: Global, digits: u32) -> Result<ThreadName, AllocError> {
     }
 }
 
+/// A move, by the digits of the names.
+#[derive(Clone, Copy, Debug)]
+enum Act {
+    Run(u32),
+    Wake(u32, u32),
+    Drain(u32, Option<u32>),
+}
+
+fn move_of(alloc: Global, act: Act) -> Result<Move, AllocError> {
+    Ok(match act {
+        Act::Run(name) => Move::Run(name_of(alloc, name)?),
+        Act::Wake(name, waiter) => Move::Wake(name_of(alloc, name)?, name_of(alloc, waiter)?),
+        Act::Drain(name, form) => Move::Drain(name_of(alloc, name)?, form),
+    })
+}
+
 /// The moves that the numbers write: a name, for its run move, or a waiter with a minus, which main wakes.
 fn moves_of(alloc: Global, numbers: &[i32]) -> Result<Vec<Move>, AllocError> {
     let mut moves = Vec::new(alloc);
     for number in numbers {
-        let name = name_of(alloc, number.unsigned_abs())?;
-        moves.push(if *number < 0 {
-            Move::Wake(ThreadName::main(alloc), name)
+        let name = number.unsigned_abs();
+        let act = if *number < 0 {
+            Act::Wake(0, name)
         } else {
-            Move::Run(name)
-        })?;
+            Act::Run(name)
+        };
+        moves.push(move_of(alloc, act)?)?;
     }
     Ok(moves)
 }
 
 /// Where a list of moves led, and the move that wasn't enabled, by its number from 1, if there was one.
 #[derive(Drop)]
-struct End {
-    state: State,
+struct End<M: MemoryModel> {
+    state: State<M>,
     stop: Option<(usize, Why)>,
 }
 
 /// Makes these moves in turn, up to the first that isn't enabled.
-fn play(alloc: Global, code: &Code, moves: &[Move]) -> Result<End, Fail>
+fn play<M: MemoryModel>(alloc: Global, code: &Code, moves: &[Move]) -> Result<End<M>, Fail>
     requires { length moves.now < 100 }
-    ensures { IfOk result (λ end. IsReached no_buffer code.now end.state) }
+    ensures { IfOk result (λ end. IsReached M.ops code.now end.state) }
 {
-    let mut state = start(alloc, code)?;
+    let mut state = start::<M>(alloc, code)?;
     for k in 0..moves.len() {
         let m = &moves[k];
         if let Err(why) = enabled(code, &state, m) {
@@ -69,7 +87,7 @@ fn play(alloc: Global, code: &Code, moves: &[Move]) -> Result<End, Fail>
 }
 
 /// What is seen of a state: the thread that failed, and the steps of each thread, by their names.
-fn seen(alloc: Global, state: &State) -> Result<String, AllocError> {
+fn seen<M: MemoryModel>(alloc: Global, state: &State<M>) -> Result<String, AllocError> {
     let mut text = match state.failed() {
         Some(name) => format!(in alloc; "{name} failed")?,
         None => String::from_str(alloc, "none failed")?,
@@ -81,29 +99,38 @@ fn seen(alloc: Global, state: &State) -> Result<String, AllocError> {
     Ok(text)
 }
 
-/// Where the moves that the numbers write lead.
-fn end_of(alloc: Global, code: &Code, numbers: &[i32]) -> Result<End, Fail>
-    ensures { IfOk result (λ end. IsReached no_buffer code.now end.state) }
+/// Where these moves lead.
+fn end_of<M: MemoryModel>(alloc: Global, code: &Code, moves: &[Move]) -> Result<End<M>, Fail>
+    ensures { IfOk result (λ end. IsReached M.ops code.now end.state) }
 {
-    let moves = moves_of(alloc, numbers)?;
     if moves.len() >= 100 {
         return Err(Fail::from("too many moves"));
     }
-    play(alloc, code, &moves)
+    play(alloc, code, moves)
 }
 
 /// What is seen after these moves, and the first that isn't enabled.
-fn seen_after(alloc: Global, functions: &[Function], numbers: &[i32]) -> Result<String, Fail> {
+fn seen_under<M: MemoryModel>(
+    alloc: Global,
+    functions: &[Function],
+    moves: &[Move],
+) -> Result<String, Fail> {
     let code = code_of(alloc, functions)?.ok_or("unlawful")?;
-    seen_over(alloc, &code, numbers)
+    seen_over::<M>(alloc, &code, moves)
 }
 
 /// The same, over this code.
-fn seen_over(alloc: Global, code: &Code, numbers: &[i32]) -> Result<String, Fail> {
-    let end = end_of(alloc, code, numbers)?;
+fn seen_over<M: MemoryModel>(alloc: Global, code: &Code, moves: &[Move]) -> Result<String, Fail> {
+    let end = end_of::<M>(alloc, code, moves)?;
     let state = seen(alloc, &end.state)?;
     Ok(match end.stop {
         Some((k, why)) => format!(in alloc; "{state}, {why} at {k}")?,
         None => state,
     })
+}
+
+/// What is seen after the moves that the numbers write, without buffers.
+fn seen_after(alloc: Global, functions: &[Function], numbers: &[i32]) -> Result<String, Fail> {
+    let moves = moves_of(alloc, numbers)?;
+    seen_under::<Sc>(alloc, functions, &moves)
 }

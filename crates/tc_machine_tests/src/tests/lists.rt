@@ -1,9 +1,10 @@
 //! The enabled moves after some moves, and what a state tells of main.
 use super::code::{Function, Op, code_of};
 use super::rows::{GRANDCHILDREN, SIGNALS, UNLOCKS};
-use super::{End, end_of};
+use super::{End, end_of, moves_of};
 use std::alloc::{AllocError, Global};
 use std::test::Fail;
+use store_buffers::{MemoryModel, Sc};
 use tc_base::{Move, ThreadName};
 use tc_machine::moves;
 
@@ -22,14 +23,19 @@ fn text_of(alloc: Global, m: &Move) -> Result<String, AllocError> {
     match m {
         Move::Run(name) => format!(in alloc; "r {name};"),
         Move::Wake(name, waiter) => format!(in alloc; "w {name} {waiter};"),
-        Move::Drain(name, _) => format!(in alloc; "d {name};"),
+        Move::Drain(name, None) => format!(in alloc; "d {name};"),
+        Move::Drain(name, Some(cell)) => format!(in alloc; "d {name} {cell};"),
     }
 }
 
 /// The enabled moves after these.
-fn listed_after(alloc: Global, functions: &[Function], numbers: &[i32]) -> Result<String, Fail> {
+pub(super) fn listed_after<M: MemoryModel>(
+    alloc: Global,
+    functions: &[Function],
+    made: &[Move],
+) -> Result<String, Fail> {
     let code = code_of(alloc, functions)?.ok_or("unlawful")?;
-    let End { state, .. } = end_of(alloc, &code, numbers)?;
+    let End { state, .. } = end_of::<M>(alloc, &code, made)?;
     let mut text = String::new(alloc);
     for m in &moves(alloc, &code, &state)? {
         text.push_str(&text_of(alloc, m)?)?;
@@ -62,7 +68,8 @@ fn moves_are_listed_by_name(rt: HostRuntime) -> Result<(), Fail> {
         ),
         (UNLOCKS, [0].as_slice(), ""),
     ] {
-        assert_eq!(rt; listed_after(alloc, functions, numbers)?.as_str(), want);
+        let made = moves_of(alloc, numbers)?;
+        assert_eq!(rt; listed_after::<Sc>(alloc, functions, &made)?.as_str(), want);
     }
     Ok(())
 }
@@ -72,7 +79,7 @@ fn states_tell_outcomes_and_places(rt: HostRuntime) -> Result<(), Fail> {
     let alloc = rt.alloc();
     let main = ThreadName::main(alloc);
     let code = code_of(alloc, LOOPS)?.ok_or("unlawful")?;
-    let End { state, .. } = end_of(alloc, &code, &[0, 0, 0, 0, 0])?;
+    let End { state, .. } = end_of::<Sc>(alloc, &code, &moves_of(alloc, &[0; 5])?)?;
     let outcomes = state.outcomes_of(&main).ok_or("no main")?;
     assert_eq!(rt; outcomes.as_slice(), [true, false].as_slice());
     assert_eq!(rt; state.place_of(&main), Some((0, 4)));

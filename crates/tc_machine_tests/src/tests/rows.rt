@@ -1,9 +1,8 @@
 //! What moves lead to. The expected ends are worked out by hand from the rules of the machine.
 use super::code::{Function, Op, code_from, code_of};
-use super::{end_of, name_of, seen_after, seen_over};
-use std::alloc::{AllocError, Global};
+use super::{Act, end_of, move_of, moves_of, seen_after, seen_over};
 use std::test::Fail;
-use tc_base::Move;
+use store_buffers::Sc;
 use tc_machine::enabled;
 
 /// Moves, and what is seen at their end.
@@ -47,7 +46,7 @@ const ADDED: &[Case] = &[
 ];
 
 /// A thread that waits.
-const WAITER: Function = &[
+pub(super) const WAITER: Function = &[
     Op::Lock,
     Op::Holds,
     Op::Sleep,
@@ -252,44 +251,20 @@ fn indexes(index: i32) -> [Op; 7] {
     ]
 }
 
-/// A move that isn't enabled, by the digits of the names.
-#[derive(Clone, Copy)]
-enum Refused {
-    Wake(u32, u32),
-    Drain(u32, Option<u32>),
-}
-
-fn move_of(alloc: Global, refused: Refused) -> Result<Move, AllocError> {
-    Ok(match refused {
-        Refused::Wake(name, waiter) => Move::Wake(name_of(alloc, name)?, name_of(alloc, waiter)?),
-        Refused::Drain(name, form) => Move::Drain(name_of(alloc, name)?, form),
-    })
-}
-
 #[test]
 fn wakes_and_drains_are_refused(rt: HostRuntime) -> Result<(), Fail> {
     let alloc = rt.alloc();
     for (functions, moves, refused, want) in [
-        (SIGNALS, [0].as_slice(), Refused::Wake(2, 1), "NoThread"),
-        (BROADCASTS, [0; 4].as_slice(), Refused::Wake(0, 1), "Exited"),
-        (
-            SIGNALS,
-            [0, 0].as_slice(),
-            Refused::Wake(0, 3),
-            "WrongWaiter",
-        ),
-        (
-            ADDS,
-            [0, 1, 1].as_slice(),
-            Refused::Drain(1, None),
-            "NoEntry",
-        ),
-        (ADDS, [0].as_slice(), Refused::Drain(1, Some(0)), "NoEntry"),
-        (ADDS, [].as_slice(), Refused::Drain(1, None), "NoThread"),
-        (UNLOCKS, [0].as_slice(), Refused::Drain(0, None), "Stopped"),
+        (SIGNALS, [0].as_slice(), Act::Wake(2, 1), "NoThread"),
+        (BROADCASTS, [0; 4].as_slice(), Act::Wake(0, 1), "Exited"),
+        (SIGNALS, [0, 0].as_slice(), Act::Wake(0, 3), "WrongWaiter"),
+        (ADDS, [0, 1, 1].as_slice(), Act::Drain(1, None), "NoEntry"),
+        (ADDS, [0].as_slice(), Act::Drain(1, Some(0)), "NoEntry"),
+        (ADDS, [].as_slice(), Act::Drain(1, None), "NoThread"),
+        (UNLOCKS, [0].as_slice(), Act::Drain(0, None), "Stopped"),
     ] {
         let code = code_of(alloc, functions)?.ok_or("unlawful")?;
-        let end = end_of(alloc, &code, moves)?;
+        let end = end_of::<Sc>(alloc, &code, &moves_of(alloc, moves)?)?;
         let m = move_of(alloc, refused)?;
         let why = enabled(&code, &end.state, &m).err().ok_or("enabled")?;
         assert_eq!(rt; format!(in alloc; "{why}")?.as_str(), want);
@@ -298,7 +273,7 @@ fn wakes_and_drains_are_refused(rt: HostRuntime) -> Result<(), Fail> {
 }
 
 /// A swap takes 5 and gives 3, and then it takes 3 and gives 5.
-const SWAPS: Function = &[
+pub(super) const SWAPS: Function = &[
     Op::Set(4),
     Op::StoreNext,
     Op::Set(3),
@@ -351,8 +326,8 @@ fn exchanges_take_and_give(rt: HostRuntime) -> Result<(), Fail> {
         (FINDS_NO_FOUR, 4, "0 failed, 0 4"),
     ] {
         let code = code_from(alloc, 5, &[main])?.ok_or("unlawful")?;
-        let numbers = &[0; 4][..moves];
-        assert_eq!(rt; seen_over(alloc, &code, numbers)?.as_str(), want);
+        let made = moves_of(alloc, &[0; 4][..moves])?;
+        assert_eq!(rt; seen_over::<Sc>(alloc, &code, &made)?.as_str(), want);
     }
     for (site, number, want) in [
         (Op::Nonzero, -1, "none failed, 0 3"),

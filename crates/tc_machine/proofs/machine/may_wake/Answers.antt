@@ -1,5 +1,4 @@
 use Rattle.std.proofs.Common.{subst}
-use Rattle.tc_base.specs.Buffers.{no_buffer}
 use Rattle.tc_code.specs.Seen.{plain_instr}
 use Rattle.tc_code.specs.Step.{request}
 use Rattle.tc_machine.specs.helpers.CanDo.{AsksWithin}
@@ -7,7 +6,7 @@ use Rattle.tc_machine.proofs.Can.{asked_is_there}
 use Rattle.tc_machine.proofs.machine.may_wake.Goals as goal
 
 pub waiting_on-requires : goal.waiting_on-requires
-waiting_on-requires c =
-    subst (λ i. AsksWithin c.args.state.now (request c.in_ok-instr.field-0-0.now.local (plain_instr i))) c.in-Signal.is
-    (asked_is_there no_buffer c.args.code.now c.args.state.now c.args.name.now c.in_ok-instr.field-0-0.now
-    (plain_instr c.in_ok-instr.instr.now) c.in_ok-instr.ensures.lawful c.requires.reached c.in_ok-instr.ensures.thread c.in_ok-instr.ensures.instr)
+waiting_on-requires g c =
+    subst (λ i. AsksWithin c.args.state.now (request c.in_ok-thread.thread.now.local (plain_instr i))) c.in-Signal.is
+    (asked_is_there g.M.MemoryModel.ops c.args.code.now c.args.state.now c.args.name.now c.in_ok-thread.thread.now
+    (plain_instr c.in_ok-thread.instr.now) c.in_ok-thread.ensures.lawful c.requires.reached c.in_ok-thread.ensures.thread c.in_ok-thread.ensures.instr)

@@ -1,6 +1,5 @@
 use Rattle.std.proofs.Common.{◌∙◌, ◌++◌, ◌∷◌, [], take, arith, ap, sym}
 use Rattle.std.proofs.lemmas.List.{take_more, length-take}
-use Rattle.tc_base.specs.Buffers.{no_buffer}
 use Rattle.tc_code.specs.Run.{run}
 use Rattle.tc_code.specs.Step.{opening}
 use Rattle.tc_code.specs.Facts.{run_from-step}
@@ -8,13 +7,13 @@ use Rattle.tc_runs.proofs.Counts.{counters_below_last}
 use Rattle.tc_machine_tests.proofs.tests.play.Goals as goal
 
 pub step-requires-clause-counters : goal.step-requires-clause-counters
-step-requires-clause-counters c =
-    counters_below_last no_buffer c.args.code.now (take c.loop-k.k c.args.moves.now) c.loop-k.state c.loop-k.invariant
+step-requires-clause-counters g c =
+    counters_below_last g.M.MemoryModel.ops c.args.code.now (take c.loop-k.k c.args.moves.now) c.loop-k.state c.loop-k.invariant
     (omega (arith, length-take c.loop-k.k c.args.moves.now))
 
 pub loop-k-preserved : goal.loop-k-preserved
-loop-k-preserved c =
+loop-k-preserved g c =
     let more = take_more c.args.moves.now c.loop-k.k c.index-moves-k.result c.loop-k-test.true in
-    ap (run no_buffer c.args.code.now) (more ∙ ap (λ m. take c.loop-k.k c.args.moves.now ++ m ∷ []) (sym c.index-moves-k.is))
-    ∙ run_from-step no_buffer c.args.code.now (opening no_buffer c.args.code.now) c.loop-k.state c.step.new.state
+    ap (run g.M.MemoryModel.ops c.args.code.now) (more ∙ ap (λ m. take c.loop-k.k c.args.moves.now ++ m ∷ []) (sym c.index-moves-k.is))
+    ∙ run_from-step g.M.MemoryModel.ops c.args.code.now (opening g.M.MemoryModel.ops c.args.code.now) c.loop-k.state c.step.new.state
     (take c.loop-k.k c.args.moves.now) c.index-moves-k.result c.loop-k.invariant c.in_ok-step.ensures.ok

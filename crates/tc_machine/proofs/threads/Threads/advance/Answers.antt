@@ -1,5 +1,4 @@
-use Rattle.std.proofs.Common.{subst, sym, ap, refl, ◌∙◌, IfSome, w32}
-use Rattle.std.proofs.lemmas.Int.{to_z-of_z}
+use Rattle.std.proofs.Common.{subst, sym, ap, refl, ◌∙◌, IfSome}
 use Rattle.std.proofs.lemmas.Result.{on_ok_weaker, on_err_weaker}
 use Rattle.std.specs.FinMap as map
 use Rattle.std.specs.Ordering.{nat_cmp}
@@ -8,19 +7,18 @@ use Rattle.std.specs.Option.{option_copied_mut, IsSome}
 use Rattle.std.specs.BTreeMap.{get_by}
 use Rattle.tc_code.specs.Code.{Code}
 use Rattle.tc_code.specs.Seen.{plain_instr}
-use Rattle.tc_code.specs.Step.{local_after}
 use Rattle.tc_machine.specs.helpers.CanDo.{CanDo}
 use Rattle.tc_machine.proofs.ByName.{get_of_entries, map_of_update, insert_same}
 use Rattle.tc_machine.proofs.threads.Threads.advance.Goals as goal
 use Rattle.tc_machine.proofs.threads.Threads.advance.Goals.{in-Some, in-None}
 
-pub advance-requires : goal.advance-requires
-advance-requires c =
+pub advance-requires-clause-can : goal.advance-requires-clause-can
+advance-requires-clause-can g c =
     let there = get_of_entries _ _ c.args.name.now c.self.view_is ∙ sym c.get_mut.ensures.value ∙ ap option_copied_mut c.in-Some.is in
-    subst (λ o. IfSome o (λ t. (code : Code) × CanDo code t.local (plain_instr c.args.instr.now))) there c.requires
+    subst (λ o. IfSome o (λ t. (code : Code) × CanDo code t.local (plain_instr c.args.instr.now))) there c.requires.can
 
 pub returns : goal.returns
-returns c = elim c.match-get_mut.branch [
+returns g c = elim c.match-get_mut.branch [
   | in-Some w ↦
       let there = get_of_entries _ _ c.args.name.now c.self.view_is ∙ sym c.get_mut.ensures.value ∙ ap option_copied_mut w.in-Some.is in
       let is_there : IsSome (get_by (slice_cmp nat_cmp c.args.name.now) c.self.inside.by_name) =
@@ -32,10 +30,7 @@ returns c = elim c.match-get_mut.branch [
       record {
         ok =
             rw (there, w.result-is, w.self-inside-is) (on_ok_weaker w.advance.result
-            (λ done. put ∙ ap (map.insert c.args.self.now c.args.name.now) done
-            ∙ ap (λ v. map.insert c.args.self.now c.args.name.now
-            (record w.in-Some.thread.now { local = local_after w.in-Some.thread.now.local (plain_instr c.args.instr.now) v }))
-            (to_z-of_z w32 c.args.taken c.ranges.taken)) w.advance.ensures.ok);
+            (λ done. put ∙ ap (map.insert c.args.self.now c.args.name.now) done) w.advance.ensures.ok);
         only = rw w.result-is w.advance.ensures.only;
         err =
             rw (w.result-is, w.self-inside-is) (on_err_weaker w.advance.result

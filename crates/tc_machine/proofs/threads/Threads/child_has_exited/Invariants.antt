@@ -5,4 +5,4 @@ use Rattle.tc_machine.proofs.ByName.{at_name}
 use Rattle.tc_machine.proofs.threads.Threads.child_has_exited.Given as goal
 
 abbrev pub invariant-loop-name : goal.invariant-loop-name
-invariant-loop-name l = map.get l.self (child l.parent l.number) ≡ at_name l.name-iterator (child l.parent l.number)
+invariant-loop-name g l = map.get l.self (child l.parent l.number) ≡ at_name l.name-iterator (child l.parent l.number)

@@ -3,4 +3,4 @@ use Rattle.tc_machine.proofs.ByName.{get_of_entries}
 use Rattle.tc_machine.proofs.threads.Threads.get.Goals as goal
 
 pub returns : goal.returns
-returns c = c.get.ensures.value ∙ sym (get_of_entries _ _ c.args.name.now c.self.view_is)
+returns g c = c.get.ensures.value ∙ sym (get_of_entries _ _ c.args.name.now c.self.view_is)

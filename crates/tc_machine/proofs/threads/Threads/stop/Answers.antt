@@ -9,12 +9,12 @@ use Rattle.tc_machine.proofs.threads.Threads.stop.Goals as goal
 use Rattle.tc_machine.proofs.threads.Threads.stop.Goals.{in-Some, in_default}
 
 pub count_step-requires : goal.count_step-requires
-count_step-requires c =
+count_step-requires g c =
     let there = get_of_entries _ _ c.args.name.now c.self.view_is ∙ sym c.get_mut.ensures.value ∙ ap option_copied_mut c.in-Some.is in
     subst (λ o. IfSome o (λ t. t.local.steps + 1 < 2 ^ 32)) there c.requires
 
 pub returns : goal.returns
-returns c = elim c.match-get_mut.branch [
+returns g c = elim c.match-get_mut.branch [
   | in-Some w ↦
       let there = get_of_entries _ _ c.args.name.now c.self.view_is ∙ sym c.get_mut.ensures.value ∙ ap option_copied_mut w.in-Some.is in
       let is_there : IsSome (get_by (slice_cmp nat_cmp c.args.name.now) c.self.inside.by_name) =
