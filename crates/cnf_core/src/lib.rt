@@ -1,0 +1,12 @@
+//! Clauses over numbered variables, what satisfies them, and the gates of a circuit as clauses.
+#![tactic(auto)]
+
+mod assignment;
+mod clause;
+mod cnf;
+mod lit;
+
+pub use assignment::{Assignment, satisfies};
+pub use clause::{Clause, is_clause};
+pub use cnf::{Cnf, LIMIT};
+pub use lit::Lit;
