@@ -1,13 +1,14 @@
 -- The pieces of a list, as a formula lies in memory.
 use Rattle.std.proofs.Common.{subst, add-one, ◌≡◌, ℕ, suc, zero, ◌+◌, ◌-◌, ◌<◌, ◌≤◌, List, [], ◌∷◌, ◌++◌, length, get_or, take, drop, ℤ, refl, ap, sym, ◌∙◌, arith, IsTrue, Bool, true, false, ◌&&◌}
 use Rattle.std.specs.List.{slice_range, list_all}
-use Rattle.std.proofs.lemmas.List.{take-append-le, drop-append-le}
+use Rattle.std.proofs.lemmas.List.{take-append-le, drop-append-le, take-append-drop}
 use Rattle.std.proofs.lemmas.List.Folds.{list_all-append}
 use Rattle.std.proofs.Common.{length-append, length-drop}
 use Rattle.std.proofs.Math.Seq.{drop-append_seam}
 use Rattle.std.specs.Prelude.{slice_get, Some}
-use Rattle.cnf_core.specs.Clauses.{limit, is_clause, is_within, Formula, Valuation, satisfies, clause_true}
-use Rattle.cnf_core.specs.Helpers.{pieces, EndAt, are_clauses, formula_of, IsLaidOut}
+use Rattle.cnf_core.specs.Clauses.{are_clauses, limit, is_clause, is_within, Formula, Valuation, satisfies, clause_true}
+use Rattle.std.specs.Borrow.{Bor}
+use Rattle.cnf_core.specs.Helpers.{pieces, EndAt, all_now, formula_of, IsLaidOut}
 use Rattle.cnf_core.specs.declared.cnf.Cnf.TheInside.{Inside}
 
 pub length-pieces : (from : ℕ) (es : List ℕ) (xs : List ℤ) → length (pieces from es xs) ≡ length es
@@ -150,3 +151,80 @@ satisfies-not v (d ∷ cs) (suc k) c h f = grind (arith, satisfies-not v cs k c)
 pub is_within-upto : (vars n : ℕ) (c : List ℤ) → vars ≤ n → IsTrue (is_within vars c) → IsTrue (is_within n c)
 is_within-upto vars n [] b h = refl
 is_within-upto vars n (l ∷ c) b h = grind (arith, is_within-upto vars n c)
+
+-- the first pieces
+pieces-take : (from : ℕ) (es : List ℕ) (xs : List ℤ) (n : ℕ) → pieces from (take n es) xs ≡ take n (pieces from es xs)
+pieces-take from es xs zero = refl
+pieces-take from [] xs (suc n) = refl
+pieces-take from (e ∷ es) xs (suc n) = ap (λ cs. slice_range xs from e ∷ cs) (pieces-take e es xs n)
+
+EndAt-take : (from : ℕ) (es : List ℕ) (total n : ℕ) → n ≤ length es → EndAt from es total → EndAt from (take n es) (get_or (from ∷ es) n 0)
+EndAt-take from es total zero b h = refl
+EndAt-take from [] total (suc n) b h = absurd (omega arith)
+EndAt-take from (e ∷ es) total (suc n) b h = (h.0, EndAt-take e es total n (omega arith) h.1)
+
+ends-le-total : (from : ℕ) (es : List ℕ) (total n : ℕ) → n ≤ length es → EndAt from es total → get_or (from ∷ es) n 0 ≤ total
+ends-le-total from es total zero b h = from-le-total from es total h
+ends-le-total from [] total (suc n) b h = absurd (omega arith)
+ends-le-total from (e ∷ es) total (suc n) b h = ends-le-total e es total n (omega arith) h.1
+
+pieces-append : (from : ℕ) (es : List ℕ) (xs ys : List ℤ) → EndAt from es (length xs) → pieces from es (xs ++ ys) ≡ pieces from es xs
+pieces-append from [] xs ys h = refl
+pieces-append from (e ∷ es) xs ys h =
+    let p : slice_range (xs ++ ys) from e ≡ slice_range xs from e = slice_range-append xs ys from e h.0 (from-le-total e es (length xs) h.1) in
+    let q : pieces e es (xs ++ ys) ≡ pieces e es xs = pieces-append e es xs ys h.1 in
+    cc
+
+length-taken : (xs : List ℤ) (n : ℕ) → n ≤ length xs → length (take n xs) ≡ n
+length-taken [] zero h = refl
+length-taken [] (suc n) h = absurd (omega arith)
+length-taken (x ∷ xs) zero h = refl
+length-taken (x ∷ xs) (suc n) h = ap suc (length-taken xs n (omega arith))
+
+length-take-le : (xs : List ℕ) (n : ℕ) → length (take n xs) ≤ length xs
+length-take-le xs zero = omega arith
+length-take-le [] (suc n) = omega arith
+length-take-le (x ∷ xs) (suc n) = omega (arith, length-take-le xs n)
+
+-- what is laid out once the last clauses are cut off
+pub IsLaidOut-take : (i : Inside) (f : Formula) (n vars : ℕ) (es : List ℕ) (xs : List ℤ) → formula_of i ≡ f → IsLaidOut i → n ≤ length f.clauses → es ≡ take n i.ends.items → xs ≡ take (get_or (0 ∷ i.ends.items) n 0) i.literals.items → IsTrue (are_clauses vars (take n f.clauses)) → (EndAt 0 es (length xs)) × (IsTrue (are_clauses vars (pieces 0 es xs))) × (length es < limit) × (pieces 0 es xs ≡ take n f.clauses)
+IsLaidOut-take i f n vars es xs is laid b e x good =
+    let old : List (List ℤ) = pieces 0 i.ends.items i.literals.items in
+    let cut : ℕ = get_or (0 ∷ i.ends.items) n 0 in
+    let same : old ≡ f.clauses = ap (λ (g : Formula). g.clauses) is in
+    let few : n ≤ length i.ends.items = omega (arith, ap length same, length-pieces 0 i.ends.items i.literals.items) in
+    let total : length xs ≡ cut = ap length x ∙ length-taken i.literals.items cut (ends-le-total 0 i.ends.items (length i.literals.items) n few laid.ends) in
+    let E : List ℕ → Type 0 = λ zs. EndAt 0 zs (length xs) in
+    let T : ℕ → Type 0 = λ k. EndAt 0 (take n i.ends.items) k in
+    let ends : EndAt 0 (take n i.ends.items) (length xs) = subst T (sym total) (EndAt-take 0 i.ends.items (length i.literals.items) n few laid.ends) in
+    let whole : xs ++ drop cut i.literals.items ≡ i.literals.items = ap (λ ys. ys ++ drop cut i.literals.items) x ∙ take-append-drop cut i.literals.items in
+    let now : pieces 0 es xs ≡ take n f.clauses =
+    ap (λ zs. pieces 0 zs xs) e
+    ∙ sym (pieces-append 0 (take n i.ends.items) xs (drop cut i.literals.items) ends)
+    ∙ ap (pieces 0 (take n i.ends.items)) whole
+    ∙ pieces-take 0 i.ends.items i.literals.items n
+    ∙ ap (take n) same
+    in
+    (subst E (sym e) ends, ap (are_clauses vars) now ∙ good, omega (arith, ap length e, length-take-le i.ends.items n, laid.few_clauses), now)
+
+-- for a list that begins with another
+pub take-first : (xs ys : List (List ℤ)) → take (length xs) (xs ++ ys) ≡ xs
+take-first [] ys = refl
+take-first (x ∷ xs) ys = ap (λ zs. x ∷ zs) (take-first xs ys)
+
+pub list_all-left : (p : List ℤ → Bool) (xs ys : List (List ℤ)) → list_all p (xs ++ ys) ≡ true → list_all p xs ≡ true
+list_all-left p xs ys h = and-left (list_all p xs) _ (sym (list_all-append p xs ys) ∙ h)
+
+-- a formula's clauses are clauses over its variables
+pub clauses_of_laid : (i : Inside) (f : Formula) → formula_of i ≡ f → IsLaidOut i → IsTrue (are_clauses f.vars f.clauses)
+clauses_of_laid i f is laid = let P : Formula → Type 0 = λ g. IsTrue (are_clauses g.vars g.clauses) in subst P is laid.clauses
+
+-- each of some lent clauses is one
+pub good-at : (n : ℕ) (cs : List (Bor (List ℤ))) (k : ℕ) (d : Bor (List ℤ)) → IsTrue (are_clauses n (all_now cs)) → k < length cs → (IsTrue (is_clause (get_or cs k d).now)) × IsTrue (is_within n (get_or cs k d).now)
+good-at n [] k d h b = absurd (omega arith)
+good-at n (c ∷ cs) zero d h b = let g : IsTrue (is_clause c.now && is_within n c.now) = and-left _ _ h in (and-left (is_clause c.now) _ g, and-right (is_clause c.now) _ g)
+good-at n (c ∷ cs) (suc k) d h b = good-at n cs k d (and-right (is_clause c.now && is_within n c.now) _ h) (omega arith)
+
+-- what is kept of a list of clauses that was added to
+pub clauses-kept : (n m k : ℕ) (old new : List (List ℤ)) → IsTrue (are_clauses n old) → take (length old) new ≡ old → m ≡ n → k ≡ length old → IsTrue (are_clauses m (take k new))
+clauses-kept n m k old new h t e l = ap (λ j. are_clauses j (take k new)) e ∙ ap (λ j. are_clauses n (take j new)) l ∙ ap (are_clauses n) t ∙ h

@@ -24,6 +24,10 @@ is_clause c = rises_above 0 c
 abbrev pub is_within : ℕ → List ℤ → Bool
 is_within vars c = list_all (λ l. nat_le (var_of l) vars) c
 
+-- each is a clause over the first `vars` variables
+abbrev pub are_clauses : ℕ → List (List ℤ) → Bool
+are_clauses vars cs = list_all (λ c. is_clause c && is_within vars c) cs
+
 -- clauses over the variables 1 to `vars`
 pub record Formula : Type 0 where
   pub vars : ℕ

@@ -1,7 +1,8 @@
 -- How a formula lies in memory; no promise speaks of these.
-use Rattle.std.specs.Prelude.{◌≡◌, ℕ, ◌≤◌, ◌<◌, IsTrue, Bool, ◌&&◌, List, [], ◌∷◌, ℤ, slice_range, length}
+use Rattle.std.specs.Prelude.{map, ◌≡◌, ℕ, ◌≤◌, ◌<◌, IsTrue, Bool, ◌&&◌, List, [], ◌∷◌, ℤ, slice_range, length}
 use Rattle.std.specs.List.{list_all}
-use Rattle.cnf_core.specs.Clauses.{limit, is_clause, is_within, Formula}
+use Rattle.std.specs.Borrow.{Bor}
+use Rattle.cnf_core.specs.Clauses.{limit, are_clauses, Formula}
 use Rattle.cnf_core.specs.declared.cnf.Cnf.TheInside.{Inside}
 
 -- the pieces of a list that end at these places, the first of them from `from` on
@@ -18,9 +19,9 @@ EndAt from (e ∷ es) total = (from ≤ e) × EndAt e es total
 abbrev pub formula_of : Inside → Formula
 formula_of c = record { vars = c.vars; clauses = pieces 0 c.ends.items c.literals.items }
 
--- each is a clause over these variables
-abbrev pub are_clauses : ℕ → List (List ℤ) → Bool
-are_clauses vars cs = list_all (λ c. is_clause c && is_within vars c) cs
+-- the lists that references to them give
+abbrev pub all_now : List (Bor (List ℤ)) → List (List ℤ)
+all_now cs = map (λ c. c.now) cs
 
 pub record IsLaidOut (c : Inside) : Type 0 where
   pub ends : EndAt 0 c.ends.items (length c.literals.items)

@@ -1,6 +1,6 @@
 //! Lists of clauses.
-ghost use Rattle.std.specs.Prelude.{◌≡◌, ℕ, ◌+◌, ◌<◌, ◌≤◌, ℤ, pos, List, [], ◌∷◌, ◌++◌, length, slice_get, slice_index, slice_range, ◌==◌, Some, IsTrue, OnOk, OnErr};
-ghost use Rattle.cnf_core.specs.Clauses.{limit, is_clause, is_within};
+ghost use Rattle.std.specs.Prelude.{◌≡◌, ℕ, ◌+◌, ◌<◌, ◌≤◌, ℤ, pos, List, [], ◌∷◌, ◌++◌, length, slice_get, slice_index, slice_range, ◌==◌, Some, IsTrue, OnOk, OnErr, IfOk, take, suc, ◌-◌};
+ghost use Rattle.cnf_core.specs.Clauses.{limit, is_clause, is_within, are_clauses};
 
 use crate::Lit;
 use std::alloc::{AllocError, Global};
@@ -31,9 +31,9 @@ impl Model for Cnf {
     ghost invariant = { IsLaidOut };
 }
 
-/// Where the piece at that place begins: at the end of the one before it.
+/// Where the piece at that place begins, or would begin: at the end of the one before it.
 fn start(ends: &[usize], place: usize) -> usize
-    requires { place < length ends.now }
+    requires { place ≤ length ends.now }
     ensures { result ≡ slice_index (0 ∷ ends.now) place }
 {
     if place == 0 { 0 } else { ends[place - 1] }
@@ -49,6 +49,8 @@ fn piece(literals: &[Lit], from: usize, to: usize) -> &[Lit]
 }
 
 impl Cnf {
+    ghost use Rattle.cnf_core.specs.Helpers.{all_now};
+
     /// No clauses over these variables.
     pub fn new(alloc: Global, vars: u32) -> Cnf
         requires { vars < limit }
@@ -73,6 +75,7 @@ impl Cnf {
     /// The number of clauses.
     pub fn len(&self) -> usize
         ensures len { result ≡ length self.now.clauses }
+        ensures clauses { IsTrue (are_clauses self.now.vars self.now.clauses) }
         ensures limit { result < limit }
     {
         self.ends.len()
@@ -119,5 +122,54 @@ impl Cnf {
         self.literals.extend_from_slice(clause)?;
         self.ends.push(self.literals.len())?;
         Ok(())
+    }
+
+    /// Clauses at the end; where there is no memory, maybe some of them.
+    fn push_all(&mut self, clauses: &[&[Lit]]) -> Result<(), AllocError>
+        requires clauses { IsTrue (are_clauses self.old.vars (all_now clauses.now)) }
+        requires room { length self.old.clauses + length clauses.now < limit }
+        ensures vars { self.new.vars ≡ self.old.vars }
+        ensures ok { OnOk result (self.new.clauses ≡ self.old.clauses ++ all_now clauses.now) }
+        ensures older { length self.old.clauses ≤ length self.new.clauses }
+        ensures kept { take (length self.old.clauses) self.new.clauses ≡ self.old.clauses }
+    {
+        for clause in clauses {
+            self.push(clause)?;
+        }
+        Ok(())
+    }
+
+    /// Without the last variable, and with the first clauses alone.
+    fn take_back(&mut self, len: usize)
+        requires vars { 0 < self.old.vars }
+        requires len { len ≤ length self.old.clauses }
+        requires clauses { IsTrue (are_clauses (self.old.vars - 1) (take len self.old.clauses)) }
+        ensures vars { self.new.vars ≡ self.old.vars - 1 }
+        ensures clauses { self.new.clauses ≡ take len self.old.clauses }
+    {
+        self.vars -= 1;
+        self.literals.truncate(start(&self.ends, len));
+        self.ends.truncate(len);
+    }
+
+    /// One variable more, and the clauses that define it: its literal.
+    pub(crate) fn define(&mut self, clauses: &[&[Lit]]) -> Result<Lit, AllocError>
+        requires vars { self.old.vars + 1 < limit }
+        requires clauses { IsTrue (are_clauses (suc self.old.vars) (all_now clauses.now)) }
+        requires room { length self.old.clauses + length clauses.now < limit }
+        ensures literal { IfOk result (λ lit. lit ≡ pos (suc self.old.vars)) }
+        ensures vars { OnOk result (self.new.vars ≡ suc self.old.vars) }
+        ensures clauses { OnOk result (self.new.clauses ≡ self.old.clauses ++ all_now clauses.now) }
+        ensures err { OnErr result (self.new ≡ self.old) }
+    {
+        let len = self.len();
+        let lit = self.add_variable();
+        match self.push_all(clauses) {
+            Ok(()) => Ok(lit),
+            Err(refused) => {
+                self.take_back(len);
+                Err(refused)
+            }
+        }
     }
 }
