@@ -5,6 +5,8 @@ use Rattle.std.specs.Option.{option_map_or}
 use Rattle.std.specs.Ordering.{nat_cmp, int_eq}
 use Rattle.std.specs.FinMap.{FinMap, empty, get, insert, remove}
 use Rattle.cnf_core.specs.Clauses.{Formula, is_within}
+use Rattle.refute_check.specs.Left.{by_left, what_is_left}
+use Rattle.refute_check.specs.Kept.{KeptClauses}
 use Rattle.refute_check.specs.declared.line.Line.{Line}
 use Rattle.refute_check.specs.declared.line.Line.TheVariants.{Add, Delete}
 use Rattle.refute_check.specs.declared.verdict.CheckFault.{CheckFault}
@@ -15,10 +17,6 @@ use Rattle.refute_check.specs.declared.verdict.Checked.TheVariants.{Closed, Open
 -- a derivation has at most so many lines
 abbrev pub line_limit : ℕ
 line_limit = 2000000000
-
--- the clauses that are kept, by their numbers
-abbrev pub Kept : Type 0
-Kept = FinMap nat_cmp (List ℤ)
 
 -- the list has no element
 abbrev pub is_nil : {A : Type 0} → List A → Bool
@@ -34,37 +32,26 @@ is_line (Delete ns) = not (is_nil ns)
 abbrev pub IsDerivation : List Line → Type 0
 IsDerivation lines = (length lines ≤ line_limit) × IsTrue (list_all is_line lines)
 
--- the literal is one of those
-abbrev pub is_among : List ℤ → ℤ → Bool
-is_among given l = list_any (int_eq l) given
-
--- the literals of a clause that aren't false where the given ones are true
-abbrev pub left : List ℤ → List ℤ → List ℤ
-left given c = filter (λ l. not (is_among given (neg_ℤ l))) c
-
--- what a clause does by the literals that are left of it: none is a conflict, one is to be true, more are of no use
-abbrev pub by_left : {A : Type 0} → List ℤ → A → (ℤ → A) → A → A
-by_left [] conflict one more = conflict
-by_left (l ∷ []) conflict one more = one l
-by_left (l ∷ m ∷ ls) conflict one more = more
-
 -- the first fault of hints in turn, for the line of that number, where the given literals are true
-abbrev pub hints_fault : ℕ → Kept → List ℤ → List ℕ → Option CheckFault
+abbrev pub hints_fault : ℕ → KeptClauses → List ℤ → List ℕ → Option CheckFault
 hints_fault n kept given [] = Some (NoConflict n)
 hints_fault n kept given (h ∷ hs) =
-    option_map_or (λ c. by_left (left given c) (if is_nil hs then None else Some (Hint n)) (λ l. hints_fault n kept (given ++ l ∷ []) hs) (Some (Hint n))) (get kept h) (Some (NoClause n))
+    option_map_or
+    (λ c. by_left (what_is_left given c) (if is_nil hs then None else Some (Hint n)) (λ l. hints_fault n kept (given ++ l ∷ []) hs) (Some (Hint n)))
+    (get kept h)
+    (Some (NoClause n))
 
 -- each number is kept at its turn, where they are taken out one after the other
-abbrev pub can_delete : Kept → List ℕ → Bool
+abbrev pub can_delete : KeptClauses → List ℕ → Bool
 can_delete kept [] = true
 can_delete kept (n ∷ ns) = is_some (get kept n) && can_delete (remove kept n) ns
 
 -- what is kept without those numbers
-abbrev pub without : Kept → List ℕ → Kept
+abbrev pub without : KeptClauses → List ℕ → KeptClauses
 without kept ns = fold remove kept ns
 
 -- the first fault of the line of that number, over that many variables and the kept clauses
-abbrev pub line_fault : ℕ → ℕ → Kept → Line → Option CheckFault
+abbrev pub line_fault : ℕ → ℕ → KeptClauses → Line → Option CheckFault
 line_fault n vars kept (Add lits hints) = if is_within vars lits then hints_fault n kept (map neg_ℤ lits) hints else Some (NoVariable n)
 line_fault n vars kept (Delete ns) = if can_delete kept ns then None else Some (NoClause n)
 
@@ -73,7 +60,7 @@ pub record Checking : Type 0 where
   -- the number of the last line, where the header is line 1
   pub line : ℕ
   pub vars : ℕ
-  pub kept : Kept
+  pub kept : KeptClauses
   -- the number of the next clause
   pub next : ℕ
   -- whether an empty clause was added
