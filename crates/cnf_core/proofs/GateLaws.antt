@@ -189,7 +189,8 @@ clauses_for-mean v n Xor a b ha hb = xor_clauses-mean v a b (pos (suc n)) ha hb 
 
 -- values that agree on the first variables give literals, clauses and lists over these the same value
 literal_true-agree : (n : ℕ) (v w : Valuation) (l : ℤ) → Agree n v w → var_of l ≤ n → literal_true v l ≡ literal_true w l
-literal_true-agree n v w (pos k) h b = h k b
+literal_true-agree n v w (pos zero) h b = refl
+literal_true-agree n v w (pos (suc k)) h b = h (suc k) b
 literal_true-agree n v w (negsuc k) h b = ap not (h (suc k) b)
 
 and-left : (a b : Bool) → (a && b) ≡ true → a ≡ true

@@ -1,5 +1,5 @@
 -- Literals, clauses, and what satisfies them.
-use Rattle.std.specs.Prelude.{ℕ, suc, ◌-◌, Bool, true, false, not, ◌&&◌, nat_lt, nat_le, IsTrue, List, [], ◌∷◌, ℤ, pos, negsuc, slice_index_or}
+use Rattle.std.specs.Prelude.{ℕ, zero, suc, ◌-◌, Bool, true, false, not, ◌&&◌, nat_lt, nat_le, IsTrue, List, [], ◌∷◌, ℤ, pos, negsuc, slice_index_or}
 use Rattle.std.specs.List.{list_any, list_all}
 
 -- there are fewer variables than this, and fewer clauses
@@ -37,9 +37,10 @@ pub record Formula : Type 0 where
 abbrev pub Valuation : Type 0
 Valuation = ℕ → Bool
 
--- the value of a literal
+-- the value of a literal; there is no variable 0
 abbrev pub literal_true : Valuation → ℤ → Bool
-literal_true v (pos n) = v n
+literal_true v (pos zero) = false
+literal_true v (pos (suc n)) = v (suc n)
 literal_true v (negsuc n) = not (v (suc n))
 
 -- a clause is true where one of its literals is

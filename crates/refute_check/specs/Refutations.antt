@@ -1,5 +1,5 @@
 -- Derivations, and what a checker makes of them line by line.
-use Rattle.std.specs.Prelude.{◌≡◌, ℕ, ◌+◌, ◌≤◌, Bool, true, false, not, ◌&&◌, ◌||◌, if◌then◌else◌, nat_eq, List, [], ◌∷◌, ◌++◌, map, length, ℤ, neg_ℤ, Option, Some, None, is_some, Result, Ok, Err, IsTrue}
+use Rattle.std.specs.Prelude.{◌≡◌, ℕ, ◌+◌, ◌≤◌, Bool, true, false, not, ◌&&◌, ◌||◌, if◌then◌else◌, nat_eq, List, [], ◌∷◌, ◌++◌, map, length, ℤ, neg_ℤ, Option, Some, None, is_some, IfSome, Result, Ok, Err, IsTrue}
 use Rattle.std.specs.List.{list_any, list_all, filter, fold}
 use Rattle.std.specs.Option.{option_map_or}
 use Rattle.std.specs.Ordering.{nat_cmp, int_eq}
@@ -50,9 +50,13 @@ can_delete kept (n ∷ ns) = is_some (get kept n) && can_delete (remove kept n) 
 abbrev pub without : KeptClauses → List ℕ → KeptClauses
 without kept ns = fold remove kept ns
 
--- the first fault of the line of that number, over that many variables and the kept clauses
+-- the first fault of the line of that number that adds a clause, over that many variables and the kept clauses
+abbrev pub clause_fault : ℕ → ℕ → KeptClauses → List ℤ → List ℕ → Option CheckFault
+clause_fault n vars kept lits hints = if is_within vars lits then hints_fault n kept (map neg_ℤ lits) hints else Some (NoVariable n)
+
+-- the first fault of the line of that number
 abbrev pub line_fault : ℕ → ℕ → KeptClauses → Line → Option CheckFault
-line_fault n vars kept (Add lits hints) = if is_within vars lits then hints_fault n kept (map neg_ℤ lits) hints else Some (NoVariable n)
+line_fault n vars kept (Add lits hints) = clause_fault n vars kept lits hints
 line_fault n vars kept (Delete ns) = if can_delete kept ns then None else Some (NoClause n)
 
 -- what a checker knows between two lines
@@ -72,19 +76,31 @@ pub record Checking : Type 0 where
 abbrev pub keep : Checking → List ℤ → Checking
 keep s c = record s { kept = insert s.kept s.next c; next = s.next + 1 }
 
+-- over that many variables, before any clause
+abbrev pub opening : ℕ → Checking
+opening vars = record { line = 1; vars = vars; kept = empty; next = 1; closed = false; fault = None }
+
 -- the clauses of a formula have the numbers 1, 2 and so on
 abbrev pub start : Formula → Checking
-start f = fold keep (record { line = 1; vars = f.vars; kept = empty; next = 1; closed = false; fault = None }) f.clauses
+start f = fold keep (opening f.vars) f.clauses
+
+-- what a line leaves that adds a clause and passes
+abbrev pub passed_clause : Checking → List ℤ → Checking
+passed_clause s lits = record (keep s lits) { line = s.line + 1; closed = s.closed || is_nil lits }
 
 -- what a line that passes leaves
 abbrev pub passed : Checking → Line → Checking
-passed s (Add lits hints) = record (keep s lits) { line = s.line + 1; closed = s.closed || is_nil lits }
+passed s (Add lits hints) = passed_clause s lits
 passed s (Delete ns) = record s { line = s.line + 1; kept = without s.kept ns }
 
--- what a line leaves whose first fault is the one given
+-- what a line with a fault leaves
+abbrev pub refused : CheckFault → Checking → Checking
+refused f s = record s { line = s.line + 1; kept = empty; fault = Some f }
+
+-- what a line leaves whose first fault is the one given, if any
 abbrev pub judged : Option CheckFault → Checking → Line → Checking
 judged None s l = passed s l
-judged (Some f) s l = record s { line = s.line + 1; kept = empty; fault = Some f }
+judged (Some f) s l = refused f s
 
 -- what a line leaves; after a fault, nothing changes any more
 abbrev pub after : Checking → Line → Checking
@@ -107,3 +123,7 @@ IsClosed f lines = check f lines ≡ Ok Closed
 
 abbrev pub IsOpen : Formula → List Line → Type 0
 IsOpen f lines = check f lines ≡ Ok Open
+
+-- each clause that is kept is over the first `vars` variables
+abbrev pub AreWithin : ℕ → KeptClauses → Type 0
+AreWithin vars kept = (n : ℕ) → IfSome (get kept n) (λ c. IsTrue (is_within vars c))

@@ -49,7 +49,7 @@ pub enum Left {
 }
 
 impl Given {
-    ghost use Rattle.refute_check.specs.Left.{what_is_left};
+    ghost use Rattle.refute_check.specs.Left.{what_is_left, those};
 
     /// No literals.
     pub fn new(alloc: Global, vars: u32) -> Result<Given, AllocError>
@@ -97,7 +97,8 @@ impl Given {
     /// What is left of a clause where these are true.
     pub fn left(&self, clause: &[Lit]) -> Left
         requires { IsTrue (is_within self.now.vars clause.now) }
-        ensures { result ≡ what_is_left self.now.literals clause.now }
+        ensures left { result ≡ what_is_left self.now.literals clause.now }
+        ensures within { IsTrue (is_within self.now.vars (those result)) }
     {
         let mut found = Left::Nothing;
         for lit in clause {

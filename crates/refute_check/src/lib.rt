@@ -1,12 +1,17 @@
 //! Refutations: what they are, their text, and a checker that takes them line by line.
 #![tactic(auto)]
 
+mod checker;
 mod given;
+mod hints;
 mod kept;
 mod line;
 mod verdict;
+mod whole;
 
+pub use checker::Checker;
 pub use given::{Given, Left};
 pub use kept::Kept;
 pub use line::{Derivation, LINES, Line, Numbers};
 pub use verdict::{CheckFault, Checked};
+pub use whole::{check, closed_means_unsatisfiable};
