@@ -6,3 +6,4 @@ pub mod Left
 pub mod Literals
 pub mod Numbers
 pub mod Refutations
+pub mod Texts

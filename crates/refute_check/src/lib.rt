@@ -3,15 +3,19 @@
 
 mod checker;
 mod given;
+mod head;
 mod hints;
 mod kept;
 mod line;
 mod verdict;
 mod whole;
+mod write;
 
 pub use checker::Checker;
 pub use given::{Given, Left};
+pub use head::Head;
 pub use kept::Kept;
 pub use line::{Derivation, LINES, Line, Numbers};
 pub use verdict::{CheckFault, Checked};
 pub use whole::{check, closed_means_unsatisfiable};
+pub use write::write_refutation;
