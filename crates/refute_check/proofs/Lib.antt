@@ -1,3 +1,4 @@
 pub mod KeptLemmas
 pub mod Checkings
 pub mod Sound
+pub mod Guesses

@@ -1,5 +1,6 @@
 pub mod Checkers
 pub mod Given
+pub mod Guess
 pub mod Kept
 pub mod Laws
 pub mod Left

@@ -1,6 +1,9 @@
 -- The text of a refutation.
-use Rattle.std.specs.Prelude.{◌≡◌, ℕ, ◌≤◌, List, [], ◌∷◌, ◌++◌, map, ℤ, pos, codes, Option, None, Some}
-use Rattle.std.specs.List.{flat_map}
+use Rattle.std.specs.Prelude.{◌≡◌, ℕ, ◌≤◌, List, [], ◌∷◌, ◌++◌, map, ℤ, pos, codes, Option, None, Some, Bool, true, not, ◌&&◌, nat_lt, IsTrue}
+use Rattle.std.specs.List.{flat_map, list_all}
+use Rattle.std.specs.Option.{option_map_or}
+use Rattle.cnf_core.specs.Clauses.{var_of, is_clause}
+use Rattle.refute_check.specs.Refutations.{is_nil}
 use Rattle.std.specs.Fmt.{decimal, signed_decimal}
 use Rattle.tc_base.specs.declared.model.Model.{Model}
 use Rattle.tc_base.specs.declared.model.Model.TheVariants.{Sc, Tso, Pso}
@@ -23,6 +26,10 @@ switches_text (Some k) = codes " switches " ++ decimal k
 abbrev pub head_text : Head → List ℕ
 head_text h = codes "clap-refutation 2 " ++ model_text h.model ++ switches_text h.switches
 
+-- the number of switches has 8 bits
+abbrev pub is_head : Head → Bool
+is_head h = option_map_or (λ k. nat_lt k 256) h.switches true
+
 -- numbers, each after a space
 abbrev pub numbers_text : List ℤ → List ℕ
 numbers_text ns = flat_map (λ n. codes " " ++ signed_decimal n) ns
@@ -39,3 +46,16 @@ ended bytes = bytes ++ 10 ∷ []
 -- the text of a refutation
 abbrev pub refutation_text : Head → List Line → List ℕ
 refutation_text h lines = ended (head_text h) ++ flat_map (λ l. ended (line_text l)) lines
+
+-- a line as the format allows it: a clause's literals rise by variable, numbers have 32 bits, and a line that deletes names a clause
+abbrev pub is_readable : Line → Bool
+is_readable (Add lits hints) = is_clause lits && list_all (λ l. nat_lt (var_of l) 2147483648) lits && list_all (λ n. nat_lt 0 n && nat_lt n 4294967296) hints
+is_readable (Delete ns) = not (is_nil ns) && list_all (λ n. nat_lt 0 n && nat_lt n 4294967296) ns
+
+-- the bytes are the text of no line
+abbrev pub IsNoLine : List ℕ → Type 0
+IsNoLine bytes = (l : Line) → IsTrue (is_readable l) → line_text l ≡ bytes → ⊥
+
+-- the bytes are the text of no first line
+abbrev pub IsNoHead : List ℕ → Type 0
+IsNoHead bytes = (h : Head) → IsTrue (is_head h) → head_text h ≡ bytes → ⊥

@@ -3,6 +3,7 @@
 
 mod checker;
 mod given;
+mod guess;
 mod head;
 mod hints;
 mod kept;
