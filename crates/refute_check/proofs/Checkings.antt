@@ -1,21 +1,21 @@
 -- What a checker's states keep.
-use Rattle.std.proofs.Common.{◌≡◌, ◌≢◌, ℕ, suc, zero, ◌+◌, ◌<◌, ◌≤◌, List, [], ◌∷◌, ◌++◌, ℤ, refl, ap, sym, ◌∙◌, subst, arith, Bool, true, false, cond, Option, Some, None, length, take, drop, add-one, Err}
-use Rattle.std.specs.Prelude.{nat_eq, is_some, IfSome, IsTrue, slice_get, if◌then◌else◌}
+use Rattle.std.proofs.Common.{◌≡◌, ◌≢◌, ℕ, suc, zero, ◌+◌, ◌≤◌, List, [], ◌∷◌, ◌++◌, ℤ, refl, ap, sym, ◌∙◌, subst, arith, Bool, true, false, cond, Option, Some, None, length, take, drop, add-one, Err}
+use Rattle.std.specs.Prelude.{is_some, IfSome, IsTrue, slice_get, if◌then◌else◌}
 use Rattle.std.specs.List.{fold}
 use Rattle.std.specs.Option.{option_map_or}
 use Rattle.std.specs.Ordering.{nat_cmp, eq_by_cmp}
 use Rattle.std.specs.Cmp.{nat_cmp_total}
-use Rattle.std.specs.FinMap.{FinMap, get, insert, remove, empty, get-insert, get-remove, get-empty}
+use Rattle.std.specs.FinMap.{get, insert, remove, empty, get-insert, get-remove, get-empty}
 use Rattle.cnf_core.specs.Clauses.{is_within}
 use Rattle.refute_check.specs.Kept.{KeptClauses}
 use Rattle.refute_check.specs.Left.{by_left, what_is_left}
-use Rattle.refute_check.specs.Refutations.{AreWithin, Checking, keep, opening, start, without, hints_fault, clause_fault, is_nil, after, judged, refused, passed_clause, line_fault, verdict, verdict_of}
+use Rattle.refute_check.specs.Refutations.{AreWithin, Checking, keep, without, hints_fault, clause_fault, is_nil, after, judged, refused, passed_clause, line_fault, verdict, verdict_of}
 use Rattle.refute_check.specs.declared.line.Line.TheVariants.{Add, Delete}
 use Rattle.refute_check.specs.declared.line.Line.{Line}
 use Rattle.refute_check.specs.declared.given.Left.{Left}
 use Rattle.refute_check.specs.declared.given.Left.TheVariants.{Nothing, One, More}
 use Rattle.refute_check.specs.declared.verdict.CheckFault.{CheckFault}
-use Rattle.refute_check.specs.declared.verdict.CheckFault.TheVariants.{NoVariable, NoClause, Hint, NoConflict, Memory}
+use Rattle.refute_check.specs.declared.verdict.CheckFault.TheVariants.{NoVariable, NoClause, Hint, Memory}
 
 if_chosen : (P : List ℤ → Type 0) (b : Bool) (c : Option (List ℤ)) (o : Option (List ℤ)) → IfSome c P → IfSome o P → IfSome (cond b c o) P
 if_chosen P true c o h k = h

@@ -1,13 +1,12 @@
 -- A hash map read as a finite map.
-use Rattle.std.proofs.Common.{◌≡◌, ℕ, List, [], ◌∷◌, ℤ, refl, ap, sym, ◌∙◌, arith, Bool, true, false, cond, Option, Some, None}
-use Rattle.std.specs.Prelude.{nat_eq, is_some}
+use Rattle.std.proofs.Common.{◌≡◌, ℕ, List, [], ◌∷◌, ℤ, refl, ap, sym, ◌∙◌, cond, Some, None}
+use Rattle.std.specs.Prelude.{nat_eq}
 use Rattle.std.specs.Map.{lookup}
 use Rattle.std.specs.Ordering.{nat_cmp, eq_by_cmp}
 use Rattle.std.specs.Bool.{one_answer}
 use Rattle.std.specs.Cmp.{nat_cmp_total, unsigned_tied}
-use Rattle.std.specs.FinMap.{FinMap, get, insert, remove, empty, from_entries, find, get-from_entries, get-insert, get-remove, same_map, nat_cmp-IsAntisymmetric}
-use borrow.Author.Tests.{eqb-true, eq-eqb, ne_eqb}
-use Rattle.refute_check.specs.Kept.{KeptClauses}
+use Rattle.std.specs.FinMap.{get, insert, remove, from_entries, find, get-from_entries, get-insert, get-remove, same_map, nat_cmp-IsAntisymmetric}
+use borrow.Author.Tests.{eqb-true, eq-eqb}
 
 find-lookup : (q : ℕ) (es : List (ℕ × List ℤ)) → find nat_cmp q es ≡ lookup (nat_eq q) es
 find-lookup q [] = refl

@@ -1,24 +1,23 @@
 -- A clause that a line adds is true wherever the kept clauses are.
-use Rattle.std.proofs.Common.{◌≡◌, ◌≢◌, ℕ, suc, zero, ◌+◌, List, [], ◌∷◌, ◌++◌, map, ℤ, pos, negsuc, neg_ℤ, refl, ap, sym, ◌∙◌, subst, arith, Bool, true, false, not, cond, Option, Some, None, Ok, inl, inr, ◌⊎◌}
-use Rattle.std.specs.Prelude.{◌||◌, ◌&&◌, is_some, IfSome, IsTrue, if◌then◌else◌}
-use Rattle.std.specs.List.{fold, list_any, filter}
+use Rattle.std.proofs.Common.{◌≡◌, ◌≢◌, ℕ, suc, zero, ◌+◌, List, [], ◌∷◌, ◌++◌, map, ℤ, pos, negsuc, neg_ℤ, refl, ap, sym, ◌∙◌, subst, Bool, true, false, not, cond, Option, Some, None, Ok, inl, inr, ◌⊎◌}
+use Rattle.std.specs.Prelude.{◌||◌, ◌&&◌, is_some, IfSome, if◌then◌else◌}
+use Rattle.std.specs.List.{fold}
 use Rattle.std.specs.Option.{option_map_or}
 use Rattle.std.specs.Ordering.{nat_cmp, int_eq, eq_by_cmp}
 use Rattle.std.specs.Cmp.{nat_cmp_total, signed_Decides}
 use Rattle.std.specs.FinMap.{get, insert, remove, empty, get-insert, get-remove, get-empty}
 use Rattle.std.proofs.lemmas.List.Folds.{list_any-append}
-use Rattle.cnf_core.specs.Clauses.{Formula, Valuation, literal_true, clause_true, satisfies, is_within, IsUnsatisfiable}
+use Rattle.cnf_core.specs.Clauses.{Valuation, literal_true, clause_true, satisfies, is_within}
 use Rattle.refute_check.specs.Kept.{KeptClauses}
 use Rattle.refute_check.specs.Literals.{is_among, left}
 use Rattle.refute_check.specs.Left.{by_left, what_is_left, counted}
-use Rattle.refute_check.specs.Refutations.{Checking, keep, opening, start, without, hints_fault, clause_fault, line_fault, can_delete, is_nil, after, judged, passed, refused, passed_clause, verdict_of, IsClosed}
+use Rattle.refute_check.specs.Refutations.{Checking, keep, opening, start, without, hints_fault, clause_fault, line_fault, is_nil, after, judged, verdict_of}
 use Rattle.refute_check.specs.Laws.{ClosedMeansUnsatisfiable}
 use Rattle.refute_check.specs.declared.line.Line.{Line}
 use Rattle.refute_check.specs.declared.line.Line.TheVariants.{Add, Delete}
 use Rattle.refute_check.specs.declared.verdict.CheckFault.{CheckFault}
-use Rattle.refute_check.specs.declared.verdict.CheckFault.TheVariants.{NoVariable, NoClause, Hint, NoConflict}
-use Rattle.refute_check.specs.declared.verdict.Checked.{Checked}
-use Rattle.refute_check.specs.declared.verdict.Checked.TheVariants.{Closed, Open}
+use Rattle.refute_check.specs.declared.verdict.CheckFault.TheVariants.{NoVariable, NoClause, Hint}
+use Rattle.refute_check.specs.declared.verdict.Checked.TheVariants.{Closed}
 
 -- each kept clause is true
 abbrev AreTrue : Valuation → KeptClauses → Type 0

@@ -1,10 +1,9 @@
 -- A checker as it lies in memory; no promise speaks of these.
-use Rattle.std.specs.Prelude.{◌≡◌, ◌≢◌, ℕ, ◌+◌, ◌<◌, ◌≤◌, List, [], ℤ, Option, None, Some, is_some, IsTrue, Bool, true, false}
+use Rattle.std.specs.Prelude.{◌≡◌, ◌≢◌, ◌+◌, ◌<◌, ◌≤◌, [], Some}
 use Rattle.cnf_core.specs.Clauses.{limit}
 use Rattle.refute_check.specs.Refutations.{Checking, AreWithin, line_limit}
 use Rattle.refute_check.specs.declared.checker.Checker.TheInside.{Inside}
-use Rattle.refute_check.specs.declared.verdict.CheckFault.{CheckFault}
-use Rattle.refute_check.specs.declared.verdict.CheckFault.TheVariants.{NoVariable, NoClause, Hint, NoConflict, Memory}
+use Rattle.refute_check.specs.declared.verdict.CheckFault.TheVariants.{Memory}
 
 -- the state that a checker is in
 abbrev pub checking_of : Inside → Checking

@@ -1,7 +1,5 @@
 -- The literals that a line's check takes as true, as the checker's memory holds them; no promise speaks of these.
-use Rattle.std.specs.Prelude.{◌≡◌, ℕ, suc, ◌+◌, ◌*◌, ◌<◌, ◌≤◌, Bool, false, IsTrue, List, [], ◌∷◌, ℤ, pos, negsuc, slice_index_or, length}
-use Rattle.std.specs.List.{list_any, list_all}
-use Rattle.std.specs.Ordering.{int_eq}
+use Rattle.std.specs.Prelude.{◌≡◌, ℕ, suc, ◌+◌, ◌*◌, ◌<◌, ◌≤◌, false, IsTrue, List, ℤ, pos, negsuc, slice_index_or, length}
 use Rattle.cnf_core.specs.Clauses.{var_of, is_within}
 use Rattle.refute_check.specs.Literals.{is_among}
 use Rattle.refute_check.specs.declared.given.Given.TheInside.{Inside}

@@ -6,5 +6,6 @@ pub mod Laws
 pub mod Left
 pub mod Literals
 pub mod Numbers
+pub mod Reading
 pub mod Refutations
 pub mod Texts

@@ -1,9 +1,8 @@
 -- Derivations, and what a checker makes of them line by line.
-use Rattle.std.specs.Prelude.{◌≡◌, ℕ, ◌+◌, ◌≤◌, Bool, true, false, not, ◌&&◌, ◌||◌, if◌then◌else◌, nat_eq, List, [], ◌∷◌, ◌++◌, map, length, ℤ, neg_ℤ, Option, Some, None, is_some, IfSome, Result, Ok, Err, IsTrue}
-use Rattle.std.specs.List.{list_any, list_all, filter, fold}
+use Rattle.std.specs.Prelude.{◌≡◌, ℕ, ◌+◌, ◌≤◌, Bool, true, false, not, ◌&&◌, ◌||◌, if◌then◌else◌, List, [], ◌∷◌, ◌++◌, map, length, ℤ, neg_ℤ, Option, Some, None, is_some, IfSome, Result, Ok, Err, IsTrue}
+use Rattle.std.specs.List.{list_all, fold}
 use Rattle.std.specs.Option.{option_map_or}
-use Rattle.std.specs.Ordering.{nat_cmp, int_eq}
-use Rattle.std.specs.FinMap.{FinMap, empty, get, insert, remove}
+use Rattle.std.specs.FinMap.{empty, get, insert, remove}
 use Rattle.cnf_core.specs.Clauses.{Formula, is_within}
 use Rattle.refute_check.specs.Left.{by_left, what_is_left}
 use Rattle.refute_check.specs.Kept.{KeptClauses}

@@ -1,5 +1,5 @@
 -- The text of a refutation.
-use Rattle.std.specs.Prelude.{◌≡◌, ℕ, ◌≤◌, List, [], ◌∷◌, ◌++◌, map, ℤ, pos, codes, Option, None, Some, Bool, true, not, ◌&&◌, nat_lt, IsTrue}
+use Rattle.std.specs.Prelude.{◌≡◌, ℕ, List, [], ◌∷◌, ◌++◌, map, ℤ, pos, codes, Option, None, Some, Bool, true, not, ◌&&◌, nat_lt, IsTrue}
 use Rattle.std.specs.List.{flat_map, list_all}
 use Rattle.std.specs.Option.{option_map_or}
 use Rattle.cnf_core.specs.Clauses.{var_of, is_clause}
@@ -59,3 +59,7 @@ IsNoLine bytes = (l : Line) → IsTrue (is_readable l) → line_text l ≡ bytes
 -- the bytes are the text of no first line
 abbrev pub IsNoHead : List ℕ → Type 0
 IsNoHead bytes = (h : Head) → IsTrue (is_head h) → head_text h ≡ bytes → ⊥
+
+-- the bytes are the text of no first line with that model
+abbrev pub IsNoHeadOf : Model → List ℕ → Type 0
+IsNoHeadOf m bytes = (s : Option ℕ) → option_map_or (λ k. nat_lt k 256) s true ≡ true → codes "clap-refutation 2 " ++ model_text m ++ switches_text s ≡ bytes → ⊥

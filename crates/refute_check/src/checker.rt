@@ -92,6 +92,13 @@ impl Checker {
         }
     }
 
+    /// The number of the last line, where the header is line 1. Up to [`LINES`] a further line may be added.
+    pub fn line(&self) -> u32
+        ensures { result ≡ self.now.line }
+    {
+        self.line
+    }
+
     /// What the lines so far show, or their first fault.
     pub fn verdict(&self) -> Result<Checked, CheckFault>
         ensures { result ≡ verdict self.now }

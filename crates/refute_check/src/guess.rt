@@ -34,7 +34,11 @@ fn number_of(size: u64, negative: bool) -> i64
     requires { size < 4294967296 }
     ensures { result ≡ number_of size negative }
 {
-    if negative { -(size as i64) } else { size as i64 }
+    if negative {
+        -(size as i64)
+    } else {
+        size as i64
+    }
 }
 
 /// The literals in front of some numbers.
@@ -91,7 +95,11 @@ fn clause_numbers_in(alloc: Global, numbers: &[i64]) -> Result<Vec<u32>, AllocEr
 fn rest(numbers: &[i64], count: usize) -> &[i64]
     ensures { result.now ≡ drop count numbers.now }
 {
-    if count <= numbers.len() { &numbers[count..] } else { &[] }
+    if count <= numbers.len() {
+        &numbers[count..]
+    } else {
+        &[]
+    }
 }
 
 /// The line that some bytes may be. No other line has them as its text.

@@ -11,26 +11,38 @@ use std::fmt::Write;
 use tc_base::Model;
 
 /// The text of a refutation. It is the one text that is read as this head and derivation.
-pub fn write_refutation(alloc: Global, head: Head, derivation: &Derivation) -> Result<Vec<u8>, AllocError>
+pub fn write_refutation(
+    alloc: Global,
+    head: Head,
+    derivation: &Derivation,
+) -> Result<Vec<u8>, AllocError>
     ensures { IfOk result (λ text. text.items ≡ refutation_text head derivation.now) }
 {
     let mut text = String::new(alloc);
     write_head(&mut text, head)?;
+    text.push_str("\n")?;
     for line in derivation.lines() {
-        write_line(&mut text, line)?;
+        write_ended(&mut text, line)?;
     }
     Ok(text.into_bytes())
 }
 
-fn write_head(text: &mut String, head: Head) -> Result<(), AllocError>
-    ensures { OnOk result (string_bytes text.new ≡ string_bytes text.old ++ ended (head_text head)) }
+/// The first line without its end.
+pub fn write_head(text: &mut String, head: Head) -> Result<(), AllocError>
+    ensures { OnOk result (string_bytes text.new ≡ string_bytes text.old ++ head_text head) }
 {
     text.push_str("clap-refutation 2 ")?;
     text.push_str(word_of(head.model))?;
-    if let Some(switches) = head.switches {
-        write!(text, " switches {switches}")?;
+    write_switches(text, head.switches)
+}
+
+fn write_switches(text: &mut String, switches: Option<u8>) -> Result<(), AllocError>
+    ensures { OnOk result (string_bytes text.new ≡ string_bytes text.old ++ switches_text switches) }
+{
+    match switches {
+        Some(switches) => write!(text, " switches {switches}"),
+        None => Ok(()),
     }
-    text.push_str("\n")
 }
 
 fn word_of(model: Model) -> &'static str
@@ -43,8 +55,16 @@ fn word_of(model: Model) -> &'static str
     }
 }
 
-fn write_line(text: &mut String, line: &Line) -> Result<(), AllocError>
+fn write_ended(text: &mut String, line: &Line) -> Result<(), AllocError>
     ensures { OnOk result (string_bytes text.new ≡ string_bytes text.old ++ ended (line_text line.now)) }
+{
+    write_line(text, line)?;
+    text.push_str("\n")
+}
+
+/// A line without its end.
+pub fn write_line(text: &mut String, line: &Line) -> Result<(), AllocError>
+    ensures { OnOk result (string_bytes text.new ≡ string_bytes text.old ++ line_text line.now) }
 {
     match line {
         Line::Add(clause, hints) => {
@@ -58,7 +78,7 @@ fn write_line(text: &mut String, line: &Line) -> Result<(), AllocError>
             write_numbers(text, numbers.as_slice())?;
         }
     }
-    text.push_str(" 0\n")
+    text.push_str(" 0")
 }
 
 fn write_literals(text: &mut String, literals: &[Lit]) -> Result<(), AllocError>

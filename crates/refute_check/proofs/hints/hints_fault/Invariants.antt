@@ -1,5 +1,5 @@
 use Rattle.std.proofs.Common.{◌≡◌, drop}
-use Rattle.refute_check.specs.Refutations.{hints_fault, AreWithin}
+use Rattle.refute_check.specs.Refutations.{hints_fault}
 use Rattle.refute_check.proofs.hints.hints_fault.Given as goal
 
 abbrev pub invariant-loop-place : goal.invariant-loop-place

@@ -1,4 +1,4 @@
-use Rattle.std.proofs.Common.{sym, subst, ap, arith, ◌∙◌, ◌≡◌, take, length, IsTrue}
+use Rattle.std.proofs.Common.{sym, subst, ap, arith, ◌∙◌, ◌≡◌, take, IsTrue}
 use Rattle.std.specs.List.{fold}
 use Rattle.cnf_core.specs.Clauses.{is_within}
 use Rattle.refute_check.specs.Refutations.{AreWithin, Checking, keep, opening}

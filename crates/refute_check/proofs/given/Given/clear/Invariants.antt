@@ -1,5 +1,5 @@
-use Rattle.std.proofs.Common.{◌≡◌, ◌+◌, ◌*◌, ◌<◌, ◌≤◌, ℕ, length, ℤ, true, false, get_or}
-use Rattle.std.specs.Prelude.{IsTrue, vec_len}
+use Rattle.std.proofs.Common.{◌≡◌, ◌+◌, ◌*◌, ◌<◌, ◌≤◌, length, ℤ, true, false, get_or}
+use Rattle.std.specs.Prelude.{IsTrue}
 use Rattle.cnf_core.specs.Clauses.{var_of, is_within}
 use Rattle.refute_check.specs.Literals.{is_among}
 use Rattle.refute_check.specs.Given.{place_of}

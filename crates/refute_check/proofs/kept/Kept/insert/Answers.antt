@@ -1,4 +1,4 @@
-use Rattle.std.proofs.Common.{sym, ap, ◌∙◌}
+use Rattle.std.proofs.Common.{ap, ◌∙◌}
 use Rattle.std.specs.FinMap.{insert}
 use Rattle.refute_check.proofs.KeptLemmas.{from_entries-insert}
 use Rattle.refute_check.proofs.kept.Kept.insert.Goals as goal
