@@ -4,7 +4,7 @@
 //! the laws say how such a buffer stands for a list of pending stores and bars, oldest first.
 #![tactic(auto)]
 
-ghost use Rattle.std.specs.Prelude.{◌≡◌, ℕ, Bool, true, IfOk, OnOk, OnErr};
+ghost use Rattle.std.specs.Prelude.{◌≡◌, ℕ, Bool, is_some, IfSome, IfNone, IfOk, OnOk, OnErr};
 ghost use Rattle.tc_base.specs.Buffers.{BufferOps};
 ghost use Rattle.tc_base.specs.declared.model.Model.{Model as SpecModel};
 ghost use Rattle.store_buffers.specs.Pending.{Binding};
@@ -53,9 +53,8 @@ pub trait MemoryModel {
     fn empty(alloc: Global) -> Self::Buffer
         ensures { result ≡ ops.empty };
 
-    /// Puts in a store.
+    /// Puts in a store. A model without buffers keeps none: there a store goes to memory, and none is to be put in.
     fn issue(buffer: &mut Self::Buffer, cell: u32, value: i32) -> Result<(), AllocError>
-        requires { BUFFERED ≡ true }
         ensures ok { OnOk result (buffer.new ≡ ops.issue buffer.old cell value) }
         ensures err { OnErr result (buffer.new ≡ buffer.old) };
 
@@ -71,12 +70,13 @@ pub trait MemoryModel {
     fn may_drain(buffer: &Self::Buffer, form: Option<u32>) -> bool
         ensures { result ≡ ops.may_drain buffer.now form };
 
-    /// Takes out the store that drains by this form: its cell and value.
-    fn drain(buffer: &mut Self::Buffer, form: Option<u32>) -> (u32, i32)
-        requires { ops.may_drain buffer.old form ≡ true }
-        ensures cell { result.0 ≡ (ops.drain buffer.old form).entry.cell }
-        ensures value { result.1 ≡ (ops.drain buffer.old form).entry.value }
-        ensures rest { buffer.new ≡ (ops.drain buffer.old form).rest };
+    /// Takes out the store that drains by this form, its cell and value, where one may drain.
+    fn drain(buffer: &mut Self::Buffer, form: Option<u32>) -> Option<(u32, i32)>
+        ensures may { is_some result ≡ ops.may_drain buffer.old form }
+        ensures cell { IfSome result (λ store. store.0 ≡ (ops.drain buffer.old form).entry.cell) }
+        ensures value { IfSome result (λ store. store.1 ≡ (ops.drain buffer.old form).entry.value) }
+        ensures rest { IfSome result (λ _. buffer.new ≡ (ops.drain buffer.old form).rest) }
+        ensures none { IfNone result (buffer.new ≡ buffer.old) };
 
     /// Puts in a bar: no store after it reaches memory before one that is there now.
     fn bar(buffer: &mut Self::Buffer) -> Result<(), AllocError>

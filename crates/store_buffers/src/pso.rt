@@ -56,11 +56,13 @@ impl MemoryModel for PsoModel {
         }
     }
 
-    fn drain(buffer: &mut Segments, form: Option<u32>) -> (u32, i32) {
-        match form {
-            Some(cell) => (cell, buffer.drain(cell).unwrap_or(0)),
-            None => (0, 0),
+    fn drain(buffer: &mut Segments, form: Option<u32>) -> Option<(u32, i32)> {
+        let cell = form?;
+        if !buffer.may_drain(cell) {
+            return None;
         }
+        let value = buffer.drain(cell)?;
+        Some((cell, value))
     }
 
     fn bar(buffer: &mut Segments) -> Result<(), AllocError> {

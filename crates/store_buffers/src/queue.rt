@@ -1,5 +1,5 @@
 //! One queue of stores.
-ghost use Rattle.std.specs.Prelude.{◌≡◌, ◌∷◌, [], ◌++◌, drop, slice_index_or, OnOk, OnErr, IfOk, IfSome, IfNone, option_map};
+ghost use Rattle.std.specs.Prelude.{◌≡◌, ◌∷◌, [], ◌++◌, drop, slice_index_or, OnOk, OnErr, IfOk, IfSome, IfNone, is_some, not, option_map};
 ghost use Rattle.tc_base.specs.Buffers.{newest, no_entry, is_nil};
 
 use std::alloc::{AllocError, Global};
@@ -71,7 +71,8 @@ impl Queue {
     pub(crate) fn pop(&mut self) -> Option<(u32, i32)>
         ensures cell { IfSome result (λ s. s.0 ≡ (slice_index_or self.old 0 no_entry).cell) }
         ensures value { IfSome result (λ s. s.1 ≡ (slice_index_or self.old 0 no_entry).value) }
-        ensures none { IfNone result (self.old ≡ []) }
+        ensures there { is_some result ≡ not (is_nil self.old) }
+        ensures none { IfNone result (self.new ≡ self.old) }
         ensures rest { self.new ≡ drop 1 self.old }
     {
         match self.stores.pop_front() {

@@ -50,8 +50,8 @@ impl MemoryModel for Sc {
         false
     }
 
-    fn drain(_buffer: &mut (), _form: Option<u32>) -> (u32, i32) {
-        (0, 0)
+    fn drain(_buffer: &mut (), _form: Option<u32>) -> Option<(u32, i32)> {
+        None
     }
 
     fn bar(_buffer: &mut ()) -> Result<(), AllocError> {

@@ -53,8 +53,11 @@ impl MemoryModel for TsoModel {
         form.is_none() && !buffer.is_empty()
     }
 
-    fn drain(buffer: &mut Queue, _form: Option<u32>) -> (u32, i32) {
-        buffer.pop().unwrap_or((0, 0))
+    fn drain(buffer: &mut Queue, form: Option<u32>) -> Option<(u32, i32)> {
+        match form {
+            Some(_) => None,
+            None => buffer.pop(),
+        }
     }
 
     fn bar(_buffer: &mut Queue) -> Result<(), AllocError> {

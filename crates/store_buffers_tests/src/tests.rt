@@ -37,11 +37,8 @@ fn comes<M: MemoryModel>(alloc: Global, buffer: &mut M::Buffer, act: Act) -> Res
         }
         Load(cell, value) => Ok(M::forward(buffer, cell) == value),
         Drain(form, taken) => {
-            if M::may_drain(buffer, form) {
-                let (cell, value) = M::drain(buffer, form);
-                return Ok(taken == Some((cell, value)));
-            }
-            Ok(taken.is_none())
+            let may = M::may_drain(buffer, form);
+            Ok(may == taken.is_some() && M::drain(buffer, form) == taken)
         }
         Empty(is) => Ok(M::is_empty(buffer) == is),
         Forms(count, first) => {
