@@ -1,17 +1,65 @@
 -- What satisfies the clauses of a gate, and of a block of gates.
-use Rattle.std.proofs.Common.{◌≡◌, ℕ, suc, zero, ◌+◌, ◌<◌, ◌≤◌, List, [], ◌∷◌, ◌++◌, length, ℤ, pos, negsuc, neg_ℤ, refl, ap, sym, ◌∙◌, subst, arith, Bool, true, false, not, cond, ◌≢◌, inl, inr, ◌⊎◌}
+use Rattle.std.proofs.Common.{
+  ◌≡◌,
+  ℕ,
+  suc,
+  zero,
+  ◌<◌,
+  ◌≤◌,
+  List,
+  [],
+  ◌∷◌,
+  ◌++◌,
+  ℤ,
+  pos,
+  negsuc,
+  neg_ℤ,
+  refl,
+  ap,
+  sym,
+  ◌∙◌,
+  arith,
+  Bool,
+  true,
+  false,
+  not,
+  inl,
+  inr,
+  ◌⊎◌,
+}
 use Rattle.std.proofs.lemmas.Bool.{cases_lt}
 use borrow.Author.Tests.{ltb-true, ltb-false, leb-true, lt-ltb, le-leb, ne_eqb, eq-eqb}
 use Rattle.cnf_core.specs.Clauses.{are_clauses}
 use Rattle.cnf_core.proofs.Pieces.{is_within-upto}
-use Rattle.std.specs.Prelude.{◌&&◌, ◌||◌, if◌then◌else◌, ◌==◌, nat_lt, nat_le, nat_eq, IsTrue}
-use Rattle.std.specs.List.{list_all, list_any, fold}
+use Rattle.std.specs.Prelude.{◌&&◌, ◌||◌, if◌then◌else◌, nat_lt, nat_le, nat_eq}
+use Rattle.std.specs.List.{list_all}
 use Rattle.std.specs.Ordering.{int_eq}
-use Rattle.std.specs.Bool.{Decides}
 use Rattle.std.specs.Cmp.{signed_Decides}
 use Rattle.std.proofs.lemmas.List.Folds.{list_all-append}
 use Rattle.cnf_core.specs.Clauses.{var_of, Formula, Valuation, literal_true, clause_true, satisfies, is_clause, is_within}
-use Rattle.cnf_core.specs.Gates.{gate_value, are_equal, is_both, is_one, by_pair, and_clauses, xor_clauses, Wired, clauses_for, gate_clauses, value_of, is_over, is_block, after_gate, after_gates, with_value, extended, IsOver, Agree, BlockKeeps, BlockDecides}
+use Rattle.cnf_core.specs.Gates.{
+  gate_value,
+  are_equal,
+  is_both,
+  is_one,
+  by_pair,
+  and_clauses,
+  xor_clauses,
+  Wired,
+  clauses_for,
+  gate_clauses,
+  value_of,
+  is_over,
+  is_block,
+  after_gate,
+  after_gates,
+  with_value,
+  extended,
+  IsOver,
+  Agree,
+  BlockKeeps,
+  BlockDecides,
+}
 use Rattle.cnf_core.specs.declared.gates.Gate.{Gate}
 use Rattle.cnf_core.specs.declared.gates.Gate.TheVariants.{And, Or, Xor}
 
@@ -51,7 +99,8 @@ both-values false true false = refl
 both-values false false true = refl
 both-values false false false = refl
 
-one-values : (p q x : Bool) → ((not p || (not q || (not x || false))) && ((p || (q || (not x || false))) && ((p || (not q || (x || false))) && ((not p || (q || (x || false))) && true)))) ≡ same x (if p then not q else q)
+one-values : (p q x : Bool) → ((not p || (not q || (not x || false)))
+    && ((p || (q || (not x || false))) && ((p || (not q || (x || false))) && ((not p || (q || (x || false))) && true)))) ≡ same x (if p then not q else q)
 one-values true true true = refl
 one-values true true false = refl
 one-values true false true = refl
@@ -69,11 +118,15 @@ are_equal-means v a out ha ho =
     ∙ ap (λ p. (not (literal_true v a) || (literal_true v out || false)) && ((literal_true v a || (p || false)) && true)) f
     ∙ equal-values (literal_true v a) (literal_true v out)
 
-is_both-means : (v : Valuation) (a b out : ℤ) → 0 < var_of a → 0 < var_of b → 0 < var_of out → satisfies v (is_both a b out) ≡ same (literal_true v out) (literal_true v a && literal_true v b)
-is_both-means v a b out ha hb ho = rw (literal_true-neg v a ha, literal_true-neg v b hb, literal_true-neg v out ho) (both-values (literal_true v a) (literal_true v b) (literal_true v out))
+is_both-means : (v : Valuation) (a b out : ℤ) → 0 < var_of a → 0 < var_of b → 0 < var_of out
+    → satisfies v (is_both a b out) ≡ same (literal_true v out) (literal_true v a && literal_true v b)
+is_both-means v a b out ha hb ho = rw (literal_true-neg v a ha, literal_true-neg v b hb, literal_true-neg v out ho)
+    (both-values (literal_true v a) (literal_true v b) (literal_true v out))
 
-is_one-means : (v : Valuation) (a b out : ℤ) → 0 < var_of a → 0 < var_of b → 0 < var_of out → satisfies v (is_one a b out) ≡ same (literal_true v out) (gate_value Xor (literal_true v a) (literal_true v b))
-is_one-means v a b out ha hb ho = rw (literal_true-neg v a ha, literal_true-neg v b hb, literal_true-neg v out ho) (one-values (literal_true v a) (literal_true v b) (literal_true v out))
+is_one-means : (v : Valuation) (a b out : ℤ) → 0 < var_of a → 0 < var_of b → 0 < var_of out
+    → satisfies v (is_one a b out) ≡ same (literal_true v out) (gate_value Xor (literal_true v a) (literal_true v b))
+is_one-means v a b out ha hb ho = rw (literal_true-neg v a ha, literal_true-neg v b hb, literal_true-neg v out ho)
+    (one-values (literal_true v a) (literal_true v b) (literal_true v out))
 
 pub int_eq-true : (a b : ℤ) → int_eq a b ≡ true → a ≡ b
 int_eq-true a b e = (signed_Decides a b).0 e
@@ -102,9 +155,12 @@ above a b h p q r =
       | inr e ↦ elim (one-var a b h (sym e)) [ inl s ↦ absurd (not-equal a b p s) | inr o ↦ absurd (not-equal a (neg_ℤ b) q o) ]
     ]
 
-by_pair-cases : {A : Type 0} (P : A → Type 0) (a b : ℤ) (s o r f : A) → 0 < var_of a → (a ≡ b → P s) → (a ≡ neg_ℤ b → P o) → (var_of a < var_of b → P r) → (var_of b < var_of a → P f) → P (by_pair a b s o r f)
+by_pair-cases : {A : Type 0} (P : A → Type 0) (a b : ℤ) (s o r f : A) → 0 < var_of a → (a ≡ b → P s) → (a ≡ neg_ℤ b → P o)
+    → (var_of a < var_of b → P r) → (var_of b < var_of a → P f) → P (by_pair a b s o r f)
 by_pair-cases P a b s o r f h hs ho hr hf =
-    choose P (int_eq a b) s _ (λ e. hs (int_eq-true a b e)) (λ p. choose P (int_eq a (neg_ℤ b)) o _ (λ e. ho (int_eq-true a (neg_ℤ b) e)) (λ q. choose P (nat_lt (var_of a) (var_of b)) r f (λ e. hr (ltb-true (var_of a) (var_of b) e)) (λ e. hf (above a b h p q e))))
+    choose P (int_eq a b) s _ (λ e. hs (int_eq-true a b e))
+    (λ p. choose P (int_eq a (neg_ℤ b)) o _ (λ e. ho (int_eq-true a (neg_ℤ b) e))
+    (λ q. choose P (nat_lt (var_of a) (var_of b)) r f (λ e. hr (ltb-true (var_of a) (var_of b) e)) (λ e. hf (above a b h p q e))))
 
 and-itself : (p : Bool) → p && p ≡ p
 and-itself true = refl
@@ -128,13 +184,15 @@ unit-true : (x : Bool) → ((x || false) && true) ≡ same x true
 unit-true true = refl
 unit-true false = refl
 
-and_clauses-mean : (v : Valuation) (a b out : ℤ) → 0 < var_of a → 0 < var_of b → 0 < var_of out → satisfies v (and_clauses a b out) ≡ same (literal_true v out) (literal_true v a && literal_true v b)
+and_clauses-mean : (v : Valuation) (a b out : ℤ) → 0 < var_of a → 0 < var_of b → 0 < var_of out
+    → satisfies v (and_clauses a b out) ≡ same (literal_true v out) (literal_true v a && literal_true v b)
 and_clauses-mean v a b out ha hb ho =
     let P : List (List ℤ) → Type 0 = λ cs. satisfies v cs ≡ same (literal_true v out) (literal_true v a && literal_true v b) in
     let x : Bool = literal_true v out in
     by_pair-cases P a b _ _ _ _ ha
     (λ e. are_equal-means v a out ha ho ∙ ap (same x) (sym (and-itself (literal_true v a)) ∙ ap (λ l. literal_true v a && literal_true v l) e))
-    (λ e. ap (λ p. (p || false) && true) (literal_true-neg v out ho) ∙ unit-values x ∙ ap (same x) (sym (and-opposite (literal_true v b)) ∙ ap (λ p. p && literal_true v b) (sym (literal_true-neg v b hb) ∙ ap (literal_true v) (sym e))))
+    (λ e. ap (λ p. (p || false) && true) (literal_true-neg v out ho) ∙ unit-values x
+    ∙ ap (same x) (sym (and-opposite (literal_true v b)) ∙ ap (λ p. p && literal_true v b) (sym (literal_true-neg v b hb) ∙ ap (literal_true v) (sym e))))
     (λ _. is_both-means v a b out ha hb ho)
     (λ _. is_both-means v b a out hb ha ho ∙ ap (same x) (and-swap (literal_true v a) (literal_true v b)))
 
@@ -152,13 +210,16 @@ xor-swap true false = refl
 xor-swap false true = refl
 xor-swap false false = refl
 
-xor_clauses-mean : (v : Valuation) (a b out : ℤ) → 0 < var_of a → 0 < var_of b → 0 < var_of out → satisfies v (xor_clauses a b out) ≡ same (literal_true v out) (gate_value Xor (literal_true v a) (literal_true v b))
+xor_clauses-mean : (v : Valuation) (a b out : ℤ) → 0 < var_of a → 0 < var_of b → 0 < var_of out
+    → satisfies v (xor_clauses a b out) ≡ same (literal_true v out) (gate_value Xor (literal_true v a) (literal_true v b))
 xor_clauses-mean v a b out ha hb ho =
     let P : List (List ℤ) → Type 0 = λ cs. satisfies v cs ≡ same (literal_true v out) (gate_value Xor (literal_true v a) (literal_true v b)) in
     let x : Bool = literal_true v out in
     by_pair-cases P a b _ _ _ _ ha
-    (λ e. ap (λ p. (p || false) && true) (literal_true-neg v out ho) ∙ unit-values x ∙ ap (same x) (sym (xor-itself (literal_true v a)) ∙ ap (λ l. gate_value Xor (literal_true v a) (literal_true v l)) e))
-    (λ e. unit-true x ∙ ap (same x) (sym (xor-opposite (literal_true v b)) ∙ ap (λ p. gate_value Xor p (literal_true v b)) (sym (literal_true-neg v b hb) ∙ ap (literal_true v) (sym e))))
+    (λ e. ap (λ p. (p || false) && true) (literal_true-neg v out ho) ∙ unit-values x
+    ∙ ap (same x) (sym (xor-itself (literal_true v a)) ∙ ap (λ l. gate_value Xor (literal_true v a) (literal_true v l)) e))
+    (λ e. unit-true x ∙ ap (same x) (sym (xor-opposite (literal_true v b))
+    ∙ ap (λ p. gate_value Xor p (literal_true v b)) (sym (literal_true-neg v b hb) ∙ ap (literal_true v) (sym e))))
     (λ _. is_one-means v a b out ha hb ho)
     (λ _. is_one-means v b a out hb ha ho ∙ ap (same x) (xor-swap (literal_true v a) (literal_true v b)))
 
@@ -178,7 +239,8 @@ or-values false false true = refl
 or-values false false false = refl
 
 -- the clauses of a gate are satisfied exactly where its variable has its value
-clauses_for-mean : (v : Valuation) (n : ℕ) (g : Gate) (a b : ℤ) → 0 < var_of a → 0 < var_of b → satisfies v (clauses_for n g a b) ≡ same (v (suc n)) (gate_value g (literal_true v a) (literal_true v b))
+clauses_for-mean : (v : Valuation) (n : ℕ) (g : Gate) (a b : ℤ) → 0 < var_of a → 0 < var_of b
+    → satisfies v (clauses_for n g a b) ≡ same (v (suc n)) (gate_value g (literal_true v a) (literal_true v b))
 clauses_for-mean v n And a b ha hb = and_clauses-mean v a b (pos (suc n)) ha hb (omega arith)
 clauses_for-mean v n Or a b ha hb =
     and_clauses-mean v (neg_ℤ a) (neg_ℤ b) (negsuc n) (omega (arith, var_of-neg a)) (omega (arith, var_of-neg b)) (omega arith)
@@ -249,20 +311,25 @@ are_clauses-are_equal n a out p q r =
     and-true _ _ (good-two n (neg_ℤ a) out (omega (arith, var_of-neg a)) (omega (arith, var_of-neg a)) r)
     (and-true _ true (good-two n a (neg_ℤ out) p (omega (arith, var_of-neg out)) (omega (arith, var_of-neg out))) refl)
 
-pub are_clauses-is_both : (n : ℕ) (a b out : ℤ) → 0 < var_of a → var_of a < var_of b → var_of b < var_of out → var_of out ≤ n → are_clauses n (is_both a b out) ≡ true
+pub are_clauses-is_both : (n : ℕ) (a b out : ℤ) → 0 < var_of a → var_of a < var_of b → var_of b < var_of out → var_of out ≤ n
+    → are_clauses n (is_both a b out) ≡ true
 are_clauses-is_both n a b out p q s r =
-    and-true _ _ (good-three n (neg_ℤ a) (neg_ℤ b) out (omega (arith, var_of-neg a)) (omega (arith, var_of-neg a, var_of-neg b)) (omega (arith, var_of-neg b)) r)
+    and-true _ _ (good-three n (neg_ℤ a) (neg_ℤ b) out (omega (arith, var_of-neg a)) (omega (arith, var_of-neg a, var_of-neg b))
+    (omega (arith, var_of-neg b)) r)
     (and-true _ _ (good-two n a (neg_ℤ out) p (omega (arith, var_of-neg out)) (omega (arith, var_of-neg out)))
     (and-true _ true (good-two n b (neg_ℤ out) (omega arith) (omega (arith, var_of-neg out)) (omega (arith, var_of-neg out))) refl))
 
-pub are_clauses-is_one : (n : ℕ) (a b out : ℤ) → 0 < var_of a → var_of a < var_of b → var_of b < var_of out → var_of out ≤ n → are_clauses n (is_one a b out) ≡ true
+pub are_clauses-is_one : (n : ℕ) (a b out : ℤ) → 0 < var_of a → var_of a < var_of b → var_of b < var_of out → var_of out ≤ n
+    → are_clauses n (is_one a b out) ≡ true
 are_clauses-is_one n a b out p q s r =
-    and-true _ _ (good-three n (neg_ℤ a) (neg_ℤ b) (neg_ℤ out) (omega (arith, var_of-neg a)) (omega (arith, var_of-neg a, var_of-neg b)) (omega (arith, var_of-neg b, var_of-neg out)) (omega (arith, var_of-neg out)))
+    and-true _ _ (good-three n (neg_ℤ a) (neg_ℤ b) (neg_ℤ out) (omega (arith, var_of-neg a)) (omega (arith, var_of-neg a, var_of-neg b))
+    (omega (arith, var_of-neg b, var_of-neg out)) (omega (arith, var_of-neg out)))
     (and-true _ _ (good-three n a b (neg_ℤ out) p q (omega (arith, var_of-neg out)) (omega (arith, var_of-neg out)))
     (and-true _ _ (good-three n a (neg_ℤ b) out p (omega (arith, var_of-neg b)) (omega (arith, var_of-neg b)) r)
     (and-true _ true (good-three n (neg_ℤ a) b out (omega (arith, var_of-neg a)) (omega (arith, var_of-neg a)) s r) refl)))
 
-pub are_clauses-and : (n : ℕ) (a b out : ℤ) → 0 < var_of a → 0 < var_of b → var_of a < var_of out → var_of b < var_of out → var_of out ≤ n → are_clauses n (and_clauses a b out) ≡ true
+pub are_clauses-and : (n : ℕ) (a b out : ℤ) → 0 < var_of a → 0 < var_of b → var_of a < var_of out → var_of b < var_of out → var_of out ≤ n
+    → are_clauses n (and_clauses a b out) ≡ true
 are_clauses-and n a b out p q s t r =
     let P : List (List ℤ) → Type 0 = λ cs. are_clauses n cs ≡ true in
     by_pair-cases P a b _ _ _ _ p
@@ -271,7 +338,8 @@ are_clauses-and n a b out p q s t r =
     (λ l. are_clauses-is_both n a b out p l t r)
     (λ l. are_clauses-is_both n b a out q l s r)
 
-pub are_clauses-xor : (n : ℕ) (a b out : ℤ) → 0 < var_of a → 0 < var_of b → var_of a < var_of out → var_of b < var_of out → var_of out ≤ n → are_clauses n (xor_clauses a b out) ≡ true
+pub are_clauses-xor : (n : ℕ) (a b out : ℤ) → 0 < var_of a → 0 < var_of b → var_of a < var_of out → var_of b < var_of out → var_of out ≤ n
+    → are_clauses n (xor_clauses a b out) ≡ true
 are_clauses-xor n a b out p q s t r =
     let P : List (List ℤ) → Type 0 = λ cs. are_clauses n cs ≡ true in
     by_pair-cases P a b _ _ _ _ p
@@ -283,7 +351,8 @@ are_clauses-xor n a b out p q s t r =
 are_clauses-for : (n : ℕ) (g : Gate) (a b : ℤ) → 0 < var_of a → 0 < var_of b → var_of a ≤ n → var_of b ≤ n → are_clauses (suc n) (clauses_for n g a b) ≡ true
 are_clauses-for n And a b p q s t = are_clauses-and (suc n) a b (pos (suc n)) p q (omega arith) (omega arith) (omega arith)
 are_clauses-for n Or a b p q s t =
-    are_clauses-and (suc n) (neg_ℤ a) (neg_ℤ b) (negsuc n) (omega (arith, var_of-neg a)) (omega (arith, var_of-neg b)) (omega (arith, var_of-neg a)) (omega (arith, var_of-neg b)) (omega arith)
+    are_clauses-and (suc n) (neg_ℤ a) (neg_ℤ b) (negsuc n) (omega (arith, var_of-neg a)) (omega (arith, var_of-neg b)) (omega (arith, var_of-neg a))
+    (omega (arith, var_of-neg b)) (omega arith)
 are_clauses-for n Xor a b p q s t = are_clauses-xor (suc n) a b (pos (suc n)) p q (omega arith) (omega arith) (omega arith)
 
 within-clauses : (n : ℕ) (cs : List (List ℤ)) → are_clauses n cs ≡ true → list_all (is_within n) cs ≡ true
@@ -292,7 +361,8 @@ within-clauses n (c ∷ cs) h = and-true _ _ (and-right (is_clause c) _ (and-lef
 
 within-more : (n : ℕ) (cs : List (List ℤ)) → list_all (is_within n) cs ≡ true → list_all (is_within (suc n)) cs ≡ true
 within-more n [] h = refl
-within-more n (c ∷ cs) h = and-true _ _ (is_within-upto n (suc n) c (omega arith) (and-left (is_within n c) _ h)) (within-more n cs (and-right (is_within n c) _ h))
+within-more n (c ∷ cs) h = and-true _ _ (is_within-upto n (suc n) c (omega arith) (and-left (is_within n c) _ h))
+    (within-more n cs (and-right (is_within n c) _ h))
 
 -- the parts of a gate's being over the first variables
 pub record IsGateOver (n : ℕ) (g : Wired) : Type 0 where
@@ -319,7 +389,8 @@ gate-means v n g o = clauses_for-mean v n g.gate g.first g.second o.first-positi
 IsOver-gate : (f : Formula) (g : Wired) → IsGateOver f.vars g → IsOver f → IsOver (after_gate f g)
 IsOver-gate f g o h =
     list_all-append (is_within (suc f.vars)) f.clauses (gate_clauses f.vars g)
-    ∙ and-true _ _ (within-more f.vars f.clauses h) (within-clauses (suc f.vars) (gate_clauses f.vars g) (are_clauses-for f.vars g.gate g.first g.second o.first-positive o.second-positive o.first-within o.second-within))
+    ∙ and-true _ _ (within-more f.vars f.clauses h) (within-clauses (suc f.vars) (gate_clauses f.vars g)
+    (are_clauses-for f.vars g.gate g.first g.second o.first-positive o.second-positive o.first-within o.second-within))
 
 same-itself : (b : Bool) → same b b ≡ true
 same-itself true = refl
@@ -337,7 +408,8 @@ value_of-agree v w n g o h =
     let f : literal_true v g.second ≡ literal_true w g.second = literal_true-agree n v w g.second h o.second-within in
     ap (λ p. gate_value g.gate p (literal_true v g.second)) e ∙ ap (gate_value g.gate (literal_true w g.first)) f
 
-pub gate-keeps : (f : Formula) (g : Wired) (v : Valuation) → IsGateOver f.vars g → IsOver f → satisfies v f.clauses ≡ true → satisfies (with_value v (suc f.vars) (value_of v g)) (after_gate f g).clauses ≡ true
+pub gate-keeps : (f : Formula) (g : Wired) (v : Valuation) → IsGateOver f.vars g → IsOver f → satisfies v f.clauses ≡ true
+    → satisfies (with_value v (suc f.vars) (value_of v g)) (after_gate f g).clauses ≡ true
 gate-keeps f g v o h s =
     let w : Valuation = with_value v (suc f.vars) (value_of v g) in
     let a : Agree f.vars v w = with_value-other v f.vars (value_of v g) in
@@ -373,7 +445,8 @@ block-after f (g ∷ gs) w s =
 
 pub gate-decides : (f : Formula) (g : Wired) (w : Valuation) → IsGateOver f.vars g → satisfies w (after_gate f g).clauses ≡ true → w (suc f.vars) ≡ value_of w g
 gate-decides f g w o s =
-    let both : (satisfies w f.clauses && satisfies w (gate_clauses f.vars g)) ≡ true = sym (list_all-append (clause_true w) f.clauses (gate_clauses f.vars g)) ∙ s in
+    let both : (satisfies w f.clauses && satisfies w (gate_clauses f.vars g)) ≡ true =
+    sym (list_all-append (clause_true w) f.clauses (gate_clauses f.vars g)) ∙ s in
     same-true _ _ (sym (gate-means w f.vars g o) ∙ and-right (satisfies w f.clauses) _ both)
 
 Agree-more : (n : ℕ) (v w : Valuation) → Agree n v w → v (suc n) ≡ w (suc n) → Agree (suc n) v w
@@ -386,7 +459,8 @@ block-decides f (g ∷ gs) v w h o s a =
     let rest : is_block (suc f.vars) gs ≡ true = and-right (is_over f.vars g.first && is_over f.vars g.second) _ o in
     let u : Valuation = with_value v (suc f.vars) (value_of v g) in
     let one : satisfies w (after_gate f g).clauses ≡ true = block-after (after_gate f g) gs w s in
-    let here : u (suc f.vars) ≡ w (suc f.vars) = with_value-here v f.vars (value_of v g) ∙ value_of-agree v w f.vars g over a ∙ sym (gate-decides f g w over one) in
+    let here : u (suc f.vars) ≡ w (suc f.vars) = with_value-here v f.vars (value_of v g) ∙ value_of-agree v w f.vars g over a
+    ∙ sym (gate-decides f g w over one) in
     let low : Agree f.vars u w = λ k b. sym (with_value-other v f.vars (value_of v g) k b) ∙ a k b in
     let r = block-decides (after_gate f g) gs u w (IsOver-gate f g over h) rest s (Agree-more f.vars u w low here) in
     (block-after f (g ∷ gs) w s, λ k b. r.1 k (omega (arith, b)))

@@ -1,5 +1,35 @@
 -- The pieces of a list, as a formula lies in memory.
-use Rattle.std.proofs.Common.{subst, add-one, ◌≡◌, ℕ, suc, zero, ◌+◌, ◌-◌, ◌<◌, ◌≤◌, List, [], ◌∷◌, ◌++◌, length, get_or, take, drop, ℤ, refl, ap, sym, ◌∙◌, arith, IsTrue, Bool, true, false, ◌&&◌}
+use Rattle.std.proofs.Common.{
+  subst,
+  add-one,
+  ◌≡◌,
+  ℕ,
+  suc,
+  zero,
+  ◌+◌,
+  ◌-◌,
+  ◌<◌,
+  ◌≤◌,
+  List,
+  [],
+  ◌∷◌,
+  ◌++◌,
+  length,
+  get_or,
+  take,
+  drop,
+  ℤ,
+  refl,
+  ap,
+  sym,
+  ◌∙◌,
+  arith,
+  IsTrue,
+  Bool,
+  true,
+  false,
+  ◌&&◌,
+}
 use Rattle.std.specs.List.{slice_range, list_all}
 use Rattle.std.proofs.lemmas.List.{take-append-le, drop-append-le, take-append-drop}
 use Rattle.std.proofs.lemmas.List.Folds.{list_all-append}
@@ -15,7 +45,8 @@ pub length-pieces : (from : ℕ) (es : List ℕ) (xs : List ℤ) → length (pie
 length-pieces from [] xs = refl
 length-pieces from (e ∷ es) xs = ap suc (length-pieces e es xs)
 
-pub get_or-pieces : (from : ℕ) (es : List ℕ) (xs : List ℤ) (k : ℕ) (d : List ℤ) → k < length es → get_or (pieces from es xs) k d ≡ slice_range xs (get_or (from ∷ es) k 0) (get_or es k 0)
+pub get_or-pieces : (from : ℕ) (es : List ℕ) (xs : List ℤ) (k : ℕ) (d : List ℤ) → k < length es
+    → get_or (pieces from es xs) k d ≡ slice_range xs (get_or (from ∷ es) k 0) (get_or es k 0)
 get_or-pieces from [] xs k d h = absurd (omega arith)
 get_or-pieces from (e ∷ es) xs zero d h = refl
 get_or-pieces from (e ∷ es) xs (suc k) d h = get_or-pieces e es xs k d (omega arith)
@@ -25,7 +56,8 @@ from-le-total from [] total h = omega (arith, h)
 from-le-total from (e ∷ es) total h = omega (arith, h.0, from-le-total e es total h.1)
 
 -- a piece begins before it ends, and ends in the list
-pub pieces_lie : (from : ℕ) (es : List ℕ) (total : ℕ) (k : ℕ) → EndAt from es total → k < length es → (get_or (from ∷ es) k 0 ≤ get_or es k 0) × (get_or es k 0 ≤ total)
+pub pieces_lie : (from : ℕ) (es : List ℕ) (total : ℕ) (k : ℕ) → EndAt from es total → k < length es → (get_or (from ∷ es) k 0 ≤ get_or es k 0)
+    × (get_or es k 0 ≤ total)
 pieces_lie from [] total k h b = absurd (omega arith)
 pieces_lie from (e ∷ es) total zero h b = (h.0, from-le-total e es total h.1)
 pieces_lie from (e ∷ es) total (suc k) h b = pieces_lie e es total k h.1 (omega arith)
@@ -37,7 +69,8 @@ EndAt-push from (e ∷ es) total more h = (h.0, EndAt-push e es total more h.1)
 slice_range-append : (xs ys : List ℤ) (from to : ℕ) → from ≤ to → to ≤ length xs → slice_range (xs ++ ys) from to ≡ slice_range xs from to
 slice_range-append xs ys from to h b =
     let e : drop from (xs ++ ys) ≡ drop from xs ++ ys = drop-append-le from xs ys (omega arith) in
-    let f : take (to - from) (drop from xs ++ ys) ≡ take (to - from) (drop from xs) = take-append-le (to - from) (drop from xs) ys (omega (arith, length-drop from xs)) in
+    let f : take (to - from) (drop from xs ++ ys) ≡ take (to - from) (drop from xs) =
+    take-append-le (to - from) (drop from xs) ys (omega (arith, length-drop from xs)) in
     ap (take (to - from)) e ∙ f
 
 take-all : (xs : List ℤ) (n : ℕ) → n ≡ length xs → take n xs ≡ xs
@@ -46,10 +79,12 @@ take-all [] (suc n) h = refl
 take-all (x ∷ xs) zero h = absurd (omega arith)
 take-all (x ∷ xs) (suc n) h = ap (λ ys. x ∷ ys) (take-all xs n (omega arith))
 
-pub pieces-push : (from : ℕ) (es : List ℕ) (xs ys : List ℤ) → EndAt from es (length xs) → pieces from (es ++ (length xs + length ys) ∷ []) (xs ++ ys) ≡ pieces from es xs ++ ys ∷ []
+pub pieces-push : (from : ℕ) (es : List ℕ) (xs ys : List ℤ) → EndAt from es (length xs)
+    → pieces from (es ++ (length xs + length ys) ∷ []) (xs ++ ys) ≡ pieces from es xs ++ ys ∷ []
 pieces-push from [] xs ys h =
     let e : drop from (xs ++ ys) ≡ ys = ap (λ n. drop n (xs ++ ys)) h ∙ drop-append_seam xs ys in
-    let f : take (length xs + length ys - from) (drop from (xs ++ ys)) ≡ ys = ap (take (length xs + length ys - from)) e ∙ take-all ys (length xs + length ys - from) (omega (arith, h)) in
+    let f : take (length xs + length ys - from) (drop from (xs ++ ys)) ≡ ys = ap (take (length xs + length ys - from)) e
+    ∙ take-all ys (length xs + length ys - from) (omega (arith, h)) in
     ap (λ c. c ∷ []) f
 pieces-push from (e ∷ es) xs ys h =
     let p : slice_range (xs ++ ys) from e ≡ slice_range xs from e = slice_range-append xs ys from e h.0 (from-le-total e es (length xs) h.1) in
@@ -99,8 +134,10 @@ lies_at i f place is laid h =
     let there : place < length i.ends.items = omega (arith, length-pieces 0 i.ends.items i.literals.items, ap length same) in
     let inside : place < length cs = omega (arith, ap length same) in
     let lie = pieces_lie 0 i.ends.items (length i.literals.items) place laid.ends there in
-    let at : get_or cs place [] ≡ slice_range i.literals.items (get_or (0 ∷ i.ends.items) place 0) (get_or i.ends.items place 0) = get_or-pieces 0 i.ends.items i.literals.items place [] there in
-    let ok : IsTrue (is_clause (get_or cs place []) && is_within i.vars (get_or cs place [])) = list_all-at (λ c. is_clause c && is_within i.vars c) cs place [] laid.clauses inside in
+    let at : get_or cs place [] ≡ slice_range i.literals.items (get_or (0 ∷ i.ends.items) place 0) (get_or i.ends.items place 0) =
+    get_or-pieces 0 i.ends.items i.literals.items place [] there in
+    let ok : IsTrue (is_clause (get_or cs place []) && is_within i.vars (get_or cs place [])) = list_all-at (λ c. is_clause c && is_within i.vars c)
+    cs place [] laid.clauses inside in
     let P : List ℤ → Type 0 = λ c. IsTrue (is_clause c) in
     let Q : List ℤ → Type 0 = λ c. IsTrue (is_within f.vars c) in
     let vars : i.vars ≡ f.vars = ap (λ (g : Formula). g.vars) is in
@@ -118,29 +155,41 @@ one-more : (a b c : Bool) → a ≡ true → b ≡ true → c ≡ true → (a &&
 one-more a b c p q r = grind arith
 
 -- what is laid out after one clause more at the end
-pub IsLaidOut-push : (i : Inside) (f : Formula) (es : List ℕ) (xs ys : List ℤ) → formula_of i ≡ f → IsLaidOut i → es ≡ i.ends.items ++ (length i.literals.items + length ys) ∷ [] → xs ≡ i.literals.items ++ ys → IsTrue (is_clause ys) → IsTrue (is_within f.vars ys) → length f.clauses + 1 < limit → (EndAt 0 es (length xs)) × (IsTrue (are_clauses i.vars (pieces 0 es xs))) × (length es < limit) × (pieces 0 es xs ≡ f.clauses ++ ys ∷ [])
+pub IsLaidOut-push : (i : Inside) (f : Formula) (es : List ℕ) (xs ys : List ℤ) → formula_of i ≡ f → IsLaidOut i
+    → es ≡ i.ends.items ++ (length i.literals.items + length ys) ∷ [] → xs ≡ i.literals.items ++ ys → IsTrue (is_clause ys)
+    → IsTrue (is_within f.vars ys) → length f.clauses + 1 < limit → (EndAt 0 es (length xs)) × (IsTrue (are_clauses i.vars (pieces 0 es xs)))
+    × (length es < limit) × (pieces 0 es xs ≡ f.clauses ++ ys ∷ [])
 IsLaidOut-push i f es xs ys is laid e x rises within room =
     let old : List (List ℤ) = pieces 0 i.ends.items i.literals.items in
     let same : old ≡ f.clauses = ap (λ (g : Formula). g.clauses) is in
     let vars : i.vars ≡ f.vars = ap (λ (g : Formula). g.vars) is in
-    let now : pieces 0 es xs ≡ old ++ ys ∷ [] = ap (λ (zs : List ℕ). pieces 0 zs xs) e ∙ ap (pieces 0 (i.ends.items ++ (length i.literals.items + length ys) ∷ [])) x ∙ pieces-push 0 i.ends.items i.literals.items ys laid.ends in
+    let now : pieces 0 es xs ≡ old ++ ys ∷ [] = ap (λ (zs : List ℕ). pieces 0 zs xs) e
+    ∙ ap (pieces 0 (i.ends.items ++ (length i.literals.items + length ys) ∷ [])) x ∙ pieces-push 0 i.ends.items i.literals.items ys laid.ends in
     let total : length xs ≡ length i.literals.items + length ys = ap length x ∙ length-append i.literals.items ys in
     let within_here : IsTrue (is_within i.vars ys) = let Q : ℕ → Type 0 = λ n. IsTrue (is_within n ys) in subst Q (sym vars) within in
     let E : List ℕ → Type 0 = λ zs. EndAt 0 zs (length xs) in
     let T : ℕ → Type 0 = λ n. EndAt 0 (i.ends.items ++ (length i.literals.items + length ys) ∷ []) n in (
       subst E (sym e) (subst T (sym total) (EndAt-push 0 i.ends.items (length i.literals.items) (length ys) laid.ends)),
       ap (are_clauses i.vars) now ∙ list_all-append (λ c. is_clause c && is_within i.vars c) old (ys ∷ []) ∙ one-more _ _ _ laid.clauses rises within_here,
-      omega (arith, ap length e, length-append i.ends.items ((length i.literals.items + length ys) ∷ []), length-pieces 0 i.ends.items i.literals.items, ap length same),
+      omega (
+        arith,
+        ap length e,
+        length-append i.ends.items ((length i.literals.items + length ys) ∷ []),
+        length-pieces 0 i.ends.items i.literals.items,
+        ap length same,
+      ),
       now ∙ ap (λ cs. cs ++ ys ∷ []) same,
     )
 
 -- satisfying one clause more
-satisfies-suc : (v : Valuation) (cs : List (List ℤ)) (k : ℕ) (c : List ℤ) → slice_get cs k ≡ Some c → satisfies v (take (suc k) cs) ≡ (satisfies v (take k cs) && clause_true v c)
+satisfies-suc : (v : Valuation) (cs : List (List ℤ)) (k : ℕ) (c : List ℤ) → slice_get cs k ≡ Some c
+    → satisfies v (take (suc k) cs) ≡ (satisfies v (take k cs) && clause_true v c)
 satisfies-suc v [] k c h = absurd (cc)
 satisfies-suc v (d ∷ cs) zero c h = grind arith
 satisfies-suc v (d ∷ cs) (suc k) c h = grind (arith, satisfies-suc v cs k c h)
 
-pub satisfies-more : (v : Valuation) (cs : List (List ℤ)) (k : ℕ) (c : List ℤ) → slice_get cs k ≡ Some c → satisfies v (take (k + 1) cs) ≡ (satisfies v (take k cs) && clause_true v c)
+pub satisfies-more : (v : Valuation) (cs : List (List ℤ)) (k : ℕ) (c : List ℤ) → slice_get cs k ≡ Some c
+    → satisfies v (take (k + 1) cs) ≡ (satisfies v (take k cs) && clause_true v c)
 satisfies-more v cs k c h = rw add-one (satisfies-suc v cs k c h)
 
 pub satisfies-not : (v : Valuation) (cs : List (List ℤ)) (k : ℕ) (c : List ℤ) → slice_get cs k ≡ Some c → clause_true v c ≡ false → satisfies v cs ≡ false
@@ -187,7 +236,9 @@ length-take-le [] (suc n) = omega arith
 length-take-le (x ∷ xs) (suc n) = omega (arith, length-take-le xs n)
 
 -- what is laid out once the last clauses are cut off
-pub IsLaidOut-take : (i : Inside) (f : Formula) (n vars : ℕ) (es : List ℕ) (xs : List ℤ) → formula_of i ≡ f → IsLaidOut i → n ≤ length f.clauses → es ≡ take n i.ends.items → xs ≡ take (get_or (0 ∷ i.ends.items) n 0) i.literals.items → IsTrue (are_clauses vars (take n f.clauses)) → (EndAt 0 es (length xs)) × (IsTrue (are_clauses vars (pieces 0 es xs))) × (length es < limit) × (pieces 0 es xs ≡ take n f.clauses)
+pub IsLaidOut-take : (i : Inside) (f : Formula) (n vars : ℕ) (es : List ℕ) (xs : List ℤ) → formula_of i ≡ f → IsLaidOut i → n ≤ length f.clauses
+    → es ≡ take n i.ends.items → xs ≡ take (get_or (0 ∷ i.ends.items) n 0) i.literals.items → IsTrue (are_clauses vars (take n f.clauses))
+    → (EndAt 0 es (length xs)) × (IsTrue (are_clauses vars (pieces 0 es xs))) × (length es < limit) × (pieces 0 es xs ≡ take n f.clauses)
 IsLaidOut-take i f n vars es xs is laid b e x good =
     let old : List (List ℤ) = pieces 0 i.ends.items i.literals.items in
     let cut : ℕ = get_or (0 ∷ i.ends.items) n 0 in
@@ -220,11 +271,14 @@ pub clauses_of_laid : (i : Inside) (f : Formula) → formula_of i ≡ f → IsLa
 clauses_of_laid i f is laid = let P : Formula → Type 0 = λ g. IsTrue (are_clauses g.vars g.clauses) in subst P is laid.clauses
 
 -- each of some lent clauses is one
-pub good-at : (n : ℕ) (cs : List (Bor (List ℤ))) (k : ℕ) (d : Bor (List ℤ)) → IsTrue (are_clauses n (all_now cs)) → k < length cs → (IsTrue (is_clause (get_or cs k d).now)) × IsTrue (is_within n (get_or cs k d).now)
+pub good-at : (n : ℕ) (cs : List (Bor (List ℤ))) (k : ℕ) (d : Bor (List ℤ)) → IsTrue (are_clauses n (all_now cs)) → k < length cs
+    → (IsTrue (is_clause (get_or cs k d).now)) × IsTrue (is_within n (get_or cs k d).now)
 good-at n [] k d h b = absurd (omega arith)
-good-at n (c ∷ cs) zero d h b = let g : IsTrue (is_clause c.now && is_within n c.now) = and-left _ _ h in (and-left (is_clause c.now) _ g, and-right (is_clause c.now) _ g)
+good-at n (c ∷ cs) zero d h b = let g : IsTrue (is_clause c.now && is_within n c.now) = and-left _ _ h
+    in (and-left (is_clause c.now) _ g, and-right (is_clause c.now) _ g)
 good-at n (c ∷ cs) (suc k) d h b = good-at n cs k d (and-right (is_clause c.now && is_within n c.now) _ h) (omega arith)
 
 -- what is kept of a list of clauses that was added to
-pub clauses-kept : (n m k : ℕ) (old new : List (List ℤ)) → IsTrue (are_clauses n old) → take (length old) new ≡ old → m ≡ n → k ≡ length old → IsTrue (are_clauses m (take k new))
+pub clauses-kept : (n m k : ℕ) (old new : List (List ℤ)) → IsTrue (are_clauses n old) → take (length old) new ≡ old → m ≡ n → k ≡ length old
+    → IsTrue (are_clauses m (take k new))
 clauses-kept n m k old new h t e l = ap (λ j. are_clauses j (take k new)) e ∙ ap (λ j. are_clauses n (take j new)) l ∙ ap (are_clauses n) t ∙ h

@@ -1,5 +1,30 @@
 -- Gates of a circuit: the clauses that define a new variable as a gate's value, and blocks of gates.
-use Rattle.std.specs.Prelude.{◌≡◌, ℕ, suc, ◌+◌, ◌≤◌, Bool, true, false, not, ◌&&◌, ◌||◌, if◌then◌else◌, ◌==◌, nat_lt, nat_le, IsTrue, List, [], ◌∷◌, ◌++◌, ℤ, pos, negsuc, neg_ℤ, length}
+use Rattle.std.specs.Prelude.{
+  ◌≡◌,
+  ℕ,
+  suc,
+  ◌+◌,
+  ◌≤◌,
+  Bool,
+  true,
+  not,
+  ◌&&◌,
+  ◌||◌,
+  if◌then◌else◌,
+  ◌==◌,
+  nat_lt,
+  nat_le,
+  IsTrue,
+  List,
+  [],
+  ◌∷◌,
+  ◌++◌,
+  ℤ,
+  pos,
+  negsuc,
+  neg_ℤ,
+  length,
+}
 use Rattle.std.specs.List.{fold, list_all}
 use Rattle.std.specs.Ordering.{int_eq}
 use Rattle.cnf_core.specs.Clauses.{var_of, Formula, Valuation, literal_true, satisfies, is_within}
@@ -26,7 +51,8 @@ is_one a b out = (neg_ℤ a ∷ neg_ℤ b ∷ neg_ℤ out ∷ []) ∷ (a ∷ b �
 
 -- by how two literals stand to each other: they are one, they are opposite, or the first or the second has the smaller variable
 abbrev pub by_pair : {A : Type 0} → ℤ → ℤ → A → A → A → A → A
-by_pair a b same opposite rising falling = if int_eq a b then same else if int_eq a (neg_ℤ b) then opposite else if nat_lt (var_of a) (var_of b) then rising else falling
+by_pair a b same opposite rising falling = if int_eq a b then same else if int_eq a (neg_ℤ b) then opposite else if nat_lt (var_of a) (var_of b)
+    then rising else falling
 
 -- the clauses by which a literal of a new variable is true where two literals are
 abbrev pub and_clauses : ℤ → ℤ → ℤ → List (List ℤ)
@@ -91,9 +117,11 @@ Agree n v w = (k : ℕ) → k ≤ n → v k ≡ w k
 
 -- what satisfies a formula satisfies it with a block of gates, once the block's variables have the values of their gates
 abbrev pub BlockKeeps : Type 0
-BlockKeeps = (f : Formula) (gs : List Wired) (v : Valuation) → IsOver f → IsTrue (is_block f.vars gs) → IsTrue (satisfies v f.clauses) → IsTrue (satisfies (extended v f.vars gs) (after_gates f gs).clauses) × Agree f.vars v (extended v f.vars gs)
+BlockKeeps = (f : Formula) (gs : List Wired) (v : Valuation) → IsOver f → IsTrue (is_block f.vars gs) → IsTrue (satisfies v f.clauses)
+    → IsTrue (satisfies (extended v f.vars gs) (after_gates f gs).clauses) × Agree f.vars v (extended v f.vars gs)
 
 -- only those values of the block's variables do
 abbrev pub BlockDecides : Type 0
 BlockDecides =
-    (f : Formula) (gs : List Wired) (v w : Valuation) → IsOver f → IsTrue (is_block f.vars gs) → IsTrue (satisfies w (after_gates f gs).clauses) → Agree f.vars v w → IsTrue (satisfies w f.clauses) × Agree (f.vars + length gs) (extended v f.vars gs) w
+    (f : Formula) (gs : List Wired) (v w : Valuation) → IsOver f → IsTrue (is_block f.vars gs) → IsTrue (satisfies w (after_gates f gs).clauses)
+    → Agree f.vars v w → IsTrue (satisfies w f.clauses) × Agree (f.vars + length gs) (extended v f.vars gs) w

@@ -1,6 +1,5 @@
 -- How a formula lies in memory; no promise speaks of these.
-use Rattle.std.specs.Prelude.{map, ◌≡◌, ℕ, ◌≤◌, ◌<◌, IsTrue, Bool, ◌&&◌, List, [], ◌∷◌, ℤ, slice_range, length}
-use Rattle.std.specs.List.{list_all}
+use Rattle.std.specs.Prelude.{map, ◌≡◌, ℕ, ◌≤◌, ◌<◌, IsTrue, List, [], ◌∷◌, ℤ, slice_range, length}
 use Rattle.std.specs.Borrow.{Bor}
 use Rattle.cnf_core.specs.Clauses.{limit, are_clauses, Formula}
 use Rattle.cnf_core.specs.declared.cnf.Cnf.TheInside.{Inside}

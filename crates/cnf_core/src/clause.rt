@@ -1,6 +1,6 @@
 //! Clauses.
 ghost use Rattle.std.specs.Prelude.{◌≡◌, ℤ, List, IsTrue, ◌↔◌};
-ghost use Rattle.cnf_core.specs.Clauses.{is_clause};
+ghost use Rattle.cnf_core.specs.Clauses.{is_clause, is_within};
 
 use crate::Lit;
 use std::alloc::Global;
@@ -33,6 +33,18 @@ pub fn is_clause(literals: &[Lit]) -> bool
             return false;
         }
         low = lit.var();
+    }
+    true
+}
+
+/// Whether each literal's variable is one of the first so many.
+pub fn is_within(vars: u32, literals: &[Lit]) -> bool
+    ensures { result ≡ is_within vars literals.now }
+{
+    for lit in literals {
+        if lit.var() > vars {
+            return false;
+        }
     }
     true
 }

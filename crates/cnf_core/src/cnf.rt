@@ -1,5 +1,30 @@
 //! Lists of clauses.
-ghost use Rattle.std.specs.Prelude.{◌≡◌, ℕ, ◌+◌, ◌<◌, ◌≤◌, ℤ, pos, List, [], ◌∷◌, ◌++◌, length, slice_get, slice_index, slice_range, ◌==◌, Some, IsTrue, OnOk, OnErr, IfOk, take, suc, ◌-◌};
+ghost use Rattle.std.specs.Prelude.{
+  ◌≡◌,
+  ℕ,
+  ◌+◌,
+  ◌<◌,
+  ◌≤◌,
+  ℤ,
+  pos,
+  List,
+  [],
+  ◌∷◌,
+  ◌++◌,
+  length,
+  slice_get,
+  slice_index,
+  slice_range,
+  ◌==◌,
+  Some,
+  IsTrue,
+  OnOk,
+  OnErr,
+  IfOk,
+  take,
+  suc,
+  ◌-◌,
+};
 ghost use Rattle.cnf_core.specs.Clauses.{limit, is_clause, is_within, are_clauses};
 
 use crate::Lit;

@@ -1,5 +1,32 @@
 -- The numbers of a line's text are read back.
-use Rattle.std.proofs.Common.{◌≡◌, ℕ, suc, ◌+◌, ◌*◌, ◌%◌, ◌/◌, ◌<◌, ◌≤◌, List, [], ◌∷◌, ◌++◌, ℤ, pos, negsuc, refl, ap, sym, ◌∙◌, arith, Bool, true, false, append_assoc, append-nil}
+use Rattle.std.proofs.Common.{
+  ◌≡◌,
+  ℕ,
+  suc,
+  ◌+◌,
+  ◌*◌,
+  ◌%◌,
+  ◌/◌,
+  ◌<◌,
+  ◌≤◌,
+  List,
+  [],
+  ◌∷◌,
+  ◌++◌,
+  ℤ,
+  pos,
+  negsuc,
+  refl,
+  ap,
+  sym,
+  ◌∙◌,
+  arith,
+  Bool,
+  true,
+  false,
+  append_assoc,
+  append-nil,
+}
 use Rattle.std.specs.Prelude.{nat_eq, map, ◌&&◌, nat_lt, if◌then◌else◌, codes}
 use Rattle.std.specs.List.{fold, list_all}
 use Rattle.std.specs.Fmt.{decimal, signed_decimal}
@@ -10,7 +37,20 @@ use Rattle.std.specs.Option.{option_map_or}
 use Rattle.std.specs.Prelude.{MatchOption, ⊤, not, drop, length, Option, Some, None}
 use Rattle.refute_check.specs.Refutations.{is_nil}
 use Rattle.cnf_core.specs.Clauses.{var_of, is_clause, rises_above}
-use Rattle.refute_check.specs.Guess.{Reader, no_number, numbers_of, read_byte, guessed, is_literal, is_clause_number, literals_in, clause_numbers_in, add_of, delete_of, line_guess}
+use Rattle.refute_check.specs.Guess.{
+  Reader,
+  no_number,
+  numbers_of,
+  read_byte,
+  guessed,
+  is_literal,
+  is_clause_number,
+  literals_in,
+  clause_numbers_in,
+  add_of,
+  delete_of,
+  line_guess,
+}
 use Rattle.refute_check.specs.Texts.{numbers_text, line_text, is_readable, IsNoLine}
 use Rattle.refute_check.specs.declared.line.Line.{Line}
 use Rattle.refute_check.specs.declared.line.Line.TheVariants.{Add, Delete}
@@ -28,7 +68,8 @@ read-digit r d n h e b =
 
 -- after no digit, the digits of a number are read as the number
 abbrev IsReadBack : ℕ → List ℕ → Type 0
-IsReadBack n ds = n < 4294967296 → (done : List ℤ) (sign : Bool) → fold read_byte (record { done = done; size = 0; negative = sign }) ds ≡ record { done = done; size = n; negative = sign }
+IsReadBack n ds = n < 4294967296 → (done : List ℤ) (sign : Bool)
+    → fold read_byte (record { done = done; size = 0; negative = sign }) ds ≡ record { done = done; size = n; negative = sign }
 
 read-one : (n : ℕ) → n < 10 → IsReadBack n ((48 + n) ∷ [])
 read-one n h b done sign = read-digit (record { done = done; size = 0; negative = sign }) n n h (omega arith) b
@@ -46,7 +87,8 @@ read-decimal n b = decimal_by_steps IsReadBack read-one read-more n (omega arith
 abbrev pub is_small : ℤ → Bool
 is_small z = nat_lt (var_of z) 4294967296
 
-read-signed : (z : ℤ) (done : List ℤ) → is_small z ≡ true → numbers_of (fold read_byte (record { done = done; size = 0; negative = false }) (signed_decimal z)) ≡ done ++ z ∷ []
+read-signed : (z : ℤ) (done : List ℤ) → is_small z ≡ true
+    → numbers_of (fold read_byte (record { done = done; size = 0; negative = false }) (signed_decimal z)) ≡ done ++ z ∷ []
 read-signed (pos n) done h = ap numbers_of (read-decimal n (ltb-true n 4294967296 h) done false)
 read-signed (negsuc n) done h = ap numbers_of (read-decimal (suc n) (ltb-true (suc n) 4294967296 h) done true)
 
@@ -77,7 +119,8 @@ numbers_after (Delete ns) = map pos ns ++ pos 0 ∷ []
 
 numbers_text-append : (xs ys : List ℤ) → numbers_text (xs ++ ys) ≡ numbers_text xs ++ numbers_text ys
 numbers_text-append [] ys = refl
-numbers_text-append (x ∷ xs) ys = ap (λ t. codes " " ++ signed_decimal x ++ t) (numbers_text-append xs ys) ∙ sym (append_assoc (codes " " ++ signed_decimal x) (numbers_text xs) (numbers_text ys))
+numbers_text-append (x ∷ xs) ys = ap (λ t. codes " " ++ signed_decimal x ++ t) (numbers_text-append xs ys)
+    ∙ sym (append_assoc (codes " " ++ signed_decimal x) (numbers_text xs) (numbers_text ys))
 
 zero-text : numbers_text (pos 0 ∷ []) ≡ codes " 0"
 zero-text = ap (λ t. codes " " ++ t ++ []) (decimal_digit 0 (omega arith))
@@ -90,7 +133,8 @@ literals : (low : ℕ) (c : List ℤ) → rises_above low c ≡ true → list_al
 literals low [] r b = refl
 literals low (l ∷ c) r b =
     let here : low < var_of l = ltb-true low (var_of l) (and-left (nat_lt low (var_of l)) _ r) in
-    and-true _ _ (and-true _ _ (lt-ltb 0 (var_of l) (omega arith)) (and-left (nat_lt (var_of l) 2147483648) _ b)) (literals (var_of l) c (and-right (nat_lt low (var_of l)) _ r) (and-right (nat_lt (var_of l) 2147483648) _ b))
+    and-true _ _ (and-true _ _ (lt-ltb 0 (var_of l) (omega arith)) (and-left (nat_lt (var_of l) 2147483648) _ b))
+    (literals (var_of l) c (and-right (nat_lt low (var_of l)) _ r) (and-right (nat_lt (var_of l) 2147483648) _ b))
 
 literals-front : (c rest : List ℤ) → list_all is_literal c ≡ true → literals_in (c ++ pos 0 ∷ rest) ≡ c
 literals-front [] rest h = refl
@@ -115,7 +159,9 @@ drop-past (x ∷ xs) y ys = let e : length (x ∷ xs) + 1 ≡ suc (length xs + 1
 small-literals : (c : List ℤ) → list_all (λ l. nat_lt (var_of l) 2147483648) c ≡ true → list_all is_small c ≡ true
 small-literals [] h = refl
 small-literals (l ∷ c) h =
-    and-true _ _ (lt-ltb (var_of l) 4294967296 (let b : var_of l < 2147483648 = ltb-true (var_of l) 2147483648 (and-left (nat_lt (var_of l) 2147483648) _ h) in omega arith)) (small-literals c (and-right (nat_lt (var_of l) 2147483648) _ h))
+    and-true _ _ (lt-ltb (var_of l) 4294967296 (let b : var_of l < 2147483648 =
+    ltb-true (var_of l) 2147483648 (and-left (nat_lt (var_of l) 2147483648) _ h) in omega arith))
+    (small-literals c (and-right (nat_lt (var_of l) 2147483648) _ h))
 
 small-numbers : (ns : List ℕ) → list_all is_numbered ns ≡ true → list_all is_small (map pos ns) ≡ true
 small-numbers [] h = refl
@@ -123,11 +169,17 @@ small-numbers (n ∷ ns) h = and-true _ _ (and-right (nat_lt 0 n) _ (and-left (i
 
 text-add : (lits : List ℤ) (hints : List ℕ) → line_text (Add lits hints) ≡ 97 ∷ numbers_text (numbers_after (Add lits hints))
 text-add lits hints =
-    let l : numbers_text (lits ++ pos 0 ∷ (map pos hints ++ pos 0 ∷ [])) ≡ numbers_text lits ++ numbers_text ((pos 0 ∷ []) ++ (map pos hints ++ pos 0 ∷ [])) = numbers_text-append lits (pos 0 ∷ (map pos hints ++ pos 0 ∷ [])) in
-    let m : numbers_text ((pos 0 ∷ []) ++ (map pos hints ++ pos 0 ∷ [])) ≡ codes " 0" ++ numbers_text (map pos hints ++ pos 0 ∷ []) = numbers_text-append (pos 0 ∷ []) (map pos hints ++ pos 0 ∷ []) ∙ ap (λ t. t ++ numbers_text (map pos hints ++ pos 0 ∷ [])) zero-text in
-    let n : numbers_text (map pos hints ++ pos 0 ∷ []) ≡ numbers_text (map pos hints) ++ codes " 0" = numbers_text-append (map pos hints) (pos 0 ∷ []) ∙ ap (λ t. numbers_text (map pos hints) ++ t) zero-text in
-    let all : numbers_text (lits ++ pos 0 ∷ (map pos hints ++ pos 0 ∷ [])) ≡ numbers_text lits ++ (codes " 0" ++ (numbers_text (map pos hints) ++ codes " 0")) = l ∙ ap (λ t. numbers_text lits ++ t) (m ∙ ap (λ t. codes " 0" ++ t) n) in
-    let four : numbers_text lits ++ codes " 0" ++ numbers_text (map pos hints) ++ codes " 0" ≡ numbers_text lits ++ (codes " 0" ++ (numbers_text (map pos hints) ++ codes " 0")) = append_assoc (numbers_text lits ++ codes " 0") (numbers_text (map pos hints)) (codes " 0") ∙ append_assoc (numbers_text lits) (codes " 0") (numbers_text (map pos hints) ++ codes " 0") in
+    let l : numbers_text (lits ++ pos 0 ∷ (map pos hints ++ pos 0 ∷ [])) ≡ numbers_text lits ++ numbers_text
+    ((pos 0 ∷ []) ++ (map pos hints ++ pos 0 ∷ [])) = numbers_text-append lits (pos 0 ∷ (map pos hints ++ pos 0 ∷ [])) in
+    let m : numbers_text ((pos 0 ∷ []) ++ (map pos hints ++ pos 0 ∷ [])) ≡ codes " 0" ++ numbers_text (map pos hints ++ pos 0 ∷ []) =
+    numbers_text-append (pos 0 ∷ []) (map pos hints ++ pos 0 ∷ []) ∙ ap (λ t. t ++ numbers_text (map pos hints ++ pos 0 ∷ [])) zero-text in
+    let n : numbers_text (map pos hints ++ pos 0 ∷ []) ≡ numbers_text (map pos hints) ++ codes " 0" = numbers_text-append (map pos hints) (pos 0 ∷ [])
+    ∙ ap (λ t. numbers_text (map pos hints) ++ t) zero-text in
+    let all : numbers_text (lits ++ pos 0 ∷ (map pos hints ++ pos 0 ∷ [])) ≡ numbers_text lits ++
+    (codes " 0" ++ (numbers_text (map pos hints) ++ codes " 0")) = l ∙ ap (λ t. numbers_text lits ++ t) (m ∙ ap (λ t. codes " 0" ++ t) n) in
+    let four : numbers_text lits ++ codes " 0" ++ numbers_text (map pos hints) ++ codes " 0" ≡ numbers_text lits ++
+    (codes " 0" ++ (numbers_text (map pos hints) ++ codes " 0")) = append_assoc (numbers_text lits ++ codes " 0") (numbers_text (map pos hints))
+    (codes " 0") ∙ append_assoc (numbers_text lits) (codes " 0") (numbers_text (map pos hints) ++ codes " 0") in
     ap (λ t. 97 ∷ t) (four ∙ sym all)
 
 text-delete : (ns : List ℕ) → line_text (Delete ns) ≡ 100 ∷ numbers_text (numbers_after (Delete ns))
@@ -151,7 +203,8 @@ line_guess-line_text (Add lits hints) h =
     in
     let read : drop 1 (guessed (numbers_text zs)) ≡ zs = ap (drop 1) (guessed-numbers_text zs small) in
     let found : literals_in zs ≡ lits = literals-front lits (map pos hints ++ pos 0 ∷ []) (literals 0 lits clause bound) in
-    let after : clause_numbers_in (drop (length lits + 1) zs) ≡ hints = ap clause_numbers_in (drop-past lits (pos 0) (map pos hints ++ pos 0 ∷ [])) ∙ numbers-front hints [] ns in
+    let after : clause_numbers_in (drop (length lits + 1) zs) ≡ hints = ap clause_numbers_in (drop-past lits (pos 0) (map pos hints ++ pos 0 ∷ []))
+    ∙ numbers-front hints [] ns in
     ap line_guess (text-add lits hints)
     ∙ ap add_of read
     ∙ ap (λ ls. if is_clause ls then Some (Add ls (clause_numbers_in (drop (length ls + 1) zs))) else None) found
@@ -169,11 +222,13 @@ line_guess-line_text (Delete ns) h =
     ∙ ap (λ b. if b then None else Some (Delete ns)) some
 
 -- what is taken for a line is one that the format allows
-literal-bound : (z : ℤ) (zs : List ℤ) (b : Bool) → is_literal z ≡ b → list_all (λ l. nat_lt (var_of l) 2147483648) (literals_in zs) ≡ true → list_all (λ l. nat_lt (var_of l) 2147483648) (option_map_or (λ x. x ∷ literals_in zs) (if b then Some z else None) []) ≡ true
+literal-bound : (z : ℤ) (zs : List ℤ) (b : Bool) → is_literal z ≡ b → list_all (λ l. nat_lt (var_of l) 2147483648) (literals_in zs) ≡ true
+    → list_all (λ l. nat_lt (var_of l) 2147483648) (option_map_or (λ x. x ∷ literals_in zs) (if b then Some z else None) []) ≡ true
 literal-bound z zs true e h = and-true _ _ (and-right (nat_lt 0 (var_of z)) _ e) h
 literal-bound z zs false e h = refl
 
-number-bound : (z : ℤ) (zs : List ℤ) (b : Bool) → is_clause_number z ≡ b → list_all is_numbered (clause_numbers_in zs) ≡ true → list_all is_numbered (option_map_or (λ x. x ∷ clause_numbers_in zs) (if b then Some (var_of z) else None) []) ≡ true
+number-bound : (z : ℤ) (zs : List ℤ) (b : Bool) → is_clause_number z ≡ b → list_all is_numbered (clause_numbers_in zs) ≡ true
+    → list_all is_numbered (option_map_or (λ x. x ∷ clause_numbers_in zs) (if b then Some (var_of z) else None) []) ≡ true
 number-bound (pos n) zs true e h = and-true _ _ e h
 number-bound (negsuc n) zs true e h = absurd (cc)
 number-bound z zs false e h = refl
@@ -186,13 +241,15 @@ literals-bound : (zs : List ℤ) → list_all (λ l. nat_lt (var_of l) 214748364
 literals-bound [] = refl
 literals-bound (z ∷ zs) = literal-bound z zs (is_literal z) refl (literals-bound zs)
 
-add-readable : (zs : List ℤ) (l : Line) (b : Bool) → is_clause (literals_in zs) ≡ b → (if b then Some (Add (literals_in zs) (clause_numbers_in (drop (length (literals_in zs) + 1) zs))) else None) ≡ Some l → is_readable l ≡ true
+add-readable : (zs : List ℤ) (l : Line) (b : Bool) → is_clause (literals_in zs) ≡ b
+    → (if b then Some (Add (literals_in zs) (clause_numbers_in (drop (length (literals_in zs) + 1) zs))) else None) ≡ Some l → is_readable l ≡ true
 add-readable zs l true e h =
     let same : Add (literals_in zs) (clause_numbers_in (drop (length (literals_in zs) + 1) zs)) ≡ l = cc in
     ap is_readable (sym same) ∙ and-true _ _ (and-true _ _ e (literals-bound zs)) (numbers-bound (drop (length (literals_in zs) + 1) zs))
 add-readable zs l false e h = absurd (cc)
 
-delete-readable : (zs : List ℤ) (l : Line) (b : Bool) → is_nil (clause_numbers_in zs) ≡ b → (if b then None else Some (Delete (clause_numbers_in zs))) ≡ Some l → is_readable l ≡ true
+delete-readable : (zs : List ℤ) (l : Line) (b : Bool) → is_nil (clause_numbers_in zs) ≡ b
+    → (if b then None else Some (Delete (clause_numbers_in zs))) ≡ Some l → is_readable l ≡ true
 delete-readable zs l true e h = absurd (cc)
 delete-readable zs l false e h =
     let same : Delete (clause_numbers_in zs) ≡ l = cc in
@@ -210,4 +267,5 @@ line_guess-readable (b ∷ bs) l h = by-readable (drop 1 (guessed bs)) l (nat_eq
 -- bytes that aren't the text of what they are taken for are the text of no line
 pub no-line : (bytes : List ℕ) (o : Option Line) → line_guess bytes ≡ o → MatchOption o ⊤ (λ l. line_text l ≡ bytes → ⊥) → IsNoLine bytes
 no-line bytes None e h l r t = absurd (let g : line_guess bytes ≡ Some l = ap line_guess (sym t) ∙ line_guess-line_text l r in cc)
-no-line bytes (Some k) e h l r t = let g : line_guess bytes ≡ Some l = ap line_guess (sym t) ∙ line_guess-line_text l r in let same : l ≡ k = cc in h (ap line_text (sym same) ∙ t)
+no-line bytes (Some k) e h l r t = let g : line_guess bytes ≡ Some l = ap line_guess (sym t) ∙ line_guess-line_text l r in let same : l ≡ k = cc
+    in h (ap line_text (sym same) ∙ t)

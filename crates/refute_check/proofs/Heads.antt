@@ -6,7 +6,8 @@ use Rattle.tc_base.specs.declared.model.Model.{Model}
 use Rattle.tc_base.specs.declared.model.Model.TheVariants.{Sc, Tso, Pso}
 use Rattle.refute_check.specs.Texts.{model_text, switches_text, IsNoHeadOf, IsNoHead}
 
-pub no-head-of : (m : Model) (bytes : List ℕ) (n : ℕ) → 256 ≤ n → (codes "clap-refutation 2 " ++ model_text m ++ switches_text None ≡ bytes → ⊥) → ((k : ℕ) → k < n → codes "clap-refutation 2 " ++ model_text m ++ switches_text (Some k) ≡ bytes → ⊥) → IsNoHeadOf m bytes
+pub no-head-of : (m : Model) (bytes : List ℕ) (n : ℕ) → 256 ≤ n → (codes "clap-refutation 2 " ++ model_text m ++ switches_text None ≡ bytes → ⊥)
+    → ((k : ℕ) → k < n → codes "clap-refutation 2 " ++ model_text m ++ switches_text (Some k) ≡ bytes → ⊥) → IsNoHeadOf m bytes
 no-head-of m bytes n b none some None r t = none t
 no-head-of m bytes n b none some (Some k) r t = some k (let small : k < 256 = ltb-true k 256 r in omega arith) t
 

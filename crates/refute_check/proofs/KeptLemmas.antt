@@ -20,10 +20,16 @@ nat_eq-sym : (a b : ℕ) → nat_eq a b ≡ nat_eq b a
 nat_eq-sym a b = one_answer (nat_eq a b) (nat_eq b a) (eqb-true a b, eq-eqb a b) ((λ e. sym (eqb-true b a e)), (λ e. eq-eqb b a (sym e)))
 
 -- entries that give the new value at one number, and the older ones elsewhere
-pub from_entries-insert : (es fs : List (ℕ × List ℤ)) (k : ℕ) (v : List ℤ) → ((q : ℕ) → lookup (nat_eq q) fs ≡ cond (nat_eq k q) (Some v) (lookup (nat_eq q) es)) → from_entries {R = nat_cmp} fs ≡ insert (from_entries es) k v
+pub from_entries-insert : (es fs : List (ℕ × List ℤ)) (k : ℕ) (v : List ℤ)
+    → ((q : ℕ) → lookup (nat_eq q) fs ≡ cond (nat_eq k q) (Some v) (lookup (nat_eq q) es)) → from_entries {R = nat_cmp} fs ≡ insert (from_entries es) k v
 from_entries-insert es fs k v h =
-    same_map nat_cmp_total nat_cmp-IsAntisymmetric _ _ (λ q. get-lookup fs q ∙ h q ∙ ap (λ b. cond b (Some v) (lookup (nat_eq q) es)) (nat_eq-sym k q ∙ sym (unsigned_tied q k)) ∙ ap (cond (eq_by_cmp nat_cmp q k) (Some v)) (sym (get-lookup es q)) ∙ sym (get-insert nat_cmp_total (from_entries es) k v q))
+    same_map nat_cmp_total nat_cmp-IsAntisymmetric _ _
+    (λ q. get-lookup fs q ∙ h q ∙ ap (λ b. cond b (Some v) (lookup (nat_eq q) es)) (nat_eq-sym k q ∙ sym (unsigned_tied q k))
+    ∙ ap (cond (eq_by_cmp nat_cmp q k) (Some v)) (sym (get-lookup es q)) ∙ sym (get-insert nat_cmp_total (from_entries es) k v q))
 
-pub from_entries-remove : (es fs : List (ℕ × List ℤ)) (k : ℕ) → ((q : ℕ) → lookup (nat_eq q) fs ≡ cond (nat_eq k q) None (lookup (nat_eq q) es)) → from_entries {R = nat_cmp} fs ≡ remove (from_entries es) k
+pub from_entries-remove : (es fs : List (ℕ × List ℤ)) (k : ℕ) → ((q : ℕ) → lookup (nat_eq q) fs ≡ cond (nat_eq k q) None (lookup (nat_eq q) es))
+    → from_entries {R = nat_cmp} fs ≡ remove (from_entries es) k
 from_entries-remove es fs k h =
-    same_map nat_cmp_total nat_cmp-IsAntisymmetric _ _ (λ q. get-lookup fs q ∙ h q ∙ ap (λ b. cond b None (lookup (nat_eq q) es)) (nat_eq-sym k q ∙ sym (unsigned_tied q k)) ∙ ap (cond (eq_by_cmp nat_cmp q k) None) (sym (get-lookup es q)) ∙ sym (get-remove nat_cmp_total (from_entries es) k q))
+    same_map nat_cmp_total nat_cmp-IsAntisymmetric _ _
+    (λ q. get-lookup fs q ∙ h q ∙ ap (λ b. cond b None (lookup (nat_eq q) es)) (nat_eq-sym k q ∙ sym (unsigned_tied q k))
+    ∙ ap (cond (eq_by_cmp nat_cmp q k) None) (sym (get-lookup es q)) ∙ sym (get-remove nat_cmp_total (from_entries es) k q))

@@ -1,5 +1,30 @@
 -- What a reader takes the bytes of a line for, before it compares them with the text; no promise speaks of these.
-use Rattle.std.specs.Prelude.{ℕ, ◌+◌, ◌*◌, ◌%◌, Bool, true, false, if◌then◌else◌, ◌==◌, List, [], ◌∷◌, ◌++◌, ℤ, pos, negsuc, neg_ℤ, nat_lt, ◌&&◌, drop, length, Option, None, Some}
+use Rattle.std.specs.Prelude.{
+  ℕ,
+  ◌+◌,
+  ◌*◌,
+  ◌%◌,
+  Bool,
+  true,
+  false,
+  if◌then◌else◌,
+  ◌==◌,
+  List,
+  [],
+  ◌∷◌,
+  ◌++◌,
+  ℤ,
+  pos,
+  negsuc,
+  neg_ℤ,
+  nat_lt,
+  ◌&&◌,
+  drop,
+  length,
+  Option,
+  None,
+  Some,
+}
 use Rattle.std.specs.List.{fold}
 use Rattle.std.specs.Option.{option_map_or}
 use Rattle.cnf_core.specs.Clauses.{var_of, is_clause}

@@ -4,7 +4,7 @@ ghost use Rattle.std.specs.List.{fold};
 ghost use Rattle.cnf_core.specs.Clauses.{limit, is_within, is_clause};
 
 use crate::{CheckFault, Checked, Derivation, Given, Kept, LINES, Line, Numbers, hints};
-use cnf_core::{Clause, Cnf, Lit};
+use cnf_core::{Clause, Cnf, Lit, is_within};
 use std::alloc::{AllocError, Global};
 use std::marker::Model;
 
@@ -115,7 +115,8 @@ impl Checker {
         requires none { self.old.fault ≡ None }
         requires lines { self.old.line ≤ line_limit }
         ensures ok { OnOk result ((self.new ≡ after self.old (Line.Add clause.now hints.now)) × (self.new.fault ≡ None)) }
-        ensures fault { IfErr result (λ fault. fault ≢ CheckFault.Memory → (self.new ≡ after self.old (Line.Add clause.now hints.now)) × (self.new.fault ≡ Some fault)) }
+        ensures fault { IfErr result (λ fault. fault ≢ CheckFault.Memory → (self.new ≡ after self.old (Line.Add clause.now hints.now))
+            × (self.new.fault ≡ Some fault)) }
         ensures memory { IsErrOf result CheckFault.Memory → self.new ≡ self.old }
     {
         match self.clause_fault(clause.literals(), hints.as_slice()) {
@@ -141,7 +142,7 @@ impl Checker {
         ensures same { self.new ≡ self.old }
         ensures fault { IfOk result (λ fault. fault ≡ clause_fault (self.old.line + 1) self.old.vars self.old.kept clause.now hints.now) }
     {
-        if !are_within(self.vars, clause) {
+        if !is_within(self.vars, clause) {
             return Ok(Some(CheckFault::NoVariable(self.line + 1)));
         }
         hints::clause_fault(self.line + 1, &self.kept, &mut self.given, clause, hints)
@@ -179,7 +180,8 @@ impl Checker {
         requires none { self.old.fault ≡ None }
         requires lines { self.old.line ≤ line_limit }
         ensures ok { OnOk result ((self.new ≡ after self.old (Line.Delete numbers.now)) × (self.new.fault ≡ None)) }
-        ensures fault { IfErr result (λ fault. fault ≢ CheckFault.Memory → (self.new ≡ after self.old (Line.Delete numbers.now)) × (self.new.fault ≡ Some fault)) }
+        ensures fault { IfErr result (λ fault. fault ≢ CheckFault.Memory → (self.new ≡ after self.old (Line.Delete numbers.now))
+            × (self.new.fault ≡ Some fault)) }
         ensures memory { IsErrOf result CheckFault.Memory → self.new ≡ self.old }
     {
         if hints::delete(&mut self.kept, numbers.as_slice()) {
@@ -192,16 +194,4 @@ impl Checker {
         self.fault = Some(fault);
         Err(fault)
     }
-}
-
-/// Whether each literal's variable is one of those.
-fn are_within(vars: u32, clause: &[Lit]) -> bool
-    ensures { result ≡ is_within vars clause.now }
-{
-    for lit in clause {
-        if lit.var() > vars {
-            return false;
-        }
-    }
-    true
 }

@@ -1,5 +1,27 @@
 //! A refutation's text, taken piece by piece.
-ghost use Rattle.std.specs.Prelude.{◌≡◌, ◌≢◌, ◌≤◌, ◌<◌, ◌==◌, ◌++◌, ◌∷◌, [], List, take, length, IfOk, OnErr, IfSome, if◌then◌else◌, Ok, Some, None, IsOk, IfErr, ◌↔◌};
+ghost use Rattle.std.specs.Prelude.{
+  ◌≡◌,
+  ◌≢◌,
+  ◌≤◌,
+  ◌<◌,
+  ◌==◌,
+  ◌++◌,
+  ◌∷◌,
+  [],
+  List,
+  take,
+  length,
+  IfOk,
+  OnErr,
+  IfSome,
+  if◌then◌else◌,
+  Ok,
+  Some,
+  None,
+  IsOk,
+  IfErr,
+  ◌↔◌,
+};
 ghost use Rattle.refute_check.specs.Refutations.{line_limit};
 ghost use Rattle.std.specs.List.{position_or_len};
 ghost use Rattle.refute_check.specs.Reading.{IsTakenAs, CutsAgree};

@@ -7,5 +7,6 @@ abbrev pub invariant-loop-byte : goal.invariant-loop-byte
 invariant-loop-byte l =
     record {
       small : l.size < 4294967296;
-      read : fold read_byte no_number l.bytes ≡ fold read_byte (let r : Reader = record { done = l.numbers.items; size = l.size; negative = l.negative } in r) (drop l.byte-index l.bytes);
+      read : fold read_byte no_number l.bytes ≡ fold read_byte
+          (let r : Reader = record { done = l.numbers.items; size = l.size; negative = l.negative } in r) (drop l.byte-index l.bytes);
     }

@@ -10,7 +10,8 @@ pub index-requires : goal.index-requires
 index-requires c = let p = lies_at c.self.inside _ c.args.place c.self.view_is c.self.invariant c.requires in grind (arith, common_steps, p.there)
 
 pub piece-requires-clause-ordered : goal.piece-requires-clause-ordered
-piece-requires-clause-ordered c = let p = lies_at c.self.inside _ c.args.place c.self.view_is c.self.invariant c.requires in grind (arith, common_steps, p.ordered)
+piece-requires-clause-ordered c = let p = lies_at c.self.inside _ c.args.place c.self.view_is c.self.invariant c.requires
+    in grind (arith, common_steps, p.ordered)
 
 pub piece-requires-clause-there : goal.piece-requires-clause-there
 piece-requires-clause-there c = let p = lies_at c.self.inside _ c.args.place c.self.view_is c.self.invariant c.requires in grind (arith, common_steps, p.ends)

@@ -1,4 +1,4 @@
-use Rattle.std.proofs.Common.{◌≡◌, arith, subst, sym, IsTrue, get_or}
+use Rattle.std.proofs.Common.{subst, sym, IsTrue}
 use Rattle.std.specs.Borrow.{Bor}
 use Rattle.std.specs.Prelude.{List, ℤ}
 use Rattle.cnf_core.specs.Clauses.{is_clause, is_within}
@@ -13,4 +13,5 @@ push-requires-clause-rises c =
 pub push-requires-clause-within : goal.push-requires-clause-within
 push-requires-clause-within c =
     let g = good-at c.args.self.now.vars c.args.clauses.now c.loop-clause.clause-index c.clause-item.result c.requires.clauses c.loop-clause-test.true in
-    subst (λ n. IsTrue (is_within n c.clause-item.result.now)) (sym c.loop-clause.invariant.vars) (subst (λ (b : Bor (List ℤ)). IsTrue (is_within c.args.self.now.vars b.now)) (sym c.clause-item.is) g.1)
+    subst (λ n. IsTrue (is_within n c.clause-item.result.now)) (sym c.loop-clause.invariant.vars)
+    (subst (λ (b : Bor (List ℤ)). IsTrue (is_within c.args.self.now.vars b.now)) (sym c.clause-item.is) g.1)

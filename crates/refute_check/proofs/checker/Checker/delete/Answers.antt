@@ -8,7 +8,8 @@ invariant_of-self c =
     let line = ap (λ (s : Checking). s.line) c.self.view_is in
     record {
       few = c.self.invariant.few;
-      within = subst (AreWithin c.self.inside.vars) (sym (c.delete.ensures.gone c.if-delete.true)) (AreWithin-without c.self.inside.vars c.self.inside.kept c.as_slice.result.now c.self.invariant.within);
+      within = subst (AreWithin c.self.inside.vars) (sym (c.delete.ensures.gone c.if-delete.true))
+          (AreWithin-without c.self.inside.vars c.self.inside.kept c.as_slice.result.now c.self.invariant.within);
       room = omega (arith, line);
       begun = omega arith;
       lines = omega (arith, line);

@@ -20,13 +20,22 @@ invariant_of-checker c =
 
 pub keep-requires-clause-within : goal.keep-requires-clause-within
 keep-requires-clause-within c =
-    let vars : c.loop-place.checker.vars ≡ c.args.cnf.now.vars = ap (λ (s : Checking). s.vars) c.loop-place.invariant ∙ keep-vars (opening c.args.cnf.now.vars) (take c.loop-place.place c.args.cnf.now.clauses) in
+    let vars : c.loop-place.checker.vars ≡ c.args.cnf.now.vars = ap (λ (s : Checking). s.vars) c.loop-place.invariant
+    ∙ keep-vars (opening c.args.cnf.now.vars) (take c.loop-place.place c.args.cnf.now.clauses) in
     subst (λ n. IsTrue (is_within n c.clause.result.now)) (sym vars) c.clause.ensures.within
 
 pub keep-requires-clause-room : goal.keep-requires-clause-room
 keep-requires-clause-room c =
-    let next : c.loop-place.checker.next ≡ (fold keep (opening c.args.cnf.now.vars) (take c.loop-place.place c.args.cnf.now.clauses)).next = ap (λ (s : Checking). s.next) c.loop-place.invariant in
-    omega (arith, next, keep-next (opening c.args.cnf.now.vars) (take c.loop-place.place c.args.cnf.now.clauses), length-taken c.args.cnf.now.clauses c.loop-place.place (omega (arith, c.len-place-end.ensures.len)), c.len-place-end.ensures.len, c.len-place-end.ensures.limit)
+    let next : c.loop-place.checker.next ≡ (fold keep (opening c.args.cnf.now.vars) (take c.loop-place.place c.args.cnf.now.clauses)).next =
+    ap (λ (s : Checking). s.next) c.loop-place.invariant in
+    omega (
+      arith,
+      next,
+      keep-next (opening c.args.cnf.now.vars) (take c.loop-place.place c.args.cnf.now.clauses),
+      length-taken c.args.cnf.now.clauses c.loop-place.place (omega (arith, c.len-place-end.ensures.len)),
+      c.len-place-end.ensures.len,
+      c.len-place-end.ensures.limit,
+    )
 
 pub loop-place-preserved : goal.loop-place-preserved
 loop-place-preserved c =

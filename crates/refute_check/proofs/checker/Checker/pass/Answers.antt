@@ -9,7 +9,8 @@ invariant_of-self-2 c =
     let next = ap (λ (s : Checking). s.next) c.self.view_is in
     record {
       few = c.self.invariant.few;
-      within = subst (AreWithin c.self.inside.vars) (sym c.in_ok-insert.ensures.ok) (AreWithin-insert c.self.inside.vars c.self.inside.kept c.self.inside.next _ c.self.invariant.within (Prim.grind arith));
+      within = subst (AreWithin c.self.inside.vars) (sym c.in_ok-insert.ensures.ok)
+          (AreWithin-insert c.self.inside.vars c.self.inside.kept c.self.inside.next _ c.self.invariant.within (Prim.grind arith));
       room = omega (arith, line, next);
       begun = omega arith;
       lines = omega (arith, line, next);

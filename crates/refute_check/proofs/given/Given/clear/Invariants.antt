@@ -10,7 +10,8 @@ invariant-loop-lit l =
     record {
       vars : l.self-inside.vars ≡ l.initial.self-inside.vars;
       room : length l.self-inside.marks.items ≡ 2 * l.self-inside.vars + 2;
-      marked : (z : ℤ) → 0 < var_of z → var_of z ≤ l.self-inside.vars → get_or l.self-inside.marks.items (place_of z) false ≡ true → is_among l.self-inside.literals.items z ≡ true;
+      marked : (z : ℤ) → 0 < var_of z → var_of z ≤ l.self-inside.vars → get_or l.self-inside.marks.items (place_of z) false ≡ true
+          → is_among l.self-inside.literals.items z ≡ true;
       within : IsTrue (is_within l.self-inside.vars l.self-inside.literals.items);
     }
 
