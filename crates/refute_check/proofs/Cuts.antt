@@ -35,11 +35,11 @@ use Rattle.refute_check.specs.declared.text.Taken.{Taken}
 use Rattle.refute_check.specs.declared.text.Taken.TheVariants.{More, Header, Line as Body, Form}
 
 -- a line ends here
-abbrev Ends : Reading → List ℕ → List Taken → Reading → Type 0
+abbrev pub Ends : Reading → List ℕ → List Taken → Reading → Type 0
 Ends s bs ts t = (x : Taken) × (xs : List Taken) × (ts ≡ x ∷ xs) × IsTakenAs s.line s.unfinished x × Reads (after_taken s x) bs xs t
 
 -- a byte is read, by whether a fault was met before and whether it ends a line
-abbrev Step : Bool → Bool → Reading → ℕ → List ℕ → List Taken → Reading → Type 0
+abbrev pub Step : Bool → Bool → Reading → ℕ → List ℕ → List Taken → Reading → Type 0
 Step f d s b bs ts t = MatchBool f ((ts ≡ []) × (t ≡ s)) (MatchBool d (Ends s bs ts t) (Reads (pushed s (b ∷ [])) bs ts t))
 
 stuck-step : (f d : Bool) (s : Reading) (b : ℕ) (bs : List ℕ) (ts : List Taken) (t : Reading) → f ≡ true → Step f d s b bs ts t → (ts ≡ []) × (t ≡ s)
@@ -68,17 +68,17 @@ cuts-agree (c ∷ front) back s t u xs ys a b = cut-step (is_some s.fault) (nat_
 fault-free : (s : Reading) → s.fault ≡ None → is_some s.fault ≡ false
 fault-free s e = ap is_some e
 
-step-push : (s : Reading) (b : ℕ) (bs : List ℕ) (ts : List Taken) (t : Reading) → s.fault ≡ None → nat_eq b 10 ≡ false
+pub step-push : (s : Reading) (b : ℕ) (bs : List ℕ) (ts : List Taken) (t : Reading) → s.fault ≡ None → nat_eq b 10 ≡ false
     → Reads (pushed s (b ∷ [])) bs ts t → Reads s (b ∷ bs) ts t
 step-push s b bs ts t e n r = subst (λ f. Step f (nat_eq b 10) s b bs ts t) (sym (fault-free s e)) (subst (λ d. Step false d s b bs ts t) (sym n) r)
 
-step-end : (s : Reading) (b : ℕ) (bs : List ℕ) (ts : List Taken) (t : Reading) → s.fault ≡ None → nat_eq b 10 ≡ true → Ends s bs ts t → Reads s (b ∷ bs) ts t
+pub step-end : (s : Reading) (b : ℕ) (bs : List ℕ) (ts : List Taken) (t : Reading) → s.fault ≡ None → nat_eq b 10 ≡ true → Ends s bs ts t → Reads s (b ∷ bs) ts t
 step-end s b bs ts t e n r = subst (λ f. Step f (nat_eq b 10) s b bs ts t) (sym (fault-free s e)) (subst (λ d. Step false d s b bs ts t) (sym n) r)
 
-pushed-nil : (s : Reading) → pushed s [] ≡ s
+pub pushed-nil : (s : Reading) → pushed s [] ≡ s
 pushed-nil s = ap (λ u. record s { unfinished = u }) (append-nil s.unfinished)
 
-pushed-cons : (s : Reading) (b : ℕ) (bs : List ℕ) → pushed (pushed s (b ∷ [])) bs ≡ pushed s (b ∷ bs)
+pub pushed-cons : (s : Reading) (b : ℕ) (bs : List ℕ) → pushed (pushed s (b ∷ [])) bs ≡ pushed s (b ∷ bs)
 pushed-cons s b bs = ap (λ u. record s { unfinished = u }) (append_assoc s.unfinished (b ∷ []) bs)
 
 -- bytes without a line's end

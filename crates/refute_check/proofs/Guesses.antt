@@ -92,11 +92,11 @@ read-signed : (z : ℤ) (done : List ℤ) → is_small z ≡ true
 read-signed (pos n) done h = ap numbers_of (read-decimal n (ltb-true n 4294967296 h) done false)
 read-signed (negsuc n) done h = ap numbers_of (read-decimal (suc n) (ltb-true (suc n) 4294967296 h) done true)
 
-and-left : (a b : Bool) → (a && b) ≡ true → a ≡ true
+pub and-left : (a b : Bool) → (a && b) ≡ true → a ≡ true
 and-left true b h = refl
 and-left false b h = h
 
-and-right : (a b : Bool) → (a && b) ≡ true → b ≡ true
+pub and-right : (a b : Bool) → (a && b) ≡ true → b ≡ true
 and-right true b h = h
 and-right false b h = absurd (cc)
 
@@ -113,7 +113,7 @@ pub guessed-numbers_text : (zs : List ℤ) → list_all is_small zs ≡ true →
 guessed-numbers_text zs h = read-numbers no_number zs h
 
 -- a line's text is its letter and its numbers
-abbrev numbers_after : Line → List ℤ
+abbrev pub numbers_after : Line → List ℤ
 numbers_after (Add lits hints) = lits ++ pos 0 ∷ (map pos hints ++ pos 0 ∷ [])
 numbers_after (Delete ns) = map pos ns ++ pos 0 ∷ []
 
@@ -125,7 +125,7 @@ numbers_text-append (x ∷ xs) ys = ap (λ t. codes " " ++ signed_decimal x ++ t
 zero-text : numbers_text (pos 0 ∷ []) ≡ codes " 0"
 zero-text = ap (λ t. codes " " ++ t ++ []) (decimal_digit 0 (omega arith))
 
-and-true : (a b : Bool) → a ≡ true → b ≡ true → (a && b) ≡ true
+pub and-true : (a b : Bool) → a ≡ true → b ≡ true → (a && b) ≡ true
 and-true a b p q = cc
 
 -- the literals of a clause are literals
@@ -189,6 +189,26 @@ not-nil : (ns : List ℕ) → not (is_nil ns) ≡ true → is_nil ns ≡ false
 not-nil [] h = absurd (cc)
 not-nil (n ∷ ns) h = refl
 
+-- the letter of a line
+abbrev pub letter_of : Line → ℕ
+letter_of (Add lits hints) = 97
+letter_of (Delete ns) = 100
+
+pub text-of-numbers : (l : Line) → line_text l ≡ letter_of l ∷ numbers_text (numbers_after l)
+text-of-numbers (Add lits hints) = text-add lits hints
+text-of-numbers (Delete ns) = text-delete ns
+
+pub small-of-line : (l : Line) → is_readable l ≡ true → list_all is_small (numbers_after l) ≡ true
+small-of-line (Add lits hints) h =
+    let front : (is_clause lits && list_all (λ l. nat_lt (var_of l) 2147483648) lits) ≡ true = and-left _ (list_all is_numbered hints) h in
+    let ns : list_all is_numbered hints ≡ true = and-right (is_clause lits && list_all (λ l. nat_lt (var_of l) 2147483648) lits) _ h in
+    let bound : list_all (λ l. nat_lt (var_of l) 2147483648) lits ≡ true = and-right (is_clause lits) _ front in
+    list_all-append is_small lits (pos 0 ∷ (map pos hints ++ pos 0 ∷ []))
+    ∙ and-true _ _ (small-literals lits bound) (list_all-append is_small (map pos hints) (pos 0 ∷ []) ∙ and-true _ true (small-numbers hints ns) refl)
+small-of-line (Delete ns) h =
+    let all : list_all is_numbered ns ≡ true = and-right (not (is_nil ns)) _ h in
+    list_all-append is_small (map pos ns) (pos 0 ∷ []) ∙ and-true _ true (small-numbers ns all) refl
+
 -- the text of a line is taken for that line
 pub line_guess-line_text : (l : Line) → is_readable l ≡ true → line_guess (line_text l) ≡ Some l
 line_guess-line_text (Add lits hints) h =
@@ -197,10 +217,7 @@ line_guess-line_text (Add lits hints) h =
     let clause : is_clause lits ≡ true = and-left _ _ front in
     let bound : list_all (λ l. nat_lt (var_of l) 2147483648) lits ≡ true = and-right (is_clause lits) _ front in
     let zs : List ℤ = lits ++ pos 0 ∷ (map pos hints ++ pos 0 ∷ []) in
-    let small : list_all is_small zs ≡ true =
-    list_all-append is_small lits (pos 0 ∷ (map pos hints ++ pos 0 ∷ []))
-    ∙ and-true _ _ (small-literals lits bound) (list_all-append is_small (map pos hints) (pos 0 ∷ []) ∙ and-true _ true (small-numbers hints ns) refl)
-    in
+    let small : list_all is_small zs ≡ true = small-of-line (Add lits hints) h in
     let read : drop 1 (guessed (numbers_text zs)) ≡ zs = ap (drop 1) (guessed-numbers_text zs small) in
     let found : literals_in zs ≡ lits = literals-front lits (map pos hints ++ pos 0 ∷ []) (literals 0 lits clause bound) in
     let after : clause_numbers_in (drop (length lits + 1) zs) ≡ hints = ap clause_numbers_in (drop-past lits (pos 0) (map pos hints ++ pos 0 ∷ []))
@@ -214,7 +231,7 @@ line_guess-line_text (Delete ns) h =
     let some : is_nil ns ≡ false = not-nil ns (and-left (not (is_nil ns)) _ h) in
     let all : list_all is_numbered ns ≡ true = and-right (not (is_nil ns)) _ h in
     let zs : List ℤ = map pos ns ++ pos 0 ∷ [] in
-    let small : list_all is_small zs ≡ true = list_all-append is_small (map pos ns) (pos 0 ∷ []) ∙ and-true _ true (small-numbers ns all) refl in
+    let small : list_all is_small zs ≡ true = small-of-line (Delete ns) h in
     let read : drop 1 (guessed (numbers_text zs)) ≡ zs = ap (drop 1) (guessed-numbers_text zs small) in
     ap line_guess (text-delete ns)
     ∙ ap delete_of read

@@ -4,3 +4,4 @@ pub mod Sound
 pub mod Guesses
 pub mod Heads
 pub mod Cuts
+pub mod Wholes

@@ -29,6 +29,8 @@ use Rattle.std.specs.List.{fold}
 use Rattle.std.specs.Option.{option_map_or}
 use Rattle.cnf_core.specs.Clauses.{var_of, is_clause}
 use Rattle.refute_check.specs.Refutations.{is_nil}
+use Rattle.tc_base.specs.declared.model.Model.TheVariants.{Sc, Tso, Pso}
+use Rattle.refute_check.specs.declared.head.Head.{Head}
 use Rattle.refute_check.specs.declared.line.Line.{Line}
 use Rattle.refute_check.specs.declared.line.Line.TheVariants.{Add, Delete}
 
@@ -102,3 +104,32 @@ line_by letter zs = if letter == 97 then add_of zs else (if letter == 100 then d
 abbrev pub line_guess : List ℕ → Option Line
 line_guess [] = None
 line_guess (b ∷ bs) = line_by b (drop 1 (guessed bs))
+
+-- one digit more of a number of 8 bits
+abbrev pub with_digit : ℕ → ℕ → ℕ
+with_digit n b = (n * 10 + b % 16) % 256
+
+-- a number of 8 bits in some digits
+abbrev pub small_number : List ℕ → ℕ
+small_number digits = fold with_digit 0 digits
+
+-- what comes after a first line's model, where it isn't empty, is ` switches ` and a number
+abbrev pub switches_in : List ℕ → Option ℕ
+switches_in bytes = if is_nil bytes then None else Some (small_number (drop 10 bytes))
+
+-- the first line by its model's first letter and the bytes from there on
+abbrev pub head_by : ℕ → List ℕ → Option Head
+head_by letter bytes =
+    if letter == 115
+    then Some (record { model = Sc; switches = switches_in (drop 2 bytes) })
+    else (if letter == 116
+    then Some (record { model = Tso; switches = switches_in (drop 3 bytes) })
+    else (if letter == 112 then Some (record { model = Pso; switches = switches_in (drop 3 bytes) }) else None))
+
+abbrev pub head_from : List ℕ → Option Head
+head_from [] = None
+head_from (b ∷ bs) = head_by b (b ∷ bs)
+
+-- the first line that some bytes may be
+abbrev pub head_guess : List ℕ → Option Head
+head_guess bytes = head_from (drop 18 bytes)

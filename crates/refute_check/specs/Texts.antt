@@ -59,8 +59,3 @@ IsNoLine bytes = (l : Line) → IsTrue (is_readable l) → line_text l ≡ bytes
 -- the bytes are the text of no first line
 abbrev pub IsNoHead : List ℕ → Type 0
 IsNoHead bytes = (h : Head) → IsTrue (is_head h) → head_text h ≡ bytes → ⊥
-
--- the bytes are the text of no first line with that model
-abbrev pub IsNoHeadOf : Model → List ℕ → Type 0
-IsNoHeadOf m bytes = (s : Option ℕ) → option_map_or (λ k. nat_lt k 256) s true ≡ true
-    → codes "clap-refutation 2 " ++ model_text m ++ switches_text s ≡ bytes → ⊥

@@ -1,12 +1,12 @@
 //! The lines of a refutation, read from their bytes.
 ghost use Rattle.std.specs.Prelude.{◌≡◌, ◌↔◌, IfOk, MatchOption, IsTrue};
-ghost use Rattle.refute_check.specs.Texts.{head_text, line_text, is_head, is_readable, IsNoHead, IsNoHeadOf, IsNoLine};
+ghost use Rattle.refute_check.specs.Texts.{head_text, line_text, is_head, is_readable, IsNoHead, IsNoLine};
 
 use crate::guess::line_guess;
+use crate::head_guess::head_guess;
 use crate::write::{write_head, write_line};
 use crate::{Head, Line};
 use std::alloc::{AllocError, Global};
-use tc_base::Model;
 
 /// The line whose text these bytes are, without its end, if there is one. Only one line can have them.
 pub fn read_line(alloc: Global, bytes: &[u8]) -> Result<Option<Line>, AllocError>
@@ -39,38 +39,15 @@ fn is_head_text(alloc: Global, head: Head, bytes: &[u8]) -> Result<bool, AllocEr
     Ok(text.as_bytes() == bytes)
 }
 
-/// The first line whose text these bytes are, without its end, if there is one. There are 771 first lines, and each is tried.
+/// The first line whose text these bytes are, without its end, if there is one. Only one first line can have them.
 pub fn read_head(alloc: Global, bytes: &[u8]) -> Result<Option<Head>, AllocError>
     ensures { IfOk result (λ head. MatchOption head (IsNoHead bytes.now) (λ h. (head_text h ≡ bytes.now) × IsTrue (is_head h))) }
 {
-    if let Some(head) = head_of(alloc, Model::Sc, bytes)? {
-        return Ok(Some(head));
-    }
-    if let Some(head) = head_of(alloc, Model::Tso, bytes)? {
-        return Ok(Some(head));
-    }
-    head_of(alloc, Model::Pso, bytes)
-}
-
-/// The first line of that model whose text these bytes are.
-fn head_of(alloc: Global, model: Model, bytes: &[u8]) -> Result<Option<Head>, AllocError>
-    ensures { IfOk result (λ head. MatchOption head (IsNoHeadOf model bytes.now) (λ h. (head_text h ≡ bytes.now) × IsTrue (is_head h))) }
-{
-    let head = Head {
-        model,
-        switches: None,
+    let Some(head) = head_guess(bytes) else {
+        return Ok(None);
     };
     if is_head_text(alloc, head, bytes)? {
         return Ok(Some(head));
-    }
-    for switches in 0..256u16 {
-        let head = Head {
-            model,
-            switches: Some(switches as u8),
-        };
-        if is_head_text(alloc, head, bytes)? {
-            return Ok(Some(head));
-        }
     }
     Ok(None)
 }
