@@ -1,0 +1,24 @@
+-- How what the readers answer is put together.
+use Rattle.std.proofs.Common.{◌≡◌, ℕ, List, [], ◌∷◌, ◌++◌, length, Option, Some, None, refl, sym, ap, ◌∙◌, append_assoc}
+use Rattle.tc_tree.specs.Grammar.{Word}
+use Rattle.tc_parser.specs.declared.reader.Stop.{Stop}
+use Rattle.tc_parser.specs.declared.reader.Stop.TheVariants.{Memory, Left}
+use Rattle.tc_parser.specs.helpers.Reading.{Expected, fault}
+use Rattle.tc_parser.specs.helpers.Read.{Stops, Moves}
+
+-- past what these expect, the fault is that of those
+pub along : (ds fs gs : List Expected) (ws rest : List Word) (stop : Stop) → Moves ds ws rest → Stops fs rest stop → Stops (ds ++ (fs ++ gs)) ws stop
+along ds fs gs ws rest Memory m h = tt
+along ds fs gs ws rest (Left n) m h = λ s.
+    ap (λ (z : List Expected). fault (Some z) ws) (append_assoc ds (fs ++ gs) s) ∙ m ((fs ++ gs) ++ s)
+    ∙ ap (λ (z : List Expected). fault (Some z) rest) (append_assoc fs gs s) ∙ h (gs ++ s)
+
+-- a fault where more is expected after
+pub at_once : (fs gs : List Expected) (ws : List Word) (stop : Stop) → Stops fs ws stop → Stops (fs ++ gs) ws stop
+at_once fs gs ws Memory h = tt
+at_once fs gs ws (Left n) h = λ s. ap (λ (z : List Expected). fault (Some z) ws) (append_assoc fs gs s) ∙ h (gs ++ s)
+
+-- a fault, where what is expected begins so
+pub goes : (es fs : List Expected) (ws rest : List Word) (stop : Stop) → ((s : List Expected) → fault (Some (es ++ s)) ws ≡ fault (Some (fs ++ s)) rest) → Stops fs rest stop → Stops es ws stop
+goes es fs ws rest Memory m h = tt
+goes es fs ws rest (Left n) m h = λ s. m s ∙ h s
