@@ -1,69 +1,108 @@
 //! The walk over a program in the order of its text.
+ghost use Rattle.std.specs.Prelude.{◌≡◌, ◌+◌, [], IfOk, map, take, length};
+ghost use Rattle.tc_tree.specs.Seen.{body_of, thread_of, program_of};
+ghost use Rattle.tc_names.specs.Names.{twice_fault, size_fault, global_name, globals_fault, declarations_fault, body_fault, threads_fault, names_fault, program_declarations, ◌then◌};
+ghost use Rattle.tc_names.specs.Names as rules;
+ghost use Rattle.tc_names.specs.helpers.Answers.{Tells, TellsUnlessMemory};
 
 use crate::fault::NameFault;
 use crate::scope::{Declaration, Meaning, Scope, check_first};
 use crate::uses::check_statements;
 use std::alloc::{AllocError, Global as Heap};
-use tc_tree::{Body, Global, Local, Name, Thread, Tree};
+use tc_tree::{Body, Global, Local, Name, Program, Thread, Tree};
 
 /// Refuses a program at the first token that breaks the rules on names.
-pub fn check_names(alloc: Heap, tree: &Tree) -> Result<(), NameFault> {
-    let all = declared(alloc, tree)?;
-    check_globals(all.as_slice(), tree.globals.as_slice())?;
-    check_threads(alloc, all.as_slice(), tree)?;
-    check_body(alloc, all.as_slice(), &[], &tree.main)
+pub fn check_names(alloc: Heap, tree: &Tree) -> Result<(), NameFault>
+    ensures { TellsUnlessMemory result (names_fault tree.now.text.now (program_of tree.now.program)) }
+{
+    let source = tree.text;
+    let program = &tree.program;
+    let all = declared(alloc, program)?;
+    check_globals(source, all.as_slice(), program.globals.as_slice())?;
+    check_threads(
+        alloc,
+        source,
+        all.as_slice(),
+        program.globals.len(),
+        program.threads.as_slice(),
+    )?;
+    check_body(alloc, source, all.as_slice(), &[], &program.main)
 }
 
 /// The global declarations and the threads, in order.
-fn declared<'a>(alloc: Heap, tree: &Tree<'a>) -> Result<Vec<Declaration<'a>>, AllocError> {
+fn declared(alloc: Heap, program: &Program) -> Result<Vec<Declaration>, AllocError>
+    ensures { IfOk result (λ all. all.items ≡ program_declarations (program_of program.now)) }
+{
     let mut all = Vec::new(alloc);
-    for global in &tree.globals {
+    for global in &program.globals {
         all.push(global_declaration(global))?;
     }
-    for thread in &tree.threads {
-        all.push(Declaration {
-            name: thread.name.text,
-            meaning: Meaning::Thread(thread.parameters.len()),
-        })?;
+    for thread in &program.threads {
+        all.push(thread_declaration(thread))?;
     }
     Ok(all)
 }
 
-fn global_declaration<'a>(global: &Global<'a>) -> Declaration<'a> {
+fn thread_declaration(thread: &Thread) -> Declaration
+    ensures { result ≡ rules.thread_declaration (thread_of thread.now) }
+{
+    Declaration {
+        name: thread.name,
+        meaning: Meaning::Thread(thread.parameters.len()),
+    }
+}
+
+fn global_declaration(global: &Global) -> Declaration
+    ensures { result ≡ rules.global_declaration global.now }
+{
     match global {
         Global::Int(name, _) => Declaration {
-            name: name.text,
+            name: *name,
             meaning: Meaning::Global,
         },
         Global::Array(name, _) => Declaration {
-            name: name.text,
+            name: *name,
             meaning: Meaning::Array,
         },
         Global::Mutex(name) => Declaration {
-            name: name.text,
+            name: *name,
             meaning: Meaning::Mutex,
         },
         Global::Condition(name) => Declaration {
-            name: name.text,
+            name: *name,
             meaning: Meaning::Condition,
         },
     }
 }
 
-fn check_globals(all: &[Declaration], globals: &[Global]) -> Result<(), NameFault> {
-    for (i, global) in globals.iter().enumerate() {
-        check_global(&all[..i], global)?;
+/// The globals, of which these are the first declarations.
+fn check_globals(
+    source: &[u8],
+    all: &[Declaration],
+    globals: &[Global],
+) -> Result<(), NameFault>
+    requires { take (length globals.now) all.now ≡ map rules.global_declaration globals.now }
+    ensures { Tells result (globals_fault source.now [] globals.now) }
+{
+    for i in 0..globals.len() {
+        check_global(source, &all[..i], &globals[i])?;
     }
     Ok(())
 }
 
-fn check_global(earlier: &[Declaration], global: &Global) -> Result<(), NameFault> {
+fn check_global(
+    source: &[u8],
+    earlier: &[Declaration],
+    global: &Global,
+) -> Result<(), NameFault>
+    ensures { Tells result (twice_fault source.now earlier.now (global_name global.now) then size_fault global.now) }
+{
     match global {
         Global::Int(name, _) | Global::Mutex(name) | Global::Condition(name) => {
-            check_first(earlier, name)
+            check_first(source, earlier, name)
         }
         Global::Array(name, size) => {
-            check_first(earlier, name)?;
+            check_first(source, earlier, name)?;
             if size.value == 0 {
                 Err(NameFault::Kind(size.place))
             } else {
@@ -73,12 +112,23 @@ fn check_global(earlier: &[Declaration], global: &Global) -> Result<(), NameFaul
     }
 }
 
-fn check_threads<'a>(alloc: Heap, all: &[Declaration<'a>], tree: &Tree<'a>) -> Result<(), NameFault> {
-    let globals = tree.globals.len();
-    for (i, thread) in tree.threads.iter().enumerate() {
-        check_first(&all[..globals + i], &thread.name)?;
+/// The threads, declared after so many globals.
+fn check_threads(
+    alloc: Heap,
+    source: &[u8],
+    all: &[Declaration],
+    globals: usize,
+    threads: &[Thread],
+) -> Result<(), NameFault>
+    requires { globals + length threads.now ≡ length all.now }
+    ensures { TellsUnlessMemory result (threads_fault source.now all.now (take globals all.now) (map thread_of threads.now)) }
+{
+    for i in 0..threads.len() {
+        let thread = &threads[i];
+        check_first(source, &all[..globals + i], &thread.name)?;
         check_body(
             alloc,
+            source,
             all,
             thread.parameters.as_slice(),
             &thread.body,
@@ -88,34 +138,67 @@ fn check_threads<'a>(alloc: Heap, all: &[Declaration<'a>], tree: &Tree<'a>) -> R
 }
 
 /// The parameters and the declarations of a body, then its statements.
-fn check_body<'a>(
+fn check_body(
     alloc: Heap,
-    all: &[Declaration<'a>],
-    parameters: &[Name<'a>],
-    body: &Body<'a>,
-) -> Result<(), NameFault> {
-    let mut own = Vec::new(alloc);
-    for name in parameters {
-        check_first(own.as_slice(), name)?;
-        own.push(Declaration {
-            name: name.text,
-            meaning: Meaning::Parameter,
-        })?;
-    }
-    for local in &body.locals {
-        let (name, meaning) = match local {
-            Local::Int(name) => (name, Meaning::Local),
-            Local::Handle(name) => (name, Meaning::Handle),
-        };
-        check_first(own.as_slice(), name)?;
-        own.push(Declaration {
-            name: name.text,
-            meaning,
-        })?;
-    }
+    source: &[u8],
+    all: &[Declaration],
+    parameters: &[Name],
+    body: &Body,
+) -> Result<(), NameFault>
+    ensures { TellsUnlessMemory result (body_fault source.now all.now parameters.now (body_of body.now)) }
+{
+    let own = own_declarations(alloc, parameters, body.locals.as_slice())?;
+    check_own(source, own.as_slice())?;
     let scope = Scope {
+        source,
         own: own.as_slice(),
         all,
     };
     check_statements(scope, body.block.statements.as_slice())
+}
+
+/// The parameters, then the declarations of a body.
+fn own_declarations(
+    alloc: Heap,
+    parameters: &[Name],
+    locals: &[Local],
+) -> Result<Vec<Declaration>, AllocError>
+    ensures { IfOk result (λ own. own.items ≡ rules.own_declarations parameters.now locals.now) }
+{
+    let mut own = Vec::new(alloc);
+    for name in parameters {
+        own.push(Declaration {
+            name: *name,
+            meaning: Meaning::Parameter,
+        })?;
+    }
+    for local in locals {
+        own.push(local_declaration(local))?;
+    }
+    Ok(own)
+}
+
+fn local_declaration(local: &Local) -> Declaration
+    ensures { result ≡ rules.local_declaration local.now }
+{
+    match local {
+        Local::Int(name) => Declaration {
+            name: *name,
+            meaning: Meaning::Local,
+        },
+        Local::Handle(name) => Declaration {
+            name: *name,
+            meaning: Meaning::Handle,
+        },
+    }
+}
+
+/// Refuses the first of a body's own declarations whose name was declared before it.
+fn check_own(source: &[u8], own: &[Declaration]) -> Result<(), NameFault>
+    ensures { Tells result (declarations_fault source.now [] own.now) }
+{
+    for i in 0..own.len() {
+        check_first(source, &own[..i], &own[i].name)?;
+    }
+    Ok(())
 }

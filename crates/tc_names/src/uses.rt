@@ -1,12 +1,18 @@
 //! Uses of names in statements and expressions.
+ghost use Rattle.std.specs.Prelude.{◌≡◌, length, map};
+ghost use Rattle.tc_tree.specs.Seen.{expression_of, expressions_of, statement_of, branch_of};
+ghost use Rattle.tc_names.specs.Names.{name_fault, is_int, is_meaning, thread_fault, expression_fault, expressions_fault, action_fits, statement_fault, statements_fault};
+ghost use Rattle.tc_names.specs.helpers.Answers.{Tells, plain_scope, statements_seen, branch_fault, branches_fault};
 
 use crate::fault::NameFault;
-use crate::scope::{Meaning, Scope};
+use crate::scope::{Meaning, Scope, meaning_of};
 use tc_tree::{Action, Block, Branch, Expression, Name, Statement};
 
 /// Refuses a name of another meaning.
-fn check_meaning(scope: Scope, name: &Name, wanted: Meaning) -> Result<(), NameFault> {
-    if scope.meaning(name)? == wanted {
+fn check_meaning(scope: Scope, name: &Name, wanted: Meaning) -> Result<(), NameFault>
+    ensures { Tells result (name_fault (is_meaning wanted) (plain_scope scope.entry) name.now) }
+{
+    if meaning_of(scope, name)? == wanted {
         Ok(())
     } else {
         Err(NameFault::Kind(name.place))
@@ -14,23 +20,29 @@ fn check_meaning(scope: Scope, name: &Name, wanted: Meaning) -> Result<(), NameF
 }
 
 /// Refuses a name that is no int.
-fn check_int(scope: Scope, name: &Name) -> Result<(), NameFault> {
-    match scope.meaning(name)? {
+fn check_int(scope: Scope, name: &Name) -> Result<(), NameFault>
+    ensures { Tells result (name_fault is_int (plain_scope scope.entry) name.now) }
+{
+    match meaning_of(scope, name)? {
         Meaning::Global | Meaning::Parameter | Meaning::Local => Ok(()),
         _ => Err(NameFault::Kind(name.place)),
     }
 }
 
 /// Refuses a name that is no thread, or one with another number of parameters.
-fn check_thread(scope: Scope, name: &Name, arguments: usize) -> Result<(), NameFault> {
-    match scope.meaning(name)? {
+fn check_thread(scope: Scope, name: &Name, arguments: usize) -> Result<(), NameFault>
+    ensures { Tells result (thread_fault (plain_scope scope.entry) name.now arguments) }
+{
+    match meaning_of(scope, name)? {
         Meaning::Thread(parameters) if parameters == arguments => Ok(()),
         Meaning::Thread(_) => Err(NameFault::Arguments(name.place)),
         _ => Err(NameFault::Kind(name.place)),
     }
 }
 
-fn check_expression(scope: Scope, expression: &Expression) -> Result<(), NameFault> {
+fn check_expression(scope: Scope, expression: &Expression) -> Result<(), NameFault>
+    ensures { Tells result (expression_fault (plain_scope scope.entry) (expression_of expression.now)) }
+{
     match expression {
         Expression::Number(_) => Ok(()),
         Expression::Name(name) => check_int(scope, name),
@@ -47,14 +59,20 @@ fn check_expression(scope: Scope, expression: &Expression) -> Result<(), NameFau
     }
 }
 
-fn check_expressions(scope: Scope, expressions: &[Expression]) -> Result<(), NameFault> {
-    for expression in expressions {
+fn check_expressions(scope: Scope, expressions: &[Expression]) -> Result<(), NameFault>
+    ensures { Tells result (expressions_fault (plain_scope scope.entry) (expressions_of expressions.now)) }
+{
+    let mut rest = expressions;
+    while let [expression, later @ ..] = rest {
         check_expression(scope, expression)?;
+        rest = later;
     }
     Ok(())
 }
 
-fn check_action(scope: Scope, action: Action, name: &Name) -> Result<(), NameFault> {
+fn check_action(scope: Scope, action: Action, name: &Name) -> Result<(), NameFault>
+    ensures { Tells result (name_fault (action_fits action) (plain_scope scope.entry) name.now) }
+{
     let wanted = match action {
         Action::Join => Meaning::Handle,
         Action::Lock | Action::Unlock => Meaning::Mutex,
@@ -64,15 +82,21 @@ fn check_action(scope: Scope, action: Action, name: &Name) -> Result<(), NameFau
 }
 
 #[cycle(statements)]
-pub(crate) fn check_statements(scope: Scope, statements: &[Statement]) -> Result<(), NameFault> {
-    for statement in statements {
+pub(crate) fn check_statements(scope: Scope, statements: &[Statement]) -> Result<(), NameFault>
+    ensures { Tells result (statements_fault (plain_scope scope.entry) (statements_seen statements.now)) }
+{
+    let mut rest = statements;
+    while let [statement, later @ ..] = rest {
         check_statement(scope, statement)?;
+        rest = later;
     }
     Ok(())
 }
 
 #[cycle(statements)]
-fn check_statement(scope: Scope, statement: &Statement) -> Result<(), NameFault> {
+fn check_statement(scope: Scope, statement: &Statement) -> Result<(), NameFault>
+    ensures { Tells result (statement_fault (plain_scope scope.entry) (statement_of statement.now)) }
+{
     match statement {
         Statement::Assign(name, value) => {
             check_int(scope, name)?;
@@ -119,15 +143,21 @@ fn check_statement(scope: Scope, statement: &Statement) -> Result<(), NameFault>
 }
 
 #[cycle(statements)]
-fn check_branches(scope: Scope, branches: &[Branch]) -> Result<(), NameFault> {
-    for branch in branches {
+fn check_branches(scope: Scope, branches: &[Branch]) -> Result<(), NameFault>
+    ensures { Tells result (branches_fault (plain_scope scope.entry) (map branch_of branches.now)) }
+{
+    let mut rest = branches;
+    while let [branch, later @ ..] = rest {
         check_branch(scope, branch)?;
+        rest = later;
     }
     Ok(())
 }
 
 #[cycle(statements)]
-fn check_branch(scope: Scope, branch: &Branch) -> Result<(), NameFault> {
+fn check_branch(scope: Scope, branch: &Branch) -> Result<(), NameFault>
+    ensures { Tells result (branch_fault (plain_scope scope.entry) (branch_of branch.now)) }
+{
     check_expression(scope, &branch.condition)?;
     check_statements(scope, branch.body.statements.as_slice())
 }

@@ -1,2 +1,2 @@
-pub mod Words
-pub mod helpers
+pub mod Counts
+pub mod Program

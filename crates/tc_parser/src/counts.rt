@@ -8,10 +8,10 @@ use tc_tree::Global;
 
 /// Whether at some token more brackets are open than may be.
 pub(crate) fn is_deep(tokens: &[Token]) -> bool {
-    let mut open = 0_usize;
+    let mut count = 0_usize;
     for token in tokens {
-        open = open_after(open, token);
-        if open > limits::BRACKETS {
+        count = open_after(count, token);
+        if count > limits::BRACKETS {
             return true;
         }
     }
@@ -19,15 +19,15 @@ pub(crate) fn is_deep(tokens: &[Token]) -> bool {
 }
 
 /// How many brackets are open after a token. A closing one closes the last, whatever its shape, and does nothing where none is open.
-fn open_after(open: usize, token: &Token) -> usize
-    requires { open ≤ 64 }
+fn open_after(count: usize, token: &Token) -> usize
+    requires { count ≤ 64 }
 {
     match token.kind {
-        TokenKind::Sign(Sign::OpenParen | Sign::OpenBracket | Sign::OpenBrace) => open + 1,
+        TokenKind::Sign(Sign::OpenParen | Sign::OpenBracket | Sign::OpenBrace) => count + 1,
         TokenKind::Sign(Sign::CloseParen | Sign::CloseBracket | Sign::CloseBrace) => {
-            open.saturating_sub(1)
+            count.saturating_sub(1)
         }
-        _ => open,
+        _ => count,
     }
 }
 

@@ -2,12 +2,8 @@
 #![tactic(auto)]
 
 mod counts;
-mod expressions;
 mod fault;
 mod parse;
-mod programs;
-mod reader;
-mod statements;
 mod word;
 
 pub use fault::{ParseFault, What};

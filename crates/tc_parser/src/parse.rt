@@ -2,23 +2,26 @@
 
 use crate::counts;
 use crate::fault::{ParseFault, What};
-use crate::programs::read_program;
-use crate::reader::Stop;
 use crate::word::words;
 use std::alloc::Global;
 use tc_base::{Place, limits};
 use tc_lexer::{Token, Tokens};
 use tc_names::{NameFault, check_names};
-use tc_tree::{Global as Declared, Tree};
+use tc_syntax::{Stop, read_program};
+use tc_tree::{Global as Declared, Program, Tree};
 
 /// The tree of a text's tokens.
 pub fn parse<'a>(alloc: Global, source: &'a [u8], tokens: &Tokens) -> Result<Tree<'a>, ParseFault> {
     let tokens = tokens.as_slice();
     check_brackets(tokens)?;
     check_stretch(tokens)?;
-    let tree = tree_of(alloc, source, tokens)?;
+    let program = program_of(alloc, source, tokens)?;
+    let tree = Tree {
+        text: source,
+        program,
+    };
     name_faults(alloc, &tree)?;
-    check_counts(tree.globals.as_slice())?;
+    check_counts(tree.program.globals.as_slice())?;
     Ok(tree)
 }
 
@@ -39,13 +42,13 @@ fn check_stretch(tokens: &[Token]) -> Result<(), ParseFault> {
     )
 }
 
-/// The tree of these tokens, whatever its names.
-fn tree_of<'a>(alloc: Global, source: &'a [u8], tokens: &[Token]) -> Result<Tree<'a>, ParseFault> {
-    let Ok(words) = words(alloc, source, tokens) else {
+/// The program of these tokens, whatever its names.
+fn program_of(alloc: Global, source: &[u8], tokens: &[Token]) -> Result<Program, ParseFault> {
+    let Ok(words) = words(alloc, tokens) else {
         return Err(ParseFault::Memory);
     };
     match read_program(alloc, words.as_slice()) {
-        Ok(tree) => Ok(tree),
+        Ok(program) => Ok(program),
         Err(Stop::Memory) => Err(ParseFault::Memory),
         Err(Stop::Left(left)) => Err(ParseFault::Syntax(place_at(source, tokens, left))),
     }

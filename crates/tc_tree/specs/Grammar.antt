@@ -3,74 +3,24 @@ use Rattle.std.specs.Prelude.{◌≡◌, ℕ, ◌+◌, ◌<◌, ◌≤◌, List,
 use Rattle.tc_base.specs.declared.place.Place.{Place}
 use Rattle.tc_base.specs.declared.arith.UnOp.{UnOp}
 use Rattle.tc_base.specs.declared.arith.UnOp.TheVariants.{Neg, Not, Inv}
-use Rattle.tc_lexer.specs.declared.token.Keyword.{Keyword as AnyKeyword}
 use Rattle.tc_lexer.specs.declared.token.Keyword.TheVariants as keyword
 use Rattle.tc_lexer.specs.declared.token.Sign.{Sign as AnySign}
 use Rattle.tc_lexer.specs.declared.token.Sign.TheVariants as sign
-use Rattle.tc_lexer.specs.Tokens.{PlainToken, keyword_since, sign_since}
-use Rattle.tc_lexer.specs.Tokens as plain
+use Rattle.tc_tree.specs.declared.expression.Name.{Name}
 use Rattle.tc_tree.specs.declared.expression.Number.{Number as AnyNumber}
 use Rattle.tc_tree.specs.declared.expression.Operator.{Operator}
 use Rattle.tc_tree.specs.declared.expression.Operator.TheVariants.{Multiply, Divide, Remainder, Add, Subtract, ShiftLeft, ShiftRight, Less, LessOrEqual, Greater, GreaterOrEqual, Equal, Unequal, BitAnd, BitXor, BitOr, And, Or}
 use Rattle.tc_tree.specs.declared.statement.Action.{Action}
-use Rattle.tc_tree.specs.declared.statement.Action.TheVariants.{Join, Lock, Unlock, Signal, Broadcast}
 use Rattle.tc_tree.specs.declared.statement.Barrier.{Barrier}
-use Rattle.tc_tree.specs.declared.statement.Barrier.TheVariants.{Fence, Stores}
 use Rattle.tc_tree.specs.declared.program.Initial.{Initial}
 use Rattle.tc_tree.specs.declared.program.Initial.TheVariants.{Zero, Plain, Negated}
-
--- ---- tokens
-
--- a name, and the place where it stands
-pub record Name : Type 0 where
-  pub text : List ℕ
-  pub place : Place
-
--- a token as the grammar sees it, with its place where a tree keeps it: at names and numbers, at the keywords that begin a statement and at `}`
-pub data Word : Type 0 where
-  AName : (name : Name) → Word
-  ANumber : (number : AnyNumber) → Word
-  AnIf : (place : Place) → Word
-  AWhile : (place : Place) → Word
-  AnAction : (action : Action) (place : Place) → Word
-  AWait : (place : Place) → Word
-  ABarrier : (barrier : Barrier) (place : Place) → Word
-  AnAssert : (place : Place) → Word
-  AKeyword : (keyword : AnyKeyword) → Word
-  ASign : (sign : AnySign) → Word
-  AnEnd : (place : Place) → Word
-
-abbrev pub keyword_word : AnyKeyword → Place → Word
-keyword_word keyword.If p = AnIf p
-keyword_word keyword.While p = AWhile p
-keyword_word keyword.Join p = AnAction Join p
-keyword_word keyword.Lock p = AnAction Lock p
-keyword_word keyword.Unlock p = AnAction Unlock p
-keyword_word keyword.Signal p = AnAction Signal p
-keyword_word keyword.Broadcast p = AnAction Broadcast p
-keyword_word keyword.Wait p = AWait p
-keyword_word keyword.Fence p = ABarrier Fence p
-keyword_word keyword.Stbar p = ABarrier Stores p
-keyword_word keyword.Assert p = AnAssert p
-keyword_word k p = AKeyword k
-
-abbrev pub sign_word : AnySign → Place → Word
-sign_word sign.CloseBrace p = AnEnd p
-sign_word s p = ASign s
-
--- a token that stands at this place
-abbrev pub word_of : PlainToken → Place → Word
-word_of (plain.Name text) p = AName (record { text = text; place = p })
-word_of (plain.Number n) p = ANumber (record { value = n; place = p })
-word_of (plain.Keyword k) p = keyword_word k p
-word_of (plain.Sign s) p = sign_word s p
-
--- the first language that has the token
-abbrev pub word_since : Word → ℕ
-word_since (AKeyword k) = keyword_since k
-word_since (ASign s) = sign_since s
-word_since (ABarrier Stores p) = 3
-word_since _ = 1
+use Rattle.tc_tree.specs.declared.program.Global.{Global}
+use Rattle.tc_tree.specs.declared.program.Global.TheVariants.{Int, Array, Mutex, Condition}
+use Rattle.tc_tree.specs.declared.program.Local.{Local}
+use Rattle.tc_tree.specs.declared.program.Local.TheVariants.{Int as LocalInt, Handle}
+use Rattle.tc_tree.specs.declared.word.Word.{Word}
+use Rattle.tc_tree.specs.declared.word.Word.TheVariants.{Name as AName, Number as ANumber, If as AnIf, While as AWhile, Action as AnAction, Wait as AWait, Barrier as ABarrier, Assert as AnAssert, Keyword as AKeyword, Sign as ASign, End as AnEnd}
+use Rattle.tc_tree.specs.Words.{word_since}
 
 -- ---- expressions
 
@@ -241,16 +191,6 @@ abbrev mutual
   IsWellOtherwise (ElseIf p c b q o) = IsGrouped c × AreWell b × IsWellOtherwise o
 
 -- ---- programs
-
-pub data Global : Type 0 where
-  Int : (name : Name) (initial : Initial) → Global
-  Array : (name : Name) (size : AnyNumber) → Global
-  Mutex : (name : Name) → Global
-  Condition : (name : Name) → Global
-
-pub data Local : Type 0 where
-  LocalInt : (name : Name) → Local
-  Handle : (name : Name) → Local
 
 pub record Body : Type 0 where
   pub locals : List Local

@@ -1,29 +1,21 @@
 -- What trees are, without where they lie in memory.
 use Rattle.std.specs.Prelude.{ℕ, List, [], ◌∷◌, map, Option, Some, None, option_map}
 use Rattle.tc_base.specs.declared.place.Place.{Place}
-use Rattle.tc_tree.specs.declared.expression.Name.{Name as TreeName}
 use Rattle.tc_tree.specs.declared.expression.Expression.{Expression as TreeExpression, Number, Name, Element', Paren', Unary', Binary'}
 use Rattle.tc_tree.specs.declared.statement.Statement.{Statement as TreeStatement, fold-Statement}
 use Rattle.tc_tree.specs.declared.statement.Statement.TheOpen.{Statement-F, Block-F, Branch-F}
 use Rattle.tc_tree.specs.declared.statement.Block.{Block, fold-Block}
 use Rattle.tc_tree.specs.declared.statement.Branch.{Branch, fold-Branch}
-use Rattle.tc_tree.specs.declared.program.Global.{Global as TreeGlobal}
-use Rattle.tc_tree.specs.declared.program.Global.TheVariants.{Int, Array, Mutex, Condition}
-use Rattle.tc_tree.specs.declared.program.Local.{Local as TreeLocal}
-use Rattle.tc_tree.specs.declared.program.Local.TheVariants as local
 use Rattle.tc_tree.specs.declared.program.Body.{Body as TreeBody}
 use Rattle.tc_tree.specs.declared.program.Thread.{Thread as TreeThread}
-use Rattle.tc_tree.specs.declared.program.Tree.{Tree}
+use Rattle.tc_tree.specs.declared.program.Program.{Program as TreeProgram}
 use Rattle.tc_tree.specs.Grammar as grammar
-use Rattle.tc_tree.specs.Grammar.{Statement, Statements, Otherwise, Global, Local, Body, Thread, Program}
-
-abbrev pub name_of : TreeName → grammar.Name
-name_of x = record { text = x.text.now; place = x.place }
+use Rattle.tc_tree.specs.Grammar.{Statement, Statements, Otherwise, Body, Thread, Program}
 
 abbrev pub expression_of : TreeExpression → grammar.Expression
 expression_of (Number n) = grammar.Number n
-expression_of (Name x) = grammar.Variable (name_of x)
-expression_of (Element' a p i) = grammar.Element (name_of a) (expression_of i)
+expression_of (Name x) = grammar.Variable x
+expression_of (Element' a p i) = grammar.Element a (expression_of i)
 expression_of (Paren' p e) = grammar.Paren (expression_of e)
 expression_of (Unary' op p e) = grammar.Unary op (expression_of e)
 expression_of (Binary' op p a q b) = grammar.Binary op (expression_of a) (expression_of b)
@@ -52,13 +44,13 @@ otherwise_of [] (Some b) = grammar.Else b.statements b.end
 otherwise_of (b ∷ bs) last = grammar.ElseIf b.place b.condition b.body.statements b.body.end (otherwise_of bs last)
 
 abbrev pub view_statement : Statement-F Statement SeenBlock SeenBranch → Statement
-view_statement (Statement-F.Assign x e) = grammar.Assign (name_of x) (expression_of e)
-view_statement (Statement-F.Store a i e) = grammar.Store (name_of a) (expression_of i) (expression_of e)
-view_statement (Statement-F.Create h f es) = grammar.Create (name_of h) (name_of f) (expressions_of es.items)
-view_statement (Statement-F.Swap r x e) = grammar.Swap (name_of r) (name_of x) (expression_of e)
-view_statement (Statement-F.Cas r x e f) = grammar.Cas (name_of r) (name_of x) (expression_of e) (expression_of f)
-view_statement (Statement-F.Act p a x) = grammar.Act p a (name_of x)
-view_statement (Statement-F.Wait p c m) = grammar.Wait p (name_of c) (name_of m)
+view_statement (Statement-F.Assign x e) = grammar.Assign x (expression_of e)
+view_statement (Statement-F.Store a i e) = grammar.Store a (expression_of i) (expression_of e)
+view_statement (Statement-F.Create h f es) = grammar.Create h f (expressions_of es.items)
+view_statement (Statement-F.Swap r x e) = grammar.Swap r x (expression_of e)
+view_statement (Statement-F.Cas r x e f) = grammar.Cas r x (expression_of e) (expression_of f)
+view_statement (Statement-F.Act p a x) = grammar.Act p a x
+view_statement (Statement-F.Wait p c m) = grammar.Wait p c m
 view_statement (Statement-F.Order p b) = grammar.Order p b
 view_statement (Statement-F.Assert p e) = grammar.Assert p (expression_of e)
 view_statement (Statement-F.While b) = grammar.While b.place b.condition b.body.statements b.body.end
@@ -79,21 +71,11 @@ block_of b = fold-Block Statement SeenBlock SeenBranch view_statement view_block
 abbrev pub branch_of : Branch → SeenBranch
 branch_of b = fold-Branch Statement SeenBlock SeenBranch view_statement view_block view_branch b
 
-abbrev pub global_of : TreeGlobal → Global
-global_of (Int x i) = grammar.Int (name_of x) i
-global_of (Array a n) = grammar.Array (name_of a) n
-global_of (Mutex m) = grammar.Mutex (name_of m)
-global_of (Condition c) = grammar.Condition (name_of c)
-
-abbrev pub local_of : TreeLocal → Local
-local_of (local.Int x) = grammar.LocalInt (name_of x)
-local_of (local.Handle x) = grammar.Handle (name_of x)
-
 abbrev pub body_of : TreeBody → Body
-body_of b = let seen = block_of b.block in record { locals = map local_of b.locals.items; statements = seen.statements; end = seen.end }
+body_of b = let seen = block_of b.block in record { locals = b.locals.items; statements = seen.statements; end = seen.end }
 
 abbrev pub thread_of : TreeThread → Thread
-thread_of t = record { name = name_of t.name; parameters = map name_of t.parameters.items; body = body_of t.body }
+thread_of t = record { name = t.name; parameters = t.parameters.items; body = body_of t.body }
 
-abbrev pub program_of : Tree → Program
-program_of t = record { globals = map global_of t.globals.items; threads = map thread_of t.threads.items; main = body_of t.main }
+abbrev pub program_of : TreeProgram → Program
+program_of t = record { globals = t.globals.items; threads = map thread_of t.threads.items; main = body_of t.main }

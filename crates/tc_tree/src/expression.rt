@@ -1,14 +1,27 @@
 //! Expressions.
+ghost use Rattle.std.specs.Prelude.{◌≡◌, slice_range};
 
 use tc_base::{Place, UnOp};
 
-/// A name where it stands in its text.
-#[derive(Clone, Copy, Debug)]
-pub struct Name<'a> {
-    /// The bytes of the name.
-    pub text: &'a [u8],
+/// A name, told by where it stands in its text.
+#[derive(Clone, Copy, Debug, PartialEq, Eq)]
+pub struct Name {
+    /// How many bytes of the text stand before it.
+    pub start: usize,
+    /// How many bytes of the text stand before its end.
+    pub end: usize,
     /// The place of its first byte.
     pub place: Place,
+}
+
+impl Name {
+    /// The bytes of the name, in the text that it stands in.
+    pub fn text<'a>(&self, source: &'a [u8]) -> &'a [u8]
+        ensures { result.now ≡ slice_range source.now self.now.start self.now.end }
+    {
+        let end = self.end.min(source.len());
+        &source[self.start.min(end)..end]
+    }
 }
 
 /// A number where it stands in its text.
@@ -63,17 +76,17 @@ pub enum Operator {
 
 /// An expression, which keeps its parentheses.
 #[derive(Debug, Drop)]
-pub enum Expression<'a> {
+pub enum Expression {
     /// A number.
     Number(Number),
     /// The value of a variable.
-    Name(Name<'a>),
+    Name(Name),
     /// `a[i]`
-    Element(Name<'a>, Box<Expression<'a>>),
+    Element(Name, Box<Expression>),
     /// `( e )`
-    Paren(Box<Expression<'a>>),
+    Paren(Box<Expression>),
     /// An operator before its operand.
-    Unary(UnOp, Box<Expression<'a>>),
+    Unary(UnOp, Box<Expression>),
     /// An operator between its operands.
-    Binary(Operator, Box<Expression<'a>>, Box<Expression<'a>>),
+    Binary(Operator, Box<Expression>, Box<Expression>),
 }

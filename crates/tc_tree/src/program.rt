@@ -15,54 +15,63 @@ pub enum Initial {
 }
 
 /// A global declaration.
-#[derive(Clone, Copy, Debug)]
-pub enum Global<'a> {
+#[derive(Clone, Copy, Debug, PartialEq, Eq)]
+pub enum Global {
     /// `int x;` or `int x = n;`
-    Int(Name<'a>, Initial),
+    Int(Name, Initial),
     /// `int a[n];`
-    Array(Name<'a>, Number),
+    Array(Name, Number),
     /// `mutex m;`
-    Mutex(Name<'a>),
+    Mutex(Name),
     /// `cond c;`
-    Condition(Name<'a>),
+    Condition(Name),
 }
 
 /// A declaration of a body.
-#[derive(Clone, Copy, Debug)]
-pub enum Local<'a> {
+#[derive(Clone, Copy, Debug, PartialEq, Eq)]
+pub enum Local {
     /// `int r;`
-    Int(Name<'a>),
+    Int(Name),
     /// `tid h;`
-    Handle(Name<'a>),
+    Handle(Name),
 }
 
 /// What a thread does.
 #[derive(Debug, Drop)]
-pub struct Body<'a> {
+pub struct Body {
     /// The declarations, in order.
-    pub locals: Vec<Local<'a>>,
+    pub locals: Vec<Local>,
     /// The statements, and the place of the closing brace.
-    pub block: Block<'a>,
+    pub block: Block,
 }
 
 /// A thread.
 #[derive(Debug, Drop)]
-pub struct Thread<'a> {
+pub struct Thread {
     /// Its name.
-    pub name: Name<'a>,
+    pub name: Name,
     /// Its parameters, in order.
-    pub parameters: Vec<Name<'a>>,
+    pub parameters: Vec<Name>,
     /// What it does.
-    pub body: Body<'a>,
+    pub body: Body,
 }
 
 /// A program.
 #[derive(Debug, Drop)]
-pub struct Tree<'a> {
+pub struct Program {
     /// The global declarations, in order.
-    pub globals: Vec<Global<'a>>,
+    pub globals: Vec<Global>,
     /// The threads, in order.
-    pub threads: Vec<Thread<'a>>,
+    pub threads: Vec<Thread>,
     /// What main does.
-    pub main: Body<'a>,
+    pub main: Body,
+}
+
+/// A program and the text that its names stand in.
+#[derive(Debug, Drop)]
+pub struct Tree<'a> {
+    /// The text.
+    pub text: &'a [u8],
+    /// The program.
+    pub program: Program,
 }

@@ -30,37 +30,37 @@ pub enum Barrier {
 /// A statement. Its place is that of its first token.
 #[derive(Debug, Drop)]
 #[cycle(tree)]
-pub enum Statement<'a> {
+pub enum Statement {
     /// `x = e;`
-    Assign(Name<'a>, Expression<'a>),
+    Assign(Name, Expression),
     /// `a[i] = e;`
-    Store(Name<'a>, Expression<'a>, Expression<'a>),
+    Store(Name, Expression, Expression),
     /// `h = create f(e, ..);`
-    Create(Name<'a>, Name<'a>, Vec<Expression<'a>>),
+    Create(Name, Name, Vec<Expression>),
     /// `r = swap(x, e);`
-    Swap(Name<'a>, Name<'a>, Expression<'a>),
+    Swap(Name, Name, Expression),
     /// `r = cas(x, e, f);`
-    Cas(Name<'a>, Name<'a>, Expression<'a>, Expression<'a>),
+    Cas(Name, Name, Expression, Expression),
     /// `lock(m);` and the like.
-    Act(Place, Action, Name<'a>),
+    Act(Place, Action, Name),
     /// `wait(c, m);`
-    Wait(Place, Name<'a>, Name<'a>),
+    Wait(Place, Name, Name),
     /// `fence();` or `stbar();`
     Order(Place, Barrier),
     /// `assert(e);`
-    Assert(Place, Expression<'a>),
+    Assert(Place, Expression),
     /// `while (e) { .. }`
-    While(Branch<'a>),
+    While(Branch),
     /// `if (e) { .. }`, then each `else if (e) { .. }`, and at the end `else { .. }`.
-    If(Branch<'a>, Vec<Branch<'a>>, Option<Block<'a>>),
+    If(Branch, Vec<Branch>, Option<Block>),
 }
 
 /// Statements between braces.
 #[derive(Debug, Drop)]
 #[cycle(tree)]
-pub struct Block<'a> {
+pub struct Block {
     /// The statements.
-    pub statements: Vec<Statement<'a>>,
+    pub statements: Vec<Statement>,
     /// The place of the closing brace.
     pub end: Place,
 }
@@ -68,11 +68,11 @@ pub struct Block<'a> {
 /// A condition and what is done under it.
 #[derive(Debug, Drop)]
 #[cycle(tree)]
-pub struct Branch<'a> {
+pub struct Branch {
     /// The place of the `if` or `while`.
     pub place: Place,
     /// The condition.
-    pub condition: Expression<'a>,
+    pub condition: Expression,
     /// What is done where it isn't 0.
-    pub body: Block<'a>,
+    pub body: Block,
 }

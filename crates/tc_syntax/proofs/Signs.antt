@@ -8,8 +8,8 @@ use Rattle.tc_lexer.specs.declared.token.Sign.TheVariants.{OpenParen, CloseParen
 use Rattle.tc_tree.specs.declared.expression.Operator.{Operator}
 use Rattle.tc_tree.specs.declared.expression.Operator.TheVariants as operator
 use Rattle.tc_tree.specs.Grammar.{Word, AName, ANumber, AnIf, AWhile, AnAction, AWait, ABarrier, AnAssert, AKeyword, ASign, AnEnd, binary_sign}
-use Rattle.tc_parser.specs.helpers.Reading.{Expected, Just, Operand, Operators, sign_code, operator_of, infix_of, fault, level_of, next_level}
-use Rattle.tc_parser.specs.helpers.Read.{Moves}
+use Rattle.tc_syntax.specs.helpers.Reading.{Expected, Just, Operand, Operators, sign_code, operator_of, infix_of, fault, level_of, next_level}
+use Rattle.tc_syntax.specs.helpers.Read.{Moves}
 
 -- the signs in the order of their codes
 signs : List Sign

@@ -2,31 +2,30 @@
 ghost use Rattle.std.specs.Prelude.{◌≡◌, ◌∷◌, [], true, MatchResult, map};
 ghost use Rattle.tc_lexer.specs.declared.token.Keyword.TheVariants as keyword;
 ghost use Rattle.tc_lexer.specs.declared.token.Sign.TheVariants as sign;
-ghost use Rattle.tc_tree.specs.Grammar.{ASign, AName, AKeyword, global_then, globals_then, locals_then, local_then, body_then, parameters_then, thread_then, threads_then, program_words, AreWellThreads, IsWellProgram};
-ghost use Rattle.tc_tree.specs.Seen.{name_of, global_of, local_of, body_of, thread_of, program_of};
-ghost use Rattle.tc_parser.specs.Words.{plain_words};
-ghost use Rattle.tc_parser.specs.helpers.Reading.{AnyName, Locals, Parameters, Globals, Threads, AfterGlobal, Initial, a_body, a_thread};
-ghost use Rattle.tc_parser.specs.helpers.Read.{Stops, IsRead, IsPassed, IsAny, IsWellBody, IsWellThread, initial_ends};
-ghost use Rattle.tc_parser.specs.helpers.Read as reads;
+ghost use Rattle.tc_tree.specs.Grammar.{global_then, globals_then, locals_then, local_then, body_then, parameters_then, thread_then, threads_then, program_words, AreWellThreads, IsWellProgram};
+ghost use Rattle.tc_tree.specs.declared.word.Word.TheVariants.{Sign as ASign, Name as AName, Keyword as AKeyword};
+ghost use Rattle.tc_tree.specs.Seen.{body_of, thread_of, program_of};
+ghost use Rattle.tc_syntax.specs.helpers.Reading.{AnyName, Locals, Parameters, Globals, Threads, AfterGlobal, Initial, a_body, a_thread};
+ghost use Rattle.tc_syntax.specs.helpers.Read.{Stops, IsRead, IsPassed, IsAny, IsWellBody, IsWellThread, initial_ends};
+ghost use Rattle.tc_syntax.specs.helpers.Read as reads;
 
 use crate::reader::{Read, Stop, past, past_end, past_int, past_name, past_number};
 use crate::statements::read_statements;
-use crate::word::Word;
 use std::alloc::Global as Heap;
 use tc_lexer::{Keyword, Sign};
-use tc_tree::{Block, Body, Global, Initial, Local, Name, Thread, Tree};
+use tc_tree::{Block, Body, Global, Initial, Local, Name, Program, Thread, Word};
 
 /// The program that the words are.
-pub(crate) fn read_program<'a>(alloc: Heap, words: &[Word<'a>]) -> Result<Tree<'a>, Stop>
+pub fn read_program(alloc: Heap, words: &[Word]) -> Result<Program, Stop>
     ensures { MatchResult result
-        (λ tree. (plain_words words.now ≡ program_words (program_of tree)) × IsWellProgram (program_of tree))
-        (λ stop. Stops (Globals ∷ []) (plain_words words.now) stop) }
+        (λ tree. (words.now ≡ program_words (program_of tree)) × IsWellProgram (program_of tree))
+        (λ stop. Stops (Globals ∷ []) words.now stop) }
 {
     let (globals, after) = read_globals(alloc, words)?;
     let (threads, after) = read_threads(alloc, after)?;
     let (main, rest) = read_main(alloc, after)?;
     if rest.is_empty() {
-        Ok(Tree {
+        Ok(Program {
             globals,
             threads,
             main,
@@ -37,10 +36,10 @@ pub(crate) fn read_program<'a>(alloc: Heap, words: &[Word<'a>]) -> Result<Tree<'
 }
 
 /// What main does, and the words after it.
-fn read_main<'w, 'a>(alloc: Heap, words: &'w [Word<'a>]) -> Read<'w, 'a, Body<'a>>
+fn read_main<'w>(alloc: Heap, words: &'w [Word]) -> Read<'w, Body>
     ensures { MatchResult result
-        (λ x. IsRead (λ b rest. AKeyword keyword.Main ∷ body_then b rest) IsWellBody [] (Threads ∷ []) (plain_words words.now) (body_of x.0) (plain_words x.1.now))
-        (λ stop. Stops (Threads ∷ []) (plain_words words.now) stop) }
+        (λ x. IsRead (λ b rest. AKeyword keyword.Main ∷ body_then b rest) IsWellBody [] (Threads ∷ []) words.now (body_of x.0) x.1.now)
+        (λ stop. Stops (Threads ∷ []) words.now stop) }
 {
     match words {
         [Word::Keyword(Keyword::Main), start @ ..] => read_body(alloc, start),
@@ -49,10 +48,10 @@ fn read_main<'w, 'a>(alloc: Heap, words: &'w [Word<'a>]) -> Read<'w, 'a, Body<'a
 }
 
 /// Global declarations, as many as stand there, and the words after them.
-fn read_globals<'w, 'a>(alloc: Heap, words: &'w [Word<'a>]) -> Read<'w, 'a, Vec<Global<'a>>>
+fn read_globals<'w>(alloc: Heap, words: &'w [Word]) -> Read<'w, Vec<Global>>
     ensures { MatchResult result
-        (λ x. IsPassed globals_then IsAny Globals Threads (plain_words words.now) (map global_of x.0.items) (plain_words x.1.now))
-        (λ stop. Stops (Globals ∷ []) (plain_words words.now) stop) }
+        (λ x. IsPassed globals_then IsAny Globals Threads words.now x.0.items x.1.now)
+        (λ stop. Stops (Globals ∷ []) words.now stop) }
 {
     let mut found = Vec::new(alloc);
     let mut rest = words;
@@ -66,7 +65,7 @@ fn read_globals<'w, 'a>(alloc: Heap, words: &'w [Word<'a>]) -> Read<'w, 'a, Vec<
 
 /// Whether a global declaration is next.
 fn begins_global(words: &[Word]) -> bool
-    ensures { result ≡ reads.begins_global (plain_words words.now) }
+    ensures { result ≡ reads.begins_global words.now }
 {
     matches!(
         words,
@@ -78,11 +77,11 @@ fn begins_global(words: &[Word]) -> bool
 }
 
 /// A global declaration, and the words after it.
-fn read_global<'w, 'a>(words: &'w [Word<'a>]) -> Read<'w, 'a, Global<'a>>
-    requires { reads.begins_global (plain_words words.now) ≡ true }
+fn read_global<'w>(words: &'w [Word]) -> Read<'w, Global>
+    requires { reads.begins_global words.now ≡ true }
     ensures { MatchResult result
-        (λ x. IsPassed global_then IsAny Globals Globals (plain_words words.now) (global_of x.0) (plain_words x.1.now))
-        (λ stop. Stops (Globals ∷ []) (plain_words words.now) stop) }
+        (λ x. IsPassed global_then IsAny Globals Globals words.now x.0 x.1.now)
+        (λ stop. Stops (Globals ∷ []) words.now stop) }
 {
     match words {
         [Word::Keyword(Keyword::Int), after @ ..] => read_int(after),
@@ -101,10 +100,10 @@ fn read_global<'w, 'a>(words: &'w [Word<'a>]) -> Read<'w, 'a, Global<'a>>
 }
 
 /// An int or an array, after `int`, and the words after it.
-fn read_int<'w, 'a>(words: &'w [Word<'a>]) -> Read<'w, 'a, Global<'a>>
+fn read_int<'w>(words: &'w [Word]) -> Read<'w, Global>
     ensures { MatchResult result
-        (λ x. IsRead global_then IsAny (AKeyword keyword.Int ∷ []) (AnyName ∷ AfterGlobal ∷ []) (plain_words words.now) (global_of x.0) (plain_words x.1.now))
-        (λ stop. Stops (AnyName ∷ AfterGlobal ∷ []) (plain_words words.now) stop) }
+        (λ x. IsRead global_then IsAny (AKeyword keyword.Int ∷ []) (AnyName ∷ AfterGlobal ∷ []) words.now x.0 x.1.now)
+        (λ stop. Stops (AnyName ∷ AfterGlobal ∷ []) words.now stop) }
 {
     let (name, after) = past_name(words)?;
     match after {
@@ -124,10 +123,10 @@ fn read_int<'w, 'a>(words: &'w [Word<'a>]) -> Read<'w, 'a, Global<'a>>
 }
 
 /// What an int begins with, after the `=`, and the words after its semicolon.
-fn read_initial<'w, 'a>(words: &'w [Word<'a>]) -> Read<'w, 'a, Initial>
+fn read_initial<'w>(words: &'w [Word]) -> Read<'w, Initial>
     ensures { MatchResult result
-        (λ x. IsRead initial_ends IsAny (ASign sign.Assign ∷ []) (Initial ∷ []) (plain_words words.now) x.0 (plain_words x.1.now))
-        (λ stop. Stops (Initial ∷ []) (plain_words words.now) stop) }
+        (λ x. IsRead initial_ends IsAny (ASign sign.Assign ∷ []) (Initial ∷ []) words.now x.0 x.1.now)
+        (λ stop. Stops (Initial ∷ []) words.now stop) }
 {
     match words {
         [Word::Sign(Sign::Minus), start @ ..] => {
@@ -144,10 +143,10 @@ fn read_initial<'w, 'a>(words: &'w [Word<'a>]) -> Read<'w, 'a, Initial>
 }
 
 /// Threads, as many as stand there, and the words after them.
-fn read_threads<'w, 'a>(alloc: Heap, words: &'w [Word<'a>]) -> Read<'w, 'a, Vec<Thread<'a>>>
+fn read_threads<'w>(alloc: Heap, words: &'w [Word]) -> Read<'w, Vec<Thread>>
     ensures { MatchResult result
-        (λ x. IsPassed threads_then AreWellThreads Threads Threads (plain_words words.now) (map thread_of x.0.items) (plain_words x.1.now))
-        (λ stop. Stops (Threads ∷ []) (plain_words words.now) stop) }
+        (λ x. IsPassed threads_then AreWellThreads Threads Threads words.now (map thread_of x.0.items) x.1.now)
+        (λ stop. Stops (Threads ∷ []) words.now stop) }
 {
     let mut found = Vec::new(alloc);
     let mut rest = words;
@@ -160,10 +159,10 @@ fn read_threads<'w, 'a>(alloc: Heap, words: &'w [Word<'a>]) -> Read<'w, 'a, Vec<
 }
 
 /// A thread, after `thread`, and the words after it.
-fn read_thread<'w, 'a>(alloc: Heap, words: &'w [Word<'a>]) -> Read<'w, 'a, Thread<'a>>
+fn read_thread<'w>(alloc: Heap, words: &'w [Word]) -> Read<'w, Thread>
     ensures { MatchResult result
-        (λ x. IsRead thread_then IsWellThread (AKeyword keyword.Thread ∷ []) a_thread (plain_words words.now) (thread_of x.0) (plain_words x.1.now))
-        (λ stop. Stops (a_thread) (plain_words words.now) stop) }
+        (λ x. IsRead thread_then IsWellThread (AKeyword keyword.Thread ∷ []) a_thread words.now (thread_of x.0) x.1.now)
+        (λ stop. Stops (a_thread) words.now stop) }
 {
     let (name, after) = past_name(words)?;
     let start = past(after, Sign::OpenParen)?;
@@ -181,10 +180,10 @@ fn read_thread<'w, 'a>(alloc: Heap, words: &'w [Word<'a>]) -> Read<'w, 'a, Threa
 }
 
 /// Parameters, as many as stand there, and the words after them.
-fn read_parameters<'w, 'a>(alloc: Heap, words: &'w [Word<'a>]) -> Read<'w, 'a, Vec<Name<'a>>>
+fn read_parameters<'w>(alloc: Heap, words: &'w [Word]) -> Read<'w, Vec<Name>>
     ensures { MatchResult result
-        (λ x. IsRead parameters_then IsAny [] (Parameters ∷ []) (plain_words words.now) (map name_of x.0.items) (plain_words x.1.now))
-        (λ stop. Stops (Parameters ∷ []) (plain_words words.now) stop) }
+        (λ x. IsRead parameters_then IsAny [] (Parameters ∷ []) words.now x.0.items x.1.now)
+        (λ stop. Stops (Parameters ∷ []) words.now stop) }
 {
     let mut found = Vec::new(alloc);
     let Ok(start) = past_int(words) else {
@@ -202,10 +201,10 @@ fn read_parameters<'w, 'a>(alloc: Heap, words: &'w [Word<'a>]) -> Read<'w, 'a, V
 }
 
 /// A body, and the words after it.
-fn read_body<'w, 'a>(alloc: Heap, words: &'w [Word<'a>]) -> Read<'w, 'a, Body<'a>>
+fn read_body<'w>(alloc: Heap, words: &'w [Word]) -> Read<'w, Body>
     ensures { MatchResult result
-        (λ x. IsRead body_then IsWellBody [] a_body (plain_words words.now) (body_of x.0) (plain_words x.1.now))
-        (λ stop. Stops (a_body) (plain_words words.now) stop) }
+        (λ x. IsRead body_then IsWellBody [] a_body words.now (body_of x.0) x.1.now)
+        (λ stop. Stops (a_body) words.now stop) }
 {
     let start = past(words, Sign::OpenBrace)?;
     let (locals, first) = read_locals(alloc, start)?;
@@ -216,10 +215,10 @@ fn read_body<'w, 'a>(alloc: Heap, words: &'w [Word<'a>]) -> Read<'w, 'a, Body<'a
 }
 
 /// Declarations of a body, as many as stand there, and the words after them.
-fn read_locals<'w, 'a>(alloc: Heap, words: &'w [Word<'a>]) -> Read<'w, 'a, Vec<Local<'a>>>
+fn read_locals<'w>(alloc: Heap, words: &'w [Word]) -> Read<'w, Vec<Local>>
     ensures { MatchResult result
-        (λ x. IsRead locals_then IsAny [] (Locals ∷ []) (plain_words words.now) (map local_of x.0.items) (plain_words x.1.now))
-        (λ stop. Stops (Locals ∷ []) (plain_words words.now) stop) }
+        (λ x. IsRead locals_then IsAny [] (Locals ∷ []) words.now x.0.items x.1.now)
+        (λ stop. Stops (Locals ∷ []) words.now stop) }
 {
     let mut found = Vec::new(alloc);
     let mut rest = words;
@@ -233,17 +232,17 @@ fn read_locals<'w, 'a>(alloc: Heap, words: &'w [Word<'a>]) -> Read<'w, 'a, Vec<L
 
 /// Whether a declaration of a body is next.
 fn begins_local(words: &[Word]) -> bool
-    ensures { result ≡ reads.begins_local (plain_words words.now) }
+    ensures { result ≡ reads.begins_local words.now }
 {
     matches!(words, [Word::Keyword(Keyword::Int | Keyword::Tid), ..])
 }
 
 /// A declaration of a body, and the words after it.
-fn read_local<'w, 'a>(words: &'w [Word<'a>]) -> Read<'w, 'a, Local<'a>>
-    requires { reads.begins_local (plain_words words.now) ≡ true }
+fn read_local<'w>(words: &'w [Word]) -> Read<'w, Local>
+    requires { reads.begins_local words.now ≡ true }
     ensures { MatchResult result
-        (λ x. IsPassed local_then IsAny Locals Locals (plain_words words.now) (local_of x.0) (plain_words x.1.now))
-        (λ stop. Stops (Locals ∷ []) (plain_words words.now) stop) }
+        (λ x. IsPassed local_then IsAny Locals Locals words.now x.0 x.1.now)
+        (λ stop. Stops (Locals ∷ []) words.now stop) }
 {
     match words {
         [Word::Keyword(Keyword::Int), after @ ..] => {

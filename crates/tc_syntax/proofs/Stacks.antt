@@ -1,10 +1,10 @@
 -- How what the readers answer is put together.
 use Rattle.std.proofs.Common.{◌≡◌, ℕ, List, [], ◌∷◌, ◌++◌, length, Option, Some, None, refl, sym, ap, ◌∙◌, append_assoc}
-use Rattle.tc_tree.specs.Grammar.{Word}
-use Rattle.tc_parser.specs.declared.reader.Stop.{Stop}
-use Rattle.tc_parser.specs.declared.reader.Stop.TheVariants.{Memory, Left}
-use Rattle.tc_parser.specs.helpers.Reading.{Expected, fault}
-use Rattle.tc_parser.specs.helpers.Read.{Stops, Moves}
+use Rattle.tc_tree.specs.declared.word.Word.{Word}
+use Rattle.tc_syntax.specs.declared.reader.Stop.{Stop}
+use Rattle.tc_syntax.specs.declared.reader.Stop.TheVariants.{Memory, Left}
+use Rattle.tc_syntax.specs.helpers.Reading.{Expected, fault}
+use Rattle.tc_syntax.specs.helpers.Read.{Stops, Moves}
 
 -- past what these expect, the fault is that of those
 pub along : (ds fs gs : List Expected) (ws rest : List Word) (stop : Stop) → Moves ds ws rest → Stops fs rest stop → Stops (ds ++ (fs ++ gs)) ws stop

@@ -1,30 +1,29 @@
 //! Reads expressions.
 ghost use Rattle.std.specs.Prelude.{◌≡◌, ◌+◌, ◌<◌, ◌≤◌, ◌∷◌, [], MatchResult, MatchOption};
 ghost use Rattle.tc_lexer.specs.declared.token.Sign.TheVariants as sign;
-ghost use Rattle.tc_tree.specs.Grammar.{ASign, AName, binary_sign, unary_sign, expression_then, list_then, IsGrouped, AreGrouped};
+ghost use Rattle.tc_tree.specs.Grammar.{binary_sign, unary_sign, expression_then, list_then, IsGrouped, AreGrouped};
+ghost use Rattle.tc_tree.specs.declared.word.Word.TheVariants.{Sign as ASign, Name as AName};
 ghost use Rattle.tc_tree.specs.Grammar as grammar;
-ghost use Rattle.tc_tree.specs.Seen.{name_of, expression_of, expressions_of};
-ghost use Rattle.tc_parser.specs.Words.{plain_words};
-ghost use Rattle.tc_parser.specs.helpers.Reading.{Just, Operand, Operators, Subscript, Arguments, next_level};
-ghost use Rattle.tc_parser.specs.helpers.Reading as reading;
-ghost use Rattle.tc_parser.specs.helpers.Read.{Stops, IsRead, IsTight, IsOperand};
+ghost use Rattle.tc_tree.specs.Seen.{expression_of, expressions_of};
+ghost use Rattle.tc_syntax.specs.helpers.Reading.{Just, Operand, Operators, Subscript, Arguments, next_level};
+ghost use Rattle.tc_syntax.specs.helpers.Reading as reading;
+ghost use Rattle.tc_syntax.specs.helpers.Read.{Stops, IsRead, IsTight, IsOperand};
 
 use crate::reader::{Read, Stop, past};
-use crate::word::Word;
 use std::alloc::Global;
 use tc_base::UnOp;
 use tc_lexer::Sign;
-use tc_tree::{Expression, Name, Operator};
+use tc_tree::{Expression, Name, Operator, Word};
 
 /// An expression, as long as it can be, and the words after it.
 #[cycle(expression)]
-pub(crate) fn read_expression<'w, 'a>(
+pub(crate) fn read_expression<'w>(
     alloc: Global,
-    words: &'w [Word<'a>],
-) -> Read<'w, 'a, Expression<'a>>
+    words: &'w [Word],
+) -> Read<'w, Expression>
     ensures { MatchResult result
-        (λ x. IsRead expression_then IsGrouped [] (Operand ∷ Operators ∷ []) (plain_words words.now) (expression_of x.0) (plain_words x.1.now))
-        (λ stop. Stops (Operand ∷ Operators ∷ []) (plain_words words.now) stop) }
+        (λ x. IsRead expression_then IsGrouped [] (Operand ∷ Operators ∷ []) words.now (expression_of x.0) x.1.now)
+        (λ stop. Stops (Operand ∷ Operators ∷ []) words.now stop) }
 {
     let (expression, rest) = read_tight(alloc, words, 1)?;
     Ok((expression, rest))
@@ -32,15 +31,15 @@ pub(crate) fn read_expression<'w, 'a>(
 
 /// An expression of operators that bind at least so tightly, as long as it can be, and the words after it.
 #[cycle(expression)]
-fn read_tight<'w, 'a>(
+fn read_tight<'w>(
     alloc: Global,
-    words: &'w [Word<'a>],
+    words: &'w [Word],
     least: u8,
-) -> Read<'w, 'a, Expression<'a>>
+) -> Read<'w, Expression>
     requires least { (1 ≤ least) × (least ≤ 11) }
     ensures { MatchResult result
-        (λ x. IsTight least (plain_words words.now) (expression_of x.0) (plain_words x.1.now))
-        (λ stop. Stops (Operand ∷ Operators ∷ []) (plain_words words.now) stop) }
+        (λ x. IsTight least words.now (expression_of x.0) x.1.now)
+        (λ stop. Stops (Operand ∷ Operators ∷ []) words.now stop) }
 {
     let (mut left, mut rest) = read_operand(alloc, words)?;
     while let Some((operator, after)) = next_operator(rest, least) {
@@ -53,10 +52,10 @@ fn read_tight<'w, 'a>(
 
 /// An operand of an operator, and the words after it.
 #[cycle(expression)]
-fn read_operand<'w, 'a>(alloc: Global, words: &'w [Word<'a>]) -> Read<'w, 'a, Expression<'a>>
+fn read_operand<'w>(alloc: Global, words: &'w [Word]) -> Read<'w, Expression>
     ensures { MatchResult result
-        (λ x. IsOperand [] (Operand ∷ []) (plain_words words.now) (expression_of x.0) (plain_words x.1.now))
-        (λ stop. Stops (Operand ∷ []) (plain_words words.now) stop) }
+        (λ x. IsOperand [] (Operand ∷ []) words.now (expression_of x.0) x.1.now)
+        (λ stop. Stops (Operand ∷ []) words.now stop) }
 {
     match words {
         [Word::Number(number), rest @ ..] => Ok((Expression::Number(*number), rest)),
@@ -71,14 +70,14 @@ fn read_operand<'w, 'a>(alloc: Global, words: &'w [Word<'a>]) -> Read<'w, 'a, Ex
 
 /// A variable or an element of an array, after the name, and the words after it.
 #[cycle(expression)]
-fn read_variable<'w, 'a>(
+fn read_variable<'w>(
     alloc: Global,
-    name: Name<'a>,
-    words: &'w [Word<'a>],
-) -> Read<'w, 'a, Expression<'a>>
+    name: Name,
+    words: &'w [Word],
+) -> Read<'w, Expression>
     ensures { MatchResult result
-        (λ x. IsOperand (AName (name_of name) ∷ []) (Subscript ∷ []) (plain_words words.now) (expression_of x.0) (plain_words x.1.now))
-        (λ stop. Stops (Subscript ∷ []) (plain_words words.now) stop) }
+        (λ x. IsOperand (AName name ∷ []) (Subscript ∷ []) words.now (expression_of x.0) x.1.now)
+        (λ stop. Stops (Subscript ∷ []) words.now stop) }
 {
     if let Ok(start) = past(words, Sign::OpenBracket) {
         let (index, end) = read_expression(alloc, start)?;
@@ -91,10 +90,10 @@ fn read_variable<'w, 'a>(
 
 /// An expression in parentheses, after the opening one, and the words after it.
 #[cycle(expression)]
-fn read_paren<'w, 'a>(alloc: Global, words: &'w [Word<'a>]) -> Read<'w, 'a, Expression<'a>>
+fn read_paren<'w>(alloc: Global, words: &'w [Word]) -> Read<'w, Expression>
     ensures { MatchResult result
-        (λ x. IsOperand (ASign sign.OpenParen ∷ []) (Operand ∷ Operators ∷ Just sign.CloseParen ∷ []) (plain_words words.now) (expression_of x.0) (plain_words x.1.now))
-        (λ stop. Stops (Operand ∷ Operators ∷ Just sign.CloseParen ∷ []) (plain_words words.now) stop) }
+        (λ x. IsOperand (ASign sign.OpenParen ∷ []) (Operand ∷ Operators ∷ Just sign.CloseParen ∷ []) words.now (expression_of x.0) x.1.now)
+        (λ stop. Stops (Operand ∷ Operators ∷ Just sign.CloseParen ∷ []) words.now stop) }
 {
     let (inside, end) = read_expression(alloc, words)?;
     let rest = past(end, Sign::CloseParen)?;
@@ -103,27 +102,27 @@ fn read_paren<'w, 'a>(alloc: Global, words: &'w [Word<'a>]) -> Read<'w, 'a, Expr
 
 /// The operand of an operator that stands before it, and the words after it.
 #[cycle(expression)]
-fn read_unary<'w, 'a>(
+fn read_unary<'w>(
     alloc: Global,
     operator: UnOp,
-    words: &'w [Word<'a>],
-) -> Read<'w, 'a, Expression<'a>>
+    words: &'w [Word],
+) -> Read<'w, Expression>
     ensures { MatchResult result
-        (λ x. IsOperand (ASign (unary_sign operator) ∷ []) (Operand ∷ []) (plain_words words.now) (expression_of x.0) (plain_words x.1.now))
-        (λ stop. Stops (Operand ∷ []) (plain_words words.now) stop) }
+        (λ x. IsOperand (ASign (unary_sign operator) ∷ []) (Operand ∷ []) words.now (expression_of x.0) x.1.now)
+        (λ stop. Stops (Operand ∷ []) words.now stop) }
 {
     let (operand, rest) = read_operand(alloc, words)?;
     Ok((Expression::Unary(operator, Box::new(alloc, operand)?), rest))
 }
 
 /// Expressions between commas, as many as stand there, and the words after the parenthesis that closes them.
-pub(crate) fn read_arguments<'w, 'a>(
+pub(crate) fn read_arguments<'w>(
     alloc: Global,
-    words: &'w [Word<'a>],
-) -> Read<'w, 'a, Vec<Expression<'a>>>
+    words: &'w [Word],
+) -> Read<'w, Vec<Expression>>
     ensures { MatchResult result
-        (λ x. IsRead (λ es rest. list_then es (ASign sign.CloseParen ∷ rest)) AreGrouped [] (Arguments ∷ Just sign.CloseParen ∷ []) (plain_words words.now) (expressions_of x.0.items) (plain_words x.1.now))
-        (λ stop. Stops (Arguments ∷ Just sign.CloseParen ∷ []) (plain_words words.now) stop) }
+        (λ x. IsRead (λ es rest. list_then es (ASign sign.CloseParen ∷ rest)) AreGrouped [] (Arguments ∷ Just sign.CloseParen ∷ []) words.now (expressions_of x.0.items) x.1.now)
+        (λ stop. Stops (Arguments ∷ Just sign.CloseParen ∷ []) words.now stop) }
 {
     let mut found = Vec::new(alloc);
     if let Ok(rest) = past(words, Sign::CloseParen) {
@@ -141,13 +140,13 @@ pub(crate) fn read_arguments<'w, 'a>(
 }
 
 /// The operator that is next, where it binds at least so tightly, and the words after it.
-fn next_operator<'w, 'a>(
-    words: &'w [Word<'a>],
+fn next_operator<'w>(
+    words: &'w [Word],
     least: u8,
-) -> Option<(Operator, &'w [Word<'a>])>
+) -> Option<(Operator, &'w [Word])>
     requires { 1 ≤ least }
-    ensures { MatchOption result (next_level (plain_words words.now) < least)
-        (λ x. (plain_words words.now ≡ ASign (binary_sign x.0) ∷ plain_words x.1.now) × (least ≤ grammar.level x.0)) }
+    ensures { MatchOption result (next_level words.now < least)
+        (λ x. (words.now ≡ ASign (binary_sign x.0) ∷ x.1.now) × (least ≤ grammar.level x.0)) }
 {
     let [Word::Sign(sign), rest @ ..] = words else {
         return None;

@@ -5,7 +5,9 @@ use Rattle.tc_lexer.specs.declared.token.Sign.{Sign as AnySign}
 use Rattle.tc_lexer.specs.declared.token.Sign.TheVariants.{OpenParen, CloseParen, OpenBracket, CloseBracket, OpenBrace, CloseBrace, Comma, Semicolon, Assign, Plus, Minus, Star, Slash, Percent, Bang, Tilde, Less, LessEqual, Greater, GreaterEqual, EqualEqual, BangEqual, ShiftLeft, ShiftRight, And, Caret, Or, AndAnd, OrOr}
 use Rattle.tc_tree.specs.declared.expression.Operator.{Operator}
 use Rattle.tc_tree.specs.declared.expression.Operator.TheVariants as operator
-use Rattle.tc_tree.specs.Grammar.{Word, AName, ANumber, AnIf, AWhile, AnAction, AWait, ABarrier, AnAssert, AKeyword, ASign, AnEnd, level}
+use Rattle.tc_tree.specs.Grammar.{level}
+use Rattle.tc_tree.specs.declared.word.Word.TheVariants.{Name as AName, Number as ANumber, If as AnIf, While as AWhile, Action as AnAction, Wait as AWait, Barrier as ABarrier, Assert as AnAssert, Keyword as AKeyword, Sign as ASign, End as AnEnd}
+use Rattle.tc_tree.specs.declared.word.Word.{Word}
 
 pub data Expected : Type 0 where
   Just : (sign : AnySign) → Expected

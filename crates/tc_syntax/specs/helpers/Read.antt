@@ -7,11 +7,13 @@ use Rattle.tc_tree.specs.declared.program.Initial.{Initial}
 use Rattle.tc_tree.specs.declared.statement.Statement.{Statement as TreeStatement}
 use Rattle.tc_tree.specs.declared.statement.Block.{Block}
 use Rattle.tc_tree.specs.declared.statement.Branch.{Branch}
-use Rattle.tc_tree.specs.Grammar.{Word, ASign, AKeyword, AnEnd, Expression, expression_then, tightness, IsGrouped, Statement, Statements, Otherwise, statement_then, statements_then, IsWell, AreWell, Body, Thread, initial_then}
+use Rattle.tc_tree.specs.Grammar.{Expression, expression_then, tightness, IsGrouped, Statement, Statements, Otherwise, statement_then, statements_then, IsWell, AreWell, Body, Thread, initial_then}
+use Rattle.tc_tree.specs.declared.word.Word.TheVariants.{Sign as ASign, Keyword as AKeyword, End as AnEnd}
+use Rattle.tc_tree.specs.declared.word.Word.{Word}
 use Rattle.tc_tree.specs.Seen.{SeenBlock, SeenBranch, statement_of, statements_of, block_of, branch_of, otherwise_of}
-use Rattle.tc_parser.specs.declared.reader.Stop.{Stop}
-use Rattle.tc_parser.specs.declared.reader.Stop.TheVariants.{Memory, Left}
-use Rattle.tc_parser.specs.helpers.Reading.{Expected, Operand, Operators, Statements as MoreStatements, fault, next_level, statement}
+use Rattle.tc_syntax.specs.declared.reader.Stop.{Stop}
+use Rattle.tc_syntax.specs.declared.reader.Stop.TheVariants.{Memory, Left}
+use Rattle.tc_syntax.specs.helpers.Reading.{Expected, Operand, Operators, Statements as MoreStatements, fault, next_level, statement}
 
 -- where these are expected, and whatever after them, the first unexpected word is where the reader stopped
 abbrev pub Stops : List Expected → List Word → Stop → Type 0

@@ -1,0 +1,5 @@
+pub mod Stacks
+pub mod Signs
+pub mod Trees
+pub mod Attached
+pub mod Stands
