@@ -3,3 +3,5 @@ pub mod Signs
 pub mod Trees
 pub mod Attached
 pub mod Stands
+pub mod Places
+pub mod Chains

@@ -2,12 +2,13 @@
 use Rattle.std.proofs.Common.{◌≡◌, ◌≢◌, ℕ, nat_eq, get_or, List, [], ◌∷◌, length, Option, Some, None, true, false, refl, sym, ap, ◌∙◌, inl, inr, ◌<◌, ◌≤◌, arith}
 use Rattle.std.proofs.lemmas.Bool.{eqb-true, eq-eqb}
 use Rattle.std.proofs.lemmas.Bool.Decides.{eqb_tells}
-use Rattle.tc_tree.specs.Grammar.{level}
 use Rattle.tc_lexer.specs.declared.token.Sign.{Sign}
 use Rattle.tc_lexer.specs.declared.token.Sign.TheVariants.{OpenParen, CloseParen, OpenBracket, CloseBracket, OpenBrace, CloseBrace, Comma, Semicolon, Assign, Plus, Minus, Star, Slash, Percent, Bang, Tilde, Less, LessEqual, Greater, GreaterEqual, EqualEqual, BangEqual, ShiftLeft, ShiftRight, And, Caret, Or, AndAnd, OrOr}
 use Rattle.tc_tree.specs.declared.expression.Operator.{Operator}
 use Rattle.tc_tree.specs.declared.expression.Operator.TheVariants as operator
-use Rattle.tc_tree.specs.Grammar.{Word, AName, ANumber, AnIf, AWhile, AnAction, AWait, ABarrier, AnAssert, AKeyword, ASign, AnEnd, binary_sign}
+use Rattle.tc_tree.specs.Grammar.{binary_sign, level}
+use Rattle.tc_tree.specs.declared.word.Word.{Word}
+use Rattle.tc_tree.specs.declared.word.Word.TheVariants.{Sign as ASign}
 use Rattle.tc_syntax.specs.helpers.Reading.{Expected, Just, Operand, Operators, sign_code, operator_of, infix_of, fault, level_of, next_level}
 use Rattle.tc_syntax.specs.helpers.Read.{Moves}
 
@@ -19,7 +20,7 @@ sign_at : ℕ → Sign
 sign_at n = get_or signs n OpenParen
 
 at_code : (s : Sign) → sign_at (sign_code s) ≡ s
-unfolding signs, sign_at
+unfolding signs sign_at
 at_code OpenParen = refl
 at_code CloseParen = refl
 at_code OpenBracket = refl

@@ -6,7 +6,7 @@ use Rattle.tc_base.specs.declared.arith.UnOp.TheVariants.{Neg, Not, Inv}
 use Rattle.tc_lexer.specs.declared.token.Keyword.TheVariants as keyword
 use Rattle.tc_lexer.specs.declared.token.Sign.{Sign as AnySign}
 use Rattle.tc_lexer.specs.declared.token.Sign.TheVariants as sign
-use Rattle.tc_tree.specs.declared.expression.Number.{Number as AnyNumber}
+use Rattle.tc_tree.specs.declared.expression.Number.{Number as TreeNumber}
 use Rattle.tc_tree.specs.declared.expression.Operator.{Operator}
 use Rattle.tc_tree.specs.declared.statement.Action.{Action}
 use Rattle.tc_tree.specs.declared.statement.Barrier.{Barrier}
@@ -30,7 +30,7 @@ Stands [] ws = ws ≡ []
 Stands (Just k ∷ s) ws = (rest : List Word) × (ws ≡ ASign k ∷ rest) × Stands s rest
 Stands (End ∷ s) ws = (p : Place) × (rest : List Word) × (ws ≡ AnEnd p ∷ rest) × Stands s rest
 Stands (AnyName ∷ s) ws = (x : Name) × (rest : List Word) × (ws ≡ AName x ∷ rest) × Stands s rest
-Stands (AnyNumber ∷ s) ws = (n : AnyNumber) × (rest : List Word) × (ws ≡ ANumber n ∷ rest) × Stands s rest
+Stands (AnyNumber ∷ s) ws = (n : TreeNumber) × (rest : List Word) × (ws ≡ ANumber n ∷ rest) × Stands s rest
 Stands (AnInt ∷ s) ws = (rest : List Word) × (ws ≡ AKeyword keyword.Int ∷ rest) × Stands s rest
 Stands (Operand ∷ s) ws = (e : Expression) × (rest : List Word) × IsGrouped e × (11 ≤ tightness e) × (ws ≡ expression_then e rest) × Stands s rest
 Stands (Subscript ∷ s) ws = (rest : List Word) × ((x : Name) → (e : Expression) × IsGrouped e × (11 ≤ tightness e) × (AName x ∷ ws ≡ expression_then e rest)) × Stands s rest
@@ -339,7 +339,7 @@ array_more : (s : List Expected) (ws : List Word) → Stands (AnyNumber ∷ Just
 array_more s ws (n, r0, is0, (r1, is1, (r2, is2, d))) =
     (r2, (λ x. (Array x n, ap (λ (us : List Word). AKeyword keyword.Int ∷ AName x ∷ ASign sign.OpenBracket ∷ us) (is0 ∙ ap (λ (us : List Word). ANumber n ∷ us) (is1 ∙ ap (λ (us : List Word). ASign sign.CloseBracket ∷ us) is2)))), d)
 
-plain_more : (n : AnyNumber) (s : List Expected) (ws : List Word) → Stands (Just sign.Semicolon ∷ s) ws → Stands (AnInitial ∷ s) (ANumber n ∷ ws)
+plain_more : (n : TreeNumber) (s : List Expected) (ws : List Word) → Stands (Just sign.Semicolon ∷ s) ws → Stands (AnInitial ∷ s) (ANumber n ∷ ws)
 plain_more n s ws (r, is, d) = (r, Plain n, ap (λ (us : List Word). ASign sign.Assign ∷ ANumber n ∷ us) is, d)
 
 negated_more : (s : List Expected) (ws : List Word) → Stands (AnyNumber ∷ Just sign.Semicolon ∷ s) ws → Stands (AnInitial ∷ s) (ASign sign.Minus ∷ ws)

@@ -5,7 +5,7 @@ ghost use Rattle.tc_lexer.specs.declared.token.Sign.TheVariants as sign;
 ghost use Rattle.tc_tree.specs.Grammar.{global_then, globals_then, locals_then, local_then, body_then, parameters_then, thread_then, threads_then, program_words, AreWellThreads, IsWellProgram};
 ghost use Rattle.tc_tree.specs.declared.word.Word.TheVariants.{Sign as ASign, Name as AName, Keyword as AKeyword};
 ghost use Rattle.tc_tree.specs.Seen.{body_of, thread_of, program_of};
-ghost use Rattle.tc_syntax.specs.helpers.Reading.{AnyName, Locals, Parameters, Globals, Threads, AfterGlobal, Initial, a_body, a_thread};
+ghost use Rattle.tc_syntax.specs.helpers.Reading.{AnyName, Locals, Parameters, Globals, Threads, AfterGlobal, Initial as AnInitial, a_body, a_thread};
 ghost use Rattle.tc_syntax.specs.helpers.Read.{Stops, IsRead, IsPassed, IsAny, IsWellBody, IsWellThread, initial_ends};
 ghost use Rattle.tc_syntax.specs.helpers.Read as reads;
 
@@ -125,8 +125,8 @@ fn read_int<'w>(words: &'w [Word]) -> Read<'w, Global>
 /// What an int begins with, after the `=`, and the words after its semicolon.
 fn read_initial<'w>(words: &'w [Word]) -> Read<'w, Initial>
     ensures { MatchResult result
-        (λ x. IsRead initial_ends IsAny (ASign sign.Assign ∷ []) (Initial ∷ []) words.now x.0 x.1.now)
-        (λ stop. Stops (Initial ∷ []) words.now stop) }
+        (λ x. IsRead initial_ends IsAny (ASign sign.Assign ∷ []) (AnInitial ∷ []) words.now x.0 x.1.now)
+        (λ stop. Stops (AnInitial ∷ []) words.now stop) }
 {
     match words {
         [Word::Sign(Sign::Minus), start @ ..] => {
