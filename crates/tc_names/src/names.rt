@@ -33,14 +33,12 @@ pub fn check_names(alloc: Heap, tree: &Tree) -> Result<(), NameFault>
 fn declared(alloc: Heap, program: &Program) -> Result<Vec<Declaration>, AllocError>
     ensures { IfOk result (λ all. all.items ≡ program_declarations (program_of program.now)) }
 {
-    let mut all = Vec::new(alloc);
-    for global in &program.globals {
-        all.push(global_declaration(global))?;
-    }
-    for thread in &program.threads {
-        all.push(thread_declaration(thread))?;
-    }
-    Ok(all)
+    program
+        .globals
+        .iter()
+        .map(global_declaration)
+        .chain(program.threads.iter().map(thread_declaration))
+        .collect(alloc)
 }
 
 fn thread_declaration(thread: &Thread) -> Declaration
@@ -165,17 +163,20 @@ fn own_declarations(
 ) -> Result<Vec<Declaration>, AllocError>
     ensures { IfOk result (λ own. own.items ≡ rules.own_declarations parameters.now locals.now) }
 {
-    let mut own = Vec::new(alloc);
-    for name in parameters {
-        own.push(Declaration {
-            name: *name,
-            meaning: Meaning::Parameter,
-        })?;
+    parameters
+        .iter()
+        .map(parameter_declaration)
+        .chain(locals.iter().map(local_declaration))
+        .collect(alloc)
+}
+
+fn parameter_declaration(name: &Name) -> Declaration
+    ensures { result ≡ rules.parameter_declaration name.now }
+{
+    Declaration {
+        name: *name,
+        meaning: Meaning::Parameter,
     }
-    for local in locals {
-        own.push(local_declaration(local))?;
-    }
-    Ok(own)
 }
 
 fn local_declaration(local: &Local) -> Declaration

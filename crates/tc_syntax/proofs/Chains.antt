@@ -1,5 +1,5 @@
 -- The steps of the readers' loops.
-use Rattle.std.proofs.Common.{◌≡◌, ◌≢◌, ℕ, suc, ◌+◌, ◌<◌, ◌≤◌, List, [], ◌∷◌, ◌++◌, length, map, Option, Some, None, refl, sym, ap, ◌∙◌, arith, Bool, true, false}
+use Rattle.std.proofs.Common.{◌≡◌, ◌≢◌, ℕ, suc, ◌+◌, ◌<◌, ◌≤◌, List, [], ◌∷◌, ◌++◌, length, map, Option, Some, None, refl, sym, ap, subst, ◌∙◌, arith, true, false}
 use Rattle.tc_base.specs.declared.place.Place.{Place}
 use Rattle.tc_lexer.specs.declared.token.Keyword.TheVariants as keyword
 use Rattle.tc_lexer.specs.declared.token.Sign.TheVariants as sign
@@ -12,9 +12,9 @@ use Rattle.tc_tree.specs.declared.word.Word.TheVariants.{Name as AName, If as An
 use Rattle.tc_tree.specs.Grammar.{Expression, Binary, binary_sign, expression_then, list_then, others_then, level, tightness, IsGrouped, AreGrouped, Statement, Otherwise, statement_then, statements_then, otherwise_then, IsWell, AreWell, IsWellOtherwise, in_parens_then, global_then, globals_then, local_then, locals_then, parameters_then, other_parameters_then, Thread, thread_then, threads_then, AreWellThreads}
 use Rattle.tc_tree.specs.Grammar as grammar
 use Rattle.tc_tree.specs.Seen.{SeenBlock, SeenBranch, statements_of, otherwise_of}
-use Rattle.tc_syntax.specs.helpers.Reading.{Expected, Just, End, Operand, Operators, Arguments, Others, Statements, Alternative, Locals, Parameters, OtherParameters, Globals, Threads, fault, next_level, level_of, infix_of}
-use Rattle.tc_syntax.specs.helpers.Read.{IsRead, IsTight, IsOperand, IsStatement, IsPassed, IsAny, Moves, branch_then, block_then, IsWellBranch}
-use Rattle.tc_syntax.proofs.Signs.{operator_is, sign_read}
+use Rattle.tc_syntax.specs.helpers.Reading.{Expected, Just, End, Operand, Operators, Arguments, Others, Statements, AfterAssign, Alternative, AfterElse, Locals, Parameters, OtherParameters, Globals, Threads, a_thread, fault, next_level, level_of, infix_of, statement, followed, step}
+use Rattle.tc_syntax.specs.helpers.Read.{begins_statement, is_some, IsRead, IsTight, IsOperand, IsStatement, IsPassed, IsAny, IsWellThread, begins_global, begins_local, Moves, branch_then, block_then, IsWellBranch}
+use Rattle.tc_syntax.proofs.Signs.{operator_is, sign_read, no_operator}
 use Rattle.tc_syntax.proofs.Attached.{level_small}
 
 -- ---- expressions
@@ -65,6 +65,25 @@ one_more_operand least ws e rest op start f after c is h r =
 -- where the right operand is at fault
 pub operand_goes : (least : ℕ) (ws : List Word) (e : Expression) (rest : List Word) (op : Operator) (start : List Word) → IsSoFar least ws e rest → rest ≡ ASign (binary_sign op) ∷ start → (s : List Expected) → fault (Some (Operand ∷ Operators ∷ s)) ws ≡ fault (Some (Operand ∷ Operators ∷ s)) start
 operand_goes least ws e rest op start c is s = c.moves s ∙ ap (λ (us : List Word). fault (Some (Operators ∷ s)) us) is ∙ sign_read op s start
+
+-- the expression is as long as it can be
+pub as_tight : (least : ℕ) (ws : List Word) (e : Expression) (rest : List Word) → IsSoFar least ws e rest → next_level rest < least → IsTight least ws e rest
+as_tight least ws e rest c h = record {
+  spelled = c.spelled;
+  grouped = c.grouped;
+  tight = c.tight;
+  longest = h;
+  moves = c.moves;
+  shorter = c.shorter;
+}
+
+pub whole : (ws : List Word) (e : Expression) (rest : List Word) → IsTight 1 ws e rest → IsRead expression_then IsGrouped [] (Operand ∷ Operators ∷ []) ws e rest
+whole ws e rest t = record {
+  spelled = t.spelled;
+  good = t.grouped;
+  moves = λ s. t.moves s ∙ no_operator rest t.longest s;
+  shorter = omega (arith, t.shorter);
+}
 
 -- ---- arguments
 
@@ -144,7 +163,38 @@ one_more_statement ws ss rest a after c r = record {
   shorter = omega (arith, c.shorter, r.shorter);
 }
 
+-- no statement is next
+none_begins : (w : Word) (ws : List Word) (o : Option (List Expected)) → statement w ≡ o → is_some (statement w) ≡ false → (s : List Expected) → fault (Some (Statements ∷ s)) (w ∷ ws) ≡ fault (Some s) (w ∷ ws)
+none_begins w ws None e h s = ap (λ (o : Option (List Expected)). fault (elim (followed o (Statements ∷ [])) [ Some es ↦ Some (es ++ s) | None ↦ step s w ]) ws) e
+none_begins w ws (Some es) e h s = let no : is_some (Some es) ≡ false = subst (λ (o : Option (List Expected)). is_some o ≡ false) e h in absurd cc
+
+pub no_statement : (ws : List Word) → begins_statement ws ≡ false → (s : List Expected) → fault (Some (Statements ∷ s)) ws ≡ fault (Some s) ws
+no_statement [] h s = refl
+no_statement (w ∷ ws) h s = none_begins w ws (statement w) refl h s
+
+-- what is assigned is a value where it is nothing else
+pub value_goes : (ws : List Word) → ((us : List Word) → ws ≡ AKeyword keyword.Create ∷ us → ⊥) → ((us : List Word) → ws ≡ AKeyword keyword.Swap ∷ us → ⊥) → ((us : List Word) → ws ≡ AKeyword keyword.Cas ∷ us → ⊥) → (s : List Expected) → fault (Some (AfterAssign ∷ s)) ws ≡ fault (Some (Operand ∷ Operators ∷ Just sign.Semicolon ∷ s)) ws
+value_goes [] a b c s = refl
+value_goes (AKeyword keyword.Create ∷ us) a b c s = absurd (a us refl)
+value_goes (AKeyword keyword.Swap ∷ us) a b c s = absurd (b us refl)
+value_goes (AKeyword keyword.Cas ∷ us) a b c s = absurd (c us refl)
+value_goes (ASign sign.OpenParen ∷ us) a b c s = refl
+value_goes (_ ∷ us) a b c s = refl
+
 -- ---- branches
+
+-- no `else` is next
+pub no_else : (ws : List Word) → ((us : List Word) → ws ≡ AKeyword keyword.Else ∷ us → ⊥) → (s : List Expected) → fault (Some (Alternative ∷ s)) ws ≡ fault (Some s) ws
+no_else [] not s = refl
+no_else (AKeyword keyword.Else ∷ us) not s = absurd (not us refl)
+no_else (_ ∷ us) not s = refl
+
+-- after an `else` that no `if` follows a block is expected
+pub block_goes : (ws : List Word) → ((p : Place) (us : List Word) → ws ≡ AnIf p ∷ us → ⊥) → (s : List Expected) → fault (Some (AfterElse ∷ s)) ws ≡ fault (Some (Just sign.OpenBrace ∷ Statements ∷ End ∷ s)) ws
+block_goes [] not s = refl
+block_goes (AnIf p ∷ us) not s = absurd (not p us refl)
+block_goes (ASign sign.OpenBrace ∷ us) not s = refl
+block_goes (_ ∷ us) not s = refl
 
 abbrev pub chain_then : List SeenBranch → List Word → List Word
 chain_then [] rest = rest
@@ -161,6 +211,11 @@ chain_snoc (c ∷ bs) b rest = ap (λ (us : List Word). AKeyword keyword.Else �
 branches_snoc : (bs : List SeenBranch) (b : SeenBranch) → AreWellBranches bs → IsGrouped b.condition → AreWell b.body.statements → AreWellBranches (bs ++ b ∷ [])
 branches_snoc [] b g h k = (h, k, tt)
 branches_snoc (c ∷ bs) b g h k = (g.0, g.1, branches_snoc bs b g.2 h k)
+
+-- where an `else` is
+pub else_goes : (ws : List Word) (bs : List SeenBranch) (rest after : List Word) → IsPassed chain_then AreWellBranches Alternative Alternative ws bs rest → rest ≡ AKeyword keyword.Else ∷ after → (s : List Expected) → fault (Some (Alternative ∷ s)) ws ≡ fault (Some (AfterElse ∷ s)) after
+else_goes ws bs rest after c is s = c.moves s ∙ ap (λ (us : List Word). fault (Some (Alternative ∷ s)) us) is
+
 
 pub one_more_branch : (ws : List Word) (bs : List SeenBranch) (rest start : List Word) (p : Place) (b : SeenBranch) (after : List Word) → IsPassed chain_then AreWellBranches Alternative Alternative ws bs rest → rest ≡ AKeyword keyword.Else ∷ AnIf p ∷ start → IsRead branch_then (IsWellBranch p) [] (Just sign.OpenParen ∷ Operand ∷ Operators ∷ Just sign.CloseParen ∷ Just sign.OpenBrace ∷ Statements ∷ End ∷ []) start b after → IsPassed chain_then AreWellBranches Alternative Alternative ws (bs ++ b ∷ []) after
 one_more_branch ws bs rest start p b after c is r = record {
@@ -226,3 +281,62 @@ others_end (y ∷ xs) x rest = ap (λ (us : List Word). ASign sign.Comma ∷ AKe
 pub parameters_snoc : (xs : List Name) (x : Name) (rest : List Word) → xs ≢ [] → parameters_then xs (ASign sign.Comma ∷ AKeyword keyword.Int ∷ AName x ∷ rest) ≡ parameters_then (xs ++ x ∷ []) rest
 parameters_snoc [] x rest h = absurd (h refl)
 parameters_snoc (y ∷ xs) x rest h = ap (λ (us : List Word). AKeyword keyword.Int ∷ AName y ∷ us) (sym (others_end xs x rest))
+
+-- ---- the ends of lists in programs
+
+pub no_global : (ws : List Word) → begins_global ws ≡ false → (s : List Expected) → fault (Some (Globals ∷ s)) ws ≡ fault (Some (Threads ∷ s)) ws
+no_global [] h s = refl
+no_global (AKeyword keyword.Int ∷ ws) h s = absurd cc
+no_global (AKeyword keyword.Mutex ∷ ws) h s = absurd cc
+no_global (AKeyword keyword.Cond ∷ ws) h s = absurd cc
+no_global (_ ∷ ws) h s = refl
+
+pub no_local : (ws : List Word) → begins_local ws ≡ false → (s : List Expected) → fault (Some (Locals ∷ s)) ws ≡ fault (Some s) ws
+no_local [] h s = refl
+no_local (AKeyword keyword.Int ∷ ws) h s = absurd cc
+no_local (AKeyword keyword.Tid ∷ ws) h s = absurd cc
+no_local (_ ∷ ws) h s = refl
+
+pub no_parameter : (ws : List Word) → ((us : List Word) → ws ≡ AKeyword keyword.Int ∷ us → ⊥) → (s : List Expected) → fault (Some (Parameters ∷ s)) ws ≡ fault (Some s) ws
+no_parameter [] not s = refl
+no_parameter (AKeyword keyword.Int ∷ us) not s = absurd (not us refl)
+no_parameter (_ ∷ us) not s = refl
+
+pub no_other_parameter : (ws : List Word) → ((us : List Word) → ws ≡ ASign sign.Comma ∷ us → ⊥) → (s : List Expected) → fault (Some (OtherParameters ∷ s)) ws ≡ fault (Some s) ws
+no_other_parameter [] not s = refl
+no_other_parameter (ASign sign.Comma ∷ us) not s = absurd (not us refl)
+no_other_parameter (_ ∷ us) not s = refl
+
+-- neither a thread nor main
+pub no_main : (ws : List Word) → ((us : List Word) → ws ≡ AKeyword keyword.Thread ∷ us → ⊥) → ((us : List Word) → ws ≡ AKeyword keyword.Main ∷ us → ⊥) → (s : List Expected) → fault (Some (Threads ∷ s)) ws ≡ Some (length ws)
+no_main [] a b s = refl
+no_main (AKeyword keyword.Thread ∷ us) a b s = absurd (a us refl)
+no_main (AKeyword keyword.Main ∷ us) a b s = absurd (b us refl)
+no_main (_ ∷ us) a b s = refl
+
+pub one_more_thread : (ws : List Word) (ts : List Thread) (rest start : List Word) (t : Thread) (after : List Word) → IsPassed threads_then AreWellThreads Threads Threads ws ts rest → rest ≡ AKeyword keyword.Thread ∷ start → IsRead thread_then IsWellThread (AKeyword keyword.Thread ∷ []) a_thread start t after → IsPassed threads_then AreWellThreads Threads Threads ws (ts ++ t ∷ []) after
+one_more_thread ws ts rest start t after c is r = record {
+  spelled = c.spelled ∙ ap (λ (us : List Word). threads_then ts us) (is ∙ r.spelled) ∙ threads_snoc ts t after;
+  good = well_threads_snoc ts t c.good r.good;
+  moves = λ s. c.moves s ∙ ap (λ (us : List Word). fault (Some (Threads ∷ s)) us) is ∙ r.moves (Threads ∷ s);
+  shorter = omega (arith, c.shorter, ap length is, r.shorter);
+}
+
+pub one_more_parameter : (ws : List Word) (xs : List Name) (rest start end : List Word) (x : Name) (after : List Word) → AreParameters ws xs rest → rest ≡ ASign sign.Comma ∷ start → start ≡ AKeyword keyword.Int ∷ end → end ≡ AName x ∷ after → AreParameters ws (xs ++ x ∷ []) after
+one_more_parameter ws xs rest start end x after c is is' is'' =
+    let all : rest ≡ ASign sign.Comma ∷ AKeyword keyword.Int ∷ AName x ∷ after = is ∙ ap (λ (us : List Word). ASign sign.Comma ∷ us) (is' ∙ ap (λ (us : List Word). AKeyword keyword.Int ∷ us) is'') in
+    record {
+      spelled = c.spelled ∙ ap (λ (us : List Word). parameters_then xs us) all ∙ parameters_snoc xs x after c.some;
+      some = some_snoc xs x;
+      moves = λ s. c.moves s ∙ ap (λ (us : List Word). fault (Some (OtherParameters ∷ s)) us) all;
+      shorter = omega (arith, c.shorter, ap length all);
+    }
+
+-- what may stand after the declarations of a program begins with a thread or main
+pub threads_end : (ws : List Word) (gs : List Global) (rest : List Word) → IsPassed globals_then IsAny Globals Globals ws gs rest → begins_global rest ≡ false → IsPassed globals_then IsAny Globals Threads ws gs rest
+threads_end ws gs rest c h = record {
+  spelled = c.spelled;
+  good = tt;
+  moves = λ s. c.moves s ∙ no_global rest h s;
+  shorter = c.shorter;
+}

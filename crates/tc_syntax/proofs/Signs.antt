@@ -1,5 +1,5 @@
 -- Signs, and the operators that they are.
-use Rattle.std.proofs.Common.{◌≡◌, ◌≢◌, ℕ, nat_eq, get_or, List, [], ◌∷◌, length, Option, Some, None, true, false, refl, sym, ap, ◌∙◌, inl, inr, ◌<◌, ◌≤◌, arith}
+use Rattle.std.proofs.Common.{◌≡◌, ◌≢◌, ℕ, nat_eq, get_or, List, [], ◌∷◌, ◌++◌, Bool, Option, Some, None, true, false, refl, sym, ap, ◌∙◌, inl, inr, ◌<◌, ◌≤◌, arith}
 use Rattle.std.proofs.lemmas.Bool.{eqb-true, eq-eqb}
 use Rattle.std.proofs.lemmas.Bool.Decides.{eqb_tells}
 use Rattle.tc_lexer.specs.declared.token.Sign.{Sign}
@@ -9,7 +9,7 @@ use Rattle.tc_tree.specs.declared.expression.Operator.TheVariants as operator
 use Rattle.tc_tree.specs.Grammar.{binary_sign, level}
 use Rattle.tc_tree.specs.declared.word.Word.{Word}
 use Rattle.tc_tree.specs.declared.word.Word.TheVariants.{Sign as ASign}
-use Rattle.tc_syntax.specs.helpers.Reading.{Expected, Just, Operand, Operators, sign_code, operator_of, infix_of, fault, level_of, next_level}
+use Rattle.tc_syntax.specs.helpers.Reading.{Expected, Just, Operand, Operators, sign_code, operator_of, infix_of, more_operators, same, step, fault, level_of, next_level}
 use Rattle.tc_syntax.specs.helpers.Read.{Moves}
 
 -- the signs in the order of their codes
@@ -137,13 +137,13 @@ no_operator [] h s = refl
 no_operator (w ∷ ws) h s = none_next w ws (infix_of w) refl h s
   where
     none_next : (w : Word) (ws : List Word) (o : Option Operator) → infix_of w ≡ o → level_of (infix_of w) < 1 → (s : List Expected) → fault (Some (Operators ∷ s)) (w ∷ ws) ≡ fault (Some s) (w ∷ ws)
-    none_next w ws None e h s = rw e refl
+    none_next w ws None e h s = ap (λ (o : Option Operator). fault (elim (more_operators o) [ Some es ↦ Some (es ++ s) | None ↦ step s w ]) ws) e
     none_next w ws (Some op) e h s = absurd (omega (arith, some_level op, rw e at h))
 
 -- an operator's sign goes on with an operand
 pub sign_read : (op : Operator) (s : List Expected) (rest : List Word) → fault (Some (Operators ∷ s)) (ASign (binary_sign op) ∷ rest) ≡ fault (Some (Operand ∷ Operators ∷ s)) rest
-sign_read op s rest = rw (operator_is op) refl
+sign_read op s rest = ap (λ (o : Option Operator). fault (elim (more_operators o) [ Some es ↦ Some (es ++ s) | None ↦ step s (ASign (binary_sign op)) ]) rest) (operator_is op)
 
 -- a sign that is expected
 pub sign_moves : (k : Sign) (ws rest : List Word) → ws ≡ ASign k ∷ rest → Moves (Just k ∷ []) ws rest
-sign_moves k ws rest e s = ap (λ (z : List Word). fault (Some (Just k ∷ s)) z) e ∙ rw (own_code k) refl
+sign_moves k ws rest e s = ap (λ (z : List Word). fault (Some (Just k ∷ s)) z) e ∙ ap (λ (b : Bool). fault (elim (same b) [ Some es ↦ Some (es ++ s) | None ↦ None ]) rest) (own_code k)

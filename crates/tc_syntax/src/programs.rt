@@ -2,14 +2,15 @@
 ghost use Rattle.std.specs.Prelude.{◌≡◌, ◌∷◌, [], true, MatchResult, map};
 ghost use Rattle.tc_lexer.specs.declared.token.Keyword.TheVariants as keyword;
 ghost use Rattle.tc_lexer.specs.declared.token.Sign.TheVariants as sign;
-ghost use Rattle.tc_tree.specs.Grammar.{global_then, globals_then, locals_then, local_then, body_then, parameters_then, thread_then, threads_then, program_words, AreWellThreads, IsWellProgram};
+ghost use Rattle.tc_tree.specs.Grammar.{global_then, globals_then, locals_then, local_then, body_then, parameters_then, thread_then, threads_then, program_words, AreWellThreads, IsWellProgram, IsSpelled};
 ghost use Rattle.tc_tree.specs.declared.word.Word.TheVariants.{Sign as ASign, Name as AName, Keyword as AKeyword};
 ghost use Rattle.tc_tree.specs.Seen.{body_of, thread_of, program_of};
+ghost use Rattle.tc_syntax.specs.Faults.{IsStop};
 ghost use Rattle.tc_syntax.specs.helpers.Reading.{AnyName, Locals, Parameters, Globals, Threads, AfterGlobal, Initial as AnInitial, a_body, a_thread};
 ghost use Rattle.tc_syntax.specs.helpers.Read.{Stops, IsRead, IsPassed, IsAny, IsWellBody, IsWellThread, initial_ends};
 ghost use Rattle.tc_syntax.specs.helpers.Read as reads;
 
-use crate::reader::{Read, Stop, past, past_end, past_int, past_name, past_number};
+use crate::reader::{Read, Stop, past, past_end, past_int, past_keyword, past_name, past_number};
 use crate::statements::read_statements;
 use std::alloc::Global as Heap;
 use tc_lexer::{Keyword, Sign};
@@ -18,7 +19,19 @@ use tc_tree::{Block, Body, Global, Initial, Local, Name, Program, Thread, Word};
 /// The program that the words are.
 pub fn read_program(alloc: Heap, words: &[Word]) -> Result<Program, Stop>
     ensures { MatchResult result
-        (λ tree. (words.now ≡ program_words (program_of tree)) × IsWellProgram (program_of tree))
+        (λ program. IsSpelled 3 words.now (program_of program))
+        (λ stop. IsStop 3 words.now stop) }
+{
+    match read_all(alloc, words) {
+        Ok(program) => Ok(program),
+        Err(stop) => Err(stop),
+    }
+}
+
+/// Declarations, threads and main, up to the end.
+fn read_all(alloc: Heap, words: &[Word]) -> Result<Program, Stop>
+    ensures { MatchResult result
+        (λ program. (words.now ≡ program_words (program_of program)) × IsWellProgram (program_of program))
         (λ stop. Stops (Globals ∷ []) words.now stop) }
 {
     let (globals, after) = read_globals(alloc, words)?;
@@ -41,9 +54,9 @@ fn read_main<'w>(alloc: Heap, words: &'w [Word]) -> Read<'w, Body>
         (λ x. IsRead (λ b rest. AKeyword keyword.Main ∷ body_then b rest) IsWellBody [] (Threads ∷ []) words.now (body_of x.0) x.1.now)
         (λ stop. Stops (Threads ∷ []) words.now stop) }
 {
-    match words {
-        [Word::Keyword(Keyword::Main), start @ ..] => read_body(alloc, start),
-        _ => Err(Stop::Left(words.len())),
+    match past_keyword(words, Keyword::Main) {
+        Some(start) => read_body(alloc, start),
+        None => Err(Stop::Left(words.len())),
     }
 }
 
@@ -150,7 +163,7 @@ fn read_threads<'w>(alloc: Heap, words: &'w [Word]) -> Read<'w, Vec<Thread>>
 {
     let mut found = Vec::new(alloc);
     let mut rest = words;
-    while let [Word::Keyword(Keyword::Thread), start @ ..] = rest {
+    while let Some(start) = past_keyword(rest, Keyword::Thread) {
         let (thread, after) = read_thread(alloc, start)?;
         found.push(thread)?;
         rest = after;

@@ -1,7 +1,8 @@
 //! One word at a time.
-ghost use Rattle.std.specs.Prelude.{◌≡◌, List, ◌∷◌, [], MatchResult};
+ghost use Rattle.std.specs.Prelude.{◌≡◌, List, ◌∷◌, [], MatchOption, MatchResult};
+ghost use Rattle.tc_base.specs.declared.place.Place.{Place as PlainPlace};
 ghost use Rattle.tc_lexer.specs.declared.token.Keyword.TheVariants as keyword;
-ghost use Rattle.tc_tree.specs.declared.word.Word.TheVariants.{Sign as ASign, Name as AName, Number as ANumber, Keyword as AKeyword, End as AnEnd};
+ghost use Rattle.tc_tree.specs.declared.word.Word.TheVariants.{Sign as ASign, Name as AName, Number as ANumber, If as AnIf, Keyword as AKeyword, End as AnEnd};
 ghost use Rattle.tc_tree.specs.declared.word.Word.{Word as GrammarWord};
 ghost use Rattle.tc_syntax.specs.helpers.Reading.{Just, AnyName, AnyNumber, AnInt, End};
 ghost use Rattle.tc_syntax.specs.helpers.Read.{Stops, Moves};
@@ -52,6 +53,30 @@ pub(crate) fn past<'w>(words: &'w [Word], wanted: Sign) -> Result<&'w [Word], St
     match words {
         [Word::Sign(sign), rest @ ..] if *sign == wanted => Ok(rest),
         _ => Err(Stop::Left(words.len())),
+    }
+}
+
+/// The words after this keyword, where it is next.
+pub(crate) fn past_keyword<'w>(words: &'w [Word], wanted: Keyword) -> Option<&'w [Word]>
+    ensures { MatchOption result
+        ((rest : List GrammarWord) → words.now ≡ AKeyword wanted ∷ rest → ⊥)
+        (λ rest. words.now ≡ AKeyword wanted ∷ rest.now) }
+{
+    match words {
+        [Word::Keyword(keyword), rest @ ..] if *keyword == wanted => Some(rest),
+        _ => None,
+    }
+}
+
+/// The place of an `if` and the words after it, where one is next.
+pub(crate) fn past_if<'w>(words: &'w [Word]) -> Option<(Place, &'w [Word])>
+    ensures { MatchOption result
+        ((place : PlainPlace) (rest : List GrammarWord) → words.now ≡ AnIf place ∷ rest → ⊥)
+        (λ x. words.now ≡ AnIf x.0 ∷ x.1.now) }
+{
+    match words {
+        [Word::If(place), rest @ ..] => Some((*place, rest)),
+        _ => None,
     }
 }
 

@@ -10,7 +10,7 @@ ghost use Rattle.tc_syntax.specs.helpers.Read.{Stops, IsRead, IsStatement, block
 ghost use Rattle.tc_syntax.specs.helpers.Read as reads;
 
 use crate::expressions::{read_arguments, read_expression};
-use crate::reader::{Read, Stop, past, past_end, past_name};
+use crate::reader::{Read, Stop, past, past_end, past_if, past_keyword, past_name};
 use std::alloc::Global;
 use tc_base::Place;
 use tc_lexer::{Keyword, Sign};
@@ -124,15 +124,16 @@ fn read_assigned<'w>(
         (λ x. IsRead statement_then IsWell (AName name ∷ ASign sign.Assign ∷ []) (AfterAssign ∷ []) words.now (statement_of x.0) x.1.now)
         (λ stop. Stops (AfterAssign ∷ []) words.now stop) }
 {
-    match words {
-        [Word::Keyword(Keyword::Create), start @ ..] => read_create(alloc, name, start),
-        [Word::Keyword(Keyword::Swap), start @ ..] => read_swap(alloc, name, start),
-        [Word::Keyword(Keyword::Cas), start @ ..] => read_cas(alloc, name, start),
-        _ => {
-            let (value, end) = read_expression(alloc, words)?;
-            let rest = past(end, Sign::Semicolon)?;
-            Ok((Statement::Assign(name, value), rest))
-        }
+    if let Some(start) = past_keyword(words, Keyword::Create) {
+        read_create(alloc, name, start)
+    } else if let Some(start) = past_keyword(words, Keyword::Swap) {
+        read_swap(alloc, name, start)
+    } else if let Some(start) = past_keyword(words, Keyword::Cas) {
+        read_cas(alloc, name, start)
+    } else {
+        let (value, end) = read_expression(alloc, words)?;
+        let rest = past(end, Sign::Semicolon)?;
+        Ok((Statement::Assign(name, value), rest))
     }
 }
 
@@ -298,9 +299,9 @@ fn read_otherwise<'w>(alloc: Global, words: &'w [Word]) -> Read<'w, Otherwise>
 {
     let mut others = Vec::new(alloc);
     let mut rest = words;
-    while let [Word::Keyword(Keyword::Else), after @ ..] = rest {
-        if let [Word::If(place), start @ ..] = after {
-            let (branch, end) = read_branch(alloc, *place, start)?;
+    while let Some(after) = past_keyword(rest, Keyword::Else) {
+        if let Some((place, start)) = past_if(after) {
+            let (branch, end) = read_branch(alloc, place, start)?;
             others.push(branch)?;
             rest = end;
         } else {
