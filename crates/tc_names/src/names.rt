@@ -1,5 +1,5 @@
 //! The walk over a program in the order of its text.
-ghost use Rattle.std.specs.Prelude.{◌≡◌, ◌+◌, [], IfOk, map, take, length};
+ghost use Rattle.std.specs.Prelude.{◌≡◌, ◌++◌, [], IfOk, map, take, drop, length};
 ghost use Rattle.tc_tree.specs.Seen.{body_of, thread_of, program_of};
 ghost use Rattle.tc_names.specs.Names.{twice_fault, size_fault, global_name, globals_fault, declarations_fault, body_fault, threads_fault, names_fault, program_declarations, ◌then◌};
 ghost use Rattle.tc_names.specs.Names as rules;
@@ -79,11 +79,15 @@ fn check_globals(
     all: &[Declaration],
     globals: &[Global],
 ) -> Result<(), NameFault>
-    requires { take (length globals.now) all.now ≡ map rules.global_declaration globals.now }
+    requires { all.now ≡ map rules.global_declaration globals.now ++ drop (length globals.now) all.now }
     ensures { Tells result (globals_fault source.now [] globals.now) }
 {
-    for i in 0..globals.len() {
-        check_global(source, &all[..i], &globals[i])?;
+    let mut count = 0_usize;
+    let mut rest = globals;
+    while let [global, later @ ..] = rest {
+        check_global(source, &all[..count], global)?;
+        count += 1;
+        rest = later;
     }
     Ok(())
 }
@@ -118,12 +122,13 @@ fn check_threads(
     globals: usize,
     threads: &[Thread],
 ) -> Result<(), NameFault>
-    requires { globals + length threads.now ≡ length all.now }
+    requires { drop globals all.now ≡ map rules.thread_declaration (map thread_of threads.now) }
     ensures { TellsUnlessMemory result (threads_fault source.now all.now (take globals all.now) (map thread_of threads.now)) }
 {
-    for i in 0..threads.len() {
-        let thread = &threads[i];
-        check_first(source, &all[..globals + i], &thread.name)?;
+    let mut count = globals;
+    let mut rest = threads;
+    while let [thread, later @ ..] = rest {
+        check_first(source, &all[..count], &thread.name)?;
         check_body(
             alloc,
             source,
@@ -131,6 +136,8 @@ fn check_threads(
             thread.parameters.as_slice(),
             &thread.body,
         )?;
+        count += 1;
+        rest = later;
     }
     Ok(())
 }
@@ -198,8 +205,12 @@ fn local_declaration(local: &Local) -> Declaration
 fn check_own(source: &[u8], own: &[Declaration]) -> Result<(), NameFault>
     ensures { Tells result (declarations_fault source.now [] own.now) }
 {
-    for i in 0..own.len() {
-        check_first(source, &own[..i], &own[i].name)?;
+    let mut count = 0_usize;
+    let mut rest = own;
+    while let [declaration, later @ ..] = rest {
+        check_first(source, &own[..count], &declaration.name)?;
+        count += 1;
+        rest = later;
     }
     Ok(())
 }

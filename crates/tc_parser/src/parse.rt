@@ -1,40 +1,52 @@
 //! From tokens to a tree.
+ghost use Rattle.std.specs.Prelude.{◌≡◌, ◌+◌, ◌-◌, ◌<◌, ◌≤◌, ◌^◌, ℕ, List, length, slice_get, MatchResult};
+ghost use Rattle.tc_lexer.specs.declared.token.Token.{Token as OneToken};
+ghost use Rattle.tc_lexer.specs.Places.{place_after};
+ghost use Rattle.tc_lexer.specs.Text.{AreTokens};
+ghost use Rattle.tc_names.specs.Names.{names_fault};
+ghost use Rattle.tc_tree.specs.Grammar.{IsSpelled};
+ghost use Rattle.tc_tree.specs.Seen.{program_of};
+ghost use Rattle.tc_tree.specs.Words.{words_of};
+ghost use Rattle.tc_parser.specs.Program.{IsProgram, IsFault, IsReadable, IsNamed, place_at};
 
 use crate::counts;
 use crate::fault::{ParseFault, What};
 use crate::word::words;
 use std::alloc::Global;
 use tc_base::{Place, limits};
-use tc_lexer::{Token, Tokens};
+use tc_lexer::{Token, Tokens, place_after};
 use tc_names::{NameFault, check_names};
 use tc_syntax::{Stop, read_program};
 use tc_tree::{Global as Declared, Program, Tree};
 
-/// The tree of a text's tokens.
-pub fn parse<'a>(alloc: Global, source: &'a [u8], tokens: &Tokens) -> Result<Tree<'a>, ParseFault> {
+/// The tree of a text's tokens, in the language with every word (the third).
+///
+/// The text has at most as many bytes as a program may have. Brackets and stretches are counted before the tree is read, so its nesting is bounded.
+pub fn parse<'a>(alloc: Global, source: &'a [u8], tokens: &Tokens) -> Result<Tree<'a>, ParseFault>
+    requires tokens { AreTokens 3 source.now tokens.now }
+    requires size { length source.now ≤ 65536 }
+    ensures { MatchResult result
+        (λ tree. (tree.text.now ≡ source.now) × IsProgram 3 source.now tokens.now (program_of tree.program))
+        (λ fault. IsFault 3 source.now tokens.now fault) }
+{
     let tokens = tokens.as_slice();
-    check_brackets(tokens)?;
-    check_stretch(tokens)?;
+    check_readable(tokens)?;
     let program = program_of(alloc, source, tokens)?;
     let tree = Tree {
         text: source,
         program,
     };
-    name_faults(alloc, &tree)?;
-    check_counts(tree.program.globals.as_slice())?;
+    check_named(alloc, &tree)?;
+    check_declared(tree.program.globals.as_slice())?;
     Ok(tree)
 }
 
-fn check_brackets(tokens: &[Token]) -> Result<(), ParseFault> {
+/// Refuses brackets and stretches past their limits.
+fn check_readable(tokens: &[Token]) -> Result<(), ParseFault> {
     if counts::is_deep(tokens) {
         let limit = limits::BRACKETS as u64;
-        Err(ParseFault::Count(What::Brackets, limit + 1, limit))
-    } else {
-        Ok(())
+        return Err(ParseFault::Count(What::Brackets, limit + 1, limit));
     }
-}
-
-fn check_stretch(tokens: &[Token]) -> Result<(), ParseFault> {
     check_count(
         What::Stretch,
         counts::longest_stretch(tokens) as u64,
@@ -54,30 +66,19 @@ fn program_of(alloc: Global, source: &[u8], tokens: &[Token]) -> Result<Program,
     }
 }
 
-/// The place of the token before which so many are left, or the end of the text.
-fn place_at(source: &[u8], tokens: &[Token], left: usize) -> Place {
+/// The place of the token from which on so many are left, or the end of the text.
+fn place_at(source: &[u8], tokens: &[Token], left: usize) -> Place
+    requires { left ≤ length tokens.now }
+    ensures { result ≡ place_at source.now (slice_get tokens.now (length tokens.now - left)) }
+{
     match tokens.get(tokens.len() - left) {
         Some(token) => token.place,
-        None => end_of(source),
+        None => place_after(source),
     }
 }
 
-fn end_of(source: &[u8]) -> Place {
-    let mut place = Place { line: 1, col: 1 };
-    for byte in source {
-        if *byte == b'\n' {
-            place = Place {
-                line: place.line + 1,
-                col: 1,
-            };
-        } else {
-            place.col += 1;
-        }
-    }
-    place
-}
-
-fn name_faults(alloc: Global, tree: &Tree) -> Result<(), ParseFault> {
+/// Refuses the first name that breaks the rules on names.
+fn check_named(alloc: Global, tree: &Tree) -> Result<(), ParseFault> {
     match check_names(alloc, tree) {
         Ok(()) => Ok(()),
         Err(NameFault::Unknown(place)) => Err(ParseFault::Unknown(place)),
@@ -88,7 +89,10 @@ fn name_faults(alloc: Global, tree: &Tree) -> Result<(), ParseFault> {
     }
 }
 
-fn check_counts(globals: &[Declared]) -> Result<(), ParseFault> {
+/// Refuses more cells, mutexes or conditions than there may be.
+fn check_declared(globals: &[Declared]) -> Result<(), ParseFault>
+    requires { length globals.now < 2 ^ 32 }
+{
     check_count(
         What::Cells,
         counts::cells(globals),

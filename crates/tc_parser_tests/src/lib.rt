@@ -69,4 +69,34 @@ mod tests {
         }
         Ok(())
     }
+
+    #[test]
+    fn counts(rt: HostRuntime) -> Result<(), Fail> {
+        for (before, part, times, after, want) in [
+            ("int x; main { x = ", "(", 63, "1", "Syntax at 1:83"),
+            ("int x; main { x = ", "(", 64, "1", "Brackets 65 of 64"),
+            ("", "[", 64, "", "Syntax at 1:1"),
+            ("", "{", 65, "", "Brackets 65 of 64"),
+            (") ] } ", "(", 64, "", "Syntax at 1:1"),
+            (") ] } ", "(]", 500, "", "Stretch 1002 of 512"),
+            ("int x; main { x = ", "-", 509, "1; }", "ok"),
+            ("int x; main { x = ", "-", 510, "1; }", "Stretch 513 of 512"),
+            ("", "+ ", 513, "", "Stretch 513 of 512"),
+            ("", "+ ", 512, "", "Syntax at 1:1"),
+            ("int a[1000]; ", "/* */", 9, "int b[24]; main { }", "ok"),
+            ("int a[1000]; ", "/* */", 9, "int b[24]; int c; main { }", "Cells 1025 of 1024"),
+            ("int a[2147483647]; int b[2147483647]; ", "", 0, "main { }", "Cells 4294967294 of 1024"),
+            ("int x; main { if (x) { } ", "else if (x) { } ", 3000, "}", "ok"),
+            ("int x; main { x = ", "x + ", 200, "y; }", "Unknown at 1:819"),
+        ] {
+            let mut text = String::new(rt.alloc());
+            text.push_str(before)?;
+            for _ in 0..times {
+                text.push_str(part)?;
+            }
+            text.push_str(after)?;
+            assert_eq!(rt; answer(&rt, text.as_bytes())?.as_str(), want, "{before}{part}");
+        }
+        Ok(())
+    }
 }
