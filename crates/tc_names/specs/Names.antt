@@ -45,6 +45,7 @@ is_meaning meaning.Global meaning.Global = true
 is_meaning meaning.Array meaning.Array = true
 is_meaning meaning.Mutex meaning.Mutex = true
 is_meaning meaning.Condition meaning.Condition = true
+is_meaning (meaning.Thread m) (meaning.Thread n) = nat_eq m n
 is_meaning meaning.Parameter meaning.Parameter = true
 is_meaning meaning.Local meaning.Local = true
 is_meaning meaning.Handle meaning.Handle = true

@@ -9,11 +9,13 @@ use Rattle.tc_tree.specs.declared.program.Global.{Global}
 use Rattle.tc_tree.specs.declared.program.Local.{Local}
 use Rattle.tc_tree.specs.declared.word.Word.{Word}
 use Rattle.tc_tree.specs.declared.word.Word.TheVariants.{Name as AName, If as AnIf, Keyword as AKeyword, Sign as ASign, End as AnEnd}
-use Rattle.tc_tree.specs.Grammar.{Expression, Binary, binary_sign, expression_then, list_then, others_then, level, tightness, IsGrouped, AreGrouped, Statement, Otherwise, statement_then, statements_then, otherwise_then, IsWell, AreWell, IsWellOtherwise, in_parens_then, global_then, globals_then, local_then, locals_then, parameters_then, other_parameters_then, Thread, thread_then, threads_then, AreWellThreads}
+use Rattle.tc_tree.specs.Grammar.{Expression, Binary, binary_sign, expression_then, list_then, others_then, level, tightness, IsGrouped, AreGrouped, Statement, Assign, Otherwise, statement_then, statements_then, otherwise_then, IsWell, AreWell, IsWellOtherwise, in_parens_then, global_then, globals_then, local_then, locals_then, parameters_then, other_parameters_then, Thread, thread_then, threads_then, AreWellThreads}
 use Rattle.tc_tree.specs.Grammar as grammar
 use Rattle.tc_tree.specs.Seen.{SeenBlock, SeenBranch, statements_of, otherwise_of}
-use Rattle.tc_syntax.specs.helpers.Reading.{Expected, Just, End, Operand, Operators, Arguments, Others, Statements, AfterAssign, Alternative, AfterElse, Locals, Parameters, OtherParameters, Globals, Threads, a_thread, fault, next_level, level_of, infix_of, statement, followed, step}
-use Rattle.tc_syntax.specs.helpers.Read.{begins_statement, is_some, IsRead, IsTight, IsOperand, IsStatement, IsPassed, IsAny, IsWellThread, begins_global, begins_local, Moves, branch_then, block_then, IsWellBranch}
+use Rattle.tc_syntax.specs.helpers.Reading.{Expected, Just, End, Operand, Operators, Arguments, Others, Statements, AfterName, AfterAssign, Alternative, AfterElse, Locals, Parameters, OtherParameters, Globals, Threads, a_thread, fault, next_level, level_of, infix_of, statement, followed, step}
+use Rattle.tc_syntax.specs.declared.reader.Stop.{Stop}
+use Rattle.tc_syntax.specs.declared.reader.Stop.TheVariants.{Memory, Left}
+use Rattle.tc_syntax.specs.helpers.Read.{Stops, Ends, begins_statement, is_some, IsRead, IsTight, IsOperand, IsStatement, IsPassed, IsAny, IsWellThread, begins_global, begins_local, Moves, branch_then, block_then, IsWellBranch, IsWellBlock}
 use Rattle.tc_syntax.proofs.Signs.{operator_is, sign_read, no_operator}
 use Rattle.tc_syntax.proofs.Attached.{level_small}
 
@@ -181,6 +183,21 @@ value_goes (AKeyword keyword.Cas ∷ us) a b c s = absurd (c us refl)
 value_goes (ASign sign.OpenParen ∷ us) a b c s = refl
 value_goes (_ ∷ us) a b c s = refl
 
+pub value_read : (x : Name) (ws : List Word) (e : Expression) (end rest : List Word) → ((us : List Word) → ws ≡ AKeyword keyword.Create ∷ us → ⊥) → ((us : List Word) → ws ≡ AKeyword keyword.Swap ∷ us → ⊥) → ((us : List Word) → ws ≡ AKeyword keyword.Cas ∷ us → ⊥) → IsRead expression_then IsGrouped [] (Operand ∷ Operators ∷ []) ws e end → end ≡ ASign sign.Semicolon ∷ rest → IsRead statement_then IsWell (AName x ∷ ASign sign.Assign ∷ []) (AfterAssign ∷ []) ws (Assign x e) rest
+value_read x ws e end rest a b c r is = record {
+  spelled = ap (λ (us : List Word). AName x ∷ ASign sign.Assign ∷ us) (r.spelled ∙ ap (λ (us : List Word). expression_then e us) is);
+  good = r.good;
+  moves = λ s. value_goes ws a b c s ∙ r.moves (Just sign.Semicolon ∷ s) ∙ ap (λ (us : List Word). fault (Some (Just sign.Semicolon ∷ s)) us) is;
+  shorter = omega (arith, r.shorter, ap length is);
+}
+
+-- neither an element nor an assignment
+pub name_goes : (ws : List Word) → ((us : List Word) → ws ≡ ASign sign.OpenBracket ∷ us → ⊥) → ((us : List Word) → ws ≡ ASign sign.Assign ∷ us → ⊥) → (s : List Expected) → fault (Some (AfterName ∷ s)) ws ≡ fault (Some (Just sign.Assign ∷ s)) ws
+name_goes [] a b s = refl
+name_goes (ASign sign.OpenBracket ∷ us) a b s = absurd (a us refl)
+name_goes (ASign sign.Assign ∷ us) a b s = absurd (b us refl)
+name_goes (_ ∷ us) a b s = refl
+
 -- ---- branches
 
 -- no `else` is next
@@ -232,6 +249,24 @@ chain_ends (c ∷ bs) last rest = ap (λ (us : List Word). AKeyword keyword.Else
 chain_well : (bs : List SeenBranch) (last : Option SeenBlock) → AreWellBranches bs → IsWellOtherwise (otherwise_of [] last) → IsWellOtherwise (otherwise_of bs last)
 chain_well [] last g h = h
 chain_well (c ∷ bs) last g h = (g.0, g.1, chain_well bs last g.2 h)
+
+-- the chain ends without an `else`
+pub no_last : (ws : List Word) (bs : List SeenBranch) (rest : List Word) → IsPassed chain_then AreWellBranches Alternative Alternative ws bs rest → ((us : List Word) → rest ≡ AKeyword keyword.Else ∷ us → ⊥) → IsRead otherwise_then IsWellOtherwise [] (Alternative ∷ []) ws (otherwise_of bs None) rest
+no_last ws bs rest c not = record {
+  spelled = c.spelled ∙ chain_ends bs None rest;
+  good = chain_well bs None c.good tt;
+  moves = λ s. c.moves s ∙ no_else rest not s;
+  shorter = c.shorter;
+}
+
+-- or with one
+pub one_last : (ws : List Word) (bs : List SeenBranch) (rest after : List Word) (b : SeenBlock) (end : List Word) → IsPassed chain_then AreWellBranches Alternative Alternative ws bs rest → rest ≡ AKeyword keyword.Else ∷ after → ((p : Place) (us : List Word) → after ≡ AnIf p ∷ us → ⊥) → IsRead block_then IsWellBlock [] (Just sign.OpenBrace ∷ Statements ∷ End ∷ []) after b end → IsRead otherwise_then IsWellOtherwise [] (Alternative ∷ []) ws (otherwise_of bs (Some b)) end
+one_last ws bs rest after b end c is not r = record {
+  spelled = c.spelled ∙ ap (λ (us : List Word). chain_then bs us) (is ∙ ap (λ (us : List Word). AKeyword keyword.Else ∷ us) r.spelled) ∙ chain_ends bs (Some b) end;
+  good = chain_well bs (Some b) c.good r.good;
+  moves = λ s. else_goes ws bs rest after c is s ∙ block_goes after not s ∙ r.moves s;
+  shorter = omega (arith, c.shorter, ap length is, r.shorter);
+}
 
 -- ---- programs
 
@@ -340,3 +375,13 @@ threads_end ws gs rest c h = record {
   moves = λ s. c.moves s ∙ no_global rest h s;
   shorter = c.shorter;
 }
+
+-- what is at fault in a program
+pub ends_after : (ws rest : List Word) (x : Expected) (stop : Stop) → ((s : List Expected) → fault (Some (Globals ∷ s)) ws ≡ fault (Some (x ∷ s)) rest) → Stops (x ∷ []) rest stop → Ends ws stop
+ends_after ws rest x Memory m h = tt
+ends_after ws rest x (Left n) m h = m [] ∙ h []
+
+-- words after main
+pub too_many : (rest : List Word) → length rest ≢ 0 → fault (Some []) rest ≡ Some (length rest)
+too_many [] h = absurd (h refl)
+too_many (w ∷ ws) h = refl

@@ -21,7 +21,7 @@ use Rattle.tc_syntax.specs.helpers.Reading.{Expected, Just, End, AnyName, AnyNum
 use Rattle.tc_syntax.specs.declared.reader.Stop.{Stop}
 use Rattle.tc_syntax.specs.declared.reader.Stop.TheVariants.{Memory, Left}
 use Rattle.tc_syntax.specs.Faults.{IsStop}
-use Rattle.tc_syntax.specs.helpers.Read.{Stops}
+use Rattle.tc_syntax.specs.helpers.Read.{Ends}
 use Rattle.tc_syntax.proofs.Stands.{Stands, StandsAfter, StandsThen, first_more, skip_more}
 use Rattle.tc_syntax.proofs.Trees.{program_read}
 
@@ -207,6 +207,6 @@ is_syntax_fault ws left e =
     let at_front = fault_at c.front c.rest c.begins c.refused (λ p is. no_program ws left e p (subst (λ (us : List Word). IsSpelled 3 us p) (sym c.whole) is)) in
     (omega (arith, size), subst (λ (k : ℕ). IsSyntaxFault 3 ws k) (sym place) (subst (λ (us : List Word). IsSyntaxFault 3 us (length c.front)) (sym c.whole) at_front))
 
-pub is_stop : (ws : List Word) (stop : Stop) → Stops (Globals ∷ []) ws stop → IsStop 3 ws stop
+pub is_stop : (ws : List Word) (stop : Stop) → Ends ws stop → IsStop 3 ws stop
 is_stop ws Memory h = tt
-is_stop ws (Left n) h = is_syntax_fault ws n (h [])
+is_stop ws (Left n) h = is_syntax_fault ws n h

@@ -1,13 +1,14 @@
 //! Reads programs.
-ghost use Rattle.std.specs.Prelude.{◌≡◌, ◌∷◌, [], true, MatchResult, map};
+ghost use Rattle.std.specs.Prelude.{◌≡◌, List, ◌∷◌, [], true, MatchResult, map};
 ghost use Rattle.tc_lexer.specs.declared.token.Keyword.TheVariants as keyword;
 ghost use Rattle.tc_lexer.specs.declared.token.Sign.TheVariants as sign;
 ghost use Rattle.tc_tree.specs.Grammar.{global_then, globals_then, locals_then, local_then, body_then, parameters_then, thread_then, threads_then, program_words, AreWellThreads, IsWellProgram, IsSpelled};
 ghost use Rattle.tc_tree.specs.declared.word.Word.TheVariants.{Sign as ASign, Name as AName, Keyword as AKeyword};
+ghost use Rattle.tc_tree.specs.declared.word.Word.{Word as GrammarWord};
 ghost use Rattle.tc_tree.specs.Seen.{body_of, thread_of, program_of};
 ghost use Rattle.tc_syntax.specs.Faults.{IsStop};
 ghost use Rattle.tc_syntax.specs.helpers.Reading.{AnyName, Locals, Parameters, Globals, Threads, AfterGlobal, Initial as AnInitial, a_body, a_thread};
-ghost use Rattle.tc_syntax.specs.helpers.Read.{Stops, IsRead, IsPassed, IsAny, IsWellBody, IsWellThread, initial_ends};
+ghost use Rattle.tc_syntax.specs.helpers.Read.{Stops, Ends, IsRead, IsPassed, IsAny, IsWellBody, IsWellThread, initial_ends};
 ghost use Rattle.tc_syntax.specs.helpers.Read as reads;
 
 use crate::reader::{Read, Stop, past, past_end, past_int, past_keyword, past_name, past_number};
@@ -32,7 +33,7 @@ pub fn read_program(alloc: Heap, words: &[Word]) -> Result<Program, Stop>
 fn read_all(alloc: Heap, words: &[Word]) -> Result<Program, Stop>
     ensures { MatchResult result
         (λ program. (words.now ≡ program_words (program_of program)) × IsWellProgram (program_of program))
-        (λ stop. Stops (Globals ∷ []) words.now stop) }
+        (λ stop. Ends words.now stop) }
 {
     let (globals, after) = read_globals(alloc, words)?;
     let (threads, after) = read_threads(alloc, after)?;
@@ -50,6 +51,7 @@ fn read_all(alloc: Heap, words: &[Word]) -> Result<Program, Stop>
 
 /// What main does, and the words after it.
 fn read_main<'w>(alloc: Heap, words: &'w [Word]) -> Read<'w, Body>
+    requires { (rest : List GrammarWord) → words.now ≡ AKeyword keyword.Thread ∷ rest → ⊥ }
     ensures { MatchResult result
         (λ x. IsRead (λ b rest. AKeyword keyword.Main ∷ body_then b rest) IsWellBody [] (Threads ∷ []) words.now (body_of x.0) x.1.now)
         (λ stop. Stops (Threads ∷ []) words.now stop) }
@@ -158,7 +160,7 @@ fn read_initial<'w>(words: &'w [Word]) -> Read<'w, Initial>
 /// Threads, as many as stand there, and the words after them.
 fn read_threads<'w>(alloc: Heap, words: &'w [Word]) -> Read<'w, Vec<Thread>>
     ensures { MatchResult result
-        (λ x. IsPassed threads_then AreWellThreads Threads Threads words.now (map thread_of x.0.items) x.1.now)
+        (λ x. IsPassed threads_then AreWellThreads Threads Threads words.now (map thread_of x.0.items) x.1.now × ((rest : List GrammarWord) → x.1.now ≡ AKeyword keyword.Thread ∷ rest → ⊥))
         (λ stop. Stops (Threads ∷ []) words.now stop) }
 {
     let mut found = Vec::new(alloc);

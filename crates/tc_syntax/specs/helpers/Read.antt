@@ -13,7 +13,7 @@ use Rattle.tc_tree.specs.declared.word.Word.{Word}
 use Rattle.tc_tree.specs.Seen.{SeenBlock, SeenBranch, statement_of, statements_of, block_of, branch_of, otherwise_of}
 use Rattle.tc_syntax.specs.declared.reader.Stop.{Stop}
 use Rattle.tc_syntax.specs.declared.reader.Stop.TheVariants.{Memory, Left}
-use Rattle.tc_syntax.specs.helpers.Reading.{Expected, Operand, Operators, Statements as MoreStatements, fault, next_level, statement}
+use Rattle.tc_syntax.specs.helpers.Reading.{Expected, Operand, Operators, Statements as MoreStatements, Globals, fault, next_level, statement}
 
 -- where these are expected, and whatever after them, the first unexpected word is where the reader stopped
 abbrev pub Stops : List Expected → List Word → Stop → Type 0
@@ -23,6 +23,11 @@ Stops es ws (Left n) = (s : List Expected) → fault (Some (es ++ s)) ws ≡ Som
 -- where these are expected, and whatever after them, that is expected at the rest
 abbrev pub Moves : List Expected → List Word → List Word → Type 0
 Moves es ws rest = (s : List Expected) → fault (Some (es ++ s)) ws ≡ fault (Some s) rest
+
+-- the first unexpected word of a program is where the reader stopped
+abbrev pub Ends : List Word → Stop → Type 0
+Ends ws Memory = Unit {0}
+Ends ws (Left n) = fault (Some (Globals ∷ [])) ws ≡ Some n
 
 -- what stands where these are expected, after some words that stand before it
 pub record IsRead {A : Type 0} (spell : A → List Word → List Word) (IsGood : A → Type 0) (front : List Word) (es : List Expected) (ws : List Word) (a : A) (rest : List Word) : Type 0 where
