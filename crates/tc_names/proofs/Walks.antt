@@ -6,6 +6,8 @@ use Rattle.tc_names.specs.declared.scope.Declaration.{Declaration}
 use Rattle.tc_tree.specs.declared.program.Global.{Global}
 use Rattle.tc_tree.specs.Grammar.{Thread}
 use Rattle.tc_names.specs.Names.{◌then◌, twice_fault, size_fault, global_name, global_declaration, globals_fault, declarations_fault, thread_declaration, threads_fault, body_fault}
+use Rattle.tc_tree.specs.declared.program.Thread.{Thread as TreeThread}
+use Rattle.tc_tree.specs.Seen.{thread_of, body_of}
 use Rattle.tc_names.proofs.Lists.{next}
 
 pub then-assoc : (a b c : Option NameFault) → ((a then b) then c) ≡ (a then (b then c))
@@ -107,3 +109,7 @@ threads_fail_inside source all earlier threads count rest t later f o e clear ba
 pub threads_within : (source : List ℕ) (all earlier : List Declaration) (threads : List Thread) (count : ℕ) (rest : List Thread) (t : Thread) (later : List Thread) → ThreadsSoFar source all earlier threads count rest → rest ≡ t ∷ later → count < length all
 threads_within source all earlier threads count rest t later o e =
     (next all count (thread_declaration t) (map thread_declaration later) (o.left ∙ ap (λ (ts : List Thread). map thread_declaration ts) e)).within
+
+pub threads_on : (source : List ℕ) (all earlier : List Declaration) (threads : List Thread) (count : ℕ) (rest : List TreeThread) (d : TreeThread) → ThreadsSoFar source all earlier threads count (map thread_of rest) → 1 ≤ length rest → twice_fault source (take count all) (get_or rest 0 d).name ≡ None → body_fault source all (get_or rest 0 d).parameters.items (body_of (get_or rest 0 d).body) ≡ None → ThreadsSoFar source all earlier threads (count + 1) (map thread_of (take (length rest - 1) (drop 1 rest)))
+threads_on source all earlier threads count [] d o h clear good = absurd (omega (arith, h))
+threads_on source all earlier threads count (t ∷ ts) d o h clear good = subst (λ (us : List TreeThread). ThreadsSoFar source all earlier threads (count + 1) (map thread_of us)) (sym (later_is t ts)) (threads_step source all earlier threads count (thread_of t ∷ map thread_of ts) (thread_of t) (map thread_of ts) o refl clear good)

@@ -31,7 +31,7 @@ pub fn check_names(alloc: Heap, tree: &Tree) -> Result<(), NameFault>
 
 /// The global declarations and the threads, in order.
 fn declared(alloc: Heap, program: &Program) -> Result<Vec<Declaration>, AllocError>
-    ensures { IfOk result (λ all. all.items ≡ program_declarations (program_of program.now)) }
+    ensures { IfOk result (λ all. all.items ≡ map rules.global_declaration program.now.globals.items ++ map (λ t. rules.thread_declaration (thread_of t)) program.now.threads.items) }
 {
     program
         .globals
