@@ -110,6 +110,9 @@ pub threads_within : (source : List ℕ) (all earlier : List Declaration) (threa
 threads_within source all earlier threads count rest t later o e =
     (next all count (thread_declaration t) (map thread_declaration later) (o.left ∙ ap (λ (ts : List Thread). map thread_declaration ts) e)).within
 
-pub threads_on : (source : List ℕ) (all earlier : List Declaration) (threads : List Thread) (count : ℕ) (rest : List TreeThread) (d : TreeThread) → ThreadsSoFar source all earlier threads count (map thread_of rest) → 1 ≤ length rest → twice_fault source (take count all) (get_or rest 0 d).name ≡ None → body_fault source all (get_or rest 0 d).parameters.items (body_of (get_or rest 0 d).body) ≡ None → ThreadsSoFar source all earlier threads (count + 1) (map thread_of (take (length rest - 1) (drop 1 rest)))
-threads_on source all earlier threads count [] d o h clear good = absurd (omega (arith, h))
-threads_on source all earlier threads count (t ∷ ts) d o h clear good = subst (λ (us : List TreeThread). ThreadsSoFar source all earlier threads (count + 1) (map thread_of us)) (sym (later_is t ts)) (threads_step source all earlier threads count (thread_of t ∷ map thread_of ts) (thread_of t) (map thread_of ts) o refl clear good)
+pub threads_on : (source : List ℕ) (all earlier : List Declaration) (threads : List Thread) (count : ℕ) (rest : List TreeThread) (d : TreeThread) → ThreadsSoFar source all earlier threads count (map thread_of rest) → 1 ≤ length rest → d ≡ get_or rest 0 d → twice_fault source (take count all) d.name ≡ None → body_fault source all d.parameters.items (body_of d.body) ≡ None → ThreadsSoFar source all earlier threads (count + 1) (map thread_of (take (length rest - 1) (drop 1 rest)))
+threads_on source all earlier threads count [] d o h is clear good = absurd (omega (arith, h))
+threads_on source all earlier threads count (t ∷ ts) d o h is clear good =
+    let clear' = subst (λ (u : TreeThread). twice_fault source (take count all) u.name ≡ None) is clear in
+    let good' = subst (λ (u : TreeThread). body_fault source all u.parameters.items (body_of u.body) ≡ None) is good in
+    subst (λ (us : List TreeThread). ThreadsSoFar source all earlier threads (count + 1) (map thread_of us)) (sym (later_is t ts)) (threads_step source all earlier threads count (thread_of t ∷ map thread_of ts) (thread_of t) (map thread_of ts) o refl clear' good')
