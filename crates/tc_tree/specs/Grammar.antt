@@ -9,7 +9,26 @@ use Rattle.tc_lexer.specs.declared.token.Sign.TheVariants as sign
 use Rattle.tc_tree.specs.declared.expression.Name.{Name}
 use Rattle.tc_tree.specs.declared.expression.Number.{Number as AnyNumber}
 use Rattle.tc_tree.specs.declared.expression.Operator.{Operator}
-use Rattle.tc_tree.specs.declared.expression.Operator.TheVariants.{Multiply, Divide, Remainder, Add, Subtract, ShiftLeft, ShiftRight, Less, LessOrEqual, Greater, GreaterOrEqual, Equal, Unequal, BitAnd, BitXor, BitOr, And, Or}
+use Rattle.tc_tree.specs.declared.expression.Operator.TheVariants.{
+  Multiply,
+  Divide,
+  Remainder,
+  Add,
+  Subtract,
+  ShiftLeft,
+  ShiftRight,
+  Less,
+  LessOrEqual,
+  Greater,
+  GreaterOrEqual,
+  Equal,
+  Unequal,
+  BitAnd,
+  BitXor,
+  BitOr,
+  And,
+  Or,
+}
 use Rattle.tc_tree.specs.declared.statement.Action.{Action}
 use Rattle.tc_tree.specs.declared.statement.Barrier.{Barrier}
 use Rattle.tc_tree.specs.declared.program.Initial.{Initial}
@@ -19,7 +38,19 @@ use Rattle.tc_tree.specs.declared.program.Global.TheVariants.{Int, Array, Mutex,
 use Rattle.tc_tree.specs.declared.program.Local.{Local}
 use Rattle.tc_tree.specs.declared.program.Local.TheVariants.{Int as LocalInt, Handle}
 use Rattle.tc_tree.specs.declared.word.Word.{Word}
-use Rattle.tc_tree.specs.declared.word.Word.TheVariants.{Name as AName, Number as ANumber, If as AnIf, While as AWhile, Action as AnAction, Wait as AWait, Barrier as ABarrier, Assert as AnAssert, Keyword as AKeyword, Sign as ASign, End as AnEnd}
+use Rattle.tc_tree.specs.declared.word.Word.TheVariants.{
+  Name as AName,
+  Number as ANumber,
+  If as AnIf,
+  While as AWhile,
+  Action as AnAction,
+  Wait as AWait,
+  Barrier as ABarrier,
+  Assert as AnAssert,
+  Keyword as AKeyword,
+  Sign as ASign,
+  End as AnEnd,
+}
 use Rattle.tc_tree.specs.Words.{word_since}
 
 -- ---- expressions
@@ -147,10 +178,14 @@ in_parens_then e rest = ASign sign.OpenParen ∷ expression_then e (ASign sign.C
 abbrev mutual
   pub statement_then : Statement → List Word → List Word
   statement_then (Assign x e) rest = AName x ∷ ASign sign.Assign ∷ expression_then e (ASign sign.Semicolon ∷ rest)
-  statement_then (Store a i e) rest = AName a ∷ ASign sign.OpenBracket ∷ expression_then i (ASign sign.CloseBracket ∷ ASign sign.Assign ∷ expression_then e (ASign sign.Semicolon ∷ rest))
-  statement_then (Create h f es) rest = AName h ∷ ASign sign.Assign ∷ AKeyword keyword.Create ∷ AName f ∷ ASign sign.OpenParen ∷ list_then es (ASign sign.CloseParen ∷ ASign sign.Semicolon ∷ rest)
-  statement_then (Swap r x e) rest = AName r ∷ ASign sign.Assign ∷ AKeyword keyword.Swap ∷ ASign sign.OpenParen ∷ AName x ∷ ASign sign.Comma ∷ expression_then e (ASign sign.CloseParen ∷ ASign sign.Semicolon ∷ rest)
-  statement_then (Cas r x e f) rest = AName r ∷ ASign sign.Assign ∷ AKeyword keyword.Cas ∷ ASign sign.OpenParen ∷ AName x ∷ ASign sign.Comma ∷ expression_then e (ASign sign.Comma ∷ expression_then f (ASign sign.CloseParen ∷ ASign sign.Semicolon ∷ rest))
+  statement_then (Store a i e) rest = AName a ∷ ASign sign.OpenBracket ∷ expression_then i
+      (ASign sign.CloseBracket ∷ ASign sign.Assign ∷ expression_then e (ASign sign.Semicolon ∷ rest))
+  statement_then (Create h f es) rest = AName h ∷ ASign sign.Assign ∷ AKeyword keyword.Create ∷ AName f ∷ ASign sign.OpenParen ∷ list_then es
+      (ASign sign.CloseParen ∷ ASign sign.Semicolon ∷ rest)
+  statement_then (Swap r x e) rest = AName r ∷ ASign sign.Assign ∷ AKeyword keyword.Swap ∷ ASign sign.OpenParen ∷ AName x ∷ ASign sign.Comma ∷
+      expression_then e (ASign sign.CloseParen ∷ ASign sign.Semicolon ∷ rest)
+  statement_then (Cas r x e f) rest = AName r ∷ ASign sign.Assign ∷ AKeyword keyword.Cas ∷ ASign sign.OpenParen ∷ AName x ∷ ASign sign.Comma ∷
+      expression_then e (ASign sign.Comma ∷ expression_then f (ASign sign.CloseParen ∷ ASign sign.Semicolon ∷ rest))
   statement_then (Act p a x) rest = AnAction a p ∷ ASign sign.OpenParen ∷ AName x ∷ ASign sign.CloseParen ∷ ASign sign.Semicolon ∷ rest
   statement_then (Wait p c m) rest = AWait p ∷ ASign sign.OpenParen ∷ AName c ∷ ASign sign.Comma ∷ AName m ∷ ASign sign.CloseParen ∷ ASign sign.Semicolon ∷ rest
   statement_then (Order p b) rest = ABarrier b p ∷ ASign sign.OpenParen ∷ ASign sign.CloseParen ∷ ASign sign.Semicolon ∷ rest
@@ -165,7 +200,8 @@ abbrev mutual
   pub otherwise_then : Otherwise → List Word → List Word
   otherwise_then Nothing rest = rest
   otherwise_then (Else b q) rest = AKeyword keyword.Else ∷ ASign sign.OpenBrace ∷ statements_then b (AnEnd q ∷ rest)
-  otherwise_then (ElseIf p c b q o) rest = AKeyword keyword.Else ∷ AnIf p ∷ in_parens_then c (ASign sign.OpenBrace ∷ statements_then b (AnEnd q ∷ otherwise_then o rest))
+  otherwise_then (ElseIf p c b q o) rest = AKeyword keyword.Else ∷ AnIf p ∷ in_parens_then c
+      (ASign sign.OpenBrace ∷ statements_then b (AnEnd q ∷ otherwise_then o rest))
 
 abbrev mutual
   pub IsWell : Statement → Type 0
@@ -243,7 +279,8 @@ parameters_then [] rest = rest
 parameters_then (x ∷ xs) rest = AKeyword keyword.Int ∷ AName x ∷ other_parameters_then xs rest
 
 abbrev pub thread_then : Thread → List Word → List Word
-thread_then t rest = AKeyword keyword.Thread ∷ AName t.name ∷ ASign sign.OpenParen ∷ parameters_then t.parameters (ASign sign.CloseParen ∷ body_then t.body rest)
+thread_then t rest = AKeyword keyword.Thread ∷ AName t.name ∷ ASign sign.OpenParen ∷ parameters_then t.parameters
+    (ASign sign.CloseParen ∷ body_then t.body rest)
 
 abbrev pub threads_then : List Thread → List Word → List Word
 threads_then [] rest = rest

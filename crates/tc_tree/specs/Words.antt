@@ -12,7 +12,19 @@ use Rattle.tc_lexer.specs.Tokens.{keyword_since, sign_since}
 use Rattle.tc_tree.specs.declared.statement.Action.TheVariants.{Join, Lock, Unlock, Signal, Broadcast}
 use Rattle.tc_tree.specs.declared.statement.Barrier.TheVariants.{Fence, Stores}
 use Rattle.tc_tree.specs.declared.word.Word.{Word}
-use Rattle.tc_tree.specs.declared.word.Word.TheVariants.{Name as AName, Number as ANumber, If as AnIf, While as AWhile, Action as AnAction, Wait as AWait, Barrier as ABarrier, Assert as AnAssert, Keyword as AKeyword, Sign as ASign, End as AnEnd}
+use Rattle.tc_tree.specs.declared.word.Word.TheVariants.{
+  Name as AName,
+  Number as ANumber,
+  If as AnIf,
+  While as AWhile,
+  Action as AnAction,
+  Wait as AWait,
+  Barrier as ABarrier,
+  Assert as AnAssert,
+  Keyword as AKeyword,
+  Sign as ASign,
+  End as AnEnd,
+}
 
 -- a keyword, with its place where it begins a statement
 abbrev pub keyword_word : AnyKeyword → Place → Word
