@@ -41,7 +41,8 @@ at_top f op e h gf ge t = record {
   tight = λ m a b. b;
 }
 
-under : (o : Operator) (a b : Expression) (op : Operator) (e : Expression) → level o < level op → IsGrouped (Binary o a b) → Attached b op e → Attached (Binary o a b) op e
+under : (o : Operator) (a b : Expression) (op : Operator) (e : Expression) → level o < level op → IsGrouped (Binary o a b) → Attached b op e
+    → Attached (Binary o a b) op e
 under o a b op e h g got = record {
   tree = Binary o a got.tree;
   words = λ rest. ap (λ (ws : List Word). expression_then a (ASign (binary_sign o) ∷ ws)) (got.words rest);
@@ -58,4 +59,7 @@ attach (Variable x) op e gf ge t = at_top (Variable x) op e (omega (arith, level
 attach (Element a i) op e gf ge t = at_top (Element a i) op e (omega (arith, level_small op)) gf ge t
 attach (Paren f) op e gf ge t = at_top (Paren f) op e (omega (arith, level_small op)) gf ge t
 attach (Unary u f) op e gf ge t = at_top (Unary u f) op e (omega (arith, level_small op)) gf ge t
-attach (Binary o a b) op e gf ge t = elim (tighter (level op) (level o)) [ inl h ↦ at_top (Binary o a b) op e h gf ge t | inr h ↦ under o a b op e h gf (attach b op e gf.3 ge t) ]
+attach (Binary o a b) op e gf ge t = elim (tighter (level op) (level o)) [
+  | inl h ↦ at_top (Binary o a b) op e h gf ge t
+  | inr h ↦ under o a b op e h gf (attach b op e gf.3 ge t)
+]

@@ -1,20 +1,90 @@
 -- Signs, and the operators that they are.
-use Rattle.std.proofs.Common.{◌≡◌, ◌≢◌, ℕ, nat_eq, get_or, List, [], ◌∷◌, ◌++◌, Bool, Option, Some, None, true, false, refl, sym, ap, ◌∙◌, inl, inr, ◌<◌, ◌≤◌, arith}
+use Rattle.std.proofs.Common.{
+  ◌≡◌,
+  ◌≢◌,
+  ℕ,
+  nat_eq,
+  get_or,
+  List,
+  [],
+  ◌∷◌,
+  ◌++◌,
+  Bool,
+  Option,
+  Some,
+  None,
+  true,
+  false,
+  refl,
+  sym,
+  ap,
+  ◌∙◌,
+  inl,
+  inr,
+  ◌<◌,
+  ◌≤◌,
+  arith,
+}
 use Rattle.std.proofs.lemmas.Bool.{eqb-true, eq-eqb}
 use Rattle.std.proofs.lemmas.Bool.Decides.{eqb_tells}
 use Rattle.tc_lexer.specs.declared.token.Sign.{Sign}
-use Rattle.tc_lexer.specs.declared.token.Sign.TheVariants.{OpenParen, CloseParen, OpenBracket, CloseBracket, OpenBrace, CloseBrace, Comma, Semicolon, Assign, Plus, Minus, Star, Slash, Percent, Bang, Tilde, Less, LessEqual, Greater, GreaterEqual, EqualEqual, BangEqual, ShiftLeft, ShiftRight, And, Caret, Or, AndAnd, OrOr}
+use Rattle.tc_lexer.specs.declared.token.Sign.TheVariants.{
+  OpenParen,
+  CloseParen,
+  OpenBracket,
+  CloseBracket,
+  OpenBrace,
+  CloseBrace,
+  Comma,
+  Semicolon,
+  Assign,
+  Plus,
+  Minus,
+  Star,
+  Slash,
+  Percent,
+  Bang,
+  Tilde,
+  Less,
+  LessEqual,
+  Greater,
+  GreaterEqual,
+  EqualEqual,
+  BangEqual,
+  ShiftLeft,
+  ShiftRight,
+  And,
+  Caret,
+  Or,
+  AndAnd,
+  OrOr,
+}
 use Rattle.tc_tree.specs.declared.expression.Operator.{Operator}
 use Rattle.tc_tree.specs.declared.expression.Operator.TheVariants as operator
 use Rattle.tc_tree.specs.Grammar.{binary_sign, level}
 use Rattle.tc_tree.specs.declared.word.Word.{Word}
 use Rattle.tc_tree.specs.declared.word.Word.TheVariants.{Sign as ASign}
-use Rattle.tc_syntax.specs.helpers.Reading.{Expected, Just, Operand, Operators, sign_code, operator_of, infix_of, more_operators, same, step, fault, level_of, next_level}
+use Rattle.tc_syntax.specs.helpers.Reading.{
+  Expected,
+  Just,
+  Operand,
+  Operators,
+  sign_code,
+  operator_of,
+  infix_of,
+  more_operators,
+  same,
+  step,
+  fault,
+  level_of,
+  next_level,
+}
 use Rattle.tc_syntax.specs.helpers.Read.{Moves}
 
 -- the signs in the order of their codes
 signs : List Sign
-signs = OpenParen ∷ CloseParen ∷ OpenBracket ∷ CloseBracket ∷ OpenBrace ∷ CloseBrace ∷ Comma ∷ Semicolon ∷ Assign ∷ Plus ∷ Minus ∷ Star ∷ Slash ∷ Percent ∷ Bang ∷ Tilde ∷ Less ∷ LessEqual ∷ Greater ∷ GreaterEqual ∷ EqualEqual ∷ BangEqual ∷ ShiftLeft ∷ ShiftRight ∷ And ∷ Caret ∷ Or ∷ AndAnd ∷ OrOr ∷ []
+signs = OpenParen ∷ CloseParen ∷ OpenBracket ∷ CloseBracket ∷ OpenBrace ∷ CloseBrace ∷ Comma ∷ Semicolon ∷ Assign ∷ Plus ∷ Minus ∷ Star ∷ Slash ∷
+    Percent ∷ Bang ∷ Tilde ∷ Less ∷ LessEqual ∷ Greater ∷ GreaterEqual ∷ EqualEqual ∷ BangEqual ∷ ShiftLeft ∷ ShiftRight ∷ And ∷ Caret ∷ Or ∷ AndAnd ∷ OrOr ∷ []
 
 sign_at : ℕ → Sign
 sign_at n = get_or signs n OpenParen
@@ -136,14 +206,18 @@ pub no_operator : (ws : List Word) → next_level ws < 1 → (s : List Expected)
 no_operator [] h s = refl
 no_operator (w ∷ ws) h s = none_next w ws (infix_of w) refl h s
   where
-    none_next : (w : Word) (ws : List Word) (o : Option Operator) → infix_of w ≡ o → level_of (infix_of w) < 1 → (s : List Expected) → fault (Some (Operators ∷ s)) (w ∷ ws) ≡ fault (Some s) (w ∷ ws)
+    none_next : (w : Word) (ws : List Word) (o : Option Operator) → infix_of w ≡ o → level_of (infix_of w) < 1 → (s : List Expected)
+        → fault (Some (Operators ∷ s)) (w ∷ ws) ≡ fault (Some s) (w ∷ ws)
     none_next w ws None e h s = ap (λ (o : Option Operator). fault (elim (more_operators o) [ Some es ↦ Some (es ++ s) | None ↦ step s w ]) ws) e
     none_next w ws (Some op) e h s = absurd (omega (arith, some_level op, rw e at h))
 
 -- an operator's sign goes on with an operand
-pub sign_read : (op : Operator) (s : List Expected) (rest : List Word) → fault (Some (Operators ∷ s)) (ASign (binary_sign op) ∷ rest) ≡ fault (Some (Operand ∷ Operators ∷ s)) rest
-sign_read op s rest = ap (λ (o : Option Operator). fault (elim (more_operators o) [ Some es ↦ Some (es ++ s) | None ↦ step s (ASign (binary_sign op)) ]) rest) (operator_is op)
+pub sign_read : (op : Operator) (s : List Expected) (rest : List Word)
+    → fault (Some (Operators ∷ s)) (ASign (binary_sign op) ∷ rest) ≡ fault (Some (Operand ∷ Operators ∷ s)) rest
+sign_read op s rest = ap (λ (o : Option Operator). fault
+    (elim (more_operators o) [ Some es ↦ Some (es ++ s) | None ↦ step s (ASign (binary_sign op)) ]) rest) (operator_is op)
 
 -- a sign that is expected
 pub sign_moves : (k : Sign) (ws rest : List Word) → ws ≡ ASign k ∷ rest → Moves (Just k ∷ []) ws rest
-sign_moves k ws rest e s = ap (λ (z : List Word). fault (Some (Just k ∷ s)) z) e ∙ ap (λ (b : Bool). fault (elim (same b) [ Some es ↦ Some (es ++ s) | None ↦ None ]) rest) (own_code k)
+sign_moves k ws rest e s = ap (λ (z : List Word). fault (Some (Just k ∷ s)) z) e
+    ∙ ap (λ (b : Bool). fault (elim (same b) [ Some es ↦ Some (es ++ s) | None ↦ None ]) rest) (own_code k)

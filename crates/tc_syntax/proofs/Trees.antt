@@ -8,7 +8,54 @@ use Rattle.tc_tree.specs.declared.expression.Operator.{Operator}
 use Rattle.tc_tree.specs.declared.expression.Operator.TheVariants as operator
 use Rattle.tc_tree.specs.declared.program.Initial.{Initial}
 use Rattle.tc_tree.specs.declared.program.Initial.TheVariants.{Zero, Plain, Negated}
-use Rattle.tc_tree.specs.Grammar.{Expression, Number, Variable, Element, Paren, Unary, Binary, Statement, Assign, Store, Create, Swap, Cas, Act, Wait, Order, Assert, While, If, Nil, Cons, Otherwise, Nothing, Else, ElseIf, Body, Thread, Program, binary_sign, expression_then, others_then, list_then, statement_then, statements_then, otherwise_then, initial_then, global_then, globals_then, local_then, locals_then, body_then, parameters_then, other_parameters_then, thread_then, threads_then, program_words}
+use Rattle.tc_tree.specs.Grammar.{
+  Expression,
+  Number,
+  Variable,
+  Element,
+  Paren,
+  Unary,
+  Binary,
+  Statement,
+  Assign,
+  Store,
+  Create,
+  Swap,
+  Cas,
+  Act,
+  Wait,
+  Order,
+  Assert,
+  While,
+  If,
+  Nil,
+  Cons,
+  Otherwise,
+  Nothing,
+  Else,
+  ElseIf,
+  Body,
+  Thread,
+  Program,
+  binary_sign,
+  expression_then,
+  others_then,
+  list_then,
+  statement_then,
+  statements_then,
+  otherwise_then,
+  initial_then,
+  global_then,
+  globals_then,
+  local_then,
+  locals_then,
+  body_then,
+  parameters_then,
+  other_parameters_then,
+  thread_then,
+  threads_then,
+  program_words,
+}
 use Rattle.tc_tree.specs.declared.word.Word.TheVariants.{Name as AName, Number as ANumber, Keyword as AKeyword, Sign as ASign, End as AnEnd}
 use Rattle.tc_tree.specs.declared.word.Word.{Word}
 use Rattle.tc_tree.specs.declared.expression.Name.{Name}
@@ -17,7 +64,30 @@ use Rattle.tc_tree.specs.declared.program.Global.TheVariants.{Int, Array, Mutex,
 use Rattle.tc_tree.specs.declared.program.Local.{Local}
 use Rattle.tc_tree.specs.declared.program.Local.TheVariants.{Int as LocalInt, Handle}
 use Rattle.tc_tree.specs.Grammar as grammar
-use Rattle.tc_syntax.specs.helpers.Reading.{Expected, Just, End, AnyName, AnyNumber, Operand, Subscript, Operators, Arguments, Others, Statements, AfterName, AfterAssign, Alternative, AfterElse, Locals, Parameters, OtherParameters, Globals, Threads, AfterGlobal, fault}
+use Rattle.tc_syntax.specs.helpers.Reading.{
+  Expected,
+  Just,
+  End,
+  AnyName,
+  AnyNumber,
+  Operand,
+  Subscript,
+  Operators,
+  Arguments,
+  Others,
+  Statements,
+  AfterName,
+  AfterAssign,
+  Alternative,
+  AfterElse,
+  Locals,
+  Parameters,
+  OtherParameters,
+  Globals,
+  Threads,
+  AfterGlobal,
+  fault,
+}
 use Rattle.tc_syntax.proofs.Signs.{sign_read}
 
 -- whether `[` is next
@@ -50,7 +120,8 @@ sign_opens operator.BitOr ws = refl
 sign_opens operator.And ws = refl
 sign_opens operator.Or ws = refl
 
-pub expression_read : (e : Expression) (s : List Expected) (rest : List Word) → opens rest ≡ false → fault (Some (Operand ∷ Operators ∷ s)) (expression_then e rest) ≡ fault (Some (Operators ∷ s)) rest
+pub expression_read : (e : Expression) (s : List Expected) (rest : List Word) → opens rest ≡ false
+    → fault (Some (Operand ∷ Operators ∷ s)) (expression_then e rest) ≡ fault (Some (Operators ∷ s)) rest
 expression_read (Number n) s rest h = refl
 expression_read (Variable x) s rest h = no_subscript rest h (Operators ∷ s)
 expression_read (Element a i) s rest h = expression_read i (Just sign.CloseBracket ∷ Operators ∷ s) (ASign sign.CloseBracket ∷ rest) refl
@@ -63,7 +134,8 @@ expression_read (Binary op a b) s rest h =
     ∙ sign_read op s (expression_then b rest) ∙ expression_read b s rest h
 
 -- an argument begins as any operand does
-argument_goes : (e : Expression) (s : List Expected) (rest : List Word) → fault (Some (Arguments ∷ s)) (expression_then e rest) ≡ fault (Some (Operand ∷ Operators ∷ Others ∷ s)) (expression_then e rest)
+argument_goes : (e : Expression) (s : List Expected) (rest : List Word)
+    → fault (Some (Arguments ∷ s)) (expression_then e rest) ≡ fault (Some (Operand ∷ Operators ∷ Others ∷ s)) (expression_then e rest)
 argument_goes (Number n) s rest = refl
 argument_goes (Variable x) s rest = refl
 argument_goes (Element a i) s rest = refl
@@ -74,7 +146,8 @@ argument_goes (Unary Inv e) s rest = refl
 argument_goes (Binary op a b) s rest = argument_goes a s (ASign (binary_sign op) ∷ expression_then b rest)
 
 -- so does what is assigned
-value_goes : (e : Expression) (s : List Expected) (rest : List Word) → fault (Some (AfterAssign ∷ s)) (expression_then e rest) ≡ fault (Some (Operand ∷ Operators ∷ Just sign.Semicolon ∷ s)) (expression_then e rest)
+value_goes : (e : Expression) (s : List Expected) (rest : List Word)
+    → fault (Some (AfterAssign ∷ s)) (expression_then e rest) ≡ fault (Some (Operand ∷ Operators ∷ Just sign.Semicolon ∷ s)) (expression_then e rest)
 value_goes (Number n) s rest = refl
 value_goes (Variable x) s rest = refl
 value_goes (Element a i) s rest = refl
@@ -88,12 +161,14 @@ others_open : (es : List Expression) (rest : List Word) → opens (others_then e
 others_open [] rest = refl
 others_open (e ∷ es) rest = refl
 
-others_read : (es : List Expression) (s : List Expected) (rest : List Word) → fault (Some (Operators ∷ Others ∷ Just sign.CloseParen ∷ s)) (others_then es (ASign sign.CloseParen ∷ rest)) ≡ fault (Some s) rest
+others_read : (es : List Expression) (s : List Expected) (rest : List Word)
+    → fault (Some (Operators ∷ Others ∷ Just sign.CloseParen ∷ s)) (others_then es (ASign sign.CloseParen ∷ rest)) ≡ fault (Some s) rest
 others_read [] s rest = refl
 others_read (e ∷ es) s rest =
     expression_read e (Others ∷ Just sign.CloseParen ∷ s) (others_then es (ASign sign.CloseParen ∷ rest)) (others_open es rest) ∙ others_read es s rest
 
-pub list_read : (es : List Expression) (s : List Expected) (rest : List Word) → fault (Some (Arguments ∷ Just sign.CloseParen ∷ s)) (list_then es (ASign sign.CloseParen ∷ rest)) ≡ fault (Some s) rest
+pub list_read : (es : List Expression) (s : List Expected) (rest : List Word)
+    → fault (Some (Arguments ∷ Just sign.CloseParen ∷ s)) (list_then es (ASign sign.CloseParen ∷ rest)) ≡ fault (Some s) rest
 list_read [] s rest = refl
 list_read (e ∷ es) s rest =
     argument_goes e (Just sign.CloseParen ∷ s) (others_then es (ASign sign.CloseParen ∷ rest))
@@ -129,37 +204,48 @@ statements_begin Nil rest h = h
 statements_begin (Cons a b) rest h = statement_begins a (statements_then b rest)
 
 mutual
-  pub statement_read : (a : Statement) (s : List Expected) (rest : List Word) → is_else rest ≡ false → fault (Some (Statements ∷ s)) (statement_then a rest) ≡ fault (Some (Statements ∷ s)) rest
-  statement_read (Assign x e) s rest h = value_goes e (Statements ∷ s) (ASign sign.Semicolon ∷ rest) ∙ expression_read e (Just sign.Semicolon ∷ Statements ∷ s) (ASign sign.Semicolon ∷ rest) refl
+  pub statement_read : (a : Statement) (s : List Expected) (rest : List Word) → is_else rest ≡ false
+      → fault (Some (Statements ∷ s)) (statement_then a rest) ≡ fault (Some (Statements ∷ s)) rest
+  statement_read (Assign x e) s rest h = value_goes e (Statements ∷ s) (ASign sign.Semicolon ∷ rest)
+      ∙ expression_read e (Just sign.Semicolon ∷ Statements ∷ s) (ASign sign.Semicolon ∷ rest) refl
   statement_read (Store a i e) s rest h =
-      expression_read i (Just sign.CloseBracket ∷ Just sign.Assign ∷ Operand ∷ Operators ∷ Just sign.Semicolon ∷ Statements ∷ s) (ASign sign.CloseBracket ∷ ASign sign.Assign ∷ expression_then e (ASign sign.Semicolon ∷ rest)) refl
+      expression_read i (Just sign.CloseBracket ∷ Just sign.Assign ∷ Operand ∷ Operators ∷ Just sign.Semicolon ∷ Statements ∷ s)
+      (ASign sign.CloseBracket ∷ ASign sign.Assign ∷ expression_then e (ASign sign.Semicolon ∷ rest)) refl
       ∙ expression_read e (Just sign.Semicolon ∷ Statements ∷ s) (ASign sign.Semicolon ∷ rest) refl
   statement_read (Create h f es) s rest g = list_read es (Just sign.Semicolon ∷ Statements ∷ s) (ASign sign.Semicolon ∷ rest)
-  statement_read (Swap r x e) s rest h = expression_read e (Just sign.CloseParen ∷ Just sign.Semicolon ∷ Statements ∷ s) (ASign sign.CloseParen ∷ ASign sign.Semicolon ∷ rest) refl
+  statement_read (Swap r x e) s rest h = expression_read e (Just sign.CloseParen ∷ Just sign.Semicolon ∷ Statements ∷ s)
+      (ASign sign.CloseParen ∷ ASign sign.Semicolon ∷ rest) refl
   statement_read (Cas r x e f) s rest h =
-      expression_read e (Just sign.Comma ∷ Operand ∷ Operators ∷ Just sign.CloseParen ∷ Just sign.Semicolon ∷ Statements ∷ s) (ASign sign.Comma ∷ expression_then f (ASign sign.CloseParen ∷ ASign sign.Semicolon ∷ rest)) refl
+      expression_read e (Just sign.Comma ∷ Operand ∷ Operators ∷ Just sign.CloseParen ∷ Just sign.Semicolon ∷ Statements ∷ s)
+      (ASign sign.Comma ∷ expression_then f (ASign sign.CloseParen ∷ ASign sign.Semicolon ∷ rest)) refl
       ∙ expression_read f (Just sign.CloseParen ∷ Just sign.Semicolon ∷ Statements ∷ s) (ASign sign.CloseParen ∷ ASign sign.Semicolon ∷ rest) refl
   statement_read (Act p a x) s rest h = refl
   statement_read (Wait p c m) s rest h = refl
   statement_read (Order p b) s rest h = refl
-  statement_read (Assert p e) s rest h = expression_read e (Just sign.CloseParen ∷ Just sign.Semicolon ∷ Statements ∷ s) (ASign sign.CloseParen ∷ ASign sign.Semicolon ∷ rest) refl
+  statement_read (Assert p e) s rest h = expression_read e (Just sign.CloseParen ∷ Just sign.Semicolon ∷ Statements ∷ s)
+      (ASign sign.CloseParen ∷ ASign sign.Semicolon ∷ rest) refl
   statement_read (While p c b q) s rest h =
-      expression_read c (Just sign.CloseParen ∷ Just sign.OpenBrace ∷ Statements ∷ End ∷ Statements ∷ s) (ASign sign.CloseParen ∷ ASign sign.OpenBrace ∷ statements_then b (AnEnd q ∷ rest)) refl
+      expression_read c (Just sign.CloseParen ∷ Just sign.OpenBrace ∷ Statements ∷ End ∷ Statements ∷ s)
+      (ASign sign.CloseParen ∷ ASign sign.OpenBrace ∷ statements_then b (AnEnd q ∷ rest)) refl
       ∙ statements_read b (End ∷ Statements ∷ s) (AnEnd q ∷ rest) refl
   statement_read (If p c b q o) s rest h =
-      expression_read c (Just sign.CloseParen ∷ Just sign.OpenBrace ∷ Statements ∷ End ∷ Alternative ∷ Statements ∷ s) (ASign sign.CloseParen ∷ ASign sign.OpenBrace ∷ statements_then b (AnEnd q ∷ otherwise_then o rest)) refl
+      expression_read c (Just sign.CloseParen ∷ Just sign.OpenBrace ∷ Statements ∷ End ∷ Alternative ∷ Statements ∷ s)
+      (ASign sign.CloseParen ∷ ASign sign.OpenBrace ∷ statements_then b (AnEnd q ∷ otherwise_then o rest)) refl
       ∙ statements_read b (End ∷ Alternative ∷ Statements ∷ s) (AnEnd q ∷ otherwise_then o rest) refl
       ∙ otherwise_read o (Statements ∷ s) rest h
 
-  pub statements_read : (b : grammar.Statements) (s : List Expected) (rest : List Word) → is_else rest ≡ false → fault (Some (Statements ∷ s)) (statements_then b rest) ≡ fault (Some (Statements ∷ s)) rest
+  pub statements_read : (b : grammar.Statements) (s : List Expected) (rest : List Word) → is_else rest ≡ false
+      → fault (Some (Statements ∷ s)) (statements_then b rest) ≡ fault (Some (Statements ∷ s)) rest
   statements_read Nil s rest h = refl
   statements_read (Cons a b) s rest h = statement_read a s (statements_then b rest) (statements_begin b rest h) ∙ statements_read b s rest h
 
-  pub otherwise_read : (o : Otherwise) (s : List Expected) (rest : List Word) → is_else rest ≡ false → fault (Some (Alternative ∷ s)) (otherwise_then o rest) ≡ fault (Some s) rest
+  pub otherwise_read : (o : Otherwise) (s : List Expected) (rest : List Word) → is_else rest ≡ false
+      → fault (Some (Alternative ∷ s)) (otherwise_then o rest) ≡ fault (Some s) rest
   otherwise_read Nothing s rest h = no_alternative rest h s
   otherwise_read (Else b q) s rest h = statements_read b (End ∷ s) (AnEnd q ∷ rest) refl
   otherwise_read (ElseIf p c b q o) s rest h =
-      expression_read c (Just sign.CloseParen ∷ Just sign.OpenBrace ∷ Statements ∷ End ∷ Alternative ∷ s) (ASign sign.CloseParen ∷ ASign sign.OpenBrace ∷ statements_then b (AnEnd q ∷ otherwise_then o rest)) refl
+      expression_read c (Just sign.CloseParen ∷ Just sign.OpenBrace ∷ Statements ∷ End ∷ Alternative ∷ s)
+      (ASign sign.CloseParen ∷ ASign sign.OpenBrace ∷ statements_then b (AnEnd q ∷ otherwise_then o rest)) refl
       ∙ statements_read b (End ∷ Alternative ∷ s) (AnEnd q ∷ otherwise_then o rest) refl
       ∙ otherwise_read o s rest h
 
@@ -171,7 +257,9 @@ locals_read (LocalInt x ∷ ls) s rest = locals_read ls s rest
 locals_read (Handle x ∷ ls) s rest = locals_read ls s rest
 
 -- what follows the declarations of a body
-no_local : (b : grammar.Statements) (p : Place) (rest : List Word) (s : List Expected) → fault (Some (Locals ∷ Statements ∷ End ∷ s)) (statements_then b (AnEnd p ∷ rest)) ≡ fault (Some (Statements ∷ End ∷ s)) (statements_then b (AnEnd p ∷ rest))
+no_local : (b : grammar.Statements) (p : Place) (rest : List Word) (s : List Expected)
+    → fault (Some (Locals ∷ Statements ∷ End ∷ s)) (statements_then b (AnEnd p ∷ rest)) ≡ fault (Some (Statements ∷ End ∷ s))
+    (statements_then b (AnEnd p ∷ rest))
 no_local Nil p rest s = refl
 no_local (Cons (Assign x e) b) p rest s = refl
 no_local (Cons (Store a i e) b) p rest s = refl
@@ -185,17 +273,20 @@ no_local (Cons (Assert p' e) b) p rest s = refl
 no_local (Cons (While p' c d q) b) p rest s = refl
 no_local (Cons (If p' c d q o) b) p rest s = refl
 
-body_read : (b : Body) (s : List Expected) (rest : List Word) → fault (Some (Just sign.OpenBrace ∷ Locals ∷ Statements ∷ End ∷ s)) (body_then b rest) ≡ fault (Some s) rest
+body_read : (b : Body) (s : List Expected) (rest : List Word)
+    → fault (Some (Just sign.OpenBrace ∷ Locals ∷ Statements ∷ End ∷ s)) (body_then b rest) ≡ fault (Some s) rest
 body_read b s rest =
     locals_read b.locals (Statements ∷ End ∷ s) (statements_then b.statements (AnEnd b.end ∷ rest))
     ∙ no_local b.statements b.end rest s
     ∙ statements_read b.statements (End ∷ s) (AnEnd b.end ∷ rest) refl
 
-other_parameters_read : (xs : List Name) (s : List Expected) (rest : List Word) → fault (Some (OtherParameters ∷ Just sign.CloseParen ∷ s)) (other_parameters_then xs (ASign sign.CloseParen ∷ rest)) ≡ fault (Some s) rest
+other_parameters_read : (xs : List Name) (s : List Expected) (rest : List Word)
+    → fault (Some (OtherParameters ∷ Just sign.CloseParen ∷ s)) (other_parameters_then xs (ASign sign.CloseParen ∷ rest)) ≡ fault (Some s) rest
 other_parameters_read [] s rest = refl
 other_parameters_read (x ∷ xs) s rest = other_parameters_read xs s rest
 
-parameters_read : (xs : List Name) (s : List Expected) (rest : List Word) → fault (Some (Parameters ∷ Just sign.CloseParen ∷ s)) (parameters_then xs (ASign sign.CloseParen ∷ rest)) ≡ fault (Some s) rest
+parameters_read : (xs : List Name) (s : List Expected) (rest : List Word)
+    → fault (Some (Parameters ∷ Just sign.CloseParen ∷ s)) (parameters_then xs (ASign sign.CloseParen ∷ rest)) ≡ fault (Some s) rest
 parameters_read [] s rest = refl
 parameters_read (x ∷ xs) s rest = other_parameters_read xs s rest
 
@@ -218,7 +309,8 @@ globals_read [] s rest = refl
 globals_read (g ∷ gs) s rest = global_read g s (globals_then gs rest) ∙ globals_read gs s rest
 
 -- threads or main follow the declarations
-no_global : (ts : List Thread) (rest : List Word) (s : List Expected) → fault (Some (Globals ∷ s)) (threads_then ts (AKeyword keyword.Main ∷ rest)) ≡ fault (Some (Threads ∷ s)) (threads_then ts (AKeyword keyword.Main ∷ rest))
+no_global : (ts : List Thread) (rest : List Word) (s : List Expected)
+    → fault (Some (Globals ∷ s)) (threads_then ts (AKeyword keyword.Main ∷ rest)) ≡ fault (Some (Threads ∷ s)) (threads_then ts (AKeyword keyword.Main ∷ rest))
 no_global [] rest s = refl
 no_global (t ∷ ts) rest s = refl
 

@@ -17,10 +17,7 @@ use tc_tree::{Expression, Name, Operator, Word};
 
 /// An expression, as long as it can be, and the words after it.
 #[cycle(expression)]
-pub(crate) fn read_expression<'w>(
-    alloc: Global,
-    words: &'w [Word],
-) -> Read<'w, Expression>
+pub(crate) fn read_expression<'w>(alloc: Global, words: &'w [Word]) -> Read<'w, Expression>
     ensures { MatchResult result
         (λ x. IsRead expression_then IsGrouped [] (Operand ∷ Operators ∷ []) words.now (expression_of x.0) x.1.now)
         (λ stop. Stops (Operand ∷ Operators ∷ []) words.now stop) }
@@ -31,11 +28,7 @@ pub(crate) fn read_expression<'w>(
 
 /// An expression of operators that bind at least so tightly, as long as it can be, and the words after it.
 #[cycle(expression)]
-fn read_tight<'w>(
-    alloc: Global,
-    words: &'w [Word],
-    least: u8,
-) -> Read<'w, Expression>
+fn read_tight<'w>(alloc: Global, words: &'w [Word], least: u8) -> Read<'w, Expression>
     requires least { (1 ≤ least) × (least ≤ 11) }
     ensures { MatchResult result
         (λ x. IsTight least words.now (expression_of x.0) x.1.now)
@@ -70,11 +63,7 @@ fn read_operand<'w>(alloc: Global, words: &'w [Word]) -> Read<'w, Expression>
 
 /// A variable or an element of an array, after the name, and the words after it.
 #[cycle(expression)]
-fn read_variable<'w>(
-    alloc: Global,
-    name: Name,
-    words: &'w [Word],
-) -> Read<'w, Expression>
+fn read_variable<'w>(alloc: Global, name: Name, words: &'w [Word]) -> Read<'w, Expression>
     ensures { MatchResult result
         (λ x. IsOperand (AName name ∷ []) (Subscript ∷ []) words.now (expression_of x.0) x.1.now)
         (λ stop. Stops (Subscript ∷ []) words.now stop) }
@@ -102,11 +91,7 @@ fn read_paren<'w>(alloc: Global, words: &'w [Word]) -> Read<'w, Expression>
 
 /// The operand of an operator that stands before it, and the words after it.
 #[cycle(expression)]
-fn read_unary<'w>(
-    alloc: Global,
-    operator: UnOp,
-    words: &'w [Word],
-) -> Read<'w, Expression>
+fn read_unary<'w>(alloc: Global, operator: UnOp, words: &'w [Word]) -> Read<'w, Expression>
     ensures { MatchResult result
         (λ x. IsOperand (ASign (unary_sign operator) ∷ []) (Operand ∷ []) words.now (expression_of x.0) x.1.now)
         (λ stop. Stops (Operand ∷ []) words.now stop) }
@@ -116,12 +101,10 @@ fn read_unary<'w>(
 }
 
 /// Expressions between commas, as many as stand there, and the words after the parenthesis that closes them.
-pub(crate) fn read_arguments<'w>(
-    alloc: Global,
-    words: &'w [Word],
-) -> Read<'w, Vec<Expression>>
+pub(crate) fn read_arguments<'w>(alloc: Global, words: &'w [Word]) -> Read<'w, Vec<Expression>>
     ensures { MatchResult result
-        (λ x. IsRead (λ es rest. list_then es (ASign sign.CloseParen ∷ rest)) AreGrouped [] (Arguments ∷ Just sign.CloseParen ∷ []) words.now (expressions_of x.0.items) x.1.now)
+        (λ x. IsRead (λ es rest. list_then es (ASign sign.CloseParen ∷ rest)) AreGrouped [] (Arguments ∷ Just sign.CloseParen ∷ []) words.now
+        (expressions_of x.0.items) x.1.now)
         (λ stop. Stops (Arguments ∷ Just sign.CloseParen ∷ []) words.now stop) }
 {
     let mut found = Vec::new(alloc);
@@ -140,10 +123,7 @@ pub(crate) fn read_arguments<'w>(
 }
 
 /// The operator that is next, where it binds at least so tightly, and the words after it.
-fn next_operator<'w>(
-    words: &'w [Word],
-    least: u8,
-) -> Option<(Operator, &'w [Word])>
+fn next_operator<'w>(words: &'w [Word], least: u8) -> Option<(Operator, &'w [Word])>
     requires { 1 ≤ least }
     ensures { MatchOption result (next_level words.now < least)
         (λ x. (words.now ≡ ASign (binary_sign x.0) ∷ x.1.now) × (least ≤ grammar.level x.0)) }

@@ -2,7 +2,20 @@
 ghost use Rattle.std.specs.Prelude.{◌≡◌, List, ◌∷◌, [], true, MatchResult, map};
 ghost use Rattle.tc_lexer.specs.declared.token.Keyword.TheVariants as keyword;
 ghost use Rattle.tc_lexer.specs.declared.token.Sign.TheVariants as sign;
-ghost use Rattle.tc_tree.specs.Grammar.{global_then, globals_then, locals_then, local_then, body_then, parameters_then, thread_then, threads_then, program_words, AreWellThreads, IsWellProgram, IsSpelled};
+ghost use Rattle.tc_tree.specs.Grammar.{
+  global_then,
+  globals_then,
+  locals_then,
+  local_then,
+  body_then,
+  parameters_then,
+  thread_then,
+  threads_then,
+  program_words,
+  AreWellThreads,
+  IsWellProgram,
+  IsSpelled,
+};
 ghost use Rattle.tc_tree.specs.declared.word.Word.TheVariants.{Sign as ASign, Name as AName, Keyword as AKeyword};
 ghost use Rattle.tc_tree.specs.declared.word.Word.{Word as GrammarWord};
 ghost use Rattle.tc_tree.specs.Seen.{body_of, thread_of, program_of};
@@ -160,7 +173,8 @@ fn read_initial<'w>(words: &'w [Word]) -> Read<'w, Initial>
 /// Threads, as many as stand there, and the words after them.
 fn read_threads<'w>(alloc: Heap, words: &'w [Word]) -> Read<'w, Vec<Thread>>
     ensures { MatchResult result
-        (λ x. IsPassed threads_then AreWellThreads Threads Threads words.now (map thread_of x.0.items) x.1.now × ((rest : List GrammarWord) → x.1.now ≡ AKeyword keyword.Thread ∷ rest → ⊥))
+        (λ x. IsPassed threads_then AreWellThreads Threads Threads words.now (map thread_of x.0.items) x.1.now
+        × ((rest : List GrammarWord) → x.1.now ≡ AKeyword keyword.Thread ∷ rest → ⊥))
         (λ stop. Stops (Threads ∷ []) words.now stop) }
 {
     let mut found = Vec::new(alloc);

@@ -3,7 +3,17 @@ ghost use Rattle.std.specs.Prelude.{◌≡◌, ◌<◌, ◌≤◌, ◌∷◌, �
 ghost use Rattle.tc_lexer.specs.declared.token.Keyword.TheVariants as keyword;
 ghost use Rattle.tc_lexer.specs.declared.token.Sign.TheVariants as sign;
 ghost use Rattle.tc_tree.specs.Grammar.{statement_then, statements_then, otherwise_then, IsWell, AreWell, IsWellOtherwise};
-ghost use Rattle.tc_tree.specs.declared.word.Word.TheVariants.{Sign as ASign, Name as AName, Keyword as AKeyword, If as AnIf, While as AWhile, Action as AnAction, Wait as AWait, Barrier as ABarrier, Assert as AnAssert};
+ghost use Rattle.tc_tree.specs.declared.word.Word.TheVariants.{
+  Sign as ASign,
+  Name as AName,
+  Keyword as AKeyword,
+  If as AnIf,
+  While as AWhile,
+  Action as AnAction,
+  Wait as AWait,
+  Barrier as ABarrier,
+  Assert as AnAssert,
+};
 ghost use Rattle.tc_tree.specs.Seen.{statement_of, block_of, branch_of};
 ghost use Rattle.tc_syntax.specs.helpers.Reading.{Just, AnyName, Operand, Operators, Arguments, Statements, AfterName, AfterAssign, Alternative, End, guarded};
 ghost use Rattle.tc_syntax.specs.helpers.Read.{Stops, IsRead, IsStatement, block_then, branch_then, IsWellBlock, IsWellBranch, statements_seen, otherwise_seen};
@@ -21,10 +31,7 @@ type Otherwise = (Vec<Branch>, Option<Block>);
 
 /// Statements, as many as stand there, and the words after them.
 #[cycle(statements)]
-pub(crate) fn read_statements<'w>(
-    alloc: Global,
-    words: &'w [Word],
-) -> Read<'w, Vec<Statement>>
+pub(crate) fn read_statements<'w>(alloc: Global, words: &'w [Word]) -> Read<'w, Vec<Statement>>
     ensures { MatchResult result
         (λ x. IsRead statements_then AreWell [] (Statements ∷ []) words.now (statements_seen x.0.items) x.1.now)
         (λ stop. Stops (Statements ∷ []) words.now stop) }
@@ -79,11 +86,7 @@ fn read_statement<'w>(alloc: Global, words: &'w [Word]) -> Read<'w, Statement>
 }
 
 /// A statement that begins with a name, after it, and the words after it.
-fn read_named<'w>(
-    alloc: Global,
-    name: Name,
-    words: &'w [Word],
-) -> Read<'w, Statement>
+fn read_named<'w>(alloc: Global, name: Name, words: &'w [Word]) -> Read<'w, Statement>
     ensures { MatchResult result
         (λ x. IsRead statement_then IsWell (AName name ∷ []) (AfterName ∷ []) words.now (statement_of x.0) x.1.now)
         (λ stop. Stops (AfterName ∷ []) words.now stop) }
@@ -97,13 +100,11 @@ fn read_named<'w>(
 }
 
 /// `a[i] = e;`, after the opening bracket, and the words after it.
-fn read_store<'w>(
-    alloc: Global,
-    array: Name,
-    words: &'w [Word],
-) -> Read<'w, Statement>
+fn read_store<'w>(alloc: Global, array: Name, words: &'w [Word]) -> Read<'w, Statement>
     ensures { MatchResult result
-        (λ x. IsRead statement_then IsWell (AName array ∷ ASign sign.OpenBracket ∷ []) (Operand ∷ Operators ∷ Just sign.CloseBracket ∷ Just sign.Assign ∷ Operand ∷ Operators ∷ Just sign.Semicolon ∷ []) words.now (statement_of x.0) x.1.now)
+        (λ x. IsRead statement_then IsWell (AName array ∷ ASign sign.OpenBracket ∷ [])
+        (Operand ∷ Operators ∷ Just sign.CloseBracket ∷ Just sign.Assign ∷ Operand ∷ Operators ∷ Just sign.Semicolon ∷ []) words.now
+        (statement_of x.0) x.1.now)
         (λ stop. Stops (Operand ∷ Operators ∷ Just sign.CloseBracket ∷ Just sign.Assign ∷ Operand ∷ Operators ∷ Just sign.Semicolon ∷ []) words.now stop) }
 {
     let (index, end) = read_expression(alloc, words)?;
@@ -115,11 +116,7 @@ fn read_store<'w>(
 }
 
 /// What a name is assigned, after the `=`, and the words after it.
-fn read_assigned<'w>(
-    alloc: Global,
-    name: Name,
-    words: &'w [Word],
-) -> Read<'w, Statement>
+fn read_assigned<'w>(alloc: Global, name: Name, words: &'w [Word]) -> Read<'w, Statement>
     ensures { MatchResult result
         (λ x. IsRead statement_then IsWell (AName name ∷ ASign sign.Assign ∷ []) (AfterAssign ∷ []) words.now (statement_of x.0) x.1.now)
         (λ stop. Stops (AfterAssign ∷ []) words.now stop) }
@@ -138,13 +135,10 @@ fn read_assigned<'w>(
 }
 
 /// A thread's name and its arguments, and the words after them.
-fn read_create<'w>(
-    alloc: Global,
-    handle: Name,
-    words: &'w [Word],
-) -> Read<'w, Statement>
+fn read_create<'w>(alloc: Global, handle: Name, words: &'w [Word]) -> Read<'w, Statement>
     ensures { MatchResult result
-        (λ x. IsRead statement_then IsWell (AName handle ∷ ASign sign.Assign ∷ AKeyword keyword.Create ∷ []) (AnyName ∷ Just sign.OpenParen ∷ Arguments ∷ Just sign.CloseParen ∷ Just sign.Semicolon ∷ []) words.now (statement_of x.0) x.1.now)
+        (λ x. IsRead statement_then IsWell (AName handle ∷ ASign sign.Assign ∷ AKeyword keyword.Create ∷ [])
+        (AnyName ∷ Just sign.OpenParen ∷ Arguments ∷ Just sign.CloseParen ∷ Just sign.Semicolon ∷ []) words.now (statement_of x.0) x.1.now)
         (λ stop. Stops (AnyName ∷ Just sign.OpenParen ∷ Arguments ∷ Just sign.CloseParen ∷ Just sign.Semicolon ∷ []) words.now stop) }
 {
     let (thread, after) = past_name(words)?;
@@ -155,14 +149,13 @@ fn read_create<'w>(
 }
 
 /// The parts of a `swap`, and the words after them.
-fn read_swap<'w>(
-    alloc: Global,
-    local: Name,
-    words: &'w [Word],
-) -> Read<'w, Statement>
+fn read_swap<'w>(alloc: Global, local: Name, words: &'w [Word]) -> Read<'w, Statement>
     ensures { MatchResult result
-        (λ x. IsRead statement_then IsWell (AName local ∷ ASign sign.Assign ∷ AKeyword keyword.Swap ∷ []) (Just sign.OpenParen ∷ AnyName ∷ Just sign.Comma ∷ Operand ∷ Operators ∷ Just sign.CloseParen ∷ Just sign.Semicolon ∷ []) words.now (statement_of x.0) x.1.now)
-        (λ stop. Stops (Just sign.OpenParen ∷ AnyName ∷ Just sign.Comma ∷ Operand ∷ Operators ∷ Just sign.CloseParen ∷ Just sign.Semicolon ∷ []) words.now stop) }
+        (λ x. IsRead statement_then IsWell (AName local ∷ ASign sign.Assign ∷ AKeyword keyword.Swap ∷ [])
+        (Just sign.OpenParen ∷ AnyName ∷ Just sign.Comma ∷ Operand ∷ Operators ∷ Just sign.CloseParen ∷ Just sign.Semicolon ∷ []) words.now
+        (statement_of x.0) x.1.now)
+        (λ stop. Stops (Just sign.OpenParen ∷ AnyName ∷ Just sign.Comma ∷ Operand ∷ Operators ∷ Just sign.CloseParen ∷ Just sign.Semicolon ∷ [])
+        words.now stop) }
 {
     let start = past(words, Sign::OpenParen)?;
     let (global, after) = past_name(start)?;
@@ -174,14 +167,13 @@ fn read_swap<'w>(
 }
 
 /// The parts of a `cas`, and the words after them.
-fn read_cas<'w>(
-    alloc: Global,
-    local: Name,
-    words: &'w [Word],
-) -> Read<'w, Statement>
+fn read_cas<'w>(alloc: Global, local: Name, words: &'w [Word]) -> Read<'w, Statement>
     ensures { MatchResult result
-        (λ x. IsRead statement_then IsWell (AName local ∷ ASign sign.Assign ∷ AKeyword keyword.Cas ∷ []) (Just sign.OpenParen ∷ AnyName ∷ Just sign.Comma ∷ Operand ∷ Operators ∷ Just sign.Comma ∷ Operand ∷ Operators ∷ Just sign.CloseParen ∷ Just sign.Semicolon ∷ []) words.now (statement_of x.0) x.1.now)
-        (λ stop. Stops (Just sign.OpenParen ∷ AnyName ∷ Just sign.Comma ∷ Operand ∷ Operators ∷ Just sign.Comma ∷ Operand ∷ Operators ∷ Just sign.CloseParen ∷ Just sign.Semicolon ∷ []) words.now stop) }
+        (λ x. IsRead statement_then IsWell (AName local ∷ ASign sign.Assign ∷ AKeyword keyword.Cas ∷ [])
+        (Just sign.OpenParen ∷ AnyName ∷ Just sign.Comma ∷ Operand ∷ Operators ∷ Just sign.Comma ∷ Operand ∷ Operators ∷ Just sign.CloseParen ∷
+        Just sign.Semicolon ∷ []) words.now (statement_of x.0) x.1.now)
+        (λ stop. Stops (Just sign.OpenParen ∷ AnyName ∷ Just sign.Comma ∷ Operand ∷ Operators ∷ Just sign.Comma ∷ Operand ∷ Operators ∷ Just
+        sign.CloseParen ∷ Just sign.Semicolon ∷ []) words.now stop) }
 {
     let start = past(words, Sign::OpenParen)?;
     let (global, after) = past_name(start)?;
@@ -195,13 +187,10 @@ fn read_cas<'w>(
 }
 
 /// The one name of a statement, and the words after it.
-fn read_action<'w>(
-    action: Action,
-    place: Place,
-    words: &'w [Word],
-) -> Read<'w, Statement>
+fn read_action<'w>(action: Action, place: Place, words: &'w [Word]) -> Read<'w, Statement>
     ensures { MatchResult result
-        (λ x. IsRead statement_then IsWell (AnAction action place ∷ []) (Just sign.OpenParen ∷ AnyName ∷ Just sign.CloseParen ∷ Just sign.Semicolon ∷ []) words.now (statement_of x.0) x.1.now)
+        (λ x. IsRead statement_then IsWell (AnAction action place ∷ [])
+        (Just sign.OpenParen ∷ AnyName ∷ Just sign.CloseParen ∷ Just sign.Semicolon ∷ []) words.now (statement_of x.0) x.1.now)
         (λ stop. Stops (Just sign.OpenParen ∷ AnyName ∷ Just sign.CloseParen ∷ Just sign.Semicolon ∷ []) words.now stop) }
 {
     let start = past(words, Sign::OpenParen)?;
@@ -214,7 +203,8 @@ fn read_action<'w>(
 /// The names of a `wait`, and the words after them.
 fn read_wait<'w>(place: Place, words: &'w [Word]) -> Read<'w, Statement>
     ensures { MatchResult result
-        (λ x. IsRead statement_then IsWell (AWait place ∷ []) (Just sign.OpenParen ∷ AnyName ∷ Just sign.Comma ∷ AnyName ∷ Just sign.CloseParen ∷ Just sign.Semicolon ∷ []) words.now (statement_of x.0) x.1.now)
+        (λ x. IsRead statement_then IsWell (AWait place ∷ [])
+        (Just sign.OpenParen ∷ AnyName ∷ Just sign.Comma ∷ AnyName ∷ Just sign.CloseParen ∷ Just sign.Semicolon ∷ []) words.now (statement_of x.0) x.1.now)
         (λ stop. Stops (Just sign.OpenParen ∷ AnyName ∷ Just sign.Comma ∷ AnyName ∷ Just sign.CloseParen ∷ Just sign.Semicolon ∷ []) words.now stop) }
 {
     let start = past(words, Sign::OpenParen)?;
@@ -227,13 +217,10 @@ fn read_wait<'w>(place: Place, words: &'w [Word]) -> Read<'w, Statement>
 }
 
 /// The rest of a `fence` or `stbar`, and the words after it.
-fn read_barrier<'w>(
-    barrier: Barrier,
-    place: Place,
-    words: &'w [Word],
-) -> Read<'w, Statement>
+fn read_barrier<'w>(barrier: Barrier, place: Place, words: &'w [Word]) -> Read<'w, Statement>
     ensures { MatchResult result
-        (λ x. IsRead statement_then IsWell (ABarrier barrier place ∷ []) (Just sign.OpenParen ∷ Just sign.CloseParen ∷ Just sign.Semicolon ∷ []) words.now (statement_of x.0) x.1.now)
+        (λ x. IsRead statement_then IsWell (ABarrier barrier place ∷ []) (Just sign.OpenParen ∷ Just sign.CloseParen ∷ Just sign.Semicolon ∷ [])
+        words.now (statement_of x.0) x.1.now)
         (λ stop. Stops (Just sign.OpenParen ∷ Just sign.CloseParen ∷ Just sign.Semicolon ∷ []) words.now stop) }
 {
     let start = past(words, Sign::OpenParen)?;
@@ -243,13 +230,10 @@ fn read_barrier<'w>(
 }
 
 /// The condition of an `assert`, and the words after it.
-fn read_assert<'w>(
-    alloc: Global,
-    place: Place,
-    words: &'w [Word],
-) -> Read<'w, Statement>
+fn read_assert<'w>(alloc: Global, place: Place, words: &'w [Word]) -> Read<'w, Statement>
     ensures { MatchResult result
-        (λ x. IsRead statement_then IsWell (AnAssert place ∷ []) (Just sign.OpenParen ∷ Operand ∷ Operators ∷ Just sign.CloseParen ∷ Just sign.Semicolon ∷ []) words.now (statement_of x.0) x.1.now)
+        (λ x. IsRead statement_then IsWell (AnAssert place ∷ [])
+        (Just sign.OpenParen ∷ Operand ∷ Operators ∷ Just sign.CloseParen ∷ Just sign.Semicolon ∷ []) words.now (statement_of x.0) x.1.now)
         (λ stop. Stops (Just sign.OpenParen ∷ Operand ∷ Operators ∷ Just sign.CloseParen ∷ Just sign.Semicolon ∷ []) words.now stop) }
 {
     let start = past(words, Sign::OpenParen)?;
@@ -261,11 +245,7 @@ fn read_assert<'w>(
 
 /// The condition and the body of a loop, and the words after them.
 #[cycle(statements)]
-fn read_while<'w>(
-    alloc: Global,
-    place: Place,
-    words: &'w [Word],
-) -> Read<'w, Statement>
+fn read_while<'w>(alloc: Global, place: Place, words: &'w [Word]) -> Read<'w, Statement>
     ensures { MatchResult result
         (λ x. IsRead statement_then IsWell (AWhile place ∷ []) guarded words.now (statement_of x.0) x.1.now)
         (λ stop. Stops guarded words.now stop) }
@@ -276,11 +256,7 @@ fn read_while<'w>(
 
 /// The branches of an `if`, and the words after them.
 #[cycle(statements)]
-fn read_if<'w>(
-    alloc: Global,
-    place: Place,
-    words: &'w [Word],
-) -> Read<'w, Statement>
+fn read_if<'w>(alloc: Global, place: Place, words: &'w [Word]) -> Read<'w, Statement>
     ensures { MatchResult result
         (λ x. IsRead statement_then IsWell (AnIf place ∷ []) (guarded ++ Alternative ∷ []) words.now (statement_of x.0) x.1.now)
         (λ stop. Stops (guarded ++ Alternative ∷ []) words.now stop) }
@@ -314,11 +290,7 @@ fn read_otherwise<'w>(alloc: Global, words: &'w [Word]) -> Read<'w, Otherwise>
 
 /// A condition in parentheses and a block, and the words after them.
 #[cycle(statements)]
-fn read_branch<'w>(
-    alloc: Global,
-    place: Place,
-    words: &'w [Word],
-) -> Read<'w, Branch>
+fn read_branch<'w>(alloc: Global, place: Place, words: &'w [Word]) -> Read<'w, Branch>
     ensures { MatchResult result
         (λ x. IsRead branch_then (IsWellBranch place) [] guarded words.now (branch_of x.0) x.1.now)
         (λ stop. Stops guarded words.now stop) }

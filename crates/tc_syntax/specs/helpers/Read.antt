@@ -7,7 +7,22 @@ use Rattle.tc_tree.specs.declared.program.Initial.{Initial}
 use Rattle.tc_tree.specs.declared.statement.Statement.{Statement as TreeStatement}
 use Rattle.tc_tree.specs.declared.statement.Block.{Block}
 use Rattle.tc_tree.specs.declared.statement.Branch.{Branch}
-use Rattle.tc_tree.specs.Grammar.{Expression, expression_then, tightness, IsGrouped, Statement, Statements, Otherwise, statement_then, statements_then, IsWell, AreWell, Body, Thread, initial_then}
+use Rattle.tc_tree.specs.Grammar.{
+  Expression,
+  expression_then,
+  tightness,
+  IsGrouped,
+  Statement,
+  Statements,
+  Otherwise,
+  statement_then,
+  statements_then,
+  IsWell,
+  AreWell,
+  Body,
+  Thread,
+  initial_then,
+}
 use Rattle.tc_tree.specs.declared.word.Word.TheVariants.{Sign as ASign, Keyword as AKeyword, End as AnEnd}
 use Rattle.tc_tree.specs.declared.word.Word.{Word}
 use Rattle.tc_tree.specs.Seen.{SeenBlock, SeenBranch, statement_of, statements_of, block_of, branch_of, otherwise_of}
@@ -30,7 +45,8 @@ Ends ws Memory = Unit {0}
 Ends ws (Left n) = fault (Some (Globals ∷ [])) ws ≡ Some n
 
 -- what stands where these are expected, after some words that stand before it
-pub record IsRead {A : Type 0} (spell : A → List Word → List Word) (IsGood : A → Type 0) (front : List Word) (es : List Expected) (ws : List Word) (a : A) (rest : List Word) : Type 0 where
+pub record IsRead {A : Type 0} (spell : A → List Word → List Word) (IsGood : A → Type 0) (front : List Word) (es : List Expected) (ws : List Word)
+    (a : A) (rest : List Word) : Type 0 where
   pub spelled : front ++ ws ≡ spell a rest
   pub good : IsGood a
   pub moves : Moves es ws rest
@@ -95,7 +111,8 @@ abbrev pub IsAny : {A : Type 0} → A → Type 0
 IsAny a = Unit {0}
 
 -- what stands where more of the same may stand
-pub record IsPassed {A : Type 0} (spell : A → List Word → List Word) (IsGood : A → Type 0) (before after : Expected) (ws : List Word) (a : A) (rest : List Word) : Type 0 where
+pub record IsPassed {A : Type 0} (spell : A → List Word → List Word) (IsGood : A → Type 0) (before after : Expected) (ws : List Word) (a : A)
+    (rest : List Word) : Type 0 where
   pub spelled : ws ≡ spell a rest
   pub good : IsGood a
   pub moves : (s : List Expected) → fault (Some (before ∷ s)) ws ≡ fault (Some (after ∷ s)) rest

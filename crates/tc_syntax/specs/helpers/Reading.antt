@@ -2,11 +2,53 @@
 use Rattle.std.specs.Prelude.{◌≡◌, ℕ, suc, nat_eq, List, [], ◌∷◌, ◌++◌, length, Bool, true, false, Option, Some, None, option_map}
 use Rattle.tc_lexer.specs.declared.token.Keyword.TheVariants as keyword
 use Rattle.tc_lexer.specs.declared.token.Sign.{Sign as AnySign}
-use Rattle.tc_lexer.specs.declared.token.Sign.TheVariants.{OpenParen, CloseParen, OpenBracket, CloseBracket, OpenBrace, CloseBrace, Comma, Semicolon, Assign, Plus, Minus, Star, Slash, Percent, Bang, Tilde, Less, LessEqual, Greater, GreaterEqual, EqualEqual, BangEqual, ShiftLeft, ShiftRight, And, Caret, Or, AndAnd, OrOr}
+use Rattle.tc_lexer.specs.declared.token.Sign.TheVariants.{
+  OpenParen,
+  CloseParen,
+  OpenBracket,
+  CloseBracket,
+  OpenBrace,
+  CloseBrace,
+  Comma,
+  Semicolon,
+  Assign,
+  Plus,
+  Minus,
+  Star,
+  Slash,
+  Percent,
+  Bang,
+  Tilde,
+  Less,
+  LessEqual,
+  Greater,
+  GreaterEqual,
+  EqualEqual,
+  BangEqual,
+  ShiftLeft,
+  ShiftRight,
+  And,
+  Caret,
+  Or,
+  AndAnd,
+  OrOr,
+}
 use Rattle.tc_tree.specs.declared.expression.Operator.{Operator}
 use Rattle.tc_tree.specs.declared.expression.Operator.TheVariants as operator
 use Rattle.tc_tree.specs.Grammar.{level}
-use Rattle.tc_tree.specs.declared.word.Word.TheVariants.{Name as AName, Number as ANumber, If as AnIf, While as AWhile, Action as AnAction, Wait as AWait, Barrier as ABarrier, Assert as AnAssert, Keyword as AKeyword, Sign as ASign, End as AnEnd}
+use Rattle.tc_tree.specs.declared.word.Word.TheVariants.{
+  Name as AName,
+  Number as ANumber,
+  If as AnIf,
+  While as AWhile,
+  Action as AnAction,
+  Wait as AWait,
+  Barrier as ABarrier,
+  Assert as AnAssert,
+  Keyword as AKeyword,
+  Sign as ASign,
+  End as AnEnd,
+}
 use Rattle.tc_tree.specs.declared.word.Word.{Word}
 
 pub data Expected : Type 0 where
@@ -157,7 +199,8 @@ first AfterName (ASign OpenBracket) = Some (Operand ∷ Operators ∷ Just Close
 first AfterName _ = None
 first AfterAssign (AKeyword keyword.Create) = Some (AnyName ∷ Just OpenParen ∷ Arguments ∷ Just CloseParen ∷ Just Semicolon ∷ [])
 first AfterAssign (AKeyword keyword.Swap) = Some (Just OpenParen ∷ AnyName ∷ Just Comma ∷ Operand ∷ Operators ∷ Just CloseParen ∷ Just Semicolon ∷ [])
-first AfterAssign (AKeyword keyword.Cas) = Some (Just OpenParen ∷ AnyName ∷ Just Comma ∷ Operand ∷ Operators ∷ Just Comma ∷ Operand ∷ Operators ∷ Just CloseParen ∷ Just Semicolon ∷ [])
+first AfterAssign (AKeyword keyword.Cas) = Some (Just OpenParen ∷ AnyName ∷ Just Comma ∷ Operand ∷ Operators ∷ Just Comma ∷ Operand ∷ Operators ∷ Just
+    CloseParen ∷ Just Semicolon ∷ [])
 first AfterAssign w = followed (operand w) (Operators ∷ Just Semicolon ∷ [])
 first Alternative (AKeyword keyword.Else) = Some (AfterElse ∷ [])
 first Alternative _ = None

@@ -9,4 +9,5 @@ use Rattle.tc_syntax.proofs.statements.read_named.Goals as goal
 pub returns-in_err-start : goal.returns-in_err-start
 returns-in_err-start c =
     let p = err_from_is_err_and c.from_residual.result c.from_residual.ensures.1 in
-    rw (p.1, p.2) (goes (AfterName ∷ []) (Just Assign ∷ []) c.args.words.now c.args.words.now c.in_err-start.field-0.0 (λ s. name_goes c.args.words.now c.in_default.ensures.1 c.in_err-start.ensures.1 s) c.in_err-start.ensures.0)
+    rw (p.1, p.2) (goes (AfterName ∷ []) (Just Assign ∷ []) c.args.words.now c.args.words.now c.in_err-start.field-0.0
+    (λ s. name_goes c.args.words.now c.in_default.ensures.1 c.in_err-start.ensures.1 s) c.in_err-start.ensures.0)
