@@ -1,30 +1,5 @@
 -- The steps of the readers' loops.
-use Rattle.std.proofs.Common.{
-  ◌≡◌,
-  ◌≢◌,
-  ℕ,
-  suc,
-  ◌+◌,
-  ◌<◌,
-  ◌≤◌,
-  List,
-  [],
-  ◌∷◌,
-  ◌++◌,
-  length,
-  map,
-  Option,
-  Some,
-  None,
-  refl,
-  sym,
-  ap,
-  subst,
-  ◌∙◌,
-  arith,
-  true,
-  false,
-}
+use Rattle.std.proofs.Common.{◌≡◌, ◌≢◌, ℕ, ◌+◌, ◌<◌, ◌≤◌, List, [], ◌∷◌, ◌++◌, length, Option, Some, None, refl, sym, ap, subst, ◌∙◌, arith, false}
 use Rattle.tc_base.specs.declared.place.Place.{Place}
 use Rattle.tc_lexer.specs.declared.token.Keyword.TheVariants as keyword
 use Rattle.tc_lexer.specs.declared.token.Sign.TheVariants as sign
@@ -33,40 +8,8 @@ use Rattle.tc_tree.specs.declared.expression.Operator.{Operator}
 use Rattle.tc_tree.specs.declared.program.Global.{Global}
 use Rattle.tc_tree.specs.declared.program.Local.{Local}
 use Rattle.tc_tree.specs.declared.word.Word.{Word}
-use Rattle.tc_tree.specs.declared.word.Word.TheVariants.{Name as AName, If as AnIf, Keyword as AKeyword, Sign as ASign, End as AnEnd}
-use Rattle.tc_tree.specs.Grammar.{
-  Expression,
-  Binary,
-  binary_sign,
-  expression_then,
-  list_then,
-  others_then,
-  level,
-  tightness,
-  IsGrouped,
-  AreGrouped,
-  Statement,
-  Assign,
-  Otherwise,
-  statement_then,
-  statements_then,
-  otherwise_then,
-  IsWell,
-  AreWell,
-  IsWellOtherwise,
-  in_parens_then,
-  global_then,
-  globals_then,
-  local_then,
-  locals_then,
-  parameters_then,
-  other_parameters_then,
-  Thread,
-  thread_then,
-  threads_then,
-  AreWellThreads,
-}
-use Rattle.tc_tree.specs.Grammar as grammar
+use Rattle.tc_tree.specs.declared.word.Word.TheVariants.{Name as AName, If as AnIf, Keyword as AKeyword, Sign as ASign}
+use Rattle.tc_tree.specs.Grammar.{Expression, Binary, binary_sign, expression_then, list_then, others_then, level, tightness, IsGrouped, AreGrouped, Statement, Assign, statement_then, statements_then, otherwise_then, IsWell, AreWell, IsWellOtherwise, global_then, globals_then, local_then, locals_then, parameters_then, other_parameters_then, Thread, thread_then, threads_then, AreWellThreads}
 use Rattle.tc_tree.specs.Seen.{SeenBlock, SeenBranch, statements_of, otherwise_of}
 use Rattle.tc_syntax.specs.helpers.Reading.{
   Expected,
@@ -97,26 +40,7 @@ use Rattle.tc_syntax.specs.helpers.Reading.{
 }
 use Rattle.tc_syntax.specs.declared.reader.Stop.{Stop}
 use Rattle.tc_syntax.specs.declared.reader.Stop.TheVariants.{Memory, Left}
-use Rattle.tc_syntax.specs.helpers.Read.{
-  Stops,
-  Ends,
-  begins_statement,
-  is_some,
-  IsRead,
-  IsTight,
-  IsOperand,
-  IsStatement,
-  IsPassed,
-  IsAny,
-  IsWellThread,
-  begins_global,
-  begins_local,
-  Moves,
-  branch_then,
-  block_then,
-  IsWellBranch,
-  IsWellBlock,
-}
+use Rattle.tc_syntax.specs.helpers.Read.{Stops, Ends, begins_statement, is_some, IsRead, IsTight, IsOperand, IsStatement, IsPassed, IsAny, IsWellThread, begins_global, begins_local, branch_then, block_then, IsWellBranch, IsWellBlock}
 use Rattle.tc_syntax.proofs.Signs.{operator_is, sign_read, no_operator}
 use Rattle.tc_syntax.proofs.Attached.{level_small}
 

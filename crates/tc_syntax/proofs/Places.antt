@@ -44,19 +44,7 @@ use Rattle.tc_tree.specs.declared.statement.Barrier.TheVariants.{Fence, Stores}
 use Rattle.tc_tree.specs.declared.expression.Name.{Name}
 use Rattle.tc_tree.specs.declared.expression.Number.{Number as TreeNumber}
 use Rattle.tc_tree.specs.declared.word.Word.{Word}
-use Rattle.tc_tree.specs.declared.word.Word.TheVariants.{
-  Name as AName,
-  Number as ANumber,
-  If as AnIf,
-  While as AWhile,
-  Action as AnAction,
-  Wait as AWait,
-  Barrier as ABarrier,
-  Assert as AnAssert,
-  Keyword as AKeyword,
-  Sign as ASign,
-  End as AnEnd,
-}
+use Rattle.tc_tree.specs.declared.word.Word.TheVariants.{Name as AName, Number as ANumber, Barrier as ABarrier, Keyword as AKeyword, Sign as ASign, End as AnEnd}
 use Rattle.tc_tree.specs.Words.{word_since}
 use Rattle.tc_tree.specs.Grammar.{
   Program,

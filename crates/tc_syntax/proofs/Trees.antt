@@ -6,7 +6,6 @@ use Rattle.tc_lexer.specs.declared.token.Keyword.TheVariants as keyword
 use Rattle.tc_lexer.specs.declared.token.Sign.TheVariants as sign
 use Rattle.tc_tree.specs.declared.expression.Operator.{Operator}
 use Rattle.tc_tree.specs.declared.expression.Operator.TheVariants as operator
-use Rattle.tc_tree.specs.declared.program.Initial.{Initial}
 use Rattle.tc_tree.specs.declared.program.Initial.TheVariants.{Zero, Plain, Negated}
 use Rattle.tc_tree.specs.Grammar.{
   Expression,
@@ -56,7 +55,7 @@ use Rattle.tc_tree.specs.Grammar.{
   threads_then,
   program_words,
 }
-use Rattle.tc_tree.specs.declared.word.Word.TheVariants.{Name as AName, Number as ANumber, Keyword as AKeyword, Sign as ASign, End as AnEnd}
+use Rattle.tc_tree.specs.declared.word.Word.TheVariants.{Keyword as AKeyword, Sign as ASign, End as AnEnd}
 use Rattle.tc_tree.specs.declared.word.Word.{Word}
 use Rattle.tc_tree.specs.declared.expression.Name.{Name}
 use Rattle.tc_tree.specs.declared.program.Global.{Global}
@@ -64,30 +63,7 @@ use Rattle.tc_tree.specs.declared.program.Global.TheVariants.{Int, Array, Mutex,
 use Rattle.tc_tree.specs.declared.program.Local.{Local}
 use Rattle.tc_tree.specs.declared.program.Local.TheVariants.{Int as LocalInt, Handle}
 use Rattle.tc_tree.specs.Grammar as grammar
-use Rattle.tc_syntax.specs.helpers.Reading.{
-  Expected,
-  Just,
-  End,
-  AnyName,
-  AnyNumber,
-  Operand,
-  Subscript,
-  Operators,
-  Arguments,
-  Others,
-  Statements,
-  AfterName,
-  AfterAssign,
-  Alternative,
-  AfterElse,
-  Locals,
-  Parameters,
-  OtherParameters,
-  Globals,
-  Threads,
-  AfterGlobal,
-  fault,
-}
+use Rattle.tc_syntax.specs.helpers.Reading.{Expected, Just, End, Operand, Subscript, Operators, Arguments, Others, Statements, AfterAssign, Alternative, Locals, Parameters, OtherParameters, Globals, Threads, fault}
 use Rattle.tc_syntax.proofs.Signs.{sign_read}
 
 -- whether `[` is next

@@ -1,5 +1,5 @@
 -- What trees are, without where they lie in memory.
-use Rattle.std.specs.Prelude.{ℕ, List, [], ◌∷◌, map, Option, Some, None, option_map}
+use Rattle.std.specs.Prelude.{List, [], ◌∷◌, map, Option, Some, None}
 use Rattle.tc_base.specs.declared.place.Place.{Place}
 use Rattle.tc_tree.specs.declared.expression.Expression.{Expression as TreeExpression, Number, Name, Element', Paren', Unary', Binary'}
 use Rattle.tc_tree.specs.declared.statement.Statement.{Statement as TreeStatement, fold-Statement}

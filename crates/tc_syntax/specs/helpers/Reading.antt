@@ -1,5 +1,5 @@
 -- Helpers: what may follow, as a stack of what is still expected. What the parser finds is said without it, by program_words.
-use Rattle.std.specs.Prelude.{◌≡◌, ℕ, suc, nat_eq, List, [], ◌∷◌, ◌++◌, length, Bool, true, false, Option, Some, None, option_map}
+use Rattle.std.specs.Prelude.{ℕ, suc, nat_eq, List, [], ◌∷◌, ◌++◌, length, Bool, true, false, Option, Some, None, option_map}
 use Rattle.tc_lexer.specs.declared.token.Keyword.TheVariants as keyword
 use Rattle.tc_lexer.specs.declared.token.Sign.{Sign as AnySign}
 use Rattle.tc_lexer.specs.declared.token.Sign.TheVariants.{

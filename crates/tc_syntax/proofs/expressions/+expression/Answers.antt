@@ -3,7 +3,7 @@ use Rattle.std.proofs.lemmas.Result.{err_from_is_err_and}
 use Rattle.tc_tree.specs.Seen.{expression_of}
 use Rattle.tc_syntax.specs.helpers.Reading.{Operand, Operators}
 use Rattle.tc_syntax.proofs.Stacks.{goes}
-use Rattle.tc_syntax.proofs.Chains.{first_operand, one_more_operand, operand_goes, as_tight, whole}
+use Rattle.tc_syntax.proofs.Chains.{one_more_operand, operand_goes, whole}
 use Rattle.tc_syntax.proofs.expressions.+expression.Goals as goal
 
 pub read_expression-returns : goal.read_expression-returns

@@ -1,7 +1,5 @@
 use Rattle.std.proofs.Common.{[], ◌∙◌, rules}
-use Rattle.std.proofs.lemmas.Result.{err_from_is_err_and}
-use Rattle.tc_syntax.specs.helpers.Reading.{Globals, Threads}
-use Rattle.tc_syntax.proofs.Chains.{ends_after, too_many}
+use Rattle.tc_syntax.proofs.Chains.{too_many}
 use Rattle.tc_syntax.proofs.programs.read_all.Goals as goal
 
 pub returns-else-is_empty : goal.returns-else-is_empty
