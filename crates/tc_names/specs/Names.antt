@@ -13,7 +13,37 @@ use Rattle.tc_tree.specs.declared.program.Global.{Global}
 use Rattle.tc_tree.specs.declared.program.Global.TheVariants.{Int, Array, Mutex, Condition}
 use Rattle.tc_tree.specs.declared.program.Local.{Local}
 use Rattle.tc_tree.specs.declared.program.Local.TheVariants.{Int as LocalInt, Handle}
-use Rattle.tc_tree.specs.Grammar.{Expression, Number, Variable, Element, Paren, Unary, Binary, Statement, Assign, Store, Create, Swap, Cas, Act, Wait, Order, Assert, While, If, Statements, Nil, Cons, Otherwise, Nothing, Else, ElseIf, Body, Thread, Program}
+use Rattle.tc_tree.specs.Grammar.{
+  Expression,
+  Number,
+  Variable,
+  Element,
+  Paren,
+  Unary,
+  Binary,
+  Statement,
+  Assign,
+  Store,
+  Create,
+  Swap,
+  Cas,
+  Act,
+  Wait,
+  Order,
+  Assert,
+  While,
+  If,
+  Statements,
+  Nil,
+  Cons,
+  Otherwise,
+  Nothing,
+  Else,
+  ElseIf,
+  Body,
+  Thread,
+  Program,
+}
 
 -- the first of two faults in the order of the text
 infixr 5 ◌then◌
@@ -91,8 +121,10 @@ abbrev mutual
   statement_fault scope (Assign x e) = name_fault is_int scope x then expression_fault scope e
   statement_fault scope (Store a i e) = name_fault (is_meaning meaning.Array) scope a then expression_fault scope i then expression_fault scope e
   statement_fault scope (Create h f es) = name_fault (is_meaning meaning.Handle) scope h then thread_fault scope f (length es) then expressions_fault scope es
-  statement_fault scope (Swap r x e) = name_fault (is_meaning meaning.Local) scope r then name_fault (is_meaning meaning.Global) scope x then expression_fault scope e
-  statement_fault scope (Cas r x e f) = name_fault (is_meaning meaning.Local) scope r then name_fault (is_meaning meaning.Global) scope x then expression_fault scope e then expression_fault scope f
+  statement_fault scope (Swap r x e) = name_fault (is_meaning meaning.Local) scope r then name_fault (is_meaning meaning.Global) scope x
+      then expression_fault scope e
+  statement_fault scope (Cas r x e f) = name_fault (is_meaning meaning.Local) scope r then name_fault (is_meaning meaning.Global) scope x
+      then expression_fault scope e then expression_fault scope f
   statement_fault scope (Act p a x) = name_fault (action_fits a) scope x
   statement_fault scope (Wait p c m) = name_fault (is_meaning meaning.Condition) scope c then name_fault (is_meaning meaning.Mutex) scope m
   statement_fault scope (Order p b) = None
@@ -159,7 +191,8 @@ size_fault _ = None
 -- each of these is declared once, after those
 abbrev pub globals_fault : List ℕ → List Declaration → List Global → Option NameFault
 globals_fault source earlier [] = None
-globals_fault source earlier (g ∷ gs) = twice_fault source earlier (global_name g) then size_fault g then globals_fault source (earlier ++ global_declaration g ∷ []) gs
+globals_fault source earlier (g ∷ gs) = twice_fault source earlier (global_name g) then size_fault g
+    then globals_fault source (earlier ++ global_declaration g ∷ []) gs
 
 -- a body's own declarations are its parameters and then its locals
 abbrev pub own_declarations : List Name → List Local → List Declaration
@@ -184,7 +217,8 @@ body_fault source all parameters b =
 
 abbrev pub threads_fault : List ℕ → List Declaration → List Declaration → List Thread → Option NameFault
 threads_fault source all earlier [] = None
-threads_fault source all earlier (t ∷ ts) = twice_fault source earlier t.name then body_fault source all t.parameters t.body then threads_fault source all (earlier ++ thread_declaration t ∷ []) ts
+threads_fault source all earlier (t ∷ ts) = twice_fault source earlier t.name then body_fault source all t.parameters t.body
+    then threads_fault source all (earlier ++ thread_declaration t ∷ []) ts
 
 -- the first fault of a program's names, in this text
 abbrev pub names_fault : List ℕ → Program → Option NameFault

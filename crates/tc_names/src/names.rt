@@ -1,7 +1,18 @@
 //! The walk over a program in the order of its text.
 ghost use Rattle.std.specs.Prelude.{◌≡◌, ◌++◌, [], IfOk, map, take, drop, length};
 ghost use Rattle.tc_tree.specs.Seen.{body_of, thread_of, program_of};
-ghost use Rattle.tc_names.specs.Names.{twice_fault, size_fault, global_name, globals_fault, declarations_fault, body_fault, threads_fault, names_fault, program_declarations, ◌then◌};
+ghost use Rattle.tc_names.specs.Names.{
+  twice_fault,
+  size_fault,
+  global_name,
+  globals_fault,
+  declarations_fault,
+  body_fault,
+  threads_fault,
+  names_fault,
+  program_declarations,
+  ◌then◌,
+};
 ghost use Rattle.tc_names.specs.Names as rules;
 ghost use Rattle.tc_names.specs.helpers.Answers.{Tells, TellsUnlessMemory};
 
@@ -31,7 +42,8 @@ pub fn check_names(alloc: Heap, tree: &Tree) -> Result<(), NameFault>
 
 /// The global declarations and the threads, in order.
 fn declared(alloc: Heap, program: &Program) -> Result<Vec<Declaration>, AllocError>
-    ensures { IfOk result (λ all. all.items ≡ map rules.global_declaration program.now.globals.items ++ map (λ t. rules.thread_declaration (thread_of t)) program.now.threads.items) }
+    ensures { IfOk result (λ all. all.items ≡ map rules.global_declaration program.now.globals.items ++ map
+        (λ t. rules.thread_declaration (thread_of t)) program.now.threads.items) }
 {
     program
         .globals
@@ -74,11 +86,7 @@ fn global_declaration(global: &Global) -> Declaration
 }
 
 /// The globals, of which these are the first declarations.
-fn check_globals(
-    source: &[u8],
-    all: &[Declaration],
-    globals: &[Global],
-) -> Result<(), NameFault>
+fn check_globals(source: &[u8], all: &[Declaration], globals: &[Global]) -> Result<(), NameFault>
     requires { all.now ≡ map rules.global_declaration globals.now ++ drop (length globals.now) all.now }
     ensures { Tells result (globals_fault source.now [] globals.now) }
 {
@@ -92,11 +100,7 @@ fn check_globals(
     Ok(())
 }
 
-fn check_global(
-    source: &[u8],
-    earlier: &[Declaration],
-    global: &Global,
-) -> Result<(), NameFault>
+fn check_global(source: &[u8], earlier: &[Declaration], global: &Global) -> Result<(), NameFault>
     ensures { Tells result (twice_fault source.now earlier.now (global_name global.now) then size_fault global.now) }
 {
     match global {

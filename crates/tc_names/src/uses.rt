@@ -1,7 +1,17 @@
 //! Uses of names in statements and expressions.
 ghost use Rattle.std.specs.Prelude.{◌≡◌, length, map};
 ghost use Rattle.tc_tree.specs.Seen.{expression_of, expressions_of, statement_of, branch_of};
-ghost use Rattle.tc_names.specs.Names.{name_fault, is_int, is_meaning, thread_fault, expression_fault, expressions_fault, action_fits, statement_fault, statements_fault};
+ghost use Rattle.tc_names.specs.Names.{
+  name_fault,
+  is_int,
+  is_meaning,
+  thread_fault,
+  expression_fault,
+  expressions_fault,
+  action_fits,
+  statement_fault,
+  statements_fault,
+};
 ghost use Rattle.tc_names.specs.helpers.Answers.{Tells, plain_scope, statements_seen, branch_fault, branches_fault};
 
 use crate::fault::NameFault;
@@ -62,10 +72,8 @@ fn check_expression(scope: Scope, expression: &Expression) -> Result<(), NameFau
 fn check_expressions(scope: Scope, expressions: &[Expression]) -> Result<(), NameFault>
     ensures { Tells result (expressions_fault (plain_scope scope.entry) (expressions_of expressions.now)) }
 {
-    let mut rest = expressions;
-    while let [expression, later @ ..] = rest {
+    for expression in expressions {
         check_expression(scope, expression)?;
-        rest = later;
     }
     Ok(())
 }
@@ -85,10 +93,8 @@ fn check_action(scope: Scope, action: Action, name: &Name) -> Result<(), NameFau
 pub(crate) fn check_statements(scope: Scope, statements: &[Statement]) -> Result<(), NameFault>
     ensures { Tells result (statements_fault (plain_scope scope.entry) (statements_seen statements.now)) }
 {
-    let mut rest = statements;
-    while let [statement, later @ ..] = rest {
+    for statement in statements {
         check_statement(scope, statement)?;
-        rest = later;
     }
     Ok(())
 }
@@ -146,10 +152,8 @@ fn check_statement(scope: Scope, statement: &Statement) -> Result<(), NameFault>
 fn check_branches(scope: Scope, branches: &[Branch]) -> Result<(), NameFault>
     ensures { Tells result (branches_fault (plain_scope scope.entry) (map branch_of branches.now)) }
 {
-    let mut rest = branches;
-    while let [branch, later @ ..] = rest {
+    for branch in branches {
         check_branch(scope, branch)?;
-        rest = later;
     }
     Ok(())
 }
