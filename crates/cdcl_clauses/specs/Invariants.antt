@@ -1,7 +1,7 @@
 -- What a search keeps of its trail, its clauses and its watches.
 use Rattle.std.specs.Prelude.{◌≡◌, ◌≢◌, ℕ, ◌*◌, ◌<◌, ◌≤◌, true, List, [], ◌∷◌, None, MatchOption, length, take, slice_index, slice_index_or, Contains, All}
 use Rattle.cdcl_trail.specs.Literals.{opposite_of}
-use Rattle.cdcl_trail.specs.Trail.{Trail}
+use Rattle.cdcl_trail.specs.Trail.{Trail, IsTrail}
 use Rattle.cdcl_clauses.specs.Clauses.{Clause, at, watches, listed}
 use Rattle.cdcl_clauses.specs.declared.watches.Watch.{Watch}
 
@@ -25,15 +25,16 @@ pub record IsListed (ws : List (List Watch)) (l k : ℕ) : Type 0 where
   pub there : (d : Watch) → (slice_index_or (listed ws l) place d).clause ≡ k
 
 -- a watch is that of a clause, and its blocker is one of the clause's literals
-pub record IsWatch (cs : List Clause) (w : Watch) : Type 0 where
+pub record IsWatch (variables : ℕ) (cs : List Clause) (w : Watch) : Type 0 where
   pub clause_there : w.clause < length cs
   pub blocker_in : Contains (at cs w.clause).literals w.blocker
+  pub blocker_within : w.blocker < 2 * variables
 
 -- every clause that is kept is a clause, and stands at what it watches
 pub record AreLinked (variables : ℕ) (cs : List Clause) (ws : List (List Watch)) : Type 0 where
   pub lists : length ws ≡ 2 * variables
   pub clauses : (k : ℕ) → k < length cs → (at cs k).kept ≡ true → IsClause variables (at cs k)
-  pub entries : (l : ℕ) → All (IsWatch cs) (listed ws l)
+  pub entries : (l : ℕ) → All (IsWatch variables cs) (listed ws l)
   pub watching : (k l : ℕ) → k < length cs → watches (at cs k) l ≡ true → IsListed ws l k
 
 -- a clause that watches a literal which is false among the one list has a literal that is true among the other
@@ -64,6 +65,7 @@ AreReasoned t cs = (p : ℕ) → p < length t.literals → MatchOption (slice_in
 
 -- what a search keeps
 pub record IsSound (t : Trail) (cs : List Clause) (ws : List (List Watch)) : Type 0 where
+  pub lawful : IsTrail t
   pub linked : AreLinked t.variables cs ws
   pub guarded : AreGuarded t cs
   pub reasoned : AreReasoned t cs

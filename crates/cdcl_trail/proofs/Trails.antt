@@ -10,7 +10,7 @@ use Rattle.std.proofs.lemmas.Bool.Decides.{eqb_tells}
 use Rattle.std.proofs.lemmas.Map.Keys.{IsDistinct-from_apart}
 use Rattle.std.proofs.lemmas.Map.Steps.{length-le_from_distinct_below}
 use Rattle.cdcl_trail.specs.Literals.{opposite_of}
-use Rattle.cdcl_trail.specs.Trail.{Trail, Is, IsOpen, pushed}
+use Rattle.cdcl_trail.specs.Trail.{Trail, Is, IsOpen, IsTrail, pushed}
 use Rattle.cdcl_trail.specs.Helpers.{trail_of, IsSound, StandsAt, IsPlaced}
 use Rattle.cdcl_trail.specs.declared.trail.Value.{Value}
 use Rattle.cdcl_trail.specs.declared.trail.Value.TheVariants.{Open, True, False}
@@ -34,7 +34,11 @@ tells a s l w True e =
     let t : StandsAt a k = s.stands k p.on_trail in
     let fits : a.len ≤ length a.literals.items = omega (arith, s.len_fits, s.literals_fit) in
     elim (same_half (get_or a.literals.items k 0) l p.there) [
-      | inl f ↦ contains_from_place a.literals.items a.len k l fits p.on_trail f
+      | inl f ↦ record {
+        there = contains_from_place a.literals.items a.len k l fits p.on_trail f;
+        not_false = λ h. (let (i, m, q) = place_from_contains a.literals.items a.len (opposite_of l) fits h in
+            let g : get_or a.values.items l Open ≡ False = ap (λ (x : ℕ). get_or a.values.items x Open) (sym (opposite_of-opposite_of l) ∙ ap opposite_of (sym q)) ∙ (s.stands i m).false_there in cc);
+      }
       | inr f ↦ absurd (let g : get_or a.values.items l Open ≡ False = ap (λ (x : ℕ). get_or a.values.items x Open) (sym (opposite_of-opposite_of l) ∙ ap opposite_of (sym f)) ∙ t.false_there in cc)
     ]
 tells a s l w False e =
@@ -241,3 +245,29 @@ pushed_view a s l m h reason w o =
     let f = take_more_set a.literals.items a.len l (omega (arith, s.literals_fit)) in
     let g = take_more_set a.reasons.items a.len reason (omega (arith, s.reasons_fit)) in
     cc
+
+-- a trail that lies in memory is a trail
+pub lawful : (a : Inside) → IsSound a → IsTrail (trail_of a)
+lawful a s =
+    let f : a.len ≤ length a.literals.items = omega (arith, s.len_fits, s.literals_fit) in
+    let g : a.levels ≤ length a.starts.items = omega (arith, s.levels_fit, s.len_fits, s.starts_fit) in
+    let n : length (take a.len a.literals.items) ≡ a.len = length-take-le a.len a.literals.items f in
+    let m : length (take a.levels a.starts.items) ≡ a.levels = length-take-le a.levels a.starts.items g in
+    let at : (k : ℕ) → k < a.len → get_or (take a.len a.literals.items) k 0 ≡ get_or a.literals.items k 0 = λ k h. at_take a.literals.items a.len k 0 0 f h in
+    let start : (k : ℕ) → k < a.levels → get_or (take a.levels a.starts.items) k 0 ≡ get_or a.starts.items k 0 = λ k h. at_take a.starts.items a.levels k 0 0 g h in
+    record {
+      few = omega (arith, n, s.len_fits);
+      reasons_fit = length-take-le a.len a.reasons.items (omega (arith, s.len_fits, s.reasons_fit)) ∙ sym n;
+      within = λ k h. let k' : k < a.len = omega (arith, n) in omega (arith, at k k', (s.stands k k').within);
+      apart = λ i k il kl e.
+          let i' : i < a.len = omega (arith, n) in
+          let k' : k < a.len = omega (arith, n) in
+          places_apart a s i k i' k' (ap (λ (x : ℕ). x / 2) (sym (at i i')) ∙ e ∙ ap (λ (x : ℕ). x / 2) (at k k'));
+      propagated_fits = omega (arith, n, s.propagated_fits);
+      starts_early = λ k h. let k' : k < a.levels = omega (arith, m) in omega (arith, start k k', (s.starts k k').early);
+      starts_proper = λ k h. let k' : k < a.levels = omega (arith, m) in omega (arith, n, start k k', (s.starts k k').proper);
+      starts_rise = λ i k ik h.
+          let k' : k < a.levels = omega (arith, m) in
+          let i' : i < a.levels = omega arith in
+          omega (arith, start i i', start k k', (s.starts k k').after_others i ik);
+    }

@@ -22,10 +22,15 @@ pub record IsOpen (t : Trail) (l : ℕ) : Type 0 where
   pub not_true : Contains t.literals l → ⊥
   pub not_false : Contains t.literals (opposite_of l) → ⊥
 
+-- the literal is true, and its opposite isn't
+pub record IsHeld (t : Trail) (l : ℕ) : Type 0 where
+  pub there : Contains t.literals l
+  pub not_false : Contains t.literals (opposite_of l) → ⊥
+
 -- what a literal is
 abbrev pub Is : Trail → ℕ → Value → Type 0
 Is t l Open = IsOpen t l
-Is t l True = Contains t.literals l
+Is t l True = IsHeld t l
 Is t l False = Contains t.literals (opposite_of l)
 
 -- one more literal is true

@@ -50,7 +50,8 @@ impl Trail {
     /// The empty trail over so many variables.
     pub fn new(alloc: Global, variables: u32) -> Result<Trail, AllocError>
         requires { variables < 2 ^ 31 }
-        ensures { IfOk result (λ t. t ≡ empty variables) }
+        ensures empty { IfOk result (λ t. t ≡ empty variables) }
+        ensures lawful { IfOk result IsTrail }
     {
         let n = variables as usize;
         let values = vec![in alloc; Value::Open; 2 * n]?;
@@ -142,7 +143,8 @@ impl Trail {
     /// The first literal that wasn't propagated is.
     pub fn advance(&mut self)
         requires { self.old.propagated < length self.old.literals }
-        ensures { self.new ≡ record self.old { propagated = self.old.propagated + 1 } }
+        ensures after { self.new ≡ record self.old { propagated = self.old.propagated + 1 } }
+        ensures lawful { IsTrail self.new }
     {
         self.propagated += 1;
     }
@@ -151,7 +153,8 @@ impl Trail {
     pub fn imply(&mut self, literal: u32, reason: u32)
         requires within { literal < 2 * self.old.variables }
         requires open { IsOpen self.old literal }
-        ensures { self.new ≡ pushed self.old literal (Some reason) }
+        ensures after { self.new ≡ pushed self.old literal (Some reason) }
+        ensures lawful { IsTrail self.new }
     {
         self.push(literal, Some(reason));
     }
@@ -161,7 +164,8 @@ impl Trail {
         requires within { literal < 2 * self.old.variables }
         requires open { IsOpen self.old literal }
         requires propagated { self.old.propagated ≡ length self.old.literals }
-        ensures { self.new ≡ decided self.old literal }
+        ensures after { self.new ≡ decided self.old literal }
+        ensures lawful { IsTrail self.new }
     {
         let start = self.len;
         self.push(literal, None);
@@ -173,7 +177,8 @@ impl Trail {
     fn push(&mut self, literal: u32, reason: Option<u32>)
         requires within { literal < 2 * self.old.variables }
         requires open { IsOpen self.old literal }
-        ensures { self.new ≡ pushed self.old literal reason }
+        ensures after { self.new ≡ pushed self.old literal reason }
+        ensures lawful { IsTrail self.new }
     {
         self.values[literal as usize] = Value::True;
         self.values[opposite(literal) as usize] = Value::False;
@@ -186,7 +191,8 @@ impl Trail {
     /// The levels from this one on are taken back.
     pub fn cut(&mut self, level: usize)
         requires { level < length self.old.starts }
-        ensures { self.new ≡ cut_to self.old level }
+        ensures after { self.new ≡ cut_to self.old level }
+        ensures lawful { IsTrail self.new }
     {
         let start = self.starts[level] as usize;
         for place in start..self.len {

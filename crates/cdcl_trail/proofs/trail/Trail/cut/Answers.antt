@@ -6,6 +6,7 @@ use Rattle.cdcl_trail.specs.Helpers.{trail_of, IsSound}
 use Rattle.cdcl_trail.specs.declared.trail.Value.TheVariants.{Open}
 use Rattle.cdcl_trail.specs.declared.trail.Trail.TheInside.{Inside}
 use Rattle.cdcl_trail.proofs.Cuts.{Opens, opens_more, sound_cut, cut_inside, cut_view, level_within}
+use Rattle.cdcl_trail.proofs.Trails.{lawful}
 use Rattle.cdcl_trail.proofs.trail.Trail.cut.Goals as goal
 
 pub loop-place-preserved : goal.loop-place-preserved
@@ -36,8 +37,11 @@ invariant_of-self c =
     subst (λ (b : Inside). IsSound (cut_inside b c.loop-place.self-inside.values c.index.result.now c.args.level)) (sym inv.others)
     (sound_cut c.self.inside c.self.invariant c.loop-place.self-inside.values c.index.result.now c.args.level (level c) (start c) o)
 
-pub returns : goal.returns
-returns c =
+pub returns-clause-after : goal.returns-clause-after
+returns-clause-after c =
     let v = cut_view c.self.inside c.self.invariant c.loop-place.self-inside.values c.index.result.now c.args.level (level c) (start c) in
     subst (λ (b : Inside). trail_of (cut_inside b c.loop-place.self-inside.values c.index.result.now c.args.level) ≡ cut_to c.args.self.now c.args.level) (sym c.loop-place.invariant.others)
     (v ∙ ap (λ t. cut_to t c.args.level) c.self.view_is)
+
+pub returns-clause-lawful : goal.returns-clause-lawful
+returns-clause-lawful c = lawful _ (invariant_of-self c)
