@@ -1,0 +1,10 @@
+//! How a search goes from one conflict to the next.
+#![tactic(auto)]
+
+mod backs;
+mod choice;
+mod descent;
+
+pub use backs::go_back;
+pub use choice::next_open;
+pub use descent::to_conflict;
