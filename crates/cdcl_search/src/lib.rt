@@ -1,10 +1,12 @@
 //! How a search goes from one conflict to the next.
 #![tactic(auto)]
 
+mod attaching;
 mod backs;
 mod choice;
 mod descent;
 
+pub use attaching::attach;
 pub use backs::go_back;
 pub use choice::next_open;
 pub use descent::to_conflict;
