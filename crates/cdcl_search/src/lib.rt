@@ -1,11 +1,13 @@
 //! How a search goes from one conflict to the next.
 #![tactic(auto)]
 
+mod asserting;
 mod attaching;
 mod backs;
 mod choice;
 mod descent;
 
+pub use asserting::assert_clause;
 pub use attaching::attach;
 pub use backs::go_back;
 pub use choice::next_open;
