@@ -72,7 +72,8 @@ pub step-push : (s : Reading) (b : ℕ) (bs : List ℕ) (ts : List Taken) (t : R
     → Reads (pushed s (b ∷ [])) bs ts t → Reads s (b ∷ bs) ts t
 step-push s b bs ts t e n r = subst (λ f. Step f (nat_eq b 10) s b bs ts t) (sym (fault-free s e)) (subst (λ d. Step false d s b bs ts t) (sym n) r)
 
-pub step-end : (s : Reading) (b : ℕ) (bs : List ℕ) (ts : List Taken) (t : Reading) → s.fault ≡ None → nat_eq b 10 ≡ true → Ends s bs ts t → Reads s (b ∷ bs) ts t
+pub step-end : (s : Reading) (b : ℕ) (bs : List ℕ) (ts : List Taken) (t : Reading) → s.fault ≡ None → nat_eq b 10 ≡ true → Ends s bs ts t
+    → Reads s (b ∷ bs) ts t
 step-end s b bs ts t e n r = subst (λ f. Step f (nat_eq b 10) s b bs ts t) (sym (fault-free s e)) (subst (λ d. Step false d s b bs ts t) (sym n) r)
 
 pub pushed-nil : (s : Reading) → pushed s [] ≡ s

@@ -1,5 +1,41 @@
 -- Fronts of a text: signs and names.
-use Rattle.std.proofs.Common.{◌≡◌, ◌≢◌, ◌<◌, ◌≤◌, ◌+◌, ◌-◌, ℕ, zero, suc, Bool, true, false, ltb, leb, eqb, cond, List, [], ◌∷◌, ◌++◌, length, Option, Some, None, refl, sym, ap, ◌∙◌, arith, Bor, append_assoc, inl, inr, ◌⊎◌, subst}
+use Rattle.std.proofs.Common.{
+  ◌≡◌,
+  ◌≢◌,
+  ◌<◌,
+  ◌≤◌,
+  ◌+◌,
+  ◌-◌,
+  ℕ,
+  zero,
+  suc,
+  Bool,
+  true,
+  false,
+  ltb,
+  leb,
+  eqb,
+  cond,
+  List,
+  [],
+  ◌∷◌,
+  ◌++◌,
+  length,
+  Option,
+  Some,
+  None,
+  refl,
+  sym,
+  ap,
+  ◌∙◌,
+  arith,
+  Bor,
+  append_assoc,
+  inl,
+  inr,
+  ◌⊎◌,
+  subst,
+}
 use Rattle.std.specs.Prelude.{MatchOption, option_map, codes}
 use Rattle.std.specs.List.{list_all, flat_map}
 use Rattle.std.specs.Fmt.{decimal}
@@ -85,7 +121,8 @@ pub record TakesChildren (room : ℕ) (bytes : List ℕ) (ks : Name) (rest : Lis
   pub few : length ks ≤ room
   pub each : list_all is_child ks ≡ true
 
-none_taken : (room : ℕ) (bytes : List ℕ) (ks : Name) (rest : List ℕ) → ◌≡◌ {A = Option (Name × List ℕ)} (Some ([], bytes)) (Some (ks, rest)) → TakesChildren room bytes ks rest
+none_taken : (room : ℕ) (bytes : List ℕ) (ks : Name) (rest : List ℕ) → ◌≡◌ {A = Option (Name × List ℕ)} (Some ([], bytes)) (Some (ks, rest))
+    → TakesChildren room bytes ks rest
 none_taken room bytes [] rest e = record { parts = ap (λ (x : Name × List ℕ). x.1) (same_Some _ _ e); few = omega arith; each = refl }
 none_taken room bytes (k ∷ ks) rest e = let same : [] ≡ k ∷ ks = ap (λ (x : Name × List ℕ). x.0) (same_Some _ _ e) in absurd cc
 

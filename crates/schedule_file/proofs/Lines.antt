@@ -10,7 +10,22 @@ use Rattle.tc_base.specs.declared.model.Model.TheVariants.{Sc, Tso, Pso}
 use Rattle.tc_base.specs.declared.moves.Move.{Move}
 use Rattle.tc_base.specs.declared.moves.Move.TheVariants.{Run, Wake, Drain}
 use Rattle.schedule_file.specs.Schedules.{header, model_text, line, is_name, is_move}
-use Rattle.schedule_file.specs.helpers.Reading.{◌>>=◌, or_else, behind, number_at, name_at, cell_at, ended, run_at, wake_at, drain_at, move_at, named, model_at, header_at}
+use Rattle.schedule_file.specs.helpers.Reading.{
+  ◌>>=◌,
+  or_else,
+  behind,
+  number_at,
+  name_at,
+  cell_at,
+  ended,
+  run_at,
+  wake_at,
+  drain_at,
+  move_at,
+  named,
+  model_at,
+  header_at,
+}
 use Rattle.schedule_file.proofs.Lists.{bind_some}
 use Rattle.schedule_file.proofs.Numbers.{number_again, number_takes}
 use Rattle.schedule_file.proofs.Fronts.{behind_takes, name_again, name_takes}
@@ -55,7 +70,8 @@ wake_first : (model : Model) (bytes : List ℕ) (x : Move × List ℕ) → run_a
 unfolding move_at
 wake_first model bytes x a e = rw (a, e) refl
 
-drain_first : (model : Model) (bytes : List ℕ) (x : Move × List ℕ) → run_at bytes ≡ None → wake_at bytes ≡ None → drain_at model bytes ≡ Some x → move_at model bytes ≡ Some x
+drain_first : (model : Model) (bytes : List ℕ) (x : Move × List ℕ) → run_at bytes ≡ None → wake_at bytes ≡ None → drain_at model bytes ≡ Some x
+    → move_at model bytes ≡ Some x
 unfolding move_at
 drain_first model bytes x a b e = rw (a, b) e
 
@@ -125,7 +141,8 @@ run_takes model bytes move rest e =
 wake_takes : (model : Model) (bytes : List ℕ) (move : Move) (rest : List ℕ) → wake_at bytes ≡ Some (move, rest) → TakesMove model bytes move rest
 unfolding wake_at
 wake_takes model bytes move rest e =
-    let a = bind_some (behind (codes "w ") bytes) (λ r. name_at r >>= λ n. behind (codes " ") n.1 >>= λ s. name_at s >>= λ w. ended (Wake n.0 w.0) w.1) (move, rest) e in
+    let a = bind_some (behind (codes "w ") bytes) (λ r. name_at r >>= λ n. behind (codes " ") n.1 >>= λ s. name_at s >>= λ w. ended (Wake n.0 w.0)
+    w.1) (move, rest) e in
     let b = bind_some (name_at a.0) (λ n. behind (codes " ") n.1 >>= λ s. name_at s >>= λ w. ended (Wake n.0 w.0) w.1) (move, rest) a.2 in
     let d = bind_some (behind (codes " ") b.0.1) (λ s. name_at s >>= λ w. ended (Wake b.0.0 w.0) w.1) (move, rest) b.2 in
     let f = bind_some (name_at d.0) (λ w. ended (Wake b.0.0 w.0) w.1) (move, rest) d.2 in
@@ -136,7 +153,8 @@ wake_takes model bytes move rest e =
     w.0 ∙ (ap (λ (x : List ℕ). name_text f.0.0 ++ x) z.0 ∙ sym (append_assoc (name_text f.0.0) (codes "\n") rest)) in
     let made : TakesMove model bytes (Wake b.0.0 f.0.0) rest = record {
       parts = behind_takes (codes "w ") bytes a.0 a.1
-          ∙ ap (λ (x : List ℕ). 119 ∷ 32 ∷ x) (n.0 ∙ (ap (λ (x : List ℕ). name_text b.0.0 ++ x) (behind_takes (codes " ") b.0.1 d.0 d.1 ∙ ap (λ (x : List ℕ). 32 ∷ x) waiter)
+          ∙ ap (λ (x : List ℕ). 119 ∷ 32 ∷ x) (n.0 ∙ (ap (λ (x : List ℕ). name_text b.0.0 ++ x) (behind_takes (codes " ") b.0.1 d.0 d.1
+          ∙ ap (λ (x : List ℕ). 32 ∷ x) waiter)
           ∙ sym (append_assoc (name_text b.0.0) (32 ∷ (name_text f.0.0 ++ codes "\n")) rest)));
       is = and_from (is_name b.0.0) (is_name f.0.0) n.1 w.1;
     } in

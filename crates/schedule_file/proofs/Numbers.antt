@@ -1,5 +1,33 @@
 -- Numbers, and how they are written.
-use Rattle.std.proofs.Common.{◌≡◌, ◌<◌, ◌≤◌, ℕ, zero, suc, Bool, true, false, ltb, leb, cond, List, [], ◌∷◌, ◌++◌, length, get_or, take, drop, refl, sym, ap, ◌∙◌, subst, arith, rules}
+use Rattle.std.proofs.Common.{
+  ◌≡◌,
+  ◌<◌,
+  ◌≤◌,
+  ℕ,
+  zero,
+  suc,
+  Bool,
+  true,
+  false,
+  ltb,
+  leb,
+  cond,
+  List,
+  [],
+  ◌∷◌,
+  ◌++◌,
+  length,
+  get_or,
+  take,
+  drop,
+  refl,
+  sym,
+  ap,
+  ◌∙◌,
+  subst,
+  arith,
+  rules,
+}
 use Rattle.std.proofs.Common.{Bor, Some, None, Result, Ok, Err, not, ◌&&◌}
 use Rattle.std.specs.List.{list_all, prefix_len}
 use Rattle.std.specs.Fmt.{decimal}
@@ -75,7 +103,14 @@ pub number_again : (low high n : ℕ) (rest : List ℕ) → low ≤ n → n ≤ 
 unfolding number_at
 number_again low high n rest l h small e =
     let len = prefix_len_run is_digit (decimal n) rest (digits_decimal own_digits n (omega arith)) (no_digits rest e) in
-    rw (len, take_at (decimal n) rest (length (decimal n)) refl, drop_at (decimal n) rest (length (decimal n)) refl, number_again_word n (omega arith), le-leb low n l, le-leb n high h) refl
+    rw (
+      len,
+      take_at (decimal n) rest (length (decimal n)) refl,
+      drop_at (decimal n) rest (length (decimal n)) refl,
+      number_again_word n (omega arith),
+      le-leb low n l,
+      le-leb n high h,
+    ) refl
 
 pub record TakesNumber (low high : ℕ) (bytes : List ℕ) (n : ℕ) (rest : List ℕ) : Type 0 where
   pub parts : bytes ≡ decimal n ++ rest

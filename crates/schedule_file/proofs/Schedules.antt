@@ -1,5 +1,33 @@
 -- A text is one schedule, or breaks the form at one line.
-use Rattle.std.proofs.Common.{◌≡◌, ◌<◌, ◌≤◌, ◌+◌, ℕ, zero, suc, true, List, [], ◌∷◌, ◌++◌, length, Option, Some, None, refl, sym, ap, ◌∙◌, subst, arith, append_assoc, inl, inr, ◌⊎◌, lit<}
+use Rattle.std.proofs.Common.{
+  ◌≡◌,
+  ◌<◌,
+  ◌≤◌,
+  ◌+◌,
+  ℕ,
+  zero,
+  suc,
+  true,
+  List,
+  [],
+  ◌∷◌,
+  ◌++◌,
+  length,
+  Option,
+  Some,
+  None,
+  refl,
+  sym,
+  ap,
+  ◌∙◌,
+  subst,
+  arith,
+  append_assoc,
+  inl,
+  inr,
+  ◌⊎◌,
+  lit<,
+}
 use Rattle.std.specs.List.{flat_map, list_all}
 use Rattle.std.proofs.lemmas.Bool.{and_parts, and_from, cases_lt}
 use Rattle.std.proofs.lemmas.List.{append-nil, length-append, nil_from_length}
@@ -73,7 +101,8 @@ same_moves count model (m ∷ ms) (o ∷ os) rest last l k h j stops ends e =
     let p = and_parts (is_move model m) (list_all (is_move model) ms) h in
     let q = and_parts (is_move model o) (list_all (is_move model) os) j in
     let first = same_line model m o (flat_map line ms ++ rest) (flat_map line os ++ last) p.0 q.0 (sym (lines_more m ms rest) ∙ (e ∙ lines_more o os last)) in
-    let others = same_moves (count + 1) model ms os rest last (omega arith) (omega arith) p.1 q.1 (λ n. stops (omega arith)) (λ n. ends (omega arith)) first.1 in
+    let others = same_moves (count + 1) model ms os rest last (omega arith) (omega arith) p.1 q.1 (λ n. stops (omega arith))
+    (λ n. ends (omega arith)) first.1 in
     (ap (λ (x : Move). x ∷ ms) first.0 ∙ ap (λ (x : List Move). o ∷ x) others.0, others.1)
 
 text_split : (model : Model) (moves : List Move) (rest : List ℕ) → schedule_text model moves ++ rest ≡ header model ++ (flat_map line moves ++ rest)
@@ -95,7 +124,8 @@ same_reading text model other moves others rest last x y stops ends =
     let finish : Stops (length others) model last = subst (λ (m : Model). Stops (length others) m last) (sym heads.0) ends in
     let few = x.have_text.0 in
     let fits = y.have_text.0 in
-    let both = same_moves 0 model moves others rest last (omega arith) (omega arith) x.have_text.1 each (λ n. stops (omega arith)) (λ n. finish (omega arith)) heads.1 in
+    let both = same_moves 0 model moves others rest last (omega arith) (omega arith) x.have_text.1 each (λ n. stops (omega arith))
+    (λ n. finish (omega arith)) heads.1 in
     record { models = heads.0; moves_are = both.0; rests = both.1 }
 
 whole : (text : List ℕ) (model : Model) (moves : List Move) → HaveText model moves → text ≡ schedule_text model moves → SoFar text model moves []
@@ -195,7 +225,8 @@ fault_behind text bytes model room all e x no_schedule =
       )
       | inr less ↦
           let nothing : x.rest ≡ [] = nil_from_length x.rest (omega arith) in
-          absurd (no_schedule x.moves have_text (split ∙ (ap (λ (y : List ℕ). schedule_text model x.moves ++ y) nothing ∙ append-nil (schedule_text model x.moves))))
+          absurd (no_schedule x.moves have_text (split ∙ (ap (λ (y : List ℕ). schedule_text model x.moves ++ y) nothing
+          ∙ append-nil (schedule_text model x.moves))))
     ]
 
 pub some_fault : (text : List ℕ) → ((model : Model) (moves : List Move) → HaveText model moves → text ≡ schedule_text model moves → ⊥)
@@ -233,7 +264,8 @@ read_on text model moves rest move after longer x few e push =
       );
       split = x.split ∙ (ap (λ (y : List ℕ). schedule_text model moves ++ y) t.parts
           ∙ (sym (append_assoc (schedule_text model moves) (line move) after)
-          ∙ ap (λ (y : List ℕ). y ++ after) (append_assoc (header model) (flat_map line moves) (line move) ∙ ap (λ (y : List ℕ). header model ++ y) (sym lines))));
+          ∙ ap (λ (y : List ℕ). y ++ after) (append_assoc (header model) (flat_map line moves) (line move)
+          ∙ ap (λ (y : List ℕ). header model ++ y) (sym lines))));
     }
 
 pub stops_here : (text : List ℕ) (model : Model) (moves : List Move) (rest : List ℕ) (number : ℕ) → SoFar text model moves rest → 0 < length rest
@@ -249,8 +281,10 @@ stops_here text model moves rest number x more e none = inr (record {
   none = none;
 })
 
-pub all_read : (text : List ℕ) (model : Model) (moves : List Move) (rest : List ℕ) → SoFar text model moves rest → length rest ≡ 0 → text ≡ schedule_text model moves
-all_read text model moves rest x e = x.split ∙ (ap (λ (y : List ℕ). schedule_text model moves ++ y) (nil_from_length rest e) ∙ append-nil (schedule_text model moves))
+pub all_read : (text : List ℕ) (model : Model) (moves : List Move) (rest : List ℕ) → SoFar text model moves rest → length rest ≡ 0
+    → text ≡ schedule_text model moves
+all_read text model moves rest x e = x.split ∙ (ap (λ (y : List ℕ). schedule_text model moves ++ y) (nil_from_length rest e)
+    ∙ append-nil (schedule_text model moves))
 
 pub shorter : (model : Model) (rest : List ℕ) (move : Move) (after : List ℕ) → Some (move, after) ≡ move_at model rest → length after < length rest
 shorter model rest move after e =

@@ -35,7 +35,8 @@ leads_with_zero _ = false
 
 -- the number that these digits write
 abbrev pub number_of : List ℕ → Option ℕ
-number_of digits = if not (leads_with_zero digits) && nat_lt 0 (length digits) && nat_lt (digits_value 10 digits) 65536 then Some (digits_value 10 digits) else None
+number_of digits = if not (leads_with_zero digits) && nat_lt 0 (length digits) && nat_lt (digits_value 10 digits) 65536
+    then Some (digits_value 10 digits) else None
 
 -- the number from low to high at the front
 unfoldable pub number_at : ℕ → ℕ → List ℕ → Option (ℕ × List ℕ)

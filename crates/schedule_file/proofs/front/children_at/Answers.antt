@@ -10,7 +10,8 @@ returns-then-children-eq-DEPTH c =
 
 pub returns-in_default-number_at : goal.returns-in_default-number_at
 returns-in_default-number_at c =
-    no_child c.loop-number.name c.loop-number.rest.now c.in-Some.number.now _ c.loop-number.invariant.few (λ e. c.if-children-eq-DEPTH.false (ap length c.children.ensures ∙ e))
+    no_child c.loop-number.name c.loop-number.rest.now c.in-Some.number.now _ c.loop-number.invariant.few
+    (λ e. c.if-children-eq-DEPTH.false (ap length c.children.ensures ∙ e))
     (sym c.in-Some.ensures) (sym c.in_default-number_at.ensures) c.loop-number.invariant.read
 
 pub child-requires : goal.child-requires
