@@ -47,7 +47,7 @@ stuck-step true d s b bs ts t e r = r
 stuck-step false d s b bs ts t e r = absurd (cc)
 
 -- after a fault nothing is read
-stuck : (bytes : List ℕ) (s : Reading) (ts : List Taken) (t : Reading) → is_some s.fault ≡ true → Reads s bytes ts t → (ts ≡ []) × (t ≡ s)
+pub stuck : (bytes : List ℕ) (s : Reading) (ts : List Taken) (t : Reading) → is_some s.fault ≡ true → Reads s bytes ts t → (ts ≡ []) × (t ≡ s)
 stuck [] s ts t e r = r
 stuck (b ∷ bytes) s ts t e r = stuck-step (is_some s.fault) (nat_eq b 10) s b bytes ts t e r
 

@@ -5,3 +5,4 @@ pub mod Guesses
 pub mod Heads
 pub mod Cuts
 pub mod Wholes
+pub mod ReadTexts

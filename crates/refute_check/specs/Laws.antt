@@ -4,7 +4,7 @@ use Rattle.std.specs.List.{list_all}
 use Rattle.cnf_core.specs.Clauses.{Formula, IsUnsatisfiable}
 use Rattle.refute_check.specs.Refutations.{IsClosed, line_limit}
 use Rattle.refute_check.specs.Texts.{is_head, is_readable, refutation_text}
-use Rattle.refute_check.specs.Reading.{Reading, Reads, beginning}
+use Rattle.refute_check.specs.Reading.{Reading, Reads, beginning, first_breach}
 use Rattle.refute_check.specs.declared.head.Head.{Head}
 use Rattle.refute_check.specs.declared.text.Taken.{Taken}
 use Rattle.refute_check.specs.declared.text.Taken.TheVariants.{Header, Line as Body}
@@ -36,3 +36,9 @@ TextIsRead =
 abbrev pub TextHasOneValue : Type 0
 TextHasOneValue =
     (h k : Head) (ls ms : List Line) → IsWhole h ls → IsWhole k ms → refutation_text h ls ≡ refutation_text k ms → (h ≡ k) × (ls ≡ ms)
+
+-- bytes in which nothing breaks the form are the text of what they are read as
+abbrev pub ReadIsText : Type 0
+ReadIsText =
+    (bytes : List ℕ) (ts : List Taken) (t : Reading) → Reads beginning bytes ts t → first_breach t ≡ None
+    → (h : Head) × (ls : List Line) × (ts ≡ whole_lines h ls) × IsWhole h ls × (refutation_text h ls ≡ bytes)

@@ -23,5 +23,7 @@ pub use line::{Derivation, LINES, Line, Numbers};
 pub use read::{read_head, read_line};
 pub use text::{RefutationText, Taken, cuts_agree};
 pub use verdict::{CheckFault, Checked};
-pub use whole::{check, closed_means_unsatisfiable, reads_agree, text_has_one_value, text_is_read};
+pub use whole::{
+    check, closed_means_unsatisfiable, read_is_text, reads_agree, text_has_one_value, text_is_read,
+};
 pub use write::write_refutation;

@@ -1,7 +1,7 @@
 //! The verdict on a whole derivation, and what it means.
 ghost use Rattle.std.specs.Prelude.{◌≡◌, ◌≢◌, Err, Ok};
 ghost use Rattle.cnf_core.specs.Clauses.{IsUnsatisfiable};
-ghost use Rattle.refute_check.specs.Laws.{ClosedMeansUnsatisfiable, ReadsAgree, TextIsRead, TextHasOneValue};
+ghost use Rattle.refute_check.specs.Laws.{ClosedMeansUnsatisfiable, ReadsAgree, TextIsRead, TextHasOneValue, ReadIsText};
 ghost use Rattle.refute_check.specs.Refutations.{check};
 
 use crate::{CheckFault, Checked, Checker, Derivation};
@@ -26,6 +26,11 @@ pub fn text_is_read()
 /// A text is that of one first line and one derivation.
 pub fn text_has_one_value()
     ensures { TextHasOneValue }
+{}
+
+/// Bytes in which nothing breaks the form are the text of what they are read as.
+pub fn read_is_text()
+    ensures { ReadIsText }
 {}
 
 /// The verdict on a derivation over a formula's clauses: the first fault, else whether an empty clause was added.
