@@ -9,7 +9,36 @@ use Rattle.tc_tree.specs.declared.program.Global.{Global}
 use Rattle.tc_tree.specs.declared.program.Local.{Local}
 use Rattle.tc_tree.specs.declared.word.Word.{Word}
 use Rattle.tc_tree.specs.declared.word.Word.TheVariants.{Name as AName, If as AnIf, Keyword as AKeyword, Sign as ASign}
-use Rattle.tc_tree.specs.Grammar.{Expression, Binary, binary_sign, expression_then, list_then, others_then, level, tightness, IsGrouped, AreGrouped, Statement, Assign, statement_then, statements_then, otherwise_then, IsWell, AreWell, IsWellOtherwise, global_then, globals_then, local_then, locals_then, parameters_then, other_parameters_then, Thread, thread_then, threads_then, AreWellThreads}
+use Rattle.tc_tree.specs.Grammar.{
+  Expression,
+  Binary,
+  binary_sign,
+  expression_then,
+  list_then,
+  others_then,
+  level,
+  tightness,
+  IsGrouped,
+  AreGrouped,
+  Statement,
+  Assign,
+  statement_then,
+  statements_then,
+  otherwise_then,
+  IsWell,
+  AreWell,
+  IsWellOtherwise,
+  global_then,
+  globals_then,
+  local_then,
+  locals_then,
+  parameters_then,
+  other_parameters_then,
+  Thread,
+  thread_then,
+  threads_then,
+  AreWellThreads,
+}
 use Rattle.tc_tree.specs.Seen.{SeenBlock, SeenBranch, statements_of, otherwise_of}
 use Rattle.tc_syntax.specs.helpers.Reading.{
   Expected,
@@ -40,7 +69,25 @@ use Rattle.tc_syntax.specs.helpers.Reading.{
 }
 use Rattle.tc_syntax.specs.declared.reader.Stop.{Stop}
 use Rattle.tc_syntax.specs.declared.reader.Stop.TheVariants.{Memory, Left}
-use Rattle.tc_syntax.specs.helpers.Read.{Stops, Ends, begins_statement, is_some, IsRead, IsTight, IsOperand, IsStatement, IsPassed, IsAny, IsWellThread, begins_global, begins_local, branch_then, block_then, IsWellBranch, IsWellBlock}
+use Rattle.tc_syntax.specs.helpers.Read.{
+  Stops,
+  Ends,
+  begins_statement,
+  is_some,
+  IsRead,
+  IsTight,
+  IsOperand,
+  IsStatement,
+  IsPassed,
+  IsAny,
+  IsWellThread,
+  begins_global,
+  begins_local,
+  branch_then,
+  block_then,
+  IsWellBranch,
+  IsWellBlock,
+}
 use Rattle.tc_syntax.proofs.Signs.{operator_is, sign_read, no_operator}
 use Rattle.tc_syntax.proofs.Attached.{level_small}
 

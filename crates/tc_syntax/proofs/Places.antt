@@ -44,7 +44,14 @@ use Rattle.tc_tree.specs.declared.statement.Barrier.TheVariants.{Fence, Stores}
 use Rattle.tc_tree.specs.declared.expression.Name.{Name}
 use Rattle.tc_tree.specs.declared.expression.Number.{Number as TreeNumber}
 use Rattle.tc_tree.specs.declared.word.Word.{Word}
-use Rattle.tc_tree.specs.declared.word.Word.TheVariants.{Name as AName, Number as ANumber, Barrier as ABarrier, Keyword as AKeyword, Sign as ASign, End as AnEnd}
+use Rattle.tc_tree.specs.declared.word.Word.TheVariants.{
+  Name as AName,
+  Number as ANumber,
+  Barrier as ABarrier,
+  Keyword as AKeyword,
+  Sign as ASign,
+  End as AnEnd,
+}
 use Rattle.tc_tree.specs.Words.{word_since}
 use Rattle.tc_tree.specs.Grammar.{
   Program,

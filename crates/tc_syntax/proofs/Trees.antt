@@ -63,7 +63,25 @@ use Rattle.tc_tree.specs.declared.program.Global.TheVariants.{Int, Array, Mutex,
 use Rattle.tc_tree.specs.declared.program.Local.{Local}
 use Rattle.tc_tree.specs.declared.program.Local.TheVariants.{Int as LocalInt, Handle}
 use Rattle.tc_tree.specs.Grammar as grammar
-use Rattle.tc_syntax.specs.helpers.Reading.{Expected, Just, End, Operand, Subscript, Operators, Arguments, Others, Statements, AfterAssign, Alternative, Locals, Parameters, OtherParameters, Globals, Threads, fault}
+use Rattle.tc_syntax.specs.helpers.Reading.{
+  Expected,
+  Just,
+  End,
+  Operand,
+  Subscript,
+  Operators,
+  Arguments,
+  Others,
+  Statements,
+  AfterAssign,
+  Alternative,
+  Locals,
+  Parameters,
+  OtherParameters,
+  Globals,
+  Threads,
+  fault,
+}
 use Rattle.tc_syntax.proofs.Signs.{sign_read}
 
 -- whether `[` is next
