@@ -22,7 +22,6 @@ use Rattle.std.proofs.Common.{
   bytes_eq,
   refl,
   ap,
-  ◌∙◌,
   arith,
   if◌then◌else◌,
 }

@@ -2,7 +2,7 @@
 use Rattle.std.proofs.Common.{◌≡◌, List, [], ◌∷◌, ◌++◌, length, map, take, drop, ℕ, Option, Some, None, Err, refl, sym, ap, ◌∙◌}
 use Rattle.tc_tree.specs.declared.program.Global.{Global}
 use Rattle.tc_tree.specs.declared.program.Thread.{Thread as TreeThread}
-use Rattle.tc_tree.specs.Grammar.{Thread, Program}
+use Rattle.tc_tree.specs.Grammar.{Program}
 use Rattle.tc_tree.specs.Seen.{thread_of}
 use Rattle.tc_names.specs.declared.fault.NameFault.{NameFault}
 use Rattle.tc_names.specs.declared.fault.NameFault.TheVariants.{Unknown, Twice, Kind, Arguments, Memory}

@@ -1,7 +1,7 @@
-use Rattle.std.proofs.Common.{◌≡◌, ◌∙◌, [], None, Some, Option, List, take, drop, length, map}
+use Rattle.std.proofs.Common.{take, length}
 use Rattle.std.proofs.lemmas.Result.{err_from_is_err_and}
-use Rattle.tc_tree.specs.Seen.{program_of, thread_of}
-use Rattle.tc_names.specs.Names.{program_declarations, globals_fault, threads_fault, body_fault, names_fault}
+use Rattle.tc_tree.specs.Seen.{program_of}
+use Rattle.tc_names.specs.Names.{threads_fault, names_fault}
 use Rattle.tc_names.proofs.Programs.{declared_is, threads_of_all, names_threads, names_main, told}
 use Rattle.tc_names.proofs.names.check_names.Goals as goal
 

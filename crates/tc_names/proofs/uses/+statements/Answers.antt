@@ -1,8 +1,5 @@
-use Rattle.std.proofs.Common.{◌≡◌, ◌∙◌, sym, ap, subst, map, Option}
 use Rattle.std.proofs.lemmas.Result.{err_from_is_err_and}
-use Rattle.tc_tree.specs.Seen.{branch_of, expressions_of, block_of}
-use Rattle.tc_names.specs.declared.fault.NameFault.{NameFault}
-use Rattle.tc_names.specs.helpers.Answers.{Tells, plain_scope}
+use Rattle.tc_names.specs.helpers.Answers.{plain_scope}
 use Rattle.tc_names.proofs.Chains.{if_first, if_others, if_last, block_seen, create_arguments}
 use Rattle.tc_names.proofs.uses.+statements.Goals as goal
 
