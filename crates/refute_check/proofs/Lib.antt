@@ -1,0 +1,6 @@
+pub mod KeptLemmas
+pub mod Checkings
+pub mod Sound
+pub mod Guesses
+pub mod Heads
+pub mod Cuts
