@@ -1,5 +1,35 @@
 -- How a trail begins a level, and how levels are taken back.
-use Rattle.std.proofs.Common.{◌⊎◌, ◌≡◌, ◌≢◌, ℕ, ◌+◌, ◌/◌, ◌<◌, ◌≤◌, Option, None, inl, inr, arith, refl, sym, ◌∙◌, ap, List, [], ◌∷◌, ◌++◌, length, take, get_or, set, length-take-le, get_or-set_same, get_or-set_other, length-set}
+use Rattle.std.proofs.Common.{
+  ◌⊎◌,
+  ◌≡◌,
+  ◌≢◌,
+  ℕ,
+  ◌+◌,
+  ◌/◌,
+  ◌<◌,
+  ◌≤◌,
+  Option,
+  None,
+  inl,
+  inr,
+  arith,
+  refl,
+  sym,
+  ◌∙◌,
+  ap,
+  List,
+  [],
+  ◌∷◌,
+  ◌++◌,
+  length,
+  take,
+  get_or,
+  set,
+  length-take-le,
+  get_or-set_same,
+  get_or-set_other,
+  length-set,
+}
 use Rattle.std.specs.Vec.{with_item}
 use Rattle.std.specs.Prelude.{Vec}
 use Rattle.std.specs.declared.alloc.Global.{Global}
@@ -16,9 +46,20 @@ use Rattle.cdcl_trail.proofs.Trails.{at_take, pair_other, places_apart}
 
 -- a trail whose next level begins at a place
 abbrev pub begun_inside : Inside → ℕ → Inside
-begun_inside b n = record { values = b.values; places = b.places; literals = b.literals; reasons = b.reasons; len = b.len; starts = with_item b.starts b.levels n; levels = b.levels + 1; propagated = b.propagated }
+begun_inside b n = record {
+  values = b.values;
+  places = b.places;
+  literals = b.literals;
+  reasons = b.reasons;
+  len = b.len;
+  starts =
+      with_item b.starts b.levels n;
+  levels = b.levels + 1;
+  propagated = b.propagated;
+}
 
-same_trail : (t u : Trail) → t.variables ≡ u.variables → t.literals ≡ u.literals → t.reasons ≡ u.reasons → t.starts ≡ u.starts → t.propagated ≡ u.propagated → t ≡ u
+same_trail : (t u : Trail) → t.variables ≡ u.variables → t.literals ≡ u.literals → t.reasons ≡ u.reasons → t.starts ≡ u.starts
+    → t.propagated ≡ u.propagated → t ≡ u
 same_trail t u e0 e1 e2 e3 e4 = λ i. record { variables = e0 i; literals = e1 i; reasons = e2 i; starts = e3 i; propagated = e4 i }
 
 -- what the trail tells after a push, of what lies in memory before and after
@@ -40,18 +81,21 @@ grew a b s u l r e =
     let lv : b.levels ≡ a.levels = sym (length-take-le b.levels b.starts.items gb) ∙ ap length st ∙ length-take-le a.levels a.starts.items ga in
     record {
       variables = ap (λ (t : Trail). t.variables) e;
-      len = sym (length-take-le b.len b.literals.items fb) ∙ ap length lt ∙ length_push (take a.len a.literals.items) l ∙ ap (λ (x : ℕ). x + 1) (length-take-le a.len a.literals.items fa);
+      len = sym (length-take-le b.len b.literals.items fb) ∙ ap length lt ∙ length_push (take a.len a.literals.items) l
+          ∙ ap (λ (x : ℕ). x + 1) (length-take-le a.len a.literals.items fa);
       levels = lv;
       propagated = ap (λ (t : Trail). t.propagated) e;
       starts = λ i h.
-          sym (at_take b.starts.items b.levels i 0 0 gb (omega (arith, lv))) ∙ ap (λ (x : List ℕ). get_or x i 0) st ∙ at_take a.starts.items a.levels i 0 0 ga h;
+          sym (at_take b.starts.items b.levels i 0 0 gb (omega (arith, lv))) ∙ ap (λ (x : List ℕ). get_or x i 0) st
+          ∙ at_take a.starts.items a.levels i 0 0 ga h;
     }
 
 begun_starts : (a b : Inside) → IsSound a → IsSound b → Grew a b → a.propagated ≡ a.len → (k : ℕ) → k < b.levels + 1 → StartsWell (begun_inside b a.len) k
 begun_starts a b s u g e k kl =
     let fits : b.levels < length b.starts.items = omega (arith, g.levels, s.levels_fit, g.len, u.len_fits, u.starts_fit) in
     let last : get_or (set b.starts.items b.levels a.len) b.levels 0 ≡ a.len = get_or-set_same b.starts.items b.levels a.len 0 fits in
-    let other : (i : ℕ) → i ≢ b.levels → get_or (set b.starts.items b.levels a.len) i 0 ≡ get_or b.starts.items i 0 = λ i n. get_or-set_other b.starts.items b.levels i a.len 0 n in
+    let other : (i : ℕ) → i ≢ b.levels → get_or (set b.starts.items b.levels a.len) i 0 ≡ get_or b.starts.items i 0 =
+    λ i n. get_or-set_other b.starts.items b.levels i a.len 0 n in
     elim (cases_eq k b.levels) [
       | inl f ↦
           let z : get_or (set b.starts.items b.levels a.len) k 0 ≡ a.len = ap (λ (x : ℕ). get_or (set b.starts.items b.levels a.len) x 0) f ∙ last in
@@ -76,7 +120,8 @@ begun_starts a b s u g e k kl =
           }
     ]
 
-pub sound_begun : (a b : Inside) → IsSound a → IsSound b → (l : ℕ) (r : Option ℕ) → trail_of b ≡ pushed (trail_of a) l r → a.propagated ≡ a.len → IsSound (begun_inside b a.len)
+pub sound_begun : (a b : Inside) → IsSound a → IsSound b → (l : ℕ) (r : Option ℕ) → trail_of b ≡ pushed (trail_of a) l r → a.propagated ≡ a.len
+    → IsSound (begun_inside b a.len)
 sound_begun a b s u l r v e =
     let g = grew a b s u l r v in
     record {
@@ -93,7 +138,8 @@ sound_begun a b s u l r v e =
       starts = begun_starts a b s u g e;
     }
 
-pub begun_view : (a b : Inside) → IsSound a → IsSound b → (l : ℕ) → trail_of b ≡ pushed (trail_of a) l None → trail_of (begun_inside b a.len) ≡ decided (trail_of a) l
+pub begun_view : (a b : Inside) → IsSound a → IsSound b → (l : ℕ) → trail_of b ≡ pushed (trail_of a) l None
+    → trail_of (begun_inside b a.len) ≡ decided (trail_of a) l
 begun_view a b s u l v =
     let g = grew a b s u l None v in
     let fits : b.levels < length b.starts.items = omega (arith, g.levels, s.levels_fit, g.len, u.len_fits, u.starts_fit) in
@@ -102,7 +148,8 @@ begun_view a b s u l v =
     let e2 : take b.len b.reasons.items ≡ take a.len a.reasons.items ++ None ∷ [] = ap (λ (t : Trail). t.reasons) v in
     let e3 : take b.levels b.starts.items ≡ take a.levels a.starts.items = ap (λ (t : Trail). t.starts) v in
     let e4 : b.propagated ≡ a.propagated = ap (λ (t : Trail). t.propagated) v in
-    let e5 : take (b.levels + 1) (set b.starts.items b.levels a.len) ≡ take b.levels b.starts.items ++ a.len ∷ [] = take_more_set b.starts.items b.levels a.len fits in
+    let e5 : take (b.levels + 1) (set b.starts.items b.levels a.len) ≡ take b.levels b.starts.items ++ a.len ∷ [] =
+    take_more_set b.starts.items b.levels a.len fits in
     let e6 : length (take a.len a.literals.items) ≡ a.len = length-take-le a.len a.literals.items (omega (arith, s.len_fits, s.literals_fit)) in
     same_trail (trail_of (begun_inside b a.len)) (decided (trail_of a) l) e0 e1 e2
     (e5 ∙ ap (λ (x : List ℕ). x ++ a.len ∷ []) e3 ∙ ap (λ (x : ℕ). take a.levels a.starts.items ++ x ∷ []) (sym e6)) e4
@@ -139,7 +186,8 @@ open_pair vs l m x em h =
       | inr e ↦ elim (set_open (set vs l Open) m x) [ inl f ↦ f.1 | inr f ↦ absurd (f.0 (e ∙ sym em)) ]
     ]
 
-pub opens_more : (vs ws : List Value) (ls : List ℕ) (i k l m : ℕ) → i ≤ k → l ≡ get_or ls k 0 → m ≡ opposite_of l → Opens vs ws ls i k → Opens vs (set (set ws l Open) m Open) ls i (k + 1)
+pub opens_more : (vs ws : List Value) (ls : List ℕ) (i k l m : ℕ) → i ≤ k → l ≡ get_or ls k 0 → m ≡ opposite_of l → Opens vs ws ls i k
+    → Opens vs (set (set ws l Open) m Open) ls i (k + 1)
 opens_more vs ws ls i k l m ik el em o =
     record {
       length_same = length-set (set ws l Open) m Open ∙ length-set ws l Open ∙ o.length_same;
@@ -154,9 +202,20 @@ opens_more vs ws ls i k l m ik el em o =
 
 -- a trail whose levels from one on are taken back, with other values
 abbrev pub cut_inside : Inside → Vec Value Global → (n level : ℕ) → Inside
-cut_inside a vs n level = record { values = vs; places = a.places; literals = a.literals; reasons = a.reasons; len = n; starts = a.starts; levels = level; propagated = n }
+cut_inside a vs n level = record {
+  values = vs;
+  places = a.places;
+  literals = a.literals;
+  reasons = a.reasons;
+  len = n;
+  starts = a.starts;
+  levels =
+      level;
+  propagated = n;
+}
 
-pub sound_cut : (a : Inside) → IsSound a → (vs : Vec Value Global) (n level : ℕ) → level < a.levels → n ≡ get_or a.starts.items level 0 → Opens a.values.items vs.items a.literals.items n a.len → IsSound (cut_inside a vs n level)
+pub sound_cut : (a : Inside) → IsSound a → (vs : Vec Value Global) (n level : ℕ) → level < a.levels → n ≡ get_or a.starts.items level 0
+    → Opens a.values.items vs.items a.literals.items n a.len → IsSound (cut_inside a vs n level)
 sound_cut a s vs n level h e o =
     let t : StartsWell a level = s.starts level h in
     let far : (k : ℕ) → k < n → (x : ℕ) → x / 2 ≡ get_or a.literals.items k 0 / 2 → (j : ℕ) → n ≤ j → j < a.len → get_or a.literals.items j 0 / 2 ≢ x / 2 =
@@ -175,7 +234,8 @@ sound_cut a s vs n level h e o =
           record {
             within = u.within;
             true_there = o.others (get_or a.literals.items k 0) (far k kn (get_or a.literals.items k 0) refl) ∙ u.true_there;
-            false_there = o.others (opposite_of (get_or a.literals.items k 0)) (far k kn (opposite_of (get_or a.literals.items k 0)) (opposite_of-half (get_or a.literals.items k 0))) ∙ u.false_there;
+            false_there = o.others (opposite_of (get_or a.literals.items k 0))
+                (far k kn (opposite_of (get_or a.literals.items k 0)) (opposite_of-half (get_or a.literals.items k 0))) ∙ u.false_there;
             known = u.known;
           };
       placed = λ x w ne.
@@ -191,11 +251,13 @@ sound_cut a s vs n level h e o =
           record { high = u.high; early = omega (arith, z, e); proper = omega (arith, z, e); after_others = u.after_others };
     }
 
-pub cut_view : (a : Inside) → IsSound a → (vs : Vec Value Global) (n level : ℕ) → level < a.levels → n ≡ get_or a.starts.items level 0 → trail_of (cut_inside a vs n level) ≡ cut_to (trail_of a) level
+pub cut_view : (a : Inside) → IsSound a → (vs : Vec Value Global) (n level : ℕ) → level < a.levels → n ≡ get_or a.starts.items level 0
+    → trail_of (cut_inside a vs n level) ≡ cut_to (trail_of a) level
 cut_view a s vs n level h e =
     let t : StartsWell a level = s.starts level h in
     let na : n ≤ a.len = omega (arith, t.proper, e) in
-    let f : get_or (take a.levels a.starts.items) level 0 ≡ n = at_take a.starts.items a.levels level 0 0 (omega (arith, s.levels_fit, s.len_fits, s.starts_fit)) h ∙ sym e in
+    let f : get_or (take a.levels a.starts.items) level 0 ≡ n =
+    at_take a.starts.items a.levels level 0 0 (omega (arith, s.levels_fit, s.len_fits, s.starts_fit)) h ∙ sym e in
     let e1 = take-take n a.len a.literals.items na in
     let e2 = take-take n a.len a.reasons.items na in
     let e3 = take-take level a.levels a.starts.items (omega arith) in

@@ -1,5 +1,42 @@
 -- What a trail that lies in memory tells, and how it grows.
-use Rattle.std.proofs.Common.{◌≡◌, ◌≢◌, ℕ, ◌+◌, ◌*◌, ◌/◌, ◌<◌, ◌≤◌, ◌⊎◌, Option, inl, inr, arith, sym, ◌∙◌, ap, subst, List, [], ◌∷◌, ◌++◌, length, take, get_or, set, length-take-le, get_or-take, get_or-set_same, get_or-set_other, eqb, true, false, length-set, map, zero, suc}
+use Rattle.std.proofs.Common.{
+  ◌≡◌,
+  ◌≢◌,
+  ℕ,
+  ◌+◌,
+  ◌*◌,
+  ◌/◌,
+  ◌<◌,
+  ◌≤◌,
+  ◌⊎◌,
+  Option,
+  inl,
+  inr,
+  arith,
+  sym,
+  ◌∙◌,
+  ap,
+  subst,
+  List,
+  [],
+  ◌∷◌,
+  ◌++◌,
+  length,
+  take,
+  get_or,
+  set,
+  length-take-le,
+  get_or-take,
+  get_or-set_same,
+  get_or-set_other,
+  eqb,
+  true,
+  false,
+  length-set,
+  map,
+  zero,
+  suc,
+}
 use Rattle.std.specs.Prelude.{Contains}
 use Rattle.std.specs.List.{list_any}
 use Rattle.std.proofs.lemmas.Map.Views.{Contains-from_any}
@@ -37,9 +74,11 @@ tells a s l w True e =
       | inl f ↦ record {
         there = contains_from_place a.literals.items a.len k l fits p.on_trail f;
         not_false = λ h. (let (i, m, q) = place_from_contains a.literals.items a.len (opposite_of l) fits h in
-            let g : get_or a.values.items l Open ≡ False = ap (λ (x : ℕ). get_or a.values.items x Open) (sym (opposite_of-opposite_of l) ∙ ap opposite_of (sym q)) ∙ (s.stands i m).false_there in cc);
+            let g : get_or a.values.items l Open ≡ False = ap (λ (x : ℕ). get_or a.values.items x Open) (sym (opposite_of-opposite_of l)
+            ∙ ap opposite_of (sym q)) ∙ (s.stands i m).false_there in cc);
       }
-      | inr f ↦ absurd (let g : get_or a.values.items l Open ≡ False = ap (λ (x : ℕ). get_or a.values.items x Open) (sym (opposite_of-opposite_of l) ∙ ap opposite_of (sym f)) ∙ t.false_there in cc)
+      | inr f ↦ absurd (let g : get_or a.values.items l Open ≡ False = ap (λ (x : ℕ). get_or a.values.items x Open) (sym (opposite_of-opposite_of l)
+          ∙ ap opposite_of (sym f)) ∙ t.false_there in cc)
     ]
 tells a s l w False e =
     let p : IsPlaced a l = s.placed l w (λ q. cc) in
@@ -53,13 +92,17 @@ tells a s l w False e =
 tells a s l w Open e =
     let fits : a.len ≤ length a.literals.items = omega (arith, s.len_fits, s.literals_fit) in
     record {
-      not_true = λ h. (let (k, m, f) = place_from_contains a.literals.items a.len l fits h in let g : get_or a.values.items l Open ≡ True = ap (λ (x : ℕ). get_or a.values.items x Open) (sym f) ∙ (s.stands k m).true_there in cc);
+      not_true = λ h. (let (k, m, f) = place_from_contains a.literals.items a.len l fits h
+          in let g : get_or a.values.items l Open ≡ True = ap (λ (x : ℕ). get_or a.values.items x Open) (sym f) ∙ (s.stands k m).true_there in cc);
       not_false = λ h. (let (k, m, f) = place_from_contains a.literals.items a.len (opposite_of l) fits h in
-          let g : get_or a.values.items l Open ≡ False = ap (λ (x : ℕ). get_or a.values.items x Open) (sym (opposite_of-opposite_of l) ∙ ap opposite_of (sym f)) ∙ (s.stands k m).false_there in cc);
+          let g : get_or a.values.items l Open ≡ False = ap (λ (x : ℕ). get_or a.values.items x Open) (sym (opposite_of-opposite_of l)
+          ∙ ap opposite_of (sym f)) ∙ (s.stands k m).false_there in cc);
     }
 
 -- the place that a variable knows, where a literal of it is true
-pub known_place : (a : Inside) → IsSound a → (l : ℕ) → Contains (take a.len a.literals.items) l ⊎ Contains (take a.len a.literals.items) (opposite_of l) → (get_or a.places.items (l / 2) 0 < a.len) × (get_or a.literals.items (get_or a.places.items (l / 2) 0) 0 / 2 ≡ l / 2)
+pub known_place : (a : Inside) → IsSound a → (l : ℕ) → Contains (take a.len a.literals.items) l
+    ⊎ Contains (take a.len a.literals.items) (opposite_of l) → (get_or a.places.items (l / 2) 0 < a.len)
+    × (get_or a.literals.items (get_or a.places.items (l / 2) 0) 0 / 2 ≡ l / 2)
 known_place a s l (inl h) =
     let fits : a.len ≤ length a.literals.items = omega (arith, s.len_fits, s.literals_fit) in
     let (k, m, f) = place_from_contains a.literals.items a.len l fits h in
@@ -83,7 +126,10 @@ not_equal : (a b : ℕ) → a ≢ b → eqb a b ≡ false
 not_equal a b h = elim (eqb_tells a b) [ inl e ↦ absurd (h e.1) | inr e ↦ e.0 ]
 
 -- no two of these variables are one
-apart_at : (a : Inside) → IsSound a → (l : ℕ) (halves : List ℕ) → length halves ≡ a.len → ((i : ℕ) (d : ℕ) → i < a.len → get_or halves i d ≡ get_or a.literals.items i 0 / 2) → ((i : ℕ) → i < a.len → get_or a.literals.items i 0 / 2 ≢ l / 2) → (i j : ℕ) (d : ℕ) → i < j → j < length (l / 2 ∷ halves) → eqb (get_or (l / 2 ∷ halves) i d) (get_or (l / 2 ∷ halves) j d) ≡ false
+apart_at : (a : Inside) → IsSound a → (l : ℕ) (halves : List ℕ) → length halves ≡ a.len
+    → ((i : ℕ) (d : ℕ) → i < a.len → get_or halves i d ≡ get_or a.literals.items i 0 / 2)
+    → ((i : ℕ) → i < a.len → get_or a.literals.items i 0 / 2 ≢ l / 2) → (i j : ℕ) (d : ℕ) → i < j → j < length (l / 2 ∷ halves)
+    → eqb (get_or (l / 2 ∷ halves) i d) (get_or (l / 2 ∷ halves) j d) ≡ false
 apart_at a s l halves size read fresh zero zero d ij jl = absurd (omega arith)
 apart_at a s l halves size read fresh zero (suc j) d ij jl =
     not_equal (l / 2) (get_or halves j d) (λ e. fresh j (omega (arith, size)) (sym (e ∙ read j d (omega (arith, size)))))
@@ -94,7 +140,8 @@ apart_at a s l halves size read fresh (suc i) (suc j) d ij jl =
     not_equal (get_or halves i d) (get_or halves j d) (λ e. let f : i ≡ j = places_apart a s i j il jl' (sym (read i d il) ∙ e ∙ read j d jl') in omega arith)
 
 -- each of these variables is one of all
-below_at : (a : Inside) → IsSound a → (l : ℕ) → l < 2 * length a.places.items → (halves : List ℕ) → length halves ≡ a.len → ((i : ℕ) (d : ℕ) → i < a.len → get_or halves i d ≡ get_or a.literals.items i 0 / 2) → (q : ℕ) → Contains (l / 2 ∷ halves) q → q < length a.places.items
+below_at : (a : Inside) → IsSound a → (l : ℕ) → l < 2 * length a.places.items → (halves : List ℕ) → length halves ≡ a.len
+    → ((i : ℕ) (d : ℕ) → i < a.len → get_or halves i d ≡ get_or a.literals.items i 0 / 2) → (q : ℕ) → Contains (l / 2 ∷ halves) q → q < length a.places.items
 below_at a s l w halves size read q (zero, kl, e) = omega arith
 below_at a s l w halves size read q (suc k, kl, e) =
     let il : k < a.len = omega (arith, size) in
@@ -118,7 +165,8 @@ room a s l w o =
     let halves : List ℕ = map (λ (x : ℕ). x / 2) (take a.len a.literals.items) in
     let size : length halves ≡ a.len = length-map (take a.len a.literals.items) (λ (x : ℕ). x / 2) ∙ length-take-le a.len a.literals.items fits in
     let read : (i : ℕ) (d : ℕ) → i < a.len → get_or halves i d ≡ get_or a.literals.items i 0 / 2 =
-    λ i d il. get_or-map (λ (x : ℕ). x / 2) (take a.len a.literals.items) i 0 d (omega (arith, length-take-le a.len a.literals.items fits)) ∙ ap (λ (x : ℕ). x / 2) (at_take a.literals.items a.len i 0 0 fits il) in
+    λ i d il. get_or-map (λ (x : ℕ). x / 2) (take a.len a.literals.items) i 0 d (omega (arith, length-take-le a.len a.literals.items fits))
+    ∙ ap (λ (x : ℕ). x / 2) (at_take a.literals.items a.len i 0 0 fits il) in
     let all : List ℕ = l / 2 ∷ halves in
     let apart : (i j : ℕ) (d : ℕ) → i < j → j < length all → eqb (get_or all i d) (get_or all j d) ≡ false =
     λ i j d ij jl. apart_at a s l halves size read (fresh_half a s l o) i j d ij jl in
@@ -126,18 +174,26 @@ room a s l w o =
     let bound : length all ≤ n = length-le_from_distinct_below all n (IsDistinct-from_apart eqb all apart) below in
     omega (arith, bound, size)
 
-known_here : (a : Inside) → IsSound a → (l v p : ℕ) → v ≡ l / 2 → p ≡ get_or a.places.items v p → l < 2 * length a.places.items → Contains (take a.len a.literals.items) l ⊎ Contains (take a.len a.literals.items) (opposite_of l) → (p < length (take a.len a.literals.items)) × (get_or (take a.len a.literals.items) p 0 / 2 ≡ l / 2)
+known_here : (a : Inside) → IsSound a → (l v p : ℕ) → v ≡ l / 2 → p ≡ get_or a.places.items v p → l < 2 * length a.places.items
+    → Contains (take a.len a.literals.items) l ⊎ Contains (take a.len a.literals.items) (opposite_of l) → (p < length (take a.len a.literals.items))
+    × (get_or (take a.len a.literals.items) p 0 / 2 ≡ l / 2)
 known_here a s l v p ve r w h =
     let fits : a.len ≤ length a.literals.items = omega (arith, s.len_fits, s.literals_fit) in
     let k = known_place a s l h in
     let q : p ≡ get_or a.places.items (l / 2) 0 = get_or_read a.places.items (l / 2) p (omega arith) (r ∙ ap (λ (x : ℕ). get_or a.places.items x p) ve) 0 in
-    let pl : p < a.len = omega (arith, k.0, q) in
-    (omega (arith, pl, length-take-le a.len a.literals.items fits), ap (λ (x : ℕ). x / 2) (at_take a.literals.items a.len p 0 0 fits pl) ∙ ap (λ (x : ℕ). get_or a.literals.items x 0 / 2) q ∙ k.1)
+    let pl : p < a.len = omega (arith, k.0, q) in (
+      omega (arith, pl, length-take-le a.len a.literals.items fits),
+      ap (λ (x : ℕ). x / 2) (at_take a.literals.items a.len p 0 0 fits pl)
+          ∙ ap (λ (x : ℕ). get_or a.literals.items x 0 / 2) q ∙ k.1,
+    )
 
 -- the place that a variable knows, as a trail tells it
-pub known_at : (a : Inside) → IsSound a → (t : Trail) → trail_of a ≡ t → (l v p : ℕ) → v ≡ l / 2 → l < 2 * t.variables → Contains t.literals l ⊎ Contains t.literals (opposite_of l) → p ≡ get_or a.places.items v p → (p < length t.literals) × (get_or t.literals p 0 / 2 ≡ l / 2)
+pub known_at : (a : Inside) → IsSound a → (t : Trail) → trail_of a ≡ t → (l v p : ℕ) → v ≡ l / 2 → l < 2 * t.variables
+    → Contains t.literals l ⊎ Contains t.literals (opposite_of l) → p ≡ get_or a.places.items v p
+    → (p < length t.literals) × (get_or t.literals p 0 / 2 ≡ l / 2)
 known_at a s t e l v p ve w h r =
-    subst (λ (t : Trail). l < 2 * t.variables → Contains t.literals l ⊎ Contains t.literals (opposite_of l) → (p < length t.literals) × (get_or t.literals p 0 / 2 ≡ l / 2)) e (known_here a s l v p ve r) w h
+    subst (λ (t : Trail). l < 2 * t.variables → Contains t.literals l ⊎ Contains t.literals (opposite_of l)
+    → (p < length t.literals) × (get_or t.literals p 0 / 2 ≡ l / 2)) e (known_here a s l v p ve r) w h
 
 -- the trail's record lists, one longer
 pub grown : {X : Type 0} (xs : List X) (n : ℕ) (x : X) → n < length xs → take (n + 1) (set xs n x) ≡ take n xs ++ x ∷ []
@@ -171,7 +227,8 @@ pushed_inside a l m h reason = record {
   propagated = a.propagated;
 }
 
-pushed_stands : (a : Inside) → IsSound a → (l m h : ℕ) (reason : Option ℕ) → m ≡ opposite_of l → h ≡ l / 2 → l < 2 * length a.places.items → IsOpen (trail_of a) l → a.len < length a.places.items → (k : ℕ) → k < a.len → StandsAt (pushed_inside a l m h reason) k
+pushed_stands : (a : Inside) → IsSound a → (l m h : ℕ) (reason : Option ℕ) → m ≡ opposite_of l → h ≡ l / 2 → l < 2 * length a.places.items
+    → IsOpen (trail_of a) l → a.len < length a.places.items → (k : ℕ) → k < a.len → StandsAt (pushed_inside a l m h reason) k
 pushed_stands a s l m h reason em eh w o r k kl =
     let t : StandsAt a k = s.stands k kl in
     let y : ℕ = get_or a.literals.items k 0 in
@@ -188,7 +245,8 @@ pushed_stands a s l m h reason em eh w o r k kl =
       known = ap (λ (x : ℕ). get_or (set a.places.items h a.len) (x / 2) 0) e ∙ get_or-set_other a.places.items h (y / 2) a.len 0 far'' ∙ t.known;
     }
 
-pushed_stands_last : (a : Inside) → IsSound a → (l m h : ℕ) (reason : Option ℕ) → m ≡ opposite_of l → h ≡ l / 2 → l < 2 * length a.places.items → a.len < length a.places.items → StandsAt (pushed_inside a l m h reason) a.len
+pushed_stands_last : (a : Inside) → IsSound a → (l m h : ℕ) (reason : Option ℕ) → m ≡ opposite_of l → h ≡ l / 2 → l < 2 * length a.places.items
+    → a.len < length a.places.items → StandsAt (pushed_inside a l m h reason) a.len
 pushed_stands_last a s l m h reason em eh w r =
     let vs : List Value = set (set a.values.items l True) m False in
     let e : get_or (set a.literals.items a.len l) a.len 0 ≡ l = get_or-set_same a.literals.items a.len l 0 (omega (arith, s.literals_fit)) in
@@ -198,14 +256,18 @@ pushed_stands_last a s l m h reason em eh w r =
       within = omega (arith, e, length-set a.places.items h a.len);
       true_there = ap (λ (x : ℕ). get_or vs x Open) e ∙ pair_first a.values.items l m True False em lf;
       false_there = ap (λ (x : ℕ). get_or vs (opposite_of x) Open) e ∙ ap (λ (x : ℕ). get_or vs x Open) (sym em) ∙ pair_second a.values.items l m True False mf;
-      known = ap (λ (x : ℕ). get_or (set a.places.items h a.len) (x / 2) 0) e ∙ ap (λ (x : ℕ). get_or (set a.places.items h a.len) x 0) (sym eh) ∙ get_or-set_same a.places.items h a.len 0 (omega (arith, eh));
+      known = ap (λ (x : ℕ). get_or (set a.places.items h a.len) (x / 2) 0) e ∙ ap (λ (x : ℕ). get_or (set a.places.items h a.len) x 0) (sym eh)
+          ∙ get_or-set_same a.places.items h a.len 0 (omega (arith, eh));
     }
 
-pushed_placed : (a : Inside) → IsSound a → (l m h : ℕ) (reason : Option ℕ) → m ≡ opposite_of l → h ≡ l / 2 → l < 2 * length a.places.items → a.len < length a.places.items → (x : ℕ) → x < 2 * length a.places.items → get_or (set (set a.values.items l True) m False) x Open ≢ Open → IsPlaced (pushed_inside a l m h reason) x
+pushed_placed : (a : Inside) → IsSound a → (l m h : ℕ) (reason : Option ℕ) → m ≡ opposite_of l → h ≡ l / 2 → l < 2 * length a.places.items
+    → a.len < length a.places.items → (x : ℕ) → x < 2 * length a.places.items → get_or (set (set a.values.items l True) m False) x Open ≢ Open
+    → IsPlaced (pushed_inside a l m h reason) x
 pushed_placed a s l m h reason em eh w r x xw ne =
     elim (cases_eq (x / 2) (l / 2)) [
       | inl e ↦
-          let f : get_or (set a.places.items h a.len) (x / 2) 0 ≡ a.len = ap (λ (y : ℕ). get_or (set a.places.items h a.len) y 0) (e ∙ sym eh) ∙ get_or-set_same a.places.items h a.len 0 (omega (arith, eh)) in
+          let f : get_or (set a.places.items h a.len) (x / 2) 0 ≡ a.len = ap (λ (y : ℕ). get_or (set a.places.items h a.len) y 0) (e ∙ sym eh)
+          ∙ get_or-set_same a.places.items h a.len 0 (omega (arith, eh)) in
           let g : get_or (set a.literals.items a.len l) a.len 0 ≡ l = get_or-set_same a.literals.items a.len l 0 (omega (arith, s.literals_fit)) in
           record { on_trail = omega (arith, f); there = ap (λ (y : ℕ). get_or (set a.literals.items a.len l) y 0 / 2) f ∙ ap (λ (y : ℕ). y / 2) g ∙ sym e }
       | inr e ↦
@@ -215,10 +277,15 @@ pushed_placed a s l m h reason em eh w r x xw ne =
           let e' : x / 2 ≢ h = λ f. e (f ∙ eh) in
           let f : get_or (set a.places.items h a.len) (x / 2) 0 ≡ k = get_or-set_other a.places.items h (x / 2) a.len 0 e' in
           let n : k ≢ a.len = omega (arith, p.on_trail) in
-          record { on_trail = omega (arith, f, p.on_trail); there = ap (λ (y : ℕ). get_or (set a.literals.items a.len l) y 0 / 2) f ∙ ap (λ (y : ℕ). y / 2) (get_or-set_other a.literals.items a.len k l 0 n) ∙ p.there }
+          record {
+            on_trail = omega (arith, f, p.on_trail);
+            there = ap (λ (y : ℕ). get_or (set a.literals.items a.len l) y 0 / 2) f
+                ∙ ap (λ (y : ℕ). y / 2) (get_or-set_other a.literals.items a.len k l 0 n) ∙ p.there;
+          }
     ]
 
-pub sound_pushed : (a : Inside) → IsSound a → (l m h : ℕ) (reason : Option ℕ) → m ≡ opposite_of l → h ≡ l / 2 → l < 2 * length a.places.items → IsOpen (trail_of a) l → IsSound (pushed_inside a l m h reason)
+pub sound_pushed : (a : Inside) → IsSound a → (l m h : ℕ) (reason : Option ℕ) → m ≡ opposite_of l → h ≡ l / 2 → l < 2 * length a.places.items
+    → IsOpen (trail_of a) l → IsSound (pushed_inside a l m h reason)
 sound_pushed a s l m h reason em eh w o =
     let r : a.len < length a.places.items = room a s l w o in
     record {
@@ -238,7 +305,8 @@ sound_pushed a s l m h reason em eh w o =
       starts = λ k kl. let t = s.starts k kl in record { high = t.high; early = t.early; proper = omega (arith, t.proper); after_others = t.after_others };
     }
 
-pub pushed_view : (a : Inside) → IsSound a → (l m h : ℕ) (reason : Option ℕ) → l < 2 * length a.places.items → IsOpen (trail_of a) l → trail_of (pushed_inside a l m h reason) ≡ pushed (trail_of a) l reason
+pub pushed_view : (a : Inside) → IsSound a → (l m h : ℕ) (reason : Option ℕ) → l < 2 * length a.places.items → IsOpen (trail_of a) l
+    → trail_of (pushed_inside a l m h reason) ≡ pushed (trail_of a) l reason
 pushed_view a s l m h reason w o =
     let r : a.len < length a.places.items = room a s l w o in
     let e = length-set a.places.items h a.len in
@@ -254,7 +322,8 @@ lawful a s =
     let n : length (take a.len a.literals.items) ≡ a.len = length-take-le a.len a.literals.items f in
     let m : length (take a.levels a.starts.items) ≡ a.levels = length-take-le a.levels a.starts.items g in
     let at : (k : ℕ) → k < a.len → get_or (take a.len a.literals.items) k 0 ≡ get_or a.literals.items k 0 = λ k h. at_take a.literals.items a.len k 0 0 f h in
-    let start : (k : ℕ) → k < a.levels → get_or (take a.levels a.starts.items) k 0 ≡ get_or a.starts.items k 0 = λ k h. at_take a.starts.items a.levels k 0 0 g h in
+    let start : (k : ℕ) → k < a.levels → get_or (take a.levels a.starts.items) k 0 ≡ get_or a.starts.items k 0 =
+    λ k h. at_take a.starts.items a.levels k 0 0 g h in
     record {
       few = omega (arith, n, s.len_fits);
       reasons_fit = length-take-le a.len a.reasons.items (omega (arith, s.len_fits, s.reasons_fit)) ∙ sym n;

@@ -7,7 +7,14 @@ use Rattle.cdcl_trail.specs.declared.trail.Trail.TheInside.{Inside}
 
 -- the trail that lies there
 abbrev pub trail_of : Inside → Trail
-trail_of a = record { variables = length a.places.items; literals = take a.len a.literals.items; reasons = take a.len a.reasons.items; starts = take a.levels a.starts.items; propagated = a.propagated }
+trail_of a = record {
+  variables = length a.places.items;
+  literals = take a.len a.literals.items;
+  reasons = take a.len a.reasons.items;
+  starts =
+      take a.levels a.starts.items;
+  propagated = a.propagated;
+}
 
 -- the literal at a place of the trail is true, its opposite is false, and its variable knows the place
 pub record StandsAt (a : Inside) (k : ℕ) : Type 0 where

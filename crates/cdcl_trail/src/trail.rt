@@ -1,5 +1,27 @@
 //! The trail.
-ghost use Rattle.std.specs.Prelude.{◌≡◌, ℕ, ◌+◌, ◌*◌, ◌/◌, ◌^◌, ◌<◌, ◌≤◌, ◌⊎◌, Some, None, Contains, IfOk, IfSome, IsSome, IsNone, ◌↔◌, length, slice_index, slice_index_or, slice_get};
+ghost use Rattle.std.specs.Prelude.{
+  ◌≡◌,
+  ℕ,
+  ◌+◌,
+  ◌*◌,
+  ◌/◌,
+  ◌^◌,
+  ◌<◌,
+  ◌≤◌,
+  ◌⊎◌,
+  Some,
+  None,
+  Contains,
+  IfOk,
+  IfSome,
+  IsSome,
+  IsNone,
+  ◌↔◌,
+  length,
+  slice_index,
+  slice_index_or,
+  slice_get,
+};
 ghost use Rattle.cdcl_trail.specs.Literals.{opposite_of};
 
 use crate::{opposite, variable};
