@@ -43,7 +43,8 @@ Guards falsified true_literals c = (l : ℕ) → watches c l ≡ true → Contai
 
 -- each level is closed under units without conflict, and so is the last as far as it is propagated
 pub record AreGuarded (t : Trail) (cs : List Clause) : Type 0 where
-  pub below : (k i : ℕ) → k < length cs → i < length t.starts → Guards (take (slice_index t.starts i) t.literals) (take (slice_index t.starts i) t.literals) (at cs k)
+  pub below : (k i : ℕ) → k < length cs → i < length t.starts
+      → Guards (take (slice_index t.starts i) t.literals) (take (slice_index t.starts i) t.literals) (at cs k)
   pub last : (k : ℕ) → k < length cs → Guards (take t.propagated t.literals) t.literals (at cs k)
 
 -- the clause is kept and has the literal, and all its other literals are false
@@ -61,7 +62,8 @@ pub record BeginsAt (t : Trail) (p : ℕ) : Type 0 where
 
 -- each literal begins a level, or has a reason in what was true before it
 abbrev pub AreReasoned : Trail → List Clause → Type 0
-AreReasoned t cs = (p : ℕ) → p < length t.literals → MatchOption (slice_index_or t.reasons p None) (BeginsAt t p) (IsReason cs (take p t.literals) (slice_index t.literals p))
+AreReasoned t cs = (p : ℕ) → p < length t.literals
+    → MatchOption (slice_index_or t.reasons p None) (BeginsAt t p) (IsReason cs (take p t.literals) (slice_index t.literals p))
 
 -- what a search keeps
 pub record IsSound (t : Trail) (cs : List Clause) (ws : List (List Watch)) : Type 0 where

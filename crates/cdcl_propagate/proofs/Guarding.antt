@@ -1,5 +1,31 @@
 -- Guards and reasons stay as watches move, and as the trail grows.
-use Rattle.std.proofs.Common.{◌≡◌, ℕ, ◌+◌, ◌<◌, true, Option, Some, None, List, [], ◌∷◌, ◌++◌, length, take, get_or, inl, inr, refl, sym, ◌∙◌, ap, subst, arith, length-set, get_or-take}
+use Rattle.std.proofs.Common.{
+  ◌≡◌,
+  ℕ,
+  ◌+◌,
+  ◌<◌,
+  true,
+  Option,
+  Some,
+  None,
+  List,
+  [],
+  ◌∷◌,
+  ◌++◌,
+  length,
+  take,
+  get_or,
+  inl,
+  inr,
+  refl,
+  sym,
+  ◌∙◌,
+  ap,
+  subst,
+  arith,
+  length-set,
+  get_or-take,
+}
 use Rattle.std.specs.Prelude.{Contains, MatchOption}
 use Rattle.std.proofs.lemmas.Bool.{cases_lt}
 use Rattle.std.proofs.lemmas.List.{get_or_at, get_or_append_left, length_push, take-append-le, take_all, length-take, take-take, take_more}
@@ -22,7 +48,8 @@ pub has_true-push : (xs : List ℕ) (x : ℕ) (c : Clause) → HasTrue xs c → 
 has_true-push xs x c h = record { literal = h.literal; in_clause = h.in_clause; is_true = Contains-append_left xs (x ∷ []) h.literal h.is_true }
 
 -- a clause that watches another literal, which isn't false, guards as before
-pub guards-rewatched : (ys xs : List ℕ) (cs : List Clause) (k first second m : ℕ) → k < length cs → watches (at cs k) first ≡ true → (Contains ys (opposite_of second) → ⊥) → Guards ys xs (at cs m) → Guards ys xs (at (rewatched cs k first second) m)
+pub guards-rewatched : (ys xs : List ℕ) (cs : List Clause) (k first second m : ℕ) → k < length cs → watches (at cs k) first ≡ true
+    → (Contains ys (opposite_of second) → ⊥) → Guards ys xs (at cs m) → Guards ys xs (at (rewatched cs k first second) m)
 guards-rewatched ys xs cs k first second m h wf ns g l wl fl =
     let c : Clause = record (at cs k) { first = first; second = second } in
     elim (at-set cs k m c h) [
@@ -32,10 +59,12 @@ guards-rewatched ys xs cs k first second m h wf ns g l wl fl =
             | inr f ↦ absurd (ns (subst (λ (x : ℕ). Contains ys (opposite_of x)) f fl))
           ] in
           has_true-same xs (at cs m) (at (rewatched cs k first second) m) (at-rewatched cs k first second m h).0 r
-      | inr e ↦ has_true-same xs (at cs m) (at (rewatched cs k first second) m) (at-rewatched cs k first second m h).0 (g l (sym (ap (λ (c : Clause). watches c l) e.1) ∙ wl) fl)
+      | inr e ↦ has_true-same xs (at cs m) (at (rewatched cs k first second) m) (at-rewatched cs k first second m h).0
+          (g l (sym (ap (λ (c : Clause). watches c l) e.1) ∙ wl) fl)
     ]
 
-pub guarded-rewatched : (t : Trail) (cs : List Clause) → AreGuarded t cs → (k first second : ℕ) → k < length cs → watches (at cs k) first ≡ true → (Contains t.literals (opposite_of second) → ⊥) → AreGuarded t (rewatched cs k first second)
+pub guarded-rewatched : (t : Trail) (cs : List Clause) → AreGuarded t cs → (k first second : ℕ) → k < length cs → watches (at cs k) first ≡ true
+    → (Contains t.literals (opposite_of second) → ⊥) → AreGuarded t (rewatched cs k first second)
 guarded-rewatched t cs s k first second h wf ns =
     let n = length-set cs k (record (at cs k) { first = first; second = second }) in
     record {
@@ -52,16 +81,20 @@ guarded-pushed t cs u s l r =
     λ i il. take-append-le (get_or t.starts i 0) t.literals (l ∷ []) (omega (arith, u.starts_proper i il)) in
     record {
       below = λ m i ml il. subst (λ (xs : List ℕ). Guards xs xs (at cs m)) (sym (early i il)) (s.below m i ml il);
-      last = λ m ml x wx fx. has_true-push t.literals l (at cs m) (s.last m ml x wx (subst (λ (xs : List ℕ). Contains xs (opposite_of x)) (take-append-le t.propagated t.literals (l ∷ []) u.propagated_fits) fx));
+      last = λ m ml x wx fx. has_true-push t.literals l (at cs m)
+          (s.last m ml x wx (subst (λ (xs : List ℕ). Contains xs (opposite_of x)) (take-append-le t.propagated t.literals (l ∷ []) u.propagated_fits) fx));
     }
 
 -- a literal more is propagated, all of whose clauses have a true one
-pub guarded-advanced : (t : Trail) (cs : List Clause) → AreGuarded t cs → t.propagated < length t.literals → ((k l : ℕ) → k < length cs → watches (at cs k) l ≡ true → opposite_of l ≡ get_or t.literals t.propagated 0 → HasTrue t.literals (at cs k)) → AreGuarded (record t { propagated = t.propagated + 1 }) cs
+pub guarded-advanced : (t : Trail) (cs : List Clause) → AreGuarded t cs → t.propagated < length t.literals
+    → ((k l : ℕ) → k < length cs → watches (at cs k) l ≡ true → opposite_of l ≡ get_or t.literals t.propagated 0 → HasTrue t.literals (at cs k))
+    → AreGuarded (record t { propagated = t.propagated + 1 }) cs
 guarded-advanced t cs s h v =
     record {
       below = s.below;
       last = λ m ml x wx fx.
-          elim (Contains-push_cases (take t.propagated t.literals) (get_or t.literals t.propagated 0) (opposite_of x) (subst (λ (xs : List ℕ). Contains xs (opposite_of x)) (take_more t.literals t.propagated 0 h) fx)) [
+          elim (Contains-push_cases (take t.propagated t.literals) (get_or t.literals t.propagated 0) (opposite_of x)
+          (subst (λ (xs : List ℕ). Contains xs (opposite_of x)) (take_more t.literals t.propagated 0 h) fx)) [
             | inl f ↦ s.last m ml x wx f
             | inr f ↦ v m x ml wx (sym f)
           ];
@@ -82,7 +115,8 @@ match-same P Q R (Some k) f h = f k h
 
 pub reasoned-same : (t : Trail) (cs ds : List Clause) → AreSame cs ds → AreReasoned t cs → AreReasoned t ds
 reasoned-same t cs ds e s p h =
-    match-same (BeginsAt t p) (IsReason cs (take p t.literals) (get_or t.literals p 0)) (IsReason ds (take p t.literals) (get_or t.literals p 0)) (get_or t.reasons p None)
+    match-same (BeginsAt t p) (IsReason cs (take p t.literals) (get_or t.literals p 0)) (IsReason ds (take p t.literals) (get_or t.literals p 0))
+    (get_or t.reasons p None)
     (λ k r. reason-same cs ds e (take p t.literals) (get_or t.literals p 0) k r) (s p h)
 
 match-begins : (P P' : Type 0) (Q Q' : ℕ → Type 0) (o : Option ℕ) → (P → P') → ((k : ℕ) → Q k → Q' k) → MatchOption o P Q → MatchOption o P' Q'
@@ -90,25 +124,31 @@ match-begins P P' Q Q' None f g h = f h
 match-begins P P' Q Q' (Some k) f g h = g k h
 
 -- one more literal, by a reason
-pub reasoned-pushed : (t : Trail) (cs : List Clause) → IsTrail t → AreReasoned t cs → (l k : ℕ) → IsReason cs t.literals l k → AreReasoned (pushed t l (Some k)) cs
+pub reasoned-pushed : (t : Trail) (cs : List Clause) → IsTrail t → AreReasoned t cs → (l k : ℕ) → IsReason cs t.literals l k
+    → AreReasoned (pushed t l (Some k)) cs
 reasoned-pushed t cs u s l k r p h =
     let n : ℕ = length t.literals in
     elim (cases_lt p n) [
       | inl f ↦
-          let e0 : get_or (t.reasons ++ Some k ∷ []) p None ≡ get_or t.reasons p None = get_or_append_left t.reasons (Some k ∷ []) None p (omega (arith, u.reasons_fit)) in
+          let e0 : get_or (t.reasons ++ Some k ∷ []) p None ≡ get_or t.reasons p None = get_or_append_left t.reasons (Some k ∷ []) None p
+          (omega (arith, u.reasons_fit)) in
           let e1 : take p (t.literals ++ l ∷ []) ≡ take p t.literals = take-append-le p t.literals (l ∷ []) (omega arith) in
           let e2 : get_or (t.literals ++ l ∷ []) p 0 ≡ get_or t.literals p 0 = get_or_append_left t.literals (l ∷ []) 0 p f in
-          subst (λ (o : Option ℕ). MatchOption o (BeginsAt (pushed t l (Some k)) p) (IsReason cs (take p (t.literals ++ l ∷ [])) (get_or (t.literals ++ l ∷ []) p 0))) (sym e0)
-          (match-begins (BeginsAt t p) (BeginsAt (pushed t l (Some k)) p) (IsReason cs (take p t.literals) (get_or t.literals p 0)) (IsReason cs (take p (t.literals ++ l ∷ [])) (get_or (t.literals ++ l ∷ []) p 0)) (get_or t.reasons p None)
+          subst (λ (o : Option ℕ). MatchOption o (BeginsAt (pushed t l (Some k)) p)
+          (IsReason cs (take p (t.literals ++ l ∷ [])) (get_or (t.literals ++ l ∷ []) p 0))) (sym e0)
+          (match-begins (BeginsAt t p) (BeginsAt (pushed t l (Some k)) p) (IsReason cs (take p t.literals) (get_or t.literals p 0))
+          (IsReason cs (take p (t.literals ++ l ∷ [])) (get_or (t.literals ++ l ∷ []) p 0)) (get_or t.reasons p None)
           (λ b. record { level = b.level; within = b.within; there = b.there })
-          (λ k r. subst (λ (xs : List ℕ). IsReason cs xs (get_or (t.literals ++ l ∷ []) p 0) k) (sym e1) (subst (λ (x : ℕ). IsReason cs (take p t.literals) x k) (sym e2) r))
+          (λ k r. subst (λ (xs : List ℕ). IsReason cs xs (get_or (t.literals ++ l ∷ []) p 0) k) (sym e1)
+          (subst (λ (x : ℕ). IsReason cs (take p t.literals) x k) (sym e2) r))
           (s p f))
       | inr f ↦
           let e : p ≡ n = omega (arith, h, length_push t.literals l) in
           let e0 : get_or (t.reasons ++ Some k ∷ []) p None ≡ Some k = get_or_at t.reasons (Some k) [] None p (u.reasons_fit ∙ sym e) in
           let e1 : take p (t.literals ++ l ∷ []) ≡ t.literals = take-append-le p t.literals (l ∷ []) (omega arith) ∙ take_all p t.literals (omega arith) in
           let e2 : get_or (t.literals ++ l ∷ []) p 0 ≡ l = get_or_at t.literals l [] 0 p (sym e) in
-          subst (λ (o : Option ℕ). MatchOption o (BeginsAt (pushed t l (Some k)) p) (IsReason cs (take p (t.literals ++ l ∷ [])) (get_or (t.literals ++ l ∷ []) p 0))) (sym e0)
+          subst (λ (o : Option ℕ). MatchOption o (BeginsAt (pushed t l (Some k)) p)
+          (IsReason cs (take p (t.literals ++ l ∷ [])) (get_or (t.literals ++ l ∷ []) p 0))) (sym e0)
           (subst (λ (xs : List ℕ). IsReason cs xs (get_or (t.literals ++ l ∷ []) p 0) k) (sym e1) (subst (λ (x : ℕ). IsReason cs t.literals x k) (sym e2) r))
     ]
 
@@ -146,12 +186,18 @@ extends-trans t u v a b = record {
 
 -- what is true stays true
 pub has_true-extends : (t u : Trail) → Extends t u → (c : Clause) → HasTrue t.literals c → HasTrue u.literals c
-has_true-extends t u e c h = record { literal = h.literal; in_clause = h.in_clause; is_true = contains-take u.literals (length t.literals) h.literal (subst (λ (xs : List ℕ). Contains xs h.literal) (sym e.literals) h.is_true) }
+has_true-extends t u e c h = record {
+  literal = h.literal;
+  in_clause = h.in_clause;
+  is_true = contains-take u.literals (length t.literals) h.literal
+      (subst (λ (xs : List ℕ). Contains xs h.literal) (sym e.literals) h.is_true);
+}
 
 pub extends-advanced : (t u : Trail) → Extends t u → Extends t (record u { propagated = u.propagated + 1 })
 extends-advanced t u e = record { variables = e.variables; starts = e.starts; literals = e.literals; longer = e.longer }
 
 pub reasoned-advanced : (t : Trail) (cs : List Clause) → AreReasoned t cs → AreReasoned (record t { propagated = t.propagated + 1 }) cs
 reasoned-advanced t cs s p h =
-    match-begins (BeginsAt t p) (BeginsAt (record t { propagated = t.propagated + 1 }) p) (IsReason cs (take p t.literals) (get_or t.literals p 0)) (IsReason cs (take p t.literals) (get_or t.literals p 0)) (get_or t.reasons p None)
+    match-begins (BeginsAt t p) (BeginsAt (record t { propagated = t.propagated + 1 }) p) (IsReason cs (take p t.literals) (get_or t.literals p 0))
+    (IsReason cs (take p t.literals) (get_or t.literals p 0)) (get_or t.reasons p None)
     (λ b. record { level = b.level; within = b.within; there = b.there }) (λ k r. r) (s p h)

@@ -1,5 +1,33 @@
 -- Links stay as watches move.
-use Rattle.std.proofs.Common.{◌≡◌, ◌≢◌, ℕ, ◌-◌, ◌<◌, ◌⊎◌, true, false, List, [], ◌∷◌, ◌++◌, length, get_or, set, inl, inr, refl, sym, ◌∙◌, ap, subst, arith, length-set, get_or-set_same, get_or-set_other, length-take-le}
+use Rattle.std.proofs.Common.{
+  ◌≡◌,
+  ◌≢◌,
+  ℕ,
+  ◌-◌,
+  ◌<◌,
+  ◌⊎◌,
+  true,
+  false,
+  List,
+  [],
+  ◌∷◌,
+  ◌++◌,
+  length,
+  get_or,
+  set,
+  inl,
+  inr,
+  refl,
+  sym,
+  ◌∙◌,
+  ap,
+  subst,
+  arith,
+  length-set,
+  get_or-set_same,
+  get_or-set_other,
+  length-take-le,
+}
 use Rattle.std.specs.Prelude.{Contains, All}
 use Rattle.std.proofs.lemmas.Bool.{cases_eq, cases_lt}
 use Rattle.std.proofs.lemmas.Bool.Decides.{nat_tests}
@@ -10,7 +38,8 @@ use Rattle.cdcl_clauses.specs.Invariants.{IsClause, IsListed, IsWatch, AreLinked
 use Rattle.cdcl_clauses.specs.declared.watches.Watch.{Watch}
 
 -- who stands at a literal after the list of one was replaced
-pub listed-set : (ws : List (List Watch)) (l m : ℕ) (us : List Watch) → l < length ws → ((m ≡ l) × (listed (set ws l us) m ≡ us)) ⊎ ((m ≢ l) × (listed (set ws l us) m ≡ listed ws m))
+pub listed-set : (ws : List (List Watch)) (l m : ℕ) (us : List Watch) → l < length ws → ((m ≡ l) × (listed (set ws l us) m ≡ us))
+    ⊎ ((m ≢ l) × (listed (set ws l us) m ≡ listed ws m))
 listed-set ws l m us h =
     elim (cases_eq m l) [
       | inl e ↦ inl (e, ap (listed (set ws l us)) e ∙ get_or-set_same ws l us [] h)
@@ -33,7 +62,9 @@ listed-push ws l w h m k i =
           record {
             place = i.place;
             within = subst (λ (us : List Watch). i.place < length us) (sym e.1) (omega (arith, p, length_push (listed ws l) w));
-            there = λ d. ap (λ (us : List Watch). (get_or us i.place d).clause) e.1 ∙ ap (λ (x : Watch). x.clause) (get_or_append_left (listed ws l) (w ∷ []) d i.place p) ∙ ap (λ (us : List Watch). (get_or us i.place d).clause) (sym f) ∙ i.there d;
+            there = λ d. ap (λ (us : List Watch). (get_or us i.place d).clause) e.1
+                ∙ ap (λ (x : Watch). x.clause) (get_or_append_left (listed ws l) (w ∷ []) d i.place p)
+                ∙ ap (λ (us : List Watch). (get_or us i.place d).clause) (sym f) ∙ i.there d;
           }
       | inr e ↦ record {
         place = i.place;
@@ -43,7 +74,8 @@ listed-push ws l w h m k i =
     ]
 
 -- one more stands at a literal
-pub linked-push : (v : ℕ) (cs : List Clause) (ws : List (List Watch)) → AreLinked v cs ws → (l : ℕ) (w : Watch) → l < length ws → IsWatch v cs w → AreLinked v cs (set ws l (listed ws l ++ w ∷ []))
+pub linked-push : (v : ℕ) (cs : List Clause) (ws : List (List Watch)) → AreLinked v cs ws → (l : ℕ) (w : Watch) → l < length ws → IsWatch v cs w
+    → AreLinked v cs (set ws l (listed ws l ++ w ∷ []))
 linked-push v cs ws s l w h iw =
     record {
       lists = length-set ws l (listed ws l ++ w ∷ []) ∙ s.lists;
@@ -61,7 +93,8 @@ listed-last ws l w h =
     record {
       place = length (listed ws l);
       within = subst (λ (us : List Watch). length (listed ws l) < length us) (sym e) (omega (arith, length_push (listed ws l) w));
-      there = λ d. ap (λ (us : List Watch). (get_or us (length (listed ws l)) d).clause) e ∙ ap (λ (x : Watch). x.clause) (get_or_at (listed ws l) w [] d (length (listed ws l)) refl);
+      there = λ d. ap (λ (us : List Watch). (get_or us (length (listed ws l)) d).clause) e
+          ∙ ap (λ (x : Watch). x.clause) (get_or_at (listed ws l) w [] d (length (listed ws l)) refl);
     }
 
 -- what a clause watches is one of its two
@@ -79,11 +112,16 @@ abbrev pub rewatched : List Clause → (k first second : ℕ) → List Clause
 rewatched cs k first second = set cs k (record (at cs k) { first = first; second = second })
 
 -- what both lists of clauses have in common
-pub at-rewatched : (cs : List Clause) (k first second m : ℕ) → k < length cs → ((at (rewatched cs k first second) m).literals ≡ (at cs m).literals) × ((at (rewatched cs k first second) m).kept ≡ (at cs m).kept)
+pub at-rewatched : (cs : List Clause) (k first second m : ℕ) → k < length cs → ((at (rewatched cs k first second) m).literals ≡ (at cs m).literals)
+    × ((at (rewatched cs k first second) m).kept ≡ (at cs m).kept)
 at-rewatched cs k first second m h =
     let c : Clause = record (at cs k) { first = first; second = second } in
     elim (at-set cs k m c h) [
-      | inl e ↦ (ap (λ (c : Clause). c.literals) e.1 ∙ ap (λ (n : ℕ). (at cs n).literals) (sym e.0), ap (λ (c : Clause). c.kept) e.1 ∙ ap (λ (n : ℕ). (at cs n).kept) (sym e.0))
+      | inl e ↦ (
+        ap (λ (c : Clause). c.literals) e.1 ∙ ap (λ (n : ℕ). (at cs n).literals) (sym e.0),
+        ap (λ (c : Clause). c.kept) e.1
+            ∙ ap (λ (n : ℕ). (at cs n).kept) (sym e.0),
+      )
       | inr e ↦ (ap (λ (c : Clause). c.literals) e.1, ap (λ (c : Clause). c.kept) e.1)
     ]
 
@@ -96,7 +134,9 @@ watch-rewatched v cs k first second h w i =
       blocker_within = i.blocker_within;
     }
 
-pub linked-watch : (v : ℕ) (cs : List Clause) (ws : List (List Watch)) → AreLinked v cs ws → (k first second : ℕ) → k < length cs → Contains (at cs k).literals first → Contains (at cs k).literals second → first ≢ second → IsListed ws first k → IsListed ws second k → AreLinked v (rewatched cs k first second) ws
+pub linked-watch : (v : ℕ) (cs : List Clause) (ws : List (List Watch)) → AreLinked v cs ws → (k first second : ℕ) → k < length cs
+    → Contains (at cs k).literals first → Contains (at cs k).literals second → first ≢ second → IsListed ws first k → IsListed ws second k
+    → AreLinked v (rewatched cs k first second) ws
 linked-watch v cs ws s k first second h fi si ne fl sl =
     let c : Clause = record (at cs k) { first = first; second = second } in
     record {
@@ -106,7 +146,8 @@ linked-watch v cs ws s k first second h fi si ne fl sl =
             let kk : (at cs k).kept ≡ true = sym (ap (λ (c : Clause). c.kept) e.1) ∙ kept in
             let i : IsClause v (at cs k) = s.clauses k h kk in
             subst (λ (c : Clause). IsClause v c) (sym e.1) (record { within = i.within; first_in = fi; second_in = si; two = λ f. absurd (ne f) })
-        | inr e ↦ subst (λ (c : Clause). IsClause v c) (sym e.1) (s.clauses m (omega (arith, ml, length-set cs k c)) (sym (ap (λ (c : Clause). c.kept) e.1) ∙ kept))
+        | inr e ↦ subst (λ (c : Clause). IsClause v c) (sym e.1)
+            (s.clauses m (omega (arith, ml, length-set cs k c)) (sym (ap (λ (c : Clause). c.kept) e.1) ∙ kept))
       ];
       entries = λ l j d jl. watch-rewatched v cs k first second h (get_or (listed ws l) j d) (s.entries l j d jl);
       watching = λ m l ml wl. elim (at-set cs k m c h) [
@@ -119,7 +160,8 @@ linked-watch v cs ws s k first second h fi si ne fl sl =
     }
 
 -- a watch whose clause watches the literal no more goes
-removed-place : (us : List Watch) (p q k : ℕ) → p < length us → q < length us → q ≢ p → ((d : Watch) → (get_or us q d).clause ≡ k) → (j : ℕ) × (j < length (without_place us p)) × ((d : Watch) → (get_or (without_place us p) j d).clause ≡ k)
+removed-place : (us : List Watch) (p q k : ℕ) → p < length us → q < length us → q ≢ p → ((d : Watch) → (get_or us q d).clause ≡ k)
+    → (j : ℕ) × (j < length (without_place us p)) × ((d : Watch) → (get_or (without_place us p) j d).clause ≡ k)
 removed-place us p q k pl ql ne h =
     let none : Watch = record { clause = 0; blocker = 0 } in
     let n : ℕ = length us - 1 in
@@ -133,11 +175,13 @@ removed-place us p q k pl ql ne h =
             p,
             omega (arith, size),
             λ d.
-                ap (λ (x : Watch). x.clause) (get_or-take n (set us p last) p d pn ∙ get_or-set_same us p last d pl) ∙ ap (λ (m : ℕ). (get_or us m none).clause) (sym e) ∙ h none,
+                ap (λ (x : Watch). x.clause) (get_or-take n (set us p last) p d pn ∙ get_or-set_same us p last d pl)
+                ∙ ap (λ (m : ℕ). (get_or us m none).clause) (sym e) ∙ h none,
           )
     ]
 
-pub linked-remove : (v : ℕ) (cs : List Clause) (ws : List (List Watch)) → AreLinked v cs ws → (l p : ℕ) (w : Watch) → l < length ws → p < length (listed ws l) → w ≡ get_or (listed ws l) p w → watches (at cs w.clause) l ≡ false → AreLinked v cs (set ws l (without_place (listed ws l) p))
+pub linked-remove : (v : ℕ) (cs : List Clause) (ws : List (List Watch)) → AreLinked v cs ws → (l p : ℕ) (w : Watch) → l < length ws
+    → p < length (listed ws l) → w ≡ get_or (listed ws l) p w → watches (at cs w.clause) l ≡ false → AreLinked v cs (set ws l (without_place (listed ws l) p))
 linked-remove v cs ws s l p w h pl r gone =
     let us : List Watch = listed ws l in
     let last : Watch = get_or us (length us - 1) (record { clause = 0; blocker = 0 }) in
@@ -146,7 +190,8 @@ linked-remove v cs ws s l p w h pl r gone =
       lists = length-set ws l (without_place us p) ∙ s.lists;
       clauses = s.clauses;
       entries = λ m. elim (listed-set ws l m (without_place us p) h) [
-        | inl e ↦ subst (λ (xs : List Watch). All (IsWatch v cs) xs) (sym e.1) (All-take (IsWatch v cs) (length us - 1) (set us p last) (All-set (IsWatch v cs) us p last il (s.entries l)))
+        | inl e ↦ subst (λ (xs : List Watch). All (IsWatch v cs) xs) (sym e.1)
+            (All-take (IsWatch v cs) (length us - 1) (set us p last) (All-set (IsWatch v cs) us p last il (s.entries l)))
         | inr e ↦ subst (λ (xs : List Watch). All (IsWatch v cs) xs) (sym e.1) (s.entries m)
       ];
       watching = λ k m kl wm. elim (listed-set ws l m (without_place us p) h) [
@@ -159,9 +204,19 @@ linked-remove v cs ws s l p w h pl r gone =
             let b : watches (at cs k) m ≡ false = ap (λ (n : ℕ). watches (at cs n) m) (sym a) ∙ ap (watches (at cs w.clause)) e.0 ∙ gone in
             cc) in
             let (j, jl, jt) = removed-place us p i.place k pl (subst (λ (xs : List Watch). i.place < length xs) f i.within) ne there in
-            record { place = j; within = subst (λ (xs : List Watch). j < length xs) (sym e.1) jl; there = λ d. ap (λ (xs : List Watch). (get_or xs j d).clause) e.1 ∙ jt d }
+            record {
+              place = j;
+              within = subst (λ (xs : List Watch). j < length xs) (sym e.1) jl;
+              there =
+                  λ d. ap (λ (xs : List Watch). (get_or xs j d).clause) e.1 ∙ jt d;
+            }
         | inr e ↦
             let i : IsListed ws m k = s.watching k m kl wm in
-            record { place = i.place; within = subst (λ (xs : List Watch). i.place < length xs) (sym e.1) i.within; there = λ d. ap (λ (xs : List Watch). (get_or xs i.place d).clause) e.1 ∙ i.there d }
+            record {
+              place = i.place;
+              within = subst (λ (xs : List Watch). i.place < length xs) (sym e.1) i.within;
+              there =
+                  λ d. ap (λ (xs : List Watch). (get_or xs i.place d).clause) e.1 ∙ i.there d;
+            }
       ];
     }

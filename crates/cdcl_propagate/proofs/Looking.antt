@@ -7,5 +7,6 @@ use Rattle.cdcl_trail.specs.Trail.{Trail}
 use Rattle.cdcl_propagate.specs.Looks.{AllFalseBut}
 
 -- all are false, where all but one are and that one is
-pub all_false : (t : Trail) (ls : List ℕ) (other : ℕ) → AllFalseBut t ls other → Contains t.literals (opposite_of other) → (x : ℕ) → Contains ls x → Contains t.literals (opposite_of x)
+pub all_false : (t : Trail) (ls : List ℕ) (other : ℕ) → AllFalseBut t ls other → Contains t.literals (opposite_of other) → (x : ℕ) → Contains ls x
+    → Contains t.literals (opposite_of x)
 all_false t ls other h f x c = elim (cases_eq x other) [ inl e ↦ subst (λ (y : ℕ). Contains t.literals (opposite_of y)) (sym e) f | inr e ↦ h x c e ]

@@ -29,7 +29,8 @@ Finds t cs fallen w Satisfied = watches (at cs w.clause) fallen ≡ true → Has
 Finds t cs fallen w Gone = watches (at cs w.clause) fallen ≡ false
 Finds t cs fallen w (Moves clause other next) = (clause ≡ w.clause) × Watching cs fallen clause other × IsFound t (at cs clause).literals other next
 Finds t cs fallen w (Forces clause other) = (clause ≡ w.clause) × Watching cs fallen clause other × IsOpen t other × AllFalseBut t (at cs clause).literals other
-Finds t cs fallen w (Conflict clause) = (clause ≡ w.clause) × Watching cs fallen clause (beside (at cs clause) fallen) × ((x : ℕ) → Contains (at cs clause).literals x → Contains t.literals (opposite_of x))
+Finds t cs fallen w (Conflict clause) = (clause ≡ w.clause) × Watching cs fallen clause (beside (at cs clause) fallen)
+    × ((x : ℕ) → Contains (at cs clause).literals x → Contains t.literals (opposite_of x))
 
 -- the trail is longer, the clauses are the same but for what they watch, and all is kept
 pub record Propagates (t : Trail) (cs : List Clause) (u : Trail) (ds : List Clause) (vs : List (List Watch)) : Type 0 where
@@ -43,7 +44,8 @@ IsVisited t cs fallen = (k : ℕ) → k < length cs → watches (at cs k) fallen
 
 -- the same of those that stand before a place
 abbrev pub IsVisitedBelow : Trail → List Clause → List (List Watch) → ℕ → ℕ → Type 0
-IsVisitedBelow t cs ws fallen place = (p : ℕ) (d : Watch) → p < place → watches (at cs (slice_index_or (listed ws fallen) p d).clause) fallen ≡ true → HasTrue t.literals (at cs (slice_index_or (listed ws fallen) p d).clause)
+IsVisitedBelow t cs ws fallen place = (p : ℕ) (d : Watch) → p < place → watches (at cs (slice_index_or (listed ws fallen) p d).clause) fallen ≡ true
+    → HasTrue t.literals (at cs (slice_index_or (listed ws fallen) p d).clause)
 
 -- the clause watches others, and stands at the next too
 pub record WasMoved (cs : List Clause) (ws : List (List Watch)) (ds : List Clause) (vs : List (List Watch)) (clause other next : ℕ) : Type 0 where

@@ -8,6 +8,11 @@ use Rattle.cdcl_propagate.proofs.inspect.look_at.Goals as goal
 
 pub returns-in-False : goal.returns-in-False
 returns-in-False c =
-    let others : AllFalseBut c.args.trail.now (at c.args.clauses.now c.args.watch.clause).literals c.beside-other.result = rw c.literals.ensures at c.in_default.ensures in
-    let false_there : Contains c.args.trail.now.literals (opposite_of c.beside-other.result) = c.in-False.ensures in
-    (refl, record { watching = search rules; beside_it = refl }, all_false c.args.trail.now (at c.args.clauses.now c.args.watch.clause).literals c.beside-other.result others false_there)
+    let others : AllFalseBut c.args.trail.now (at c.args.clauses.now c.args.watch.clause).literals c.beside-other.result =
+    rw c.literals.ensures at c.in_default.ensures in
+    let false_there : Contains c.args.trail.now.literals (opposite_of c.beside-other.result) = c.in-False.ensures in (
+      refl,
+      record { watching = search rules; beside_it = refl },
+      all_false c.args.trail.now (at c.args.clauses.now c.args.watch.clause).literals
+          c.beside-other.result others false_there,
+    )

@@ -26,7 +26,8 @@ loop-literal-preserved c =
     let cs = c.visit.new.clauses in
     let visited = c.in_ok-conflict.ensures.none (ap (λ o. is_some o) c.in_default-2.is) in
     let pending = c.in-Some.ensures.some in
-    let fallen : c.opposite.result ≡ opposite_of (get_or c.loop-literal.trail.literals c.loop-literal.trail.propagated 0) = c.opposite.ensures ∙ ap opposite_of pending.1 in
+    let fallen : c.opposite.result ≡ opposite_of (get_or c.loop-literal.trail.literals c.loop-literal.trail.propagated 0) = c.opposite.ensures
+    ∙ ap opposite_of pending.1 in
     let now = fallen-now c.loop-literal.trail t k.extends c.opposite.result pending.0 fallen c.visit.ensures.same in
     let guarded : AreGuarded (record t { propagated = t.propagated + 1 }) cs =
     guarded-advanced t cs k.sound.guarded now.0

@@ -11,4 +11,6 @@ returns-in_err-push-clause-err c =
 pub returns-clause-ok : goal.returns-clause-ok
 returns-clause-ok c =
     rw (c.in_ok-extend_from_slice.ensures.items, c.in_ok-push.ensures.items)
-    (pushed c.self.inside c.args.self.now c.self.view_is c.self.invariant c.args.literals.now (record { start = c.len-start.result; end = c.len-end.result; first = c.args.first; second = c.args.second; used = 0; kept = true }) (search rules) (search rules))
+    (pushed c.self.inside c.args.self.now c.self.view_is c.self.invariant c.args.literals.now
+    (record { start = c.len-start.result; end = c.len-end.result; first = c.args.first; second = c.args.second; used = 0; kept = true })
+    (search rules) (search rules))
