@@ -1,0 +1,155 @@
+//! Clauses.
+ghost use Rattle.std.specs.Prelude.{◌≡◌, ◌+◌, ◌-◌, ◌<◌, ◌≤◌, List, [], ◌∷◌, ◌++◌, true, false, OnOk, OnErr, length, take, slice_set};
+
+use std::alloc::{AllocError, Global};
+use std::marker::Model;
+
+/// Where the literals of a clause lie, the two that it watches, and when it was used last.
+#[derive(Debug, Clone, Copy)]
+struct Entry {
+    start: usize,
+    end: usize,
+    first: u32,
+    second: u32,
+    used: u32,
+    kept: bool,
+}
+
+/// Clauses by number, from 0 on. Their literals never change, and lie one after another. A clause that isn't kept any more keeps its number.
+#[derive(Debug, Drop)]
+pub struct Clauses {
+    literals: Vec<u32>,
+    entries: Vec<Entry>,
+}
+
+impl Model for Clauses {
+    ghost use Rattle.std.specs.Prelude.{List};
+    ghost use Rattle.cdcl_clauses.specs.Clauses.{Clause};
+
+    ghost Value = { List Clause };
+
+    ghost use Rattle.cdcl_clauses.specs.Helpers.{clauses_of, IsLaidOut};
+
+    ghost view = { clauses_of };
+
+    ghost invariant = { IsLaidOut };
+}
+
+impl Clauses {
+    ghost use Rattle.cdcl_clauses.specs.Clauses.{at, watches, beside};
+
+    /// No clause.
+    pub fn new(alloc: Global) -> Clauses
+        ensures { result ≡ [] }
+    {
+        Clauses {
+            literals: Vec::new(alloc),
+            entries: Vec::new(alloc),
+        }
+    }
+
+    /// How many clauses there are, kept or not.
+    pub fn len(&self) -> usize
+        ensures { result ≡ length self.now }
+    {
+        self.entries.len()
+    }
+
+    /// The literals of a clause.
+    pub fn literals(&self, clause: u32) -> &[u32]
+        requires { clause < length self.now }
+        ensures { result.now ≡ (at self.now clause).literals }
+    {
+        let entry = self.entries[clause as usize];
+        &self.literals.as_slice()[entry.start..entry.end]
+    }
+
+    /// Whether a clause is kept.
+    pub fn is_kept(&self, clause: u32) -> bool
+        requires { clause < length self.now }
+        ensures { result ≡ (at self.now clause).kept }
+    {
+        self.entries[clause as usize].kept
+    }
+
+    /// Whether a clause is kept and watches the literal.
+    pub fn is_watching(&self, clause: u32, literal: u32) -> bool
+        requires { clause < length self.now }
+        ensures { result ≡ watches (at self.now clause) literal }
+    {
+        let entry = self.entries[clause as usize];
+        entry.kept && (entry.first == literal || entry.second == literal)
+    }
+
+    /// What a clause watches beside a literal that it watches.
+    pub fn beside(&self, clause: u32, literal: u32) -> u32
+        requires { clause < length self.now }
+        ensures { result ≡ beside (at self.now clause) literal }
+    {
+        let entry = self.entries[clause as usize];
+        if entry.first == literal {
+            entry.second
+        } else {
+            entry.first
+        }
+    }
+
+    /// A clause watches these from now on.
+    pub fn watch(&mut self, clause: u32, first: u32, second: u32)
+        requires { clause < length self.old }
+        ensures { self.new ≡ slice_set self.old clause (record (at self.old clause) { first = first; second = second }) }
+    {
+        let entry = &mut self.entries[clause as usize];
+        entry.first = first;
+        entry.second = second;
+    }
+
+    /// One more clause, and the two literals that it watches.
+    pub fn push(&mut self, literals: &[u32], first: u32, second: u32) -> Result<(), AllocError>
+        ensures ok { OnOk result (self.new ≡ self.old ++ record { literals = literals.now; first = first; second = second; kept = true } ∷ []) }
+        ensures err { OnErr result (self.new ≡ self.old) }
+    {
+        let start = self.literals.len();
+        self.literals.extend_from_slice(literals)?;
+        let end = self.literals.len();
+        self.entries.push(Entry {
+            start,
+            end,
+            first,
+            second,
+            used: 0,
+            kept: true,
+        })?;
+        Ok(())
+    }
+
+    /// The last clause is there no more.
+    pub fn pop(&mut self)
+        ensures { self.new ≡ take (length self.old - 1) self.old }
+    {
+        let _ = self.entries.pop();
+    }
+
+    /// A clause isn't kept any more.
+    pub fn remove(&mut self, clause: u32)
+        requires { clause < length self.old }
+        ensures { self.new ≡ slice_set self.old clause (record (at self.old clause) { kept = false }) }
+    {
+        self.entries[clause as usize].kept = false;
+    }
+
+    /// When a clause was used last, as `touch` was told.
+    pub fn used(&self, clause: u32) -> u32
+        requires { clause < length self.now }
+    {
+        self.entries[clause as usize].used
+    }
+
+    /// A clause is used.
+    pub fn touch(&mut self, clause: u32, now: u32)
+        requires { clause < length self.old }
+        ensures { self.new ≡ self.old }
+    {
+        self.entries[clause as usize].used = now;
+    }
+}

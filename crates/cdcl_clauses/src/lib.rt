@@ -1,0 +1,8 @@
+//! The clauses of a search, the two literals that each watches, and what units give.
+#![tactic(auto)]
+
+mod clauses;
+mod watches;
+
+pub use clauses::Clauses;
+pub use watches::{Watch, Watches};

@@ -1,0 +1,86 @@
+//! Who watches a literal.
+ghost use Rattle.std.specs.Prelude.{◌≡◌, ◌-◌, ◌<◌, [], ◌∷◌, ◌++◌, IfOk, OnOk, OnErr, length, take, slice_set, slice_index_or, replicate};
+
+use std::alloc::{AllocError, Global};
+use std::marker::Model;
+
+/// A clause that watches a literal, and another of its literals: while that is true, the clause needs no look.
+#[derive(Debug, Clone, Copy)]
+pub struct Watch {
+    pub clause: u32,
+    pub blocker: u32,
+}
+
+/// For each literal the clauses that watch it, in no order. Some that watch it no more may stand there too. Contracts see the lists.
+#[derive(Debug, Drop)]
+pub struct Watches {
+    lists: Vec<Vec<Watch>>,
+}
+
+impl Model for Watches {
+    ghost use Rattle.std.specs.Prelude.{List, map};
+    ghost use Rattle.cdcl_clauses.specs.declared.watches.Watch.{Watch};
+
+    ghost Value = { List (List Watch) };
+
+    ghost view = { λ a. map (λ v. v.items) a.lists.items };
+}
+
+impl Watches {
+    ghost use Rattle.cdcl_clauses.specs.Clauses.{listed, without_place};
+
+    /// Nobody watches any of so many literals.
+    pub fn new(alloc: Global, literals: usize) -> Result<Watches, AllocError>
+        ensures { IfOk result (λ ws. ws ≡ replicate literals []) }
+    {
+        let mut lists = Vec::with_capacity(alloc, literals)?;
+        for _ in 0..literals {
+            lists.push(Vec::new(alloc))?;
+        }
+        Ok(Watches { lists })
+    }
+
+    /// How many stand at a literal.
+    pub fn count(&self, literal: u32) -> usize
+        requires { literal < length self.now }
+        ensures { result ≡ length (listed self.now literal) }
+    {
+        self.lists[literal as usize].len()
+    }
+
+    /// The one at a place of a literal.
+    pub fn get(&self, literal: u32, place: usize) -> Watch
+        requires literal { literal < length self.now }
+        requires place { place < length (listed self.now literal) }
+        ensures { result ≡ slice_index_or (listed self.now literal) place result }
+    {
+        self.lists[literal as usize][place]
+    }
+
+    /// One more at a literal.
+    pub fn push(&mut self, literal: u32, watch: Watch) -> Result<(), AllocError>
+        requires { literal < length self.old }
+        ensures ok { OnOk result (self.new ≡ slice_set self.old literal (listed self.old literal ++ watch ∷ [])) }
+        ensures err { OnErr result (self.new ≡ self.old) }
+    {
+        self.lists[literal as usize].push(watch)?;
+        Ok(())
+    }
+
+    /// The last at a literal goes.
+    pub fn pop(&mut self, literal: u32)
+        requires { literal < length self.old }
+        ensures { self.new ≡ slice_set self.old literal (take (length (listed self.old literal) - 1) (listed self.old literal)) }
+    {
+        let _ = self.lists[literal as usize].pop();
+    }
+
+    /// The one at a place goes, and the last takes its place.
+    pub fn remove(&mut self, literal: u32, place: usize)
+        requires literal { literal < length self.old }
+        requires place { place < length (listed self.old literal) }
+        ensures { self.new ≡ slice_set self.old literal (without_place (listed self.old literal) place) }
+    {
+        self.lists[literal as usize].swap_remove(place);
+    }
+}

@@ -1,0 +1,5 @@
+pub mod Counting
+pub mod Meeting
+pub mod Starting
+pub mod Turning
+pub mod Ending

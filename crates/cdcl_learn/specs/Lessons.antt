@@ -1,0 +1,32 @@
+-- What a conflict teaches.
+use Rattle.std.specs.Prelude.{◌≡◌, ◌≢◌, ℕ, ◌<◌, List, [], ◌∷◌, length, take, slice_index, Contains, All}
+use Rattle.cdcl_trail.specs.Literals.{opposite_of}
+use Rattle.cdcl_trail.specs.Trail.{Trail}
+use Rattle.cdcl_clauses.specs.Clauses.{Clause}
+use Rattle.cdcl_learn.specs.Shown.{Shows}
+use Rattle.cdcl_learn.specs.declared.lesson.Lesson.{Lesson}
+use Rattle.cdcl_learn.specs.declared.lesson.Turn.{Turn}
+use Rattle.cdcl_learn.specs.declared.lesson.Turn.TheVariants.{Closed, Back}
+
+-- once the levels from one on are taken back, the asserted literal is open and all others of the clause are false; the one beside it
+-- is false on no lower level
+pub record TurnsBack (t : Trail) (literals : List ℕ) (level asserted beside : ℕ) : Type 0 where
+  pub level_within : level < length t.starts
+  pub has : Contains literals asserted
+  pub was_false : Contains t.literals (opposite_of asserted)
+  pub opens : Contains (take (slice_index t.starts level) t.literals) (opposite_of asserted) → ⊥
+  pub others : (x : ℕ) → Contains literals x → x ≢ asserted → Contains (take (slice_index t.starts level) t.literals) (opposite_of x)
+  pub beside_in : Contains literals beside
+  pub single : beside ≡ asserted → literals ≡ asserted ∷ []
+  pub high : (i : ℕ) → i < level → beside ≢ asserted → Contains (take (slice_index t.starts i) t.literals) (opposite_of beside) → ⊥
+
+-- what to do fits the clause
+abbrev pub Fits : Trail → List ℕ → Turn → Type 0
+Fits t literals Closed = literals ≡ []
+Fits t literals (Back level asserted beside) = TurnsBack t literals level asserted beside
+
+-- a clause all of whose literals are false; its hints show it
+pub record IsLesson (t : Trail) (cs : List Clause) (l : Lesson) : Type 0 where
+  pub all_false : All (λ x. Contains t.literals (opposite_of x)) l.literals.items
+  pub shown : Shows cs l.literals.items l.hints.items
+  pub turn : Fits t l.literals.items l.turn

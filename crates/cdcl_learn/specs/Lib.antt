@@ -1,0 +1,4 @@
+pub mod Shown
+pub mod Lessons
+pub mod Helpers
+pub mod Starts

@@ -1,0 +1,175 @@
+//! How far the analysis of a conflict is.
+ghost use Rattle.std.specs.Prelude.{◌≡◌, ℕ, ◌*◌, ◌<◌, ◌≤◌, ◌⊎◌, [], ◌∷◌, ◌++◌, true, None, IsSome, OnOk, IfOk, Contains, All, length, slice_index_or};
+ghost use Rattle.cdcl_trail.specs.Literals.{opposite_of};
+ghost use Rattle.cdcl_trail.specs.Trail.{IsTrail};
+ghost use Rattle.cdcl_clauses.specs.Clauses.{at};
+ghost use Rattle.cdcl_clauses.specs.Invariants.{IsClause, AreReasoned, BeginsAt};
+
+use cdcl_clauses::Clauses;
+use cdcl_order::Order;
+use cdcl_trail::{Trail, opposite, variable};
+use std::alloc::AllocError;
+
+/// The places of the trail that were met and not resolved yet, how many of them belong to the last level, the literals that the clause has of
+/// the levels between the first and the last, and the clauses that were used, the conflict first.
+#[derive(Debug, Drop)]
+pub(crate) struct Analysis {
+    pub(crate) met: Vec<bool>,
+    pub(crate) pending: usize,
+    pub(crate) literals: Vec<u32>,
+    pub(crate) hints: Vec<u32>,
+}
+
+/// Where the first level ends, and where the last begins.
+#[derive(Debug, Clone, Copy)]
+pub(crate) struct Bounds {
+    pub(crate) root: usize,
+    pub(crate) base: usize,
+}
+
+impl Analysis {
+    ghost use Rattle.cdcl_learn.specs.Helpers.{IsMet, Tallies, Marks, Meets, Suffices, Resolves, IsLast, IsCleared};
+
+    /// A place is met.
+    fn mark(&mut self, trail: &Trail, place: usize, bounds: Bounds) -> Result<(), AllocError>
+        requires place { place < length trail.now.literals }
+        requires tallies { Tallies trail.now self.old.met.items self.old.pending bounds.root bounds.base self.old.literals.items }
+        ensures tallies { Tallies trail.now self.new.met.items self.new.pending bounds.root bounds.base self.new.literals.items }
+        ensures marks { OnOk result (Marks self.old.met.items self.new.met.items place) }
+        ensures hints { self.new.hints ≡ self.old.hints }
+    {
+        if self.met[place] {
+            return Ok(());
+        }
+        if place >= bounds.base {
+            self.pending += 1;
+        } else if place >= bounds.root {
+            self.literals.push(opposite(trail.literal(place)))?;
+        }
+        self.met[place] = true;
+        Ok(())
+    }
+
+    /// A clause is used, all of whose literals are on the trail, or their opposites.
+    pub(crate) fn meet(
+        &mut self,
+        trail: &Trail,
+        clauses: &Clauses,
+        order: &mut Order,
+        clause: u32,
+        bounds: Bounds,
+    ) -> Result<(), AllocError>
+        requires lawful { IsTrail trail.now }
+        requires clause { clause < length clauses.now }
+        requires within { All (λ l. l < 2 * trail.now.variables) (at clauses.now clause).literals }
+        requires there { (x : ℕ) → Contains (at clauses.now clause).literals x → Contains trail.now.literals x ⊎ Contains trail.now.literals (opposite_of x) }
+        requires order { order.old ≡ trail.now.variables }
+        requires tallies { Tallies trail.now self.old.met.items self.old.pending bounds.root bounds.base self.old.literals.items }
+        ensures order { order.new ≡ order.old }
+        ensures tallies { Tallies trail.now self.new.met.items self.new.pending bounds.root bounds.base self.new.literals.items }
+        ensures meets { OnOk result (Meets trail.now self.old.met.items self.new.met.items (at clauses.now clause).literals) }
+        ensures hints { OnOk result (self.new.hints.items ≡ self.old.hints.items ++ clause ∷ []) }
+    {
+        for literal in clauses.literals(clause) {
+            let place = trail.place(*literal);
+            order.bump(variable(*literal));
+            self.mark(trail, place, bounds)?;
+        }
+        self.hints.push(clause)?;
+        Ok(())
+    }
+
+    /// A place that was met gives way to its reason.
+    pub(crate) fn resolve(
+        &mut self,
+        trail: &Trail,
+        clauses: &Clauses,
+        order: &mut Order,
+        place: usize,
+        bounds: Bounds,
+    ) -> Result<(), AllocError>
+        requires lawful { IsTrail trail.now }
+        requires clauses { (k : ℕ) → k < length clauses.now → (at clauses.now k).kept ≡ true → IsClause trail.now.variables (at clauses.now k) }
+        requires reasoned { AreReasoned trail.now clauses.now }
+        requires place { place < length trail.now.literals }
+        requires reason { IsSome (slice_index_or trail.now.reasons place None) }
+        requires met { IsMet self.old.met.items place }
+        requires order { order.old ≡ trail.now.variables }
+        requires tallies { Tallies trail.now self.old.met.items self.old.pending bounds.root bounds.base self.old.literals.items }
+        requires not_between { (place < bounds.root) ⊎ (bounds.base ≤ place) }
+        requires suffices { Suffices trail.now clauses.now self.old.met.items self.old.hints.items }
+        ensures order { order.new ≡ order.old }
+        ensures tallies { OnOk result (Tallies trail.now self.new.met.items self.new.pending bounds.root bounds.base self.new.literals.items) }
+        ensures suffices { OnOk result (Suffices trail.now clauses.now self.new.met.items self.new.hints.items) }
+        ensures resolves { OnOk result (Resolves self.old.met.items self.new.met.items place) }
+    {
+        let reason = trail.reason(place).unwrap();
+        self.meet(trail, clauses, order, reason, bounds)?;
+        if place >= bounds.base {
+            self.pending -= 1;
+        }
+        self.met[place] = false;
+        Ok(())
+    }
+
+    /// The last level gives way until one of its places is left, which is answered: all of the conflict passes through it.
+    pub(crate) fn uip(
+        &mut self,
+        trail: &Trail,
+        clauses: &Clauses,
+        order: &mut Order,
+        bounds: Bounds,
+    ) -> Result<usize, AllocError>
+        requires lawful { IsTrail trail.now }
+        requires clauses { (k : ℕ) → k < length clauses.now → (at clauses.now k).kept ≡ true → IsClause trail.now.variables (at clauses.now k) }
+        requires reasoned { AreReasoned trail.now clauses.now }
+        requires begins { (p : ℕ) → BeginsAt trail.now p → p ≤ bounds.base }
+        requires order { order.old ≡ trail.now.variables }
+        requires tallies { Tallies trail.now self.old.met.items self.old.pending bounds.root bounds.base self.old.literals.items }
+        requires some { 0 < self.old.pending }
+        requires suffices { Suffices trail.now clauses.now self.old.met.items self.old.hints.items }
+        ensures order { order.new ≡ order.old }
+        ensures tallies { OnOk result (Tallies trail.now self.new.met.items self.new.pending bounds.root bounds.base self.new.literals.items) }
+        ensures suffices { OnOk result (Suffices trail.now clauses.now self.new.met.items self.new.hints.items) }
+        ensures last { IfOk result (IsLast trail.now self.new.met.items bounds.base) }
+    {
+        for place in (bounds.base..trail.len()).rev() {
+            if self.met[place] {
+                if self.pending == 1 {
+                    return Ok(place);
+                }
+                self.resolve(trail, clauses, order, place, bounds)?;
+            }
+        }
+        unreachable!()
+    }
+
+    /// The first level gives way.
+    pub(crate) fn clear_root(
+        &mut self,
+        trail: &Trail,
+        clauses: &Clauses,
+        order: &mut Order,
+        bounds: Bounds,
+    ) -> Result<(), AllocError>
+        requires lawful { IsTrail trail.now }
+        requires clauses { (k : ℕ) → k < length clauses.now → (at clauses.now k).kept ≡ true → IsClause trail.now.variables (at clauses.now k) }
+        requires reasoned { AreReasoned trail.now clauses.now }
+        requires root { bounds.root ≤ length trail.now.literals }
+        requires begins { (p : ℕ) → BeginsAt trail.now p → bounds.root ≤ p }
+        requires order { order.old ≡ trail.now.variables }
+        requires tallies { Tallies trail.now self.old.met.items self.old.pending bounds.root bounds.base self.old.literals.items }
+        requires suffices { Suffices trail.now clauses.now self.old.met.items self.old.hints.items }
+        ensures order { order.new ≡ order.old }
+        ensures tallies { OnOk result (Tallies trail.now self.new.met.items self.new.pending bounds.root bounds.base self.new.literals.items) }
+        ensures suffices { OnOk result (Suffices trail.now clauses.now self.new.met.items self.new.hints.items) }
+        ensures cleared { OnOk result (IsCleared self.old.met.items self.new.met.items bounds.root) }
+    {
+        for place in (0..bounds.root).rev() {
+            if self.met[place] {
+                self.resolve(trail, clauses, order, place, bounds)?;
+            }
+        }
+        Ok(())
+    }
+}

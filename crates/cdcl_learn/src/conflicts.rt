@@ -1,0 +1,169 @@
+//! The first unique implication point.
+ghost use Rattle.std.specs.Prelude.{◌≡◌, ℕ, ◌-◌, ◌<◌, ◌≤◌, [], true, IfOk, MatchOption, length, slice_index};
+ghost use Rattle.cdcl_trail.specs.Trail.{IsTrail};
+ghost use Rattle.cdcl_clauses.specs.Clauses.{at};
+ghost use Rattle.cdcl_clauses.specs.Invariants.{IsClause, AreReasoned, IsConflict};
+ghost use Rattle.cdcl_learn.specs.Starts.{IsStarted, AreLower, IsHighest, IsLevelAfter, Turns};
+ghost use Rattle.cdcl_learn.specs.Lessons.{IsLesson};
+
+use crate::analysis::{Analysis, Bounds};
+use crate::lesson::{Lesson, Turn};
+use cdcl_clauses::Clauses;
+use cdcl_order::Order;
+use cdcl_trail::{Trail, opposite};
+use std::alloc::{AllocError, Global};
+
+/// The analysis of the conflict of a clause at its beginning.
+fn start(
+    alloc: Global,
+    trail: &Trail,
+    clauses: &Clauses,
+    order: &mut Order,
+    conflict: u32,
+    bounds: Bounds,
+) -> Result<Analysis, AllocError>
+    requires lawful { IsTrail trail.now }
+    requires clauses { (k : ℕ) → k < length clauses.now → (at clauses.now k).kept ≡ true → IsClause trail.now.variables (at clauses.now k) }
+    requires conflict { IsConflict trail.now clauses.now conflict }
+    requires order { order.old ≡ trail.now.variables }
+    ensures order { order.new ≡ order.old }
+    ensures started { IfOk result (IsStarted trail.now clauses.now bounds.root bounds.base) }
+{
+    let met = vec![in alloc; false; trail.len()]?;
+    let mut analysis = Analysis {
+        met,
+        pending: 0,
+        literals: Vec::new(alloc),
+        hints: Vec::new(alloc),
+    };
+    analysis.meet(trail, clauses, order, conflict, bounds)?;
+    Ok(analysis)
+}
+
+/// What a conflict teaches where no level has begun: that there is no way out.
+pub fn close(
+    alloc: Global,
+    trail: &Trail,
+    clauses: &Clauses,
+    order: &mut Order,
+    conflict: u32,
+) -> Result<Lesson, AllocError>
+    requires lawful { IsTrail trail.now }
+    requires clauses { (k : ℕ) → k < length clauses.now → (at clauses.now k).kept ≡ true → IsClause trail.now.variables (at clauses.now k) }
+    requires reasoned { AreReasoned trail.now clauses.now }
+    requires conflict { IsConflict trail.now clauses.now conflict }
+    requires levels { trail.now.starts ≡ [] }
+    requires order { order.old ≡ trail.now.variables }
+    ensures order { order.new ≡ order.old }
+    ensures lesson { IfOk result (IsLesson trail.now clauses.now) }
+{
+    let len = trail.len();
+    let bounds = Bounds {
+        root: len,
+        base: len,
+    };
+    let mut analysis = start(alloc, trail, clauses, order, conflict, bounds)?;
+    analysis.clear_root(trail, clauses, order, bounds)?;
+    let Analysis { mut hints, .. } = analysis;
+    hints.reverse();
+    Ok(Lesson {
+        literals: Vec::new(alloc),
+        hints,
+        turn: Turn::Closed,
+    })
+}
+
+/// What a conflict teaches on a level: the literal of that level through which all of the conflict passes is false, where what the conflict needs of
+/// the levels below is true. What it needs of what no level began is shown by its reasons.
+pub fn analyze(
+    alloc: Global,
+    trail: &Trail,
+    clauses: &Clauses,
+    order: &mut Order,
+    conflict: u32,
+) -> Result<Lesson, AllocError>
+    requires lawful { IsTrail trail.now }
+    requires clauses { (k : ℕ) → k < length clauses.now → (at clauses.now k).kept ≡ true → IsClause trail.now.variables (at clauses.now k) }
+    requires reasoned { AreReasoned trail.now clauses.now }
+    requires conflict { IsConflict trail.now clauses.now conflict }
+    requires levels { 0 < length trail.now.starts }
+    requires order { order.old ≡ trail.now.variables }
+    ensures order { order.new ≡ order.old }
+    ensures lesson { IfOk result (IsLesson trail.now clauses.now) }
+{
+    let bounds = Bounds {
+        root: trail.start(0),
+        base: trail.start(trail.levels() - 1),
+    };
+    let mut analysis = start(alloc, trail, clauses, order, conflict, bounds)?;
+    let uip = analysis.uip(trail, clauses, order, bounds)?;
+    analysis.clear_root(trail, clauses, order, bounds)?;
+    let asserted = opposite(trail.literal(uip));
+    let Analysis {
+        mut literals,
+        mut hints,
+        ..
+    } = analysis;
+    let turn = turn(trail, literals.as_slice(), asserted);
+    literals.push(asserted)?;
+    hints.reverse();
+    Ok(Lesson {
+        literals,
+        hints,
+        turn,
+    })
+}
+
+/// What to do, where these are the other literals of the clause.
+fn turn(trail: &Trail, literals: &[u32], asserted: u32) -> Turn
+    requires lawful { IsTrail trail.now }
+    requires levels { 0 < length trail.now.starts }
+    requires lower { AreLower trail.now literals.now }
+    ensures { Turns trail.now literals.now asserted result }
+{
+    match highest(trail, literals) {
+        None => Turn::Back {
+            level: 0,
+            asserted,
+            beside: asserted,
+        },
+        Some(beside) => Turn::Back {
+            level: level_after(trail, trail.place(beside)),
+            asserted,
+            beside,
+        },
+    }
+}
+
+/// The literal of these whose variable stands highest.
+fn highest(trail: &Trail, literals: &[u32]) -> Option<u32>
+    requires lawful { IsTrail trail.now }
+    requires levels { 0 < length trail.now.starts }
+    requires lower { AreLower trail.now literals.now }
+    ensures { MatchOption result (literals.now ≡ []) (IsHighest trail.now literals.now) }
+{
+    let mut best = None;
+    let mut top = 0;
+    for literal in literals {
+        let place = trail.place(*literal);
+        if place >= top {
+            top = place;
+            best = Some(*literal);
+        }
+    }
+    best
+}
+
+/// The first level that begins after a place.
+fn level_after(trail: &Trail, place: usize) -> usize
+    requires lawful { IsTrail trail.now }
+    requires levels { 0 < length trail.now.starts }
+    requires place { place < slice_index trail.now.starts (length trail.now.starts - 1) }
+    ensures { IsLevelAfter trail.now place result }
+{
+    let mut level = trail.levels() - 1;
+    while level > 0 && trail.start(level - 1) > place {
+        level -= 1;
+    }
+    level
+}

@@ -1,0 +1,4 @@
+pub mod Links
+pub mod Guarding
+pub mod Looking
+pub mod Visiting

@@ -1,0 +1,67 @@
+//! A look at a clause that watches a literal which has become false.
+ghost use Rattle.std.specs.Prelude.{◌≡◌, ℕ, ◌*◌, ◌<◌, All, true, MatchOption};
+ghost use Rattle.cdcl_clauses.specs.Clauses.{at};
+ghost use Rattle.cdcl_clauses.specs.Invariants.{IsWatch, IsClause};
+ghost use Rattle.cdcl_propagate.specs.Looks.{Finds, AllFalseBut, IsFound};
+
+use cdcl_clauses::{Clauses, Watch, Watches};
+use cdcl_trail::{Trail, Value};
+
+/// What a look finds.
+#[derive(Debug, Clone, Copy)]
+pub enum Look {
+    /// One of its literals is true.
+    Satisfied,
+    /// It doesn't watch the literal any more, or isn't kept.
+    Gone,
+    /// It watches another beside, and can watch one that isn't false.
+    Moves { clause: u32, other: u32, next: u32 },
+    /// All its literals but one are false, which is open.
+    Forces { clause: u32, other: u32 },
+    /// All its literals are false.
+    Conflict(u32),
+}
+
+/// A look at a watch of the literal.
+pub fn look_at(trail: &Trail, clauses: &Clauses, watch: Watch, fallen: u32) -> Look
+    requires watch { IsWatch trail.now.variables clauses.now watch }
+    requires clause { (at clauses.now watch.clause).kept ≡ true → IsClause trail.now.variables (at clauses.now watch.clause) }
+    ensures { Finds trail.now clauses.now fallen watch result }
+{
+    if trail.value(watch.blocker) == Value::True {
+        return Look::Satisfied;
+    }
+    let clause = watch.clause;
+    if !clauses.is_watching(clause, fallen) {
+        return Look::Gone;
+    }
+    let other = clauses.beside(clause, fallen);
+    if trail.value(other) == Value::True {
+        return Look::Satisfied;
+    }
+    if let Some(next) = not_false(trail, clauses.literals(clause), other) {
+        return Look::Moves {
+            clause,
+            other,
+            next,
+        };
+    }
+    match trail.value(other) {
+        Value::False => Look::Conflict(clause),
+        Value::Open => Look::Forces { clause, other },
+        Value::True => Look::Satisfied,
+    }
+}
+
+/// A literal that isn't false and isn't the one beside.
+fn not_false(trail: &Trail, literals: &[u32], beside: u32) -> Option<u32>
+    requires { All (λ l. l < 2 * trail.now.variables) literals.now }
+    ensures { MatchOption result (AllFalseBut trail.now literals.now beside) (IsFound trail.now literals.now beside) }
+{
+    for literal in literals {
+        if *literal != beside && trail.value(*literal) != Value::False {
+            return Some(*literal);
+        }
+    }
+    None
+}

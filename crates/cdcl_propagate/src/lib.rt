@@ -1,0 +1,7 @@
+//! What units give, by two watched literals for each clause.
+#![tactic(auto)]
+
+mod inspect;
+mod units;
+
+pub use units::propagate;

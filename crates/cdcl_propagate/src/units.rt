@@ -1,0 +1,95 @@
+//! All that units give.
+ghost use Rattle.std.specs.Prelude.{◌≡◌, ℕ, ◌<◌, IfOk, IfSome, IsNone, OnErr, OnOk, Contains, true, length, slice_index};
+ghost use Rattle.cdcl_trail.specs.Literals.{opposite_of};
+ghost use Rattle.cdcl_trail.specs.Trail.{IsOpen};
+ghost use Rattle.cdcl_clauses.specs.Clauses.{at, watches, listed};
+ghost use Rattle.cdcl_clauses.specs.Invariants.{IsSound, IsConflict, AreLinked};
+ghost use Rattle.cdcl_propagate.specs.Looks.{Propagates, IsVisited, Watching, AllFalseBut, IsFound, WasMoved};
+
+use crate::inspect::{Look, look_at};
+use cdcl_clauses::{Clauses, Watch, Watches};
+use cdcl_trail::{Trail, opposite};
+use std::alloc::AllocError;
+
+/// All that units give; or the number of a clause whose literals are all false.
+pub fn propagate(
+    trail: &mut Trail,
+    clauses: &mut Clauses,
+    watches: &mut Watches,
+) -> Result<Option<u32>, AllocError>
+    requires { IsSound trail.old clauses.old watches.old }
+    ensures keeps { Propagates trail.old clauses.old trail.new clauses.new watches.new }
+    ensures none { IfOk result (λ found. IsNone found → trail.new.propagated ≡ length trail.new.literals) }
+    ensures conflict { IfOk result (λ found. IfSome found (IsConflict trail.new clauses.new)) }
+{
+    while let Some(literal) = trail.pending() {
+        if let Some(conflict) = visit(trail, clauses, watches, opposite(literal))? {
+            return Ok(Some(conflict));
+        }
+        trail.advance();
+    }
+    Ok(None)
+}
+
+/// A look at each clause that watches the literal that the first one which isn't propagated makes false.
+fn visit(
+    trail: &mut Trail,
+    clauses: &mut Clauses,
+    watches: &mut Watches,
+    fallen: u32,
+) -> Result<Option<u32>, AllocError>
+    requires sound { IsSound trail.old clauses.old watches.old }
+    requires pending { trail.old.propagated < length trail.old.literals }
+    requires fallen { fallen ≡ opposite_of (slice_index trail.old.literals trail.old.propagated) }
+    ensures keeps { Propagates trail.old clauses.old trail.new clauses.new watches.new }
+    ensures same { trail.new.propagated ≡ trail.old.propagated }
+    ensures none { IfOk result (λ found. IsNone found → IsVisited trail.new clauses.new fallen) }
+    ensures conflict { IfOk result (λ found. IfSome found (IsConflict trail.new clauses.new)) }
+{
+    let mut place = 0;
+    while place < watches.count(fallen) {
+        match look_at(trail, clauses, watches.get(fallen, place), fallen) {
+            Look::Satisfied => place += 1,
+            Look::Gone => watches.remove(fallen, place),
+            Look::Moves {
+                clause,
+                other,
+                next,
+            } => {
+                move_watch(clauses, watches, clause, other, next)?;
+                watches.remove(fallen, place);
+            }
+            Look::Forces { clause, other } => {
+                trail.imply(other, clause);
+                place += 1;
+            }
+            Look::Conflict(clause) => return Ok(Some(clause)),
+        }
+    }
+    Ok(None)
+}
+
+/// A clause watches the one that it watched beside, and the next.
+fn move_watch(
+    clauses: &mut Clauses,
+    watches: &mut Watches,
+    clause: u32,
+    other: u32,
+    next: u32,
+) -> Result<(), AllocError>
+    requires clause { clause < length clauses.old }
+    requires next { next < length watches.old }
+    ensures ok { OnOk result (WasMoved clauses.old watches.old clauses.new watches.new clause other next) }
+    ensures err_clauses { OnErr result (clauses.new ≡ clauses.old) }
+    ensures err_watches { OnErr result (watches.new ≡ watches.old) }
+{
+    watches.push(
+        next,
+        Watch {
+            clause,
+            blocker: other,
+        },
+    )?;
+    clauses.watch(clause, other, next);
+    Ok(())
+}

@@ -1,0 +1,8 @@
+use Rattle.cdcl_trail.specs.Trail.{IsTrail, cut_to}
+use Rattle.cdcl_search.proofs.Backing.{sound-cut}
+use Rattle.cdcl_search.proofs.backs.go_back.Goals as goal
+
+pub returns-clause-sound : goal.returns-clause-sound
+returns-clause-sound c = λ cs ws s.
+    let u : IsTrail (cut_to c.args.trail.now c.args.level) = rw c.cut.ensures.after at c.cut.ensures.lawful in
+    rw c.cut.ensures.after (sound-cut c.args.trail.now cs ws s c.args.level c.requires.level u)

@@ -1,0 +1,28 @@
+-- One more clause.
+use Rattle.std.specs.Prelude.{◌≡◌, ◌≢◌, ℕ, ◌*◌, ◌<◌, true, List, [], ◌∷◌, ◌++◌, length, take, slice_index, slice_set, Contains, All}
+use Rattle.cdcl_trail.specs.Literals.{opposite_of}
+use Rattle.cdcl_trail.specs.Trail.{Trail, IsOpen}
+use Rattle.cdcl_clauses.specs.Clauses.{Clause, listed}
+use Rattle.cdcl_clauses.specs.declared.watches.Watch.{Watch}
+
+-- the clause stands at both literals
+abbrev pub both_listed : List (List Watch) → ℕ → ℕ → ℕ → List (List Watch)
+both_listed ws k first second =
+    let us : List (List Watch) = slice_set ws first (listed ws first ++ record { clause = k; blocker = second } ∷ []) in
+    slice_set us second (listed us second ++ record { clause = k; blocker = first } ∷ [])
+
+-- one more clause is kept, which stands at the two literals that it watches
+pub record WasAttached (cs : List Clause) (ws : List (List Watch)) (ds : List Clause) (vs : List (List Watch)) (literals : List ℕ) (first second : ℕ) : Type 0 where
+  pub clauses : ds ≡ cs ++ record { literals = literals; first = first; second = second; kept = true } ∷ []
+  pub lists : vs ≡ both_listed ws (length cs) first second
+
+-- all is propagated; all literals are false but the asserted one, which is open; the one beside is false on no lower level
+pub record CanAssert (t : Trail) (literals : List ℕ) (asserted beside : ℕ) : Type 0 where
+  pub propagated : t.propagated ≡ length t.literals
+  pub within : All (λ l. l < 2 * t.variables) literals
+  pub has : Contains literals asserted
+  pub opens : IsOpen t asserted
+  pub others : (x : ℕ) → Contains literals x → x ≢ asserted → Contains t.literals (opposite_of x)
+  pub beside_in : Contains literals beside
+  pub single : beside ≡ asserted → literals ≡ asserted ∷ []
+  pub high : (i : ℕ) → i < length t.starts → beside ≢ asserted → Contains (take (slice_index t.starts i) t.literals) (opposite_of beside) → ⊥

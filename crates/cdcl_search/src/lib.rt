@@ -1,0 +1,14 @@
+//! How a search goes from one conflict to the next.
+#![tactic(auto)]
+
+mod asserting;
+mod attaching;
+mod backs;
+mod choice;
+mod descent;
+
+pub use asserting::assert_clause;
+pub use attaching::attach;
+pub use backs::go_back;
+pub use choice::next_open;
+pub use descent::to_conflict;

@@ -1,0 +1,229 @@
+//! The trail.
+ghost use Rattle.std.specs.Prelude.{
+  ◌≡◌,
+  ℕ,
+  ◌+◌,
+  ◌*◌,
+  ◌/◌,
+  ◌^◌,
+  ◌<◌,
+  ◌≤◌,
+  ◌⊎◌,
+  Some,
+  None,
+  Contains,
+  IfOk,
+  IfSome,
+  IsSome,
+  IsNone,
+  ◌↔◌,
+  length,
+  slice_index,
+  slice_index_or,
+  slice_get,
+};
+ghost use Rattle.cdcl_trail.specs.Literals.{opposite_of};
+
+use crate::{opposite, variable};
+use std::alloc::{AllocError, Global};
+use std::marker::Model;
+
+/// What a literal is on a trail.
+#[derive(Debug, Clone, Copy, PartialEq, Eq)]
+pub enum Value {
+    Open,
+    True,
+    False,
+}
+
+/// The literals that a search holds true, in the order in which they became so, and where its levels begin. It takes no memory once it is
+/// made. A reason is the number of a clause whose other literals were all false before.
+#[derive(Debug, Drop)]
+pub struct Trail {
+    /// What each literal is.
+    values: Vec<Value>,
+    /// Where the variable stands on the trail, if it does.
+    places: Vec<u32>,
+    /// The literals that are true; of those past `len` nothing is said.
+    literals: Vec<u32>,
+    reasons: Vec<Option<u32>>,
+    len: usize,
+    /// How long the trail was when each level began; of those past `levels` nothing is said.
+    starts: Vec<u32>,
+    levels: usize,
+    propagated: usize,
+}
+
+impl Model for Trail {
+    ghost use Rattle.cdcl_trail.specs.Trail as plain;
+
+    ghost Value = { plain.Trail };
+
+    ghost use Rattle.cdcl_trail.specs.Helpers.{trail_of, IsSound};
+
+    ghost view = { trail_of };
+
+    ghost invariant = { IsSound };
+}
+
+impl Trail {
+    ghost use Rattle.cdcl_trail.specs.Trail.{empty, pushed, decided, cut_to, Is, IsOpen, IsTrail};
+
+    /// The empty trail over so many variables.
+    pub fn new(alloc: Global, variables: u32) -> Result<Trail, AllocError>
+        requires { variables < 2 ^ 31 }
+        ensures empty { IfOk result (λ t. t ≡ empty variables) }
+        ensures lawful { IfOk result IsTrail }
+    {
+        let n = variables as usize;
+        let values = vec![in alloc; Value::Open; 2 * n]?;
+        let places = vec![in alloc; 0; n]?;
+        let literals = vec![in alloc; 0; n]?;
+        let reasons = vec![in alloc; None; n]?;
+        let starts = vec![in alloc; 0; n]?;
+        Ok(Trail {
+            values,
+            places,
+            literals,
+            reasons,
+            len: 0,
+            starts,
+            levels: 0,
+            propagated: 0,
+        })
+    }
+
+    /// What a literal is.
+    pub fn value(&self, literal: u32) -> Value
+        requires { literal < 2 * self.now.variables }
+        ensures { Is self.now literal result }
+    {
+        self.values[literal as usize]
+    }
+
+    /// How many literals are true.
+    pub fn len(&self) -> usize
+        ensures len { result ≡ length self.now.literals }
+        ensures lawful { IsTrail self.now }
+    {
+        self.len
+    }
+
+    /// The literal at a place.
+    pub fn literal(&self, place: usize) -> u32
+        requires { place < length self.now.literals }
+        ensures { result ≡ slice_index self.now.literals place }
+    {
+        self.literals[place]
+    }
+
+    /// The reason of the literal at a place.
+    pub fn reason(&self, place: usize) -> Option<u32>
+        requires { place < length self.now.literals }
+        ensures { result ≡ slice_index_or self.now.reasons place None }
+    {
+        self.reasons[place]
+    }
+
+    /// The place of a literal or of its opposite, whichever is true.
+    pub fn place(&self, literal: u32) -> usize
+        requires within { literal < 2 * self.now.variables }
+        requires there { Contains self.now.literals literal ⊎ Contains self.now.literals (opposite_of literal) }
+        ensures within { result < length self.now.literals }
+        ensures there { slice_index self.now.literals result / 2 ≡ literal / 2 }
+    {
+        self.places[variable(literal) as usize] as usize
+    }
+
+    /// How many levels have begun.
+    pub fn levels(&self) -> usize
+        ensures { result ≡ length self.now.starts }
+    {
+        self.levels
+    }
+
+    /// Where a level begins.
+    pub fn start(&self, level: usize) -> usize
+        requires { level < length self.now.starts }
+        ensures { result ≡ slice_index self.now.starts level }
+    {
+        self.starts[level] as usize
+    }
+
+    /// The first literal that isn't propagated yet.
+    pub fn pending(&self) -> Option<u32>
+        ensures some { IfSome result (λ l. (self.now.propagated < length self.now.literals) × (l ≡ slice_index self.now.literals self.now.propagated)) }
+        ensures none { IsNone result → self.now.propagated ≡ length self.now.literals }
+    {
+        if self.propagated < self.len {
+            Some(self.literals[self.propagated])
+        } else {
+            None
+        }
+    }
+
+    /// The first literal that wasn't propagated is.
+    pub fn advance(&mut self)
+        requires { self.old.propagated < length self.old.literals }
+        ensures after { self.new ≡ record self.old { propagated = self.old.propagated + 1 } }
+        ensures lawful { IsTrail self.new }
+    {
+        self.propagated += 1;
+    }
+
+    /// One more literal is true, by its reason.
+    pub fn imply(&mut self, literal: u32, reason: u32)
+        requires within { literal < 2 * self.old.variables }
+        requires open { IsOpen self.old literal }
+        ensures after { self.new ≡ pushed self.old literal (Some reason) }
+        ensures lawful { IsTrail self.new }
+    {
+        self.push(literal, Some(reason));
+    }
+
+    /// A level begins with this literal, once all is propagated.
+    pub fn decide(&mut self, literal: u32)
+        requires within { literal < 2 * self.old.variables }
+        requires open { IsOpen self.old literal }
+        requires propagated { self.old.propagated ≡ length self.old.literals }
+        ensures after { self.new ≡ decided self.old literal }
+        ensures lawful { IsTrail self.new }
+    {
+        let start = self.len;
+        self.push(literal, None);
+        self.starts[self.levels] = start as u32;
+        self.levels += 1;
+    }
+
+    /// One more literal is true.
+    fn push(&mut self, literal: u32, reason: Option<u32>)
+        requires within { literal < 2 * self.old.variables }
+        requires open { IsOpen self.old literal }
+        ensures after { self.new ≡ pushed self.old literal reason }
+        ensures lawful { IsTrail self.new }
+    {
+        self.values[literal as usize] = Value::True;
+        self.values[opposite(literal) as usize] = Value::False;
+        self.places[variable(literal) as usize] = self.len as u32;
+        self.literals[self.len] = literal;
+        self.reasons[self.len] = reason;
+        self.len += 1;
+    }
+
+    /// The levels from this one on are taken back.
+    pub fn cut(&mut self, level: usize)
+        requires { level < length self.old.starts }
+        ensures after { self.new ≡ cut_to self.old level }
+        ensures lawful { IsTrail self.new }
+    {
+        let start = self.starts[level] as usize;
+        for place in start..self.len {
+            let literal = self.literals[place];
+            self.values[literal as usize] = Value::Open;
+            self.values[opposite(literal) as usize] = Value::Open;
+        }
+        self.len = start;
+        self.levels = level;
+        self.propagated = start;
+    }
+}

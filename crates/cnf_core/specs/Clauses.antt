@@ -1,0 +1,60 @@
+-- Literals, clauses, and what satisfies them.
+use Rattle.std.specs.Prelude.{ℕ, zero, suc, ◌-◌, Bool, true, false, not, ◌&&◌, nat_lt, nat_le, IsTrue, List, [], ◌∷◌, ℤ, pos, negsuc, slice_index_or}
+use Rattle.std.specs.List.{list_any, list_all}
+
+-- there are fewer variables than this, and fewer clauses
+abbrev pub limit : ℕ
+limit = 2000000000
+
+-- the variable of a literal
+abbrev pub var_of : ℤ → ℕ
+var_of (pos n) = n
+var_of (negsuc n) = suc n
+
+-- the literals of a clause rise strictly by variable, all above a variable
+abbrev pub rises_above : ℕ → List ℤ → Bool
+rises_above low [] = true
+rises_above low (l ∷ ls) = nat_lt low (var_of l) && rises_above (var_of l) ls
+
+-- a clause: literals that rise strictly by variable; a variable is at least 1
+abbrev pub is_clause : List ℤ → Bool
+is_clause c = rises_above 0 c
+
+-- each variable of a clause is one of the first so many
+abbrev pub is_within : ℕ → List ℤ → Bool
+is_within vars c = list_all (λ l. nat_le (var_of l) vars) c
+
+-- each is a clause over the first `vars` variables
+abbrev pub are_clauses : ℕ → List (List ℤ) → Bool
+are_clauses vars cs = list_all (λ c. is_clause c && is_within vars c) cs
+
+-- clauses over the variables 1 to `vars`
+pub record Formula : Type 0 where
+  pub vars : ℕ
+  pub clauses : List (List ℤ)
+
+-- a value for every variable
+abbrev pub Valuation : Type 0
+Valuation = ℕ → Bool
+
+-- the value of a literal; there is no variable 0
+abbrev pub literal_true : Valuation → ℤ → Bool
+literal_true v (pos zero) = false
+literal_true v (pos (suc n)) = v (suc n)
+literal_true v (negsuc n) = not (v (suc n))
+
+-- a clause is true where one of its literals is
+abbrev pub clause_true : Valuation → List ℤ → Bool
+clause_true v c = list_any (literal_true v) c
+
+-- what satisfies clauses: each of them is true
+abbrev pub satisfies : Valuation → List (List ℤ) → Bool
+satisfies v cs = list_all (clause_true v) cs
+
+-- nothing satisfies the clauses
+abbrev pub IsUnsatisfiable : List (List ℤ) → Type 0
+IsUnsatisfiable cs = (v : Valuation) → IsTrue (satisfies v cs) → ⊥
+
+-- an assignment lists the values of the variables 1, 2 and so on
+abbrev pub value_in : List Bool → Valuation
+value_in a n = slice_index_or a (n - 1) false

@@ -1,0 +1,77 @@
+//! Clauses.
+ghost use Rattle.std.specs.Prelude.{◌≡◌, ℤ, List, IsTrue, ◌↔◌};
+ghost use Rattle.cnf_core.specs.Clauses.{is_clause, is_within};
+
+use crate::Lit;
+use std::alloc::Global;
+use std::marker::Model;
+
+/// Literals that rise strictly by variable, of which one is to be true. Contracts see them as a list.
+#[derive(Debug, Drop)]
+pub struct Clause {
+    literals: Vec<Lit>,
+}
+
+impl Model for Clause {
+    ghost use Rattle.std.specs.Prelude.{ℤ, List, IsTrue};
+    ghost use Rattle.cnf_core.specs.Clauses.{is_clause};
+
+    ghost Value = { List ℤ };
+
+    ghost view = { λ c. c.literals.items };
+
+    ghost invariant = { λ c. IsTrue (is_clause c.literals.items) };
+}
+
+/// Whether literals rise strictly by variable.
+pub fn is_clause(literals: &[Lit]) -> bool
+    ensures { result ≡ is_clause literals.now }
+{
+    let mut low = 0;
+    for lit in literals {
+        if lit.var() <= low {
+            return false;
+        }
+        low = lit.var();
+    }
+    true
+}
+
+/// Whether each literal's variable is one of the first so many.
+pub fn is_within(vars: u32, literals: &[Lit]) -> bool
+    ensures { result ≡ is_within vars literals.now }
+{
+    for lit in literals {
+        if lit.var() > vars {
+            return false;
+        }
+    }
+    true
+}
+
+impl Clause {
+    /// The clause of these literals.
+    pub fn new(literals: Vec<Lit>) -> Clause
+        requires { IsTrue (is_clause literals.items) }
+        ensures { result ≡ literals.items }
+    {
+        Clause { literals }
+    }
+
+    /// Its literals.
+    pub fn literals(&self) -> &[Lit]
+        ensures literals { result.now ≡ self.now }
+        ensures rises { IsTrue (is_clause self.now) }
+    {
+        self.literals.as_slice()
+    }
+
+    /// Its literals, without taking memory.
+    pub fn into_literals(self) -> Vec<Lit>
+        ensures literals { result.items ≡ self }
+        ensures rises { IsTrue (is_clause self) }
+    {
+        let Clause { literals } = self;
+        literals
+    }
+}

@@ -1,0 +1,200 @@
+//! Lists of clauses.
+ghost use Rattle.std.specs.Prelude.{
+  ◌≡◌,
+  ℕ,
+  ◌+◌,
+  ◌<◌,
+  ◌≤◌,
+  ℤ,
+  pos,
+  List,
+  [],
+  ◌∷◌,
+  ◌++◌,
+  length,
+  slice_get,
+  slice_index,
+  slice_range,
+  ◌==◌,
+  Some,
+  IsTrue,
+  OnOk,
+  OnErr,
+  IfOk,
+  take,
+  suc,
+  ◌-◌,
+};
+ghost use Rattle.cnf_core.specs.Clauses.{limit, is_clause, is_within, are_clauses};
+
+use crate::Lit;
+use std::alloc::{AllocError, Global};
+use std::marker::Model;
+
+/// A list has fewer variables than this, and fewer clauses.
+pub const LIMIT: u32 = 2_000_000_000;
+
+/// Clauses over the variables 1 to a number. Contracts see a record of that number and the list of the clauses.
+///
+/// The literals of all clauses lie in one list, with the place where each clause ends: a clause costs 4 bytes a literal and 8 more.
+#[derive(Debug, Drop)]
+pub struct Cnf {
+    vars: u32,
+    literals: Vec<Lit>,
+    ends: Vec<usize>,
+}
+
+impl Model for Cnf {
+    ghost use Rattle.cnf_core.specs.Clauses.{Formula};
+
+    ghost Value = { Formula };
+
+    ghost use Rattle.cnf_core.specs.Helpers.{formula_of, IsLaidOut};
+
+    ghost view = { formula_of };
+
+    ghost invariant = { IsLaidOut };
+}
+
+/// Where the piece at that place begins, or would begin: at the end of the one before it.
+fn start(ends: &[usize], place: usize) -> usize
+    requires { place ≤ length ends.now }
+    ensures { result ≡ slice_index (0 ∷ ends.now) place }
+{
+    if place == 0 { 0 } else { ends[place - 1] }
+}
+
+/// The literals from one place to another.
+fn piece(literals: &[Lit], from: usize, to: usize) -> &[Lit]
+    requires ordered { from ≤ to }
+    requires there { to ≤ length literals.now }
+    ensures { result.now ≡ slice_range literals.now from to }
+{
+    &literals[from..to]
+}
+
+impl Cnf {
+    ghost use Rattle.cnf_core.specs.Helpers.{all_now};
+
+    /// No clauses over these variables.
+    pub fn new(alloc: Global, vars: u32) -> Cnf
+        requires { vars < limit }
+        ensures vars { result.vars ≡ vars }
+        ensures clauses { result.clauses ≡ [] }
+    {
+        Cnf {
+            vars,
+            literals: Vec::new(alloc),
+            ends: Vec::new(alloc),
+        }
+    }
+
+    /// The number of variables.
+    pub fn vars(&self) -> u32
+        ensures vars { result ≡ self.now.vars }
+        ensures limit { result < limit }
+    {
+        self.vars
+    }
+
+    /// The number of clauses.
+    pub fn len(&self) -> usize
+        ensures len { result ≡ length self.now.clauses }
+        ensures clauses { IsTrue (are_clauses self.now.vars self.now.clauses) }
+        ensures limit { result < limit }
+    {
+        self.ends.len()
+    }
+
+    /// Whether there is no clause.
+    pub fn is_empty(&self) -> bool
+        ensures { result ≡ (length self.now.clauses == 0) }
+    {
+        self.ends.is_empty()
+    }
+
+    /// The clause at that place, from 0.
+    pub fn clause(&self, place: usize) -> &[Lit]
+        requires { place < length self.now.clauses }
+        ensures clause { slice_get self.now.clauses place ≡ Some result.now }
+        ensures rises { IsTrue (is_clause result.now) }
+        ensures within { IsTrue (is_within self.now.vars result.now) }
+    {
+        piece(&self.literals, start(&self.ends, place), self.ends[place])
+    }
+
+    /// One variable more, which no clause names yet: its literal.
+    pub fn add_variable(&mut self) -> Lit
+        requires { self.old.vars + 1 < limit }
+        ensures literal { result ≡ pos (self.old.vars + 1) }
+        ensures vars { self.new.vars ≡ self.old.vars + 1 }
+        ensures clauses { self.new.clauses ≡ self.old.clauses }
+    {
+        self.vars += 1;
+        Lit::new(self.vars, false)
+    }
+
+    /// One clause more, at the end.
+    pub fn push(&mut self, clause: &[Lit]) -> Result<(), AllocError>
+        requires rises { IsTrue (is_clause clause.now) }
+        requires within { IsTrue (is_within self.old.vars clause.now) }
+        requires room { length self.old.clauses + 1 < limit }
+        ensures vars { self.new.vars ≡ self.old.vars }
+        ensures ok { OnOk result (self.new.clauses ≡ self.old.clauses ++ clause.now ∷ []) }
+        ensures err { OnErr result (self.new ≡ self.old) }
+    {
+        self.ends.reserve(1)?;
+        self.literals.extend_from_slice(clause)?;
+        self.ends.push(self.literals.len())?;
+        Ok(())
+    }
+
+    /// Clauses at the end; where there is no memory, maybe some of them.
+    fn push_all(&mut self, clauses: &[&[Lit]]) -> Result<(), AllocError>
+        requires clauses { IsTrue (are_clauses self.old.vars (all_now clauses.now)) }
+        requires room { length self.old.clauses + length clauses.now < limit }
+        ensures vars { self.new.vars ≡ self.old.vars }
+        ensures ok { OnOk result (self.new.clauses ≡ self.old.clauses ++ all_now clauses.now) }
+        ensures older { length self.old.clauses ≤ length self.new.clauses }
+        ensures kept { take (length self.old.clauses) self.new.clauses ≡ self.old.clauses }
+    {
+        for clause in clauses {
+            self.push(clause)?;
+        }
+        Ok(())
+    }
+
+    /// Without the last variable, and with the first clauses alone.
+    fn take_back(&mut self, len: usize)
+        requires vars { 0 < self.old.vars }
+        requires len { len ≤ length self.old.clauses }
+        requires clauses { IsTrue (are_clauses (self.old.vars - 1) (take len self.old.clauses)) }
+        ensures vars { self.new.vars ≡ self.old.vars - 1 }
+        ensures clauses { self.new.clauses ≡ take len self.old.clauses }
+    {
+        self.vars -= 1;
+        self.literals.truncate(start(&self.ends, len));
+        self.ends.truncate(len);
+    }
+
+    /// One variable more, and the clauses that define it: its literal.
+    pub(crate) fn define(&mut self, clauses: &[&[Lit]]) -> Result<Lit, AllocError>
+        requires vars { self.old.vars + 1 < limit }
+        requires clauses { IsTrue (are_clauses (suc self.old.vars) (all_now clauses.now)) }
+        requires room { length self.old.clauses + length clauses.now < limit }
+        ensures literal { IfOk result (λ lit. lit ≡ pos (suc self.old.vars)) }
+        ensures vars { OnOk result (self.new.vars ≡ suc self.old.vars) }
+        ensures clauses { OnOk result (self.new.clauses ≡ self.old.clauses ++ all_now clauses.now) }
+        ensures err { OnErr result (self.new ≡ self.old) }
+    {
+        let len = self.len();
+        let lit = self.add_variable();
+        match self.push_all(clauses) {
+            Ok(()) => Ok(lit),
+            Err(refused) => {
+                self.take_back(len);
+                Err(refused)
+            }
+        }
+    }
+}

@@ -1,0 +1,5 @@
+//! Files as text, and the value or the fault that each has.
+#![tactic(auto)]
+
+#[cfg(test)]
+mod schedules;

@@ -1,0 +1,237 @@
+-- A clause that a line adds is true wherever the kept clauses are.
+use Rattle.std.proofs.Common.{
+  ◌≡◌,
+  ◌≢◌,
+  ℕ,
+  suc,
+  zero,
+  ◌+◌,
+  List,
+  [],
+  ◌∷◌,
+  ◌++◌,
+  map,
+  ℤ,
+  pos,
+  negsuc,
+  neg_ℤ,
+  refl,
+  ap,
+  sym,
+  ◌∙◌,
+  subst,
+  Bool,
+  true,
+  false,
+  not,
+  cond,
+  Option,
+  Some,
+  None,
+  Ok,
+  inl,
+  inr,
+  ◌⊎◌,
+}
+use Rattle.std.specs.Prelude.{◌||◌, ◌&&◌, is_some, IfSome, if◌then◌else◌}
+use Rattle.std.specs.List.{fold}
+use Rattle.std.specs.Option.{option_map_or}
+use Rattle.std.specs.Ordering.{nat_cmp, int_eq, eq_by_cmp}
+use Rattle.std.specs.Cmp.{nat_cmp_total, signed_Decides}
+use Rattle.std.specs.FinMap.{get, insert, remove, empty, get-insert, get-remove, get-empty}
+use Rattle.std.proofs.lemmas.List.Folds.{list_any-append}
+use Rattle.cnf_core.specs.Clauses.{Valuation, literal_true, clause_true, satisfies, is_within}
+use Rattle.refute_check.specs.Kept.{KeptClauses}
+use Rattle.refute_check.specs.Literals.{is_among, left}
+use Rattle.refute_check.specs.Left.{by_left, what_is_left, counted}
+use Rattle.refute_check.specs.Refutations.{Checking, keep, opening, start, without, hints_fault, clause_fault, line_fault, is_nil, after, judged, verdict_of}
+use Rattle.refute_check.specs.Laws.{ClosedMeansUnsatisfiable}
+use Rattle.refute_check.specs.declared.line.Line.{Line}
+use Rattle.refute_check.specs.declared.line.Line.TheVariants.{Add, Delete}
+use Rattle.refute_check.specs.declared.verdict.CheckFault.{CheckFault}
+use Rattle.refute_check.specs.declared.verdict.CheckFault.TheVariants.{NoVariable, NoClause, Hint}
+use Rattle.refute_check.specs.declared.verdict.Checked.TheVariants.{Closed}
+
+-- each kept clause is true
+abbrev AreTrue : Valuation → KeptClauses → Type 0
+AreTrue v kept = (n : ℕ) → IfSome (get kept n) (λ c. clause_true v c ≡ true)
+
+chosen : (v : Valuation) (b : Bool) (x y : Option (List ℤ)) → IfSome x (λ c. clause_true v c ≡ true) → IfSome y (λ c. clause_true v c ≡ true)
+    → IfSome (cond b x y) (λ c. clause_true v c ≡ true)
+chosen v true x y h k = h
+chosen v false x y h k = k
+
+AreTrue-empty : (v : Valuation) → AreTrue v empty
+AreTrue-empty v n = subst (λ o. IfSome o (λ c. clause_true v c ≡ true)) (sym (get-empty nat_cmp n)) tt
+
+AreTrue-insert : (v : Valuation) (kept : KeptClauses) (n : ℕ) (c : List ℤ) → AreTrue v kept → clause_true v c ≡ true → AreTrue v (insert kept n c)
+AreTrue-insert v kept n c h t q = subst (λ o. IfSome o (λ c. clause_true v c ≡ true)) (sym (get-insert nat_cmp_total kept n c q))
+    (chosen v (eq_by_cmp nat_cmp q n) (Some c) (get kept q) t (h q))
+
+AreTrue-without : (v : Valuation) (kept : KeptClauses) (ns : List ℕ) → AreTrue v kept → AreTrue v (without kept ns)
+AreTrue-without v kept [] h = h
+AreTrue-without v kept (n ∷ ns) h =
+    AreTrue-without v (remove kept n) ns (λ q. subst (λ o. IfSome o (λ c. clause_true v c ≡ true)) (sym (get-remove nat_cmp_total kept n q))
+    (chosen v (eq_by_cmp nat_cmp q n) None (get kept q) tt (h q)))
+
+-- the literals that the given ones make false are false
+abbrev AreFalse : Valuation → List ℤ → Type 0
+AreFalse v given = (l : ℤ) → is_among given (neg_ℤ l) ≡ true → literal_true v l ≡ false
+
+or-cases : (a b : Bool) → (a || b) ≡ true → (a ≡ true) ⊎ (b ≡ true)
+or-cases true b h = inl refl
+or-cases false b h = inr h
+
+not-true : (b : Bool) → not b ≡ true → b ≡ false
+not-true true h = sym h
+not-true false h = refl
+
+neg-true : (v : Valuation) (l : ℤ) → literal_true v (neg_ℤ l) ≡ true → literal_true v l ≡ false
+neg-true v (pos zero) h = refl
+neg-true v (pos (suc n)) h = not-true (v (suc n)) h
+neg-true v (negsuc n) h = ap not h
+
+neg-neg : (l : ℤ) → neg_ℤ (neg_ℤ l) ≡ l
+neg-neg (pos zero) = refl
+neg-neg (pos (suc n)) = refl
+neg-neg (negsuc n) = refl
+
+int_eq-true : (a b : ℤ) → int_eq a b ≡ true → a ≡ b
+int_eq-true a b e = (signed_Decides a b).0 e
+
+AreFalse-more : (v : Valuation) (given : List ℤ) (l : ℤ) → AreFalse v given → literal_true v l ≡ true → AreFalse v (given ++ l ∷ [])
+AreFalse-more v given l h t m e =
+    elim (or-cases (is_among given (neg_ℤ m)) (int_eq (neg_ℤ m) l || false) (sym (list_any-append (int_eq (neg_ℤ m)) given (l ∷ [])) ∙ e)) [
+      | inl old ↦ h m old
+      | inr new ↦ elim (or-cases (int_eq (neg_ℤ m) l) false new) [
+        | inl same ↦ neg-true v m (ap (literal_true v) (int_eq-true (neg_ℤ m) l same) ∙ t)
+        | inr never ↦ absurd (cc)
+      ]
+    ]
+
+or-left : (a b : Bool) → (a || b) ≡ false → a ≡ false
+or-left true b h = h
+or-left false b h = refl
+
+or-right : (a b : Bool) → (a || b) ≡ false → b ≡ false
+or-right true b h = absurd (cc)
+or-right false b h = h
+
+AreFalse-line : (v : Valuation) (lits : List ℤ) → clause_true v lits ≡ false → AreFalse v (map neg_ℤ lits)
+AreFalse-line v [] f m e = absurd (cc)
+AreFalse-line v (l ∷ lits) f m e =
+    elim (or-cases (int_eq (neg_ℤ m) (neg_ℤ l)) (is_among (map neg_ℤ lits) (neg_ℤ m)) e) [
+      | inl same ↦ ap (literal_true v) (sym (neg-neg m) ∙ ap neg_ℤ (int_eq-true (neg_ℤ m) (neg_ℤ l) same) ∙ neg-neg l)
+          ∙ or-left (literal_true v l) (clause_true v lits) f
+      | inr rest ↦ AreFalse-line v lits (or-right (literal_true v l) (clause_true v lits) f) m rest
+    ]
+
+or-true : (a b : Bool) → b ≡ true → (a || b) ≡ true
+or-true true b h = refl
+or-true false b h = h
+
+left-step : (v : Valuation) (given : List ℤ) (l : ℤ) (c : List ℤ) (b : Bool) → is_among given (neg_ℤ l) ≡ b → AreFalse v given
+    → (clause_true v c ≡ true → clause_true v (left given c) ≡ true) → (literal_true v l || clause_true v c) ≡ true
+    → clause_true v (cond (not b) (l ∷ left given c) (left given c)) ≡ true
+left-step v given l c true e h rest t =
+    elim (or-cases (literal_true v l) (clause_true v c) t) [ inl here ↦ absurd (let f : literal_true v l ≡ false = h l e in cc) | inr there ↦ rest there ]
+left-step v given l c false e h rest t =
+    elim (or-cases (literal_true v l) (clause_true v c) t) [
+      | inl here ↦ ap (λ x. x || clause_true v (left given c)) here
+      | inr there ↦ or-true (literal_true v l) (clause_true v (left given c)) (rest there)
+    ]
+
+left-true : (v : Valuation) (given c : List ℤ) → AreFalse v given → clause_true v c ≡ true → clause_true v (left given c) ≡ true
+left-true v given [] h t = t
+left-true v given (l ∷ c) h t = left-step v given l c (is_among given (neg_ℤ l)) refl h (left-true v given c h) t
+
+-- what is left of a true clause: a true literal, or more literals
+by-counted : (v : Valuation) (ls : List ℤ) (nothing more : Option CheckFault) (one : ℤ → Option CheckFault) → clause_true v ls ≡ true → more ≢ None
+    → ((l : ℤ) → literal_true v l ≡ true → one l ≢ None) → by_left (counted ls) nothing one more ≢ None
+by-counted v [] nothing more one t h k = λ e. absurd (cc)
+by-counted v (l ∷ []) nothing more one t h k = k l (elim (or-cases (literal_true v l) false t) [ inl x ↦ x | inr x ↦ absurd (cc) ])
+by-counted v (l ∷ m ∷ ls) nothing more one t h k = h
+
+by-kept : (v : Valuation) (o : Option (List ℤ)) (f : List ℤ → Option CheckFault) (d : Option CheckFault) → IfSome o (λ c. clause_true v c ≡ true)
+    → ((c : List ℤ) → clause_true v c ≡ true → f c ≢ None) → d ≢ None → option_map_or f o d ≢ None
+by-kept v None f d h k e = e
+by-kept v (Some c) f d h k e = k c h
+
+-- hints from literals that are false show a conflict only where some kept clause is false
+hints-sound : (v : Valuation) (n : ℕ) (kept : KeptClauses) (given : List ℤ) (hs : List ℕ) → AreTrue v kept → AreFalse v given
+    → hints_fault n kept given hs ≢ None
+hints-sound v n kept given [] h f = λ e. cc
+hints-sound v n kept given (i ∷ hs) h f =
+    by-kept v (get kept i)
+    (λ c. by_left (what_is_left given c) (if is_nil hs then None else Some (Hint n)) (λ l. hints_fault n kept (given ++ l ∷ []) hs) (Some (Hint n)))
+    (Some (NoClause n))
+    (h i)
+    (λ c t. by-counted v (left given c) (if is_nil hs then None else Some (Hint n)) (Some (Hint n)) (λ l. hints_fault n kept (given ++ l ∷ []) hs)
+    (left-true v given c f t) (λ e. cc) (λ l u. hints-sound v n kept (given ++ l ∷ []) hs h (AreFalse-more v given l f u)))
+    (λ e. cc)
+
+-- a line that passes adds a clause that is true wherever the kept ones are
+clause-step : (v : Valuation) (n vars : ℕ) (kept : KeptClauses) (lits : List ℤ) (hints : List ℕ) (w b : Bool) → clause_true v lits ≡ b
+    → AreTrue v kept → (if w then hints_fault n kept (map neg_ℤ lits) hints else Some (NoVariable n)) ≡ None → clause_true v lits ≡ true
+clause-step v n vars kept lits hints w true e h p = e
+clause-step v n vars kept lits hints true false e h p = absurd (hints-sound v n kept (map neg_ℤ lits) hints h (AreFalse-line v lits e) p)
+clause-step v n vars kept lits hints false false e h p = absurd (cc)
+
+clause-sound : (v : Valuation) (n vars : ℕ) (kept : KeptClauses) (lits : List ℤ) (hints : List ℕ) → AreTrue v kept
+    → clause_fault n vars kept lits hints ≡ None → clause_true v lits ≡ true
+clause-sound v n vars kept lits hints h p = clause-step v n vars kept lits hints (is_within vars lits) (clause_true v lits) refl h p
+
+-- the kept clauses are true, and no empty clause was added
+pub record IsSound (v : Valuation) (s : Checking) : Type 0 where
+  pub kept : AreTrue v s.kept
+  pub open' : s.closed ≢ true
+
+not-nil : (v : Valuation) (lits : List ℤ) → clause_true v lits ≡ true → is_nil lits ≡ false
+not-nil v [] t = absurd (cc)
+not-nil v (l ∷ lits) t = refl
+
+judged-sound : (v : Valuation) (s : Checking) (l : Line) (o : Option CheckFault) → line_fault (s.line + 1) s.vars s.kept l ≡ o → IsSound v s
+    → IsSound v (judged o s l)
+judged-sound v s (Add lits hints) None e h =
+    let t : clause_true v lits ≡ true = clause-sound v (s.line + 1) s.vars s.kept lits hints h.kept e in
+    let f : is_nil lits ≡ false = not-nil v lits t in
+    record {
+      kept = AreTrue-insert v s.kept s.next lits h.kept t;
+      open' = λ c. elim (or-cases s.closed (is_nil lits) c) [ inl x ↦ h.open' x | inr x ↦ cc ];
+    }
+judged-sound v s (Delete ns) None e h = record { kept = AreTrue-without v s.kept ns h.kept; open' = h.open' }
+judged-sound v s l (Some f) e h = record { kept = AreTrue-empty v; open' = h.open' }
+
+after-step : (v : Valuation) (s : Checking) (l : Line) (b : Bool) → IsSound v s
+    → IsSound v (if b then s else judged (line_fault (s.line + 1) s.vars s.kept l) s l)
+after-step v s l true h = h
+after-step v s l false h = judged-sound v s l (line_fault (s.line + 1) s.vars s.kept l) refl h
+
+lines-sound : (v : Valuation) (s : Checking) (lines : List Line) → IsSound v s → IsSound v (fold after s lines)
+lines-sound v s [] h = h
+lines-sound v s (l ∷ lines) h = lines-sound v (after s l) lines (after-step v s l (is_some s.fault) h)
+
+and-left : (a b : Bool) → (a && b) ≡ true → a ≡ true
+and-left true b h = refl
+and-left false b h = h
+
+and-right : (a b : Bool) → (a && b) ≡ true → b ≡ true
+and-right true b h = h
+and-right false b h = absurd (cc)
+
+start-sound : (v : Valuation) (s : Checking) (cs : List (List ℤ)) → satisfies v cs ≡ true → IsSound v s → IsSound v (fold keep s cs)
+start-sound v s [] t h = h
+start-sound v s (c ∷ cs) t h =
+    start-sound v (keep s c) cs (and-right (clause_true v c) _ t)
+    (record { kept = AreTrue-insert v s.kept s.next c h.kept (and-left (clause_true v c) _ t); open' = h.open' })
+
+closed-true : (o : Option CheckFault) (b : Bool) → verdict_of o b ≡ Ok Closed → b ≡ true
+closed-true (Some f) b e = absurd (cc)
+closed-true None true e = refl
+closed-true None false e = absurd (cc)
+
+pub closed-means-unsatisfiable : ClosedMeansUnsatisfiable
+closed-means-unsatisfiable f lines e v t =
+    let s : IsSound v (fold after (start f) lines) = lines-sound v (start f) lines
+    (start-sound v (opening f.vars) f.clauses t (record { kept = AreTrue-empty v; open' = λ e. cc })) in
+    s.open' (closed-true (fold after (start f) lines).fault (fold after (start f) lines).closed e)

@@ -1,0 +1,7 @@
+use Rattle.std.proofs.Common.{◌≡◌, ◌++◌, take, map, pos}
+use Rattle.std.specs.String.{string_bytes}
+use Rattle.refute_check.specs.Texts.{numbers_text}
+use Rattle.refute_check.proofs.write.write_numbers.Given as goal
+
+abbrev pub invariant-loop-number : goal.invariant-loop-number
+invariant-loop-number l = string_bytes l.text ≡ string_bytes l.initial.text ++ numbers_text (map pos (take l.number-index l.numbers))

@@ -1,0 +1,11 @@
+pub mod Checkers
+pub mod Given
+pub mod Guess
+pub mod Kept
+pub mod Laws
+pub mod Left
+pub mod Literals
+pub mod Numbers
+pub mod Reading
+pub mod Refutations
+pub mod Texts

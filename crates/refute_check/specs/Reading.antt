@@ -1,0 +1,60 @@
+-- A refutation's text, read in pieces.
+use Rattle.std.specs.Prelude.{◌≡◌, ℕ, ◌+◌, ◌<◌, ◌≤◌, ◌==◌, List, [], ◌∷◌, ◌++◌, Option, None, Some, is_some, IsTrue, if◌then◌else◌, ◌||◌, not}
+use Rattle.std.specs.Option.{option_map_or}
+use Rattle.std.specs.Bool.{MatchBool}
+use Rattle.refute_check.specs.Refutations.{line_limit, is_nil}
+use Rattle.refute_check.specs.Texts.{head_text, line_text, is_head, is_readable, IsNoHead, IsNoLine}
+use Rattle.refute_check.specs.declared.text.Taken.{Taken}
+use Rattle.refute_check.specs.declared.text.Taken.TheVariants.{More, Header, Line as Body, Form}
+
+-- what is known of a text of which some bytes were taken
+pub record Reading : Type 0 where
+  -- the bytes of the line that isn't ended
+  pub unfinished : List ℕ
+  -- its number, from 1
+  pub line : ℕ
+  -- the number of the first line that breaks the form, after which nothing changes
+  pub fault : Option ℕ
+
+abbrev pub beginning : Reading
+beginning = record { unfinished = []; line = 1; fault = None }
+
+-- what the bytes of the line of that number are: the header, another line, or a breach of the form
+abbrev pub IsTakenAs : ℕ → List ℕ → Taken → Type 0
+IsTakenAs n bytes More = ⊥
+IsTakenAs n bytes (Header h) = (n ≡ 1) × IsTrue (is_head h) × (head_text h ≡ bytes)
+IsTakenAs n bytes (Body l) = (1 < n) × (n ≤ line_limit + 1) × IsTrue (is_readable l) × (line_text l ≡ bytes)
+IsTakenAs n bytes (Form k) = (k ≡ n) × (n ≡ 1 → IsNoHead bytes) × (1 < n → n ≤ line_limit + 1 → IsNoLine bytes)
+
+-- what a line leaves
+abbrev pub after_taken : Reading → Taken → Reading
+after_taken s (Form k) = record s { unfinished = []; fault = Some k }
+after_taken s t = record s { unfinished = []; line = s.line + 1 }
+
+-- the lines that end in some bytes, and what they leave
+abbrev pub Reads : Reading → List ℕ → List Taken → Reading → Type 0
+Reads s [] ts t = (ts ≡ []) × (t ≡ s)
+Reads s (b ∷ bs) ts t =
+    MatchBool (is_some s.fault) ((ts ≡ []) × (t ≡ s))
+    (MatchBool (b == 10)
+    ((x : Taken) × (xs : List Taken) × (ts ≡ x ∷ xs) × IsTakenAs s.line s.unfinished x × Reads (after_taken s x) bs xs t)
+    (Reads (record s { unfinished = s.unfinished ++ b ∷ [] }) bs ts t))
+
+-- however bytes are cut, their lines are the same
+abbrev pub CutsAgree : Type 0
+CutsAgree = (front back : List ℕ) (s t u : Reading) (xs ys : List Taken) → Reads s front xs t → Reads t back ys u → Reads s (front ++ back) (xs ++ ys) u
+
+-- what an answer says of lines: none, or one
+abbrev pub lines_of : Taken → List Taken
+lines_of More = []
+lines_of (Header h) = Header h ∷ []
+lines_of (Body l) = Body l ∷ []
+lines_of (Form k) = Form k ∷ []
+
+-- more bytes of a line
+abbrev pub pushed : Reading → List ℕ → Reading
+pushed s bytes = record s { unfinished = s.unfinished ++ bytes }
+
+-- the first line that breaks the form, where no more bytes come: a text has a first line, and each line ends
+abbrev pub first_breach : Reading → Option ℕ
+first_breach s = option_map_or (λ k. Some k) s.fault (if s.line == 1 || not (is_nil s.unfinished) then Some s.line else None)

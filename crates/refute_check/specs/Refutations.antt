@@ -1,0 +1,157 @@
+-- Derivations, and what a checker makes of them line by line.
+use Rattle.std.specs.Prelude.{
+  ◌≡◌,
+  ℕ,
+  ◌+◌,
+  ◌≤◌,
+  Bool,
+  true,
+  false,
+  not,
+  ◌&&◌,
+  ◌||◌,
+  if◌then◌else◌,
+  List,
+  [],
+  ◌∷◌,
+  ◌++◌,
+  map,
+  length,
+  ℤ,
+  neg_ℤ,
+  Option,
+  Some,
+  None,
+  is_some,
+  IfSome,
+  Result,
+  Ok,
+  Err,
+  IsTrue,
+}
+use Rattle.std.specs.List.{list_all, fold}
+use Rattle.std.specs.Option.{option_map_or}
+use Rattle.std.specs.FinMap.{empty, get, insert, remove}
+use Rattle.cnf_core.specs.Clauses.{Formula, is_within}
+use Rattle.refute_check.specs.Left.{by_left, what_is_left}
+use Rattle.refute_check.specs.Kept.{KeptClauses}
+use Rattle.refute_check.specs.declared.line.Line.{Line}
+use Rattle.refute_check.specs.declared.line.Line.TheVariants.{Add, Delete}
+use Rattle.refute_check.specs.declared.verdict.CheckFault.{CheckFault}
+use Rattle.refute_check.specs.declared.verdict.CheckFault.TheVariants.{NoVariable, NoClause, Hint, NoConflict}
+use Rattle.refute_check.specs.declared.verdict.Checked.{Checked}
+use Rattle.refute_check.specs.declared.verdict.Checked.TheVariants.{Closed, Open}
+
+-- a derivation has at most so many lines
+abbrev pub line_limit : ℕ
+line_limit = 2000000000
+
+-- the list has no element
+abbrev pub is_nil : {A : Type 0} → List A → Bool
+is_nil [] = true
+is_nil (x ∷ xs) = false
+
+-- a line of a derivation names a clause if it deletes
+abbrev pub is_line : Line → Bool
+is_line (Add lits hints) = true
+is_line (Delete ns) = not (is_nil ns)
+
+-- a derivation: not too many lines
+abbrev pub IsDerivation : List Line → Type 0
+IsDerivation lines = (length lines ≤ line_limit) × IsTrue (list_all is_line lines)
+
+-- the first fault of hints in turn, for the line of that number, where the given literals are true
+abbrev pub hints_fault : ℕ → KeptClauses → List ℤ → List ℕ → Option CheckFault
+hints_fault n kept given [] = Some (NoConflict n)
+hints_fault n kept given (h ∷ hs) =
+    option_map_or
+    (λ c. by_left (what_is_left given c) (if is_nil hs then None else Some (Hint n)) (λ l. hints_fault n kept (given ++ l ∷ []) hs) (Some (Hint n)))
+    (get kept h)
+    (Some (NoClause n))
+
+-- each number is kept at its turn, where they are taken out one after the other
+abbrev pub can_delete : KeptClauses → List ℕ → Bool
+can_delete kept [] = true
+can_delete kept (n ∷ ns) = is_some (get kept n) && can_delete (remove kept n) ns
+
+-- what is kept without those numbers
+abbrev pub without : KeptClauses → List ℕ → KeptClauses
+without kept ns = fold remove kept ns
+
+-- the first fault of the line of that number that adds a clause, over that many variables and the kept clauses
+abbrev pub clause_fault : ℕ → ℕ → KeptClauses → List ℤ → List ℕ → Option CheckFault
+clause_fault n vars kept lits hints = if is_within vars lits then hints_fault n kept (map neg_ℤ lits) hints else Some (NoVariable n)
+
+-- the first fault of the line of that number
+abbrev pub line_fault : ℕ → ℕ → KeptClauses → Line → Option CheckFault
+line_fault n vars kept (Add lits hints) = clause_fault n vars kept lits hints
+line_fault n vars kept (Delete ns) = if can_delete kept ns then None else Some (NoClause n)
+
+-- what a checker knows between two lines
+pub record Checking : Type 0 where
+  -- the number of the last line, where the header is line 1
+  pub line : ℕ
+  pub vars : ℕ
+  pub kept : KeptClauses
+  -- the number of the next clause
+  pub next : ℕ
+  -- whether an empty clause was added
+  pub closed : Bool
+  -- the first fault, after which nothing is kept
+  pub fault : Option CheckFault
+
+-- one clause more, under the next number
+abbrev pub keep : Checking → List ℤ → Checking
+keep s c = record s { kept = insert s.kept s.next c; next = s.next + 1 }
+
+-- over that many variables, before any clause
+abbrev pub opening : ℕ → Checking
+opening vars = record { line = 1; vars = vars; kept = empty; next = 1; closed = false; fault = None }
+
+-- the clauses of a formula have the numbers 1, 2 and so on
+abbrev pub start : Formula → Checking
+start f = fold keep (opening f.vars) f.clauses
+
+-- what a line leaves that adds a clause and passes
+abbrev pub passed_clause : Checking → List ℤ → Checking
+passed_clause s lits = record (keep s lits) { line = s.line + 1; closed = s.closed || is_nil lits }
+
+-- what a line that passes leaves
+abbrev pub passed : Checking → Line → Checking
+passed s (Add lits hints) = passed_clause s lits
+passed s (Delete ns) = record s { line = s.line + 1; kept = without s.kept ns }
+
+-- what a line with a fault leaves
+abbrev pub refused : CheckFault → Checking → Checking
+refused f s = record s { line = s.line + 1; kept = empty; fault = Some f }
+
+-- what a line leaves whose first fault is the one given, if any
+abbrev pub judged : Option CheckFault → Checking → Line → Checking
+judged None s l = passed s l
+judged (Some f) s l = refused f s
+
+-- what a line leaves; after a fault, nothing changes any more
+abbrev pub after : Checking → Line → Checking
+after s l = if is_some s.fault then s else judged (line_fault (s.line + 1) s.vars s.kept l) s l
+
+-- the first fault, else whether an empty clause was added
+abbrev pub verdict_of : Option CheckFault → Bool → Result Checked CheckFault
+verdict_of None closed = Ok (if closed then Closed else Open)
+verdict_of (Some f) closed = Err f
+
+abbrev pub verdict : Checking → Result Checked CheckFault
+verdict s = verdict_of s.fault s.closed
+
+-- the verdict on a derivation over the formula's clauses
+abbrev pub check : Formula → List Line → Result Checked CheckFault
+check f lines = verdict (fold after (start f) lines)
+
+abbrev pub IsClosed : Formula → List Line → Type 0
+IsClosed f lines = check f lines ≡ Ok Closed
+
+abbrev pub IsOpen : Formula → List Line → Type 0
+IsOpen f lines = check f lines ≡ Ok Open
+
+-- each clause that is kept is over the first `vars` variables
+abbrev pub AreWithin : ℕ → KeptClauses → Type 0
+AreWithin vars kept = (n : ℕ) → IfSome (get kept n) (λ c. IsTrue (is_within vars c))

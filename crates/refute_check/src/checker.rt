@@ -1,0 +1,197 @@
+//! A checker that takes a derivation line by line.
+ghost use Rattle.std.specs.Prelude.{◌≡◌, ◌+◌, ◌<◌, ◌≤◌, None, Some, IfOk, IfErr, OnOk, OnErr, IsTrue, List, ◌∷◌, [], ⊤, ◌≢◌, IsErrOf};
+ghost use Rattle.std.specs.List.{fold};
+ghost use Rattle.cnf_core.specs.Clauses.{limit, is_within, is_clause};
+
+use crate::{CheckFault, Checked, Derivation, Given, Kept, LINES, Line, Numbers, hints};
+use cnf_core::{Clause, Cnf, Lit, is_within};
+use std::alloc::{AllocError, Global};
+use std::marker::Model;
+
+/// What is known between two lines of a derivation over a formula: the clauses that are kept with their numbers, the number of
+/// the next, whether an empty clause was added, and the first fault. Nothing else of the lines is kept.
+///
+/// The time of a line is linear in its literals and numbers and in the literals of the clauses that it names.
+#[derive(Drop)]
+pub struct Checker {
+    alloc: Global,
+    vars: u32,
+    kept: Kept,
+    next: u32,
+    line: u32,
+    closed: bool,
+    fault: Option<CheckFault>,
+    given: Given,
+}
+
+impl Model for Checker {
+    ghost use Rattle.refute_check.specs.Refutations.{Checking};
+    ghost use Rattle.refute_check.specs.Kept.{kept_code};
+    ghost use Rattle.std.specs.Coded.{codes};
+
+    ghost Value = { Checking };
+
+    ghost coded = { Prim.hlevel (codes, kept_code) };
+
+    ghost use Rattle.refute_check.specs.Checkers.{checking_of, IsReady};
+
+    ghost view = { checking_of };
+
+    ghost invariant = { IsReady };
+}
+
+impl Checker {
+    ghost use Rattle.refute_check.specs.Refutations.{AreWithin, start, keep, after, verdict, line_limit, clause_fault, passed_clause, refused};
+
+    /// A checker over a formula's clauses, before any line.
+    pub fn new(alloc: Global, cnf: &Cnf) -> Result<Checker, AllocError>
+        ensures { IfOk result (λ checker. checker ≡ start cnf.now) }
+    {
+        let mut checker = Checker {
+            alloc,
+            vars: cnf.vars(),
+            kept: Kept::new(alloc),
+            next: 1,
+            line: 1,
+            closed: false,
+            fault: None,
+            given: Given::new(alloc, cnf.vars())?,
+        };
+        for place in 0..cnf.len() {
+            checker.keep(cnf.clause(place))?;
+        }
+        Ok(checker)
+    }
+
+    /// One of the formula's clauses.
+    fn keep(&mut self, clause: &[Lit]) -> Result<(), AllocError>
+        requires rises { IsTrue (is_clause clause.now) }
+        requires within { IsTrue (is_within self.old.vars clause.now) }
+        requires room { self.old.next ≤ limit }
+        ensures ok { OnOk result (self.new ≡ keep self.old clause.now) }
+    {
+        let literals = Vec::from_slice(self.alloc, clause)?;
+        self.kept.insert(self.next, Clause::new(literals))?;
+        self.next += 1;
+        Ok(())
+    }
+
+    /// Takes the next line. After a fault of a line each later call answers that fault, and nothing changes.
+    pub fn add(&mut self, line: &Line) -> Result<(), CheckFault>
+        requires { self.old.line ≤ line_limit }
+        ensures ok { OnOk result ((self.new ≡ after self.old line.now) × (self.new.fault ≡ None)) }
+        ensures fault { IfErr result (λ fault. fault ≢ CheckFault.Memory → (self.new ≡ after self.old line.now) × (self.new.fault ≡ Some fault)) }
+        ensures memory { IsErrOf result CheckFault.Memory → self.new ≡ self.old }
+    {
+        if let Some(fault) = self.fault {
+            return Err(fault);
+        }
+        match line {
+            Line::Add(clause, hints) => self.add_clause(clause, hints),
+            Line::Delete(numbers) => self.delete(numbers),
+        }
+    }
+
+    /// The number of the last line, where the header is line 1. Up to [`LINES`] a further line may be added.
+    pub fn line(&self) -> u32
+        ensures { result ≡ self.now.line }
+    {
+        self.line
+    }
+
+    /// What the lines so far show, or their first fault.
+    pub fn verdict(&self) -> Result<Checked, CheckFault>
+        ensures { result ≡ verdict self.now }
+    {
+        match self.fault {
+            Some(fault) => Err(fault),
+            None if self.closed => Ok(Checked::Closed),
+            None => Ok(Checked::Open),
+        }
+    }
+
+    /// A line that adds a clause.
+    fn add_clause(&mut self, clause: &Clause, hints: &Numbers) -> Result<(), CheckFault>
+        requires none { self.old.fault ≡ None }
+        requires lines { self.old.line ≤ line_limit }
+        ensures ok { OnOk result ((self.new ≡ after self.old (Line.Add clause.now hints.now)) × (self.new.fault ≡ None)) }
+        ensures fault { IfErr result (λ fault. fault ≢ CheckFault.Memory → (self.new ≡ after self.old (Line.Add clause.now hints.now))
+            × (self.new.fault ≡ Some fault)) }
+        ensures memory { IsErrOf result CheckFault.Memory → self.new ≡ self.old }
+    {
+        match self.clause_fault(clause.literals(), hints.as_slice()) {
+            Err(_) => Err(CheckFault::Memory),
+            Ok(Some(fault)) => {
+                self.refuse(fault);
+                Err(fault)
+            }
+            Ok(None) => match self.pass(clause.literals()) {
+                Err(_) => Err(CheckFault::Memory),
+                Ok(()) => Ok(()),
+            },
+        }
+    }
+
+    /// The first fault of a line that adds a clause, if it has one.
+    fn clause_fault(
+        &mut self,
+        clause: &[Lit],
+        hints: &[u32],
+    ) -> Result<Option<CheckFault>, AllocError>
+        requires { self.old.line ≤ line_limit }
+        ensures same { self.new ≡ self.old }
+        ensures fault { IfOk result (λ fault. fault ≡ clause_fault (self.old.line + 1) self.old.vars self.old.kept clause.now hints.now) }
+    {
+        if !is_within(self.vars, clause) {
+            return Ok(Some(CheckFault::NoVariable(self.line + 1)));
+        }
+        hints::clause_fault(self.line + 1, &self.kept, &mut self.given, clause, hints)
+    }
+
+    /// A line adds a clause and passes.
+    fn pass(&mut self, clause: &[Lit]) -> Result<(), AllocError>
+        requires rises { IsTrue (is_clause clause.now) }
+        requires within { IsTrue (is_within self.old.vars clause.now) }
+        requires lines { self.old.line ≤ line_limit }
+        ensures ok { OnOk result (self.new ≡ passed_clause self.old clause.now) }
+        ensures err { OnErr result (self.new ≡ self.old) }
+    {
+        let literals = Vec::from_slice(self.alloc, clause)?;
+        self.kept.insert(self.next, Clause::new(literals))?;
+        self.next += 1;
+        self.line += 1;
+        self.closed = self.closed || clause.is_empty();
+        Ok(())
+    }
+
+    /// A line has a fault, after which nothing is kept.
+    fn refuse(&mut self, fault: CheckFault)
+        requires lines { self.old.line ≤ line_limit }
+        requires fault { fault ≢ CheckFault.Memory }
+        ensures { self.new ≡ refused fault self.old }
+    {
+        self.kept = Kept::new(self.alloc);
+        self.line += 1;
+        self.fault = Some(fault);
+    }
+
+    /// A line that deletes clauses.
+    fn delete(&mut self, numbers: &Numbers) -> Result<(), CheckFault>
+        requires none { self.old.fault ≡ None }
+        requires lines { self.old.line ≤ line_limit }
+        ensures ok { OnOk result ((self.new ≡ after self.old (Line.Delete numbers.now)) × (self.new.fault ≡ None)) }
+        ensures fault { IfErr result (λ fault. fault ≢ CheckFault.Memory → (self.new ≡ after self.old (Line.Delete numbers.now))
+            × (self.new.fault ≡ Some fault)) }
+        ensures memory { IsErrOf result CheckFault.Memory → self.new ≡ self.old }
+    {
+        if hints::delete(&mut self.kept, numbers.as_slice()) {
+            self.line += 1;
+            return Ok(());
+        }
+        self.kept = Kept::new(self.alloc);
+        self.line += 1;
+        let fault = CheckFault::NoClause(self.line);
+        self.fault = Some(fault);
+        Err(fault)
+    }
+}

@@ -1,0 +1,101 @@
+//! The text of a refutation.
+ghost use Rattle.std.specs.Prelude.{◌≡◌, ◌++◌, ℤ, pos, List, map, codes, OnOk, IfOk};
+ghost use Rattle.std.specs.String.{string_bytes};
+ghost use Rattle.std.specs.Fmt.{signed_decimal};
+ghost use Rattle.refute_check.specs.Texts.{head_text, model_text, switches_text, numbers_text, line_text, ended, refutation_text};
+
+use crate::{Derivation, Head, Line};
+use cnf_core::Lit;
+use std::alloc::{AllocError, Global};
+use std::fmt::Write;
+use tc_base::Model;
+
+/// The text of a refutation. It is the one text that is read as this head and derivation.
+pub fn write_refutation(
+    alloc: Global,
+    head: Head,
+    derivation: &Derivation,
+) -> Result<Vec<u8>, AllocError>
+    ensures { IfOk result (λ text. text.items ≡ refutation_text head derivation.now) }
+{
+    let mut text = String::new(alloc);
+    write_head(&mut text, head)?;
+    text.push_str("\n")?;
+    for line in derivation.lines() {
+        write_ended(&mut text, line)?;
+    }
+    Ok(text.into_bytes())
+}
+
+/// The first line without its end.
+pub fn write_head(text: &mut String, head: Head) -> Result<(), AllocError>
+    ensures { OnOk result (string_bytes text.new ≡ string_bytes text.old ++ head_text head) }
+{
+    text.push_str("clap-refutation 2 ")?;
+    text.push_str(word_of(head.model))?;
+    write_switches(text, head.switches)
+}
+
+fn write_switches(text: &mut String, switches: Option<u8>) -> Result<(), AllocError>
+    ensures { OnOk result (string_bytes text.new ≡ string_bytes text.old ++ switches_text switches) }
+{
+    match switches {
+        Some(switches) => write!(text, " switches {switches}"),
+        None => Ok(()),
+    }
+}
+
+fn word_of(model: Model) -> &'static str
+    ensures { result.now ≡ model_text model }
+{
+    match model {
+        Model::Sc => "sc",
+        Model::Tso => "tso",
+        Model::Pso => "pso",
+    }
+}
+
+fn write_ended(text: &mut String, line: &Line) -> Result<(), AllocError>
+    ensures { OnOk result (string_bytes text.new ≡ string_bytes text.old ++ ended (line_text line.now)) }
+{
+    write_line(text, line)?;
+    text.push_str("\n")
+}
+
+/// A line without its end.
+pub fn write_line(text: &mut String, line: &Line) -> Result<(), AllocError>
+    ensures { OnOk result (string_bytes text.new ≡ string_bytes text.old ++ line_text line.now) }
+{
+    match line {
+        Line::Add(clause, hints) => {
+            text.push_str("a")?;
+            write_literals(text, clause.literals())?;
+            text.push_str(" 0")?;
+            write_numbers(text, hints.as_slice())?;
+        }
+        Line::Delete(numbers) => {
+            text.push_str("d")?;
+            write_numbers(text, numbers.as_slice())?;
+        }
+    }
+    text.push_str(" 0")
+}
+
+fn write_literals(text: &mut String, literals: &[Lit]) -> Result<(), AllocError>
+    ensures { OnOk result (string_bytes text.new ≡ string_bytes text.old ++ numbers_text literals.now) }
+{
+    for lit in literals {
+        let number = lit.number();
+        write!(text, " {number}")?;
+    }
+    Ok(())
+}
+
+fn write_numbers(text: &mut String, numbers: &[u32]) -> Result<(), AllocError>
+    ensures { OnOk result (string_bytes text.new ≡ string_bytes text.old ++ numbers_text (map pos numbers.now)) }
+{
+    for number in numbers {
+        write!(text, " {number}")?;
+    }
+    Ok(())
+}

@@ -1,0 +1,5 @@
+//! Clauses, gates and refutations by hand.
+#![tactic(auto)]
+
+#[cfg(test)]
+mod tests;

@@ -1,0 +1,115 @@
+-- How a reader takes the front of a text: a value and what stands behind it.
+use Rattle.std.specs.Prelude.{ℕ, zero, suc, Bool, false, ◌&&◌, not, nat_le, nat_lt, ◌==◌, if◌then◌else◌, List, [], ◌∷◌, length}
+use Rattle.std.specs.Prelude.{Option, Some, None, codes, take, drop}
+use Rattle.std.specs.List.{prefix_len}
+use Rattle.std.specs.Str.Parse.{digits_value}
+use Rattle.tc_base.specs.Names.{Name}
+use Rattle.tc_base.specs.declared.model.Model.{Model}
+use Rattle.tc_base.specs.declared.model.Model.TheVariants.{Sc, Tso, Pso}
+use Rattle.tc_base.specs.declared.moves.Move.{Move}
+use Rattle.tc_base.specs.declared.moves.Move.TheVariants.{Run, Wake, Drain}
+
+infixl 10 ◌>>=◌
+abbrev pub ◌>>=◌ : {A B : Type 0} → Option A → (A → Option B) → Option B
+(Some x) >>= f = f x
+None >>= f = None
+
+-- the second where the first isn't there
+abbrev pub or_else : {A : Type 0} → Option A → Option A → Option A
+or_else (Some x) other = Some x
+or_else None other = other
+
+-- what stands behind this front
+abbrev pub behind : List ℕ → List ℕ → Option (List ℕ)
+behind [] bytes = Some bytes
+behind (f ∷ front) [] = None
+behind (f ∷ front) (b ∷ bytes) = if f == b then behind front bytes else None
+
+abbrev pub is_digit : ℕ → Bool
+is_digit b = nat_le 48 b && nat_le b 57
+
+-- a `0` stands before other bytes
+abbrev pub leads_with_zero : List ℕ → Bool
+leads_with_zero (b ∷ _ ∷ _) = b == 48
+leads_with_zero _ = false
+
+-- the number that these digits write
+abbrev pub number_of : List ℕ → Option ℕ
+number_of digits = if not (leads_with_zero digits) && nat_lt 0 (length digits) && nat_lt (digits_value 10 digits) 65536
+    then Some (digits_value 10 digits) else None
+
+-- the number from low to high at the front
+unfoldable pub number_at : ℕ → ℕ → List ℕ → Option (ℕ × List ℕ)
+number_at low high bytes = do
+  n ← number_of (take (prefix_len is_digit bytes) bytes)
+  if nat_le low n && nat_le n high then Some (n, drop (prefix_len is_digit bytes) bytes) else None
+
+-- one child, and those that the rest gives
+abbrev pub with_child : ℕ → Option (Name × List ℕ) → Option (Name × List ℕ)
+with_child child others = others >>= λ x. Some (child ∷ x.0, x.1)
+
+-- no children where no dot stands at the front, and else what stands behind the dot read so
+abbrev pub where_dot : Option (List ℕ) → List ℕ → (List ℕ → Option (Name × List ℕ)) → Option (Name × List ℕ)
+where_dot None bytes read = Some ([], bytes)
+where_dot (Some number) bytes read = read number
+
+-- a dot and a number for each child, of which so many may come
+unfoldable pub children_at : ℕ → List ℕ → Option (Name × List ℕ)
+children_at zero bytes = where_dot (behind (codes ".") bytes) bytes (λ _. None)
+children_at (suc room) bytes =
+    where_dot (behind (codes ".") bytes) bytes (λ number. number_at 1 255 number >>= λ k. with_child k.0 (children_at room k.1))
+
+unfoldable pub name_at : List ℕ → Option (Name × List ℕ)
+name_at bytes = behind (codes "0") bytes >>= children_at 8
+
+-- what a drain's line names behind the thread
+unfoldable pub cell_at : Model → List ℕ → Option (Option ℕ × List ℕ)
+cell_at Sc bytes = None
+cell_at Tso bytes = Some (None, bytes)
+cell_at Pso bytes = do
+  number ← behind (codes " ") bytes
+  cell ← number_at 0 1023 number
+  Some (Some cell.0, cell.1)
+
+-- the end of a move's line
+abbrev pub ended : Move → List ℕ → Option (Move × List ℕ)
+ended move bytes = behind (codes "\n") bytes >>= λ after. Some (move, after)
+
+unfoldable pub run_at : List ℕ → Option (Move × List ℕ)
+run_at bytes = do
+  rest ← behind (codes "r ") bytes
+  n ← name_at rest
+  ended (Run n.0) n.1
+
+unfoldable pub wake_at : List ℕ → Option (Move × List ℕ)
+wake_at bytes = do
+  rest ← behind (codes "w ") bytes
+  n ← name_at rest
+  second ← behind (codes " ") n.1
+  waiter ← name_at second
+  ended (Wake n.0 waiter.0) waiter.1
+
+unfoldable pub drain_at : Model → List ℕ → Option (Move × List ℕ)
+drain_at model bytes = do
+  rest ← behind (codes "d ") bytes
+  n ← name_at rest
+  cell ← cell_at model n.1
+  ended (Drain n.0 cell.0) cell.1
+
+-- the move whose line is at the front
+unfoldable pub move_at : Model → List ℕ → Option (Move × List ℕ)
+move_at model bytes = or_else (run_at bytes) (or_else (wake_at bytes) (drain_at model bytes))
+
+-- this model, and what stands behind its name
+abbrev pub named : Model → List ℕ → Option (Model × List ℕ)
+named model rest = Some (model, rest)
+
+unfoldable pub model_at : List ℕ → Option (Model × List ℕ)
+model_at bytes =
+    or_else (behind (codes "sc\n") bytes >>= named Sc)
+    (or_else (behind (codes "tso\n") bytes >>= named Tso)
+    (behind (codes "pso\n") bytes >>= named Pso))
+
+-- the model of the header at the front
+unfoldable pub header_at : List ℕ → Option (Model × List ℕ)
+header_at bytes = behind (codes "clap-schedule 1 ") bytes >>= model_at

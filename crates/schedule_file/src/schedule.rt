@@ -1,0 +1,16 @@
+//! A schedule.
+ghost use Rattle.schedule_file.specs.Schedules.{HaveText};
+
+use tc_base::{Model, Move};
+
+/// The moves of a run, and the model under which they are made.
+///
+/// A schedule has a text: it has fewer than 2^26 moves, its names have at most 8 children with numbers from 1
+/// to 255, its cells are below 1,024, and a drain names a cell under PSO, none under TSO, and stands under no
+/// other model.
+#[derive(Debug, Drop)]
+pub struct Schedule {
+    pub model: Model,
+    pub moves: Vec<Move>,
+    ghost has_text: { HaveText model moves.items },
+}

@@ -1,0 +1,4 @@
+pub mod Lists
+pub mod Walks
+pub mod Chains
+pub mod Programs

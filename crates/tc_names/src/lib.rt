@@ -1,0 +1,10 @@
+//! The rules on names: each is declared once in its scope, and used as what it is.
+#![tactic(auto)]
+
+mod fault;
+mod names;
+mod scope;
+mod uses;
+
+pub use fault::NameFault;
+pub use names::check_names;

@@ -1,0 +1,167 @@
+//! Uses of names in statements and expressions.
+ghost use Rattle.std.specs.Prelude.{◌≡◌, length, map};
+ghost use Rattle.tc_tree.specs.Seen.{expression_of, expressions_of, statement_of, branch_of};
+ghost use Rattle.tc_names.specs.Names.{
+  name_fault,
+  is_int,
+  is_meaning,
+  thread_fault,
+  expression_fault,
+  expressions_fault,
+  action_fits,
+  statement_fault,
+  statements_fault,
+};
+ghost use Rattle.tc_names.specs.helpers.Answers.{Tells, plain_scope, statements_seen, branch_fault, branches_fault};
+
+use crate::fault::NameFault;
+use crate::scope::{Meaning, Scope, meaning_of};
+use tc_tree::{Action, Block, Branch, Expression, Name, Statement};
+
+/// Refuses a name of another meaning.
+fn check_meaning(scope: Scope, name: &Name, wanted: Meaning) -> Result<(), NameFault>
+    ensures { Tells result (name_fault (is_meaning wanted) (plain_scope scope.entry) name.now) }
+{
+    if meaning_of(scope, name)? == wanted {
+        Ok(())
+    } else {
+        Err(NameFault::Kind(name.place))
+    }
+}
+
+/// Refuses a name that is no int.
+fn check_int(scope: Scope, name: &Name) -> Result<(), NameFault>
+    ensures { Tells result (name_fault is_int (plain_scope scope.entry) name.now) }
+{
+    match meaning_of(scope, name)? {
+        Meaning::Global | Meaning::Parameter | Meaning::Local => Ok(()),
+        _ => Err(NameFault::Kind(name.place)),
+    }
+}
+
+/// Refuses a name that is no thread, or one with another number of parameters.
+fn check_thread(scope: Scope, name: &Name, arguments: usize) -> Result<(), NameFault>
+    ensures { Tells result (thread_fault (plain_scope scope.entry) name.now arguments) }
+{
+    match meaning_of(scope, name)? {
+        Meaning::Thread(parameters) if parameters == arguments => Ok(()),
+        Meaning::Thread(_) => Err(NameFault::Arguments(name.place)),
+        _ => Err(NameFault::Kind(name.place)),
+    }
+}
+
+fn check_expression(scope: Scope, expression: &Expression) -> Result<(), NameFault>
+    ensures { Tells result (expression_fault (plain_scope scope.entry) (expression_of expression.now)) }
+{
+    match expression {
+        Expression::Number(_) => Ok(()),
+        Expression::Name(name) => check_int(scope, name),
+        Expression::Element(array, index) => {
+            check_meaning(scope, array, Meaning::Array)?;
+            check_expression(scope, index)
+        }
+        Expression::Paren(inside) => check_expression(scope, inside),
+        Expression::Unary(_, operand) => check_expression(scope, operand),
+        Expression::Binary(_, left, right) => {
+            check_expression(scope, left)?;
+            check_expression(scope, right)
+        }
+    }
+}
+
+fn check_expressions(scope: Scope, expressions: &[Expression]) -> Result<(), NameFault>
+    ensures { Tells result (expressions_fault (plain_scope scope.entry) (expressions_of expressions.now)) }
+{
+    for expression in expressions {
+        check_expression(scope, expression)?;
+    }
+    Ok(())
+}
+
+fn check_action(scope: Scope, action: Action, name: &Name) -> Result<(), NameFault>
+    ensures { Tells result (name_fault (action_fits action) (plain_scope scope.entry) name.now) }
+{
+    let wanted = match action {
+        Action::Join => Meaning::Handle,
+        Action::Lock | Action::Unlock => Meaning::Mutex,
+        Action::Signal | Action::Broadcast => Meaning::Condition,
+    };
+    check_meaning(scope, name, wanted)
+}
+
+#[cycle(statements)]
+pub(crate) fn check_statements(scope: Scope, statements: &[Statement]) -> Result<(), NameFault>
+    ensures { Tells result (statements_fault (plain_scope scope.entry) (statements_seen statements.now)) }
+{
+    for statement in statements {
+        check_statement(scope, statement)?;
+    }
+    Ok(())
+}
+
+#[cycle(statements)]
+fn check_statement(scope: Scope, statement: &Statement) -> Result<(), NameFault>
+    ensures { Tells result (statement_fault (plain_scope scope.entry) (statement_of statement.now)) }
+{
+    match statement {
+        Statement::Assign(name, value) => {
+            check_int(scope, name)?;
+            check_expression(scope, value)
+        }
+        Statement::Store(array, index, value) => {
+            check_meaning(scope, array, Meaning::Array)?;
+            check_expression(scope, index)?;
+            check_expression(scope, value)
+        }
+        Statement::Create(handle, thread, arguments) => {
+            check_meaning(scope, handle, Meaning::Handle)?;
+            check_thread(scope, thread, arguments.len())?;
+            check_expressions(scope, arguments.as_slice())
+        }
+        Statement::Swap(local, global, value) => {
+            check_meaning(scope, local, Meaning::Local)?;
+            check_meaning(scope, global, Meaning::Global)?;
+            check_expression(scope, value)
+        }
+        Statement::Cas(local, global, old, new) => {
+            check_meaning(scope, local, Meaning::Local)?;
+            check_meaning(scope, global, Meaning::Global)?;
+            check_expression(scope, old)?;
+            check_expression(scope, new)
+        }
+        Statement::Act(_, action, name) => check_action(scope, *action, name),
+        Statement::Wait(_, condition, mutex) => {
+            check_meaning(scope, condition, Meaning::Condition)?;
+            check_meaning(scope, mutex, Meaning::Mutex)
+        }
+        Statement::Order(_, _) => Ok(()),
+        Statement::Assert(_, condition) => check_expression(scope, condition),
+        Statement::While(branch) => check_branch(scope, branch),
+        Statement::If(branch, others, last) => {
+            check_branch(scope, branch)?;
+            check_branches(scope, others.as_slice())?;
+            match last {
+                Some(block) => check_statements(scope, block.statements.as_slice()),
+                None => Ok(()),
+            }
+        }
+    }
+}
+
+#[cycle(statements)]
+fn check_branches(scope: Scope, branches: &[Branch]) -> Result<(), NameFault>
+    ensures { Tells result (branches_fault (plain_scope scope.entry) (map branch_of branches.now)) }
+{
+    for branch in branches {
+        check_branch(scope, branch)?;
+    }
+    Ok(())
+}
+
+#[cycle(statements)]
+fn check_branch(scope: Scope, branch: &Branch) -> Result<(), NameFault>
+    ensures { Tells result (branch_fault (plain_scope scope.entry) (branch_of branch.now)) }
+{
+    check_expression(scope, &branch.condition)?;
+    check_statements(scope, branch.body.statements.as_slice())
+}

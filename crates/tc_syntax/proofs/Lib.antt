@@ -1,0 +1,7 @@
+pub mod Stacks
+pub mod Signs
+pub mod Trees
+pub mod Attached
+pub mod Stands
+pub mod Places
+pub mod Chains

@@ -1,0 +1,328 @@
+-- What the machine took begins a program, and no program goes on with what it refused.
+use Rattle.std.proofs.Common.{
+  ◌≡◌,
+  ℕ,
+  suc,
+  ◌+◌,
+  ◌-◌,
+  ◌<◌,
+  ◌≤◌,
+  List,
+  [],
+  ◌∷◌,
+  ◌++◌,
+  length,
+  take,
+  true,
+  false,
+  Bool,
+  Option,
+  Some,
+  None,
+  refl,
+  sym,
+  ap,
+  subst,
+  ◌∙◌,
+  append_assoc,
+  arith,
+  length-append,
+  ◌⊎◌,
+  inl,
+  inr,
+  pos,
+}
+use Rattle.std.proofs.lemmas.List.{append-nil}
+use Rattle.std.proofs.Math.Seq.{take-append_seam, take-append-add}
+use Rattle.tc_base.specs.declared.place.Place.{Place}
+use Rattle.tc_lexer.specs.Tokens.{keyword_since, sign_since}
+use Rattle.tc_lexer.specs.declared.token.Keyword.{Keyword}
+use Rattle.tc_lexer.specs.declared.token.Keyword.TheVariants as keyword
+use Rattle.tc_lexer.specs.declared.token.Sign.{Sign}
+use Rattle.tc_lexer.specs.declared.token.Sign.TheVariants as sign
+use Rattle.tc_tree.specs.declared.statement.Barrier.TheVariants.{Fence, Stores}
+use Rattle.tc_tree.specs.declared.expression.Name.{Name}
+use Rattle.tc_tree.specs.declared.expression.Number.{Number as TreeNumber}
+use Rattle.tc_tree.specs.declared.word.Word.{Word}
+use Rattle.tc_tree.specs.declared.word.Word.TheVariants.{
+  Name as AName,
+  Number as ANumber,
+  Barrier as ABarrier,
+  Keyword as AKeyword,
+  Sign as ASign,
+  End as AnEnd,
+}
+use Rattle.tc_tree.specs.Words.{word_since}
+use Rattle.tc_tree.specs.Grammar.{
+  Program,
+  program_words,
+  globals_then,
+  threads_then,
+  body_then,
+  IsWellProgram,
+  AreOf,
+  IsSpelled,
+  Begins,
+  IsSyntaxFault,
+  Number,
+  Nil,
+  Assign,
+  Else,
+}
+use Rattle.tc_tree.specs.declared.program.Global.TheVariants.{Int}
+use Rattle.tc_tree.specs.declared.program.Initial.TheVariants.{Zero, Plain}
+use Rattle.tc_syntax.specs.helpers.Reading.{
+  Expected,
+  Just,
+  End,
+  AnyName,
+  AnyNumber,
+  AnInt,
+  Operand,
+  Subscript,
+  Operators,
+  Arguments,
+  Others,
+  Statements,
+  AfterName,
+  AfterAssign,
+  Alternative,
+  AfterElse,
+  Locals,
+  Parameters,
+  OtherParameters,
+  Globals,
+  Threads,
+  AfterGlobal,
+  Initial,
+  first,
+  skips,
+  step,
+  may_end,
+  at_end,
+  fault,
+}
+use Rattle.tc_syntax.specs.declared.reader.Stop.{Stop}
+use Rattle.tc_syntax.specs.declared.reader.Stop.TheVariants.{Memory, Left}
+use Rattle.tc_syntax.specs.Faults.{IsStop}
+use Rattle.tc_syntax.specs.helpers.Read.{Ends}
+use Rattle.tc_syntax.proofs.Stands.{Stands, StandsAfter, StandsThen, first_more, skip_more}
+use Rattle.tc_syntax.proofs.Trees.{program_read}
+
+-- what stands after a word that was expected stands, with the word, where it was
+by_first : (x : Expected) (s : List Expected) (w : Word) (ws : List Word) (o : Option (List Expected)) → first x w ≡ o → (b : Bool) → skips x ≡ b
+    → (StandsAfter (step s w) ws → Stands s (w ∷ ws)) → StandsAfter
+    (elim o [ Some es ↦ Some (es ++ s) | None ↦ elim b [ true ↦ step s w | false ↦ None ] ]) ws → Stands (x ∷ s) (w ∷ ws)
+by_first x s w ws (Some es) e b f more d = first_more x w s ws (subst (λ (o : Option (List Expected)). StandsThen o s ws) (sym e) d)
+by_first x s w ws None e true f more d = skip_more x s (w ∷ ws) f (more d)
+by_first x s w ws None e false f more d = absurd d
+
+one_more : (s : List Expected) (w : Word) (ws : List Word) → StandsAfter (step s w) ws → Stands s (w ∷ ws)
+one_more [] w ws d = absurd d
+one_more (x ∷ s) w ws d = by_first x s w ws (first x w) refl (skips x) refl (one_more s w ws) d
+
+a_place : Place
+a_place = record { line = 1; col = 1 }
+
+a_name : Name
+a_name = record { start = 0; end = 0; place = a_place }
+
+a_number : TreeNumber
+a_number = record { value = pos 0; place = a_place }
+
+-- something always stands
+finish : (s : List Expected) → (ws : List Word) × Stands s ws
+finish [] = ([], refl)
+finish (Just k ∷ s) = let f = finish s in (ASign k ∷ f.0, (f.0, refl, f.1))
+finish (End ∷ s) = let f = finish s in (AnEnd a_place ∷ f.0, (a_place, f.0, refl, f.1))
+finish (AnyName ∷ s) = let f = finish s in (AName a_name ∷ f.0, (a_name, f.0, refl, f.1))
+finish (AnyNumber ∷ s) = let f = finish s in (ANumber a_number ∷ f.0, (a_number, f.0, refl, f.1))
+finish (AnInt ∷ s) = let f = finish s in (AKeyword keyword.Int ∷ f.0, (f.0, refl, f.1))
+finish (Operand ∷ s) = let f = finish s in (ANumber a_number ∷ f.0, (Number a_number, f.0, tt, omega arith, refl, f.1))
+finish (AfterName ∷ s) = let f = finish s in (
+  ASign sign.Assign ∷ ANumber a_number ∷ ASign sign.Semicolon ∷ f.0,
+  (f.0, (λ x. (Assign x (Number a_number), tt, refl)), f.1),
+)
+finish (AfterAssign ∷ s) = let f = finish s in (ANumber a_number ∷ ASign sign.Semicolon ∷ f.0, (f.0, (λ x. (Assign x (Number a_number), tt, refl)), f.1))
+finish (AfterElse ∷ s) = let f = finish s in (ASign sign.OpenBrace ∷ AnEnd a_place ∷ f.0, (Else Nil a_place, f.0, tt, refl, f.1))
+finish (Globals ∷ s) = let f = finish s in (
+  AKeyword keyword.Main ∷ ASign sign.OpenBrace ∷ AnEnd a_place ∷ f.0,
+  ([], [], record { locals = []; statements = Nil; end = a_place }, f.0, tt, tt, refl, f.1),
+)
+finish (Threads ∷ s) = let f = finish s in (
+  AKeyword keyword.Main ∷ ASign sign.OpenBrace ∷ AnEnd a_place ∷ f.0,
+  ([], record { locals = []; statements = Nil; end = a_place }, f.0, tt, tt, refl, f.1),
+)
+finish (AfterGlobal ∷ s) = let f = finish s in (ASign sign.Semicolon ∷ f.0, (f.0, (λ x. (Int x Zero, refl)), f.1))
+finish (Initial ∷ s) = let f = finish s in (ANumber a_number ∷ ASign sign.Semicolon ∷ f.0, (f.0, Plain a_number, refl, f.1))
+finish (Subscript ∷ s) = let f = finish s in (f.0, skip_more Subscript s f.0 refl f.1)
+finish (Operators ∷ s) = let f = finish s in (f.0, skip_more Operators s f.0 refl f.1)
+finish (Arguments ∷ s) = let f = finish s in (f.0, skip_more Arguments s f.0 refl f.1)
+finish (Others ∷ s) = let f = finish s in (f.0, skip_more Others s f.0 refl f.1)
+finish (Statements ∷ s) = let f = finish s in (f.0, skip_more Statements s f.0 refl f.1)
+finish (Alternative ∷ s) = let f = finish s in (f.0, skip_more Alternative s f.0 refl f.1)
+finish (Locals ∷ s) = let f = finish s in (f.0, skip_more Locals s f.0 refl f.1)
+finish (Parameters ∷ s) = let f = finish s in (f.0, skip_more Parameters s f.0 refl f.1)
+finish (OtherParameters ∷ s) = let f = finish s in (f.0, skip_more OtherParameters s f.0 refl f.1)
+
+-- ---- every word is one of the last language
+
+keyword_small : (k : Keyword) → keyword_since k ≤ 3
+keyword_small keyword.Swap = omega arith
+keyword_small keyword.Cas = omega arith
+keyword_small keyword.Stbar = omega arith
+keyword_small _ = omega arith
+
+sign_small : (k : Sign) → sign_since k ≤ 3
+sign_small sign.Slash = omega arith
+sign_small sign.Percent = omega arith
+sign_small sign.ShiftLeft = omega arith
+sign_small sign.ShiftRight = omega arith
+sign_small _ = omega arith
+
+word_small : (w : Word) → word_since w ≤ 3
+word_small (AKeyword k) = keyword_small k
+word_small (ASign k) = sign_small k
+word_small (ABarrier Fence p) = omega arith
+word_small (ABarrier Stores p) = omega arith
+word_small _ = omega arith
+
+pub are_of : (ws : List Word) → AreOf 3 ws
+are_of [] = tt
+are_of (w ∷ ws) = (word_small w, are_of ws)
+
+-- ---- programs
+
+-- whatever stands where these are expected makes the words before it a program's
+abbrev Fits : List Expected → List Word → Type 0
+Fits s before = (ws : List Word) → Stands s ws → (p : Program) × IsWellProgram p × (before ++ ws ≡ program_words p)
+
+fits_begins : (s : List Expected) (before : List Word) → Fits s before → Begins 3 before
+fits_begins s before fits =
+    let f = finish s in
+    let g = fits f.0 f.1 in
+    record { program = g.0; more = f.0; is = record { spelled = g.2; grouped = g.1; language_has = are_of (before ++ f.0) } }
+
+fits_more : (s s' : List Expected) (w : Word) (before : List Word) → step s w ≡ Some s' → Fits s before → Fits s' (before ++ w ∷ [])
+fits_more s s' w before e fits ws d =
+    let g = fits (w ∷ ws) (one_more s w ws (subst (λ (o : Option (List Expected)). StandsAfter o ws) (sym e) d)) in
+    (g.0, g.1, append_assoc before (w ∷ []) ws ∙ g.2)
+
+-- the words before the fault, and those from it on
+record Cut (s : List Expected) (before ws : List Word) (left : ℕ) : Type 0 where
+  front : List Word
+  rest : List Word
+  whole : ws ≡ front ++ rest
+  count : length rest ≡ left
+  begins : Begins 3 (before ++ front)
+  refused : (w : Word) (after more : List Word) → rest ≡ w ∷ after → fault (Some s) (front ++ w ∷ more) ≡ Some (suc (length more))
+
+some_is : (m n : ℕ) → Some m ≡ Some n → m ≡ n
+some_is m n e = cc
+
+cut_here : (s : List Expected) (before : List Word) (w : Word) (ws : List Word) (left : ℕ) → step s w ≡ None → suc (length ws) ≡ left → Fits s before
+    → Cut s before (w ∷ ws) left
+cut_here s before w ws left e n fits = record {
+  front = [];
+  rest = w ∷ ws;
+  whole = refl;
+  count = n;
+  begins = subst (Begins 3) (sym (append-nil before)) (fits_begins s before fits);
+  refused = λ u after more same. let head : w ≡ u = cc
+      in subst (λ (v : Word). fault (step s v) more ≡ Some (suc (length more))) head
+      (subst (λ (o : Option (List Expected)). fault o more ≡ Some (suc (length more))) (sym e) refl);
+}
+
+cut_later : (s s' : List Expected) (before : List Word) (w : Word) (ws : List Word) (left : ℕ) → step s w ≡ Some s'
+    → Cut s' (before ++ w ∷ []) ws left → Cut s before (w ∷ ws) left
+cut_later s s' before w ws left e c = record {
+  front = w ∷ c.front;
+  rest = c.rest;
+  whole = ap (λ (us : List Word). w ∷ us) c.whole;
+  count = c.count;
+  begins = subst (Begins 3) (append_assoc before (w ∷ []) c.front) c.begins;
+  refused = λ u after more same. subst (λ (o : Option (List Expected)). fault o (c.front ++ u ∷ more) ≡ Some (suc (length more))) (sym e)
+      (c.refused u after more same);
+}
+
+at_end_is : (b : Bool) (left : ℕ) → at_end b ≡ Some left → 0 ≡ left
+at_end_is true left e = absurd cc
+at_end_is false left e = cc
+
+option_cases : (o : Option (List Expected)) → (o ≡ None) ⊎ ((s : List Expected) × (o ≡ Some s))
+option_cases None = inl refl
+option_cases (Some s) = inr (s, refl)
+
+cut : (s : List Expected) (before ws : List Word) (left : ℕ) → fault (Some s) ws ≡ Some left → Fits s before → Cut s before ws left
+cut s before [] left e fits = record {
+  front = [];
+  rest = [];
+  whole = refl;
+  count = at_end_is (may_end s) left e;
+  begins = subst (Begins 3) (sym (append-nil before)) (fits_begins s before fits);
+  refused = λ u after more same. absurd cc;
+}
+cut s before (w ∷ ws) left e fits =
+    elim (option_cases (step s w)) [
+      | inl none ↦ cut_here s before w ws left none (some_is (suc (length ws)) left
+          (subst (λ (o : Option (List Expected)). fault o ws ≡ Some left) none e)) fits
+      | inr some ↦ cut_later s some.0 before w ws left some.1
+          (cut some.0 (before ++ w ∷ []) ws left (subst (λ (o : Option (List Expected)). fault o ws ≡ Some left) some.1 e)
+          (fits_more s some.0 w before some.1 fits))
+    ]
+
+fits_start : Fits (Globals ∷ []) []
+fits_start ws (gs, ts, main, rest, gts, gm, is, nil) = (
+  record { globals = gs; threads = ts; main = main },
+  (gts, gm),
+  is
+      ∙ ap (λ (us : List Word). globals_then gs (threads_then ts (AKeyword keyword.Main ∷ body_then main us))) nil,
+)
+
+never : (front : List Word) (w : Word) → ((more : List Word) → fault (Some (Globals ∷ [])) (front ++ w ∷ more) ≡ Some (suc (length more)))
+    → Begins 3 (front ++ w ∷ []) → ⊥
+never front w refused b =
+    let here = refused b.more in
+    let spelled : front ++ w ∷ b.more ≡ program_words b.program = sym (append_assoc front (w ∷ []) b.more) ∙ b.is.spelled in
+    let read = program_read b.program in
+    let moved = ap (λ (ws : List Word). fault (Some (Globals ∷ [])) ws) spelled in
+    cc
+
+after_front : (front rest : List Word) → length front < length (front ++ rest)
+    → ((w : Word) (after more : List Word) → rest ≡ w ∷ after → fault (Some (Globals ∷ [])) (front ++ w ∷ more) ≡ Some (suc (length more)))
+    → Begins 3 (take (length front + 1) (front ++ rest)) → ⊥
+after_front front [] h refused b = absurd (omega (arith, length-append front [], h))
+after_front front (w ∷ after) h refused b = never front w (λ more. refused w after more refl) (subst (Begins 3) (take-append-add front (w ∷ after) 1) b)
+
+fault_at : (front rest : List Word) → Begins 3 front
+    → ((w : Word) (after more : List Word) → rest ≡ w ∷ after → fault (Some (Globals ∷ [])) (front ++ w ∷ more) ≡ Some (suc (length more)))
+    → ((p : Program) → IsSpelled 3 (front ++ rest) p → ⊥) → IsSyntaxFault 3 (front ++ rest) (length front)
+fault_at front rest begins refused none = record {
+  within = omega (arith, length-append front rest);
+  before = subst (Begins 3) (sym (take-append_seam front rest)) begins;
+  after = λ h b. after_front front rest h refused b;
+  none = none;
+}
+
+no_program : (ws : List Word) (left : ℕ) → fault (Some (Globals ∷ [])) ws ≡ Some left → (p : Program) → IsSpelled 3 ws p → ⊥
+no_program ws left e p is =
+    let read = program_read p in
+    let moved = ap (λ (us : List Word). fault (Some (Globals ∷ [])) us) is.spelled in
+    cc
+
+-- where the machine refuses, the fault is that of the definition
+pub is_syntax_fault : (ws : List Word) (left : ℕ) → fault (Some (Globals ∷ [])) ws ≡ Some left → (left ≤ length ws) × IsSyntaxFault 3 ws (length ws - left)
+is_syntax_fault ws left e =
+    let c = cut (Globals ∷ []) [] ws left e fits_start in
+    let size : length ws ≡ length c.front + left = ap length c.whole ∙ length-append c.front c.rest ∙ ap (λ (n : ℕ). length c.front + n) c.count in
+    let place : length ws - left ≡ length c.front = omega (arith, size) in
+    let at_front = fault_at c.front c.rest c.begins c.refused
+    (λ p is. no_program ws left e p (subst (λ (us : List Word). IsSpelled 3 us p) (sym c.whole) is)) in (
+      omega (arith, size),
+      subst (λ (k : ℕ). IsSyntaxFault 3 ws k) (sym place)
+          (subst (λ (us : List Word). IsSyntaxFault 3 us (length c.front)) (sym c.whole) at_front),
+    )
+
+pub is_stop : (ws : List Word) (stop : Stop) → Ends ws stop → IsStop 3 ws stop
+is_stop ws Memory h = tt
+is_stop ws (Left n) h = is_syntax_fault ws n h

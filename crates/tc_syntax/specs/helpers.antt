@@ -1,0 +1,3 @@
+-- Helpers that no promise speaks of.
+pub mod Reading
+pub mod Read

@@ -1,0 +1,323 @@
+//! Reads statements.
+ghost use Rattle.std.specs.Prelude.{◌≡◌, ◌<◌, ◌≤◌, ◌∷◌, ◌++◌, [], true, MatchResult};
+ghost use Rattle.tc_lexer.specs.declared.token.Keyword.TheVariants as keyword;
+ghost use Rattle.tc_lexer.specs.declared.token.Sign.TheVariants as sign;
+ghost use Rattle.tc_tree.specs.Grammar.{statement_then, statements_then, otherwise_then, IsWell, AreWell, IsWellOtherwise};
+ghost use Rattle.tc_tree.specs.declared.word.Word.TheVariants.{
+  Sign as ASign,
+  Name as AName,
+  Keyword as AKeyword,
+  If as AnIf,
+  While as AWhile,
+  Action as AnAction,
+  Wait as AWait,
+  Barrier as ABarrier,
+  Assert as AnAssert,
+};
+ghost use Rattle.tc_tree.specs.Seen.{statement_of, block_of, branch_of};
+ghost use Rattle.tc_syntax.specs.helpers.Reading.{Just, AnyName, Operand, Operators, Arguments, Statements, AfterName, AfterAssign, Alternative, End, guarded};
+ghost use Rattle.tc_syntax.specs.helpers.Read.{Stops, IsRead, IsStatement, block_then, branch_then, IsWellBlock, IsWellBranch, statements_seen, otherwise_seen};
+ghost use Rattle.tc_syntax.specs.helpers.Read as reads;
+
+use crate::expressions::{read_arguments, read_expression};
+use crate::reader::{Read, Stop, past, past_end, past_if, past_keyword, past_name};
+use std::alloc::Global;
+use tc_base::Place;
+use tc_lexer::{Keyword, Sign};
+use tc_tree::{Action, Barrier, Block, Branch, Name, Statement, Word};
+
+/// What stands after the first branch of an `if`.
+type Otherwise = (Vec<Branch>, Option<Block>);
+
+/// Statements, as many as stand there, and the words after them.
+#[cycle(statements)]
+pub(crate) fn read_statements<'w>(alloc: Global, words: &'w [Word]) -> Read<'w, Vec<Statement>>
+    ensures { MatchResult result
+        (λ x. IsRead statements_then AreWell [] (Statements ∷ []) words.now (statements_seen x.0.items) x.1.now)
+        (λ stop. Stops (Statements ∷ []) words.now stop) }
+{
+    let mut found = Vec::new(alloc);
+    let mut rest = words;
+    while begins_statement(rest) {
+        let (statement, after) = read_statement(alloc, rest)?;
+        found.push(statement)?;
+        rest = after;
+    }
+    Ok((found, rest))
+}
+
+/// Whether a statement is next.
+fn begins_statement(words: &[Word]) -> bool
+    ensures { result ≡ reads.begins_statement words.now }
+{
+    matches!(
+        words,
+        [
+            Word::Name(_)
+                | Word::If(_)
+                | Word::While(_)
+                | Word::Action(_, _)
+                | Word::Wait(_)
+                | Word::Barrier(_, _)
+                | Word::Assert(_),
+            ..
+        ]
+    )
+}
+
+/// A statement, and the words after it.
+#[cycle(statements)]
+fn read_statement<'w>(alloc: Global, words: &'w [Word]) -> Read<'w, Statement>
+    requires { reads.begins_statement words.now ≡ true }
+    ensures { MatchResult result
+        (λ x. IsStatement words.now (statement_of x.0) x.1.now)
+        (λ stop. Stops (Statements ∷ []) words.now stop) }
+{
+    match words {
+        [Word::Name(name), after @ ..] => read_named(alloc, *name, after),
+        [Word::If(place), after @ ..] => read_if(alloc, *place, after),
+        [Word::While(place), after @ ..] => read_while(alloc, *place, after),
+        [Word::Action(action, place), after @ ..] => read_action(*action, *place, after),
+        [Word::Wait(place), after @ ..] => read_wait(*place, after),
+        [Word::Barrier(barrier, place), after @ ..] => read_barrier(*barrier, *place, after),
+        [Word::Assert(place), after @ ..] => read_assert(alloc, *place, after),
+        _ => Err(Stop::Left(words.len())),
+    }
+}
+
+/// A statement that begins with a name, after it, and the words after it.
+fn read_named<'w>(alloc: Global, name: Name, words: &'w [Word]) -> Read<'w, Statement>
+    ensures { MatchResult result
+        (λ x. IsRead statement_then IsWell (AName name ∷ []) (AfterName ∷ []) words.now (statement_of x.0) x.1.now)
+        (λ stop. Stops (AfterName ∷ []) words.now stop) }
+{
+    if let Ok(start) = past(words, Sign::OpenBracket) {
+        read_store(alloc, name, start)
+    } else {
+        let start = past(words, Sign::Assign)?;
+        read_assigned(alloc, name, start)
+    }
+}
+
+/// `a[i] = e;`, after the opening bracket, and the words after it.
+fn read_store<'w>(alloc: Global, array: Name, words: &'w [Word]) -> Read<'w, Statement>
+    ensures { MatchResult result
+        (λ x. IsRead statement_then IsWell (AName array ∷ ASign sign.OpenBracket ∷ [])
+        (Operand ∷ Operators ∷ Just sign.CloseBracket ∷ Just sign.Assign ∷ Operand ∷ Operators ∷ Just sign.Semicolon ∷ []) words.now
+        (statement_of x.0) x.1.now)
+        (λ stop. Stops (Operand ∷ Operators ∷ Just sign.CloseBracket ∷ Just sign.Assign ∷ Operand ∷ Operators ∷ Just sign.Semicolon ∷ []) words.now stop) }
+{
+    let (index, end) = read_expression(alloc, words)?;
+    let after = past(end, Sign::CloseBracket)?;
+    let start = past(after, Sign::Assign)?;
+    let (value, end) = read_expression(alloc, start)?;
+    let rest = past(end, Sign::Semicolon)?;
+    Ok((Statement::Store(array, index, value), rest))
+}
+
+/// What a name is assigned, after the `=`, and the words after it.
+fn read_assigned<'w>(alloc: Global, name: Name, words: &'w [Word]) -> Read<'w, Statement>
+    ensures { MatchResult result
+        (λ x. IsRead statement_then IsWell (AName name ∷ ASign sign.Assign ∷ []) (AfterAssign ∷ []) words.now (statement_of x.0) x.1.now)
+        (λ stop. Stops (AfterAssign ∷ []) words.now stop) }
+{
+    if let Some(start) = past_keyword(words, Keyword::Create) {
+        read_create(alloc, name, start)
+    } else if let Some(start) = past_keyword(words, Keyword::Swap) {
+        read_swap(alloc, name, start)
+    } else if let Some(start) = past_keyword(words, Keyword::Cas) {
+        read_cas(alloc, name, start)
+    } else {
+        let (value, end) = read_expression(alloc, words)?;
+        let rest = past(end, Sign::Semicolon)?;
+        Ok((Statement::Assign(name, value), rest))
+    }
+}
+
+/// A thread's name and its arguments, and the words after them.
+fn read_create<'w>(alloc: Global, handle: Name, words: &'w [Word]) -> Read<'w, Statement>
+    ensures { MatchResult result
+        (λ x. IsRead statement_then IsWell (AName handle ∷ ASign sign.Assign ∷ AKeyword keyword.Create ∷ [])
+        (AnyName ∷ Just sign.OpenParen ∷ Arguments ∷ Just sign.CloseParen ∷ Just sign.Semicolon ∷ []) words.now (statement_of x.0) x.1.now)
+        (λ stop. Stops (AnyName ∷ Just sign.OpenParen ∷ Arguments ∷ Just sign.CloseParen ∷ Just sign.Semicolon ∷ []) words.now stop) }
+{
+    let (thread, after) = past_name(words)?;
+    let start = past(after, Sign::OpenParen)?;
+    let (arguments, end) = read_arguments(alloc, start)?;
+    let rest = past(end, Sign::Semicolon)?;
+    Ok((Statement::Create(handle, thread, arguments), rest))
+}
+
+/// The parts of a `swap`, and the words after them.
+fn read_swap<'w>(alloc: Global, local: Name, words: &'w [Word]) -> Read<'w, Statement>
+    ensures { MatchResult result
+        (λ x. IsRead statement_then IsWell (AName local ∷ ASign sign.Assign ∷ AKeyword keyword.Swap ∷ [])
+        (Just sign.OpenParen ∷ AnyName ∷ Just sign.Comma ∷ Operand ∷ Operators ∷ Just sign.CloseParen ∷ Just sign.Semicolon ∷ []) words.now
+        (statement_of x.0) x.1.now)
+        (λ stop. Stops (Just sign.OpenParen ∷ AnyName ∷ Just sign.Comma ∷ Operand ∷ Operators ∷ Just sign.CloseParen ∷ Just sign.Semicolon ∷ [])
+        words.now stop) }
+{
+    let start = past(words, Sign::OpenParen)?;
+    let (global, after) = past_name(start)?;
+    let start = past(after, Sign::Comma)?;
+    let (value, end) = read_expression(alloc, start)?;
+    let end = past(end, Sign::CloseParen)?;
+    let rest = past(end, Sign::Semicolon)?;
+    Ok((Statement::Swap(local, global, value), rest))
+}
+
+/// The parts of a `cas`, and the words after them.
+fn read_cas<'w>(alloc: Global, local: Name, words: &'w [Word]) -> Read<'w, Statement>
+    ensures { MatchResult result
+        (λ x. IsRead statement_then IsWell (AName local ∷ ASign sign.Assign ∷ AKeyword keyword.Cas ∷ [])
+        (Just sign.OpenParen ∷ AnyName ∷ Just sign.Comma ∷ Operand ∷ Operators ∷ Just sign.Comma ∷ Operand ∷ Operators ∷ Just sign.CloseParen ∷
+        Just sign.Semicolon ∷ []) words.now (statement_of x.0) x.1.now)
+        (λ stop. Stops (Just sign.OpenParen ∷ AnyName ∷ Just sign.Comma ∷ Operand ∷ Operators ∷ Just sign.Comma ∷ Operand ∷ Operators ∷ Just
+        sign.CloseParen ∷ Just sign.Semicolon ∷ []) words.now stop) }
+{
+    let start = past(words, Sign::OpenParen)?;
+    let (global, after) = past_name(start)?;
+    let start = past(after, Sign::Comma)?;
+    let (old, end) = read_expression(alloc, start)?;
+    let start = past(end, Sign::Comma)?;
+    let (new, end) = read_expression(alloc, start)?;
+    let end = past(end, Sign::CloseParen)?;
+    let rest = past(end, Sign::Semicolon)?;
+    Ok((Statement::Cas(local, global, old, new), rest))
+}
+
+/// The one name of a statement, and the words after it.
+fn read_action<'w>(action: Action, place: Place, words: &'w [Word]) -> Read<'w, Statement>
+    ensures { MatchResult result
+        (λ x. IsRead statement_then IsWell (AnAction action place ∷ [])
+        (Just sign.OpenParen ∷ AnyName ∷ Just sign.CloseParen ∷ Just sign.Semicolon ∷ []) words.now (statement_of x.0) x.1.now)
+        (λ stop. Stops (Just sign.OpenParen ∷ AnyName ∷ Just sign.CloseParen ∷ Just sign.Semicolon ∷ []) words.now stop) }
+{
+    let start = past(words, Sign::OpenParen)?;
+    let (name, end) = past_name(start)?;
+    let end = past(end, Sign::CloseParen)?;
+    let rest = past(end, Sign::Semicolon)?;
+    Ok((Statement::Act(place, action, name), rest))
+}
+
+/// The names of a `wait`, and the words after them.
+fn read_wait<'w>(place: Place, words: &'w [Word]) -> Read<'w, Statement>
+    ensures { MatchResult result
+        (λ x. IsRead statement_then IsWell (AWait place ∷ [])
+        (Just sign.OpenParen ∷ AnyName ∷ Just sign.Comma ∷ AnyName ∷ Just sign.CloseParen ∷ Just sign.Semicolon ∷ []) words.now (statement_of x.0) x.1.now)
+        (λ stop. Stops (Just sign.OpenParen ∷ AnyName ∷ Just sign.Comma ∷ AnyName ∷ Just sign.CloseParen ∷ Just sign.Semicolon ∷ []) words.now stop) }
+{
+    let start = past(words, Sign::OpenParen)?;
+    let (condition, after) = past_name(start)?;
+    let start = past(after, Sign::Comma)?;
+    let (mutex, end) = past_name(start)?;
+    let end = past(end, Sign::CloseParen)?;
+    let rest = past(end, Sign::Semicolon)?;
+    Ok((Statement::Wait(place, condition, mutex), rest))
+}
+
+/// The rest of a `fence` or `stbar`, and the words after it.
+fn read_barrier<'w>(barrier: Barrier, place: Place, words: &'w [Word]) -> Read<'w, Statement>
+    ensures { MatchResult result
+        (λ x. IsRead statement_then IsWell (ABarrier barrier place ∷ []) (Just sign.OpenParen ∷ Just sign.CloseParen ∷ Just sign.Semicolon ∷ [])
+        words.now (statement_of x.0) x.1.now)
+        (λ stop. Stops (Just sign.OpenParen ∷ Just sign.CloseParen ∷ Just sign.Semicolon ∷ []) words.now stop) }
+{
+    let start = past(words, Sign::OpenParen)?;
+    let end = past(start, Sign::CloseParen)?;
+    let rest = past(end, Sign::Semicolon)?;
+    Ok((Statement::Order(place, barrier), rest))
+}
+
+/// The condition of an `assert`, and the words after it.
+fn read_assert<'w>(alloc: Global, place: Place, words: &'w [Word]) -> Read<'w, Statement>
+    ensures { MatchResult result
+        (λ x. IsRead statement_then IsWell (AnAssert place ∷ [])
+        (Just sign.OpenParen ∷ Operand ∷ Operators ∷ Just sign.CloseParen ∷ Just sign.Semicolon ∷ []) words.now (statement_of x.0) x.1.now)
+        (λ stop. Stops (Just sign.OpenParen ∷ Operand ∷ Operators ∷ Just sign.CloseParen ∷ Just sign.Semicolon ∷ []) words.now stop) }
+{
+    let start = past(words, Sign::OpenParen)?;
+    let (condition, end) = read_expression(alloc, start)?;
+    let end = past(end, Sign::CloseParen)?;
+    let rest = past(end, Sign::Semicolon)?;
+    Ok((Statement::Assert(place, condition), rest))
+}
+
+/// The condition and the body of a loop, and the words after them.
+#[cycle(statements)]
+fn read_while<'w>(alloc: Global, place: Place, words: &'w [Word]) -> Read<'w, Statement>
+    ensures { MatchResult result
+        (λ x. IsRead statement_then IsWell (AWhile place ∷ []) guarded words.now (statement_of x.0) x.1.now)
+        (λ stop. Stops guarded words.now stop) }
+{
+    let (branch, rest) = read_branch(alloc, place, words)?;
+    Ok((Statement::While(branch), rest))
+}
+
+/// The branches of an `if`, and the words after them.
+#[cycle(statements)]
+fn read_if<'w>(alloc: Global, place: Place, words: &'w [Word]) -> Read<'w, Statement>
+    ensures { MatchResult result
+        (λ x. IsRead statement_then IsWell (AnIf place ∷ []) (guarded ++ Alternative ∷ []) words.now (statement_of x.0) x.1.now)
+        (λ stop. Stops (guarded ++ Alternative ∷ []) words.now stop) }
+{
+    let (branch, end) = read_branch(alloc, place, words)?;
+    let ((others, last), rest) = read_otherwise(alloc, end)?;
+    Ok((Statement::If(branch, others, last), rest))
+}
+
+/// The branches after the first, as many as stand there, and the words after them.
+#[cycle(statements)]
+fn read_otherwise<'w>(alloc: Global, words: &'w [Word]) -> Read<'w, Otherwise>
+    ensures { MatchResult result
+        (λ x. IsRead otherwise_then IsWellOtherwise [] (Alternative ∷ []) words.now (otherwise_seen x.0.0.items x.0.1) x.1.now)
+        (λ stop. Stops (Alternative ∷ []) words.now stop) }
+{
+    let mut others = Vec::new(alloc);
+    let mut rest = words;
+    while let Some(after) = past_keyword(rest, Keyword::Else) {
+        if let Some((place, start)) = past_if(after) {
+            let (branch, end) = read_branch(alloc, place, start)?;
+            others.push(branch)?;
+            rest = end;
+        } else {
+            let (block, rest) = read_block(alloc, after)?;
+            return Ok(((others, Some(block)), rest));
+        }
+    }
+    Ok(((others, None), rest))
+}
+
+/// A condition in parentheses and a block, and the words after them.
+#[cycle(statements)]
+fn read_branch<'w>(alloc: Global, place: Place, words: &'w [Word]) -> Read<'w, Branch>
+    ensures { MatchResult result
+        (λ x. IsRead branch_then (IsWellBranch place) [] guarded words.now (branch_of x.0) x.1.now)
+        (λ stop. Stops guarded words.now stop) }
+{
+    let start = past(words, Sign::OpenParen)?;
+    let (condition, end) = read_expression(alloc, start)?;
+    let start = past(end, Sign::CloseParen)?;
+    let (body, rest) = read_block(alloc, start)?;
+    Ok((
+        Branch {
+            place,
+            condition,
+            body,
+        },
+        rest,
+    ))
+}
+
+/// Statements in braces, and the words after them.
+#[cycle(statements)]
+fn read_block<'w>(alloc: Global, words: &'w [Word]) -> Read<'w, Block>
+    ensures { MatchResult result
+        (λ x. IsRead block_then IsWellBlock [] (Just sign.OpenBrace ∷ Statements ∷ End ∷ []) words.now (block_of x.0) x.1.now)
+        (λ stop. Stops (Just sign.OpenBrace ∷ Statements ∷ End ∷ []) words.now stop) }
+{
+    let start = past(words, Sign::OpenBrace)?;
+    let (statements, last) = read_statements(alloc, start)?;
+    let (end, rest) = past_end(last)?;
+    Ok((Block { statements, end }, rest))
+}

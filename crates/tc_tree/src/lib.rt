@@ -1,0 +1,14 @@
+//! Programs as trees, and the tokens that they are written with.
+//!
+//! A tree keeps the parentheses of its program, so its tokens are a function of it.
+#![tactic(auto)]
+
+mod expression;
+mod program;
+mod statement;
+mod word;
+
+pub use expression::{Expression, Name, Number, Operator};
+pub use program::{Body, Global, Initial, Local, Program, Thread, Tree};
+pub use statement::{Action, Barrier, Block, Branch, Statement};
+pub use word::Word;

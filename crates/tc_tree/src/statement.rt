@@ -1,0 +1,78 @@
+//! Statements.
+
+use crate::expression::{Expression, Name};
+use tc_base::Place;
+
+/// What a statement of one name does.
+#[derive(Clone, Copy, Debug, PartialEq, Eq)]
+pub enum Action {
+    /// `join(h);`
+    Join,
+    /// `lock(m);`
+    Lock,
+    /// `unlock(m);`
+    Unlock,
+    /// `signal(c);`
+    Signal,
+    /// `broadcast(c);`
+    Broadcast,
+}
+
+/// A statement that orders stores.
+#[derive(Clone, Copy, Debug, PartialEq, Eq)]
+pub enum Barrier {
+    /// `fence();`
+    Fence,
+    /// `stbar();`
+    Stores,
+}
+
+/// A statement. Its place is that of its first token.
+#[derive(Debug, Drop)]
+#[cycle(tree)]
+pub enum Statement {
+    /// `x = e;`
+    Assign(Name, Expression),
+    /// `a[i] = e;`
+    Store(Name, Expression, Expression),
+    /// `h = create f(e, ..);`
+    Create(Name, Name, Vec<Expression>),
+    /// `r = swap(x, e);`
+    Swap(Name, Name, Expression),
+    /// `r = cas(x, e, f);`
+    Cas(Name, Name, Expression, Expression),
+    /// `lock(m);` and the like.
+    Act(Place, Action, Name),
+    /// `wait(c, m);`
+    Wait(Place, Name, Name),
+    /// `fence();` or `stbar();`
+    Order(Place, Barrier),
+    /// `assert(e);`
+    Assert(Place, Expression),
+    /// `while (e) { .. }`
+    While(Branch),
+    /// `if (e) { .. }`, then each `else if (e) { .. }`, and at the end `else { .. }`.
+    If(Branch, Vec<Branch>, Option<Block>),
+}
+
+/// Statements between braces.
+#[derive(Debug, Drop)]
+#[cycle(tree)]
+pub struct Block {
+    /// The statements.
+    pub statements: Vec<Statement>,
+    /// The place of the closing brace.
+    pub end: Place,
+}
+
+/// A condition and what is done under it.
+#[derive(Debug, Drop)]
+#[cycle(tree)]
+pub struct Branch {
+    /// The place of the `if` or `while`.
+    pub place: Place,
+    /// The condition.
+    pub condition: Expression,
+    /// What is done where it isn't 0.
+    pub body: Block,
+}
