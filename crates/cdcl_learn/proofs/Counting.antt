@@ -1,5 +1,39 @@
 -- How many places were met from one on.
-use Rattle.std.proofs.Common.{◌≡◌, ◌≢◌, ℕ, ◌+◌, ◌-◌, ◌<◌, ◌≤◌, ◌⊎◌, Bool, true, false, cond, List, [], ◌∷◌, ◌++◌, length, drop, get_or, set, inl, inr, refl, sym, ◌∙◌, ap, subst, arith, length-set, length-drop, get_or-set_same, get_or-set_other, suc}
+use Rattle.std.proofs.Common.{
+  ◌≡◌,
+  ◌≢◌,
+  ℕ,
+  ◌+◌,
+  ◌-◌,
+  ◌<◌,
+  ◌≤◌,
+  ◌⊎◌,
+  Bool,
+  true,
+  false,
+  cond,
+  List,
+  [],
+  ◌∷◌,
+  ◌++◌,
+  length,
+  drop,
+  get_or,
+  set,
+  inl,
+  inr,
+  refl,
+  sym,
+  ◌∙◌,
+  ap,
+  subst,
+  arith,
+  length-set,
+  length-drop,
+  get_or-set_same,
+  get_or-set_other,
+  suc,
+}
 use Rattle.std.proofs.lemmas.Bool.{cases_eq}
 use Rattle.std.proofs.lemmas.List.{drop-set-lt, drop-set-add, get_or-drop}
 use Rattle.std.proofs.lemmas.List.Sums.{sum_by-set}
@@ -9,7 +43,8 @@ use Rattle.cdcl_trail.specs.Literals.{opposite_of}
 use Rattle.cdcl_trail.specs.Trail.{Trail}
 use Rattle.cdcl_learn.specs.Helpers.{IsMet, open_from, Marks, Tallies}
 
-pub open_from-set : (met : List Bool) (base p : ℕ) (b : Bool) → p < length met → base ≤ p → open_from (set met p b) base + cond (get_or met p false) 1 0 ≡ open_from met base + cond b 1 0
+pub open_from-set : (met : List Bool) (base p : ℕ) (b : Bool) → p < length met → base ≤ p
+    → open_from (set met p b) base + cond (get_or met p false) 1 0 ≡ open_from met base + cond b 1 0
 open_from-set met base p b h l =
     let i : ℕ = p - base in
     let e : base + i ≡ p = omega arith in
@@ -22,7 +57,8 @@ pub open_from-set_below : (met : List Bool) (base p : ℕ) (b : Bool) → p < ba
 open_from-set_below met base p b h = ap (λ (xs : List Bool). open_from xs 0) (drop-set-lt base met p b h)
 
 -- what is met after one place is
-pub met-set : (met : List Bool) (p q : ℕ) (b : Bool) → p < length met → ((q ≡ p) × (get_or (set met p b) q false ≡ b)) ⊎ ((q ≢ p) × (get_or (set met p b) q false ≡ get_or met q false))
+pub met-set : (met : List Bool) (p q : ℕ) (b : Bool) → p < length met → ((q ≡ p) × (get_or (set met p b) q false ≡ b))
+    ⊎ ((q ≢ p) × (get_or (set met p b) q false ≡ get_or met q false))
 met-set met p q b h =
     elim (cases_eq q p) [
       | inl e ↦ inl (e, ap (λ (n : ℕ). get_or (set met p b) n false) e ∙ get_or-set_same met p b false h)
@@ -39,7 +75,8 @@ marks-set met p h = record {
 pub marks-same : (met : List Bool) (p : ℕ) → IsMet met p → Marks met met p
 marks-same met p h = record { this = h; kept = λ q m. m; only = λ q m. inl m }
 
-pub tallies_last : (t : Trail) (met : List Bool) (n root base : ℕ) (ls : List ℕ) → Tallies t met n root base ls → (p : ℕ) → p < length met → get_or met p false ≡ false → base ≤ p → Tallies t (set met p true) (n + 1) root base ls
+pub tallies_last : (t : Trail) (met : List Bool) (n root base : ℕ) (ls : List ℕ) → Tallies t met n root base ls → (p : ℕ) → p < length met
+    → get_or met p false ≡ false → base ≤ p → Tallies t (set met p true) (n + 1) root base ls
 tallies_last t met n root base ls s p h f l =
     let e : open_from (set met p true) base + cond (get_or met p false) 1 0 ≡ open_from met base + 1 = open_from-set met base p true h l in
     let zero_more : ℕ = 0 in
@@ -51,7 +88,8 @@ tallies_last t met n root base ls s p h f l =
       from_places = s.from_places;
     }
 
-pub tallies_root : (t : Trail) (met : List Bool) (n root base : ℕ) (ls : List ℕ) → Tallies t met n root base ls → (p : ℕ) → p < length met → p < base → p < root → Tallies t (set met p true) n root base ls
+pub tallies_root : (t : Trail) (met : List Bool) (n root base : ℕ) (ls : List ℕ) → Tallies t met n root base ls → (p : ℕ) → p < length met → p < base
+    → p < root → Tallies t (set met p true) n root base ls
 tallies_root t met n root base ls s p h b r =
     record {
       size = length-set met p true ∙ s.size;
@@ -60,7 +98,8 @@ tallies_root t met n root base ls s p h b r =
       from_places = s.from_places;
     }
 
-pub tallies_between : (t : Trail) (met : List Bool) (n root base : ℕ) (ls : List ℕ) → Tallies t met n root base ls → (p x : ℕ) → p < length met → p < base → root ≤ p → x ≡ opposite_of (get_or t.literals p 0) → Tallies t (set met p true) n root base (ls ++ x ∷ [])
+pub tallies_between : (t : Trail) (met : List Bool) (n root base : ℕ) (ls : List ℕ) → Tallies t met n root base ls → (p x : ℕ) → p < length met
+    → p < base → root ≤ p → x ≡ opposite_of (get_or t.literals p 0) → Tallies t (set met p true) n root base (ls ++ x ∷ [])
 tallies_between t met n root base ls s p x h b r e =
     record {
       size = length-set met p true ∙ s.size;
@@ -103,7 +142,8 @@ open_exists met base h =
     (base + i, omega arith, omega (arith, length-drop base met), sym (get_or-drop base met i false) ∙ e)
 
 -- where another is counted beside one place, there is one
-pub open_other : (met : List Bool) (base p : ℕ) → p < length met → base ≤ p → IsMet met p → open_from met base ≢ 1 → (q : ℕ) × (base ≤ q) × (q ≢ p) × IsMet met q
+pub open_other : (met : List Bool) (base p : ℕ) → p < length met → base ≤ p → IsMet met p → open_from met base ≢ 1
+    → (q : ℕ) × (base ≤ q) × (q ≢ p) × IsMet met q
 open_other met base p pl bp mp ne =
     let g : open_from (set met p false) base + cond (get_or met p false) 1 0 ≡ open_from met base + cond false 1 0 = open_from-set met base p false pl bp in
     let one_more : ℕ = 1 in
@@ -115,14 +155,17 @@ open_other met base p pl bp mp ne =
     ]
 
 pub open_none : (met : List Bool) (base : ℕ) → ((q : ℕ) → base ≤ q → IsMet met q → ⊥) → open_from met base ≡ 0
-open_none met base h = count_none (drop base met) (λ i il. is_false (get_or (drop base met) i false) (λ m. h (base + i) (omega arith) (sym (get_or-drop base met i false) ∙ m)))
+open_none met base h = count_none (drop base met) (λ i il. is_false (get_or (drop base met) i false)
+    (λ m. h (base + i) (omega arith) (sym (get_or-drop base met i false) ∙ m)))
 
-pub open_one : (met : List Bool) (base p q : ℕ) → p < length met → q < length met → base ≤ p → base ≤ q → IsMet met p → IsMet met q → open_from met base ≡ 1 → q ≡ p
+pub open_one : (met : List Bool) (base p q : ℕ) → p < length met → q < length met → base ≤ p → base ≤ q → IsMet met p → IsMet met q
+    → open_from met base ≡ 1 → q ≡ p
 open_one met base p q pl ql bp bq mp mq e =
     elim (cases_eq q p) [
       | inl d ↦ d
       | inr d ↦
-          let g : open_from (set met p false) base + cond (get_or met p false) 1 0 ≡ open_from met base + cond false 1 0 = open_from-set met base p false pl bp in
+          let g : open_from (set met p false) base + cond (get_or met p false) 1 0 ≡ open_from met base + cond false 1 0 =
+          open_from-set met base p false pl bp in
           let one_more : ℕ = 1 in
           let i : cond (get_or met p false) 1 0 ≡ one_more = ap (λ (b : Bool). let n : ℕ = cond b 1 0 in n) mp in
           let mq' : IsMet (set met p false) q = get_or-set_other met p q false false d ∙ mq in
@@ -131,7 +174,8 @@ open_one met base p q pl ql bp bq mp mq e =
     ]
 
 -- where no other place is met, one at most is
-pub open_at_most : (met : List Bool) (base p : ℕ) → p < length met → base ≤ p → IsMet met p → ((q : ℕ) → base ≤ q → IsMet met q → q ≡ p) → open_from met base ≡ 1
+pub open_at_most : (met : List Bool) (base p : ℕ) → p < length met → base ≤ p → IsMet met p → ((q : ℕ) → base ≤ q → IsMet met q → q ≡ p)
+    → open_from met base ≡ 1
 open_at_most met base p pl bp mp h =
     let g : open_from (set met p false) base + cond (get_or met p false) 1 0 ≡ open_from met base + cond false 1 0 = open_from-set met base p false pl bp in
     let one_more : ℕ = 1 in

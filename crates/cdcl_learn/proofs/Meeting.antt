@@ -1,5 +1,42 @@
 -- Clauses that are used, and places that give way to their reasons.
-use Rattle.std.proofs.Common.{◌≡◌, ◌≢◌, ℕ, ◌+◌, ◌/◌, ◌%◌, ◌<◌, ◌≤◌, ◌⊎◌, Bool, true, false, Option, Some, None, cond, List, [], ◌∷◌, ◌++◌, length, take, get_or, set, reverse, inl, inr, refl, sym, ◌∙◌, ap, subst, arith, length-set, get_or-take, get_or-set_same}
+use Rattle.std.proofs.Common.{
+  ◌≡◌,
+  ◌≢◌,
+  ℕ,
+  ◌+◌,
+  ◌/◌,
+  ◌%◌,
+  ◌<◌,
+  ◌≤◌,
+  ◌⊎◌,
+  Bool,
+  true,
+  false,
+  Option,
+  Some,
+  None,
+  cond,
+  List,
+  [],
+  ◌∷◌,
+  ◌++◌,
+  length,
+  take,
+  get_or,
+  set,
+  reverse,
+  inl,
+  inr,
+  refl,
+  sym,
+  ◌∙◌,
+  ap,
+  subst,
+  arith,
+  length-set,
+  get_or-take,
+  get_or-set_same,
+}
 use Rattle.std.specs.Prelude.{Contains, MatchOption, IsSome}
 use Rattle.std.proofs.lemmas.Bool.{cases_eq, cases_lt}
 use Rattle.std.proofs.lemmas.Bool.Decides.{nat_tests}
@@ -25,7 +62,8 @@ opposite_of-apart l = elim (opposite_of-cases l) [ inl e ↦ omega (arith, e.0, 
 pub meets_none : (t : Trail) (met : List Bool) (ls : List ℕ) → Meets t met met (take 0 ls)
 meets_none t met ls = record { all = λ x p c h e. absurd (omega (arith, c.1)); kept = λ p m. m; only = λ p m. inl m }
 
-pub meets_more : (t : Trail) → IsTrail t → (a b c : List Bool) (ls : List ℕ) (i p : ℕ) → i < length ls → p < length t.literals → get_or t.literals p 0 / 2 ≡ get_or ls i 0 / 2 → Meets t a b (take i ls) → Marks b c p → Meets t a c (take (i + 1) ls)
+pub meets_more : (t : Trail) → IsTrail t → (a b c : List Bool) (ls : List ℕ) (i p : ℕ) → i < length ls → p < length t.literals
+    → get_or t.literals p 0 / 2 ≡ get_or ls i 0 / 2 → Meets t a b (take i ls) → Marks b c p → Meets t a c (take (i + 1) ls)
 meets_more t u a b c ls i p il pl e s m =
     let g : take (i + 1) ls ≡ take i ls ++ get_or ls i 0 ∷ [] = take_more ls i 0 il in
     subst (λ (xs : List ℕ). Meets t a c xs) (sym g) (record {
@@ -57,7 +95,9 @@ not_both t u p pl (k, kl, e) =
     opposite_of-apart l (sym f ∙ ap (λ (n : ℕ). get_or t.literals n 0) z)
 
 -- a place that gives way to its reason: the hints still suffice
-pub suffices-resolve : (t : Trail) → IsTrail t → (cs : List Clause) (a b c : List Bool) (hs : List ℕ) (p k : ℕ) → p < length t.literals → IsMet a p → IsReason cs (take p t.literals) (get_or t.literals p 0) k → Meets t a b (at cs k).literals → ((q : ℕ) → q ≢ p → IsMet b q → IsMet c q) → Suffices t cs a hs → Suffices t cs c (hs ++ k ∷ [])
+pub suffices-resolve : (t : Trail) → IsTrail t → (cs : List Clause) (a b c : List Bool) (hs : List ℕ) (p k : ℕ) → p < length t.literals → IsMet a p
+    → IsReason cs (take p t.literals) (get_or t.literals p 0) k → Meets t a b (at cs k).literals → ((q : ℕ) → q ≢ p → IsMet b q → IsMet c q)
+    → Suffices t cs a hs → Suffices t cs c (hs ++ k ∷ [])
 suffices-resolve t u cs a b c hs p k pl mp r m kept s given on all =
     let l : ℕ = get_or t.literals p 0 in
     let need : (x : ℕ) → Contains (at cs k).literals x → x ≢ l → Contains given (opposite_of x) =
@@ -65,12 +105,23 @@ suffices-resolve t u cs a b c hs p k pl mp r m kept s given on all =
     let (q, ql, e) = r.others x cx ne in
     let qp : q < p = omega (arith, length-take p t.literals) in
     let ql' : q < length t.literals = omega arith in
-    let f : get_or t.literals q 0 ≡ opposite_of x = get_or_default t.literals q 0 (opposite_of x) ql' ∙ sym (get_or-take p t.literals q (opposite_of x) qp) ∙ e in
+    let f : get_or t.literals q 0 ≡ opposite_of x = get_or_default t.literals q 0 (opposite_of x) ql'
+    ∙ sym (get_or-take p t.literals q (opposite_of x) qp) ∙ e in
     let mq : IsMet b q = m.all x q cx ql' (ap (λ (y : ℕ). y / 2) f ∙ opposite_of-half x) in
     subst (λ (y : ℕ). Contains given y) f (all q (kept q (omega arith) mq))) in
-    let forces : Forces cs given k l = record { there = r.there; kept = r.kept; has = r.has; others = need; not_false = λ g. not_both t u p pl (on (opposite_of l) g) } in
+    let forces : Forces cs given k l = record {
+      there = r.there;
+      kept = r.kept;
+      has = r.has;
+      others = need;
+      not_false =
+          λ g. not_both t u p pl (on (opposite_of l) g);
+    } in
     let more : Leads cs (given ++ l ∷ []) (reverse hs) = s (given ++ l ∷ [])
-    (λ x cx. elim (Contains-push_cases given l x cx) [ inl d ↦ on x d | inr d ↦ subst (λ (y : ℕ). Contains t.literals y) d (Contains-get_or t.literals p 0 pl) ])
+    (λ x cx. elim (Contains-push_cases given l x cx) [
+      | inl d ↦ on x d
+      | inr d ↦ subst (λ (y : ℕ). Contains t.literals y) d (Contains-get_or t.literals p 0 pl)
+    ])
     (λ q mq. elim (cases_eq q p) [
       | inl d ↦ subst (λ (n : ℕ). Contains (given ++ l ∷ []) (get_or t.literals n 0)) (sym d) (Contains-push given l)
       | inr d ↦ Contains-append_left given (l ∷ []) (get_or t.literals q 0) (all q (kept q d (m.kept q mq)))
@@ -78,7 +129,8 @@ suffices-resolve t u cs a b c hs p k pl mp r m kept s given on all =
     rw (reverse-push hs k) (leads-cons cs given k l (reverse hs) forces more)
 
 -- the conflict itself
-pub suffices-start : (t : Trail) (cs : List Clause) (a b : List Bool) (k : ℕ) → k < length cs → (at cs k).kept ≡ true → ((x : ℕ) → Contains (at cs k).literals x → Contains t.literals (opposite_of x)) → Meets t a b (at cs k).literals → Suffices t cs b (k ∷ [])
+pub suffices-start : (t : Trail) (cs : List Clause) (a b : List Bool) (k : ℕ) → k < length cs → (at cs k).kept ≡ true
+    → ((x : ℕ) → Contains (at cs k).literals x → Contains t.literals (opposite_of x)) → Meets t a b (at cs k).literals → Suffices t cs b (k ∷ [])
 suffices-start t cs a b k h kept f m given on all =
     record {
       there = h;
@@ -89,7 +141,8 @@ suffices-start t cs a b k h kept f m given on all =
           subst (λ (y : ℕ). Contains given y) g (all q (m.all x q cx ql (ap (λ (y : ℕ). y / 2) g ∙ opposite_of-half x))));
     }
 
-counted : (met : List Bool) (base p : ℕ) → p < length met → base ≤ p → IsMet met p → (m n : ℕ) → m + 1 ≡ n → n ≡ open_from met base → m ≡ open_from (set met p false) base
+counted : (met : List Bool) (base p : ℕ) → p < length met → base ≤ p → IsMet met p → (m n : ℕ) → m + 1 ≡ n → n ≡ open_from met base
+    → m ≡ open_from (set met p false) base
 counted met base p h l mp m n e f =
     let g : open_from (set met p false) base + cond (get_or met p false) 1 0 ≡ open_from met base + cond false 1 0 = open_from-set met base p false h l in
     let one_more : ℕ = 1 in
@@ -97,7 +150,8 @@ counted met base p h l mp m n e f =
     omega (arith, e, f, g, i)
 
 -- a place isn't met any more
-pub tallies-resolve : (t : Trail) (met : List Bool) (n root base : ℕ) (ls : List ℕ) → Tallies t met n root base ls → (p : ℕ) → p < length met → IsMet met p → (p < root) ⊎ (base ≤ p) → (m : ℕ) → ((base ≤ p) → m + 1 ≡ n) → (p < base → m ≡ n) → Tallies t (set met p false) m root base ls
+pub tallies-resolve : (t : Trail) (met : List Bool) (n root base : ℕ) (ls : List ℕ) → Tallies t met n root base ls → (p : ℕ) → p < length met
+    → IsMet met p → (p < root) ⊎ (base ≤ p) → (m : ℕ) → ((base ≤ p) → m + 1 ≡ n) → (p < base → m ≡ n) → Tallies t (set met p false) m root base ls
 tallies-resolve t met n root base ls s p h mp side m up down =
     record {
       size = length-set met p false ∙ s.size;
@@ -115,10 +169,12 @@ tallies-resolve t met n root base ls s p h mp side m up down =
 match-some : (P : Type 0) (Q : ℕ → Type 0) (o : Option ℕ) (k : ℕ) → o ≡ Some k → MatchOption o P Q → Q k
 match-some P Q o k e h = let f : MatchOption (Some k) P Q = subst (λ (o : Option ℕ). MatchOption o P Q) e h in f
 
-pub reason_of : (t : Trail) (cs : List Clause) → AreReasoned t cs → (p k : ℕ) → p < length t.literals → get_or t.reasons p None ≡ Some k → IsReason cs (take p t.literals) (get_or t.literals p 0) k
+pub reason_of : (t : Trail) (cs : List Clause) → AreReasoned t cs → (p k : ℕ) → p < length t.literals → get_or t.reasons p None ≡ Some k
+    → IsReason cs (take p t.literals) (get_or t.literals p 0) k
 reason_of t cs s p k h e = match-some (BeginsAt t p) (IsReason cs (take p t.literals) (get_or t.literals p 0)) (get_or t.reasons p None) k e (s p h)
 
-pub reason_there : (t : Trail) (cs : List Clause) (p k : ℕ) → p < length t.literals → IsReason cs (take p t.literals) (get_or t.literals p 0) k → (x : ℕ) → Contains (at cs k).literals x → Contains t.literals x ⊎ Contains t.literals (opposite_of x)
+pub reason_there : (t : Trail) (cs : List Clause) (p k : ℕ) → p < length t.literals → IsReason cs (take p t.literals) (get_or t.literals p 0) k
+    → (x : ℕ) → Contains (at cs k).literals x → Contains t.literals x ⊎ Contains t.literals (opposite_of x)
 reason_there t cs p k h r x c =
     elim (cases_eq x (get_or t.literals p 0)) [
       | inl e ↦ inl (subst (λ (y : ℕ). Contains t.literals y) (sym e) (Contains-get_or t.literals p 0 h))
@@ -137,7 +193,8 @@ open_positive met base p h l m =
 pub met_within : (b : List Bool) (q : ℕ) → IsMet b q → {n : ℕ} → length b ≡ n → q < n
 met_within b q h {n} e = elim (cases_lt q n) [ inl d ↦ d | inr d ↦ absurd (let g : false ≡ true = sym (get_or_past b q false (omega (arith, e))) ∙ h in cc) ]
 
-before : (t : Trail) → IsTrail t → (cs : List Clause) (p k : ℕ) → p < length t.literals → IsReason cs (take p t.literals) (get_or t.literals p 0) k → (q x : ℕ) → Contains (at cs k).literals x → get_or t.literals q 0 / 2 ≡ x / 2 → q ≢ p → q < length t.literals → q < p
+before : (t : Trail) → IsTrail t → (cs : List Clause) (p k : ℕ) → p < length t.literals → IsReason cs (take p t.literals) (get_or t.literals p 0) k
+    → (q x : ℕ) → Contains (at cs k).literals x → get_or t.literals q 0 / 2 ≡ x / 2 → q ≢ p → q < length t.literals → q < p
 before t u cs p k pl r q x c e ne ql =
     elim (cases_eq x (get_or t.literals p 0)) [
       | inl d ↦ absurd (ne (u.apart q p ql pl (e ∙ ap (λ (y : ℕ). y / 2) d)))
@@ -145,13 +202,15 @@ before t u cs p k pl r q x c e ne ql =
           let (i, il, f) = r.others x c d in
           let ip : i < p = omega (arith, length-take p t.literals) in
           let il' : i < length t.literals = omega arith in
-          let g : get_or t.literals i 0 ≡ opposite_of x = get_or_default t.literals i 0 (opposite_of x) il' ∙ sym (get_or-take p t.literals i (opposite_of x) ip) ∙ f in
+          let g : get_or t.literals i 0 ≡ opposite_of x = get_or_default t.literals i 0 (opposite_of x) il'
+          ∙ sym (get_or-take p t.literals i (opposite_of x) ip) ∙ f in
           let z : q ≡ i = u.apart q i ql il' (e ∙ sym (ap (λ (y : ℕ). y / 2) g ∙ opposite_of-half x)) in
           omega arith
     ]
 
 -- what was met anew lies before the place that gives way
-pub resolves-set : (t : Trail) → IsTrail t → (cs : List Clause) (a b : List Bool) (p k : ℕ) → p < length t.literals → p < length b → IsReason cs (take p t.literals) (get_or t.literals p 0) k → length b ≡ length t.literals → Meets t a b (at cs k).literals → Resolves a (set b p false) p
+pub resolves-set : (t : Trail) → IsTrail t → (cs : List Clause) (a b : List Bool) (p k : ℕ) → p < length t.literals → p < length b
+    → IsReason cs (take p t.literals) (get_or t.literals p 0) k → length b ≡ length t.literals → Meets t a b (at cs k).literals → Resolves a (set b p false) p
 resolves-set t u cs a b p k pl pb r size m =
     record {
       gone = get_or-set_same b p false false pb;

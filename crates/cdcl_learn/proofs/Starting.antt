@@ -20,7 +20,8 @@ unmet n met e q m =
       | inr h ↦ (let g : false ≡ true = sym (get_or_past (replicate n false) q false (omega (arith, length-replicate n false))) ∙ f in cc)
     ]
 
-pub tallies-start : (t : Trail) (met : List Bool) (n root base : ℕ) (ls : List ℕ) → met ≡ replicate n false → n ≡ length t.literals → ls ≡ [] → Tallies t met 0 root base ls
+pub tallies-start : (t : Trail) (met : List Bool) (n root base : ℕ) (ls : List ℕ) → met ≡ replicate n false → n ≡ length t.literals → ls ≡ []
+    → Tallies t met 0 root base ls
 tallies-start t met n root base ls e f g =
     record {
       size = ap length e ∙ length-replicate n false ∙ f;
@@ -29,12 +30,14 @@ tallies-start t met n root base ls e f g =
       from_places = λ x c. absurd (let d : Contains [] x = subst (λ (xs : List ℕ). Contains xs x) g c in omega (arith, d.1));
     }
 
-pub some-start : (t : Trail) (cs : List Clause) (k : ℕ) → IsConflict t cs k → (a b : List Bool) (n root base : ℕ) (ls : List ℕ) → Meets t a b (at cs k).literals → Tallies t b n root base ls → base ≤ t.propagated → 0 < n
+pub some-start : (t : Trail) (cs : List Clause) (k : ℕ) → IsConflict t cs k → (a b : List Bool) (n root base : ℕ) (ls : List ℕ)
+    → Meets t a b (at cs k).literals → Tallies t b n root base ls → base ≤ t.propagated → 0 < n
 some-start t cs k c a b n root base ls m s h =
     let p : ℕ = t.propagated in
     let met : IsMet b p = m.all (opposite_of (get_or t.literals p 0)) p c.at_pending c.pending (sym (opposite_of-half (get_or t.literals p 0))) in
     omega (arith, s.count, open_some b base p (met_within b p met refl) h met)
 
-pub shown-closed : (t : Trail) (cs : List Clause) (a b : List Bool) (n root base : ℕ) (ls hs : List ℕ) → Tallies t b n root base ls → root ≡ length t.literals → IsCleared a b root → Suffices t cs b hs → Leads cs [] (reverse hs)
+pub shown-closed : (t : Trail) (cs : List Clause) (a b : List Bool) (n root base : ℕ) (ls hs : List ℕ) → Tallies t b n root base ls
+    → root ≡ length t.literals → IsCleared a b root → Suffices t cs b hs → Leads cs [] (reverse hs)
 shown-closed t cs a b n root base ls hs s e c f =
     f [] (λ x h. absurd (omega (arith, h.1))) (λ p m. absurd (c.none p (omega (arith, met_within b p m s.size, e)) m))

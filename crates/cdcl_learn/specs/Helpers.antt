@@ -16,7 +16,8 @@ open_from met base = count_by (λ b. b) (drop base met)
 -- wherever the literals of the places that were met are true, and nothing that the trail has not, the hints lead to a conflict
 abbrev pub Suffices : Trail → List Clause → List Bool → List ℕ → Type 0
 Suffices t cs met hints =
-    (given : List ℕ) → ((x : ℕ) → Contains given x → Contains t.literals x) → ((p : ℕ) → IsMet met p → Contains given (slice_index t.literals p)) → Leads cs given (reverse hints)
+    (given : List ℕ) → ((x : ℕ) → Contains given x → Contains t.literals x) → ((p : ℕ) → IsMet met p → Contains given (slice_index t.literals p))
+    → Leads cs given (reverse hints)
 
 -- the counts and the literals are those of the places that were met
 pub record Tallies (t : Trail) (met : List Bool) (count_open root base : ℕ) (literals : List ℕ) : Type 0 where

@@ -21,7 +21,8 @@ AreLower t ls = (x : ℕ) → Contains ls x → (p : ℕ) × (p < slice_index t.
 -- none of the literals has a variable that stands higher
 pub record IsHighest (t : Trail) (ls : List ℕ) (b : ℕ) : Type 0 where
   pub has : Contains ls b
-  pub highest : (x p q : ℕ) → Contains ls x → p < length t.literals → q < length t.literals → slice_index t.literals p / 2 ≡ x / 2 → slice_index t.literals q / 2 ≡ b / 2 → p ≤ q
+  pub highest : (x p q : ℕ) → Contains ls x → p < length t.literals → q < length t.literals → slice_index t.literals p / 2 ≡ x / 2
+      → slice_index t.literals q / 2 ≡ b / 2 → p ≤ q
 
 -- the first level that begins after a place
 pub record IsLevelAfter (t : Trail) (place level : ℕ) : Type 0 where

@@ -46,12 +46,15 @@ reasoned-cut t cs u s level h p pl =
     let e1 : take p (take n t.literals) ≡ take p t.literals = take-take p n t.literals (omega arith) in
     let e2 : get_or (take n t.literals) p 0 ≡ get_or t.literals p 0 = get_or-take n t.literals p 0 pn in
     subst (λ (o : Option ℕ). MatchOption o (BeginsAt (cut_to t level) p) (IsReason cs (take p (take n t.literals)) (get_or (take n t.literals) p 0))) (sym e0)
-    (match-map (BeginsAt t p) (BeginsAt (cut_to t level) p) (IsReason cs (take p t.literals) (get_or t.literals p 0)) (IsReason cs (take p (take n t.literals)) (get_or (take n t.literals) p 0)) (get_or t.reasons p None)
+    (match-map (BeginsAt t p) (BeginsAt (cut_to t level) p) (IsReason cs (take p t.literals) (get_or t.literals p 0))
+    (IsReason cs (take p (take n t.literals)) (get_or (take n t.literals) p 0)) (get_or t.reasons p None)
     (λ b. begins t u level p h pn b)
-    (λ k r. subst (λ (xs : List ℕ). IsReason cs xs (get_or (take n t.literals) p 0) k) (sym e1) (subst (λ (x : ℕ). IsReason cs (take p t.literals) x k) (sym e2) r))
+    (λ k r. subst (λ (xs : List ℕ). IsReason cs xs (get_or (take n t.literals) p 0) k) (sym e1)
+    (subst (λ (x : ℕ). IsReason cs (take p t.literals) x k) (sym e2) r))
     (s p pt))
 
-pub sound-cut : (t : Trail) (cs : List Clause) (ws : List (List Watch)) → IsSound t cs ws → (level : ℕ) → level < length t.starts → IsTrail (cut_to t level) → IsSound (cut_to t level) cs ws
+pub sound-cut : (t : Trail) (cs : List Clause) (ws : List (List Watch)) → IsSound t cs ws → (level : ℕ) → level < length t.starts
+    → IsTrail (cut_to t level) → IsSound (cut_to t level) cs ws
 sound-cut t cs ws s level h u = record {
   lawful = u;
   linked = record { lists = s.linked.lists; clauses = s.linked.clauses; entries = s.linked.entries; watching = s.linked.watching };

@@ -12,7 +12,8 @@ both_listed ws k first second =
     slice_set us second (listed us second ++ record { clause = k; blocker = first } ∷ [])
 
 -- one more clause is kept, which stands at the two literals that it watches
-pub record WasAttached (cs : List Clause) (ws : List (List Watch)) (ds : List Clause) (vs : List (List Watch)) (literals : List ℕ) (first second : ℕ) : Type 0 where
+pub record WasAttached (cs : List Clause) (ws : List (List Watch)) (ds : List Clause) (vs : List (List Watch)) (literals : List ℕ) (first second : ℕ)
+    : Type 0 where
   pub clauses : ds ≡ cs ++ record { literals = literals; first = first; second = second; kept = true } ∷ []
   pub lists : vs ≡ both_listed ws (length cs) first second
 

@@ -13,7 +13,8 @@ turn-turn-requires-clause-lower c =
     let t = c.args.trail.now in
     let a = c.clear_root.new.self in
     let base : c.start-2.result ≡ get_or t.starts (length t.starts - 1) 0 = c.start-2.ensures ∙ ap (λ (n : ℕ). get_or t.starts (n - 1) 0) c.levels.ensures in
-    subst (λ (ls : List ℕ). AreLower t ls) (sym c.as_slice.ensures.value) (are_lower t a.met.items a.pending c.start.result c.start-2.result a.literals.items c.in_ok-clear_root.ensures.tallies base)
+    subst (λ (ls : List ℕ). AreLower t ls) (sym c.as_slice.ensures.value)
+    (are_lower t a.met.items a.pending c.start.result c.start-2.result a.literals.items c.in_ok-clear_root.ensures.tallies base)
 
 pub returns-clause-lesson : goal.returns-clause-lesson
 returns-clause-lesson c =
@@ -34,8 +35,13 @@ returns-clause-lesson c =
     let r : c.reverse.new.self.items ≡ reverse a.hints.items = c.reverse.ensures.items in
     record {
       all_false = subst (λ (xs : List ℕ). All (λ y. Contains t.literals (opposite_of y)) xs) (sym p)
-          (λ k d h. learnt_false t a.met.items c.uip.new.self.met.items a.pending c.start.result c.start-2.result c.in_ok-uip.uip x ls e (get_or (ls ++ x ∷ []) k d) (Contains-get_or (ls ++ x ∷ []) k d h));
-      shown = subst (λ (xs : List ℕ). Shows c.args.clauses.now xs c.reverse.new.self.items) (sym p) (subst (λ (hs : List ℕ). Shows c.args.clauses.now (ls ++ x ∷ []) hs) (sym r)
-          (learnt_shown t c.args.clauses.now a.met.items c.uip.new.self.met.items a.pending c.start.result c.start-2.result c.in_ok-uip.uip x ls a.hints.items e c.in_ok-clear_root.ensures.suffices));
-      turn = subst (λ (xs : List ℕ). Fits t xs c.turn-turn.result) (sym p) (fits t c.requires.lawful a.met.items c.uip.new.self.met.items a.pending c.start.result c.start-2.result c.in_ok-uip.uip x ls e c.turn-turn.result turn);
+          (λ k d h. learnt_false t a.met.items c.uip.new.self.met.items a.pending c.start.result c.start-2.result c.in_ok-uip.uip x ls e
+          (get_or (ls ++ x ∷ []) k d) (Contains-get_or (ls ++ x ∷ []) k d h));
+      shown = subst (λ (xs : List ℕ). Shows c.args.clauses.now xs c.reverse.new.self.items) (sym p)
+          (subst (λ (hs : List ℕ). Shows c.args.clauses.now (ls ++ x ∷ []) hs) (sym r)
+          (learnt_shown t c.args.clauses.now a.met.items c.uip.new.self.met.items a.pending c.start.result c.start-2.result c.in_ok-uip.uip x ls
+          a.hints.items e c.in_ok-clear_root.ensures.suffices));
+      turn = subst (λ (xs : List ℕ). Fits t xs c.turn-turn.result) (sym p)
+          (fits t c.requires.lawful a.met.items c.uip.new.self.met.items a.pending c.start.result c.start-2.result c.in_ok-uip.uip x ls e
+          c.turn-turn.result turn);
     }

@@ -7,12 +7,14 @@ use Rattle.cdcl_learn.proofs.conflicts.highest.Goals.{then-place-top, else-place
 pub place-place-requires-clause-within : goal.place-place-requires-clause-within
 place-place-requires-clause-within c =
     let x : ℕ = get_or c.args.literals.now c.loop-literal.literal-index 0 in
-    (stands_low c.args.trail.now c.requires.lawful c.requires.levels c.args.literals.now c.requires.lower x (Contains-get_or c.args.literals.now c.loop-literal.literal-index 0 c.loop-literal-test.true)).in_range
+    (stands_low c.args.trail.now c.requires.lawful c.requires.levels c.args.literals.now c.requires.lower x
+    (Contains-get_or c.args.literals.now c.loop-literal.literal-index 0 c.loop-literal-test.true)).in_range
 
 pub place-place-requires-clause-there : goal.place-place-requires-clause-there
 place-place-requires-clause-there c =
     let x : ℕ = get_or c.args.literals.now c.loop-literal.literal-index 0 in
-    inr (false_there c.args.trail.now x (stands_low c.args.trail.now c.requires.lawful c.requires.levels c.args.literals.now c.requires.lower x (Contains-get_or c.args.literals.now c.loop-literal.literal-index 0 c.loop-literal-test.true)))
+    inr (false_there c.args.trail.now x (stands_low c.args.trail.now c.requires.lawful c.requires.levels c.args.literals.now c.requires.lower x
+    (Contains-get_or c.args.literals.now c.loop-literal.literal-index 0 c.loop-literal-test.true)))
 
 pub loop-literal-preserved : goal.loop-literal-preserved
 loop-literal-preserved c =
@@ -23,9 +25,20 @@ loop-literal-preserved c =
     let il = c.loop-literal-test.true in
     let p = c.place-place.ensures in
     elim c.if-place-top.branch [
-      | then-place-top w ↦ rw (w.best-is, w.top-is) (record { best = best_new t ls i c.place-place.result il p.within p.there; top = top_more t c.requires.lawful ls i c.loop-literal.top c.place-place.result c.place-place.result il p.within p.there w.if-place-top.true (omega arith) s.top })
-      | else-place-top w ↦ rw (w.best-is, w.top-is) (record { best = best_kept t ls i c.loop-literal.top c.place-place.result c.loop-literal.best il w.if-place-top.false s.best; top = top_more t c.requires.lawful ls i c.loop-literal.top c.place-place.result c.loop-literal.top il p.within p.there (omega arith) (omega (arith, w.if-place-top.false)) s.top })
+      | then-place-top w ↦ rw (w.best-is, w.top-is) (record {
+        best = best_new t ls i c.place-place.result il p.within p.there;
+        top =
+            top_more t c.requires.lawful ls i c.loop-literal.top c.place-place.result c.place-place.result il p.within p.there w.if-place-top.true
+            (omega arith) s.top;
+      })
+      | else-place-top w ↦ rw (w.best-is, w.top-is) (record {
+        best = best_kept t ls i c.loop-literal.top c.place-place.result c.loop-literal.best il w.if-place-top.false s.best;
+        top =
+            top_more t c.requires.lawful ls i c.loop-literal.top c.place-place.result c.loop-literal.top il p.within p.there (omega arith)
+            (omega (arith, w.if-place-top.false)) s.top;
+      })
     ]
 
 pub returns : goal.returns
-returns c = highest_found c.args.trail.now c.requires.lawful c.args.literals.now c.loop-literal.literal-index c.loop-literal.top c.loop-literal.best c.loop-literal-test.false c.loop-literal.invariant.best c.loop-literal.invariant.top
+returns c = highest_found c.args.trail.now c.requires.lawful c.args.literals.now c.loop-literal.literal-index c.loop-literal.top c.loop-literal.best
+    c.loop-literal-test.false c.loop-literal.invariant.best c.loop-literal.invariant.top

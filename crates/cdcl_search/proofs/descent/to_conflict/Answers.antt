@@ -8,10 +8,12 @@ pub loop-conflict-preserved : goal.loop-conflict-preserved
 loop-conflict-preserved c =
     let inv = c.loop-conflict.invariant in
     let u = c.propagate.new.trail in
-    let a = descends-propagates c.args.trail.now c.args.clauses.now c.loop-conflict.trail c.loop-conflict.clauses c.loop-conflict.watches u c.propagate.new.clauses c.propagate.new.watches inv.keeps c.propagate.ensures.keeps in
+    let a = descends-propagates c.args.trail.now c.args.clauses.now c.loop-conflict.trail c.loop-conflict.clauses c.loop-conflict.watches u
+    c.propagate.new.clauses c.propagate.new.watches inv.keeps c.propagate.ensures.keeps in
     let e : u.propagated ≡ length u.literals = c.in_ok-conflict.ensures.none (ap (λ o. is_some o) c.in_default.is) in
     let w : IsTrail (decided u c.literal-literal.result) = rw c.decide.ensures.after at c.decide.ensures.lawful in
     record {
-      keeps = rw c.decide.ensures.after (descends-decided c.args.trail.now c.args.clauses.now u c.propagate.new.clauses c.propagate.new.watches a e c.literal-literal.result w);
+      keeps = rw c.decide.ensures.after (descends-decided c.args.trail.now c.args.clauses.now u c.propagate.new.clauses c.propagate.new.watches a e
+          c.literal-literal.result w);
       order_same = c.next_open.ensures.order ∙ inv.order_same;
     }

@@ -8,7 +8,8 @@ use Rattle.cdcl_learn.proofs.analysis.Analysis.meet.Goals as goal
 pub place-place-requires-clause-there : goal.place-place-requires-clause-there
 place-place-requires-clause-there c =
     let x : ℕ = get_or c.literals-literal-items.result.now c.loop-literal.literal-index 0 in
-    c.requires.there x (subst (λ (ls : List ℕ). Contains ls x) c.literals-literal-items.ensures (Contains-get_or c.literals-literal-items.result.now c.loop-literal.literal-index 0 c.loop-literal-test.true))
+    c.requires.there x (subst (λ (ls : List ℕ). Contains ls x) c.literals-literal-items.ensures
+    (Contains-get_or c.literals-literal-items.result.now c.loop-literal.literal-index 0 c.loop-literal-test.true))
 
 pub loop-literal-preserved : goal.loop-literal-preserved
 loop-literal-preserved c =
@@ -19,7 +20,8 @@ loop-literal-preserved c =
     record {
       order_same = c.bump.ensures ∙ inv.order_same;
       tallies = c.mark.ensures.tallies;
-      meets = meets_more c.args.trail.now c.requires.lawful c.args.self.now.met.items c.loop-literal.self.met.items c.mark.new.self.met.items (at c.args.clauses.now c.args.clause).literals i c.place-place.result il c.place-place.ensures.within
+      meets = meets_more c.args.trail.now c.requires.lawful c.args.self.now.met.items c.loop-literal.self.met.items c.mark.new.self.met.items
+          (at c.args.clauses.now c.args.clause).literals i c.place-place.result il c.place-place.ensures.within
           (c.place-place.ensures.there ∙ ap (λ (ls : List ℕ). get_or ls i 0 / 2) same) inv.meets c.in_ok-mark.ensures.marks;
       hints = c.mark.ensures.hints ∙ inv.hints;
     }
