@@ -44,7 +44,8 @@ module _ {X : Type 0} (p : Move → Bool) where
 
   -- the same, of one that is read at its place
   pub listed_next : (f : X → Move) (names : List X) (i : ℕ) (d : X) (start old new : List Move) → i < length names
-      → old ≡ start ++ filter p (map f (take i names)) → new ≡ old ++ filter p (f (get_or names i d) ∷ []) → new ≡ start ++ filter p (map f (take (i + 1) names))
+      → old ≡ start ++ filter p (map f (take i names)) → new ≡ old ++ filter p (f (get_or names i d) ∷ [])
+      → new ≡ start ++ filter p (map f (take (i + 1) names))
   listed_next f names i d start old new lt so_far e =
       listed_more f names i (get_or names i d) start old new lt (get_or_default names i d (get_or names i d) lt) so_far e
 
@@ -187,7 +188,8 @@ module _ {B : Type 0} (ops : BufferOps B) (model : Model) (bound : Binding) (law
 
   woken_is_thread : (n u : Name) (t : Thread B) (i : Instr) (v : State B) → wake_of ops s n u t i ≡ Some v → IsSome (fin.get s.threads u)
   woken_is_thread n u t (Signal c) v h =
-      waiters_are_threads ops code s reached u c (second (ops.is_empty t.buffer) _ (cond_some (ops.is_empty t.buffer && set.contains (waiting_on s c) u) (woken ops s n u t c) v h).0)
+      waiters_are_threads ops code s reached u c (second (ops.is_empty t.buffer) _
+      (cond_some (ops.is_empty t.buffer && set.contains (waiting_on s c) u) (woken ops s n u t c) v h).0)
   woken_is_thread n u t i v h = absurd (none-some v h)
 
   listed_move : (m : Move) (v : State B) → move_of ops code s m ≡ Some v → is_enabled ops code s m ≡ true

@@ -1,5 +1,31 @@
 -- In a state that a run of lawful code reaches, each buffered store is to a cell that is there.
-use Rattle.std.proofs.Common.{◌≡◌, ◌∙◌, inl, inr, ℕ, ◌+◌, ◌<◌, ℤ, pos, slice_set, length, List, [], ◌∷◌, ◌++◌, Bool, true, false, cond, Option, Some, None, refl, sym, subst}
+use Rattle.std.proofs.Common.{
+  ◌≡◌,
+  ◌∙◌,
+  inl,
+  inr,
+  ℕ,
+  ◌+◌,
+  ◌<◌,
+  ℤ,
+  pos,
+  slice_set,
+  length,
+  List,
+  [],
+  ◌∷◌,
+  ◌++◌,
+  Bool,
+  true,
+  false,
+  cond,
+  Option,
+  Some,
+  None,
+  refl,
+  sym,
+  subst,
+}
 use Rattle.std.specs.Prelude.{is_some, IsSome, IfSome}
 use Rattle.std.specs.FinMap as fin
 use Rattle.std.specs.Ordering.{nat_cmp}
@@ -149,7 +175,8 @@ module _ {B : Type 0} (ops : BufferOps B) (model : Model) (bound : Binding) (law
         (asked_is_there ops code s q w.thread w.instr lawful reached w.there w.at) all (all q w.thread w.there))
     went_within s u (move.Wake q v) reached one all =
         let w = step_went ops code s u (move.Wake q v) one in
-        subst (λ (v : State B). AllWithin (length code.memory) v.threads) (sym w.after) (all_put (length code.memory) s.threads q _ all (all q w.thread w.there))
+        subst (λ (v : State B). AllWithin (length code.memory) v.threads) (sym w.after)
+        (all_put (length code.memory) s.threads q _ all (all q w.thread w.there))
     went_within s u (move.Drain q form) reached one all =
         option_and_then_some (λ t. drain_of ops s q t form) (fin.get s.threads q) u (unless (is_some s.failed) _ u one) (λ t there g.
         let may = cond_some (ops.may_drain t.buffer form) (drained ops s q t form) u g in

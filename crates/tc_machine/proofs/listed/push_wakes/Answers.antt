@@ -13,7 +13,8 @@ loop-waiter-preserved g c =
     listed_more (is_enabled g.M.MemoryModel.ops c.args.code.now c.args.state.now)
     (λ u. Wake c.args.name.now u) c.as_slice-waiter-items.result.now c.loop-waiter.waiter-index c.waiter-item.result c.args.found.now.items
     c.loop-waiter.found.items c.push_enabled-in-loop-waiter.new.found.items c.loop-waiter-test.true c.waiter-item.is c.loop-waiter.invariant
-    (c.in_ok-push_enabled.ensures ∙ ap (λ m. c.loop-waiter.found.items ++ filter (is_enabled g.M.MemoryModel.ops c.args.code.now c.args.state.now) (m ∷ [])) same)
+    (c.in_ok-push_enabled.ensures ∙ ap (λ m. c.loop-waiter.found.items ++ filter (is_enabled g.M.MemoryModel.ops c.args.code.now c.args.state.now)
+    (m ∷ [])) same)
 
 pub returns : goal.returns
 returns g c =

@@ -6,4 +6,5 @@ use Rattle.tc_machine.proofs.listed.push_wakes.Given as goal
 
 abbrev pub invariant-loop-waiter : goal.invariant-loop-waiter
 invariant-loop-waiter g l =
-    l.found.items ≡ l.initial.found.items ++ filter (is_enabled g.M.MemoryModel.ops l.code l.state) (map (λ u. Wake l.name u) (take l.waiter-index l.waiter-items))
+    l.found.items ≡ l.initial.found.items ++ filter (is_enabled g.M.MemoryModel.ops l.code l.state)
+    (map (λ u. Wake l.name u) (take l.waiter-index l.waiter-items))
