@@ -2,6 +2,7 @@
 ghost use Rattle.std.specs.Prelude.{◌≡◌, ◌∷◌, [], ◌++◌, drop, slice_index_or, OnOk, OnErr, IfOk, IfSome, IfNone, is_some, not, option_map};
 ghost use Rattle.tc_base.specs.Buffers.{newest, no_entry, is_nil};
 
+use crate::segment::Segment;
 use std::alloc::{AllocError, Global};
 use std::collections::VecDeque;
 use std::marker::Model;
@@ -14,19 +15,26 @@ pub(crate) struct Store {
 }
 
 /// The stores of a thread on their way to memory, the oldest first.
+///
+/// They are kept by their cells too, so that the newest to a cell is found without a look at the others.
 #[derive(Debug, Drop)]
 pub struct Queue {
     stores: VecDeque<Store>,
+    by_cell: Segment,
 }
 
 impl Model for Queue {
-    ghost use Rattle.std.specs.Prelude.{List, map};
+    ghost use Rattle.std.specs.Prelude.{◌≡◌, List, map};
     ghost use Rattle.tc_base.specs.Buffers.{Entry};
-    ghost use Rattle.store_buffers.specs.Seen.{plain_store};
+    ghost use Rattle.store_buffers.specs.Seen.{plain_store, stores_by_cell, coded_entries};
 
     ghost Value = { List Entry };
 
+    ghost coded = { coded_entries };
+
     ghost view = { λ a. map plain_store a.stores.items };
+
+    ghost invariant = { λ a. a.by_cell ≡ stores_by_cell (map plain_store a.stores.items) };
 }
 
 impl Queue {
@@ -36,6 +44,7 @@ impl Queue {
     {
         Queue {
             stores: VecDeque::new(alloc),
+            by_cell: Segment::new(alloc),
         }
     }
 
@@ -44,7 +53,12 @@ impl Queue {
         ensures ok { OnOk result (self.new ≡ self.old ++ record { cell = cell; value = value } ∷ []) }
         ensures err { OnErr result (self.new ≡ self.old) }
     {
+        let alloc = *self.stores.allocator();
         self.stores.push_back(Store { cell, value })?;
+        if let Err(refused) = self.by_cell.push(alloc, cell, value) {
+            self.stores.pop_back();
+            return Err(refused);
+        }
         Ok(())
     }
 
@@ -52,13 +66,7 @@ impl Queue {
     pub(crate) fn newest(&self, cell: u32) -> Option<i32>
         ensures { result ≡ newest self.now cell }
     {
-        let mut newest = None;
-        for store in &self.stores {
-            if store.cell == cell {
-                newest = Some(store.value);
-            }
-        }
-        newest
+        self.by_cell.last(cell)
     }
 
     pub(crate) fn is_empty(&self) -> bool
@@ -75,9 +83,8 @@ impl Queue {
         ensures none { IfNone result (self.new ≡ self.old) }
         ensures rest { self.new ≡ drop 1 self.old }
     {
-        match self.stores.pop_front() {
-            Some(store) => Some((store.cell, store.value)),
-            None => None,
-        }
+        let store = self.stores.pop_front()?;
+        self.by_cell.pop(store.cell);
+        Some((store.cell, store.value))
     }
 }

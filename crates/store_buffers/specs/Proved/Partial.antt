@@ -155,7 +155,7 @@ last_after x [] = refl
 last_after x (y ∷ xs) = last_after y xs ∙ some_either (last_or None xs) y x ∙ ap (λ o. option_or o (Some x)) (sym (last_after y xs))
 
 -- one more store before the others counts where it is to that cell and there is no other
-forward_behind : (s : Segment) (o : Option ℤ) (d : ℕ) (w : ℤ) (c : ℕ) (b : Bool) → (d == c) ≡ b
+pub forward_behind : (s : Segment) (o : Option ℤ) (d : ℕ) (w : ℤ) (c : ℕ) (b : Bool) → (d == c) ≡ b
     → option_or o (last_or None (values_to (with_first d w s) c)) ≡ option_or (option_or o (last_or None (values_to s c))) (cond b (Some w) None)
 forward_behind s o d w c true e =
     ap (λ x. option_or o (last_or None (values_to (with_first d w s) x))) (sym (eq_is d c e))
