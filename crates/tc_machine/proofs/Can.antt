@@ -21,7 +21,8 @@ use Rattle.tc_base.specs.declared.request.Request.TheVariants.{Silent}
 use Rattle.tc_code.specs.Step.{request, site, is_within, cell_at, instr_of, ints_of, value_in}
 use Rattle.tc_code.specs.Run.{IsReached}
 use Rattle.tc_code.specs.Facts.{placed_next}
-use Rattle.tc_machine.specs.helpers.CanDo.{CanAsk, CanDo, CanPerform, AsksWithin, Starts, sized, is_branch}
+use Rattle.tc_threads.specs.CanDo.{CanAsk, CanDo, Starts, sized, is_branch}
+use Rattle.tc_machine.specs.helpers.CanDo.{CanPerform, AsksWithin}
 use Rattle.tc_runs.proofs.Basics.{first, second, found}
 use Rattle.tc_runs.proofs.Whole.{names_next, reached_is_whole}
 use Rattle.tc_runs.proofs.Guards.{index_is_within}

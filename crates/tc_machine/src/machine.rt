@@ -10,14 +10,13 @@ ghost use Rattle.tc_code.specs.Step.{step, instr_of, request};
 ghost use Rattle.tc_machine.specs.Why.{why, why_at, why_doing, why_undrained, why_unmet, why_unwoken};
 ghost use Rattle.tc_runs.specs.Counters.{CountersAreBelowLast};
 
-use crate::request::drains_first;
 use crate::state::State;
-use crate::thread::Thread;
 use crate::why::Why;
 use std::alloc::{AllocError, Global};
 use store_buffers::MemoryModel;
 use tc_base::{Move, ThreadName};
 use tc_code::{Code, Instr};
+use tc_threads::{Thread, drains_first};
 
 /// Whether a move is enabled, and the first reason why not.
 pub fn enabled<M: MemoryModel>(code: &Code, state: &State<M>, m: &Move) -> Result<(), Why>

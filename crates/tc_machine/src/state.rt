@@ -7,21 +7,17 @@ ghost use Rattle.tc_code.specs.Instr as flat;
 ghost use Rattle.tc_code.specs.Seen.{plain_instr};
 ghost use Rattle.tc_code.specs.Step.{opening, perform, did, loaded, stored, drained, stepped, with_thread, woken, waiting_on};
 ghost use Rattle.tc_code.specs.Step as plain;
-ghost use Rattle.tc_machine.specs.helpers.CanDo.{AsksWithin, CanAdvance, CanPerform, HasRoom, is_branch};
+ghost use Rattle.tc_threads.specs.CanDo.{CanAdvance, HasRoom, is_branch};
+ghost use Rattle.tc_machine.specs.helpers.CanDo.{AsksWithin, CanPerform};
 ghost use Rattle.tc_machine.specs.Why.{why_let, why_taken};
 
-use crate::effect::Effect;
-use crate::names::ThreadNames;
-use crate::outcomes::Outcomes;
-use crate::thread::Thread;
-use crate::threads::Threads;
-use crate::waiting::WaitSet;
 use crate::why::Why;
 use std::alloc::{AllocError, Global};
 use std::marker::Model;
 use store_buffers::MemoryModel;
 use tc_base::{Request, ThreadName};
 use tc_code::{Code, Instr};
+use tc_threads::{Effect, Outcomes, Thread, ThreadNames, Threads, WaitSet};
 
 /// A state of the machine.
 #[derive(Drop)]
@@ -118,6 +114,13 @@ impl<M: MemoryModel> State<M> {
             ≡ option_map (λ t. t.local.outcomes) (map.get self.now.threads name.now) }
     {
         Some(self.thread(name)?.local().outcomes())
+    }
+
+    /// Whether a thread has exited.
+    pub fn has_exited(&self, name: &ThreadName) -> Option<bool>
+        ensures { result ≡ option_map (λ t. t.local.has_exited) (map.get self.now.threads name.now) }
+    {
+        Some(self.thread(name)?.local().has_exited())
     }
 
     /// The function that a thread runs, and the instruction there that it does next, by their numbers.

@@ -4,6 +4,11 @@ use Rattle.std.proofs.Common.{Option, Some, None, refl, ap, sym, subst, replicat
 use Rattle.std.specs.Option.{option_map_or}
 use Rattle.std.proofs.lemmas.Option.{none-some}
 
+-- a test is true or false
+pub known : (b : Bool) → (b ≡ true) ⊎ (b ≡ false)
+known true = inl refl
+known false = inr refl
+
 -- what passes two tests passes each
 pub first : (a b : Bool) → IsTrue (a && b) → IsTrue a
 first true b h = refl

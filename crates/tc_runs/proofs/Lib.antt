@@ -11,6 +11,7 @@ pub mod GoesAlone
 pub mod Guards
 pub mod Handles
 pub mod Main
+pub mod Makes
 pub mod Names
 pub mod Owners
 pub mod Steps

@@ -1,6 +1,6 @@
 -- How a step goes: it is a run move, a wake or a drain, of a thread that is there.
-use Rattle.std.proofs.Common.{◌≡◌, ℕ, ◌&&◌, IsTrue, Option, Some, sym}
-use Rattle.std.specs.Prelude.{is_some}
+use Rattle.std.proofs.Common.{◌≡◌, ℕ, ◌&&◌, IsTrue, Option, Some, None, refl, sym}
+use Rattle.std.specs.Prelude.{is_some, if◌then◌else◌}
 use Rattle.std.specs.FinMap as fin
 use Rattle.std.specs.FinSet as set
 use Rattle.std.proofs.lemmas.Option.{none-some, option_and_then_some, cond_some}
@@ -14,7 +14,7 @@ use Rattle.tc_code.specs.Code.{Code}
 use Rattle.tc_code.specs.Step.{request, instr_of, allows, perform, waiting_on, woken, drained, step, move_of, run_of, wake_of, drain_of, opening}
 use Rattle.tc_code.specs.Run.{IsReached}
 use Rattle.tc_code.specs.Facts.{kept_by_run, opening_is_reached, step_is_reached}
-use Rattle.tc_runs.proofs.Basics.{second, unless}
+use Rattle.tc_runs.proofs.Basics.{first, second, unless}
 
 module _ {B : Type 0} (ops : BufferOps B) (code : Code) where
   -- a thread does an instruction that it may
@@ -32,6 +32,7 @@ module _ {B : Type 0} (ops : BufferOps B) (code : Code) where
     pub there : fin.get s.threads n ≡ Some thread
     pub condition : ℕ
     pub at : instr_of code thread.local ≡ Some (Signal condition)
+    pub empty : IsTrue (ops.is_empty thread.buffer)
     pub waits : IsTrue (set.contains (waiting_on s condition) waiter)
     pub after : u ≡ woken ops s n waiter thread condition
 
@@ -39,6 +40,7 @@ module _ {B : Type 0} (ops : BufferOps B) (code : Code) where
   pub record Drained (s u : State B) (n : Name) (form : Option ℕ) : Type 0 where
     pub thread : Thread B
     pub there : fin.get s.threads n ≡ Some thread
+    pub may : IsTrue (ops.may_drain thread.buffer form)
     pub after : u ≡ drained ops s n thread form
 
   -- how a move goes
@@ -52,7 +54,15 @@ module _ {B : Type 0} (ops : BufferOps B) (code : Code) where
       → wake_of ops s n v t i ≡ Some u → Woke s u n v
   woke_at s u n v t (Signal c) there at h =
       let may = cond_some (ops.is_empty t.buffer && set.contains (waiting_on s c) v) _ u h in
-      record { thread = t; there = there; condition = c; at = at; waits = second (ops.is_empty t.buffer) _ may.0; after = sym may.1 }
+      record {
+        thread = t;
+        there = there;
+        condition = c;
+        at = at;
+        empty = first (ops.is_empty t.buffer) _ may.0;
+        waits = second (ops.is_empty t.buffer) _ may.0;
+        after = sym may.1;
+      }
   woke_at s u n v t _ there at h = absurd (none-some u h)
 
   -- a move goes so, where no thread has failed
@@ -67,7 +77,16 @@ module _ {B : Type 0} (ops : BufferOps B) (code : Code) where
       option_and_then_some (wake_of ops s n v t) (instr_of code t.local) u g (λ i at k. woke_at s u n v t i there at k))
   went s u (move.Drain n form) h =
       option_and_then_some (λ t. drain_of ops s n t form) (fin.get s.threads n) u h (λ t there g.
-      record { thread = t; there = there; after = sym (cond_some (ops.may_drain t.buffer form) _ u g).1 })
+      let may = cond_some (ops.may_drain t.buffer form) _ u g in
+      record { thread = t; there = there; may = may.0; after = sym may.1 })
+
+  -- before each step no thread has failed
+  pub none_failed : (s u : State B) (m : Move) → step ops code s m ≡ Some u → s.failed ≡ None
+  none_failed s u m h = still_none s.failed h
+    where
+      still_none : (o : Option Name) → (if is_some o then None else move_of ops code s m) ≡ Some u → o ≡ None
+      still_none None h = refl
+      still_none (Some n) h = absurd (none-some u h)
 
   -- how each step goes
   pub step_went : (s u : State B) (m : Move) → step ops code s m ≡ Some u → Went s u m

@@ -1,54 +1,16 @@
--- No promise speaks of this file: what a thread needs to do an instruction.
-use Rattle.std.specs.Prelude.{◌≡◌, ◌+◌, ◌<◌, ◌≤◌, ◌^◌, length, Bool, true, false, IsTrue, IfSome, None}
+-- No promise speaks of this file: what a state needs for a thread to do an instruction.
+use Rattle.std.specs.Prelude.{◌≡◌, ◌+◌, ◌<◌, length, IsTrue, None}
 use Rattle.std.specs.FinMap as fin
-use Rattle.tc_base.specs.Names.{Name, ByName, child}
-use Rattle.tc_base.specs.States.{Local, Thread, State}
-use Rattle.tc_code.specs.Instr.{Instr, Branch}
-use Rattle.tc_code.specs.Code.{Code}
-use Rattle.tc_code.specs.Lawful.{names_what_is}
-use Rattle.tc_code.specs.declared.code.Func.{Func}
+use Rattle.tc_base.specs.Names.{Name, child}
+use Rattle.tc_base.specs.States.{Thread, State}
 use Rattle.tc_base.specs.declared.request.Request.{Request}
 use Rattle.tc_base.specs.declared.request.Request.TheVariants.{Silent, Read, Write, Exchange, CompareExchange, Acquire}
-use Rattle.tc_base.specs.declared.request.Request.TheVariants.{Release, BeginWait, EndWait, WakeOne, WakeAll, Start}
-use Rattle.tc_code.specs.Step.{ints_of, arguments_of}
-use Rattle.tc_runs.specs.Counters.{IsBelowLast}
-use Rattle.tc_runs.specs.Whole.{IndexIsWithin}
-
--- a function with as many slots and thread variables as the thread has
-abbrev pub sized : Func → Local → Func
-sized f t = record f { ints = length t.slots; tids = length t.handles }
-
--- what the instruction names is there, and the index of its access is inside the array
-pub record CanAsk (code : Code) (t : Local) (i : Instr) : Type 0 where
-  pub function : Func
-  pub names : IsTrue (names_what_is code (sized function t) i)
-  pub held : length t.held ≡ code.mutexes
-  pub cells : length code.memory ≤ 1024
-  pub index : IndexIsWithin t i
-
--- there is room for its next place, its next count, and one more child
-pub record HasRoom (t : Local) : Type 0 where
-  pub place : t.instruction + 1 < 2 ^ 64
-  pub counters : IsBelowLast t
-
-pub record CanDo (code : Code) (t : Local) (i : Instr) : Type 0 where
-  pub asks : CanAsk code t i
-  pub room : HasRoom t
-
-abbrev pub is_branch : Instr → Bool
-is_branch (Branch e to) = true
-is_branch _ = false
-
--- a function that is to be started is there, and takes the arguments
-abbrev pub Starts : Code → Local → Instr → Request → Type 0
-Starts code t i (Start f) = (f < length code.functions) × (length (arguments_of t i) ≤ ints_of code f)
-Starts code t i _ = Unit {0}
+use Rattle.tc_base.specs.declared.request.Request.TheVariants.{Release, BeginWait, EndWait, WakeOne, WakeAll}
+use Rattle.tc_code.specs.Instr.{Instr}
+use Rattle.tc_code.specs.Code.{Code}
+use Rattle.tc_threads.specs.CanDo.{CanDo, Starts, is_branch}
 
 module _ {B : Type 0} where
-  -- the thread of a name can do the instruction
-  abbrev pub CanAdvance : ByName (Thread B) → Name → Instr → Type 0
-  CanAdvance threads n i = IfSome (fin.get threads n) (λ t. (code : Code) × CanDo code t.local i)
-
   -- what is asked for is there
   abbrev pub AsksWithin : State B → Request → Type 0
   AsksWithin s (Read c) = c < length s.memory

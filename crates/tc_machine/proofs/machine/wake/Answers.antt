@@ -2,7 +2,8 @@ use Rattle.std.proofs.Common.{subst, sym, IfSome}
 use Rattle.tc_code.specs.Code.{Code}
 use Rattle.tc_code.specs.Seen.{plain_instr}
 use Rattle.tc_code.specs.Step.{request}
-use Rattle.tc_machine.specs.helpers.CanDo.{AsksWithin, CanDo}
+use Rattle.tc_threads.specs.CanDo.{CanDo}
+use Rattle.tc_machine.specs.helpers.CanDo.{AsksWithin}
 use Rattle.tc_machine.proofs.Can.{asked_is_there, can_do}
 use Rattle.tc_machine.proofs.machine.wake.Goals as goal
 

@@ -1,6 +1,0 @@
-use Rattle.std.proofs.Common.{◌∙◌}
-use Rattle.tc_machine.proofs.NameSets.{contains_of}
-use Rattle.tc_machine.proofs.waiting.WaitSet.contains.Goals as goal
-
-pub returns : goal.returns
-returns c = c.contains.ensures ∙ contains_of c.self.inside.names.keys c.args.self.now c.args.name.now c.self.view_is

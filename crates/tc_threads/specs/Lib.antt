@@ -1,0 +1,2 @@
+pub mod CanDo
+pub mod Effects
