@@ -1,0 +1,61 @@
+-- Runs under one memory model as runs under another.
+use Rattle.std.specs.Prelude.{◌≡◌, Bool, true, List, [], ◌∷◌, ◌++◌, None, option_map, if◌then◌else◌}
+use Rattle.std.specs.Option.{option_map_or}
+use Rattle.std.specs.FinMap as fin
+use Rattle.tc_base.specs.Buffers.{BufferOps, no_buffer, fifo_buffer}
+use Rattle.tc_base.specs.Names.{Name}
+use Rattle.tc_base.specs.States.{Local, Thread, State}
+use Rattle.tc_base.specs.declared.moves.Move.{Move}
+use Rattle.tc_base.specs.declared.moves.Move.TheVariants as move
+use Rattle.tc_base.specs.declared.request.Request.{Request}
+use Rattle.tc_base.specs.declared.request.Request.TheVariants.{Write}
+use Rattle.tc_code.specs.Code.{Code}
+use Rattle.tc_code.specs.Step.{request, instr_of, step, opening}
+use Rattle.store_buffers.specs.Pending.{Binding, form_of, binds_all, binds_cells}
+
+-- a model allows all that another does: what it binds the other binds, and it has buffers where the other has them
+pub record AllowsMore {B C : Type 0} (ops : BufferOps B) (bound : Binding) (more : BufferOps C) (bound_more : Binding) : Type 0 where
+  pub binds : (same_cell barred : Bool) → bound_more same_cell barred ≡ true → bound same_cell barred ≡ true
+  pub buffers : ops.buffered ≡ true → more.buffered ≡ true
+
+-- the moves of a run, as moves of a model that allows more: by its buffers, and by what it binds
+module _ {B : Type 0} (ops : BufferOps B) (code : Code) (buffered : Bool) (bound : Binding) where
+  -- a store that goes to memory at once is one that drains at once
+  abbrev pub drains_at_once : Name → Request → List Move
+  drains_at_once n (Write c v) = if ops.buffered then [] else if buffered then move.Drain n (form_of bound c) ∷ [] else []
+  drains_at_once n _ = []
+
+  -- and a drain names what the other model's drains name
+  abbrev pub move_as : State B → Move → List Move
+  move_as s (move.Run n) =
+      move.Run n
+      ∷ option_map_or (λ t. option_map_or (λ i. drains_at_once n (request t.local i)) (instr_of code t.local) []) (fin.get s.threads n) []
+  move_as s (move.Wake n u) = move.Wake n u ∷ []
+  move_as s (move.Drain n form) =
+      move.Drain n (option_map_or (λ t. form_of bound (ops.drain t.buffer form).entry.cell) (fin.get s.threads n) None) ∷ []
+
+  abbrev pub moves_from : State B → List Move → List Move
+  moves_from s [] = []
+  moves_from s (m ∷ ms) = move_as s m ++ option_map_or (λ u. moves_from u ms) (step ops code s m) []
+
+  abbrev pub moves_as : List Move → List Move
+  moves_as ms = moves_from (opening ops code) ms
+
+-- the moves under total store order of a run under sequential consistency: each store is drained at once
+abbrev pub drained_at_once : Code → List Move → List Move
+drained_at_once code ms = moves_as no_buffer code true binds_all ms
+
+-- the moves under partial store order of a run under total store order: each drain names its cell
+abbrev pub with_cells : Code → List Move → List Move
+with_cells code ms = moves_as fifo_buffer code true binds_cells ms
+
+abbrev pub local_of : {B : Type 0} → Thread B → Local
+local_of t = t.local
+
+-- two states are the same but for their buffers
+pub record SameButBuffers {B C : Type 0} (s : State B) (u : State C) : Type 0 where
+  pub memory : s.memory ≡ u.memory
+  pub owners : s.owners ≡ u.owners
+  pub waiters : s.waiters ≡ u.waiters
+  pub failed : s.failed ≡ u.failed
+  pub threads : (n : Name) → option_map local_of (fin.get s.threads n) ≡ option_map local_of (fin.get u.threads n)
