@@ -1,0 +1,5 @@
+pub mod Asks
+pub mod Enabled
+pub mod Follows
+pub mod Plays
+pub mod Reproduced

@@ -1,0 +1,7 @@
+pub mod Frame
+pub mod Grows
+pub mod Last
+pub mod Lists
+pub mod Locals
+pub mod Shared
+pub mod Threads

@@ -1,0 +1,4 @@
+pub mod History
+pub mod Last
+pub mod Locals
+pub mod Told

@@ -1,0 +1,7 @@
+pub mod Apart
+pub mod Buffers
+pub mod In
+pub mod Issues
+pub mod Nothing
+pub mod Own
+pub mod Turns
