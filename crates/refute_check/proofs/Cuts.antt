@@ -113,7 +113,7 @@ lines-one n bytes (Header y) h = refl
 lines-one n bytes (Body y) h = refl
 lines-one n bytes (Form y) h = refl
 
-take-all : (xs : List ℕ) (n : ℕ) → n ≡ length xs → take n xs ≡ xs
+pub take-all : (xs : List ℕ) (n : ℕ) → n ≡ length xs → take n xs ≡ xs
 take-all [] zero h = refl
 take-all [] (suc n) h = refl
 take-all (x ∷ xs) zero h = absurd (omega arith)

@@ -6,3 +6,4 @@ pub mod Heads
 pub mod Cuts
 pub mod Wholes
 pub mod ReadTexts
+pub mod Pieces

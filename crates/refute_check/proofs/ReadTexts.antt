@@ -30,8 +30,8 @@ use Rattle.std.specs.Prelude.{nat_eq, not, ◌||◌, map, is_some, if◌then◌e
 use Rattle.std.specs.List.{list_all, flat_map}
 use Rattle.std.specs.Option.{option_map_or}
 use borrow.Author.Tests.{eqb-true}
-use Rattle.refute_check.specs.Texts.{head_text, line_text, is_head, is_readable, ended, refutation_text}
-use Rattle.refute_check.specs.Reading.{Reading, Reads, IsTakenAs, after_taken, pushed, beginning, first_breach}
+use Rattle.refute_check.specs.Texts.{head_text, line_text, is_readable, ended, refutation_text}
+use Rattle.refute_check.specs.Reading.{Reading, Reads, IsTakenAs, after_taken, pushed, beginning}
 use Rattle.refute_check.specs.Refutations.{line_limit, is_nil}
 use Rattle.refute_check.specs.Laws.{whole_lines, IsWhole, ReadIsText}
 use Rattle.refute_check.proofs.Guesses.{and-true}
@@ -58,7 +58,7 @@ record AreBodies (s : Reading) (bytes : List ℕ) (ts : List Taken) (t : Reading
 abbrev ForAll : List ℕ → Type 0
 ForAll bytes = (s : Reading) (ts : List Taken) (t : Reading) → 1 < s.line → Reads s bytes ts t → t.fault ≡ None → AreBodies s bytes ts t
 
-fault-stays : (bytes : List ℕ) (s : Reading) (ts : List Taken) (t : Reading) → is_some s.fault ≡ true → Reads s bytes ts t → t.fault ≡ None → ⊥
+pub fault-stays : (bytes : List ℕ) (s : Reading) (ts : List Taken) (t : Reading) → is_some s.fault ≡ true → Reads s bytes ts t → t.fault ≡ None → ⊥
 fault-stays bytes s ts t f a e =
     let same : t.fault ≡ s.fault = ap (λ (r : Reading). r.fault) ((stuck bytes s ts t f a).1) in
     let no : is_some s.fault ≡ false = ap is_some (sym same ∙ e) in

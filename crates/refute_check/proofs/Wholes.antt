@@ -4,7 +4,6 @@ use Rattle.std.proofs.Common.{
   ◌<◌,
   ◌≤◌,
   ◌+◌,
-  ◌/◌,
   ◌%◌,
   ◌++◌,
   ◌∷◌,
@@ -31,7 +30,7 @@ use Rattle.std.proofs.Common.{
   append-nil,
   append_assoc,
 }
-use Rattle.std.specs.Prelude.{nat_eq, nat_lt, not, ◌&&◌, map, codes}
+use Rattle.std.specs.Prelude.{nat_eq, nat_lt, not, map, codes}
 use Rattle.std.specs.List.{list_all, flat_map}
 use Rattle.std.specs.Option.{option_map_or}
 use Rattle.std.specs.Fmt.{decimal, signed_decimal}
@@ -40,7 +39,6 @@ use Rattle.std.proofs.lemmas.List.Folds.{list_all-append}
 use borrow.Author.Tests.{ne_eqb, ltb-true}
 use Rattle.tc_base.specs.declared.model.Model.{Model}
 use Rattle.tc_base.specs.declared.model.Model.TheVariants.{Sc, Tso, Pso}
-use Rattle.cnf_core.specs.Clauses.{var_of}
 use Rattle.refute_check.specs.Texts.{
   model_text,
   switches_text,
@@ -55,7 +53,7 @@ use Rattle.refute_check.specs.Texts.{
 use Rattle.refute_check.specs.Reading.{Reading, Reads, IsTakenAs, after_taken, pushed, beginning}
 use Rattle.refute_check.specs.Refutations.{line_limit}
 use Rattle.refute_check.specs.Guess.{head_guess, line_guess}
-use Rattle.refute_check.specs.Laws.{whole_lines, IsWhole, ReadsAgree, TextIsRead, TextHasOneValue}
+use Rattle.refute_check.specs.Laws.{whole_lines, ReadsAgree, TextIsRead, TextHasOneValue}
 use Rattle.refute_check.proofs.Heads.{head_guess-head_text}
 use Rattle.refute_check.proofs.Guesses.{line_guess-line_text, is_small, numbers_after, letter_of, text-of-numbers, small-of-line, and-left, and-right, and-true}
 use Rattle.refute_check.proofs.Cuts.{Step, step-push, step-end, pushed-nil, pushed-cons}
@@ -163,7 +161,7 @@ reads-line (b ∷ bytes) s rest x xs t e p h r =
     (subst (λ z. Reads (after_taken z x) rest xs t) (sym (pushed-cons s b bytes)) r))
 
 -- between two lines, before the line of that number
-abbrev between : ℕ → Reading
+abbrev pub between : ℕ → Reading
 between n = record { unfinished = []; line = n; fault = None }
 
 -- the lines of a derivation
@@ -196,12 +194,15 @@ lines-one (l ∷ ls) (m ∷ ms) e =
     let b : map (λ l. Body l) ls ≡ map (λ l. Body l) ms = cc in
     ap (λ z. z ∷ ls) x ∙ ap (λ zs. m ∷ zs) (lines-one ls ms b)
 
-pub text-has-one-value : TextHasOneValue
-text-has-one-value h k ls ms w v e =
-    let r = reads-agree (refutation_text k ms) beginning (between (length ls + 2)) (between (length ms + 2)) (whole_lines h ls) (whole_lines k ms)
-    (subst (λ bs. Reads beginning bs (whole_lines h ls) (between (length ls + 2))) e (text-is-read h ls w)) (text-is-read k ms v) in
-    let all : whole_lines h ls ≡ whole_lines k ms = r.0 in
+pub whole-one : (h k : Head) (ls ms : List Line) → whole_lines h ls ≡ whole_lines k ms → (h ≡ k) × (ls ≡ ms)
+whole-one h k ls ms all =
     let a : ◌≡◌ {A = Taken} (Header h) (Header k) = cc in
     let x : h ≡ k = cc in
     let b : map (λ l. Body l) ls ≡ map (λ l. Body l) ms = cc in
     (x, lines-one ls ms b)
+
+pub text-has-one-value : TextHasOneValue
+text-has-one-value h k ls ms w v e =
+    let r = reads-agree (refutation_text k ms) beginning (between (length ls + 2)) (between (length ms + 2)) (whole_lines h ls) (whole_lines k ms)
+    (subst (λ bs. Reads beginning bs (whole_lines h ls) (between (length ls + 2))) e (text-is-read h ls w)) (text-is-read k ms v) in
+    whole-one h k ls ms r.0

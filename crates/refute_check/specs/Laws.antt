@@ -1,13 +1,14 @@
 -- What a verdict means, and how texts and their values belong together.
-use Rattle.std.specs.Prelude.{◌≡◌, ℕ, ◌+◌, ◌≤◌, List, [], ◌∷◌, map, length, None, IsTrue}
+use Rattle.std.specs.Prelude.{◌≡◌, ℕ, ◌+◌, ◌≤◌, List, [], ◌∷◌, length, None, IsTrue}
 use Rattle.std.specs.List.{list_all}
 use Rattle.cnf_core.specs.Clauses.{Formula, IsUnsatisfiable}
 use Rattle.refute_check.specs.Refutations.{IsClosed, line_limit}
 use Rattle.refute_check.specs.Texts.{is_head, is_readable, refutation_text}
-use Rattle.refute_check.specs.Reading.{Reading, Reads, beginning, first_breach}
+use Rattle.refute_check.specs.Reading.{Reading, Reads, beginning, bodies, first_breach}
+use Rattle.refute_check.specs.Broken.{BreaksAt}
 use Rattle.refute_check.specs.declared.head.Head.{Head}
 use Rattle.refute_check.specs.declared.text.Taken.{Taken}
-use Rattle.refute_check.specs.declared.text.Taken.TheVariants.{Header, Line as Body}
+use Rattle.refute_check.specs.declared.text.Taken.TheVariants.{Header}
 use Rattle.refute_check.specs.declared.line.Line.{Line}
 
 -- where a derivation is closed, whoever made it, nothing satisfies the formula's clauses
@@ -16,7 +17,7 @@ ClosedMeansUnsatisfiable = (f : Formula) (lines : List Line) → IsClosed f line
 
 -- the lines of a text: a first line, then those of a derivation
 abbrev pub whole_lines : Head → List Line → List Taken
-whole_lines h ls = Header h ∷ map (λ l. Body l) ls
+whole_lines h ls = Header h ∷ bodies ls
 
 -- a first line and a derivation as the format allows them
 abbrev pub IsWhole : Head → List Line → Type 0
@@ -42,3 +43,7 @@ abbrev pub ReadIsText : Type 0
 ReadIsText =
     (bytes : List ℕ) (ts : List Taken) (t : Reading) → Reads beginning bytes ts t → first_breach t ≡ None
     → (h : Head) × (ls : List Line) × (ts ≡ whole_lines h ls) × IsWhole h ls × (refutation_text h ls ≡ bytes)
+
+-- bytes in which a line breaks the form are no text
+abbrev pub BrokenIsNoText : Type 0
+BrokenIsNoText = (bytes : List ℕ) (n : ℕ) → BreaksAt bytes n → (h : Head) (ls : List Line) → IsWhole h ls → refutation_text h ls ≡ bytes → ⊥

@@ -1,3 +1,5 @@
+pub mod Blocks
+pub mod Broken
 pub mod Checkers
 pub mod Given
 pub mod Guess

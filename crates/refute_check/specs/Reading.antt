@@ -1,9 +1,10 @@
 -- A refutation's text, read in pieces.
-use Rattle.std.specs.Prelude.{◌≡◌, ℕ, ◌+◌, ◌<◌, ◌≤◌, ◌==◌, List, [], ◌∷◌, ◌++◌, Option, None, Some, is_some, IsTrue, if◌then◌else◌, ◌||◌, not}
+use Rattle.std.specs.Prelude.{◌≡◌, ℕ, ◌+◌, ◌<◌, ◌≤◌, ◌==◌, List, [], ◌∷◌, ◌++◌, map, Option, None, Some, is_some, IsTrue, if◌then◌else◌, ◌||◌, not}
 use Rattle.std.specs.Option.{option_map_or}
 use Rattle.std.specs.Bool.{MatchBool}
 use Rattle.refute_check.specs.Refutations.{line_limit, is_nil}
 use Rattle.refute_check.specs.Texts.{head_text, line_text, is_head, is_readable, IsNoHead, IsNoLine}
+use Rattle.refute_check.specs.declared.line.Line.{Line}
 use Rattle.refute_check.specs.declared.text.Taken.{Taken}
 use Rattle.refute_check.specs.declared.text.Taken.TheVariants.{More, Header, Line as Body, Form}
 
@@ -51,6 +52,11 @@ lines_of (Header h) = Header h ∷ []
 lines_of (Body l) = Body l ∷ []
 lines_of (Form k) = Form k ∷ []
 
+-- the fault that an answer names
+abbrev pub fault_of : Taken → Option ℕ
+fault_of (Form k) = Some k
+fault_of t = None
+
 -- more bytes of a line
 abbrev pub pushed : Reading → List ℕ → Reading
 pushed s bytes = record s { unfinished = s.unfinished ++ bytes }
@@ -58,3 +64,15 @@ pushed s bytes = record s { unfinished = s.unfinished ++ bytes }
 -- the first line that breaks the form, where no more bytes come: a text has a first line, and each line ends
 abbrev pub first_breach : Reading → Option ℕ
 first_breach s = option_map_or (λ k. Some k) s.fault (if s.line == 1 || not (is_nil s.unfinished) then Some s.line else None)
+
+-- the lines of a derivation, as a text's
+abbrev pub bodies : List Line → List Taken
+bodies ls = map (λ l. Body l) ls
+
+-- the lines that end in some bytes, and the first line that breaks the form where no more bytes come
+abbrev pub ReadsTo : Reading → List ℕ → List Taken → Option ℕ → Type 0
+ReadsTo s bytes ts o = (t : Reading) × Reads s bytes ts t × (first_breach t ≡ o)
+
+-- the lines that end in some bytes come after those of a derivation, and nothing in the bytes breaks the form
+abbrev pub ReadsMore : Reading → List ℕ → List Line → List Line → Reading → Type 0
+ReadsMore s bytes ls ms t = (ts : List Taken) × Reads s bytes ts t × (bodies ms ≡ bodies ls ++ ts) × (t.fault ≡ None)

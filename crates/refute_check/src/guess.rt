@@ -11,7 +11,7 @@ use std::alloc::{AllocError, Global};
 pub fn guessed(alloc: Global, bytes: &[u8]) -> Result<Vec<i64>, AllocError>
     ensures { IfOk result (λ numbers. numbers.items ≡ guessed bytes.now) }
 {
-    let mut numbers = Vec::new(alloc);
+    let mut numbers = Vec::with_capacity(alloc, bytes.len() / 2 + 1)?;
     let mut size = 0;
     let mut negative = false;
     for byte in bytes {
@@ -45,7 +45,7 @@ fn number_of(size: u64, negative: bool) -> i64
 fn literals_in(alloc: Global, numbers: &[i64]) -> Result<Vec<Lit>, AllocError>
     ensures { IfOk result (λ literals. literals.items ≡ literals_in numbers.now) }
 {
-    let mut literals = Vec::new(alloc);
+    let mut literals = Vec::with_capacity(alloc, numbers.len())?;
     for number in numbers {
         let Some(lit) = literal_of(*number) else {
             return Ok(literals);
@@ -81,7 +81,7 @@ fn clause_numbers_in(alloc: Global, numbers: &[i64]) -> Result<Vec<u32>, AllocEr
     ensures found { IfOk result (λ found. found.items ≡ clause_numbers_in numbers.now) }
     ensures positive { IfOk result (λ found. IsTrue (are_numbers found.items)) }
 {
-    let mut found = Vec::new(alloc);
+    let mut found = Vec::with_capacity(alloc, numbers.len())?;
     for number in numbers {
         let Some(number) = clause_number_of(*number) else {
             return Ok(found);

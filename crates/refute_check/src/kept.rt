@@ -3,6 +3,7 @@ ghost use Rattle.std.specs.Prelude.{◌≡◌, ℤ, List, OnOk, OnErr, is_some, 
 ghost use Rattle.std.specs.Option.{option_copied};
 ghost use Rattle.std.specs.FinMap as map;
 
+use crate::blocks::Blocks;
 use cnf_core::Clause;
 use std::alloc::{AllocError, Global};
 use std::collections::HashMap;
@@ -11,7 +12,7 @@ use std::marker::Model;
 /// Clauses by their numbers. Contracts see a finite map.
 #[derive(Drop)]
 pub struct Kept {
-    clauses: HashMap<u32, Clause>,
+    clauses: HashMap<u32, Clause, Blocks>,
 }
 
 impl Model for Kept {
@@ -31,7 +32,7 @@ impl Kept {
         ensures { result ≡ map.empty }
     {
         Kept {
-            clauses: HashMap::new(alloc),
+            clauses: HashMap::with_hasher(alloc, Blocks::new()),
         }
     }
 

@@ -25,7 +25,7 @@ pub fn read_line(alloc: Global, bytes: &[u8]) -> Result<Option<Line>, AllocError
 fn is_line_text(alloc: Global, line: &Line, bytes: &[u8]) -> Result<bool, AllocError>
     ensures { IfOk result (λ same. IsTrue same ↔ (line_text line.now ≡ bytes.now)) }
 {
-    let mut text = String::new(alloc);
+    let mut text = String::with_capacity(alloc, bytes.len())?;
     write_line(&mut text, line)?;
     Ok(text.as_bytes() == bytes)
 }

@@ -71,7 +71,7 @@ pub fn cuts_agree()
 {}
 
 impl RefutationText {
-    ghost use Rattle.refute_check.specs.Reading.{beginning, Reads, lines_of, after_taken, pushed, first_breach};
+    ghost use Rattle.refute_check.specs.Reading.{beginning, Reads, lines_of, after_taken, pushed, first_breach, fault_of};
 
     /// A text of which no byte was taken.
     pub fn new(alloc: Global) -> RefutationText
@@ -91,6 +91,8 @@ impl RefutationText {
         ensures more { IfOk result (λ r. r.1 ≡ Taken.More → r.0 ≡ length bytes.now) }
         ensures reads { IfOk result (λ r. Reads self.old (take r.0 bytes.now) (if r.0 == 0 then [] else lines_of r.1) self.new) }
         ensures fault { IfSome self.old.fault (λ line. result ≡ Ok (0, Taken.Form line)) }
+        ensures moves { self.old.fault ≡ None → IfOk result (λ r. r.1 ≢ Taken.More → 0 < r.0) }
+        ensures form { IfOk result (λ r. self.new.fault ≡ fault_of r.1) }
         ensures err { OnErr result (self.new ≡ self.old) }
     {
         if let Some(line) = self.fault {

@@ -1,7 +1,7 @@
 //! The verdict on a whole derivation, and what it means.
 ghost use Rattle.std.specs.Prelude.{◌≡◌, ◌≢◌, Err, Ok};
 ghost use Rattle.cnf_core.specs.Clauses.{IsUnsatisfiable};
-ghost use Rattle.refute_check.specs.Laws.{ClosedMeansUnsatisfiable, ReadsAgree, TextIsRead, TextHasOneValue, ReadIsText};
+ghost use Rattle.refute_check.specs.Laws.{ClosedMeansUnsatisfiable, ReadsAgree, TextIsRead, TextHasOneValue, ReadIsText, BrokenIsNoText};
 ghost use Rattle.refute_check.specs.Refutations.{check};
 
 use crate::{CheckFault, Checked, Checker, Derivation};
@@ -31,6 +31,11 @@ pub fn text_has_one_value()
 /// Bytes in which nothing breaks the form are the text of what they are read as.
 pub fn read_is_text()
     ensures { ReadIsText }
+{}
+
+/// Bytes in which a line breaks the form are no text.
+pub fn broken_is_no_text()
+    ensures { BrokenIsNoText }
 {}
 
 /// The verdict on a derivation over a formula's clauses: the first fault, else whether an empty clause was added.

@@ -2,4 +2,12 @@
 #![tactic(auto)]
 
 #[cfg(test)]
-mod tests;
+mod answers;
+#[cfg(test)]
+mod gates;
+#[cfg(test)]
+mod long;
+#[cfg(test)]
+mod pigeons;
+#[cfg(test)]
+mod rows;

@@ -1,4 +1,4 @@
-use Rattle.std.proofs.Common.{◌≡◌, ◌∙◌, sym, arith, None, Some}
+use Rattle.std.proofs.Common.{◌∙◌, sym, arith, None, Some}
 use Rattle.std.proofs.lemmas.Grind.{common_steps}
 use Rattle.refute_check.proofs.Heads.{no-head}
 use Rattle.refute_check.proofs.read.read_head.Goals as goal

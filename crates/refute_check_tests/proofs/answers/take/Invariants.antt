@@ -1,5 +1,5 @@
 use Rattle.std.proofs.Common.{length, ◌-◌, ◌≤◌}
-use Rattle.refute_check_tests.proofs.tests.answer.Given as goal
+use Rattle.refute_check_tests.proofs.answers.take.Given as goal
 
 abbrev pub invariant-loop-from : goal.invariant-loop-from
 invariant-loop-from g l = l.from ≤ length l.part
