@@ -8,3 +8,4 @@ mod uses;
 
 pub use fault::NameFault;
 pub use names::check_names;
+pub use scope::{Declaration, Meaning};

@@ -9,7 +9,7 @@ use tc_tree::Name;
 
 /// What a name means.
 #[derive(Clone, Copy, Debug, PartialEq, Eq)]
-pub(crate) enum Meaning {
+pub enum Meaning {
     /// An int that all threads share.
     Global,
     /// An array.
@@ -30,9 +30,11 @@ pub(crate) enum Meaning {
 
 /// A name and what it means.
 #[derive(Clone, Copy, Debug)]
-pub(crate) struct Declaration {
-    pub(crate) name: Name,
-    pub(crate) meaning: Meaning,
+pub struct Declaration {
+    /// The name, where it is declared.
+    pub name: Name,
+    /// What the declaration makes of it.
+    pub meaning: Meaning,
 }
 
 /// What names mean in a body.

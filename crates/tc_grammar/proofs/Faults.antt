@@ -1,0 +1,114 @@
+-- Words are a program, or have one fault.
+use Rattle.std.proofs.Common.{
+  ◌≡◌,
+  ℕ,
+  ◌+◌,
+  ◌<◌,
+  ◌≤◌,
+  Bool,
+  true,
+  false,
+  List,
+  [],
+  ◌∷◌,
+  ◌++◌,
+  take,
+  drop,
+  Option,
+  Some,
+  None,
+  refl,
+  sym,
+  ap,
+  ◌∙◌,
+  subst,
+  arith,
+  append_assoc,
+  ◌⊎◌,
+  inl,
+  inr,
+}
+use Rattle.std.proofs.lemmas.Bool.{cases_lt}
+use Rattle.std.proofs.lemmas.List.{take-append-drop, take-take}
+use Rattle.tc_lexer.specs.declared.token.Keyword.TheVariants as keyword
+use Rattle.tc_tree.specs.declared.word.Word.{Word}
+use Rattle.tc_tree.specs.declared.word.Word.TheVariants.{Keyword as AKeyword}
+use Rattle.tc_tree.specs.Grammar.{Program, IsSpelled, Begins, IsSyntaxFault, globals_then, threads_then, body_then}
+use Rattle.tc_syntax.specs.helpers.Reading.{Expected, Globals, first, skips, step, may_end, at_end, fault}
+use Rattle.tc_syntax.proofs.Stands.{Stands, StandsAfter, StandsThen, first_more, skip_more}
+use Rattle.tc_syntax.proofs.Places.{are_of, is_syntax_fault}
+
+-- ---- one fault
+
+-- what begins a program's words begins them with fewer words too
+begins_fewer : (language : ℕ) (front more : List Word) → Begins language (front ++ more) → Begins language front
+begins_fewer language front more b = record {
+  program = b.program;
+  more = more ++ b.more;
+  is = subst (λ (ws : List Word). IsSpelled language ws b.program) (append_assoc front more b.more) b.is;
+}
+
+take_fewer : (m n : ℕ) (ws : List Word) → m ≤ n → take n ws ≡ take m ws ++ drop m (take n ws)
+take_fewer m n ws h = sym (take-append-drop m (take n ws)) ∙ ap (λ (us : List Word). us ++ drop m (take n ws)) (take-take m n ws h)
+
+no_earlier : (language : ℕ) (ws : List Word) (j k : ℕ) → IsSyntaxFault language ws j → IsSyntaxFault language ws k → j < k → ⊥
+no_earlier language ws j k x y h =
+    x.after (omega (arith, y.within)) (begins_fewer language (take (j + 1) ws) (drop (j + 1) (take k ws))
+    (subst (Begins language) (take_fewer (j + 1) k ws (omega arith)) y.before))
+
+pub one_syntax_fault : (language : ℕ) (ws : List Word) (j k : ℕ) → IsSyntaxFault language ws j → IsSyntaxFault language ws k → j ≡ k
+one_syntax_fault language ws j k x y = elim (cases_lt j k) [
+  | inl h ↦ absurd (no_earlier language ws j k x y h)
+  | inr h ↦ elim (cases_lt k j) [ inl h' ↦ absurd (no_earlier language ws k j y x h') | inr h' ↦ omega arith ]
+]
+
+-- ---- a program or a fault
+
+by_first : (x : Expected) (s : List Expected) (w : Word) (ws : List Word) (o : Option (List Expected)) → first x w ≡ o → (b : Bool) → skips x ≡ b
+    → (StandsAfter (step s w) ws → Stands s (w ∷ ws)) → StandsAfter
+    (elim o [ Some es ↦ Some (es ++ s) | None ↦ elim b [ true ↦ step s w | false ↦ None ] ]) ws → Stands (x ∷ s) (w ∷ ws)
+by_first x s w ws (Some es) e b f more d = first_more x w s ws (subst (λ (o : Option (List Expected)). StandsThen o s ws) (sym e) d)
+by_first x s w ws None e true f more d = skip_more x s (w ∷ ws) f (more d)
+by_first x s w ws None e false f more d = absurd d
+
+one_more : (s : List Expected) (w : Word) (ws : List Word) → StandsAfter (step s w) ws → Stands s (w ∷ ws)
+one_more [] w ws d = absurd d
+one_more (x ∷ s) w ws d = by_first x s w ws (first x w) refl (skips x) refl (one_more s w ws) d
+
+ends_by : (x : Expected) (s : List Expected) (b : Bool) → skips x ≡ b → at_end (elim b [ true ↦ may_end s | false ↦ false ]) ≡ None
+    → (at_end (may_end s) ≡ None → Stands s []) → Stands (x ∷ s) []
+ends_by x s true e h rest = skip_more x s [] e (rest h)
+ends_by x s false e h rest = absurd cc
+
+-- nothing stands where the text may end
+ends : (s : List Expected) → at_end (may_end s) ≡ None → Stands s []
+ends [] h = refl
+ends (x ∷ s) h = ends_by x s (skips x) refl h (ends s)
+
+stands_by : (w : Word) (ws : List Word) (o : Option (List Expected)) → fault o ws ≡ None → ((s : List Expected) → fault (Some s) ws ≡ None → Stands s ws)
+    → StandsAfter o ws
+stands_by w ws None h rest = absurd cc
+stands_by w ws (Some s) h rest = rest s h
+
+-- words without a fault stand
+all_stand : (s : List Expected) (ws : List Word) → fault (Some s) ws ≡ None → Stands s ws
+all_stand s [] h = ends s h
+all_stand s (w ∷ ws) h = one_more s w ws (stands_by w ws (step s w) h (λ t. all_stand t ws))
+
+a_program : (ws : List Word) → Stands (Globals ∷ []) ws → (p : Program) × IsSpelled 3 ws p
+a_program ws (gs, ts, main, rest, gts, gm, is, nil) = (
+  record { globals = gs; threads = ts; main = main },
+  record {
+    spelled = is ∙ ap (λ (us : List Word). globals_then gs (threads_then ts (AKeyword keyword.Main ∷ body_then main us))) nil;
+    grouped = (gts, gm);
+    language_has = are_of ws;
+  },
+)
+
+program_or_place : (ws : List Word) (o : Option ℕ) → fault (Some (Globals ∷ [])) ws ≡ o
+    → ((p : Program) × IsSpelled 3 ws p) ⊎ ((k : ℕ) × IsSyntaxFault 3 ws k)
+program_or_place ws None h = inl (a_program ws (all_stand (Globals ∷ []) ws h))
+program_or_place ws (Some left) h = let there = is_syntax_fault ws left h in inr (_, there.1)
+
+pub program_or_fault : (ws : List Word) → ((p : Program) × IsSpelled 3 ws p) ⊎ ((k : ℕ) × IsSyntaxFault 3 ws k)
+program_or_fault ws = program_or_place ws (fault (Some (Globals ∷ [])) ws) refl

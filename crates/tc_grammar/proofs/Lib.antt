@@ -1,0 +1,6 @@
+pub mod Flat
+pub mod Expressions
+pub mod Statements
+pub mod Programs
+pub mod Faults
+pub mod Apart

@@ -1,0 +1,7 @@
+use Rattle.std.proofs.Common.{◌≡◌, ◌+◌, ◌*◌, ◌≤◌, drop}
+use Rattle.tc_tree.specs.Counts as count
+use Rattle.tc_parser.proofs.counts.cells.Given as goal
+
+-- those so far and those that are left
+abbrev pub invariant-loop-global : goal.invariant-loop-global
+invariant-loop-global l = (count.cells l.globals ≡ l.sum + count.cells (drop l.global-index l.globals)) × (l.sum ≤ 2147483648 * l.global-index)

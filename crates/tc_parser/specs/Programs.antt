@@ -1,0 +1,126 @@
+-- Texts of programs, and the one fault of a text that is none. The language is told by its number.
+use Rattle.std.specs.Prelude.{◌≡◌, ℕ, zero, suc, ◌+◌, ◌-◌, ◌<◌, ◌≤◌, max, Bool, true, false, List, [], ◌∷◌, length, map, take, fold, Some, None}
+use Rattle.std.specs.List.{slice_split}
+use Rattle.tc_base.specs.declared.place.Place.{Place}
+use Rattle.tc_lexer.specs.declared.token.Sign.{Sign}
+use Rattle.tc_lexer.specs.declared.token.Sign.TheVariants.{OpenParen, CloseParen, OpenBracket, CloseBracket, OpenBrace, CloseBrace, Semicolon}
+use Rattle.tc_lexer.specs.declared.token.Token.{Token}
+use Rattle.tc_lexer.specs.declared.token.TokenKind.{TokenKind}
+use Rattle.tc_lexer.specs.declared.token.TokenKind.TheVariants as kind
+use Rattle.tc_lexer.specs.Places.{place_after}
+use Rattle.tc_lexer.specs.Text.{AreTokens, IsFault}
+use Rattle.tc_tree.specs.Counts as count
+use Rattle.tc_tree.specs.Grammar.{Program, IsSpelled, IsSyntaxFault}
+use Rattle.tc_tree.specs.Words.{words_of}
+use Rattle.tc_names.specs.declared.fault.NameFault.{NameFault}
+use Rattle.tc_names.specs.declared.fault.NameFault.TheVariants as name
+use Rattle.tc_names.specs.Names.{names_fault}
+use Rattle.tc_parser.specs.declared.fault.What.TheVariants.{Brackets, Stretch, Cells, Mutexes, Conditions}
+use Rattle.tc_parser.specs.declared.fault.ParseFault.{ParseFault}
+use Rattle.tc_parser.specs.declared.fault.ParseFault.TheVariants.{Count, Syntax, Unknown, Twice, Kind, Arguments, Memory}
+use Rattle.tc_parser.specs.declared.fault.TextFault.{TextFault}
+use Rattle.tc_parser.specs.declared.fault.TextFault.TheVariants.{Lex, Parse}
+use Rattle.tc_parser.specs.Faults.{limit_of}
+
+-- ---- counts of tokens
+
+-- how many brackets are open after one sign more: a closing one closes the last, whatever its shape, and nothing where none is open
+abbrev pub open_after_sign : ℕ → Sign → ℕ
+open_after_sign n OpenParen = n + 1
+open_after_sign n OpenBracket = n + 1
+open_after_sign n OpenBrace = n + 1
+open_after_sign n CloseParen = n - 1
+open_after_sign n CloseBracket = n - 1
+open_after_sign n CloseBrace = n - 1
+open_after_sign n _ = n
+
+abbrev pub open_after_kind : ℕ → TokenKind → ℕ
+open_after_kind n (kind.Sign s) = open_after_sign n s
+open_after_kind n _ = n
+
+-- how many brackets are open after these tokens
+abbrev pub open_after : List Token → ℕ
+open_after tokens = fold (λ n t. open_after_kind n t.kind) 0 tokens
+
+-- at each token no more brackets are open than a program may have
+abbrev pub IsNested : List Token → Type 0
+IsNested tokens = (k : ℕ) → open_after (take k tokens) ≤ limit_of Brackets
+
+-- at some token more are
+abbrev pub IsTooDeep : List Token → Type 0
+IsTooDeep tokens = (k : ℕ) × (limit_of Brackets < open_after (take k tokens))
+
+abbrev pub ends_stretch : TokenKind → Bool
+ends_stretch (kind.Sign Semicolon) = true
+ends_stretch (kind.Sign OpenBrace) = true
+ends_stretch (kind.Sign CloseBrace) = true
+ends_stretch _ = false
+
+-- how many tokens the longest part between `;`, `{` and `}` has
+abbrev pub longest_stretch : List Token → ℕ
+longest_stretch tokens = fold max 0 (map length (slice_split (λ t. ends_stretch t.kind) tokens))
+
+-- ---- programs
+
+-- the tokens are the program's, nested no deeper and parted as often as they have to be
+pub record AreOfProgram (language : ℕ) (tokens : List Token) (p : Program) : Type 0 where
+  pub nested : IsNested tokens
+  pub parted : longest_stretch tokens ≤ limit_of Stretch
+  pub spelled : IsSpelled language (words_of tokens) p
+
+-- the text is the program's: its tokens are, each name is declared and used as it may be, and no more is declared than may be
+pub record IsProgram (language : ℕ) (text : List ℕ) (p : Program) : Type 0 where
+  pub tokens : List Token
+  pub read : AreTokens language text tokens
+  pub are_of : AreOfProgram language tokens p
+  pub names : names_fault text p ≡ None
+  pub cells : count.cells p.globals ≤ limit_of Cells
+  pub mutexes : count.mutexes p.globals ≤ limit_of Mutexes
+  pub conditions : count.conditions p.globals ≤ limit_of Conditions
+
+-- ---- faults
+
+-- where the k-th of these tokens stands, or the text ends
+abbrev pub place_at : List ℕ → List Token → ℕ → Place
+place_at text [] k = place_after text
+place_at text (t ∷ ts) zero = t.place
+place_at text (t ∷ ts) (suc k) = place_at text ts k
+
+-- the tokens are a program's, in which this is the first fault of a name
+pub record HasNameFault (language : ℕ) (text : List ℕ) (tokens : List Token) (fault : NameFault) : Type 0 where
+  pub program : Program
+  pub are_of : AreOfProgram language tokens program
+  pub is : names_fault text program ≡ Some fault
+
+-- the tokens are the program's, and no name has a fault
+pub record AreNamed (language : ℕ) (text : List ℕ) (tokens : List Token) (p : Program) : Type 0 where
+  pub are_of : AreOfProgram language tokens p
+  pub names : names_fault text p ≡ None
+
+-- the fault of the tokens of this text; each comes only where none before it does
+abbrev pub IsTokensFault : ℕ → List ℕ → List Token → ParseFault → Type 0
+IsTokensFault language text tokens (Count Brackets n) = IsTooDeep tokens × (n ≡ limit_of Brackets + 1)
+IsTokensFault language text tokens (Count Stretch n) = IsNested tokens × (limit_of Stretch < n) × (n ≡ longest_stretch tokens)
+IsTokensFault language text tokens (Syntax place) = IsNested tokens × (longest_stretch tokens ≤ limit_of Stretch)
+    × ((k : ℕ) × IsSyntaxFault language (words_of tokens) k × (place ≡ place_at text tokens k))
+IsTokensFault language text tokens (Unknown place) = HasNameFault language text tokens (name.Unknown place)
+IsTokensFault language text tokens (Twice place) = HasNameFault language text tokens (name.Twice place)
+IsTokensFault language text tokens (Kind place) = HasNameFault language text tokens (name.Kind place)
+IsTokensFault language text tokens (Arguments place) = HasNameFault language text tokens (name.Arguments place)
+IsTokensFault language text tokens (Count Cells n) = (p : Program) × AreNamed language text tokens p × (limit_of Cells < n) × (n ≡ count.cells p.globals)
+IsTokensFault language text tokens (Count Mutexes n) = (p : Program) × AreNamed language text tokens p × (count.cells p.globals ≤ limit_of Cells)
+    × (limit_of Mutexes < n) × (n ≡ count.mutexes p.globals)
+IsTokensFault language text tokens (Count Conditions n) = (p : Program) × AreNamed language text tokens p × (count.cells p.globals ≤ limit_of Cells)
+    × (count.mutexes p.globals ≤ limit_of Mutexes) × (limit_of Conditions < n) × (n ≡ count.conditions p.globals)
+IsTokensFault language text tokens Memory = ⊥
+
+-- the text has tokens, and they have the fault
+pub record IsProgramFault (language : ℕ) (text : List ℕ) (fault : ParseFault) : Type 0 where
+  pub tokens : List Token
+  pub read : AreTokens language text tokens
+  pub is : IsTokensFault language text tokens fault
+
+-- the fault of a text: it has no tokens, or they have a fault
+abbrev pub IsTextFault : ℕ → List ℕ → TextFault → Type 0
+IsTextFault language text (Lex fault) = IsFault language text fault
+IsTextFault language text (Parse fault) = IsProgramFault language text fault

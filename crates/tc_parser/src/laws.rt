@@ -1,0 +1,37 @@
+//! Laws of the definitions of a program's text. They do nothing when they run.
+ghost use Rattle.std.specs.Prelude.{◌≡◌, ◌⊎◌, ℕ, List};
+ghost use Rattle.tc_lexer.specs.declared.token.Token.{Token as OneToken};
+ghost use Rattle.tc_lexer.specs.Tokens.{plain_tokens};
+ghost use Rattle.tc_lexer.specs.Text.{AreTokens};
+ghost use Rattle.tc_lexer.specs.Languages.{HaveNoKeywordOf};
+ghost use Rattle.tc_tree.specs.Grammar.{Program as OneProgram};
+ghost use Rattle.tc_parser.specs.declared.fault.TextFault.{TextFault as OneFault};
+ghost use Rattle.tc_parser.specs.Programs.{IsProgram, IsTextFault};
+
+/// A text is one program at most.
+pub fn programs_are_one()
+    ensures { (language : ℕ) (text : List ℕ) (this that : OneProgram)
+        → IsProgram language text this → IsProgram language text that → this ≡ that }
+{}
+
+/// A text is a program or has a fault, never both, and it has one fault at most.
+pub fn faults_are_one()
+    ensures some { (text : List ℕ)
+        → ((program : OneProgram) × IsProgram 3 text program) ⊎ ((fault : OneFault) × IsTextFault 3 text fault) }
+    ensures one { (language : ℕ) (text : List ℕ) (this that : OneFault)
+        → IsTextFault language text this → IsTextFault language text that → this ≡ that }
+    ensures none { (language : ℕ) (text : List ℕ) (program : OneProgram) (fault : OneFault)
+        → IsProgram language text program → IsTextFault language text fault → ⊥ }
+{}
+
+/// A program of language 1 is the same text's program in language 2.
+pub fn language_2_has_the_programs_of_1()
+    ensures { (text : List ℕ) (program : OneProgram) → IsProgram 1 text program → IsProgram 2 text program }
+{}
+
+/// A program of language 2 is the same text's program in language 3, where `swap`, `cas` and `stbar` are no names of it.
+pub fn language_3_has_the_programs_of_2()
+    ensures { (text : List ℕ) (tokens : List OneToken) (program : OneProgram)
+        → AreTokens 2 text tokens → HaveNoKeywordOf 3 (plain_tokens text tokens)
+        → IsProgram 2 text program → IsProgram 3 text program }
+{}
