@@ -1,0 +1,15 @@
+pub mod Lists
+pub mod Values
+pub mod Numbering
+pub mod Views
+pub mod Chains
+pub mod Blocks
+pub mod Parts
+pub mod Sound
+pub mod Pieces
+pub mod Functions
+pub mod Programs
+pub mod Widths
+pub mod Fits
+pub mod Memory
+pub mod Meanings

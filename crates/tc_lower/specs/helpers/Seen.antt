@@ -1,0 +1,34 @@
+-- Helpers: the parts of the lowering as the definitions have them.
+use Rattle.std.specs.Prelude.{◌≡◌, ◌+◌, ◌<◌, ◌≤◌, ◌^◌, ◌++◌, List, Option, length}
+use Rattle.tc_code.specs.Instr.{Instr}
+use Rattle.tc_tree.specs.declared.expression.Expression.{Expression}
+use Rattle.tc_tree.specs.declared.expression.Name.{Name}
+use Rattle.tc_tree.specs.Seen.{expression_of, expressions_of}
+use Rattle.tc_lower.specs.declared.things.Scope.{Scope}
+use Rattle.tc_lower.specs.declared.things.Thing.{Thing}
+use Rattle.tc_lower.specs.declared.value.Writer.{Writer}
+use Rattle.tc_lower.specs.Things.{scope}
+use Rattle.tc_lower.specs.Statements.{Written}
+use Rattle.tc_lower.specs.Values.{Evaluated, evaluated, Arguments, arguments}
+
+-- what a name stands for
+abbrev pub plain_scope : Scope → Name → Option Thing
+plain_scope s = scope s.source.now s.own.now s.all.now
+
+-- an expression that is written next
+abbrev pub evaluated_by : Scope → Writer → Expression → Evaluated
+evaluated_by s w e = evaluated (plain_scope s) (length w.draft) w.free (expression_of e)
+
+abbrev pub arguments_by : Scope → Writer → List Expression → Arguments
+arguments_by s w es = arguments (plain_scope s) (length w.draft) w.free (expressions_of es)
+
+-- these instructions fit
+pub record HasRoom (w : Writer) (is : List Instr) : Type 0 where
+  pub room : w.free ≤ length w.draft + 65536
+  pub fits : length w.draft + length is < 2 ^ 18
+
+-- these instructions were written, and this is the next free slot
+pub record IsAdded (old new : Writer) (all : Written) : Type 0 where
+  pub instrs : new.draft ≡ old.draft ++ all.instrs
+  pub free : new.free ≡ all.free
+  pub room : new.free ≤ length new.draft + 65536

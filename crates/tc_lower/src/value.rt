@@ -1,0 +1,290 @@
+//! Expressions as instructions and an expression over slots.
+ghost use Rattle.std.specs.Prelude.{◌≡◌, ◌+◌, ◌<◌, ◌≤◌, ◌^◌, [], ◌∷◌, ◌++◌, length, Ok, OnOk, IfOk, Some, None, slice_set};
+ghost use Rattle.tc_code.specs.Expr as plain;
+ghost use Rattle.tc_code.specs.Instr as flat;
+ghost use Rattle.tc_code.specs.SeenExpr.{plain_expr};
+ghost use Rattle.tc_lower.specs.Values as spec;
+ghost use Rattle.tc_lower.specs.helpers.Seen.{evaluated_by};
+
+use crate::draft::Draft;
+use crate::things::{Scope, Thing, thing_of};
+use std::alloc::{AllocError, Global};
+use tc_base::{BinOp, UnOp};
+use tc_code::{Expr, Instr};
+use tc_tree::{Expression, Operator};
+
+/// The instructions of a function so far, and the next free slot.
+#[derive(Drop)]
+pub(crate) struct Writer {
+    pub(crate) draft: Draft,
+    pub(crate) free: u32,
+}
+
+/// What `&&` or `||` leaves open until its right side is written.
+#[derive(Drop)]
+struct Choice {
+    /// The slot that takes its value.
+    slot: u32,
+    /// What is 0 where the left side decides alone.
+    undecided: Expr,
+    /// Where room is left for the branch past the right side.
+    branch: usize,
+}
+
+impl Writer {
+    /// Writes an expression's instructions, and gives what then stands for its value.
+    #[tactic(auto, using(crate::proofs::Lists::choices))]
+    pub(crate) fn evaluate(
+        &mut self,
+        alloc: Global,
+        scope: Scope,
+        expression: &Expression,
+    ) -> Result<Expr, AllocError>
+        requires room { self.old.free ≤ length self.old.draft + 65536 }
+        requires fits { length self.old.draft + length (evaluated_by scope self.old expression.now).instrs < 2 ^ 18 }
+        ensures value { IfOk result (λ value. plain_expr value ≡ (evaluated_by scope.entry self.old expression.now).value) }
+        ensures instrs { OnOk result (self.new.draft ≡ self.old.draft ++ (evaluated_by scope.entry self.old expression.now).instrs) }
+        ensures free { OnOk result (self.new.free ≡ (evaluated_by scope.entry self.old expression.now).free) }
+        ensures room { OnOk result (self.new.free ≤ length self.new.draft + 65536) }
+    {
+        match expression {
+            Expression::Number(number) => Ok(Expr::Number(number.value)),
+            Expression::Name(name) => self.read(thing_of(scope, name)),
+            Expression::Element(array, index) => {
+                let index = self.evaluate(alloc, scope, index)?;
+                self.read_element(alloc, thing_of(scope, array), index)
+            }
+            Expression::Paren(inside) => self.evaluate(alloc, scope, inside),
+            Expression::Unary(op, operand) => {
+                let operand = self.evaluate(alloc, scope, operand)?;
+                Ok(Expr::Unary(*op, Box::new(alloc, operand)?))
+            }
+            Expression::Binary(op, left, right) => {
+                match over_both(*op) {
+                    Some(op) => {
+                        let left = self.evaluate(alloc, scope, left)?;
+                        let right = self.evaluate(alloc, scope, right)?;
+                        self.join(alloc, op, left, right)
+                    }
+                    None => {
+                        let left = self.evaluate(alloc, scope, left)?;
+                        let choice = self.begin_choice(alloc, *op, left)?;
+                        let slot = choice.slot;
+                        let right = self.evaluate(alloc, scope, right)?;
+                        self.end_choice(alloc, choice, right)?;
+                        Ok(Expr::Slot(slot))
+                    }
+                }
+            }
+        }
+    }
+
+    /// Takes the next free slot.
+    pub(crate) fn take_slot(&mut self) -> u32
+        requires { self.old.free < 2 ^ 31 }
+        ensures taken { result ≡ self.old.free }
+        ensures draft { self.new.draft ≡ self.old.draft }
+        ensures next { self.new.free ≡ self.old.free + 1 }
+    {
+        let slot = self.free;
+        self.free += 1;
+        slot
+    }
+
+    /// The value of a variable.
+    fn read(&mut self, variable: Option<Thing>) -> Result<Expr, AllocError>
+        requires room { self.old.free ≤ length self.old.draft + 65536 }
+        requires fits { length self.old.draft + length (spec.variable variable self.old.free).instrs < 2 ^ 18 }
+        ensures value { IfOk result (λ value. plain_expr value ≡ (spec.variable variable self.old.free).value) }
+        ensures instrs { OnOk result (self.new.draft ≡ self.old.draft ++ (spec.variable variable self.old.free).instrs) }
+        ensures free { OnOk result (self.new.free ≡ (spec.variable variable self.old.free).free) }
+        ensures room { OnOk result (self.new.free ≤ length self.new.draft + 65536) }
+    {
+        match variable {
+            Some(Thing::Slot(slot)) => Ok(Expr::Slot(slot)),
+            Some(Thing::Cell(cell)) => {
+                let slot = self.take_slot();
+                self.draft.push(Instr::Load { slot, cell })?;
+                Ok(Expr::Slot(slot))
+            }
+            _ => Ok(Expr::Number(0)),
+        }
+    }
+
+    /// The value of an array's element, once its index was found.
+    fn read_element(
+        &mut self,
+        alloc: Global,
+        array: Option<Thing>,
+        index: Expr,
+    ) -> Result<Expr, AllocError>
+        requires { self.old.free < 2 ^ 31 }
+        ensures value { IfOk result (λ value. plain_expr value ≡ (spec.element array (plain_expr index) self.old.free).value) }
+        ensures instrs { OnOk result (self.new.draft ≡ self.old.draft ++ (spec.element array (plain_expr index) self.old.free).instrs) }
+        ensures free { OnOk result (self.new.free ≡ (spec.element array (plain_expr index) self.old.free).free) }
+    {
+        let Some(Thing::Array(first, length)) = array else {
+            return Ok(index);
+        };
+        let tested = copy(alloc, &index)?;
+        self.draft.push(Instr::Inside {
+            length,
+            index: tested,
+        })?;
+        let slot = self.take_slot();
+        self.draft.push(Instr::LoadAt {
+            slot,
+            first,
+            length,
+            index,
+        })?;
+        Ok(Expr::Slot(slot))
+    }
+
+    /// An operator over two values, once what it asks of the right one is tested.
+    fn join(
+        &mut self,
+        alloc: Global,
+        op: BinOp,
+        left: Expr,
+        right: Expr,
+    ) -> Result<Expr, AllocError>
+        ensures value { IfOk result (λ value. plain_expr value ≡ plain.Binary op (plain_expr left) (plain_expr right)) }
+        ensures instrs { OnOk result (self.new.draft ≡ self.old.draft ++ spec.tested op (plain_expr right)) }
+        ensures free { self.new.free ≡ self.old.free }
+    {
+        match op {
+            BinOp::Div | BinOp::Rem => {
+                self.draft.push(Instr::Nonzero(copy(alloc, &right)?))?;
+            }
+            BinOp::Shl | BinOp::Shr => {
+                self.draft.push(Instr::InRange(copy(alloc, &right)?))?;
+            }
+            _ => {}
+        }
+        let left = Box::new(alloc, left)?;
+        let right = Box::new(alloc, right)?;
+        Ok(Expr::Binary(op, left, right))
+    }
+
+    /// Writes what the left side of `&&` or `||` decides alone, and leaves room for the branch past the right side.
+    fn begin_choice(
+        &mut self,
+        alloc: Global,
+        op: Operator,
+        left: Expr,
+    ) -> Result<Choice, AllocError>
+        requires { self.old.free < 2 ^ 31 }
+        ensures instrs { OnOk result (self.new.draft ≡ self.old.draft ++ flat.Set self.old.free (plain.Number (spec.decided op)) ∷ flat.Goto 0 ∷ []) }
+        ensures free { OnOk result (self.new.free ≡ self.old.free + 1) }
+        ensures slot { IfOk result (λ choice. choice.slot ≡ self.old.free) }
+        ensures undecided { IfOk result (λ choice. plain_expr choice.undecided ≡ spec.undecided op (plain_expr left)) }
+        ensures branch { IfOk result (λ choice. choice.branch ≡ length self.old.draft + 1) }
+    {
+        let slot = self.take_slot();
+        let undecided = undecided(alloc, op, left)?;
+        self.draft.push(Instr::Set {
+            slot,
+            value: Expr::Number(decided(op)),
+        })?;
+        let branch = self.draft.leave_room()?;
+        Ok(Choice {
+            slot,
+            undecided,
+            branch,
+        })
+    }
+
+    /// Writes what the right side decides, and the branch past that.
+    fn end_choice(&mut self, alloc: Global, choice: Choice, right: Expr) -> Result<(), AllocError>
+        requires room { length self.old.draft < 2 ^ 31 }
+        requires branch { choice.branch < length self.old.draft }
+        ensures instrs { OnOk result (self.new.draft ≡ slice_set (self.old.draft ++ flat.Set choice.slot (spec.isnt_zero (plain_expr right)) ∷ [])
+            choice.branch (flat.Branch (plain_expr choice.undecided) (length self.old.draft + 1))) }
+        ensures free { self.new.free ≡ self.old.free }
+    {
+        let Choice {
+            slot,
+            undecided,
+            branch,
+        } = choice;
+        let left = Box::new(alloc, right)?;
+        let right = Box::new(alloc, Expr::Number(0))?;
+        self.draft.push(Instr::Set {
+            slot,
+            value: Expr::Binary(BinOp::Ne, left, right),
+        })?;
+        self.draft.put(
+            branch,
+            Instr::Branch {
+                condition: undecided,
+                target: self.draft.len() as u32,
+            },
+        );
+        Ok(())
+    }
+}
+
+/// The operator over the values of both sides: `&&` and `||` are none, since they may leave the right side alone.
+fn over_both(op: Operator) -> Option<BinOp>
+    ensures { result ≡ spec.over_both op }
+{
+    match op {
+        Operator::Multiply => Some(BinOp::Mul),
+        Operator::Divide => Some(BinOp::Div),
+        Operator::Remainder => Some(BinOp::Rem),
+        Operator::Add => Some(BinOp::Add),
+        Operator::Subtract => Some(BinOp::Sub),
+        Operator::ShiftLeft => Some(BinOp::Shl),
+        Operator::ShiftRight => Some(BinOp::Shr),
+        Operator::Less => Some(BinOp::Lt),
+        Operator::LessOrEqual => Some(BinOp::Le),
+        Operator::Greater => Some(BinOp::Gt),
+        Operator::GreaterOrEqual => Some(BinOp::Ge),
+        Operator::Equal => Some(BinOp::Eq),
+        Operator::Unequal => Some(BinOp::Ne),
+        Operator::BitAnd => Some(BinOp::And),
+        Operator::BitXor => Some(BinOp::Xor),
+        Operator::BitOr => Some(BinOp::Or),
+        Operator::And | Operator::Or => None,
+    }
+}
+
+/// What the left side of `&&` or `||` decides alone.
+fn decided(op: Operator) -> i32
+    ensures { result ≡ spec.decided op }
+{
+    match op {
+        Operator::And => 0,
+        _ => 1,
+    }
+}
+
+/// What is 0 where the left side does so.
+fn undecided(alloc: Global, op: Operator, left: Expr) -> Result<Expr, AllocError>
+    ensures { IfOk result (λ e. plain_expr e ≡ spec.undecided op (plain_expr left)) }
+{
+    match op {
+        Operator::And => Ok(left),
+        _ => Ok(Expr::Unary(UnOp::Not, Box::new(alloc, left)?)),
+    }
+}
+
+/// The same expression once more.
+pub(crate) fn copy(alloc: Global, e: &Expr) -> Result<Expr, AllocError>
+    ensures { IfOk result (λ same. plain_expr same ≡ plain_expr e.now) }
+{
+    match e {
+        Expr::Number(number) => Ok(Expr::Number(*number)),
+        Expr::Slot(slot) => Ok(Expr::Slot(*slot)),
+        Expr::Unary(op, operand) => {
+            let operand = copy(alloc, operand)?;
+            Ok(Expr::Unary(*op, Box::new(alloc, operand)?))
+        }
+        Expr::Binary(op, left, right) => {
+            let left = Box::new(alloc, copy(alloc, left)?)?;
+            let right = Box::new(alloc, copy(alloc, right)?)?;
+            Ok(Expr::Binary(*op, left, right))
+        }
+    }
+}
