@@ -1,0 +1,120 @@
+-- Logs as files hold them, and the text of each.
+use Rattle.std.specs.Prelude.{ℕ, zero, suc, ◌+◌, ◌/◌, ◌^◌, ◌<◌, Bool, true, false, ◌&&◌, nat_le, nat_lt, ◌==◌, if◌then◌else◌, IsTrue, IfSome}
+use Rattle.std.specs.Prelude.{List, [], ◌∷◌, ◌++◌, length, drop, slice_index, Option, Some, None, is_some, codes}
+use Rattle.std.specs.List.{flat_map, list_all}
+use Rattle.std.specs.Bool.{beq}
+use Rattle.std.specs.Ordering.{is_lt, nat_cmp}
+use Rattle.std.specs.Cmp.Lexicographic.{slice_cmp}
+use Rattle.byteorder.specs.Endian.{big_bytes}
+use Rattle.tc_base.specs.Names.{Name}
+use Rattle.tc_base.specs.Logs.{Log, ThreadPath}
+use Rattle.tc_base.specs.declared.model.Model.{Model}
+use Rattle.tc_base.specs.declared.model.Model.TheVariants.{Sc, Tso, Pso}
+
+-- a log, and the digest of the program that it was recorded of, where that is known
+pub record StoredLog : Type 0 where
+  pub digest : Option (List ℕ)
+  pub log : Log
+
+-- the name is above this one, if there is one
+abbrev pub is_above : Option Name → Name → Bool
+is_above None name = true
+is_above (Some last) name = is_lt (slice_cmp nat_cmp last name)
+
+-- each name is above the one before it
+abbrev pub rises_from : Option Name → List ThreadPath → Bool
+rises_from last [] = true
+rises_from last (t ∷ ts) = is_above last t.name && rises_from (Some t.name) ts
+
+-- the paths have different names, in order, and one of them is of the thread that failed
+abbrev pub is_log : Log → Bool
+is_log log = rises_from None log.threads && nat_lt log.failing (length log.threads)
+
+-- Bits of a byte, the highest first.
+
+-- what the first so many bits are worth together, those that aren't there being 0
+abbrev pub bits_value : ℕ → List Bool → ℕ
+bits_value zero bits = 0
+bits_value (suc n) [] = 0
+bits_value (suc n) (bit ∷ bits) = (if bit then 2 ^ n else 0) + bits_value n bits
+
+-- so many bytes of eight bits each
+abbrev pub packed : ℕ → List Bool → List ℕ
+packed zero bits = []
+packed (suc n) bits = bits_value 8 bits ∷ packed n (drop 8 bits)
+
+-- the least number of bytes that have room for so many bits
+abbrev pub bytes_for : ℕ → ℕ
+bytes_for bits = (bits + 7) / 8
+
+-- Runs of equal outcomes.
+
+-- the lengths of the runs of some outcomes behind so many that are equal to this one
+abbrev pub runs_behind : Bool → ℕ → List Bool → List ℕ
+runs_behind outcome n [] = n ∷ []
+runs_behind outcome n (next ∷ others) =
+    if beq outcome next then runs_behind outcome (n + 1) others else n ∷ runs_behind next 1 others
+
+-- a first outcome, and the length of each run in two bytes
+abbrev pub runs_text : List Bool → List ℕ
+runs_text [] = []
+runs_text (first ∷ others) = (if first then 1 else 0) ∷ flat_map (big_bytes 2) (runs_behind first 1 others)
+
+-- outcomes: as runs in format 2, and else as bits
+abbrev pub outcomes_text : Bool → List Bool → List ℕ
+outcomes_text true outcomes = runs_text outcomes
+outcomes_text false outcomes = packed (bytes_for (length outcomes)) outcomes
+
+-- the depth of a name, and the number of each create
+abbrev pub name_text : Name → List ℕ
+name_text name = length name ∷ name
+
+-- a thread's name, its steps, how many outcomes it has, and these
+abbrev pub thread_text : Bool → ThreadPath → List ℕ
+thread_text as_runs t = name_text t.name ++ (big_bytes 2 t.path.steps
+    ++ (big_bytes 2 (length t.path.outcomes) ++ outcomes_text as_runs t.path.outcomes))
+
+-- the code of a model
+abbrev pub model_code : Model → ℕ
+model_code Sc = 0
+model_code Tso = 1
+model_code Pso = 2
+
+-- the sign, the format, the model and in format 2 the digest
+abbrev pub head_text : Option (List ℕ) → Model → List ℕ
+head_text None model = codes "CLPL" ++ (big_bytes 2 1 ++ model_code model ∷ [])
+head_text (Some digest) model = codes "CLPL" ++ (big_bytes 2 2 ++ model_code model ∷ digest)
+
+-- the head, the number of threads, the index of the one that failed, and each thread
+abbrev pub log_text : StoredLog → List ℕ
+log_text s = head_text s.digest s.log.model
+    ++ (length s.log.threads ∷ s.log.failing ∷ flat_map (thread_text (is_some s.digest)) s.log.threads)
+
+-- What has a text.
+
+-- from low to high
+abbrev pub is_within : ℕ → ℕ → ℕ → Bool
+is_within low high n = nat_le low n && nat_le n high
+
+-- at most 255 creates, each of a number up to 255, and as many steps and outcomes as two bytes count
+abbrev pub is_thread : ThreadPath → Bool
+is_thread t = (nat_le (length t.name) 255 && list_all (is_within 1 255) t.name)
+    && (nat_lt t.path.steps (2 ^ 16) && nat_lt (length t.path.outcomes) (2 ^ 16))
+
+-- at most 255 threads, each of which has a text
+abbrev pub is_of_format : Log → Bool
+is_of_format log = nat_le (length log.threads) 255 && list_all is_thread log.threads
+
+-- a digest has 32 bytes
+abbrev pub is_digest : List ℕ → Bool
+is_digest digest = length digest == 32 && list_all (λ byte. nat_lt byte 256) digest
+
+-- numbers that bytes have
+abbrev pub AreBytes : List ℕ → Type 0
+AreBytes bytes = (i : ℕ) → slice_index bytes i < 256
+
+-- a log that has a text
+pub record HasText (s : StoredLog) : Type 0 where
+  pub is_log : IsTrue (is_log s.log)
+  pub is_of_format : IsTrue (is_of_format s.log)
+  pub is_digest : IfSome s.digest (λ digest. IsTrue (is_digest digest))

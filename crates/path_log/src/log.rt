@@ -1,0 +1,180 @@
+//! Logs.
+ghost use Rattle.std.specs.Prelude.{◌≡◌, ◌^◌, ◌&&◌, nat_le, nat_lt, length, IsTrue, Some, option_map};
+ghost use Rattle.std.specs.List.{list_all};
+ghost use Rattle.tc_base.specs.Logs.{Log as PlainLog, failing_of};
+ghost use Rattle.path_log.specs.Texts.{is_log, is_of_format, is_thread, is_within};
+
+use std::marker::Model;
+use tc_base::ThreadName;
+
+/// The way that a thread went: the outcomes of its branches, and how many instructions it did.
+#[derive(Debug, Drop)]
+pub struct ThreadPath {
+    name: ThreadName,
+    steps: u16,
+    outcomes: Vec<bool>,
+}
+
+impl Model for ThreadPath {
+    ghost use Rattle.tc_base.specs.Logs.{ThreadPath as PlainPath};
+
+    ghost Value = { PlainPath };
+
+    ghost view = { λ t. record { name = t.name; path = record { outcomes = t.outcomes.items; steps = t.steps } } };
+}
+
+impl ThreadPath {
+    /// The path of the thread of this name.
+    pub fn new(name: ThreadName, steps: u16, outcomes: Vec<bool>) -> ThreadPath
+        ensures { result ≡ record { name = name; path = record { outcomes = outcomes.items; steps = steps } } }
+    {
+        ThreadPath {
+            name,
+            steps,
+            outcomes,
+        }
+    }
+
+    /// The thread.
+    pub fn name(&self) -> &ThreadName
+        ensures { result.now ≡ self.now.name }
+    {
+        &self.name
+    }
+
+    /// How many instructions it did, one that failed included.
+    pub fn steps(&self) -> u16
+        ensures { result ≡ self.now.path.steps }
+    {
+        self.steps
+    }
+
+    /// Whether a text has room for it.
+    fn has_room(&self) -> bool
+        ensures { result ≡ is_thread self.now }
+    {
+        name_has_room(self.name.children())
+            && counts_have_room(self.steps, self.outcomes.as_slice())
+    }
+
+    /// The outcomes of its branches, in order.
+    pub fn outcomes(&self) -> &[bool]
+        ensures { result.now ≡ self.now.path.outcomes }
+    {
+        self.outcomes.as_slice()
+    }
+}
+
+/// Whether a text has room for a name: at most 255 creates, each of a number up to 255.
+fn name_has_room(children: &[u32]) -> bool
+    ensures { result ≡ (nat_le (length children.now) 255 && list_all (is_within 1 255) children.now) }
+{
+    children.len() <= 255 && are_children(children)
+}
+
+fn are_children(children: &[u32]) -> bool
+    ensures { result ≡ list_all (is_within 1 255) children.now }
+{
+    children.iter().all(|child| 1 <= *child && *child <= 255)
+}
+
+/// Whether two bytes count the steps, which they do, and the outcomes.
+fn counts_have_room(steps: u16, outcomes: &[bool]) -> bool
+    ensures { result ≡ (nat_lt steps (2 ^ 16) && nat_lt (length outcomes.now) (2 ^ 16)) }
+{
+    outcomes.len() < 65_536
+}
+
+/// Whether a text has room for each of these paths.
+fn have_room(threads: &[ThreadPath]) -> bool
+    ensures { result ≡ list_all is_thread threads.now }
+{
+    threads.iter().all(|thread| thread.has_room())
+}
+
+/// The path of each thread of a run that failed, in the order of their names, and which of them failed.
+///
+/// The paths have different names, and there is at least that of the thread that failed. A log of format 2 has
+/// the digest of the program that ran.
+#[derive(Debug, Drop)]
+pub struct Log {
+    digest: Option<[u8; 32]>,
+    model: tc_base::Model,
+    failing: usize,
+    threads: Vec<ThreadPath>,
+}
+
+impl Model for Log {
+    ghost use Rattle.std.specs.Prelude.{IsTrue};
+    ghost use Rattle.path_log.specs.Texts.{StoredLog, is_log};
+
+    ghost Value = { StoredLog };
+
+    ghost view = { λ l. record { digest = l.digest; log = record { model = l.model; failing = l.failing; threads = l.threads.items } } };
+
+    ghost invariant = { λ l. IsTrue (is_log (record { model = l.model; failing = l.failing; threads = l.threads.items })) };
+}
+
+impl Log {
+    /// The log of these paths, of which the one of that index is of the thread that failed.
+    pub fn new(
+        digest: Option<[u8; 32]>,
+        model: tc_base::Model,
+        failing: usize,
+        threads: Vec<ThreadPath>,
+    ) -> Log
+        requires { IsTrue (is_log (record { model = model; failing = failing; threads = threads.items })) }
+        ensures { result ≡ record { digest = digest; log = record { model = model; failing = failing; threads = threads.items } } }
+    {
+        Log {
+            digest,
+            model,
+            failing,
+            threads,
+        }
+    }
+
+    /// The digest of the program, where the log has it.
+    pub fn digest(&self) -> Option<&[u8; 32]>
+        ensures { option_map (λ d. d.now) result ≡ self.now.digest }
+    {
+        self.digest.as_ref()
+    }
+
+    /// The memory model under which the log was recorded.
+    pub fn model(&self) -> tc_base::Model
+        ensures { result ≡ self.now.log.model }
+    {
+        self.model
+    }
+
+    /// The index of the path of the thread that failed.
+    pub fn failing(&self) -> usize
+        ensures index { result ≡ self.now.log.failing }
+        ensures is_log { IsTrue (is_log self.now.log) }
+    {
+        self.failing
+    }
+
+    /// The paths, in the order of their names.
+    pub fn threads(&self) -> &[ThreadPath]
+        ensures threads { result.now ≡ self.now.log.threads }
+        ensures is_log { IsTrue (is_log self.now.log) }
+    {
+        self.threads.as_slice()
+    }
+
+    /// Whether the log has a text: at most 255 threads, each of a name and a number of outcomes that a text has room for.
+    pub fn has_text(&self) -> bool
+        ensures { result ≡ is_of_format self.now.log }
+    {
+        self.threads.len() <= 255 && have_room(self.threads.as_slice())
+    }
+
+    /// The thread that failed.
+    pub fn failing_name(&self) -> &ThreadName
+        ensures { failing_of self.now.log ≡ Some result.now }
+    {
+        self.threads[self.failing].name()
+    }
+}

@@ -1,0 +1,112 @@
+//! From a text to its log.
+ghost use Rattle.std.specs.Prelude.{◌≡◌, ◌<◌, nat_lt, IsTrue, IfOk, IfErr, MatchResult};
+ghost use Rattle.path_log.specs.Texts.{StoredLog, HasText, log_text};
+ghost use Rattle.path_log.specs.Faults.{IsFault};
+ghost use Rattle.path_log.specs.Fields as fields;
+ghost use Rattle.path_log.specs.Fields.{◌such◌};
+ghost use Rattle.path_log.specs.helpers.Reading.{Gives, place, seen};
+
+use crate::cursor::Cursor;
+use crate::fault::LogFault;
+use crate::field::{byte, byte_within, field, two_within};
+use crate::log::Log;
+use crate::threads::threads;
+use std::alloc::Global;
+use tc_base::Model;
+
+/// The log that this text is.
+///
+/// A text either is that of one log or has one offset at which it breaks the form of a log, so the answer is the
+/// only one that there is, but for `Memory` where there is none. The time grows linearly with the text and the outcomes.
+pub fn read_log(alloc: Global, text: &[u8]) -> Result<Log, LogFault>
+    ensures has_text { IfOk result (λ log. HasText log) }
+    ensures found { IfOk result (λ log. text.now ≡ log_text log) }
+    ensures refused { IfErr result (λ fault. IsFault text.now fault) }
+    ensures again { (s : StoredLog) → HasText s → text.now ≡ log_text s
+        → MatchResult result (λ log. log ≡ s) (λ fault. fault ≡ LogFault.Memory) }
+{
+    let (log, _) = whole(alloc, Cursor { at: 0, rest: text })?;
+    Ok(log)
+}
+
+/// A log, and nothing behind it.
+#[tactic(auto, unfolding(crate::specs::Fields::whole))]
+fn whole<'a>(alloc: Global, cursor: Cursor<'a>) -> Result<(Log, Cursor<'a>), LogFault>
+    ensures { Gives seen result (fields.whole (place cursor.entry)) }
+{
+    let (log, rest) = body(alloc, cursor)?;
+    if rest.rest.is_empty() {
+        Ok((log, rest))
+    } else {
+        Err(LogFault::Form(rest.at))
+    }
+}
+
+#[tactic(auto, unfolding(crate::specs::Fields::body))]
+fn body<'a>(alloc: Global, cursor: Cursor<'a>) -> Result<(Log, Cursor<'a>), LogFault>
+    ensures { Gives seen result (fields.body (place cursor.entry)) }
+{
+    let ((digest, model), rest) = head(cursor)?;
+    let (count, rest) = byte_within(1, 255, rest)?;
+    let (failing, rest) = byte_below(count, rest)?;
+    let (paths, rest) = threads(alloc, digest.is_some(), count, rest)?;
+    Ok((Log::new(digest, model, usize::from(failing), paths), rest))
+}
+
+/// A number of one byte, below this one.
+fn byte_below<'a>(limit: u8, cursor: Cursor<'a>) -> Result<(u8, Cursor<'a>), LogFault>
+    ensures { Gives seen result ((fields.byte such (λ n. nat_lt n limit)) (place cursor.entry)) }
+{
+    let (number, rest) = byte(cursor)?;
+    if number < limit {
+        Ok((number, rest))
+    } else {
+        Err(LogFault::Form(cursor.at))
+    }
+}
+
+/// The digest where the format has it, and the model.
+type Head = (Option<[u8; 32]>, Model);
+
+#[tactic(auto, unfolding(crate::specs::Fields::head))]
+fn head<'a>(cursor: Cursor<'a>) -> Result<(Head, Cursor<'a>), LogFault>
+    ensures { Gives seen result (fields.head (place cursor.entry)) }
+{
+    let (sign, rest) = field(4, cursor)?;
+    if sign != b"CLPL".as_slice() {
+        return Err(LogFault::Form(cursor.at));
+    }
+    let (format, rest) = two_within(1, 2, rest)?;
+    let (model, rest) = model(rest)?;
+    let (digest, rest) = digest_in(format, rest)?;
+    Ok(((digest, model), rest))
+}
+
+fn model<'a>(cursor: Cursor<'a>) -> Result<(Model, Cursor<'a>), LogFault>
+    ensures { Gives seen result (fields.model (place cursor.entry)) }
+{
+    let (code, rest) = byte_within(0, 2, cursor)?;
+    let model = match code {
+        0 => Model::Sc,
+        1 => Model::Tso,
+        _ => Model::Pso,
+    };
+    Ok((model, rest))
+}
+
+/// The digest, which format 2 has.
+fn digest_in<'a>(
+    format: u16,
+    cursor: Cursor<'a>,
+) -> Result<(Option<[u8; 32]>, Cursor<'a>), LogFault>
+    ensures { Gives seen result (fields.digest_in format (place cursor.entry)) }
+{
+    if format == 1 {
+        return Ok((None, cursor));
+    }
+    let Some((digest, rest)) = cursor.rest.split_first_chunk::<32>() else {
+        return Err(LogFault::Form(cursor.at));
+    };
+    let at = cursor.at + 32;
+    Ok((Some(*digest), Cursor { at, rest }))
+}

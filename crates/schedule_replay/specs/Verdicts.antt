@@ -1,0 +1,55 @@
+-- What a replay says of a schedule.
+use Rattle.std.specs.Prelude.{◌≡◌, ℕ, ◌+◌, List, ◌∷◌, ◌++◌, length, Some, None, IsSomeAnd}
+use Rattle.std.specs.Ordering.{nat_cmp}
+use Rattle.std.specs.Cmp.Lexicographic.{slice_cmp}
+use Rattle.std.specs.declared.cmp.Ordering.TheVariants.{Less}
+use Rattle.tc_base.specs.Names.{Name}
+use Rattle.tc_base.specs.Buffers.{BufferOps}
+use Rattle.tc_base.specs.States.{State}
+use Rattle.tc_base.specs.Logs.{Log, failing_of, path_under}
+use Rattle.tc_base.specs.declared.moves.Move.{Move}
+use Rattle.tc_code.specs.Code.{Code}
+use Rattle.tc_code.specs.Run.{run, path_in, Reproduces}
+use Rattle.tc_machine.specs.Why.{why}
+use Rattle.tc_machine.specs.declared.why.Why.{Why}
+use Rattle.schedule_replay.specs.declared.verdict.Verdict.{Verdict}
+use Rattle.schedule_replay.specs.declared.verdict.Verdict.TheVariants as verdict
+
+module _ {B : Type 0} where
+  -- the thread that failed is the log's
+  abbrev pub FailsAsLogged : State B → Log → Type 0
+  FailsAsLogged s log = IsSomeAnd (failing_of log) (λ n. s.failed ≡ Some n)
+
+  -- the thread's path in the run is its path in the log, or it is in neither
+  abbrev pub GoesAsLogged : State B → Log → Name → Type 0
+  GoesAsLogged s log n = path_in s n ≡ path_under n log.threads
+
+  -- the least name whose path differs
+  pub record IsFirstToDiffer (s : State B) (log : Log) (n : Name) : Type 0 where
+    pub differs : ¬ (GoesAsLogged s log n)
+    pub least : (m : Name) → slice_cmp nat_cmp m n ≡ Less → GoesAsLogged s log m
+
+  -- the verdict on the state that all moves lead to
+  abbrev pub IsVerdictAt : State B → Log → Verdict → Type 0
+  IsVerdictAt s log verdict.NoFailure = s.failed ≡ None
+  IsVerdictAt s log (verdict.OtherFailure n) = (s.failed ≡ Some n) × ¬ (FailsAsLogged s log)
+  IsVerdictAt s log (verdict.OtherPath n) = FailsAsLogged s log × IsFirstToDiffer s log n
+  IsVerdictAt s log _ = ⊥
+
+module _ {B : Type 0} (ops : BufferOps B) (code : Code) where
+  -- the move of this number, from 1, is the first that isn't enabled, for this reason
+  pub record StopsAt (moves : List Move) (number : ℕ) (reason : Why) : Type 0 where
+    pub before : List Move
+    pub move : Move
+    pub after : List Move
+    pub state : State B
+    pub split : moves ≡ before ++ move ∷ after
+    pub counted : number ≡ length before + 1
+    pub leads : run ops code before ≡ Some state
+    pub stops : why ops code state move ≡ Some reason
+
+  -- the first verdict that holds
+  abbrev pub IsVerdict : Log → List Move → Verdict → Type 0
+  IsVerdict log moves (verdict.Stops number reason) = StopsAt moves number reason
+  IsVerdict log moves verdict.Reproduces = Reproduces ops code log moves
+  IsVerdict log moves v = (s : State B) × (run ops code moves ≡ Some s) × IsVerdictAt s log v

@@ -1,0 +1,40 @@
+-- The state that all moves lead to, held against a log.
+use Rattle.std.specs.Prelude.{Bool, false, ◌&&◌, ◌==◌, if◌then◌else◌, Option, Some, None}
+use Rattle.std.specs.Bool.{beq}
+use Rattle.std.specs.Ordering.{nat_cmp}
+use Rattle.std.specs.Cmp.Lexicographic.{slice_cmp, pointwise}
+use Rattle.std.specs.declared.cmp.Ordering.{Ordering}
+use Rattle.std.specs.declared.cmp.Ordering.TheVariants.{Less, Equal, Greater}
+use Rattle.tc_base.specs.Names.{Name}
+use Rattle.tc_base.specs.States.{State}
+use Rattle.tc_base.specs.Logs.{Path, ThreadPath, Log}
+use Rattle.tc_code.specs.Run.{path_in}
+use Rattle.schedule_replay.specs.Verdicts.{FailsAsLogged, GoesAsLogged, IsFirstToDiffer, IsVerdictAt}
+use Rattle.schedule_replay.specs.declared.verdict.Verdict.{Verdict}
+use Rattle.schedule_replay.specs.declared.verdict.Verdict.TheVariants as verdict
+
+-- there is a path, and it is this one
+abbrev pub is_path : Option Path → Path → Bool
+is_path None p = false
+is_path (Some q) p = q.steps == p.steps && pointwise beq q.outcomes p.outcomes
+
+abbrev pub by_order : {X : Type 0} → Ordering → X → X → X → X
+by_order Less x y z = x
+by_order Equal x y z = y
+by_order Greater x y z = z
+
+module _ {B : Type 0} where
+  -- the verdict on a state
+  abbrev pub IsJudged : State B → Log → Verdict → Type 0
+  IsJudged s log verdict.Reproduces = FailsAsLogged s log × ((n : Name) → GoesAsLogged s log n)
+  IsJudged s log v = IsVerdictAt s log v
+
+  -- the least name whose path differs, if one does
+  abbrev pub IsFirstOther : State B → Log → Option Name → Type 0
+  IsFirstOther s log None = (n : Name) → GoesAsLogged s log n
+  IsFirstOther s log (Some n) = IsFirstToDiffer s log n
+
+  -- the lesser of a log's and a run's thread, where their names or their paths differ
+  abbrev pub other_at : State B → ThreadPath → Name → Option Name
+  other_at s t n =
+      by_order (slice_cmp nat_cmp t.name n) (Some t.name) (if is_path (path_in s t.name) t.path then None else Some n) (Some n)

@@ -1,0 +1,100 @@
+//! Replaying a schedule.
+ghost use Rattle.std.specs.Prelude.{◌≡◌, IfOk, option_map};
+ghost use Rattle.tc_code.specs.Run.{Reproduces, path_in};
+ghost use Rattle.schedule_replay.specs.Verdicts.{IsVerdict};
+ghost use Rattle.schedule_replay.specs.helpers.Judged.{IsJudged, IsFirstOther, is_path, other_at};
+
+use crate::verdict::Verdict;
+use path_log::{Log, ThreadPath};
+use schedule_file::Schedule;
+use std::alloc::{AllocError, Global};
+use std::cmp::Ordering;
+use store_buffers::MemoryModel;
+use tc_base::ThreadName;
+use tc_code::Code;
+use tc_machine::{State, enabled, start, step};
+
+/// The first verdict on a schedule's moves that holds under a memory model.
+///
+/// The model that the schedule names is the caller's to hold against `M`, and the log's plays no part.
+pub fn replay<M: MemoryModel>(
+    alloc: Global,
+    code: &Code,
+    log: &Log,
+    schedule: &Schedule,
+) -> Result<Verdict, AllocError>
+    ensures verdict { IfOk result (IsVerdict M.ops code.now log.now.log schedule.now.moves.items) }
+    ensures reproduces { Reproduces M.ops code.now log.now.log schedule.now.moves.items → IfOk result (λ v. v ≡ Verdict.Reproduces) }
+{
+    let mut state = start::<M>(alloc, code)?;
+    for (i, m) in schedule.moves.iter().enumerate() {
+        if let Err(why) = enabled(code, &state, m) {
+            return Ok(Verdict::Stops(i + 1, why));
+        }
+        step(alloc, code, &mut state, m)?;
+    }
+    judge(log, &state)
+}
+
+/// The verdict on the state that all moves led to.
+fn judge<M: MemoryModel>(log: &Log, state: &State<M>) -> Result<Verdict, AllocError>
+    ensures { IfOk result (IsJudged state.now log.now.log) }
+{
+    match state.failed() {
+        None => Ok(Verdict::NoFailure),
+        Some(name) if name != log.failing_name() => Ok(Verdict::OtherFailure(name.clone()?)),
+        Some(_) => match first_other(log, state) {
+            Some(name) => Ok(Verdict::OtherPath(name.clone()?)),
+            None => Ok(Verdict::Reproduces),
+        },
+    }
+}
+
+/// The least name whose path in the run isn't that in the log.
+fn first_other<'a, M: MemoryModel>(log: &'a Log, state: &'a State<M>) -> Option<&'a ThreadName>
+    ensures { IsFirstOther state.now log.now.log (option_map (λ n. n.now) result) }
+{
+    let threads = log.threads();
+    let names = state.threads().as_slice();
+    let shared = threads.len().min(names.len());
+    for i in 0..shared {
+        if let Some(name) = other_at(state, &threads[i], &names[i]) {
+            return Some(name);
+        }
+    }
+    if shared < threads.len() {
+        Some(threads[shared].name())
+    } else if shared < names.len() {
+        Some(&names[shared])
+    } else {
+        None
+    }
+}
+
+/// The lesser of a log's and a run's thread, where their names or their paths differ.
+fn other_at<'a, M: MemoryModel>(
+    state: &State<M>,
+    thread: &'a ThreadPath,
+    name: &'a ThreadName,
+) -> Option<&'a ThreadName>
+    ensures { option_map (λ n. n.now) result ≡ other_at state.now thread.now name.now }
+{
+    match thread.name().cmp(name) {
+        Ordering::Less => Some(thread.name()),
+        Ordering::Equal if goes_as_logged(state, thread) => None,
+        _ => Some(name),
+    }
+}
+
+/// Whether a logged thread went so in the run.
+fn goes_as_logged<M: MemoryModel>(state: &State<M>, thread: &ThreadPath) -> bool
+    ensures { result ≡ is_path (path_in state.now thread.now.name) thread.now.path }
+{
+    let name = thread.name();
+    match (state.steps_of(name), state.outcomes_of(name)) {
+        (Some(steps), Some(outcomes)) => {
+            steps == u32::from(thread.steps()) && outcomes.as_slice() == thread.outcomes()
+        }
+        _ => false,
+    }
+}
