@@ -1,0 +1,137 @@
+-- Words that are taken name a command and each of its files.
+use Rattle.std.proofs.Common.{
+  ℕ,
+  ◌≡◌,
+  ap,
+  refl,
+  subst,
+  Bool,
+  true,
+  false,
+  not,
+  ◌||◌,
+  cond,
+  List,
+  [],
+  ◌∷◌,
+  Option,
+  Some,
+  None,
+  is_some,
+  find,
+  option_map,
+  codes,
+  slice_index_or,
+  unwrap_or,
+  inl,
+  inr,
+}
+use Rattle.std.specs.Prelude.{⊤, IsSomeAnd}
+use Rattle.std.specs.List.{list_all}
+use Rattle.std.specs.Option.{option_map_or}
+use Rattle.clap.specs.Words.{App, Row, Shape, Text, first_of, is_simple, subcommand_of}
+use Rattle.clap.specs.Simple.{argument_words, built, entered, label_of, names_of, rows_at}
+use Rattle.clap.specs.Takes.{built_takes, default_passes, entered_passes, level_passes, settle_passes, walk_passes}
+use Rattle.clap.specs.Walk.{answers_to, nothing_held, rows_after, stop_after, walk, walk_from}
+use Rattle.clap.proofs.WalkLemmas.{both}
+use Rattle.clap_debug_words.specs.CommandLine.{command_line, words_taken}
+use Rattle.clap_debug_words.specs.Given.{HasFiles}
+use Rattle.clap_debug_words.proofs.Fits.{AreSetters, Fitness, level_given}
+
+-- any text is fit for a positional
+abbrev any_text : Fitness
+any_text _ _ = true
+
+abbrev pub Has : Shape → Type 0
+Has s = (words : List Text) → level_passes s [] nothing_held words false ≡ true → HasFiles (s.name, rows_after s.rules [] words)
+
+abbrev pub AllHave : List Shape → Type 0
+AllHave [] = ⊤
+AllHave (s ∷ rest) = Has s × AllHave rest
+
+found_has : (p : Shape → Bool) (subs : List Shape) (s : Shape) → AllHave subs → find p subs ≡ Some s → Has s
+found_has p [] s all e = cc
+found_has p (x ∷ xs) s all e = go (p x) e (λ f. found_has p xs s all.1 f)
+  where
+    go : (b : Bool) → cond b (Some x) (find p xs) ≡ Some s → (find p xs ≡ Some s → Has s) → Has s
+    go true e rec =
+        let same : x ≡ s = ap (λ (o : Option Shape). unwrap_or o x) e in
+        subst Has same all.0
+    go false e rec = rec e
+
+entered_has : (a : App) (stop : Option (Text × List Text)) (p : Text × List Row) → AllHave a.subs → entered_passes a stop ≡ true
+    → entered a stop ≡ Some p → HasFiles p
+entered_has a None p all e at = cc
+entered_has a (Some q) p all e at = go (find (λ s. answers_to q.0 (label_of s)) a.subs) refl e at
+  where
+    go : (o : Option Shape) → find (λ s. answers_to q.0 (label_of s)) a.subs ≡ o → option_map_or (λ s. level_passes s [] nothing_held q.1 false) o true ≡ true
+        → option_map (λ s. rows_at s q.1) o ≡ Some p → HasFiles p
+    go None is e at = cc
+    go (Some s) is e at =
+        let same : (s.name, rows_after s.rules [] q.1) ≡ p = ap (λ (o : Option (Text × List Row)). unwrap_or o (s.name, rows_after s.rules [] q.1)) at in
+        subst HasFiles same (found_has _ a.subs s all is q.1 e)
+
+abbrev pub sub_at : ℕ → Shape
+sub_at k = slice_index_or (built command_line).subs k command_line.top
+
+abbrev pub given_in : Shape → List Row → Bool
+given_in s rows = list_all (λ a. not a.required || is_some (first_of a.id rows)) s.rules
+
+list_has : (rows : List Row) → given_in (sub_at 0) rows ≡ true → HasFiles (codes "list", rows)
+list_has rows e = inl (refl, (both (is_some (first_of (codes "program") rows)) _ e).0)
+
+replay_has : (rows : List Row) → given_in (sub_at 1) rows ≡ true → HasFiles (codes "replay", rows)
+replay_has rows e =
+    let a = both (is_some (first_of (codes "program") rows)) _ e in
+    let b = both (is_some (first_of (codes "log") rows)) _ a.1 in
+    inr (refl, a.0, b.0, (both (is_some (first_of (codes "schedule") rows)) _ b.1).0)
+
+list_sets : AreSetters any_text (sub_at 0).rules
+list_sets = (record { sets = refl; least = refl; test = λ v. refl; reads = refl }, tt)
+
+replay_sets : AreSetters any_text (sub_at 1).rules
+replay_sets = (
+  record { sets = refl; least = refl; test = λ v. refl; reads = refl },
+  (record { sets = refl; least = refl; test = λ v. refl; reads = refl }, (record { sets = refl; least = refl; test = λ v. refl; reads = refl }, tt)),
+)
+
+all_have : AllHave (built command_line).subs
+all_have = (
+  λ words e. list_has (rows_after (sub_at 0).rules [] words) (level_given any_text (sub_at 0) words list_sets e refl),
+  (λ words e. replay_has (rows_after (sub_at 1).rules [] words) (level_given any_text (sub_at 1) words replay_sets e refl), tt),
+)
+
+taken_in : (a : App) (words : List Text) (p : Text × List Row) → AllHave a.subs → built_takes a nothing_held words ≡ true
+    → entered a (stop_after a.top.rules (names_of a) words) ≡ Some p → HasFiles p
+taken_in a words p all e at =
+    entered_has a (stop_after a.top.rules (names_of a) words) p all (both (entered_passes a (stop_after a.top.rules (names_of a) words)) _ e).0 at
+
+-- a built command that wants a subcommand enters one
+wanted : (required has : Bool) → required ≡ true → (not required || has) ≡ true → has ≡ true
+wanted true has r e = e
+wanted false has r e = cc
+
+enters : (a : App) (words : List Text) → a.top.subcommand_required ≡ true → built_takes a nothing_held words ≡ true
+    → is_some (entered a (stop_after a.top.rules (names_of a) words)) ≡ true
+enters a words required e =
+    let w = walk a.top.rules (names_of a) nothing_held words in
+    let level = (both (entered_passes a w.stopped) _ e).1 in
+    let after_walk = (both (walk_passes a.top (names_of a) (walk_from nothing_held) words) _ level).1 in
+    let after_settle = (both (settle_passes a.top.rules a.top.args_override_self w.held) _ after_walk).1 in
+    let valid = (both (list_all default_passes a.top.rules) _ after_settle).1 in
+    let wants = (both _ _ (both _ _ valid).1).0 in
+    wanted a.top.subcommand_required _ required wants
+
+there : (o : Option (Text × List Row)) → is_some o ≡ true → ((p : Text × List Row) → o ≡ Some p → HasFiles p) → IsSomeAnd o HasFiles
+there None some has = cc
+there (Some p) some has = has p refl
+
+-- words that are taken enter a command
+pub taken_enters : (words : List Text) → words_taken words ≡ true → is_some (subcommand_of command_line words) ≡ true
+taken_enters words e = enters (built command_line) (argument_words command_line words) refl (both (is_simple command_line) _ e).1
+
+-- words that are taken have the files of their command
+pub taken_has : (words : List Text) → words_taken words ≡ true → IsSomeAnd (subcommand_of command_line words) HasFiles
+taken_has words e =
+    there (subcommand_of command_line words) (taken_enters words e)
+    (λ p at. taken_in (built command_line) (argument_words command_line words) p all_have (both (is_simple command_line) _ e).1 at)

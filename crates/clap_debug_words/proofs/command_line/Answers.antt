@@ -1,0 +1,15 @@
+use Rattle.std.proofs.Common.{◌≡◌, ◌∙◌, ap, ap₂, codes}
+use Rattle.std.proofs.lemmas.Result.{IfOk-weaker}
+use Rattle.clap.specs.Words.{Shape, app_of, new_app, shape_of, with_subcommand}
+use Rattle.clap.proofs.SimpleLemmas.{plain_fields}
+use Rattle.clap_debug_words.specs.CommandLine as spec
+use Rattle.clap_debug_words.proofs.command_line.Goals as goal
+
+pub returns : goal.returns
+returns c =
+    let top_is : app_of c.commands.result ≡ spec.commands (new_app (codes "clap_debug")) = c.commands.ensures ∙ ap spec.commands c.new.ensures.app in
+    let list_is : shape_of c.in_ok-list.field-0 ≡ spec.list = c.in_ok-list.ensures in
+    let replay_is : shape_of c.in_ok-replay.field-0 ≡ spec.replay = c.in_ok-replay.ensures in
+    let listed = c.in_ok-subcommand.ensures.shape (plain_fields _ (ap (λ (s : Shape). s.is_plain) list_is)).globals ∙ ap₂ with_subcommand top_is list_is in
+    IfOk-weaker c.subcommand-2.result _ _
+    (λ _ h. h.shape (plain_fields _ (ap (λ (s : Shape). s.is_plain) replay_is)).globals ∙ ap₂ with_subcommand listed replay_is) c.subcommand-2.ensures

@@ -1,0 +1,4 @@
+pub mod CommandLine
+pub mod Calls
+pub mod PlainWords
+pub mod Given
