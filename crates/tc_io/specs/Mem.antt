@@ -5,13 +5,13 @@ use Rattle.tc_io.specs.Outside.{Files, ShelfTells, SinkTells}
 use Rattle.tc_io.specs.Past.{PlainPast, no_past, shelf_tells}
 use Rattle.tc_io.specs.Plan.{PlainPlan, no_plan}
 
--- a shelf: what it holds, which fetches are to fail, and what it remembers
+-- a shelf: what it holds, which calls are to fail, and what it remembers
 pub record PlainShelf : Type 0 where
   pub held : Files
   pub plan : PlainPlan
   pub past : PlainPast
 
--- a shelf that holds nothing, from which nothing was fetched
+-- a shelf that holds nothing, before the first call
 abbrev pub empty_shelf : PlainShelf
 empty_shelf = record { held = empty; plan = no_plan; past = no_past }
 

@@ -1,8 +1,8 @@
 -- What the outside tells: what it holds, what was written, how often it failed, and how; and what a call makes of it.
-use Rattle.std.specs.Prelude.{◌≡◌, ℕ, ◌+◌, ◌-◌, ◌^◌, ◌<◌, ◌≤◌, min, length, List, [], ◌++◌, take, Option, Some, IfSome, unwrap_or, option_map}
+use Rattle.std.specs.Prelude.{◌≡◌, ℕ, ◌+◌, ◌-◌, ◌^◌, ◌<◌, ◌≤◌, min, length, List, [], ◌++◌, take, Option, Some, IfSome, unwrap_or, option_map, ◌⊎◌}
 use Rattle.std.specs.Ordering.{nat_cmp}
 use Rattle.std.specs.Cmp.Lexicographic.{slice_cmp}
-use Rattle.std.specs.FinMap.{FinMap, get}
+use Rattle.std.specs.FinMap.{FinMap, get, insert}
 
 -- a call that failed, with the name that it was given
 pub data Fault : Type 0 where
@@ -48,6 +48,23 @@ Gave old new name limit bytes = (length bytes ≤ limit) × Took old new (length
 -- one byte past the limit was taken; where it's told, there are more bytes than the limit under the name
 abbrev pub WasTooLong : ShelfTells → ShelfTells → List ℕ → ℕ → Type 0
 WasTooLong old new name limit = Took old new (limit + 1) × IfSome old.held (λ files. limit < length (bytes_at files name))
+
+-- with these bytes under the name, in place of what was there
+abbrev pub put_under : List ℕ → List ℕ → Option Files → Option Files
+put_under name bytes held = option_map (λ files. insert files name bytes) held
+
+-- the bytes stand under the name, and all else is as before
+abbrev pub Kept : ShelfTells → ShelfTells → List ℕ → List ℕ → Type 0
+Kept old new name bytes = new ≡ record old { held = put_under name bytes old.held }
+
+-- all is held that was before, but that a front of the bytes may stand under the name, maybe none of them and maybe all
+abbrev pub HoldsPart : Option Files → Option Files → List ℕ → List ℕ → Type 0
+HoldsPart old new name bytes = (new ≡ old) ⊎ ((count : ℕ) × (new ≡ put_under name (take count bytes) old))
+
+-- The keep failed: one fault was counted. Under the name stands a front of the bytes or what stood there, and all else is as before.
+abbrev pub KeptPart : ShelfTells → ShelfTells → List ℕ → List ℕ → Type 0
+KeptPart old new name bytes = (held : Option Files) × HoldsPart old.held held name bytes
+    × (new ≡ record old { held = held; faults = counted_on old.faults 1; last_fault = Some (Writing name) })
 
 -- what a sink tells: what was written, where it tells that, and how often it failed
 pub record SinkTells : Type 0 where

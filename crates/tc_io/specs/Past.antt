@@ -1,6 +1,8 @@
--- What a shelf remembers of the fetches so far.
+-- What a shelf remembers of the calls so far.
 use Rattle.std.specs.Prelude.{ℕ, List, Option, Some, None}
-use Rattle.tc_io.specs.Outside.{Fault, Reading, Files, ShelfTells, counted_on}
+use Rattle.tc_io.specs.declared.past.Call.{Call}
+use Rattle.tc_io.specs.declared.past.Call.TheVariants.{Fetch, Keep}
+use Rattle.tc_io.specs.Outside.{Fault, Reading, Writing, Files, ShelfTells, counted_on}
 
 -- how often it failed, how many bytes were taken, and the call that failed last
 pub record PlainPast : Type 0 where
@@ -8,7 +10,7 @@ pub record PlainPast : Type 0 where
   pub taken : ℕ
   pub last_fault : Option Fault
 
--- before the first fetch
+-- before the first call
 abbrev pub no_past : PlainPast
 no_past = record { faults = 0; taken = 0; last_fault = None }
 
@@ -16,9 +18,14 @@ no_past = record { faults = 0; taken = 0; last_fault = None }
 abbrev pub with_taken : PlainPast → ℕ → PlainPast
 with_taken past more = record past { taken = counted_on past.taken more }
 
--- the fetch of this name failed
-abbrev pub with_failure : PlainPast → List ℕ → PlainPast
-with_failure past name = record past { faults = counted_on past.faults 1; last_fault = Some (Reading name) }
+-- a call with a name, as it stands where it failed
+abbrev pub fault_of : Call → List ℕ → Fault
+fault_of Fetch name = Reading name
+fault_of Keep name = Writing name
+
+-- this call failed
+abbrev pub with_failure : PlainPast → Fault → PlainPast
+with_failure past fault = record past { faults = counted_on past.faults 1; last_fault = Some fault }
 
 -- what a shelf with this past tells
 abbrev pub shelf_tells : Option Files → PlainPast → ShelfTells

@@ -2,15 +2,16 @@
 //!
 //! As a shelf and a sink these tell nothing of what they hold or wrote, since real files and standard output don't.
 //! What a reader gives is promised by [`read_up_to`]; `FileShelf` opens the file of a name and reads it so. What a
-//! writer has is promised by `StdSink`, where the writer tells that. They count each failure, and stop on every input.
+//! writer has is promised by [`write_whole`], where the writer tells that; `FileShelf` creates or truncates the file of a
+//! name and writes it so, and `StdSink` writes so to the writer it has. They count each failure, and stop on every input.
 ghost use Rattle.std.specs.Prelude.{◌≡◌, ◌≢◌, ◌+◌, ◌≤◌, ◌<◌, length, take, IfOk, IfSome, OnOk, IsErrOf, Err, None, ℕ};
 ghost use Rattle.std.specs.Io.KnownBytes.{Appends, Consumes, IsAtEnd};
 ghost use Rattle.tc_io.specs.Given.{GaveAtMost};
-ghost use Rattle.tc_io.specs.Outside.{Reading, Gave, FailedOnce, WasTooLong, TookAtMost, Wrote, WrotePart, counted_on};
+ghost use Rattle.tc_io.specs.Outside.{Reading, Gave, FailedOnce, WasTooLong, TookAtMost, Kept, KeptPart, Wrote, WrotePart, counted_on};
 ghost use Rattle.tc_io.specs.Past.{no_past, shelf_tells};
 
-use crate::past::Past;
-use crate::{FetchFault, PutFault, Shelf, Sink};
+use crate::past::{Call, Past};
+use crate::{FetchFault, KeepFault, PutFault, Shelf, Sink};
 use std::alloc::Global;
 use std::fs::{File, Files};
 use std::io::{Read, Write};
@@ -68,9 +69,32 @@ impl<R: Files + Drop> Shelf for FileShelf<R> {
         };
         self.past.take(taken);
         if let Err(FetchFault::Failed) = answer {
-            self.past.fail(copy);
+            self.past.fail(Call::Fetch, copy);
         }
         answer
+    }
+
+    /// That an Ok leaves the bytes under the name, and a failure a front of them or what stood there, is [`write_whole`]'s
+    /// promise for the file that is opened. This call adds the opening, which creates or truncates the file: that the
+    /// system does so, and keeps what it took, no clause says, and tests alone show it.
+    fn keep(&mut self, alloc: Global, name: &str, bytes: &[u8]) -> Result<(), KeepFault>
+        ensures ok { OnOk result (Kept (shelf_tells None self.old) (shelf_tells None self.new) name.now bytes.now) }
+        ensures failed { IsErrOf result KeepFault.Failed → KeptPart (shelf_tells None self.old) (shelf_tells None self.new) name.now bytes.now }
+        ensures memory { IsErrOf result KeepFault.Memory → shelf_tells None self.new ≡ shelf_tells None self.old }
+
+        // A file was opened, and took all of the bytes, where files tell that.
+        ensures opened { OnOk result ((file : R.File) × (new : R.File) × Appends (R.File.contents file) (R.File.contents new) bytes.now) }
+    {
+        let Ok(copy) = String::from_str(alloc, name) else {
+            return Err(KeepFault::Memory);
+        };
+        if let Ok(mut file) = File::create(&self.files, name) {
+            if let Ok(()) = write_whole(&mut file, bytes) {
+                return Ok(());
+            }
+        }
+        self.past.fail(Call::Keep, copy);
+        Err(KeepFault::Failed)
     }
 }
 
@@ -114,10 +138,29 @@ pub fn read_up_to<R: Read>(
     }
 }
 
+/// Writes all of the bytes.
+///
+/// Every turn but the last takes a byte. A write that takes none ends it as a failure, and so does each error, an
+/// interruption too; a front of the bytes was written then.
+pub fn write_whole<W: Write>(to: &mut W, bytes: &[u8]) -> Result<(), PutFault>
+    // Where the writer tells what it has, that grows by the bytes, and by a front of them after a failure.
+    ensures told { OnOk result (Appends (W.contents to.old) (W.contents to.new) bytes.now) }
+    ensures part { IsErrOf result PutFault.Failed → (count : ℕ) × Appends (W.contents to.old) (W.contents to.new) (take count bytes.now) }
+    ensures memory { result ≢ Err PutFault.Memory }
+{
+    let mut rest = bytes;
+    while !rest.is_empty() {
+        match to.write(rest) {
+            Ok(n) if n > 0 => rest = &rest[n..],
+            _ => return Err(PutFault::Failed),
+        }
+    }
+    Ok(())
+}
+
 /// A writer as a sink.
 ///
-/// Each error of the writer ends the put as a failure, an interruption too, and so does a write that takes none. It
-/// doesn't flush, so give it a writer that holds nothing back, as standard output.
+/// It writes as [`write_whole`] does, and doesn't flush, so give it a writer that holds nothing back, as standard output.
 #[derive(Drop)]
 pub struct StdSink<W: Write + Drop> {
     to: W,
@@ -155,16 +198,10 @@ impl<W: Write + Drop> Sink for StdSink<W> {
         ensures told { OnOk result (Appends (W.contents self.old.0) (W.contents self.new.0) bytes.now) }
         ensures part { IsErrOf result PutFault.Failed → (count : ℕ) × Appends (W.contents self.old.0) (W.contents self.new.0) (take count bytes.now) }
     {
-        let mut rest = bytes;
-        while !rest.is_empty() {
-            match self.to.write(rest) {
-                Ok(n) if n > 0 => rest = &rest[n..],
-                _ => {
-                    self.faults = self.faults.saturating_add(1);
-                    return Err(PutFault::Failed);
-                }
-            }
+        let answer = write_whole(&mut self.to, bytes);
+        if answer.is_err() {
+            self.faults = self.faults.saturating_add(1);
         }
-        Ok(())
+        answer
     }
 }

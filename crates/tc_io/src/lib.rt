@@ -5,7 +5,7 @@
 #![tactic(auto)]
 
 ghost use Rattle.std.specs.Prelude.{◌≡◌, ◌+◌, IfOk, OnOk, IsErrOf};
-ghost use Rattle.tc_io.specs.Outside.{ShelfTells, SinkTells, Reading, Gave, FailedOnce, WasTooLong, TookAtMost, Wrote, WrotePart};
+ghost use Rattle.tc_io.specs.Outside.{ShelfTells, SinkTells, Reading, Gave, FailedOnce, WasTooLong, TookAtMost, Kept, KeptPart, Wrote, WrotePart};
 
 pub mod files;
 pub mod mem;
@@ -22,6 +22,15 @@ pub enum FetchFault {
     Failed,
     /// There were more bytes than the limit.
     TooLong,
+    /// The bytes, or the copy of the name, found no memory.
+    Memory,
+}
+
+/// Why a keep wasn't done.
+#[derive(Clone, Copy, Debug, PartialEq, Eq)]
+pub enum KeepFault {
+    /// The shelf failed, maybe after some of the bytes.
+    Failed,
     /// The bytes, or the copy of the name, found no memory.
     Memory,
 }
@@ -51,6 +60,15 @@ pub trait Shelf {
         ensures failed { IsErrOf result FetchFault.Failed → FailedOnce (tells self.old) (tells self.new) (Reading name.now) (limit + 1) }
         ensures too_long { IsErrOf result FetchFault.TooLong → WasTooLong (tells self.old) (tells self.new) name.now limit }
         ensures memory { IsErrOf result FetchFault.Memory → TookAtMost (tells self.old) (tells self.new) (limit + 1) };
+
+    /// Puts all of the bytes under a name, in place of what is there.
+    ///
+    /// Before anything else it copies the name, so that a fault always has one. A keep that failed may have begun: then
+    /// what stood under the name is gone, and a front of the bytes stands there.
+    fn keep(&mut self, alloc: Global, name: &str, bytes: &[u8]) -> Result<(), KeepFault>
+        ensures ok { OnOk result (Kept (tells self.old) (tells self.new) name.now bytes.now) }
+        ensures failed { IsErrOf result KeepFault.Failed → KeptPart (tells self.old) (tells self.new) name.now bytes.now }
+        ensures memory { IsErrOf result KeepFault.Memory → tells self.new ≡ tells self.old };
 }
 
 /// Where answers go, as standard output.

@@ -25,14 +25,14 @@ ghost use Rattle.std.specs.Prelude.{
 };
 ghost use Rattle.std.specs.FinMap as map;
 ghost use Rattle.tc_io.specs.Mem.{empty_shelf, empty_sink, empty_sure_shelf, mem_tells, sink_tells};
-ghost use Rattle.tc_io.specs.Outside.{Reading, bytes_at, counted_on, Gave, FailedOnce, WasTooLong, TookAtMost, Wrote, WrotePart};
+ghost use Rattle.tc_io.specs.Outside.{Reading, bytes_at, counted_on, put_under, Gave, FailedOnce, WasTooLong, TookAtMost, Kept, KeptPart, Wrote, WrotePart};
 ghost use Rattle.tc_io.specs.Plan.{told_at, with_call};
 
 use crate::named::NamedBytes;
-use crate::past::Past;
+use crate::past::{Call, Past};
 pub use crate::plan::Fail;
 use crate::plan::Plan;
-use crate::{FetchFault, PutFault, Shelf, Sink};
+use crate::{FetchFault, KeepFault, PutFault, Shelf, Sink};
 use std::alloc::{AllocError, Global};
 use std::marker::Model;
 
@@ -78,7 +78,7 @@ impl MemShelf {
         self.files.insert(alloc, name, bytes)
     }
 
-    /// Tells it of a fetch that is to fail. Of two for one call the first counts.
+    /// Tells it of a call that is to fail, fetches and keeps counted together. Of two for one call the first counts.
     pub fn fail(&mut self, fail: Fail) -> Result<(), AllocError>
         ensures ok { OnOk result (self.new ≡ record self.old { plan = record self.old.plan { fails = self.old.plan.fails ++ fail ∷ [] } }) }
         ensures err { OnErr result (self.new ≡ self.old) }
@@ -118,10 +118,36 @@ impl Shelf for MemShelf {
                 let there = found.map_or(0, |bytes| bytes.len());
                 let after = told.map_or(0, |after| after as u64);
                 self.past.take(after.min(taken_by(there, limit)));
-                self.past.fail(copy);
+                self.past.fail(Call::Fetch, copy);
                 Err(FetchFault::Failed)
             }
         }
+    }
+
+    fn keep(&mut self, alloc: Global, name: &str, bytes: &[u8]) -> Result<(), KeepFault>
+        ensures ok { OnOk result (Kept (mem_tells self.old) (mem_tells self.new) name.now bytes.now) }
+        ensures failed { IsErrOf result KeepFault.Failed → KeptPart (mem_tells self.old) (mem_tells self.new) name.now bytes.now }
+        ensures memory { IsErrOf result KeepFault.Memory → mem_tells self.new ≡ mem_tells self.old }
+
+        // What this shelf alone says: which keeps fail, and after how many bytes.
+        ensures told { OnOk result (told_at self.new.plan ≡ None) }
+        ensures cause { IsErrOf result KeepFault.Failed → IsSomeAnd (told_at self.new.plan)
+            (λ after. self.new.held ≡ map.insert self.old.held name.now (take after bytes.now)) }
+        ensures counted { (result ≢ Err KeepFault.Memory) → self.new.plan ≡ with_call self.old.plan }
+    {
+        let Ok(copy) = String::from_str(alloc, name) else {
+            return Err(KeepFault::Memory);
+        };
+        let told = self.plan.call();
+        let count = told.map_or(bytes.len(), |after| after.min(bytes.len()));
+        if self.files.insert(alloc, name, &bytes[..count]).is_err() {
+            return Err(KeepFault::Memory);
+        }
+        if told.is_none() {
+            return Ok(());
+        }
+        self.past.fail(Call::Keep, copy);
+        Err(KeepFault::Failed)
     }
 }
 
@@ -278,6 +304,13 @@ impl Shelf for SureShelf {
         let bytes = self.files.get(name).unwrap_or(&[]);
         self.taken = self.taken.saturating_add(taken_by(bytes.len(), limit));
         copy_within(alloc, bytes, limit)
+    }
+
+    fn keep(&mut self, alloc: Global, name: &str, bytes: &[u8]) -> Result<(), KeepFault> {
+        match self.files.insert(alloc, name, bytes) {
+            Ok(()) => Ok(()),
+            Err(_) => Err(KeepFault::Memory),
+        }
     }
 }
 

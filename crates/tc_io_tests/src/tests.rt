@@ -2,12 +2,13 @@
 ghost use Rattle.std.specs.Prelude.{◌≤◌, IfOk};
 
 use std::io::{self, ErrorKind};
+use std::os::unix::fs::symlink;
 use std::process::Abort;
 use std::rt::Files;
 use std::time::SystemTime;
 use std::{env, fs, test};
 use tc_io::files::{FileShelf, StdSink, read_up_to};
-use tc_io::{FetchFault, PutFault, Shelf, Sink};
+use tc_io::{FetchFault, KeepFault, PutFault, Shelf, Sink};
 
 /// The name and the limit of a fetch, and what it is to answer: a text, or a fault.
 type Case<'a> = (&'a str, u64, Result<&'a str, FetchFault>);
@@ -20,6 +21,18 @@ fn fetches<H: Shelf>(rt: &(impl Abort + AllocGlobal), shelf: &mut H, cases: &[Ca
             _ => false,
         };
         assert!(rt; is_wanted, "{name} within {limit}");
+    }
+}
+
+/// Keeps, each a name and a text, and what it is to answer.
+fn keeps<H: Shelf>(
+    rt: &(impl Abort + AllocGlobal),
+    shelf: &mut H,
+    cases: &[(&str, &str, Result<(), KeepFault>)],
+) {
+    for &(name, text, want) in cases {
+        let answer = shelf.keep(rt.alloc(), name, text.as_bytes());
+        assert!(rt; answer == want, "{text} under {name}");
     }
 }
 
@@ -105,10 +118,7 @@ fn fetches_file<H: Shelf>(
 #[test]
 fn real_files(rt: HostRuntime) -> Result<(), test::Fail> {
     let folder = env::temp_dir(&rt)?;
-    let now = SystemTime::now(&rt)?
-        .duration_since(SystemTime::UNIX_EPOCH)?
-        .as_nanos();
-    let name = format!(in rt.alloc(); "{}/tc_io-{now}", folder.as_str())?;
+    let name = own_path(&rt, "read")?;
     let long = format!(in rt.alloc(); "{:>10000}", "x")?;
     let mut shelf = FileShelf::new(rt.clone()?);
     for text in ["", "hello", long.as_str()] {
@@ -117,6 +127,73 @@ fn real_files(rt: HostRuntime) -> Result<(), test::Fail> {
     // a folder opens, and no byte of it can be read
     for missing in [name.as_str(), folder.as_str()] {
         fetches(&rt, &mut shelf, &[(missing, 9, Err(FetchFault::Failed))]);
+    }
+    Ok(())
+}
+
+/// The path of a file of a test's own, which isn't there.
+fn own_path(rt: &HostRuntime, what: &str) -> Result<String, test::Fail> {
+    let folder = env::temp_dir(rt)?;
+    let now = SystemTime::now(rt)?
+        .duration_since(SystemTime::UNIX_EPOCH)?
+        .as_nanos();
+    Ok(format!(in rt.alloc(); "{}/tc_io-{what}-{now}", folder.as_str())?)
+}
+
+#[test]
+fn files_are_kept(rt: HostRuntime) -> Result<(), test::Fail> {
+    let path = own_path(&rt, "kept")?;
+    let name = path.as_str();
+    let long = format!(in rt.alloc(); "{:>60000}", "x")?;
+    let mut shelf = FileShelf::new(rt.clone()?);
+    for text in ["hello", long.as_str(), "", "ab"] {
+        keeps(&rt, &mut shelf, &[(name, text, Ok(()))]);
+        fetches(&rt, &mut shelf, &[(name, 60_000, Ok(text))]);
+    }
+    fs::remove_file(&rt, name)?;
+    Ok(())
+}
+
+#[test]
+fn a_link_is_written_through(rt: HostRuntime) -> Result<(), test::Fail> {
+    let (path, link) = (own_path(&rt, "file")?, own_path(&rt, "link")?);
+    fs::write(&rt, path.as_str(), "long text")?;
+    symlink(&rt, path.as_str(), link.as_str())?;
+    let mut shelf = FileShelf::new(rt.clone()?);
+    keeps(&rt, &mut shelf, &[(link.as_str(), "short", Ok(()))]);
+    for name in [path.as_str(), link.as_str()] {
+        fetches(&rt, &mut shelf, &[(name, 9, Ok("short"))]);
+    }
+    assert!(rt;
+        fs::symlink_metadata(&rt, link.as_str())?.is_symlink(),
+        "the link stays"
+    );
+    fs::remove_file(&rt, link.as_str())?;
+    fs::remove_file(&rt, path.as_str())?;
+    Ok(())
+}
+
+#[test]
+fn files_that_can_not_be_kept(rt: HostRuntime) -> Result<(), test::Fail> {
+    let folder = env::temp_dir(&rt)?;
+    let path = own_path(&rt, "missing")?;
+    let inside = format!(in rt.alloc(); "{path}/log")?;
+    let mut shelf = FileShelf::new(rt.clone()?);
+    let failed = Err(KeepFault::Failed);
+    keeps(
+        &rt,
+        &mut shelf,
+        &[
+            (inside.as_str(), "a", failed),
+            (folder.as_str(), "a", failed),
+            ("", "a", failed),
+            // a device that is full takes no byte, and is as good as any while none is put there
+            ("/dev/full", "a", failed),
+            ("/dev/full", "", Ok(())),
+        ],
+    );
+    for missing in [path.as_str(), inside.as_str()] {
+        assert!(rt; !fs::exists(&rt, missing)?, "{missing}");
     }
     Ok(())
 }
