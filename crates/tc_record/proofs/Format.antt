@@ -1,0 +1,177 @@
+-- The log of a run that fails within its limits is of the format.
+use Rattle.std.proofs.Common.{
+  ◌≡◌,
+  ◌∙◌,
+  ◌&&◌,
+  ◌||◌,
+  ℕ,
+  zero,
+  suc,
+  ◌+◌,
+  ◌≤◌,
+  ◌^◌,
+  ℤ,
+  pos,
+  Bool,
+  true,
+  false,
+  List,
+  [],
+  ◌∷◌,
+  ◌++◌,
+  map,
+  length,
+  Option,
+  Some,
+  None,
+  IsSome,
+}
+use Rattle.std.proofs.Common.{refl, ap, sym, subst, arith}
+use Rattle.std.specs.Prelude.{slice_get, nat_lt, nat_le}
+use Rattle.std.specs.List.{list_any, list_all}
+use Rattle.std.specs.Option.{option_map_or}
+use Rattle.std.specs.FinMap as fin
+use Rattle.std.specs.Cmp.{eq_by_cmp_equiv}
+use Rattle.std.proofs.lemmas.Bool.{ltb-false, lt-ltb, le-leb}
+use Rattle.std.proofs.lemmas.Cmp.{nat_list_cmp_total}
+use Rattle.std.proofs.lemmas.List.{length_push, length-map}
+use Rattle.std.proofs.lemmas.Option.{none-some, same_Some}
+use Rattle.tc_base.specs.Names.{Name}
+use Rattle.tc_base.specs.Buffers.{BufferOps}
+use Rattle.tc_base.specs.States.{Local, Thread, State}
+use Rattle.tc_base.specs.Logs.{Path, ThreadPath}
+use Rattle.tc_base.specs.declared.request.Request.{Request}
+use Rattle.tc_base.specs.declared.request.Request.TheVariants.{Read, Exchange, CompareExchange, Fail}
+use Rattle.tc_code.specs.Instr.{Instr, Branch}
+use Rattle.tc_code.specs.Code.{Code}
+use Rattle.tc_code.specs.Step.{local_after, instr_of, request, born, is_nonzero, value_in}
+use Rattle.tc_code.specs.Run.{IsReached, path_of}
+use Rattle.path_log.specs.Texts.{is_within, is_thread}
+use Rattle.tc_runs.specs.Alone.{Alone, after_request, goes_on, after_steps, taken_from}
+use Rattle.tc_runs.proofs.After.{branch_is}
+use Rattle.tc_runs.proofs.Basics.{some_is, some_value}
+use Rattle.tc_runs.proofs.Begun.{threads_live_alone}
+use Rattle.tc_runs.proofs.Created.{reached_is_created}
+use Rattle.tc_runs.proofs.Names.{same_name}
+use Rattle.tc_record.specs.Ends.{has_many_steps}
+use Rattle.tc_record.specs.helpers.Paths.{named_path}
+use Rattle.tc_record.proofs.Ends.{IsWithin, none_passes}
+use Rattle.tc_record.proofs.Reached.{children_fit}
+
+both : {a b : Bool} → a ≡ true → b ≡ true → (a && b) ≡ true
+both {a} {b} e f = ap (λ c. c && b) e ∙ f
+
+-- A thread has no more outcomes than steps.
+
+after_outcomes : (t : Local) (i : Instr) (v : ℤ) → length (local_after t i v).outcomes ≤ length t.outcomes + 1
+after_outcomes t (Branch e to) v =
+    subst (λ (u : Local). length u.outcomes ≤ length t.outcomes + 1) (sym (branch_is t _ to)) (omega (
+      arith,
+      length_push t.outcomes (is_nonzero (value_in t e)),
+    ))
+after_outcomes t _ v = omega arith
+
+request_outcomes : (t : Local) (i : Instr) (vs : List ℤ) (r : Request) → length (after_request t i vs r).local.outcomes ≤ length t.outcomes + 1
+request_outcomes t i (v ∷ vs) (Read c) = after_outcomes t i v
+request_outcomes t i (v ∷ vs) (Exchange c w) = after_outcomes t i v
+request_outcomes t i (v ∷ vs) (CompareExchange c e w) = after_outcomes t i v
+request_outcomes t i (v ∷ vs) Fail = omega arith
+request_outcomes t i (v ∷ vs) _ = after_outcomes t i (pos 0)
+request_outcomes t i [] Fail = omega arith
+request_outcomes t i [] _ = after_outcomes t i (pos 0)
+
+one_outcomes : (a : Alone) (o : Option Instr)
+    → length (option_map_or (λ i. after_request a.local i a.values (request a.local i)) o a).local.outcomes ≤ length a.local.outcomes + 1
+one_outcomes a None = omega arith
+one_outcomes a (Some i) = request_outcomes a.local i a.values (request a.local i)
+
+steps_outcomes : (code : Code) (k : ℕ) (a : Alone) → length (after_steps code k a).local.outcomes ≤ length a.local.outcomes + k
+steps_outcomes code zero a = omega arith
+steps_outcomes code (suc k) a = omega (arith, one_outcomes a (instr_of code a.local), steps_outcomes code k (goes_on code a))
+
+-- Names.
+
+all_push : (p : ℕ → Bool) (xs : List ℕ) (x : ℕ) → list_all p xs ≡ true → p x ≡ true → list_all p (xs ++ x ∷ []) ≡ true
+all_push p [] x h k = both k refl
+all_push p (y ∷ ys) x h k = both (first (p y) _ h) (all_push p ys x (second (p y) _ h) k)
+  where
+    first : (a b : Bool) → (a && b) ≡ true → a ≡ true
+    first true b h = refl
+    first false b h = h
+
+    second : (a b : Bool) → (a && b) ≡ true → b ≡ true
+    second true b h = h
+    second false b h = absurd cc
+
+all_map : {X : Type 0} (p : ThreadPath → Bool) (f : X → ThreadPath) (xs : List X)
+    → ((i : ℕ) (x : X) → slice_get xs i ≡ Some x → p (f x) ≡ true) → list_all p (map f xs) ≡ true
+all_map p f [] h = refl
+all_map p f (x ∷ xs) h = both (h 0 x refl) (all_map p f xs (λ i y e. h (suc i) y e))
+
+some_passes : {X : Type 0} (p : X → Bool) (xs : List X) (i : ℕ) (x : X) → slice_get xs i ≡ Some x → p x ≡ true → list_any p xs ≡ true
+some_passes p [] i x e h = absurd (none-some x e)
+some_passes p (y ∷ ys) zero x e h = ap (λ b. b || list_any p ys) (subst (λ z. p z ≡ true) (sym (same_Some y x e)) h)
+some_passes p (y ∷ ys) (suc i) x e h = or_true (p y) (list_any p ys) (some_passes p ys i x e h)
+  where
+    or_true : (a b : Bool) → b ≡ true → (a || b) ≡ true
+    or_true true b h = refl
+    or_true false b h = h
+
+module _ {B : Type 0} (ops : BufferOps B) (code : Code) (s : State B) (r : IsReached ops code s) where
+  outcomes_fit : (n : Name) (t : Thread B) → fin.get s.threads n ≡ Some t → length t.local.outcomes ≤ t.local.steps
+  outcomes_fit n t there =
+      let alone = threads_live_alone ops code r.moves s n t r.leads there in
+      let b = alone.0 in
+      let start : Alone = record { local = (born ops code b.function b.arguments).local; values = taken_from ops code b.state n b.rest } in
+      let most = steps_outcomes code t.local.steps start in
+      omega (arith, ap (λ (u : Local). length u.outcomes) alone.1, most)
+
+  -- the threads are at most 16
+  abbrev Few : Type 0
+  Few = fin.len s.threads ≤ 16
+
+  -- the numbers of a thread's name are those of creates
+  numbers_fit : Few → (k : ℕ) (n : Name) → length n ≤ k → IsSome (fin.get s.threads n) → list_all (is_within 1 255) n ≡ true
+  numbers_fit few k [] short there = refl
+  numbers_fit few zero (a ∷ n) short there = absurd (omega (arith, short))
+  numbers_fit few (suc k) (a ∷ n) short there =
+      let c = (reached_is_created ops code s r).is_created (a ∷ n) there (λ e. omega (arith, ap length e)) in
+      let fits = children_fit ops code s r c.parent c.thread c.there in
+      let shorter : length c.parent ≤ k = omega (arith, short, ap length c.name, length_push c.parent c.number) in
+      let parent = numbers_fit few k c.parent shorter (some_is _ c.thread c.there) in
+      let low = le-leb 1 c.number c.created.first in
+      let high = le-leb c.number 255 (omega (arith, c.created.last, fits, few)) in
+      subst (λ m. list_all (is_within 1 255) m ≡ true) (sym c.name) (all_push (is_within 1 255) c.parent c.number parent (both low high))
+
+  -- the path of a thread that is there has a text
+  thread_fits : Few → (n : Name) (t : Thread B) → fin.get s.threads n ≡ Some t → nat_lt 8 (length n) ≡ false → has_many_steps s n ≡ false
+      → is_thread (named_path s n) ≡ true
+  thread_fits few n t there depth steps =
+      let short = ltb-false 8 (length n) depth in
+      let numbers = numbers_fit few (length n) n (omega arith) (some_is _ t there) in
+      let most : t.local.steps ≤ 65535 =
+      ltb-false 65535 t.local.steps (sym (ap (λ (o : Option (Thread B)). option_map_or (λ u. nat_lt 65535 u.local.steps) o false) there) ∙ steps) in
+      let own = outcomes_fit n t there in
+      let fits : nat_lt t.local.steps (2 ^ 16) && nat_lt (length t.local.outcomes) (2 ^ 16) ≡ true =
+      both (lt-ltb t.local.steps (2 ^ 16) (omega (arith, most))) (lt-ltb (length t.local.outcomes) (2 ^ 16) (omega (arith, own, most))) in
+      both (both (le-leb (length n) 255 (omega (arith, short))) numbers)
+      (subst (λ (p : Path). (nat_lt p.steps (2 ^ 16) && nat_lt (length p.outcomes) (2 ^ 16)) ≡ true)
+      (sym (ap (λ (o : Option (Thread B)). option_map_or path_of o (record { outcomes = []; steps = 0 })) there)) fits)
+
+  -- a name that is listed is of a thread
+  listed_there : (i : ℕ) (n : Name) → slice_get (fin.keys s.threads) i ≡ Some n → IsSome (fin.get s.threads n)
+  listed_there i n e =
+      fin.contains_key-keys s.threads n ∙ some_passes (same_name n) (fin.keys s.threads) i n e ((eq_by_cmp_equiv nat_list_cmp_total).refl n)
+
+  -- the log of the state is of the format
+  pub of_format : IsWithin s → (threads : List ThreadPath) → threads ≡ map (named_path s) (fin.keys s.threads)
+      → (nat_le (length threads) 255 && list_all is_thread threads) ≡ true
+  of_format within threads is =
+      let count = ltb-false 16 (length (fin.keys s.threads)) within.threads in
+      let few : Few = omega (arith, count, fin.len-entries s.threads, length-map (fin.entries s.threads) (λ e. e.0)) in
+      let paths : list_all is_thread (map (named_path s) (fin.keys s.threads)) ≡ true = all_map is_thread (named_path s) (fin.keys s.threads) (λ i n e.
+      let t = some_value (fin.get s.threads n) (listed_there i n e) in
+      thread_fits few n t.0 t.1 (none_passes _ (fin.keys s.threads) i n within.depth e) (none_passes _ (fin.keys s.threads) i n within.steps e)) in
+      both (subst (λ (ts : List ThreadPath). nat_le (length ts) 255 ≡ true) (sym is)
+      (le-leb _ 255 (omega (arith, count, length-map (fin.keys s.threads) (named_path s)))))
+      (subst (λ (ts : List ThreadPath). list_all is_thread ts ≡ true) (sym is) paths)

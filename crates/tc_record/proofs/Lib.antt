@@ -1,0 +1,5 @@
+pub mod Ends
+pub mod Format
+pub mod Paths
+pub mod Reached
+pub mod Runs

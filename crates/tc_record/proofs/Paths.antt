@@ -1,0 +1,184 @@
+-- The paths of a state's threads are those of its log.
+use Rattle.std.proofs.Common.{◌≡◌, ◌∙◌, ◌&&◌, ◌||◌, ℕ, zero, suc, Bool, true, false, cond, T, List, [], ◌∷◌, map, Option, Some, None, refl, ap, sym, subst}
+use Rattle.std.proofs.Common.{◌<◌, ◌≤◌, IsSome, inl, inr, length, true≢false, arith}
+use Rattle.std.proofs.lemmas.Bool.{lt-ltb}
+use Rattle.std.proofs.lemmas.Option.{slice_get_within, slice_get_read}
+use Rattle.std.proofs.lemmas.Cmp.{nat_list_cmp_total}
+use Rattle.std.specs.Cmp.{eq_by_cmp_equiv}
+use Rattle.std.specs.Option.{option_map_or, IsSomeAnd}
+use Rattle.std.specs.Prelude.{slice_get, slice_index_or, option_map, is_some, bytes_eq, nat_lt}
+use Rattle.std.specs.List.{list_any}
+use Rattle.std.specs.Ordering.{nat_cmp, is_lt}
+use Rattle.std.specs.Cmp.Lexicographic.{slice_cmp}
+use Rattle.std.specs.FinMap as fin
+use Rattle.std.specs.FinMap.Entries.{below_all}
+use Rattle.std.proofs.lemmas.Map.Text.{is_eq-slice_cmp}
+use Rattle.tc_base.specs.Names.{Name}
+use Rattle.tc_base.specs.States.{Thread, State}
+use Rattle.tc_base.specs.Logs.{Path, ThreadPath, failing_of, path_under}
+use Rattle.tc_base.specs.declared.model.Model.{Model}
+use Rattle.tc_base.specs.Buffers.{BufferOps}
+use Rattle.tc_base.specs.declared.moves.Move.{Move}
+use Rattle.tc_code.specs.Code.{Code}
+use Rattle.tc_code.specs.Run.{path_of, path_in, run, Reproduces}
+use Rattle.path_log.specs.Texts.{StoredLog, is_above, rises_from, is_log}
+use Rattle.tc_runs.proofs.Names.{same_name, tells_names}
+use Rattle.tc_record.specs.Logged.{IsLogOf}
+use Rattle.tc_record.specs.helpers.Paths.{path_at, named_path, FailsThere}
+
+-- a name's place among names, and in the list of their paths
+pub slice_get-map : {X Y : Type 0} (f : X → Y) (xs : List X) (i : ℕ) → slice_get (map f xs) i ≡ option_map f (slice_get xs i)
+slice_get-map f [] i = refl
+slice_get-map f (x ∷ xs) zero = refl
+slice_get-map f (x ∷ xs) (suc i) = slice_get-map f xs i
+
+first_T : (a b : Bool) → T (a && b) → T a
+first_T true b h = tt
+first_T false b h = absurd h
+
+second_T : (a b : Bool) → T (a && b) → T b
+second_T true b h = h
+second_T false b h = absurd h
+
+both_true : (a b : Bool) → T a → b ≡ true → (a && b) ≡ true
+both_true true b h e = e
+both_true false b h e = absurd h
+
+module _ {X : Type 0} (f : Name → ThreadPath) (named : (n : Name) → (f n).name ≡ n) where
+  abbrev names_of : List (Name × X) → List Name
+  names_of es = map (λ e. e.0) es
+
+  -- the paths of names that rise above one rise above it
+  rise_above : (last : Name) (es : List (Name × X)) → T (below_all (slice_cmp nat_cmp) last es) → T (fin.is_sorted (slice_cmp nat_cmp) es)
+      → rises_from (Some last) (map f (names_of es)) ≡ true
+  rise_above last [] below sorted = refl
+  rise_above last (e ∷ es) below sorted =
+      both_true (is_above (Some last) (f e.0).name) _
+      (subst (λ n. T (is_lt (slice_cmp nat_cmp last n))) (sym (named e.0)) (first_T _ _ below))
+      (subst (λ n. rises_from (Some n) (map f (names_of es)) ≡ true) (sym (named e.0)) (rise_above e.0 es (first_T _ _ sorted) (second_T _ _ sorted)))
+
+  rise : (es : List (Name × X)) → T (fin.is_sorted (slice_cmp nat_cmp) es) → rises_from None (map f (names_of es)) ≡ true
+  rise [] sorted = refl
+  rise (e ∷ es) sorted =
+      subst (λ n. rises_from (Some n) (map f (names_of es)) ≡ true) (sym (named e.0)) (rise_above e.0 es (first_T _ _ sorted) (second_T _ _ sorted))
+
+-- under a name that is among some stands its path, and under another none
+under_names : (p : Name → Path) (n : Name) (names : List Name)
+    → path_under n (map (λ k. let t : ThreadPath = record { name = k; path = p k } in t) names) ≡ cond (list_any (same_name n) names) (Some (p n)) None
+under_names p n [] = refl
+under_names p n (k ∷ names) =
+    let rest = path_under n (map (λ k. let t : ThreadPath = record { name = k; path = p k } in t) names) in
+    let any = list_any (same_name n) names in
+    ap (λ b. cond b (Some (p k)) rest) (sym (is_eq-slice_cmp n k)) ∙ elim (tells_names n k) [
+      | inl e ↦ ap (λ b. cond b (Some (p k)) rest) e.0 ∙ ap (λ m. Some (p m)) (sym e.1) ∙ sym (ap (λ b. cond (b || any) (Some (p n)) None) e.0)
+      | inr e ↦ ap (λ b. cond b (Some (p k)) rest) e.0 ∙ under_names p n names ∙ sym (ap (λ b. cond (b || any) (Some (p n)) None) e.0)
+    ]
+
+-- a thread that is there has its own path
+own_path : {B : Type 0} (o : Option (Thread B)) (d : Path) → option_map path_of o ≡ cond (is_some o) (Some (option_map_or path_of o d)) None
+own_path None d = refl
+own_path (Some t) d = refl
+
+both : {a b : Bool} → a ≡ true → b ≡ true → (a && b) ≡ true
+both {a} {b} e f = ap (λ c. c && b) e ∙ f
+
+-- a place at which there is something is below the length
+below : {X : Type 0} (xs : List X) (i : ℕ) (o : Option X) → slice_get xs i ≡ o → IsSome o → nat_lt i (length xs) ≡ true
+below xs i None e some = absurd (true≢false (sym some))
+below xs i (Some x) e some = lt-ltb i (length xs) (slice_get_within xs i x e)
+
+-- a name is told by its numbers
+same_numbers : (m n : Name) → bytes_eq m n ≡ true → m ≡ n
+same_numbers m n h = elim (tells_names m n) [
+  | inl e ↦ e.1
+  | inr e ↦ absurd (true≢false (sym h ∙ sym (is_eq-slice_cmp m n) ∙ e.0))
+]
+
+other_numbers : (m n : Name) → bytes_eq m n ≡ false → same_name n m ≡ false
+other_numbers m n h = elim (tells_names n m) [
+  | inl e ↦ absurd (true≢false (sym ((eq_by_cmp_equiv nat_list_cmp_total).refl m) ∙ is_eq-slice_cmp m m ∙ subst (λ k. bytes_eq m k ≡ false) e.1 h))
+  | inr e ↦ e.0
+]
+
+-- a name that was found stands at its place
+pub found_at : (names : List Name) (i : ℕ) (n item : Name) (o : Option Name) → i < length names → item ≡ slice_index_or names i item → bytes_eq item n ≡ true
+    → o ≡ Some n → slice_get names i ≡ o
+found_at names i n item o lt is same some =
+    slice_get_read names (length names) i item refl lt is ∙ ap (λ m. Some m) (same_numbers item n same) ∙ sym some
+
+none_same : (n : Name) (names : List Name) → ((k : ℕ) → k < length names → bytes_eq (slice_index_or names k []) n ≡ false) →
+    list_any (same_name n) names ≡ false
+none_same n [] h = refl
+none_same n (m ∷ names) h =
+    ap (λ b. b || list_any (same_name n) names) (other_numbers m n (h 0 (omega arith))) ∙ none_same n names (λ k lt. h (suc k) (omega (arith, lt)))
+
+-- a thread that is there is found
+pub is_found : {B : Type 0} (s : State B) (n : Name) (names : List Name) (i : ℕ) → FailsThere s → s.failed ≡ Some n → names ≡ fin.keys s.threads
+    → length names ≤ i → ((k : ℕ) → k < i → bytes_eq (slice_index_or names k []) n ≡ false) → ⊥
+is_found s n names i there fails are all none =
+    let some : IsSome (fin.get s.threads n) = subst (λ o. IsSomeAnd o (λ m. IsSome (fin.get s.threads m))) fails there in
+    true≢false (sym some ∙ fin.contains_key-keys s.threads n ∙ ap (list_any (same_name n)) (sym are)
+    ∙ none_same n names (λ k lt. none k (omega (arith, lt, all))))
+
+module _ {B : Type 0} (s : State B) where
+  -- the paths rise by their names
+  pub paths_rise : rises_from None (map (named_path s) (fin.keys s.threads)) ≡ true
+  paths_rise = rise (named_path s) (λ n. refl) (fin.entries s.threads) (fin.entries_sorted s.threads)
+
+  -- and each is that of its name
+  pub paths_same : (n : Name) → path_in s n ≡ path_under n (map (named_path s) (fin.keys s.threads))
+  paths_same n =
+      own_path (fin.get s.threads n) _
+      ∙ ap (λ b. cond b (Some (path_at s n)) None) (fin.contains_key-keys s.threads n)
+      ∙ sym (under_names (path_at s) n (fin.keys s.threads))
+
+  -- where a name stands among the threads, its path stands among theirs
+  pub failing_same : (model : Model) (i : ℕ) → slice_get (fin.keys s.threads) i ≡ s.failed
+      → failing_of (record { model = model; failing = i; threads = map (named_path s) (fin.keys s.threads) }) ≡ s.failed
+  failing_same model i e =
+      ap (option_map (λ (t : ThreadPath). t.name)) (slice_get-map (named_path s) (fin.keys s.threads) i)
+      ∙ own_name (slice_get (fin.keys s.threads) i) ∙ e
+    where
+      own_name : (o : Option Name) → option_map (λ (t : ThreadPath). t.name) (option_map (named_path s) o) ≡ o
+      own_name None = refl
+      own_name (Some n) = refl
+
+  -- so that is a log
+  pub is_log_there : (model : Model) (i : ℕ) (threads : List ThreadPath) → IsSome s.failed → slice_get (fin.keys s.threads) i ≡ s.failed
+      → threads ≡ map (named_path s) (fin.keys s.threads) → is_log (record { model = model; failing = i; threads = threads }) ≡ true
+  is_log_there model i threads some e is =
+      let there = slice_get-map (named_path s) (fin.keys s.threads) i ∙ ap (option_map (named_path s)) e in
+      subst (λ (ts : List ThreadPath). is_log (record { model = model; failing = i; threads = ts }) ≡ true) (sym is)
+      (both paths_rise (below _ i _ there (mapped s.failed some)))
+    where
+      mapped : (o : Option Name) → IsSome o → IsSome (option_map (named_path s) o)
+      mapped None h = h
+      mapped (Some n) h = refl
+
+  -- and it is the state's
+  pub log_there : (under : Model) (stored : StoredLog) (model : Model) (i : ℕ) (threads : List ThreadPath)
+      → stored ≡ record { digest = None; log = record { model = model; failing = i; threads = threads } } → model ≡ under
+      → slice_get (fin.keys s.threads) i ≡ s.failed → threads ≡ map (named_path s) (fin.keys s.threads) → IsLogOf under s stored
+  log_there under stored model i threads e same fails is =
+      subst (IsLogOf under s) (sym e) (record {
+        digest = refl;
+        model = same;
+        failing =
+            ap (λ (ts : List ThreadPath). failing_of (record { model = model; failing = i; threads = ts })) is
+            ∙ failing_same model i fails;
+        paths = λ n. paths_same n ∙ sym (ap (path_under n) is);
+      })
+
+-- moves that led to a state in which a thread has failed reproduce its log
+pub reproduced : {B : Type 0} (ops : BufferOps B) (code : Code) (s : State B) (under : Model) (stored : StoredLog) (moves : List Move)
+    → run ops code moves ≡ Some s → IsSome s.failed → IsLogOf under s stored → Reproduces ops code stored.log moves
+reproduced ops code s under stored moves leads some is = record {
+  state = s;
+  leads = leads;
+  failing = subst (λ o. IsSomeAnd o (λ n. s.failed ≡ Some n)) (sym is.failing) (itself s.failed some);
+  paths = is.paths;
+}
+  where
+    itself : (o : Option Name) → IsSome o → IsSomeAnd o (λ n. o ≡ Some n)
+    itself None h = absurd (true≢false (sym h))
+    itself (Some n) h = refl

@@ -1,0 +1,146 @@
+-- Seeded runs, turn by turn.
+use Rattle.std.proofs.Common.{◌≡◌, ◌∙◌, ◌&&◌, ℕ, zero, suc, ◌+◌, ◌-◌, ◌<◌, ◌%◌, Bool, true, false, cond, List, [], ◌∷◌, ◌++◌, length, append_assoc, append-nil}
+use Rattle.std.proofs.Common.{Option, Some, None, IsSome, refl, ap, sym, subst, arith}
+use Rattle.std.specs.Prelude.{slice_get, slice_index_or}
+use Rattle.std.specs.List.{filter, flat_map, list_all}
+use Rattle.std.specs.Option.{option_map_or}
+use Rattle.std.proofs.lemmas.Bool.{and_parts}
+use Rattle.std.proofs.lemmas.Nat.{mod_below}
+use Rattle.std.proofs.lemmas.Option.{none-some, same_Some, slice_get_read}
+use Rattle.std.specs.FinMap as fin
+use Rattle.rand_core.specs.Steps.{stream_of, first_words}
+use Rattle.rand_core.specs.Stream.{Stream, next_u64}
+use Rattle.rand_core.proofs.StepsLemmas.{next_u64-stream_of}
+use Rattle.rand_xoshiro.specs.SplitMix64.{mix_u64, splitmix_steps}
+use Rattle.tc_base.specs.Buffers.{BufferOps}
+use Rattle.tc_base.specs.States.{State}
+use Rattle.tc_base.specs.declared.moves.Move.{Move}
+use Rattle.tc_code.specs.Code.{Code}
+use Rattle.tc_code.specs.Step.{step, opening}
+use Rattle.tc_machine.specs.Moves.{is_enabled, steps_of, drains_of, moves_of, enabled_moves}
+use Rattle.tc_record.specs.declared.end.End.{End}
+use Rattle.tc_record.specs.declared.end.End.TheVariants as end
+use Rattle.tc_record.specs.Ends.{end_at, end_without_moves}
+use Rattle.tc_record.specs.Seeded.{Ended, ended, behind, chosen, making, seeded_from, seeded_run}
+use Rattle.tc_record.specs.helpers.Turns.{IsTurn}
+
+-- Words.
+
+-- the next words of a stream
+abbrev pub words : ℕ → Stream → List ℕ
+words zero s = []
+words (suc k) s = (next_u64 s).0 ∷ words k (next_u64 s).1
+
+-- those of SplitMix64 are the words of its state
+pub words_of_seed : (k seed : ℕ) → words k (stream_of splitmix_steps seed) ≡ first_words mix_u64 k seed
+unfolding first_words
+words_of_seed zero seed = refl
+words_of_seed (suc k) seed =
+    ap (λ (p : ℕ × Stream). p.0 ∷ words k p.1) (next_u64-stream_of splitmix_steps seed)
+    ∙ ap (λ ws. (mix_u64 seed).0 ∷ ws) (words_of_seed k (mix_u64 seed).1)
+
+-- Moves that are listed are enabled.
+
+listed_filter : (p : Move → Bool) (ms : List Move) → list_all p (filter p ms) ≡ true
+listed_filter p [] = refl
+listed_filter p (m ∷ ms) = passing (p m) refl (listed_filter p ms)
+  where
+    passing : (b : Bool) → p m ≡ b → list_all p (filter p ms) ≡ true → list_all p (cond b (m ∷ filter p ms) (filter p ms)) ≡ true
+    passing true e h = ap (λ b. b && list_all p (filter p ms)) e ∙ h
+    passing false e h = h
+
+listed_both : (p : Move → Bool) (xs ys : List Move) → list_all p xs ≡ true → list_all p ys ≡ true → list_all p (xs ++ ys) ≡ true
+listed_both p [] ys h k = k
+listed_both p (x ∷ xs) ys h k =
+    let parts = and_parts (p x) (list_all p xs) h in
+    ap (λ b. b && list_all p (xs ++ ys)) parts.0 ∙ listed_both p xs ys parts.1 k
+
+listed_all : {X : Type 0} (p : Move → Bool) (f : X → List Move) (xs : List X) → ((x : X) → list_all p (f x) ≡ true) → list_all p (flat_map f xs) ≡ true
+listed_all p f [] h = refl
+listed_all p f (x ∷ xs) h = listed_both p (f x) (flat_map f xs) (h x) (listed_all p f xs h)
+
+listed_at : (p : Move → Bool) (ms : List Move) (i : ℕ) (m : Move) → list_all p ms ≡ true → slice_get ms i ≡ Some m → p m ≡ true
+listed_at p [] i m h e = absurd (none-some m e)
+listed_at p (x ∷ ms) zero m h e = subst (λ y. p y ≡ true) (same_Some x m e) (and_parts (p x) (list_all p ms) h).0
+listed_at p (x ∷ ms) (suc i) m h e = listed_at p ms i m (and_parts (p x) (list_all p ms) h).1 e
+
+-- Ended runs.
+
+module _ {B : Type 0} where
+  pub behind_ended : (ms : List Move) (s : State B) (e : End) → behind ms (ended s e) ≡ record { moves = ms; state = s; end = e }
+  behind_ended ms s e = ap (λ xs. let r : Ended B = record { moves = xs; state = s; end = e } in r) (append-nil ms)
+
+  behind_twice : (ms : List Move) (m : Move) (r : Ended B) → behind ms (behind (m ∷ []) r) ≡ behind (ms ++ m ∷ []) r
+  behind_twice ms m r = ap (λ xs. let q : Ended B = record { moves = xs; state = r.state; end = r.end } in q) (sym (append_assoc ms (m ∷ []) r.moves))
+
+  behind_either : (ms : List Move) (u : State B) (o : Option End) (r : Ended B)
+      → behind ms (option_map_or (ended u) o r) ≡ option_map_or (λ e. behind ms (ended u e)) o (behind ms r)
+  behind_either ms u None r = refl
+  behind_either ms u (Some e) r = refl
+
+module _ {B : Type 0} (ops : BufferOps B) (code : Code) where
+  -- a move that is listed is enabled
+  pub listed_is_enabled : (s : State B) (i : ℕ) (m : Move) → slice_get (enabled_moves ops code s) i ≡ Some m → IsSome (step ops code s m)
+  listed_is_enabled s i m e =
+      listed_at (is_enabled ops code s) (enabled_moves ops code s) i m
+      (listed_all (is_enabled ops code s) (moves_of ops code s) (fin.keys s.threads) (λ n. listed_filter (is_enabled ops code s) (steps_of ops code s n
+      ++ drains_of ops code s n))) e
+
+  -- the move at the place that a word gives is the chosen one
+  pub picked : (s : State B) (items : List Move) (i word : ℕ) (m : Move) → items ≡ enabled_moves ops code s → i ≡ word % length items → 0 < length items
+      → m ≡ slice_index_or items i m → chosen ops code s word ≡ Some m
+  picked s items i word m listed place some is =
+      subst (λ ms. slice_get ms (word % length ms) ≡ Some m) listed
+      (subst (λ k. slice_get items k ≡ Some m) place
+      (slice_get_read items (length items) i m refl (subst (λ k. k < length items) (sym place) (mod_below word (length items) some)) is))
+
+  -- and it is enabled
+  pub picked_is_enabled : (s : State B) (items : List Move) (i word : ℕ) (m : Move) → items ≡ enabled_moves ops code s → i ≡ word % length items
+      → 0 < length items → m ≡ slice_index_or items i m → IsSome (step ops code s m)
+  picked_is_enabled s items i word m listed place some is = listed_is_enabled s _ m (picked s items i word m listed place some is)
+
+  -- a turn in which no move is enabled
+  pub turn_without_moves : (s : State B) (before : List Move) (word : ℕ) → enabled_moves ops code s ≡ []
+      → IsTurn ops code s s before before word (Some (end_without_moves s))
+  turn_without_moves s before word none rest =
+      ap (λ (o : Option Move). behind before (option_map_or (making ops code s (λ u. seeded_from ops code u rest)) o (ended s (end_without_moves s))))
+      (ap (λ ms. slice_get ms (word % length ms)) none)
+
+  -- a turn in which a move is made
+  pub turn_with_move : (s u : State B) (before after : List Move) (word : ℕ) (m : Move) (e : Option End) → chosen ops code s word ≡ Some m
+      → step ops code s m ≡ Some u → after ≡ before ++ m ∷ [] → end_at u ≡ e → IsTurn ops code s u before after word e
+  turn_with_move s u before after word m e picks steps more ends rest =
+      let on : State B → Ended B = λ v. seeded_from ops code v rest in
+      ap (λ (o : Option Move). behind before (option_map_or (making ops code s on) o (ended s (end_without_moves s)))) picks
+      ∙ ap (λ (o : Option (State B)). behind before (option_map_or (λ v. behind (m
+      ∷ []) (option_map_or (ended v) (end_at v) (on v))) o (ended s end.StepLimit))) steps
+      ∙ behind_twice before m (option_map_or (ended u) (end_at u) (on u))
+      ∙ ap (λ ms. behind ms (option_map_or (ended u) (end_at u) (on u))) (sym more)
+      ∙ ap (λ o. behind after (option_map_or (ended u) o (on u))) ends
+      ∙ behind_either after u e (on u)
+
+  -- the run of a seed begins with the words of its generator
+  pub begins : (s : State B) (rng seed steps : ℕ) → s ≡ opening ops code → rng ≡ seed
+      → behind [] (seeded_from ops code s (words (steps - 0) (stream_of splitmix_steps rng))) ≡ seeded_run ops code seed steps
+  begins s rng seed steps first same =
+      let none : steps - 0 ≡ steps = omega arith in
+      ap (λ (u : State B). behind [] (seeded_from ops code u (words (steps - 0) (stream_of splitmix_steps rng)))) first
+      ∙ ap (λ n. seeded_from ops code (opening ops code) (words (steps - 0) (stream_of splitmix_steps n))) same
+      ∙ ap (λ k. seeded_from ops code (opening ops code) (words k (stream_of splitmix_steps seed))) none
+      ∙ ap (seeded_from ops code (opening ops code)) (words_of_seed steps seed)
+
+  module _ (s u : State B) (before after : List Move) (word : ℕ) (old new : Stream) (i steps : ℕ) (whole : Ended B) (some : i < steps)
+      (gives : (word, new) ≡ next_u64 old) (so_far : behind before (seeded_from ops code s (words (steps - i) old)) ≡ whole) where
+    this_turn : behind before (seeded_from ops code s (word ∷ words (steps - (i + 1)) new)) ≡ whole
+    this_turn =
+        let one : steps - i ≡ suc (steps - (i + 1)) = omega (arith, some) in
+        ap (λ (p : ℕ × Stream). behind before (seeded_from ops code s (p.0 ∷ words (steps - (i + 1)) p.1))) gives
+        ∙ ap (λ k. behind before (seeded_from ops code s (words k old))) (sym one) ∙ so_far
+
+    -- after a turn that doesn't end the run it goes on
+    pub goes_on : IsTurn ops code s u before after word None → behind after (seeded_from ops code u (words (steps - (i + 1)) new)) ≡ whole
+    goes_on turn = sym (turn (words (steps - (i + 1)) new)) ∙ this_turn
+
+    -- a turn that ends the run
+    pub ends_so : (e : End) → IsTurn ops code s u before after word (Some e) → record { moves = after; state = u; end = e } ≡ whole
+    ends_so e turn = sym (behind_ended after u e) ∙ sym (turn (words (steps - (i + 1)) new)) ∙ this_turn

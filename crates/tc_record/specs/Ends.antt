@@ -1,0 +1,51 @@
+-- What ends a run.
+use Rattle.std.specs.Prelude.{ℕ, Bool, false, nat_lt, is_some, length, Option, Some, None, if◌then◌else◌}
+use Rattle.std.specs.List.{list_any, list_all}
+use Rattle.std.specs.Option.{option_map_or}
+use Rattle.std.specs.FinMap as fin
+use Rattle.tc_base.specs.Names.{Name}
+use Rattle.tc_base.specs.States.{Local, State}
+use Rattle.tc_record.specs.declared.end.Which.{Which}
+use Rattle.tc_record.specs.declared.end.Which.TheVariants.{Threads, Depth, Steps}
+use Rattle.tc_record.specs.declared.end.End.{End}
+use Rattle.tc_record.specs.declared.end.End.TheVariants.{Over, Failed, Finished, Deadlock}
+
+-- the most that a run may have
+abbrev pub limit_of : Which → ℕ
+limit_of Threads = 16
+limit_of Depth = 8
+limit_of Steps = 65535
+
+module _ {B : Type 0} (s : State B) where
+  -- what the thread of a name has to itself passes a test
+  abbrev pub passes : (Local → Bool) → Name → Bool
+  passes test n = option_map_or (λ t. test t.local) (fin.get s.threads n) false
+
+  abbrev pub has_many_steps : Name → Bool
+  has_many_steps n = passes (λ t. nat_lt (limit_of Steps) t.steps) n
+
+  abbrev pub has_exited : Name → Bool
+  has_exited n = passes (λ t. t.has_exited) n
+
+  -- more creates than may lead from main to some thread
+  abbrev pub some_is_deep : Bool
+  some_is_deep = list_any (λ n. nat_lt (limit_of Depth) (length n)) (fin.keys s.threads)
+
+  abbrev pub some_has_many_steps : Bool
+  some_has_many_steps = list_any has_many_steps (fin.keys s.threads)
+
+  abbrev pub all_have_exited : Bool
+  all_have_exited = list_all has_exited (fin.keys s.threads)
+
+  -- after a move: the first test that stands
+  abbrev pub end_at : Option End
+  end_at =
+      if nat_lt (limit_of Threads) (length (fin.keys s.threads)) then Some (Over Threads)
+      else if some_is_deep then Some (Over Depth)
+      else if some_has_many_steps then Some (Over Steps)
+      else if is_some s.failed then Some Failed
+      else None
+
+  -- where no move is enabled
+  abbrev pub end_without_moves : End
+  end_without_moves = if all_have_exited then Finished else Deadlock

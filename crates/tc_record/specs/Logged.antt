@@ -1,0 +1,15 @@
+-- Logs of states.
+use Rattle.std.specs.Prelude.{◌≡◌, None}
+use Rattle.tc_base.specs.Names.{Name}
+use Rattle.tc_base.specs.States.{State}
+use Rattle.tc_base.specs.Logs.{failing_of, path_under}
+use Rattle.tc_base.specs.declared.model.Model.{Model}
+use Rattle.tc_code.specs.Run.{path_in}
+use Rattle.path_log.specs.Texts.{StoredLog}
+
+-- the log has the thread that failed and the path of each thread, and it names no program
+pub record IsLogOf {B : Type 0} (under : Model) (s : State B) (stored : StoredLog) : Type 0 where
+  pub digest : stored.digest ≡ None
+  pub model : stored.log.model ≡ under
+  pub failing : failing_of stored.log ≡ s.failed
+  pub paths : (n : Name) → path_in s n ≡ path_under n stored.log.threads

@@ -1,0 +1,67 @@
+-- Seeded runs: each word of a generator chooses a move, until a test ends the run.
+use Rattle.std.specs.Prelude.{◌≡◌, ℕ, ◌+◌, ◌%◌, List, [], ◌∷◌, ◌++◌, length, slice_get, Option, Result, Ok, Err}
+use Rattle.std.specs.Option.{option_map_or}
+use Rattle.rand_core.specs.Steps.{first_words}
+use Rattle.rand_xoshiro.specs.SplitMix64.{mix_u64}
+use Rattle.tc_base.specs.Buffers.{BufferOps}
+use Rattle.tc_base.specs.States.{State}
+use Rattle.tc_base.specs.declared.model.Model.{Model}
+use Rattle.tc_base.specs.declared.moves.Move.{Move}
+use Rattle.tc_code.specs.Code.{Code}
+use Rattle.tc_code.specs.Step.{step, opening}
+use Rattle.path_log.specs.Texts.{StoredLog}
+use Rattle.tc_machine.specs.Moves.{enabled_moves}
+use Rattle.tc_record.specs.declared.end.End.{End}
+use Rattle.tc_record.specs.declared.end.End.TheVariants as end
+use Rattle.tc_record.specs.declared.seeded.Seeded.{Seeded}
+use Rattle.tc_record.specs.declared.seeded.Seeded.TheVariants.{Failed, Finished, Deadlock, StepLimit}
+use Rattle.tc_record.specs.declared.seeded.SeededFault.{SeededFault}
+use Rattle.tc_record.specs.declared.seeded.SeededFault.TheVariants.{Limit, Memory}
+use Rattle.tc_record.specs.Ends.{limit_of, end_at, end_without_moves}
+use Rattle.tc_record.specs.Logged.{IsLogOf}
+
+-- a run that ended: its moves, the state that they led to, and what ended it
+pub record Ended (B : Type 0) : Type 0 where
+  pub moves : List Move
+  pub state : State B
+  pub end : End
+
+-- it ends at a state, before any move
+abbrev pub ended : {B : Type 0} → State B → End → Ended B
+ended s e = record { moves = []; state = s; end = e }
+
+-- some moves more, before its own
+abbrev pub behind : {B : Type 0} → List Move → Ended B → Ended B
+behind ms run = record run { moves = ms ++ run.moves }
+
+module _ {B : Type 0} (ops : BufferOps B) (code : Code) where
+  -- the move that a word chooses, where one is enabled
+  abbrev pub chosen : State B → ℕ → Option Move
+  chosen s word = slice_get (enabled_moves ops code s) (word % length (enabled_moves ops code s))
+
+  -- a move is made from a state, and then a test ends the run, or it goes on
+  abbrev pub making : State B → (State B → Ended B) → Move → Ended B
+  making s on m = option_map_or (λ u. behind (m ∷ []) (option_map_or (ended u) (end_at u) (on u))) (step ops code s m) (ended s end.StepLimit)
+
+  -- the run that words choose from a state on: each makes a move, until the run ends or the words are used up
+  abbrev pub seeded_from : State B → List ℕ → Ended B
+  seeded_from s [] = ended s end.StepLimit
+  seeded_from s (word ∷ words) = option_map_or (making s (λ u. seeded_from u words)) (chosen s word) (ended s (end_without_moves s))
+
+  -- the run of a seed: the words are the first of SplitMix64, as many as moves may be made
+  abbrev pub seeded_run : (seed steps : ℕ) → Ended B
+  seeded_run seed steps = seeded_from (opening ops code) (first_words mix_u64 steps seed)
+
+-- what is answered of a run that ended
+abbrev pub IsAnswer : {B : Type 0} → Model → Ended B → Result Seeded SeededFault → Type 0
+IsAnswer model run (Ok (Failed log moves)) = (run.end ≡ end.Failed) × (moves.items ≡ run.moves) × IsLogOf model run.state log
+IsAnswer model run (Ok (Finished moves)) = (run.end ≡ end.Finished) × (moves.items ≡ run.moves)
+IsAnswer model run (Ok (Deadlock moves)) = (run.end ≡ end.Deadlock) × (moves.items ≡ run.moves)
+IsAnswer model run (Ok (StepLimit moves)) = (run.end ≡ end.StepLimit) × (moves.items ≡ run.moves)
+IsAnswer model run (Err (Limit which found most)) = (run.end ≡ end.Over which) × (found ≡ limit_of which + 1) × (most ≡ limit_of which)
+IsAnswer model run (Err Memory) = Unit {0}
+
+-- a fact of the log and the moves of a run that failed
+abbrev pub IfFailed : Result Seeded SeededFault → (StoredLog → List Move → Type 0) → Type 0
+IfFailed (Ok (Failed log moves)) P = P log moves.items
+IfFailed _ P = Unit {0}

@@ -1,0 +1,112 @@
+//! What ends a run.
+ghost use Rattle.std.specs.Prelude.{◌≡◌};
+ghost use Rattle.tc_record.specs.Ends as ends;
+ghost use Rattle.tc_record.specs.Ends.{limit_of};
+
+use store_buffers::MemoryModel;
+use tc_base::ThreadName;
+use tc_base::limits::{DEPTH, STEPS, THREADS};
+use tc_machine::State;
+
+/// A limit of recorded runs.
+#[derive(Clone, Copy, Debug, PartialEq, Eq)]
+pub enum Which {
+    /// How many threads there are.
+    Threads,
+    /// How many creates lead from main to a thread.
+    Depth,
+    /// How many instructions a thread has done.
+    Steps,
+}
+
+impl Which {
+    /// The most that a run may have.
+    pub fn limit(self) -> u64
+        ensures { result ≡ limit_of self }
+    {
+        match self {
+            Which::Threads => THREADS as u64,
+            Which::Depth => DEPTH as u64,
+            Which::Steps => u64::from(STEPS),
+        }
+    }
+}
+
+/// How a run ends.
+#[derive(Clone, Copy)]
+pub enum End {
+    /// It has one more of these than it may have.
+    Over(Which),
+    /// A thread has failed.
+    Failed,
+    /// Every thread has exited.
+    Finished,
+    /// No move is enabled, and not every thread has exited.
+    Deadlock,
+    /// It has made as many moves as it may make.
+    StepLimit,
+}
+
+/// What ends a run after a move: the first test that stands.
+pub(crate) fn end_at<M: MemoryModel>(state: &State<M>) -> Option<End>
+    ensures { result ≡ ends.end_at state.now }
+{
+    if state.threads().len() > THREADS {
+        Some(End::Over(Which::Threads))
+    } else if some_is_deep(state) {
+        Some(End::Over(Which::Depth))
+    } else if some_has_many_steps(state) {
+        Some(End::Over(Which::Steps))
+    } else if state.failed().is_some() {
+        Some(End::Failed)
+    } else {
+        None
+    }
+}
+
+/// Whether more creates than may lead from main to some thread.
+fn some_is_deep<M: MemoryModel>(state: &State<M>) -> bool
+    ensures { result ≡ ends.some_is_deep state.now }
+{
+    let names = state.threads().as_slice();
+    names.iter().any(|name| name.children().len() > DEPTH)
+}
+
+/// Whether some thread has done more instructions than it may.
+fn some_has_many_steps<M: MemoryModel>(state: &State<M>) -> bool
+    ensures { result ≡ ends.some_has_many_steps state.now }
+{
+    let names = state.threads().as_slice();
+    names.iter().any(|name| has_many_steps(state, name))
+}
+
+fn has_many_steps<M: MemoryModel>(state: &State<M>, name: &ThreadName) -> bool
+    ensures { result ≡ ends.has_many_steps state.now name.now }
+{
+    state.steps_of(name).is_some_and(|steps| steps > STEPS)
+}
+
+/// What ends a run where no move is enabled.
+pub(crate) fn end_without_moves<M: MemoryModel>(state: &State<M>) -> End
+    ensures { result ≡ ends.end_without_moves state.now }
+{
+    if all_have_exited(state) {
+        End::Finished
+    } else {
+        End::Deadlock
+    }
+}
+
+/// Whether every thread has exited.
+fn all_have_exited<M: MemoryModel>(state: &State<M>) -> bool
+    ensures { result ≡ ends.all_have_exited state.now }
+{
+    let names = state.threads().as_slice();
+    names.iter().all(|name| has_exited(state, name))
+}
+
+fn has_exited<M: MemoryModel>(state: &State<M>, name: &ThreadName) -> bool
+    ensures { result ≡ ends.has_exited state.now name.now }
+{
+    state.has_exited(name).unwrap_or(false)
+}

@@ -1,0 +1,11 @@
+//! Seeded runs: a program is run by moves that a generator chooses, and the log of a run that fails is made.
+#![tactic(auto)]
+
+mod end;
+mod logged;
+mod recording;
+mod seeded;
+
+pub use end::Which;
+pub use recording::run_seeded;
+pub use seeded::{Seeded, SeededFault};

@@ -1,0 +1,95 @@
+//! Making a seeded run.
+ghost use Rattle.std.specs.Prelude.{◌≡◌, ◌≤◌, ◌<◌, ◌+◌, ◌^◌, length, IfOk, Some, IsTrue};
+ghost use Rattle.tc_code.specs.Run.{Reproduces, run};
+ghost use Rattle.path_log.specs.Texts.{is_of_format};
+ghost use Rattle.tc_record.specs.Ends as ends;
+ghost use Rattle.tc_record.specs.Seeded.{seeded_run, IsAnswer, IfFailed};
+ghost use Rattle.tc_record.specs.helpers.Turns.{IsTurn};
+
+use crate::end::{End, Which, end_at, end_without_moves};
+use crate::logged::log_of;
+use crate::seeded::{Seeded, SeededFault};
+use rand_core::{Rng, SeedableRng};
+use rand_xoshiro::SplitMix64;
+use std::alloc::{AllocError, Global};
+use store_buffers::MemoryModel;
+use tc_base::Move;
+use tc_code::Code;
+use tc_machine::{State, moves, start, step};
+
+/// Runs a program under a memory model, and makes at most so many moves.
+///
+/// SplitMix64 is made of the seed by `seed_from_u64`. In each turn one of its words, modulo the number of the enabled
+/// moves, is the place of the one that is made, as `tc_machine::moves` lists them. So a run is the same each time. It
+/// ends where no move is enabled, and after the first move that brings it past a limit, that fails or that is the last.
+pub fn run_seeded<M: MemoryModel>(
+    alloc: Global,
+    code: &Code,
+    seed: u64,
+    steps: u32,
+) -> Result<Seeded, SeededFault>
+    ensures answer { IsAnswer M.MODEL (seeded_run M.ops code.now seed steps) result }
+    // The log of a run that fails is reproduced by the moves that were made, and it has a text.
+    ensures reproduced { IfFailed result (λ stored moves. Reproduces M.ops code.now stored.log moves) }
+    ensures of_format { IfFailed result (λ stored moves. IsTrue (is_of_format stored.log)) }
+{
+    let mut rng = SplitMix64::seed_from_u64(seed);
+    let mut state = start::<M>(alloc, code)?;
+    let mut made = Vec::new(alloc);
+    for _ in 0..steps {
+        let word = rng.next_u64();
+        if let Some(end) = turn(alloc, code, &mut state, &mut made, word)? {
+            return answer(alloc, code, &state, made, end);
+        }
+    }
+    Ok(Seeded::StepLimit(made))
+}
+
+/// Makes the move that a word chooses, and tells what ends the run, if it ends.
+fn turn<M: MemoryModel>(
+    alloc: Global,
+    code: &Code,
+    state: &mut State<M>,
+    made: &mut Vec<Move>,
+    word: u64,
+) -> Result<Option<End>, AllocError>
+    requires leads { run M.ops code.now made.old.items ≡ Some state.old }
+    requires few { length made.old.items + 1 < 2 ^ 32 }
+    ensures turn { IfOk result (λ end. IsTurn M.ops code.now state.old state.new made.old.items made.new.items word end) }
+    ensures leads { IfOk result (λ _. run M.ops code.now made.new.items ≡ Some state.new) }
+    ensures counted { IfOk result (λ _. length made.new.items ≤ length made.old.items + 1) }
+    ensures failed { IfOk result (λ end. end ≡ Some End.Failed → ends.end_at state.new ≡ Some End.Failed) }
+{
+    let mut enabled = moves(alloc, code, state)?;
+    if enabled.is_empty() {
+        return Ok(Some(end_without_moves(state)));
+    }
+    let place = word % enabled.len() as u64;
+    let chosen = enabled.swap_remove(place as usize);
+    step(alloc, code, state, &chosen)?;
+    made.push(chosen)?;
+    Ok(end_at(state))
+}
+
+/// The answer of a run that ended so.
+fn answer<M: MemoryModel>(
+    alloc: Global,
+    code: &Code,
+    state: &State<M>,
+    made: Vec<Move>,
+    end: End,
+) -> Result<Seeded, SeededFault>
+    requires leads { run M.ops code.now made.items ≡ Some state.now }
+    requires failed { end ≡ End.Failed → ends.end_at state.now ≡ Some End.Failed }
+    ensures answer { IsAnswer M.MODEL (record { moves = made.items; state = state.now; end = end }) result }
+    ensures reproduced { IfFailed result (λ stored moves. Reproduces M.ops code.now stored.log moves) }
+    ensures of_format { IfFailed result (λ stored moves. IsTrue (is_of_format stored.log)) }
+{
+    match end {
+        End::Over(which) => Err(SeededFault::Limit(which, which.limit() + 1, which.limit())),
+        End::Failed => Ok(Seeded::Failed(log_of(alloc, state)?, made)),
+        End::Finished => Ok(Seeded::Finished(made)),
+        End::Deadlock => Ok(Seeded::Deadlock(made)),
+        End::StepLimit => Ok(Seeded::StepLimit(made)),
+    }
+}
