@@ -1,23 +1,69 @@
--- From the fetch of one input to the fetches of all.
-use Rattle.std.proofs.Common.{◌+◌, sym, subst}
-use Rattle.tc_io.specs.Outside.{Reading, ShelfTells, FailedOnce}
-use Rattle.clap_debug_cli.specs.Words.{Names}
-use Rattle.clap_debug_cli.specs.Answers.{limit_of}
-use Rattle.clap_debug_cli.specs.Call.{CameTo, PassesLimit, word_of}
+-- From the fetch of one input to the fetches of all, and from what the shelf gave to what it tells.
+use Rattle.std.proofs.Common.{arith, ◌≡◌, ◌∙◌, refl, ap, ap₂, subst, inl, inr, ℕ, ◌<◌, ◌≤◌, List, [], ◌∷◌, length, map, Some}
+use Rattle.std.specs.Prelude.{IfSome}
+use Rattle.tc_io.specs.Outside.{Files, ShelfTells, bytes_at}
+use Rattle.clap_debug_cli.specs.Inputs.{Wanted, Texts, limit_of, GaveInput, GaveAll, PassesLimit, IsTooLong, AreWithin}
 use Rattle.clap_debug_cli.specs.Fetched.{IsWhyMissing, IsWhyNone}
 use Rattle.clap_debug_cli.specs.declared.input.Input.{Input}
 use Rattle.clap_debug_cli.specs.declared.input.Missing.{Missing}
 use Rattle.clap_debug_cli.specs.declared.input.Missing.TheVariants.{Read, TooLong, Memory}
 
--- where the inputs before it were given, why an input couldn't be had is why not all could
-pub fails_at : (names : Names) (i : Input) (old before new : ShelfTells) (m : Missing) → CameTo names i old before
-    → IsWhyMissing i (word_of names i) before new m → IsWhyNone names old new m
-fails_at names i old before new (Read n) came h = record {
-  input = i;
-  named = h.0;
-  before = before;
-  came = came;
-  failed = subst (λ name. FailedOnce before new (Reading name) (limit_of i + 1)) (sym h.0) h.1;
-}
-fails_at names i old before new (TooLong k) came h = subst (PassesLimit names old new) (sym h.0) (record { before = before; came = came; too_long = h.1 })
-fails_at names i old before new Memory came h = tt
+-- why the first couldn't be had is why not all could
+pub missing_first : (w : Wanted) (ws : List Wanted) (old new : ShelfTells) (m : Missing) → IsWhyMissing w old new m → IsWhyNone (w ∷ ws) old new m
+missing_first w ws old new (Read n) h = inl h
+missing_first w ws old new (TooLong i) h = inl h
+missing_first w ws old new Memory h = tt
+
+-- where the first was given, why not all others could be had is why not all could
+pub missing_later : (w : Wanted) (ws : List Wanted) (old s new : ShelfTells) (bytes : List ℕ) (m : Missing) → GaveInput w old s bytes → IsWhyNone ws s new m
+    → IsWhyNone (w ∷ ws) old new m
+missing_later w ws old s new bytes (Read n) g h = inr (s, bytes, g, h)
+missing_later w ws old s new bytes (TooLong i) g h = inr (s, bytes, g, h)
+missing_later w ws old s new bytes Memory g h = tt
+
+-- a shelf that gave bytes holds what it held
+gave_held : (w : Wanted) (old new : ShelfTells) (bytes : List ℕ) → GaveInput w old new bytes → new.held ≡ old.held
+gave_held w old new bytes g = ap (λ s. s.held) g.1
+
+-- where it tells what it holds, these are the bytes of the name
+gave_told : (files : Files) (w : Wanted) (old new : ShelfTells) (bytes : List ℕ) → GaveInput w old new bytes → old.held ≡ Some files →
+    bytes ≡ bytes_at files w.name
+gave_told files w old new bytes g told = subst (λ o. IfSome o (λ f. bytes ≡ bytes_at f w.name)) told g.2
+
+-- the bytes of all inputs are those that the shelf tells
+pub gave_all : (files : Files) (ws : List Wanted) (old new : ShelfTells) (t : Texts) → GaveAll ws old new t → old.held ≡ Some files
+    → t ≡ map (λ w. bytes_at files w.name) ws
+gave_all files [] old new [] g told = refl
+gave_all files [] old new (t ∷ ts) g told = absurd g
+gave_all files (w ∷ ws) old new [] g told = absurd g
+gave_all files (w ∷ ws) old new (t ∷ ts) g told =
+    ap₂ (λ (x : List ℕ) (xs : Texts). x ∷ xs) (gave_told files w old g.0 t g.1 told)
+    (gave_all files ws g.0 new ts g.2 (gave_held w old g.0 t g.1 ∙ told))
+
+-- an input that passes its limit is the first of those that the shelf tells
+pub passes_told : (files : Files) (ws : List Wanted) (old new : ShelfTells) (i : Input) → PassesLimit ws old new i → old.held ≡ Some files
+    → IsTooLong ws (map (λ w. bytes_at files w.name) ws) i
+passes_told files [] old new i p told = absurd p
+passes_told files (w ∷ ws) old new i (inl p) told =
+    inl (p.0, subst (λ o. IfSome o (λ f. limit_of w.input < length (bytes_at f w.name))) told p.1.1)
+passes_told files (w ∷ ws) old new i (inr p) told =
+    inr (
+      subst (λ b. length b ≤ limit_of w.input) (gave_told files w old p.0 p.1 p.2 told) p.2.0,
+      passes_told files ws p.0 new i p.3 (gave_held w old p.0 p.1 p.2 ∙ told),
+    )
+
+-- an input that passes its limit isn't within it
+pub not_within : (ws : List Wanted) (ts : Texts) (i : Input) → IsTooLong ws ts i → AreWithin ws ts → ⊥
+not_within [] ts i f h = f
+not_within (w ∷ ws) [] i f h = f
+not_within (w ∷ ws) (t ∷ ts) i (inl f) h = omega (arith, f.1, h.0)
+not_within (w ∷ ws) (t ∷ ts) i (inr f) h = not_within ws ts i f.1 h.1
+
+-- at most one input is the first that passes its limit
+pub one_too_long : (ws : List Wanted) (ts : Texts) (i j : Input) → IsTooLong ws ts i → IsTooLong ws ts j → i ≡ j
+one_too_long [] ts i j f g = absurd f
+one_too_long (w ∷ ws) [] i j f g = absurd f
+one_too_long (w ∷ ws) (t ∷ ts) i j (inl f) (inl g) = cc
+one_too_long (w ∷ ws) (t ∷ ts) i j (inl f) (inr g) = absurd (omega (arith, f.1, g.0))
+one_too_long (w ∷ ws) (t ∷ ts) i j (inr f) (inl g) = absurd (omega (arith, f.0, g.1))
+one_too_long (w ∷ ws) (t ∷ ts) i j (inr f) (inr g) = one_too_long ws ts i j f.1 g.1

@@ -1,120 +1,97 @@
--- At most one answer to three files has its cause.
-use Rattle.std.proofs.Common.{◌≡◌, ◌/◌, ◌%◌, ℕ, zero, suc, List, refl, ap, subst, sym, ◌∙◌, arith}
-use Rattle.std.specs.Prelude.{replicate}
-use Rattle.tc_base.specs.Logs.{Log}
-use Rattle.tc_base.specs.declared.moves.Move.{Move}
-use Rattle.tc_base.specs.declared.moves.Move.TheVariants.{Run}
-use Rattle.tc_base.specs.Names.{main}
-use Rattle.clap_debug_cli.specs.Files.{IsLog, IsSchedule, log_of, log_text, lines, schedule_text}
-use Rattle.clap_debug_cli.specs.Program.{Program, IsProgram, program_tokens}
-use Rattle.clap_debug_cli.specs.Lowering.{code_of}
-use Rattle.clap_debug_cli.specs.Answers.{
-  Answer,
-  Usage,
-  ReadFault,
-  TooLong,
-  Refused,
-  Replayed,
-  NoMemory,
-  Texts,
-  AreWithin,
-  IsTooLong,
-  IsRefused,
-  IsReplayed,
-  IsAnswerTo,
-}
-use Rattle.clap_debug_cli.specs.Verdicts.{IsVerdict}
-use Rattle.clap_debug_cli.specs.declared.replay.Verdict.{Verdict}
-use Rattle.clap_debug_cli.specs.declared.input.Input.{Input}
-use Rattle.clap_debug_cli.specs.declared.input.Input.TheVariants as input
-use Rattle.clap_debug_cli.proofs.OneVerdict.{one_verdict}
-use Rattle.clap_debug_cli.proofs.ProgramLemmas.{one_program}
-use Rattle.clap_debug_cli.proofs.TextLemmas.{one_text}
+-- At most one answer to what a command's inputs hold has its cause.
+use Rattle.std.proofs.Common.{◌≡◌, ℕ, List, [], ◌∷◌, refl, ap, subst}
+use Rattle.tc_base.specs.Buffers.{buffer_of}
+use Rattle.tc_code.specs.Code.{Code}
+use Rattle.tc_parser.specs.declared.fault.TextFault.{TextFault}
+use Rattle.path_log.specs.Texts.{StoredLog}
+use Rattle.path_log.proofs.Logs as logs
+use Rattle.schedule_file.proofs.Schedules as schedules
+use Rattle.schedule_replay.specs.Verdicts.{IsVerdict}
+use Rattle.schedule_replay.specs.declared.verdict.Verdict.{Verdict}
+use Rattle.schedule_replay.proofs.OneVerdict.{one_verdict}
+use Rattle.clap_debug_words.specs.Calls.{Called, Lists, Replays}
+use Rattle.clap_debug_cli.specs.Files.{IsOfOther, Schedule}
+use Rattle.clap_debug_cli.specs.Answers.{Answer, TooLong, ProgramRefused, LogRefused, ScheduleRefused, Listed, Replayed}
+use Rattle.clap_debug_cli.specs.Causes.{IsListAnswer, IsReplayed, IsLogRefused, IsScheduleRefused, IsReplayAnswer, IsWorkOf, IsAnswerTo}
+use Rattle.clap_debug_cli.specs.Inputs.{Texts, inputs_of}
+use Rattle.clap_debug_cli.specs.Programs.{IsRefusal}
+use Rattle.clap_debug_cli.specs.declared.answer.LogRefusal.{LogRefusal}
+use Rattle.clap_debug_cli.specs.declared.answer.LogRefusal.TheVariants.{Form, OtherProgram}
+use Rattle.clap_debug_cli.proofs.Fetches.{not_within, one_too_long}
+use Rattle.clap_debug_cli.proofs.OneFiles.{one_log, log_or_fault, one_schedule, schedule_or_fault}
+use Rattle.clap_debug_cli.proofs.OnePrograms.{one_code, one_refusal, refused_no_code}
 
--- a text has one program
-one_program_of : (text : List ℕ) (p q : Program) → IsProgram text p → IsProgram text q → p ≡ q
-one_program_of text p q f g = one_program p q (one_text text (program_tokens p) (program_tokens q) f.tokens g.tokens)
+-- the verdict on what a schedule does with a log
+abbrev IsJudged : Code → StoredLog → Schedule → Verdict → Type 0
+IsJudged code run plan v = IsVerdict (buffer_of plan.model) code run.log plan.moves v
 
-same_number : (m n : ℕ) → m / 256 ≡ n / 256 → m % 256 ≡ n % 256 → m ≡ n
-same_number m n high low = omega (arith, high, low)
+one_list_answer : (program : List ℕ) (a b : Answer) → IsListAnswer program a → IsListAnswer program b → a ≡ b
+one_list_answer program (ProgramRefused r) (ProgramRefused q) f g = ap (λ x. ProgramRefused x) (one_refusal program r q f g)
+one_list_answer program (ProgramRefused r) (Listed d) f g = absurd (refused_no_code program r d f g)
+one_list_answer program (Listed c) (ProgramRefused q) f g = absurd (refused_no_code program q c g f)
+one_list_answer program (Listed c) (Listed d) f g = ap (λ x. Listed x) (one_code program c d f g)
+one_list_answer program (ProgramRefused _) _ f g = absurd g
+one_list_answer program (Listed _) _ f g = absurd g
+one_list_answer program _ b f g = absurd f
 
-same_steps : (m n : ℕ) → log_text m ≡ log_text n → m ≡ n
-same_steps m n e =
-    let high : m / 256 ≡ n / 256 = cc in
-    let low : m % 256 ≡ n % 256 = cc in
-    same_number m n high low
+module _ (program log schedule : List ℕ) where
+  one_replayed : (v w : Verdict) → IsReplayed program log schedule v → IsReplayed program log schedule w → v ≡ w
+  one_replayed v w f g =
+      let codes = one_code program g.code f.code g.programs f.programs in
+      let runs = one_log log g.run f.run g.logs f.logs in
+      let plans = one_schedule schedule g.plan f.plan g.schedules f.schedules in
+      let judged : IsJudged f.code f.run f.plan w = subst (λ c. IsJudged c f.run f.plan w) codes
+      (subst (λ l. IsJudged g.code l f.plan w) runs (subst (λ p. IsJudged g.code g.run p w) plans g.verdict)) in
+      one_verdict (buffer_of f.plan.model) f.code f.run.log f.plan.moves v w f.verdict judged
 
--- bytes have one log
-one_log : (bytes : List ℕ) (l m : Log) → IsLog bytes l → IsLog bytes m → l ≡ m
-one_log bytes l m f g = f.shows ∙ ap log_of (same_steps f.steps g.steps (sym f.text ∙ g.text)) ∙ sym g.shows
+  one_log_refused : (r q : LogRefusal) → IsLogRefused program log schedule r → IsLogRefused program log schedule q → r ≡ q
+  one_log_refused (Form o) (Form p) f g = ap (λ x. Form x) (logs.one_fault log o p f.2 g.2)
+  one_log_refused (Form o) OtherProgram f g = absurd (log_or_fault log g.2 o g.3 f.2)
+  one_log_refused OtherProgram (Form p) f g = absurd (log_or_fault log f.2 p f.3 g.2)
+  one_log_refused OtherProgram OtherProgram f g = refl
 
-same_lines : (m n : ℕ) → lines m ≡ lines n → m ≡ n
-same_lines zero zero e = refl
-same_lines zero (suc n) e = cc
-same_lines (suc m) zero e = cc
-same_lines (suc m) (suc n) e = ap (λ k. suc k) (same_lines m n cc)
+  log_refused_no_program : (r : LogRefusal) (q : TextFault) → IsLogRefused program log schedule r → IsRefusal program q → ⊥
+  log_refused_no_program (Form o) q f g = refused_no_code program q f.0 g f.1
+  log_refused_no_program OtherProgram q f g = refused_no_code program q f.0 g f.1
 
-same_schedules : (m n : ℕ) → schedule_text m ≡ schedule_text n → m ≡ n
-same_schedules m n e = same_lines m n cc
+  log_refused_no_schedule : (r : LogRefusal) (n : ℕ) → IsLogRefused program log schedule r → IsScheduleRefused program log schedule n → ⊥
+  log_refused_no_schedule (Form o) n f g = log_or_fault log g.run o g.logs f.2
+  log_refused_no_schedule OtherProgram n f g = schedule_or_fault schedule f.4 n f.5 g.breaks
 
--- bytes have one schedule
-one_schedule : (bytes : List ℕ) (l m : List Move) → IsSchedule bytes l → IsSchedule bytes m → l ≡ m
-one_schedule bytes l m f g = f.shows ∙ ap (λ n. replicate n (Run main)) (same_schedules f.count g.count (sym f.text ∙ g.text)) ∙ sym g.shows
+  log_refused_no_verdict : (r : LogRefusal) (v : Verdict) → IsLogRefused program log schedule r → IsReplayed program log schedule v → ⊥
+  log_refused_no_verdict (Form o) v f g = log_or_fault log g.run o g.logs f.2
+  log_refused_no_verdict OtherProgram v f g = g.recorded (subst (λ l. IsOfOther program l) (one_log log f.2 g.run f.3 g.logs) f.6)
 
-one_too_long : (t : Texts) (i j : Input) → IsTooLong t i → IsTooLong t j → i ≡ j
-one_too_long t input.Program input.Program f g = refl
-one_too_long t input.Program input.Log f g = absurd (omega (arith, f, g.0))
-one_too_long t input.Program input.Schedule f g = absurd (omega (arith, f, g.0))
-one_too_long t input.Log input.Program f g = absurd (omega (arith, f.0, g))
-one_too_long t input.Log input.Log f g = refl
-one_too_long t input.Log input.Schedule f g = absurd (omega (arith, f.1, g.1))
-one_too_long t input.Schedule input.Program f g = absurd (omega (arith, f.0, g))
-one_too_long t input.Schedule input.Log f g = absurd (omega (arith, f.1, g.1))
-one_too_long t input.Schedule input.Schedule f g = refl
+  one_replay_answer : (a b : Answer) → IsReplayAnswer program log schedule a → IsReplayAnswer program log schedule b → a ≡ b
+  one_replay_answer (ProgramRefused r) (ProgramRefused q) f g = ap (λ x. ProgramRefused x) (one_refusal program r q f g)
+  one_replay_answer (ProgramRefused r) (LogRefused q) f g = absurd (log_refused_no_program q r g f)
+  one_replay_answer (ProgramRefused r) (ScheduleRefused n) f g = absurd (refused_no_code program r g.code f g.programs)
+  one_replay_answer (ProgramRefused r) (Replayed w) f g = absurd (refused_no_code program r g.code f g.programs)
+  one_replay_answer (LogRefused r) (ProgramRefused q) f g = absurd (log_refused_no_program r q f g)
+  one_replay_answer (LogRefused r) (LogRefused q) f g = ap (λ x. LogRefused x) (one_log_refused r q f g)
+  one_replay_answer (LogRefused r) (ScheduleRefused n) f g = absurd (log_refused_no_schedule r n f g)
+  one_replay_answer (LogRefused r) (Replayed w) f g = absurd (log_refused_no_verdict r w f g)
+  one_replay_answer (ScheduleRefused m) (ProgramRefused q) f g = absurd (refused_no_code program q f.code g f.programs)
+  one_replay_answer (ScheduleRefused m) (LogRefused q) f g = absurd (log_refused_no_schedule q m g f)
+  one_replay_answer (ScheduleRefused m) (ScheduleRefused n) f g = ap (λ x. ScheduleRefused x) (schedules.one_fault schedule m n f.breaks g.breaks)
+  one_replay_answer (ScheduleRefused m) (Replayed w) f g = absurd (schedule_or_fault schedule g.plan m g.schedules f.breaks)
+  one_replay_answer (Replayed v) (ProgramRefused q) f g = absurd (refused_no_code program q f.code g f.programs)
+  one_replay_answer (Replayed v) (LogRefused q) f g = absurd (log_refused_no_verdict q v g f)
+  one_replay_answer (Replayed v) (ScheduleRefused n) f g = absurd (schedule_or_fault schedule f.plan n f.schedules g.breaks)
+  one_replay_answer (Replayed v) (Replayed w) f g = ap (λ x. Replayed x) (one_replayed v w f g)
+  one_replay_answer (ProgramRefused _) _ f g = absurd g
+  one_replay_answer (LogRefused _) _ f g = absurd g
+  one_replay_answer (ScheduleRefused _) _ f g = absurd g
+  one_replay_answer (Replayed _) _ f g = absurd g
+  one_replay_answer _ b f g = absurd f
 
-not_within : (t : Texts) (i : Input) → IsTooLong t i → AreWithin t → ⊥
-not_within t input.Program f w = omega (arith, f, w.program)
-not_within t input.Log f w = omega (arith, f.1, w.log)
-not_within t input.Schedule f w = omega (arith, f.2, w.schedule)
+one_work : (call : Called) (t : Texts) (a b : Answer) → IsWorkOf call t a → IsWorkOf call t b → a ≡ b
+one_work (Lists _) (program ∷ []) a b f g = one_list_answer program a b f g
+one_work (Replays _ _ _) (program ∷ log ∷ schedule ∷ []) a b f g = one_replay_answer program log schedule a b f g
+one_work _ _ a b f g = absurd f
 
-one_refused : (t : Texts) (i j : Input) → IsRefused t i → IsRefused t j → i ≡ j
-one_refused t input.Program input.Program f g = refl
-one_refused t input.Program input.Log f g = absurd (f g.0 g.1)
-one_refused t input.Program input.Schedule f g = absurd (f g.0 g.1)
-one_refused t input.Log input.Program f g = absurd (g f.0 f.1)
-one_refused t input.Log input.Log f g = refl
-one_refused t input.Log input.Schedule f g = absurd (f.2 g.2 g.3)
-one_refused t input.Schedule input.Program f g = absurd (g f.0 f.1)
-one_refused t input.Schedule input.Log f g = absurd (g.2 f.2 f.3)
-one_refused t input.Schedule input.Schedule f g = refl
-
-not_refused : (t : Texts) (i : Input) (v : Verdict) → IsRefused t i → IsReplayed t v → ⊥
-not_refused t input.Program v f g = f g.program g.programs
-not_refused t input.Log v f g = f.2 g.log g.logs
-not_refused t input.Schedule v f g = f.4 g.moves g.schedules
-
-one_replayed : (t : Texts) (v w : Verdict) → IsReplayed t v → IsReplayed t w → v ≡ w
-one_replayed t v w f g =
-    let programs = one_program_of t.program g.program f.program g.programs f.programs in
-    let logs = one_log t.log g.log f.log g.logs f.logs in
-    let schedules = one_schedule t.schedule g.moves f.moves g.schedules f.schedules in
-    let judged : IsVerdict (code_of f.program) f.log f.moves w = subst (λ p. IsVerdict (code_of p) f.log f.moves w) programs
-    (subst (λ l. IsVerdict (code_of g.program) l f.moves w) logs (subst (λ m. IsVerdict (code_of g.program) g.log m w) schedules g.verdict)) in
-    one_verdict (code_of f.program) f.log f.moves v w f.verdict judged
-
-pub one_answer : (t : Texts) (a b : Answer) → IsAnswerTo t a → IsAnswerTo t b → a ≡ b
-one_answer t (TooLong i) (TooLong j) f g = ap (λ k. TooLong k) (one_too_long t i j f g)
-one_answer t (TooLong i) (Refused j) f g = absurd (not_within t i f g.0)
-one_answer t (TooLong i) (Replayed v) f g = absurd (not_within t i f g.0)
-one_answer t (Refused i) (TooLong j) f g = absurd (not_within t j g f.0)
-one_answer t (Refused i) (Refused j) f g = ap (λ k. Refused k) (one_refused t i j f.1 g.1)
-one_answer t (Refused i) (Replayed v) f g = absurd (not_refused t i v f.1 g.1)
-one_answer t (Replayed v) (TooLong j) f g = absurd (not_within t j g f.0)
-one_answer t (Replayed v) (Refused i) f g = absurd (not_refused t i v g.1 f.1)
-one_answer t (Replayed v) (Replayed w) f g = ap (λ k. Replayed k) (one_replayed t v w f.1 g.1)
-one_answer t Usage b f g = absurd f
-one_answer t (ReadFault _) b f g = absurd f
-one_answer t NoMemory b f g = absurd f
-one_answer t a Usage f g = absurd g
-one_answer t a (ReadFault _) f g = absurd g
-one_answer t a NoMemory f g = absurd g
+pub one_answer : (call : Called) (t : Texts) (a b : Answer) → IsAnswerTo call t a → IsAnswerTo call t b → a ≡ b
+one_answer call t (TooLong i) (TooLong j) f g = ap (λ x. TooLong x) (one_too_long (inputs_of call) t i j f g)
+one_answer call t (TooLong i) _ f g = absurd (not_within (inputs_of call) t i f g.0)
+one_answer call t _ (TooLong j) f g = absurd (not_within (inputs_of call) t j g f.0)
+one_answer call t a b f g = one_work call t a b f.1 g.1

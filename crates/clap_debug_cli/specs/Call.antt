@@ -1,76 +1,30 @@
 -- What a call of the program answers, over what the shelf and the sink tell before and after it.
-use Rattle.std.specs.Prelude.{◌≡◌, ◌≢◌, ℕ, ◌+◌, ◌⊎◌, List, Option, None, IfSome, IsSomeAnd}
-use Rattle.tc_io.specs.Outside.{Files, Reading, ShelfTells, SinkTells, Gave, FailedOnce, WasTooLong, Wrote, WrotePart}
-use Rattle.clap_debug_cli.specs.Words.{Names, words_taken}
+use Rattle.std.specs.Prelude.{◌≡◌, ◌≢◌, ℕ, ◌⊎◌, List, Option, None, IfSome}
+use Rattle.tc_code.specs.Code.{Code}
+use Rattle.tc_io.specs.Outside.{Files, ShelfTells, SinkTells, Wrote, WrotePart, bytes_at}
+use Rattle.clap_debug_words.specs.Calls.{Called, Lists, Replays, call_of}
 use Rattle.clap_debug_cli.specs.Answers.{
   Answer,
   Usage,
   ReadFault,
   TooLong,
-  Refused,
+  ProgramRefused,
+  LogRefused,
+  ScheduleRefused,
+  Listed,
   Replayed,
   NoMemory,
-  Texts,
-  texts_under,
-  IsTooLong,
-  IsRefused,
-  IsReplayed,
-  IsAnswerTo,
-  limit_of,
   line_of,
   status_of,
 }
-use Rattle.clap_debug_cli.specs.declared.replay.Verdict.{Verdict}
-use Rattle.clap_debug_cli.specs.declared.replay.Verdict.TheVariants as verdict
+use Rattle.clap_debug_cli.specs.Causes.{IsCause, IsAnswerTo, IsReplayed, IsLogRefused, IsScheduleRefused}
+use Rattle.clap_debug_cli.specs.Inputs.{Texts, inputs_of, IsTooLong}
+use Rattle.clap_debug_cli.specs.Programs.{IsCodeOf, IsRefusal}
+use Rattle.tc_parser.specs.declared.fault.TextFault.{TextFault}
+use Rattle.schedule_replay.specs.declared.verdict.Verdict.{Verdict}
+use Rattle.clap_debug_cli.specs.declared.answer.LogRefusal.{LogRefusal}
+use Rattle.schedule_replay.specs.declared.verdict.Verdict.TheVariants as verdict
 use Rattle.clap_debug_cli.specs.declared.input.Input.{Input}
-use Rattle.clap_debug_cli.specs.declared.input.Input.TheVariants as input
-
--- the word that names an input
-abbrev pub word_of : Names → Input → List ℕ
-word_of names input.Program = names.program
-word_of names input.Log = names.log
-word_of names input.Schedule = names.schedule
-
--- the shelf gave these bytes of an input
-abbrev pub GaveInput : Names → Input → ShelfTells → ShelfTells → List ℕ → Type 0
-GaveInput names i old new bytes = Gave old new (word_of names i) (limit_of i) bytes
-
--- the shelf gave the inputs before this one, and nothing else
-abbrev pub CameTo : Names → Input → ShelfTells → ShelfTells → Type 0
-CameTo names input.Program old new = new ≡ old
-CameTo names input.Log old new = (program : List ℕ) × GaveInput names input.Program old new program
-CameTo names input.Schedule old new =
-    (s : ShelfTells) × (program : List ℕ) × GaveInput names input.Program old s program × (log : List ℕ) × GaveInput names input.Log s new log
-
--- the shelf gave the three inputs, and nothing else
-pub record GaveAll (names : Names) (old new : ShelfTells) (t : Texts) : Type 0 where
-  pub after_program : ShelfTells
-  pub after_log : ShelfTells
-  pub program : GaveInput names input.Program old after_program t.program
-  pub log : GaveInput names input.Log after_program after_log t.log
-  pub schedule : GaveInput names input.Schedule after_log new t.schedule
-
--- the shelf gave the inputs before one of this name, and failed at that
-pub record FailsToRead (names : Names) (old new : ShelfTells) (name : List ℕ) : Type 0 where
-  pub input : Input
-  pub named : name ≡ word_of names input
-  pub before : ShelfTells
-  pub came : CameTo names input old before
-  pub failed : FailedOnce before new (Reading name) (limit_of input + 1)
-
--- the shelf gave the inputs before this one, and this one is too long
-pub record PassesLimit (names : Names) (old new : ShelfTells) (i : Input) : Type 0 where
-  pub before : ShelfTells
-  pub came : CameTo names i old before
-  pub too_long : WasTooLong before new (word_of names i) (limit_of i)
-
--- why an answer is given: what the words are, what the shelf did, and what the bytes that it gave say
-abbrev pub IsCause : List (List ℕ) → ShelfTells → ShelfTells → Answer → Type 0
-IsCause words old new Usage = (words_taken words ≡ None) × (new ≡ old)
-IsCause words old new (ReadFault name) = IsSomeAnd (words_taken words) (λ names. FailsToRead names old new name)
-IsCause words old new (TooLong i) = IsSomeAnd (words_taken words) (λ names. PassesLimit names old new i)
-IsCause words old new NoMemory = Unit {0}
-IsCause words old new a = IsSomeAnd (words_taken words) (λ names. (t : Texts) × GaveAll names old new t × IsAnswerTo t a)
 
 -- the answer's line stands at the end of what was written
 abbrev pub Puts : SinkTells → SinkTells → Answer → Type 0
@@ -94,7 +48,7 @@ Says a status old new =
 pub record CallAnswers (words : List (List ℕ)) (old new : ShelfTells) (status : ℕ) (before after : SinkTells) : Type 0 where
   pub usage : status ≡ 2 → IsCause words old new Usage × Puts before after Usage
   -- where the words aren't taken the shelf is as before
-  pub only_usage : words_taken words ≡ None → (new ≡ old) × ((status ≡ 2) ⊎ (status ≡ 8) ⊎ (status ≡ 9))
+  pub only_usage : call_of words ≡ None → (new ≡ old) × ((status ≡ 2) ⊎ (status ≡ 8) ⊎ (status ≡ 9))
   pub limit : status ≡ 6 → (i : Input) × IsCause words old new (TooLong i) × Puts before after (TooLong i)
   pub read_fault : status ≡ 7 → (name : List ℕ) × IsCause words old new (ReadFault name) × Puts before after (ReadFault name)
   pub write_fault : status ≡ 8 → (a : Answer) × IsCause words old new a × FailsToPut before after a
@@ -104,17 +58,36 @@ pub record CallAnswers (words : List (List ℕ)) (old new : ShelfTells) (status 
   -- no name of the shelf changes
   pub kept : new.held ≡ old.held
 
--- a fact about the three files, where the words are taken and the shelf tells what it holds
-abbrev pub IfTold : List (List ℕ) → Option Files → (Texts → Type 0) → Type 0
-IfTold words held P = IfSome (words_taken words) (λ names. IfSome held (λ files. P (texts_under files names)))
+-- a fact about a call and the files, where the words are taken and the shelf tells what it holds
+abbrev pub IfTold : List (List ℕ) → Option Files → (Called → Files → Type 0) → Type 0
+IfTold words held P = IfSome (call_of words) (λ call. IfSome held (λ files. P call files))
 
--- the answers to three files that the shelf tells of, by status
-pub record ReplayAnswers (t : Texts) (status : ℕ) (before after : SinkTells) : Type 0 where
-  pub reproduces : status ≡ 0 → IsReplayed t verdict.Reproduces × Puts before after (Replayed verdict.Reproduces)
-  pub differs : status ≡ 1 → (v : Verdict) × (v ≢ verdict.Reproduces) × IsReplayed t v × Puts before after (Replayed v)
-  pub program : status ≡ 3 → IsRefused t input.Program × Puts before after (Refused input.Program)
-  pub log : status ≡ 4 → IsRefused t input.Log × Puts before after (Refused input.Log)
-  pub schedule : status ≡ 5 → IsRefused t input.Schedule × Puts before after (Refused input.Schedule)
-  pub limit : status ≡ 6 → (i : Input) × IsTooLong t i × Puts before after (TooLong i)
-  -- and each comes wherever its cause holds, but for a device that fails and for want of memory
-  pub exactly : (a : Answer) → IsAnswerTo t a → (status ≡ status_of a) ⊎ (status ≡ 7) ⊎ (status ≡ 8) ⊎ (status ≡ 9)
+-- the status but for a device that fails and for want of memory
+abbrev pub IsStatus : ℕ → ℕ → Type 0
+IsStatus status wanted = (status ≡ wanted) ⊎ (status ≡ 7) ⊎ (status ≡ 8) ⊎ (status ≡ 9)
+
+-- the answers that every command may give to inputs that the shelf tells of
+pub record ToldAnswers (call : Called) (t : Texts) (status : ℕ) (before after : SinkTells) : Type 0 where
+  pub limit : status ≡ 6 → (i : Input) × IsTooLong (inputs_of call) t i × Puts before after (TooLong i)
+  -- each answer comes wherever its cause holds
+  pub exactly : (a : Answer) → IsAnswerTo call t a → IsStatus status (status_of a)
+
+-- the answers of `list` to a program that the shelf tells of, by status
+pub record ListAnswers (program : List ℕ) (status : ℕ) (before after : SinkTells) : Type 0 where
+  pub listing : status ≡ 0 → (code : Code) × IsCodeOf program code × Puts before after (Listed code)
+  pub refused : status ≡ 3 → (r : TextFault) × IsRefusal program r × Puts before after (ProgramRefused r)
+  -- and no other but those of every command
+  pub alone : (status ≡ 0) ⊎ (status ≡ 3) ⊎ IsStatus status 6
+
+-- the answers of `replay` to three files that the shelf tells of, by status
+pub record ReplayAnswers (program log schedule : List ℕ) (status : ℕ) (before after : SinkTells) : Type 0 where
+  pub reproduces : status ≡ 0 → IsReplayed program log schedule verdict.Reproduces × Puts before after (Replayed verdict.Reproduces)
+  pub differs : status ≡ 1 → (v : Verdict) × (v ≢ verdict.Reproduces) × IsReplayed program log schedule v × Puts before after (Replayed v)
+  pub refused : status ≡ 3 → (r : TextFault) × IsRefusal program r × Puts before after (ProgramRefused r)
+  pub log_refused : status ≡ 4 → (r : LogRefusal) × IsLogRefused program log schedule r × Puts before after (LogRefused r)
+  pub schedule_refused : status ≡ 5 → (line : ℕ) × IsScheduleRefused program log schedule line × Puts before after (ScheduleRefused line)
+
+-- the answers of a command, by status
+abbrev pub CommandAnswers : Called → Files → ℕ → SinkTells → SinkTells → Type 0
+CommandAnswers (Lists program) files = ListAnswers (bytes_at files program)
+CommandAnswers (Replays program log schedule) files = ReplayAnswers (bytes_at files program) (bytes_at files log) (bytes_at files schedule)

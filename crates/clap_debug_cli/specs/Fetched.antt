@@ -1,21 +1,18 @@
 -- Why files couldn't be had.
-use Rattle.std.specs.Prelude.{◌≡◌, ℕ, ◌+◌, List}
-use Rattle.tc_io.specs.Outside.{Reading, ShelfTells, FailedOnce, WasTooLong, TookAtMost}
-use Rattle.clap_debug_cli.specs.Words as words
-use Rattle.clap_debug_cli.specs.Answers.{limit_of}
-use Rattle.clap_debug_cli.specs.Call.{FailsToRead, PassesLimit}
-use Rattle.clap_debug_cli.specs.declared.input.Input.{Input}
+use Rattle.std.specs.Prelude.{◌≡◌, ◌+◌, List}
+use Rattle.tc_io.specs.Outside.{Reading, ShelfTells, FailedOnce, WasTooLong}
+use Rattle.clap_debug_cli.specs.Inputs.{Wanted, limit_of, FailsToRead, PassesLimit}
 use Rattle.clap_debug_cli.specs.declared.input.Missing.{Missing}
 use Rattle.clap_debug_cli.specs.declared.input.Missing.TheVariants.{Read, TooLong, Memory}
 
--- why the file of that name couldn't be had
-abbrev pub IsWhyMissing : Input → List ℕ → ShelfTells → ShelfTells → Missing → Type 0
-IsWhyMissing input name old new (Read n) = (n.now ≡ name) × FailedOnce old new (Reading name) (limit_of input + 1)
-IsWhyMissing input name old new (TooLong i) = (i ≡ input) × WasTooLong old new name (limit_of input)
-IsWhyMissing input name old new Memory = TookAtMost old new (limit_of input + 1)
+-- why this input couldn't be had
+abbrev pub IsWhyMissing : Wanted → ShelfTells → ShelfTells → Missing → Type 0
+IsWhyMissing w old new (Read n) = (n.now ≡ w.name) × FailedOnce old new (Reading n.now) (limit_of w.input + 1)
+IsWhyMissing w old new (TooLong i) = (i ≡ w.input) × WasTooLong old new w.name (limit_of w.input)
+IsWhyMissing w old new Memory = Unit {0}
 
--- why not all files could be had
-abbrev pub IsWhyNone : words.Names → ShelfTells → ShelfTells → Missing → Type 0
-IsWhyNone names old new (Read n) = FailsToRead names old new n.now
-IsWhyNone names old new (TooLong i) = PassesLimit names old new i
-IsWhyNone names old new Memory = Unit {0}
+-- why not all of these could be had
+abbrev pub IsWhyNone : List Wanted → ShelfTells → ShelfTells → Missing → Type 0
+IsWhyNone ws old new (Read n) = FailsToRead ws old new n.now
+IsWhyNone ws old new (TooLong i) = PassesLimit ws old new i
+IsWhyNone ws old new Memory = Unit {0}

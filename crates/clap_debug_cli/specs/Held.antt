@@ -1,21 +1,33 @@
--- Words, texts and answers as the program holds them.
-use Rattle.clap_debug_cli.specs.Words as words
+-- Answers as the program holds them.
 use Rattle.clap_debug_cli.specs.Answers as plain
-use Rattle.clap_debug_cli.specs.declared.words.Names.{Names}
-use Rattle.clap_debug_cli.specs.declared.input.Inputs.{Inputs}
+use Rattle.clap_debug_cli.specs.declared.input.Missing.{Missing}
+use Rattle.clap_debug_cli.specs.declared.input.Missing.TheVariants as missing
 use Rattle.clap_debug_cli.specs.declared.answer.Answer.{Answer}
-use Rattle.clap_debug_cli.specs.declared.answer.Answer.TheVariants.{Usage, ReadFault, TooLong, Refused, Replayed, NoMemory}
-
-abbrev pub names_in : Names → words.Names
-names_in n = record { program = n.program.now; log = n.log.now; schedule = n.schedule.now }
-
-abbrev pub texts_in : Inputs → plain.Texts
-texts_in i = record { program = i.program.items; log = i.log.items; schedule = i.schedule.items }
+use Rattle.clap_debug_cli.specs.declared.answer.Answer.TheVariants.{
+  Usage,
+  ReadFault,
+  TooLong,
+  ProgramRefused,
+  LogRefused,
+  ScheduleRefused,
+  Listed,
+  Replayed,
+  NoMemory,
+}
 
 abbrev pub plain_answer : Answer → plain.Answer
 plain_answer Usage = plain.Usage
 plain_answer (ReadFault name) = plain.ReadFault name.now
 plain_answer (TooLong i) = plain.TooLong i
-plain_answer (Refused i) = plain.Refused i
+plain_answer (ProgramRefused r) = plain.ProgramRefused r
+plain_answer (LogRefused r) = plain.LogRefused r
+plain_answer (ScheduleRefused line) = plain.ScheduleRefused line
+plain_answer (Listed code) = plain.Listed code
 plain_answer (Replayed v) = plain.Replayed v
 plain_answer NoMemory = plain.NoMemory
+
+-- what is answered where an input couldn't be had
+abbrev pub missing_answer : Missing → Answer
+missing_answer (missing.Read name) = ReadFault name
+missing_answer (missing.TooLong i) = TooLong i
+missing_answer missing.Memory = NoMemory

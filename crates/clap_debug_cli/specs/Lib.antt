@@ -1,14 +1,9 @@
-pub mod Words
-pub mod Text
-pub mod Program
-pub mod Lowering
+pub mod Programs
 pub mod Files
-pub mod Verdicts
+pub mod Inputs
 pub mod Answers
+pub mod Causes
 pub mod Call
 pub mod Held
-pub mod Reading
-pub mod ProgramReading
 pub mod Fetched
-pub mod Played
 pub mod Judged

@@ -1,12 +1,25 @@
 //! Answers: the line and the status of each.
-ghost use Rattle.std.specs.Prelude.{◌≡◌, IfOk, string_bytes};
-ghost use Rattle.clap_debug_cli.specs.Answers.{line_of, status_of, verdict_line, verdict_status, input_text, refused_status, usage_text};
+ghost use Rattle.std.specs.Prelude.{◌≡◌, IfOk, IsOkAnd, string_bytes};
+ghost use Rattle.clap_debug_cli.specs.Inputs.{input_text};
+ghost use Rattle.clap_debug_cli.specs.Answers.{line_of, status_of, verdict_line, verdict_status, log_refusal_text, usage_text};
 ghost use Rattle.clap_debug_cli.specs.Answers as plain;
 ghost use Rattle.clap_debug_cli.specs.Held.{plain_answer};
 
-use crate::input::Input;
-use crate::replay::Verdict;
+use crate::input::{Input, Missing};
+use crate::program::refusal_line;
+use schedule_replay::Verdict;
 use std::alloc::{AllocError, Global};
+use tc_code::{Code, listing};
+use tc_parser::TextFault;
+
+/// Why a log isn't taken.
+#[derive(Clone, Copy, Debug, PartialEq, Eq)]
+pub(crate) enum LogRefusal {
+    /// The field at this offset is the first that is cut short or breaks its rule.
+    Form(usize),
+    /// It was recorded of another program.
+    OtherProgram,
+}
 
 /// What is answered.
 #[derive(Drop)]
@@ -17,31 +30,83 @@ pub(crate) enum Answer<'a> {
     ReadFault(&'a str),
     /// This file has more bytes than its limit.
     TooLong(Input),
-    /// This file isn't of its form.
-    Refused(Input),
+    /// The first file is no program.
+    ProgramRefused(TextFault),
+    /// The second file isn't taken.
+    LogRefused(LogRefusal),
+    /// The third file is no schedule, from the line of this number on.
+    ScheduleRefused(u32),
+    /// The code of the program, to be listed.
+    Listed(Code),
     /// The verdict on the schedule.
     Replayed(Verdict),
     /// There is no memory.
     NoMemory,
 }
 
+impl<'a> From<Missing<'a>> for Answer<'a> {
+    ghost use Rattle.std.specs.Prelude.{◌≡◌};
+    ghost use Rattle.clap_debug_cli.specs.Held.{missing_answer};
+
+    ghost from_gives = { λ missing answer. answer ≡ missing_answer missing };
+
+    fn from(missing: Missing<'a>) -> Self {
+        match missing {
+            Missing::Read(name) => Answer::ReadFault(name),
+            Missing::TooLong(input) => Answer::TooLong(input),
+            Missing::Memory => Answer::NoMemory,
+        }
+    }
+}
+
 const USAGE: &str =
     "usage: clap_debug record PROGRAM LOG [--model sc|tso|pso] [--seed N] [--steps N]\nusage: clap_debug solve PROGRAM LOG OUT [--model sc|tso|pso] [--budget N]\nusage: clap_debug replay PROGRAM LOG SCHEDULE\nusage: clap_debug check PROGRAM LOG REFUTATION\nusage: clap_debug list PROGRAM\nusage: clap_debug workload N SEED\n";
 
 /// What is written.
-pub(crate) fn line(alloc: Global, answer: &Answer) -> Result<String, AllocError>
-    ensures { IfOk result (λ text. string_bytes text ≡ line_of (plain_answer answer.now)) }
+pub(crate) fn line(alloc: Global, answer: &Answer) -> Result<Vec<u8>, AllocError>
+    ensures { IfOk result (λ text. text.items ≡ line_of (plain_answer answer.now)) }
 {
     match answer {
-        Answer::Usage => String::from_str(alloc, USAGE),
-        Answer::ReadFault(name) => format!(in alloc; "read fault: {name}\n"),
-        Answer::TooLong(input) => limit_line(alloc, *input),
-        Answer::Refused(input) => {
-            let input = input_text(*input);
-            format!(in alloc; "{input} refused\n")
-        }
-        Answer::Replayed(verdict) => verdict_line(alloc, verdict),
-        Answer::NoMemory => String::from_str(alloc, "no memory\n"),
+        Answer::Listed(code) => listing(alloc, code),
+        Answer::Usage => bytes(usage(alloc)),
+        Answer::ReadFault(name) => bytes(format!(in alloc; "read fault: {name}\n")),
+        Answer::TooLong(input) => bytes(limit_line(alloc, *input)),
+        Answer::ProgramRefused(fault) => bytes(refusal_line(alloc, *fault)),
+        Answer::LogRefused(refusal) => bytes(log_refusal_line(alloc, *refusal)),
+        Answer::ScheduleRefused(line) => bytes(format!(in alloc;
+            "schedule refused: line {line}\n"
+        )),
+        Answer::Replayed(verdict) => bytes(verdict_line(alloc, verdict)),
+        Answer::NoMemory => bytes(String::from_str(alloc, "no memory\n")),
+    }
+}
+
+/// The bytes of a text, where there is one.
+fn bytes(text: Result<String, AllocError>) -> Result<Vec<u8>, AllocError>
+    ensures { IfOk result (λ bytes. IsOkAnd text (λ text. bytes.items ≡ string_bytes text)) }
+{
+    Ok(text?.into_bytes())
+}
+
+fn usage(alloc: Global) -> Result<String, AllocError>
+    ensures { IfOk result (λ text. string_bytes text ≡ usage_text) }
+{
+    String::from_str(alloc, USAGE)
+}
+
+fn log_refusal_line(alloc: Global, refusal: LogRefusal) -> Result<String, AllocError>
+    ensures { IfOk result (λ text. string_bytes text ≡ line_of (plain.LogRefused refusal)) }
+{
+    let refusal = log_refusal_text(alloc, refusal)?;
+    format!(in alloc; "log refused: {refusal}\n")
+}
+
+fn log_refusal_text(alloc: Global, refusal: LogRefusal) -> Result<String, AllocError>
+    ensures { IfOk result (λ text. string_bytes text ≡ log_refusal_text refusal) }
+{
+    match refusal {
+        LogRefusal::Form(offset) => format!(in alloc; "form at {offset}"),
+        LogRefusal::OtherProgram => String::from_str(alloc, "other program"),
     }
 }
 
@@ -81,14 +146,15 @@ pub(crate) fn status(answer: &Answer) -> u8
     ensures { result ≡ status_of (plain_answer answer.now) }
 {
     match answer {
-        Answer::Usage => 2,
-        Answer::ReadFault(_) => 7,
-        Answer::TooLong(_) => 6,
-        Answer::Refused(Input::Program) => 3,
-        Answer::Refused(Input::Log) => 4,
-        Answer::Refused(Input::Schedule) => 5,
+        Answer::Listed(_) => 0,
         Answer::Replayed(Verdict::Reproduces) => 0,
         Answer::Replayed(_) => 1,
+        Answer::Usage => 2,
+        Answer::ProgramRefused(_) => 3,
+        Answer::LogRefused(_) => 4,
+        Answer::ScheduleRefused(_) => 5,
+        Answer::TooLong(_) => 6,
+        Answer::ReadFault(_) => 7,
         Answer::NoMemory => 9,
     }
 }

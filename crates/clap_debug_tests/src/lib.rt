@@ -3,7 +3,8 @@
 
 ghost use Rattle.std.specs.Prelude.{◌≢◌, map, string_bytes, Some};
 ghost use Rattle.tc_io.specs.Mem.{sure_shelf_tells, sure_sink_tells};
-ghost use Rattle.clap_debug_cli.specs.Call.{IfTold, CallAnswers, ReplayAnswers};
+ghost use Rattle.clap_debug_cli.specs.Call.{IfTold, CallAnswers, ToldAnswers, CommandAnswers};
+ghost use Rattle.clap_debug_cli.specs.Inputs.{texts_under};
 
 use clap_debug_cli::clap_debug;
 use std::alloc::Global;
@@ -18,8 +19,10 @@ pub fn clap_debug_surely(
 ) -> u8
     ensures call { CallAnswers (map string_bytes words.now) (sure_shelf_tells shelf.old) (sure_shelf_tells shelf.new) result
         (sure_sink_tells sink.old) (sure_sink_tells sink.new) }
-    ensures replay { IfTold (map string_bytes words.now) (Some shelf.old.held)
-        (λ texts. ReplayAnswers texts result (sure_sink_tells sink.old) (sure_sink_tells sink.new)) }
+    ensures told { IfTold (map string_bytes words.now) (Some shelf.old.held)
+        (λ call files. ToldAnswers call (texts_under files call) result (sure_sink_tells sink.old) (sure_sink_tells sink.new)) }
+    ensures command { IfTold (map string_bytes words.now) (Some shelf.old.held)
+        (λ call files. CommandAnswers call files result (sure_sink_tells sink.old) (sure_sink_tells sink.new)) }
     ensures no_read_fault { result ≢ 7 }
     ensures no_write_fault { result ≢ 8 }
 {

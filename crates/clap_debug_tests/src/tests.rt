@@ -4,9 +4,9 @@ use clap_debug_cli::clap_debug;
 use std::alloc::Global;
 use std::test::Fail;
 use tc_io::mem::{MemSink, SureShelf, SureSink};
-use tc_io::{FetchFault, PutFault, Shelf, Sink};
+use tc_io::{FetchFault, KeepFault, PutFault, Shelf, Sink};
 
-/// A shelf whose fetches find no memory.
+/// A shelf whose calls find no memory.
 #[derive(Drop)]
 struct NoShelf;
 
@@ -17,6 +17,10 @@ impl Shelf for NoShelf {
 
     fn fetch(&mut self, _alloc: Global, _name: &str, _limit: u64) -> Result<Vec<u8>, FetchFault> {
         Err(FetchFault::Memory)
+    }
+
+    fn keep(&mut self, _alloc: Global, _name: &str, _bytes: &[u8]) -> Result<(), KeepFault> {
+        Err(KeepFault::Memory)
     }
 }
 

@@ -7,14 +7,12 @@ mod code;
 mod lists;
 mod rows;
 
-use code::{Function, code_of};
 use std::alloc::{AllocError, Global};
-use std::fmt::Write;
 use std::test::Fail;
-use store_buffers::{MemoryModel, Sc};
+use store_buffers::MemoryModel;
 use tc_base::{Move, ThreadName};
 use tc_code::Code;
-use tc_machine::{State, Why, enabled, moves, start, step};
+use tc_machine::{State, Why, enabled, start, step};
 
 /// The name that the digits of its numbers write: 12 is `0.1.2`, and 0 is main.
 fn name_of(alloc: Global, digits: u32) -> Result<ThreadName, AllocError> {
@@ -86,19 +84,6 @@ fn play<M: MemoryModel>(alloc: Global, code: &Code, moves: &[Move]) -> Result<En
     Ok(End { state, stop: None })
 }
 
-/// What is seen of a state: the thread that failed, and the steps of each thread, by their names.
-fn seen<M: MemoryModel>(alloc: Global, state: &State<M>) -> Result<String, AllocError> {
-    let mut text = match state.failed() {
-        Some(name) => format!(in alloc; "{name} failed")?,
-        None => String::from_str(alloc, "none failed")?,
-    };
-    for name in state.threads().as_slice() {
-        let steps = state.steps_of(name).unwrap_or(0);
-        text.push_str(&format!(in alloc; ", {name} {steps}")?)?;
-    }
-    Ok(text)
-}
-
 /// Where these moves lead.
 fn end_of<M: MemoryModel>(alloc: Global, code: &Code, moves: &[Move]) -> Result<End<M>, Fail>
     ensures { IfOk result (λ end. IsReached M.ops code.now end.state) }
@@ -107,30 +92,4 @@ fn end_of<M: MemoryModel>(alloc: Global, code: &Code, moves: &[Move]) -> Result<
         return Err(Fail::from("too many moves"));
     }
     play(alloc, code, moves)
-}
-
-/// What is seen after these moves, and the first that isn't enabled.
-fn seen_under<M: MemoryModel>(
-    alloc: Global,
-    functions: &[Function],
-    moves: &[Move],
-) -> Result<String, Fail> {
-    let code = code_of(alloc, functions)?.ok_or("unlawful")?;
-    seen_over::<M>(alloc, &code, moves)
-}
-
-/// The same, over this code.
-fn seen_over<M: MemoryModel>(alloc: Global, code: &Code, moves: &[Move]) -> Result<String, Fail> {
-    let end = end_of::<M>(alloc, code, moves)?;
-    let state = seen(alloc, &end.state)?;
-    Ok(match end.stop {
-        Some((k, why)) => format!(in alloc; "{state}, {why} at {k}")?,
-        None => state,
-    })
-}
-
-/// What is seen after the moves that the numbers write, without buffers.
-fn seen_after(alloc: Global, functions: &[Function], numbers: &[i32]) -> Result<String, Fail> {
-    let moves = moves_of(alloc, numbers)?;
-    seen_under::<Sc>(alloc, functions, &moves)
 }

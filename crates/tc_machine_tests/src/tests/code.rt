@@ -31,21 +31,11 @@ pub(super) enum Op {
     LoadAt,
     /// Whether the slot is the number.
     Is(i32),
-    /// Whether it isn't.
-    IsNot(i32),
-    /// The slot takes its own value.
-    Keep,
     /// A branch where the slot isn't 0, and else to the place.
     Branch(u32),
     Goto(u32),
     Fence,
     Exit,
-    Nonzero,
-    InRange,
-    /// The slot and cell 0 change their values.
-    Swap,
-    /// The slot takes cell 0, which takes 6 where it has the number.
-    Cas(i32),
     Stbar,
 }
 
@@ -106,11 +96,6 @@ fn instr_of(alloc: Global, op: Op) -> Result<Instr, AllocError> {
             index: slot,
         },
         Op::Is(number) => Instr::Assert(slot_and(alloc, BinOp::Eq, number)?),
-        Op::IsNot(number) => Instr::Assert(slot_and(alloc, BinOp::Ne, number)?),
-        Op::Keep => Instr::Set {
-            slot: 0,
-            value: slot,
-        },
         Op::Branch(target) => Instr::Branch {
             condition: slot,
             target,
@@ -118,19 +103,6 @@ fn instr_of(alloc: Global, op: Op) -> Result<Instr, AllocError> {
         Op::Goto(target) => Instr::Goto { target },
         Op::Fence => Instr::Fence,
         Op::Exit => Instr::Exit,
-        Op::Nonzero => Instr::Nonzero(slot),
-        Op::InRange => Instr::InRange(slot),
-        Op::Swap => Instr::Swap {
-            slot: 0,
-            cell: 0,
-            value: slot,
-        },
-        Op::Cas(expected) => Instr::Cas {
-            slot: 0,
-            cell: 0,
-            expected: Expr::Number(expected),
-            value: Expr::Number(6),
-        },
         Op::Stbar => Instr::Stbar,
     })
 }
@@ -152,15 +124,6 @@ fn func_of(alloc: Global, params: u32, ops: Function) -> Result<Func, AllocError
 
 /// The code of these functions, where it is lawful. Each but main, which is the last, has the slot as its parameter.
 pub(super) fn code_of(alloc: Global, functions: &[Function]) -> Result<Option<Code>, AllocError> {
-    code_from(alloc, 0, functions)
-}
-
-/// The same, where cell 0 begins at the number.
-pub(super) fn code_from(
-    alloc: Global,
-    number: i32,
-    functions: &[Function],
-) -> Result<Option<Code>, AllocError> {
     let mut made = Vec::new(alloc);
     if let Some((main, others)) = functions.split_last() {
         for ops in others {
@@ -168,5 +131,5 @@ pub(super) fn code_from(
         }
         made.push(func_of(alloc, 0, main)?)?;
     }
-    Ok(Code::new(vec![in alloc; number, 0]?, 1, 1, made))
+    Ok(Code::new(vec![in alloc; 0; 2]?, 1, 1, made))
 }

@@ -1,0 +1,91 @@
+-- Why an answer is given: what the words are, what the shelf did, and what the bytes that it gave say.
+use Rattle.std.specs.Prelude.{◌≡◌, ℕ, List, [], ◌∷◌, None, IsSomeAnd}
+use Rattle.tc_base.specs.Buffers.{buffer_of}
+use Rattle.tc_code.specs.Code.{Code}
+use Rattle.tc_io.specs.Outside.{ShelfTells}
+use Rattle.path_log.specs.Faults.{BreaksAt as LogBreaksAt}
+use Rattle.path_log.specs.Texts.{StoredLog}
+use Rattle.schedule_file.specs.Faults.{BreaksAt as ScheduleBreaksAt}
+use Rattle.schedule_replay.specs.Verdicts.{IsVerdict}
+use Rattle.clap_debug_words.specs.Calls.{Called, Lists, Replays, call_of}
+use Rattle.clap_debug_cli.specs.Answers.{
+  Answer,
+  Usage,
+  ReadFault,
+  TooLong,
+  ProgramRefused,
+  LogRefused,
+  ScheduleRefused,
+  Listed,
+  Replayed,
+  NoMemory,
+}
+use Rattle.clap_debug_cli.specs.Files.{IsLog, IsOfOther, Schedule, IsSchedule}
+use Rattle.clap_debug_cli.specs.Inputs.{Texts, inputs_of, AreWithin, IsTooLong, GaveAll, FailsToRead, PassesLimit}
+use Rattle.clap_debug_cli.specs.Programs.{IsCodeOf, IsRefusal}
+use Rattle.schedule_replay.specs.declared.verdict.Verdict.{Verdict}
+use Rattle.clap_debug_cli.specs.declared.answer.LogRefusal.{LogRefusal}
+use Rattle.clap_debug_cli.specs.declared.answer.LogRefusal.TheVariants.{Form, OtherProgram}
+
+-- the answer of `list` to a program
+abbrev pub IsListAnswer : List ℕ → Answer → Type 0
+IsListAnswer program (ProgramRefused r) = IsRefusal program r
+IsListAnswer program (Listed code) = IsCodeOf program code
+IsListAnswer program _ = ⊥
+
+-- the three files are of their forms, the log isn't of another program, and this is the verdict on what they say
+pub record IsReplayed (program log schedule : List ℕ) (v : Verdict) : Type 0 where
+  pub code : Code
+  pub run : StoredLog
+  pub plan : Schedule
+  pub programs : IsCodeOf program code
+  pub logs : IsLog log run
+  pub schedules : IsSchedule schedule plan
+  pub recorded : IsOfOther program run → ⊥
+  pub verdict : IsVerdict (buffer_of plan.model) code run.log plan.moves v
+
+-- the log isn't of its form from this offset on, or it is of another program, and the other files are of their forms
+abbrev pub IsLogRefused : (program log schedule : List ℕ) → LogRefusal → Type 0
+IsLogRefused program log schedule (Form offset) = (code : Code) × IsCodeOf program code × LogBreaksAt log offset
+IsLogRefused program log schedule OtherProgram =
+    (code : Code) × IsCodeOf program code × (run : StoredLog) × IsLog log run × (plan : Schedule) × IsSchedule schedule plan × IsOfOther program run
+
+-- program and log are of their forms, and this line of the schedule is the first that isn't
+pub record IsScheduleRefused (program log schedule : List ℕ) (line : ℕ) : Type 0 where
+  pub code : Code
+  pub run : StoredLog
+  pub programs : IsCodeOf program code
+  pub logs : IsLog log run
+  pub breaks : ScheduleBreaksAt schedule line
+
+-- the answer of `replay` to three files: of those that aren't of their form, the first is told
+abbrev pub IsReplayAnswer : (program log schedule : List ℕ) → Answer → Type 0
+IsReplayAnswer program log schedule (ProgramRefused r) = IsRefusal program r
+IsReplayAnswer program log schedule (LogRefused r) = IsLogRefused program log schedule r
+IsReplayAnswer program log schedule (ScheduleRefused line) = IsScheduleRefused program log schedule line
+IsReplayAnswer program log schedule (Replayed v) = IsReplayed program log schedule v
+IsReplayAnswer program log schedule _ = ⊥
+
+-- the answer of a command to what its inputs hold, none of which is too long
+abbrev pub IsWorkOf : Called → Texts → Answer → Type 0
+IsWorkOf (Lists _) (program ∷ []) a = IsListAnswer program a
+IsWorkOf (Replays _ _ _) (program ∷ log ∷ schedule ∷ []) a = IsReplayAnswer program log schedule a
+IsWorkOf _ _ a = ⊥
+
+-- the answer of a command to what its inputs hold
+abbrev pub IsAnswerTo : Called → Texts → Answer → Type 0
+IsAnswerTo call t (TooLong i) = IsTooLong (inputs_of call) t i
+IsAnswerTo call t a = AreWithin (inputs_of call) t × IsWorkOf call t a
+
+-- why an answer is given to a call
+abbrev pub IsCauseOf : Called → ShelfTells → ShelfTells → Answer → Type 0
+IsCauseOf call old new (ReadFault name) = FailsToRead (inputs_of call) old new name
+IsCauseOf call old new (TooLong i) = PassesLimit (inputs_of call) old new i
+IsCauseOf call old new NoMemory = Unit {0}
+IsCauseOf call old new a = (t : Texts) × GaveAll (inputs_of call) old new t × IsAnswerTo call t a
+
+-- why an answer is given to words
+abbrev pub IsCause : List (List ℕ) → ShelfTells → ShelfTells → Answer → Type 0
+IsCause words old new Usage = (call_of words ≡ None) × (new ≡ old)
+IsCause words old new NoMemory = Unit {0}
+IsCause words old new a = IsSomeAnd (call_of words) (λ call. IsCauseOf call old new a)

@@ -1,0 +1,91 @@
+//! The commands: each fetches its files in order, and answers what they say.
+ghost use Rattle.std.specs.Prelude.{◌≡◌, ◌≤◌, length, IfOk, IfErr};
+ghost use Rattle.clap_debug_words.specs.Calls.{Lists, Replays};
+ghost use Rattle.clap_debug_cli.specs.Causes.{IsCauseOf};
+ghost use Rattle.clap_debug_cli.specs.Fetched.{IsWhyNone};
+ghost use Rattle.clap_debug_cli.specs.Held.{plain_answer};
+ghost use Rattle.clap_debug_cli.specs.Inputs.{inputs_of};
+ghost use Rattle.clap_debug_cli.specs.Judged.{IsListedSo, IsReplayedSo};
+
+use crate::answer::{Answer, LogRefusal};
+use crate::input::{Input, Missing, fetch};
+use crate::program::{CodeFault, read_program};
+use crate::replay::{is_of_other, replay_under};
+use path_log::{LogFault, read_log};
+use schedule_file::{ScheduleFault, read_schedule};
+use std::alloc::Global;
+use tc_io::Shelf;
+
+/// `list PROGRAM`: the listing of the program's code.
+pub(crate) fn list_program<'a, H: Shelf>(
+    alloc: Global,
+    shelf: &mut H,
+    program: &'a str,
+) -> Result<Answer<'a>, Missing<'a>>
+    ensures cause { IfOk result (λ answer. IsCauseOf (Lists program.now) (H.tells shelf.old) (H.tells shelf.new) (plain_answer answer)) }
+    ensures missing { IfErr result (IsWhyNone (inputs_of (Lists program.now)) (H.tells shelf.old) (H.tells shelf.new)) }
+    ensures kept { (H.tells shelf.new).held ≡ (H.tells shelf.old).held }
+{
+    let program = fetch(alloc, shelf, Input::Program, program)?;
+    Ok(listed(alloc, &program))
+}
+
+/// `replay PROGRAM LOG SCHEDULE`: whether the schedule leads to the failure of the log.
+pub(crate) fn replay_schedule<'a, H: Shelf>(
+    alloc: Global,
+    shelf: &mut H,
+    program: &'a str,
+    log: &'a str,
+    schedule: &'a str,
+) -> Result<Answer<'a>, Missing<'a>>
+    ensures cause { IfOk result (λ answer.
+        IsCauseOf (Replays program.now log.now schedule.now) (H.tells shelf.old) (H.tells shelf.new) (plain_answer answer)) }
+    ensures missing { IfErr result (IsWhyNone (inputs_of (Replays program.now log.now schedule.now)) (H.tells shelf.old) (H.tells shelf.new)) }
+    ensures kept { (H.tells shelf.new).held ≡ (H.tells shelf.old).held }
+{
+    let program = fetch(alloc, shelf, Input::Program, program)?;
+    let log = fetch(alloc, shelf, Input::Log, log)?;
+    let schedule = fetch(alloc, shelf, Input::Schedule, schedule)?;
+    Ok(replayed(alloc, &program, &log, &schedule))
+}
+
+/// What `list` answers to a program.
+fn listed<'a>(alloc: Global, program: &[u8]) -> Answer<'a>
+    requires within { length program.now ≤ 65536 }
+    ensures { IsListedSo program.now (plain_answer result) }
+{
+    match read_program(alloc, program) {
+        Ok(code) => Answer::Listed(code),
+        Err(CodeFault::Refused(fault)) => Answer::ProgramRefused(fault),
+        Err(CodeFault::Memory) => Answer::NoMemory,
+    }
+}
+
+/// What `replay` answers to three files.
+fn replayed<'a>(alloc: Global, program: &[u8], log: &[u8], schedule: &[u8]) -> Answer<'a>
+    requires { length program.now ≤ 65536 }
+    ensures { IsReplayedSo program.now log.now schedule.now (plain_answer result) }
+{
+    let code = match read_program(alloc, program) {
+        Ok(code) => code,
+        Err(CodeFault::Refused(fault)) => return Answer::ProgramRefused(fault),
+        Err(CodeFault::Memory) => return Answer::NoMemory,
+    };
+    let log = match read_log(alloc, log) {
+        Ok(log) => log,
+        Err(LogFault::Form(offset)) => return Answer::LogRefused(LogRefusal::Form(offset)),
+        Err(LogFault::Memory) => return Answer::NoMemory,
+    };
+    let schedule = match read_schedule(alloc, schedule) {
+        Ok(schedule) => schedule,
+        Err(ScheduleFault::Form(line)) => return Answer::ScheduleRefused(line),
+        Err(ScheduleFault::Memory) => return Answer::NoMemory,
+    };
+    if is_of_other(program, &log) {
+        return Answer::LogRefused(LogRefusal::OtherProgram);
+    }
+    match replay_under(alloc, &code, &log, &schedule) {
+        Ok(verdict) => Answer::Replayed(verdict),
+        Err(_) => Answer::NoMemory,
+    }
+}
