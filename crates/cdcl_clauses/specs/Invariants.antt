@@ -92,3 +92,11 @@ pub record Extends (t u : Trail) : Type 0 where
   pub starts : u.starts ≡ t.starts
   pub literals : take (length t.literals) u.literals ≡ t.literals
   pub longer : length t.literals ≤ length u.literals
+
+-- what was true before the first level began
+abbrev pub root_of : Trail → List ℕ
+root_of t = take (slice_index_or t.starts 0 (length t.literals)) t.literals
+
+-- the literal of each kept clause that has but one was true before the first level began
+abbrev pub AreRooted : Trail → List Clause → Type 0
+AreRooted t cs = (k : ℕ) → k < length cs → (at cs k).kept ≡ true → (at cs k).first ≡ (at cs k).second → Contains (root_of t) (at cs k).first

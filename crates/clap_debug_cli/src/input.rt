@@ -5,11 +5,8 @@ ghost use Rattle.clap_debug_cli.specs.Inputs.{limit_of, wanted, GaveInput};
 ghost use Rattle.clap_debug_cli.specs.Fetched.{IsWhyMissing};
 
 use std::alloc::Global;
-use tc_base::limits::{PROGRAM_BYTES, SCHEDULE_BYTES};
+use tc_base::limits::{LOG_BYTES, PROGRAM_BYTES, SCHEDULE_BYTES};
 use tc_io::{FetchFault, Shelf};
-
-/// The most bytes of a log.
-const LOG_BYTES: u64 = 4_194_304;
 
 /// One of the files.
 #[derive(Clone, Copy, Debug, PartialEq, Eq)]

@@ -1,12 +1,10 @@
-//! Worked rows of logs, schedules and replays, as data: reads a row a line, and prints what each is answered.
+//! Worked rows of logs, as data: reads a row a line, and prints what each is answered.
 //!
-//! - `log HEX..`: the bytes of a log, and how many threads it has or its fault;
-//! - `replay HEX.. : MODEL MOVE,..`: a log and a schedule, replayed in the code of module `increments`.
+//! A row is `log HEX..`, the bytes of a log. Behind it stands how many threads the log has, or its fault.
 //!
 //! A line that is empty or begins with `#` is printed as it is.
 #![tactic(auto)]
 
-mod increments;
 mod rows;
 
 use anyhow::Result;

@@ -1,28 +1,15 @@
 //! Rows, and what each is answered.
-use crate::increments::increments;
 use anyhow::{Context, Result, bail};
-use path_log::{Log, read_log, write_log};
-use schedule_file::{Schedule, read_schedule};
-use schedule_replay::{Verdict, replay};
-use std::alloc::{AllocError, Global};
-use store_buffers::{PsoModel, Sc, TsoModel};
-use tc_base::Model;
-use tc_code::Code;
+use path_log::{read_log, write_log};
+use std::alloc::Global;
 
 /// What is printed behind a row.
 pub(crate) fn answer(alloc: Global, row: &str) -> Result<String> {
     if row.is_empty() || row.starts_with("#") {
         return Ok(String::new(alloc));
     }
-    if let Some(hex) = row.strip_prefix("log ") {
-        return log_answer(alloc, hex);
-    }
-    let (log, moves) = row
-        .strip_prefix("replay ")
-        .context("an unknown row")?
-        .split_once(" : ")
-        .context("a replay without a schedule")?;
-    replay_answer(alloc, log, moves)
+    let hex = row.strip_prefix("log ").context("an unknown row")?;
+    log_answer(alloc, hex)
 }
 
 /// The bytes that the hex digits write, blanks between them left out.
@@ -45,47 +32,5 @@ fn log_answer(alloc: Global, hex: &str) -> Result<String> {
             Ok(format!(in alloc; " = {} threads", log.threads().len())?)
         }
         Err(fault) => Ok(format!(in alloc; " = {fault}")?),
-    }
-}
-
-/// A schedule, written as its model and its moves with commas between them.
-fn schedule_of(alloc: Global, moves: &str) -> Result<Schedule> {
-    let mut text = String::from_str(alloc, "clap-schedule 1 ")?;
-    for line in moves.split(',') {
-        text.push_str(line)?;
-        text.push('\n')?;
-    }
-    Ok(read_schedule(alloc, text.as_bytes())?)
-}
-
-fn replay_answer(alloc: Global, log: &str, moves: &str) -> Result<String> {
-    let log = read_log(alloc, bytes_of(alloc, log)?.as_slice())?;
-    let schedule = schedule_of(alloc, moves)?;
-    let code = increments(alloc)?.context("unlawful code")?;
-    let verdict = verdict_of(alloc, &code, &log, &schedule)?;
-    Ok(told(alloc, &verdict)?)
-}
-
-/// The verdict under the model that the schedule names.
-fn verdict_of(
-    alloc: Global,
-    code: &Code,
-    log: &Log,
-    schedule: &Schedule,
-) -> Result<Verdict, AllocError> {
-    match schedule.model {
-        Model::Sc => replay::<Sc>(alloc, code, log, schedule),
-        Model::Tso => replay::<TsoModel>(alloc, code, log, schedule),
-        Model::Pso => replay::<PsoModel>(alloc, code, log, schedule),
-    }
-}
-
-fn told(alloc: Global, verdict: &Verdict) -> Result<String, AllocError> {
-    match verdict {
-        Verdict::Reproduces => format!(in alloc; " = reproduces"),
-        Verdict::Stops(number, why) => format!(in alloc; " = stops at move {number}: {why}"),
-        Verdict::NoFailure => format!(in alloc; " = no failure"),
-        Verdict::OtherFailure(name) => format!(in alloc; " = other failure {name}"),
-        Verdict::OtherPath(name) => format!(in alloc; " = other path {name}"),
     }
 }

@@ -3,7 +3,7 @@
 /// Bytes of a program's text.
 pub const PROGRAM_BYTES: u64 = 65_536;
 /// Bytes of a log.
-pub const LOG_BYTES: u64 = 1_048_576;
+pub const LOG_BYTES: u64 = 4_194_304;
 /// Bytes of a schedule.
 pub const SCHEDULE_BYTES: u64 = 67_108_864;
 /// Brackets of a program that are open at once.

@@ -1,5 +1,4 @@
 -- No promise speaks of what stands in this folder.
-pub mod Tests
 pub mod CodedExpr
 pub mod CodedInstr
 pub mod CodedCode

@@ -1,11 +1,10 @@
 //! Code that is lawful by its type.
-ghost use Rattle.std.specs.Prelude.{◌≡◌, ℕ, Option, Some, None, IfSome, ◌↔◌, IsSome, option_map, ◌<◌, ◌+◌, ◌^◌, OnSome, is_some};
+ghost use Rattle.std.specs.Prelude.{◌≡◌, option_map, ◌<◌, ◌+◌, ◌^◌, OnSome, is_some};
 ghost use Rattle.tc_code.specs.Code.{code_of, instr_at, line_at};
 ghost use Rattle.tc_code.specs.Code as spec;
 ghost use Rattle.tc_code.specs.Lawful.{IsLawful};
 ghost use Rattle.tc_code.specs.Seen.{plain_instr};
 
-use crate::parts::Parts;
 use crate::{FuncName, Instr, Instrs, Lines};
 use std::marker::Model;
 
@@ -39,11 +38,15 @@ pub struct Func {
 /// - main is the last function, and has no parameters.
 #[derive(Debug, Drop)]
 pub struct Code {
-    parts: Parts,
+    memory: Vec<i32>,
+    mutexes: u32,
+    conditions: u32,
+    functions: Vec<Func>,
 }
 
 impl Model for Code {
     ghost use Rattle.tc_code.specs.Code as spec;
+    ghost use Rattle.tc_code.specs.Code.{code_of};
     ghost use Rattle.tc_code.specs.Lawful.{IsLawful};
     ghost use Rattle.tc_code.specs.helpers.CodedCode.{coded_code};
 
@@ -51,33 +54,24 @@ impl Model for Code {
 
     ghost coded = { coded_code };
 
-    ghost view = { λ c. c.parts };
+    ghost view = { λ c. code_of c.memory.items c.mutexes c.conditions c.functions.items };
 
-    ghost invariant = { λ c. IsLawful c.parts };
+    ghost invariant = { λ c. IsLawful (code_of c.memory.items c.mutexes c.conditions c.functions.items) };
 }
 
 impl Code {
-    /// The code of these cells, by their values at the start, so many mutexes and conditions, and these functions,
-    /// where it is lawful.
-    pub fn new(
-        memory: Vec<i32>,
-        mutexes: u32,
-        conditions: u32,
-        functions: Vec<Func>,
-    ) -> Option<Code>
-        ensures lawful { IsSome result ↔ IsLawful (code_of memory.items mutexes conditions functions.items) }
-        ensures made { IfSome result (λ code. code ≡ code_of memory.items mutexes conditions functions.items) }
+    /// The code of these cells, by their values at the start, so many mutexes and conditions, and these functions.
+    ///
+    /// Nothing is tested: whoever makes code proves that it is lawful.
+    pub fn new(memory: Vec<i32>, mutexes: u32, conditions: u32, functions: Vec<Func>) -> Code
+        requires { IsLawful (code_of memory.items mutexes conditions functions.items) }
+        ensures { result ≡ code_of memory.items mutexes conditions functions.items }
     {
-        let parts = Parts {
+        Code {
             memory,
             mutexes,
             conditions,
             functions,
-        };
-        if parts.are_lawful() {
-            Some(Code { parts })
-        } else {
-            None
         }
     }
 
@@ -85,21 +79,21 @@ impl Code {
     pub fn memory(&self) -> &[i32]
         ensures { result.now ≡ self.now.memory }
     {
-        &self.parts.memory
+        &self.memory
     }
 
     /// How many mutexes there are.
     pub fn mutexes(&self) -> u32
         ensures { result ≡ self.now.mutexes }
     {
-        self.parts.mutexes
+        self.mutexes
     }
 
     /// How many conditions there are.
     pub fn conditions(&self) -> u32
         ensures { result ≡ self.now.conditions }
     {
-        self.parts.conditions
+        self.conditions
     }
 
     /// The functions, main last.
@@ -107,7 +101,7 @@ impl Code {
         ensures seen { result.now ≡ self.now.functions }
         ensures lawful { IsLawful self.now }
     {
-        &self.parts.functions
+        &self.functions
     }
 
     /// The instruction at a place, if there is one.
@@ -116,7 +110,7 @@ impl Code {
         ensures lawful { IsLawful self.now }
         ensures room { OnSome result (instruction + 1 < 2 ^ 64) }
     {
-        self.parts.functions.get(function)?.instrs.get(instruction)
+        self.functions.get(function)?.instrs.get(instruction)
     }
 
     /// The line in the text, from 1, of the instruction at a place, if there is one.
@@ -124,8 +118,7 @@ impl Code {
         ensures seen { result ≡ line_at self.now function instruction }
         ensures there { is_some result ≡ is_some (instr_at self.now function instruction) }
     {
-        self.parts
-            .functions
+        self.functions
             .get(function)?
             .lines
             .as_slice()

@@ -1,7 +1,6 @@
 //! Expressions over the int slots of a thread.
 ghost use Rattle.std.specs.Prelude.{◌≡◌, length, IsTrue};
-ghost use Rattle.tc_code.specs.Expr.{value_of, names_slots, names_slot};
-ghost use Rattle.tc_code.specs.helpers.Tests.{same_expr};
+ghost use Rattle.tc_code.specs.Expr.{value_of, names_slots};
 ghost use Rattle.tc_code.specs.SeenExpr.{plain_expr, plain_exprs};
 
 use std::marker::Model;
@@ -70,44 +69,5 @@ pub fn value(e: &Expr, slots: &[i32]) -> i32
             value(left, slots),
             value(right, slots),
         ),
-    }
-}
-
-/// Whether each slot that the expression names is one of so many.
-pub fn names_slots(e: &Expr, count: u32) -> bool
-    ensures { result ≡ names_slots count (plain_expr e.now) }
-{
-    match e {
-        Expr::Number(_) => true,
-        Expr::Slot(k) => *k < count,
-        Expr::Unary(_, operand) => names_slots(operand, count),
-        Expr::Binary(_, left, right) => names_slots(left, count) && names_slots(right, count),
-    }
-}
-
-/// Whether the expression names the slot.
-pub(crate) fn names_slot(e: &Expr, slot: u32) -> bool
-    ensures { result ≡ names_slot slot (plain_expr e.now) }
-{
-    match e {
-        Expr::Number(_) => false,
-        Expr::Slot(k) => *k == slot,
-        Expr::Unary(_, operand) => names_slot(operand, slot),
-        Expr::Binary(_, left, right) => names_slot(left, slot) || names_slot(right, slot),
-    }
-}
-
-/// Whether two expressions are the same.
-pub(crate) fn same_expr(a: &Expr, b: &Expr) -> bool
-    ensures { result ≡ same_expr (plain_expr a.now) (plain_expr b.now) }
-{
-    match (a, b) {
-        (Expr::Number(m), Expr::Number(n)) => m == n,
-        (Expr::Slot(j), Expr::Slot(k)) => j == k,
-        (Expr::Unary(op, a), Expr::Unary(other, b)) => op == other && same_expr(a, b),
-        (Expr::Binary(op, a, b), Expr::Binary(other, c, d)) => {
-            op == other && same_expr(a, c) && same_expr(b, d)
-        }
-        _ => false,
     }
 }

@@ -6,12 +6,10 @@ mod display;
 mod expr;
 mod instr;
 mod list;
-mod parts;
-mod places;
 mod source;
 
 pub use code::{Code, Func};
-pub use expr::{Expr, Exprs, names_slots, value};
+pub use expr::{Expr, Exprs, value};
 pub use instr::{Instr, Instrs};
 pub use list::listing;
 pub use source::{FuncName, Lines};

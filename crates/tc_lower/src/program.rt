@@ -29,10 +29,7 @@ pub fn lower(alloc: Heap, tree: &Tree) -> Result<tc_code::Code, AllocError>
     let ProgramThings { names, numbers } = program_things(alloc, program)?;
     let memory = memory_of(alloc, program.globals.as_slice())?;
     let functions = functions_of(alloc, tree.text, names.as_slice(), program)?;
-    match tc_code::Code::new(memory, numbers.mutexes, numbers.conditions, functions) {
-        Some(code) => Ok(code),
-        None => unreachable!(),
-    }
+    Ok(tc_code::Code::new(memory, numbers.mutexes, numbers.conditions, functions))
 }
 
 /// The functions of the threads, and then main.

@@ -1,6 +1,5 @@
 use Rattle.std.proofs.Common.{◌≡◌, [], ◌∷◌, ◌++◌, map, ap, sym, subst, ◌∙◌, arith}
 use Rattle.std.specs.Prelude.{codes}
-use Rattle.std.proofs.lemmas.Bool.{false≢true}
 use Rattle.std.proofs.lemmas.List.{length-map}
 use Rattle.tc_code.specs.Code as flat
 use Rattle.tc_code.specs.Lawful.{IsLawful}
@@ -28,8 +27,8 @@ pub functions_of-requires-clause-main : goal.functions_of-requires-clause-main
 functions_of-requires-clause-main c =
     (has_few c.args.tree.now.text.now c.as_slice-2.result.now (program_of c.args.tree.now.program) c.requires.few).main
 
-pub unreachable-requires : goal.unreachable-requires
-unreachable-requires c =
+pub new-requires : goal.new-requires
+new-requires c =
     let source = c.args.tree.now.text.now in
     let p = program_of c.args.tree.now.program in
     let memory : c.in_ok-memory.memory.items ≡ memory_of p.globals = c.in_ok-memory.ensures ∙ ap memory_of c.as_slice.ensures.value in
@@ -49,4 +48,4 @@ unreachable-requires c =
     ∙ ap (λ n. flat.code_of (memory_of p.globals) n c.in_ok-names.field-0.numbers.conditions c.in_ok-functions.functions.items) mutexes_are
     ∙ ap (λ n. flat.code_of (memory_of p.globals) (mutexes p.globals) n c.in_ok-functions.functions.items) conditions_are
     ∙ ap (λ fs. flat.code_of (memory_of p.globals) (mutexes p.globals) (conditions p.globals) fs) functions in
-    false≢true (c.in-None.ensures.lawful.1 (subst IsLawful (sym same) (program_is_lawful source p c.requires.cells)))
+    subst IsLawful (sym same) (program_is_lawful source p c.requires.cells)
