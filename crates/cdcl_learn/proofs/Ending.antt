@@ -135,6 +135,10 @@ turned t u met before n root base place a ls e level b s =
         | inl d ↦ ap (λ (xs : List ℕ). xs ++ a ∷ []) d
         | inr d ↦ absurd (closed (s.lower a (subst (λ (y : ℕ). Contains ls y) f d)))
       ];
+      root = λ f. elim s.alone [
+        | inl d ↦ s.root d
+        | inr d ↦ absurd (closed (s.lower a (subst (λ (y : ℕ). Contains ls y) f d)))
+      ];
       high = λ i il ne. elim s.alone [ inl d ↦ absurd (ne (s.single d)) | inr d ↦ s.high i il d ];
     }
 

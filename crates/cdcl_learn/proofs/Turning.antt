@@ -137,6 +137,7 @@ turn_back t u h ls s a b place level best pl e l =
           ));
       alone = inr best.has;
       single = λ g. absurd (let d : Contains [] b = subst (λ (xs : List ℕ). Contains xs b) g best.has in omega (arith, d.1));
+      root = λ g. absurd (let d : Contains [] b = subst (λ (xs : List ℕ). Contains xs b) g best.has in omega (arith, d.1));
       high = λ i il c (k, kl, f).
           let m : ℕ = get_or t.starts i 0 in
           let km : k < m = omega (arith, kl, length-take m t.literals) in

@@ -9,7 +9,7 @@ use Rattle.cdcl_learn.specs.declared.lesson.Turn.{Turn}
 use Rattle.cdcl_learn.specs.declared.lesson.Turn.TheVariants.{Closed, Back}
 
 -- once the levels from one on are taken back, the asserted literal is open and all others of the clause are false; the one beside it
--- is false on no lower level
+-- is false on no lower level; a clause of one literal takes back all levels
 pub record TurnsBack (t : Trail) (literals : List ℕ) (level asserted beside : ℕ) : Type 0 where
   pub level_within : level < length t.starts
   pub has : Contains literals asserted
@@ -18,6 +18,7 @@ pub record TurnsBack (t : Trail) (literals : List ℕ) (level asserted beside : 
   pub others : (x : ℕ) → Contains literals x → x ≢ asserted → Contains (take (slice_index t.starts level) t.literals) (opposite_of x)
   pub beside_in : Contains literals beside
   pub single : beside ≡ asserted → literals ≡ asserted ∷ []
+  pub root : beside ≡ asserted → level ≡ 0
   pub high : (i : ℕ) → i < level → beside ≢ asserted → Contains (take (slice_index t.starts i) t.literals) (opposite_of beside) → ⊥
 
 -- what to do fits the clause

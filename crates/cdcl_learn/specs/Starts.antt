@@ -5,14 +5,15 @@ use Rattle.cdcl_learn.specs.declared.lesson.Turn.{Turn}
 use Rattle.cdcl_learn.specs.declared.lesson.Turn.TheVariants.{Closed, Back}
 use Rattle.cdcl_trail.specs.Trail.{Trail}
 use Rattle.cdcl_clauses.specs.Clauses.{Clause}
+use Rattle.cdcl_clauses.specs.Invariants.{IsConflict}
 use Rattle.cdcl_learn.specs.Helpers.{Tallies, Suffices}
 use Rattle.cdcl_learn.specs.declared.analysis.Analysis.{Analysis}
 
 -- the conflict was met, and where what isn't propagated belongs to the last level, some of that is to be resolved
-pub record IsStarted (t : Trail) (cs : List Clause) (root base : ℕ) (a : Analysis) : Type 0 where
+pub record IsStarted (t : Trail) (cs : List Clause) (conflict root base : ℕ) (a : Analysis) : Type 0 where
   pub tallies : Tallies t a.met.items a.pending root base a.literals.items
   pub suffices : Suffices t cs a.met.items a.hints.items
-  pub some : base ≤ t.propagated → 0 < a.pending
+  pub some : IsConflict t cs conflict → base ≤ t.propagated → 0 < a.pending
 
 -- the literals are false by places below the last level
 abbrev pub AreLower : Trail → List ℕ → Type 0
@@ -37,6 +38,7 @@ pub record IsTurn (t : Trail) (ls : List ℕ) (a level asserted beside : ℕ) : 
   pub lower : (x : ℕ) → Contains ls x → Contains (take (slice_index t.starts level) t.literals) (opposite_of x)
   pub alone : (ls ≡ []) ⊎ Contains ls beside
   pub single : ls ≡ [] → beside ≡ a
+  pub root : ls ≡ [] → level ≡ 0
   pub high : (i : ℕ) → i < level → Contains ls beside → Contains (take (slice_index t.starts i) t.literals) (opposite_of beside) → ⊥
 
 -- what to do fits, where these are the other literals

@@ -4,6 +4,7 @@ ghost use Rattle.cdcl_trail.specs.Trail.{IsTrail};
 ghost use Rattle.cdcl_clauses.specs.Clauses.{at};
 ghost use Rattle.cdcl_clauses.specs.Invariants.{IsClause, AreReasoned, IsConflict};
 ghost use Rattle.cdcl_learn.specs.Starts.{IsStarted, AreLower, IsHighest, IsLevelAfter, Turns};
+ghost use Rattle.cdcl_learn.specs.Shown.{Refutes};
 ghost use Rattle.cdcl_learn.specs.Lessons.{IsLesson};
 
 use crate::analysis::{Analysis, Bounds};
@@ -24,10 +25,10 @@ fn start(
 ) -> Result<Analysis, AllocError>
     requires lawful { IsTrail trail.now }
     requires clauses { (k : ℕ) → k < length clauses.now → (at clauses.now k).kept ≡ true → IsClause trail.now.variables (at clauses.now k) }
-    requires conflict { IsConflict trail.now clauses.now conflict }
+    requires conflict { Refutes clauses.now trail.now.literals conflict }
     requires order { order.old ≡ trail.now.variables }
     ensures order { order.new ≡ order.old }
-    ensures started { IfOk result (IsStarted trail.now clauses.now bounds.root bounds.base) }
+    ensures started { IfOk result (IsStarted trail.now clauses.now conflict bounds.root bounds.base) }
 {
     let met = vec![in alloc; false; trail.len()]?;
     let mut analysis = Analysis {
@@ -40,7 +41,7 @@ fn start(
     Ok(analysis)
 }
 
-/// What a conflict teaches where no level has begun: that there is no way out.
+/// What a clause teaches all of whose literals are false where no level has begun: that there is no way out.
 pub fn close(
     alloc: Global,
     trail: &Trail,
@@ -51,7 +52,7 @@ pub fn close(
     requires lawful { IsTrail trail.now }
     requires clauses { (k : ℕ) → k < length clauses.now → (at clauses.now k).kept ≡ true → IsClause trail.now.variables (at clauses.now k) }
     requires reasoned { AreReasoned trail.now clauses.now }
-    requires conflict { IsConflict trail.now clauses.now conflict }
+    requires conflict { Refutes clauses.now trail.now.literals conflict }
     requires levels { trail.now.starts ≡ [] }
     requires order { order.old ≡ trail.now.variables }
     ensures order { order.new ≡ order.old }

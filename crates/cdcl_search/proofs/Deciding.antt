@@ -40,6 +40,7 @@ use Rattle.cdcl_clauses.specs.Invariants.{HasTrue, Guards, AreGuarded, IsReason,
 use Rattle.cdcl_clauses.specs.declared.watches.Watch.{Watch}
 use Rattle.cdcl_propagate.specs.Looks.{Propagates}
 use Rattle.cdcl_search.specs.Descents.{Descends}
+use Rattle.cdcl_search.proofs.Rooting.{root-extends, root-decided, rooted-same}
 
 open-cases : (l v : ℕ) → l / 2 ≡ v → (l ≡ 2 * v) ⊎ (l ≡ 2 * v + 1)
 open-cases l v e = elim (cases_eq (l % 2) 0) [ inl h ↦ inl (omega (arith, h, e)) | inr h ↦ inr (omega (arith, h, e)) ]
@@ -140,6 +141,7 @@ descends-refl t cs ws s = record {
   literals =
       take_all (length t.literals) t.literals (omega arith);
   longer = omega arith;
+  rooted = λ r. r;
 }
 
 pub descends-propagates : (t : Trail) (cs : List Clause) (u : Trail) (ds : List Clause) (us : List (List Watch)) (v : Trail) (es : List Clause)
@@ -150,6 +152,7 @@ descends-propagates t cs u ds us v es vs a b = record {
   variables = b.extends.variables ∙ a.variables;
   literals = sym (take-take (length t.literals) (length u.literals) v.literals a.longer) ∙ ap (take (length t.literals)) b.extends.literals ∙ a.literals;
   longer = omega (arith, a.longer, b.extends.longer);
+  rooted = λ r. rooted-same u ds us v es vs a.sound b.sound b.same (root-extends u v b.extends) (a.rooted r);
 }
 
 pub descends-decided : (t : Trail) (cs : List Clause) (u : Trail) (ds : List Clause) (us : List (List Watch)) → Descends t cs u ds us
@@ -160,4 +163,5 @@ descends-decided t cs u ds us a e l w = record {
   variables = a.variables;
   literals = take-append-le (length t.literals) u.literals (l ∷ []) a.longer ∙ a.literals;
   longer = omega (arith, a.longer, length_push u.literals l);
+  rooted = λ r k kl kept f. root-decided u l (at ds k).first (a.rooted r k kl kept f);
 }

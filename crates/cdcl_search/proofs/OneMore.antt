@@ -151,7 +151,7 @@ match-map : (P P' : Type 0) (Q Q' : ℕ → Type 0) (o : Option ℕ) → (P → 
 match-map P P' Q Q' None f g h = f h
 match-map P P' Q Q' (Some k) f g h = g k h
 
-reasoned-push : (t : Trail) (cs : List Clause) (c : Clause) → AreReasoned t cs → AreReasoned t (cs ++ c ∷ [])
+pub reasoned-push : (t : Trail) (cs : List Clause) (c : Clause) → AreReasoned t cs → AreReasoned t (cs ++ c ∷ [])
 reasoned-push t cs c s p h =
     match-map (BeginsAt t p) (BeginsAt t p) (IsReason cs (take p t.literals) (get_or t.literals p 0))
     (IsReason (cs ++ c ∷ []) (take p t.literals) (get_or t.literals p 0)) (get_or t.reasons p None)

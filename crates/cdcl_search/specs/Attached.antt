@@ -17,7 +17,8 @@ pub record WasAttached (cs : List Clause) (ws : List (List Watch)) (ds : List Cl
   pub clauses : ds ≡ cs ++ record { literals = literals; first = first; second = second; kept = true } ∷ []
   pub lists : vs ≡ both_listed ws (length cs) first second
 
--- all is propagated; all literals are false but the asserted one, which is open; the one beside is false on no lower level
+-- all is propagated; all literals are false but the asserted one, which is open; the one beside is false on no lower level; and a literal
+-- that stands alone is asserted before the first level
 pub record CanAssert (t : Trail) (literals : List ℕ) (asserted beside : ℕ) : Type 0 where
   pub propagated : t.propagated ≡ length t.literals
   pub within : All (λ l. l < 2 * t.variables) literals
@@ -26,4 +27,5 @@ pub record CanAssert (t : Trail) (literals : List ℕ) (asserted beside : ℕ) :
   pub others : (x : ℕ) → Contains literals x → x ≢ asserted → Contains t.literals (opposite_of x)
   pub beside_in : Contains literals beside
   pub single : beside ≡ asserted → literals ≡ asserted ∷ []
+  pub root : beside ≡ asserted → t.starts ≡ []
   pub high : (i : ℕ) → i < length t.starts → beside ≢ asserted → Contains (take (slice_index t.starts i) t.literals) (opposite_of beside) → ⊥

@@ -2,7 +2,7 @@
 use Rattle.std.specs.Prelude.{◌≡◌, ℕ, ◌*◌, ◌<◌, ◌≤◌, List, length, take}
 use Rattle.cdcl_trail.specs.Trail.{Trail, IsOpen}
 use Rattle.cdcl_clauses.specs.Clauses.{Clause}
-use Rattle.cdcl_clauses.specs.Invariants.{IsSound, AreSame}
+use Rattle.cdcl_clauses.specs.Invariants.{IsSound, AreSame, AreRooted}
 use Rattle.cdcl_clauses.specs.declared.watches.Watch.{Watch}
 
 -- no variable is open
@@ -16,6 +16,7 @@ pub record Descends (t : Trail) (cs : List Clause) (u : Trail) (ds : List Clause
   pub variables : u.variables ≡ t.variables
   pub literals : take (length t.literals) u.literals ≡ t.literals
   pub longer : length t.literals ≤ length u.literals
+  pub rooted : AreRooted t cs → AreRooted u ds
 
 -- the variable is open
 pub record IsChosen (t : Trail) (v : ℕ) : Type 0 where

@@ -1,2 +1,3 @@
 pub mod Descents
 pub mod Attached
+pub mod Loads

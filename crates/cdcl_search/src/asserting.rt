@@ -1,6 +1,6 @@
 //! What was learnt comes true.
 ghost use Rattle.std.specs.Prelude.{◌≡◌, ◌<◌, ◌^◌, Some, OnOk, OnErr, length};
-ghost use Rattle.cdcl_clauses.specs.Invariants.{IsSound};
+ghost use Rattle.cdcl_clauses.specs.Invariants.{IsSound, AreRooted};
 ghost use Rattle.cdcl_trail.specs.Trail.{pushed};
 ghost use Rattle.cdcl_search.specs.Attached.{WasAttached, CanAssert};
 
@@ -23,6 +23,7 @@ pub fn assert_clause(
     requires can { CanAssert trail.old literals.now asserted beside }
     ensures ok { OnOk result (WasAttached clauses.old watches.old clauses.new watches.new literals.now asserted beside) }
     ensures sound { IsSound trail.new clauses.new watches.new }
+    ensures rooted { AreRooted trail.old clauses.old → AreRooted trail.new clauses.new }
     ensures trail { OnOk result (trail.new ≡ pushed trail.old asserted (Some (length clauses.old))) }
     ensures err_trail { OnErr result (trail.new ≡ trail.old) }
     ensures err_clauses { OnErr result (clauses.new ≡ clauses.old) }

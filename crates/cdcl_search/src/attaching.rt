@@ -1,5 +1,7 @@
 //! One more clause.
-ghost use Rattle.std.specs.Prelude.{◌≡◌, ◌<◌, ◌^◌, OnOk, OnErr, length};
+ghost use Rattle.std.specs.Prelude.{◌≡◌, ℕ, ◌<◌, ◌^◌, List, OnOk, OnErr, length};
+ghost use Rattle.cdcl_clauses.specs.Clauses.{Clause};
+ghost use Rattle.cdcl_clauses.specs.declared.watches.Watch.{Watch};
 ghost use Rattle.cdcl_search.specs.Attached.{WasAttached, both_listed};
 
 use cdcl_clauses::{Clauses, Watch, Watches};
@@ -27,6 +29,18 @@ pub fn attach(
         return Err(error);
     }
     Ok(())
+}
+
+/// The last clause, which stands last at both literals, is there no more.
+pub fn detach(clauses: &mut Clauses, watches: &mut Watches, first: u32, second: u32)
+    requires first { first < length watches.old }
+    requires second { second < length watches.old }
+    ensures { (cs : List Clause) (ws : List (List Watch)) (literals : List ℕ)
+        → WasAttached cs ws clauses.old watches.old literals first second → (clauses.new ≡ cs) × (watches.new ≡ ws) }
+{
+    watches.pop(second);
+    watches.pop(first);
+    clauses.pop();
 }
 
 /// The clause stands at both literals; or all is as it was.

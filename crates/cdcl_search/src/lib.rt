@@ -6,9 +6,13 @@ mod attaching;
 mod backs;
 mod choice;
 mod descent;
+mod forgetting;
+mod loading;
 
 pub use asserting::assert_clause;
-pub use attaching::attach;
+pub use attaching::{attach, detach};
 pub use backs::go_back;
 pub use choice::next_open;
 pub use descent::to_conflict;
+pub use forgetting::forget;
+pub use loading::{Loaded, load_clause};

@@ -18,6 +18,6 @@ returns-clause-started c =
       tallies = c.in_ok-meet.ensures.tallies;
       suffices = rw h (suffices-start c.args.trail.now c.args.clauses.now c.in_ok-met.met.items c.meet.new.self.met.items c.args.conflict
           c.requires.conflict.there c.requires.conflict.kept c.requires.conflict.all_false m);
-      some = some-start c.args.trail.now c.args.clauses.now c.args.conflict c.requires.conflict c.in_ok-met.met.items c.meet.new.self.met.items
+      some = λ conflict. some-start c.args.trail.now c.args.clauses.now c.args.conflict conflict c.in_ok-met.met.items c.meet.new.self.met.items
           c.meet.new.self.pending c.args.bounds.root c.args.bounds.base c.meet.new.self.literals.items m c.in_ok-meet.ensures.tallies;
     }

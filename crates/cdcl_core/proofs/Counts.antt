@@ -1,0 +1,76 @@
+-- Lines are counted one by one.
+use Rattle.std.proofs.Common.{◌*◌, ◌≤◌, zero, suc, inl, inr, subst, cond, ◌≡◌, ℕ, ◌+◌, Bool, true, false, List, [], ◌∷◌, ◌++◌, length, take, refl, sym, ◌∙◌, ap, arith}
+use Rattle.std.specs.Prelude.{count_by}
+use Rattle.std.proofs.lemmas.List.{length_push, take-append-le, take_all}
+use Rattle.std.proofs.lemmas.List.Sums.{fold-append, sum_by_push}
+use Rattle.std.proofs.lemmas.Bool.{cases_lt}
+use Rattle.std.proofs.lemmas.List.Elements.{All-push}
+use Rattle.cnf_core.specs.Clauses.{Formula}
+use Rattle.refute_check.specs.Refutations.{start, after}
+use Rattle.refute_check.specs.declared.line.Line.{Line}
+use Rattle.cdcl_lines.specs.Lines.{added}
+use Rattle.cdcl_core.specs.Searches.{adds, teaches, added_in, deletes, deleted_in, Spares, DeletesFew, checked}
+
+pub begins-push : (lines : List Line) (l : Line) → take (length lines) (lines ++ l ∷ []) ≡ lines
+begins-push lines l = take-append-le (length lines) lines (l ∷ []) (omega arith) ∙ take_all (length lines) lines (omega arith)
+
+more-yes : (p : Line → Bool) (lines : List Line) (l : Line) → p l ≡ true → count_by p (lines ++ l ∷ []) ≡ count_by p lines + 1
+more-yes p lines l e =
+    sum_by_push (λ x. cond (p x) 1 0) lines l ∙ ap (λ (b : Bool). let n : ℕ = cond b 1 0 in count_by p lines + n) e
+
+more-no : (p : Line → Bool) (lines : List Line) (l : Line) → p l ≡ false → count_by p (lines ++ l ∷ []) ≡ count_by p lines
+more-no p lines l e =
+    let f : count_by p lines + 0 ≡ count_by p lines = omega arith in
+    sum_by_push (λ x. cond (p x) 1 0) lines l ∙ ap (λ (b : Bool). let n : ℕ = cond b 1 0 in count_by p lines + n) e ∙ f
+
+pub added-push : (lines : List Line) (l : Line) → teaches l ≡ true → added_in (lines ++ l ∷ []) ≡ added_in lines + 1
+added-push lines l e = more-yes teaches lines l e
+
+pub added-same : (lines : List Line) (l : Line) → teaches l ≡ false → added_in (lines ++ l ∷ []) ≡ added_in lines
+added-same lines l e = more-no teaches lines l e
+
+pub adds-push : (lines : List Line) (l : Line) → adds l ≡ true → count_by adds (lines ++ l ∷ []) ≡ count_by adds lines + 1
+adds-push lines l e = more-yes adds lines l e
+
+pub checked-push : (f : Formula) (lines : List Line) (l : Line) → checked f (lines ++ l ∷ []) ≡ after (checked f lines) l
+checked-push f lines l = fold-append after (start f) lines (l ∷ [])
+
+pub adds-same : (lines : List Line) (l : Line) → adds l ≡ false → count_by adds (lines ++ l ∷ []) ≡ count_by adds lines
+adds-same lines l e = more-no adds lines l e
+
+pub deleted-push : (lines : List Line) (l : Line) → deleted_in (lines ++ l ∷ []) ≡ deleted_in lines + deletes l
+deleted-push lines l = sum_by_push deletes lines l
+
+pub deleted-added : (lines : List Line) (l : Line) → deletes l ≡ 0 → deleted_in (lines ++ l ∷ []) ≡ deleted_in lines
+deleted-added lines l e = omega (arith, deleted-push lines l, e)
+
+-- what holds of each beginning and of the whole holds of each beginning of one line more
+each-beginning : (P : List Line → Type 0) (lines : List Line) (l : Line) → ((k : ℕ) → P (take k lines)) → P (lines ++ l ∷ []) → (k : ℕ)
+    → P (take k (lines ++ l ∷ []))
+each-beginning P lines l old new k =
+    elim (cases_lt k (length lines + 1)) [
+      | inl h ↦ subst P (sym (take-append-le k lines (l ∷ []) (omega arith))) (old k)
+      | inr h ↦ subst P (sym (take_all k (lines ++ l ∷ []) (omega (arith, length_push lines l)))) new
+    ]
+
+pub few-push : (f : Formula) (lines : List Line) (l : Line) → DeletesFew f lines → Spares (length f.clauses) l
+    → 2 * deleted_in (lines ++ l ∷ []) ≤ count_by adds (lines ++ l ∷ []) → DeletesFew f (lines ++ l ∷ [])
+few-push f lines l h s n = record {
+  spares = All-push (Spares (length f.clauses)) lines l h.spares s;
+  few = each-beginning (λ (xs : List Line). 2 * deleted_in xs ≤ count_by adds xs) lines l h.few n;
+}
+
+pub whole-few : (f : Formula) (lines : List Line) → DeletesFew f lines → 2 * deleted_in lines ≤ count_by adds lines
+whole-few f lines h = subst (λ (xs : List Line). 2 * deleted_in xs ≤ count_by adds xs) (take_all (length lines) lines (omega arith)) (h.few (length lines))
+
+pub few-added : (f : Formula) (lines : List Line) (ls hs : List ℕ) → DeletesFew f lines → DeletesFew f (lines ++ added ls hs ∷ [])
+few-added f lines ls hs h =
+    few-push f lines (added ls hs) h tt
+    (omega (arith, whole-few f lines h, deleted-added lines (added ls hs) refl, adds-push lines (added ls hs) refl))
+
+none-taken : (k : ℕ) → 2 * deleted_in (take k []) ≤ count_by adds (take k [])
+none-taken zero = omega arith
+none-taken (suc k) = omega arith
+
+pub few-none : (f : Formula) → DeletesFew f []
+few-none f = record { spares = λ k d h. absurd (omega (arith, h)); few = λ k. none-taken k }

@@ -1,0 +1,6 @@
+pub mod Agreeing
+pub mod Counts
+pub mod Going
+pub mod Searching
+pub mod Starting
+pub mod Dropping

@@ -1,0 +1,11 @@
+use Rattle.std.proofs.Common.{◌<◌, ◌≤◌, length}
+use Rattle.std.specs.Prelude.{All}
+use Rattle.cdcl_core.specs.Helpers.{MayAllGo}
+use Rattle.cdcl_core.proofs.state.State.choose.Given as goal
+
+abbrev pub invariant-loop-clause : goal.invariant-loop-clause
+invariant-loop-clause l = record {
+  may : MayAllGo l.self l.chosen.items;
+  below : All (λ k. k < l.clause) l.chosen.items;
+  few : length l.chosen.items ≤ l.most;
+}

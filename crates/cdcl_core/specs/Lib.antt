@@ -1,0 +1,4 @@
+pub mod Searches
+pub mod Helpers
+pub mod Stages
+pub mod Solving

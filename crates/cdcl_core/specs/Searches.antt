@@ -1,0 +1,79 @@
+-- A search as its callers see it.
+use Rattle.std.specs.Prelude.{◌≡◌, ◌↔◌, ℕ, ◌+◌, ◌*◌, ◌<◌, ◌≤◌, Bool, true, false, List, [], ◌∷◌, length, take, count_by, Option, Some, None, IsTrue, All, ⊤}
+use Rattle.std.specs.List.{fold, sum_by}
+use Rattle.cnf_core.specs.Clauses.{Formula, satisfies, value_in}
+use Rattle.refute_check.specs.Refutations.{Checking, start, after, IsClosed}
+use Rattle.refute_check.specs.declared.line.Line.{Line}
+use Rattle.refute_check.specs.declared.line.Line.TheVariants.{Add, Delete}
+use Rattle.cdcl_lines.specs.Fresh.{AreFresh}
+use Rattle.cdcl_core.specs.declared.progress.Progress.{Progress}
+use Rattle.cdcl_core.specs.declared.progress.Progress.TheVariants.{Sat, Closed, Paused}
+
+-- a search adds at most so many lines
+abbrev pub most_added : ℕ
+most_added = 10000000
+
+-- whether a line adds a clause
+abbrev pub adds : Line → Bool
+adds (Add literals hints) = true
+adds (Delete numbers) = false
+
+-- whether a line adds a clause that isn't empty
+abbrev pub teaches : Line → Bool
+teaches (Add [] hints) = false
+teaches (Add (l ∷ ls) hints) = true
+teaches (Delete numbers) = false
+
+-- how many lines add a clause that isn't empty
+abbrev pub added_in : List Line → ℕ
+added_in lines = count_by teaches lines
+
+-- how many clauses a line deletes
+abbrev pub deletes : Line → ℕ
+deletes (Add literals hints) = 0
+deletes (Delete numbers) = length numbers
+
+-- how many clauses lines delete
+abbrev pub deleted_in : List Line → ℕ
+deleted_in lines = sum_by deletes lines
+
+-- a line deletes none of the first so many clauses
+abbrev pub Spares : ℕ → Line → Type 0
+Spares n (Add literals hints) = ⊤
+Spares n (Delete numbers) = All (λ k. n < k) numbers
+
+-- no clause of the formula is deleted, and after each line at most half as many clauses were deleted as were added
+pub record DeletesFew (f : Formula) (lines : List Line) : Type 0 where
+  pub spares : All (Spares (length f.clauses)) lines
+  pub few : (k : ℕ) → 2 * deleted_in (take k lines) ≤ count_by adds (take k lines)
+
+-- the clauses that a search began with, its lines so far, and its answer once it has one
+pub record Searched : Type 0 where
+  pub formula : Formula
+  pub lines : List Line
+  pub answer : Option Progress
+
+-- what a checker knows after lines
+abbrev pub checked : Formula → List Line → Checking
+checked f lines = fold after (start f) lines
+
+-- each line passes and is fresh, and few clauses are deleted; the answer is that the search is closed exactly where the derivation is, and until then no line is empty;
+-- and values are the answer only if they satisfy the clauses
+pub record IsSearched (s : Searched) : Type 0 where
+  pub passes : (checked s.formula s.lines).fault ≡ None
+  pub fresh : AreFresh s.formula s.lines
+  pub few : DeletesFew s.formula s.lines
+  pub closed : IsClosed s.formula s.lines ↔ (s.answer ≡ Some Closed)
+  pub not_empty : (s.answer ≡ Some Closed → ⊥) → count_by adds s.lines ≡ added_in s.lines
+  pub satisfied : (values : List Bool) → s.answer ≡ Some (Sat values) → IsTrue (satisfies (value_in values) s.formula.clauses)
+
+-- the same clauses, and maybe more lines
+pub record GoesOn (s t : Searched) : Type 0 where
+  pub formula : t.formula ≡ s.formula
+  pub lines : take (length s.lines) t.lines ≡ s.lines
+
+-- what a search answers is its answer from now on, or as many clauses were learnt as were asked for, and not so many before
+abbrev pub Answers : Searched → Searched → ℕ → Progress → Type 0
+Answers s t conflicts (Sat values) = (t.answer ≡ Some (Sat values)) × (added_in t.lines < added_in s.lines + conflicts)
+Answers s t conflicts Closed = (t.answer ≡ Some Closed) × (added_in t.lines < added_in s.lines + conflicts)
+Answers s t conflicts Paused = (t.answer ≡ None) × (added_in t.lines ≡ added_in s.lines + conflicts)

@@ -1,0 +1,16 @@
+//! A search for an assignment that satisfies clauses, which learns from its conflicts, and can be paused.
+#![tactic(auto)]
+
+mod course;
+mod loading;
+mod progress;
+mod reducing;
+mod running;
+mod search;
+mod solve;
+mod state;
+mod turns;
+
+pub use progress::{Progress, Solved};
+pub use search::Search;
+pub use solve::solve_cnf;

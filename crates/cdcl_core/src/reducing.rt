@@ -1,0 +1,151 @@
+//! Clauses that were learnt go again.
+ghost use Rattle.std.specs.Prelude.{◌≡◌, ℕ, ◌*◌, ◌+◌, ◌<◌, ◌≤◌, List, All, IfOk, IsTrue, length, slice_index_or, None, Some, fold};
+ghost use Rattle.cdcl_clauses.specs.Invariants.{IsSound, AreRooted};
+ghost use Rattle.cdcl_clauses.specs.declared.watches.Watch.{Watch};
+ghost use Rattle.cdcl_lines.specs.Keeping.{dropped};
+ghost use Rattle.cdcl_core.specs.Helpers.{Marks, IsNoReason};
+
+use crate::state::State;
+use cdcl_clauses::Clauses;
+use cdcl_lines::delete_line;
+use cdcl_search::forget;
+use cdcl_trail::Trail;
+use std::alloc::{AllocError, Global};
+
+/// Once so many more clauses may be deleted, half of those that may go are.
+const MANY: u32 = 4000;
+
+impl State {
+    ghost use Rattle.cdcl_core.specs.Helpers.{IsLive, IsFurther, MayGo, MayAllGo};
+
+    /// Where many clauses may be deleted, half of those that were learnt and are no reason go: those that were used longest ago first, those of
+    /// two literals or one last.
+    pub(crate) fn reduce(&mut self, alloc: Global) -> Result<(), AllocError>
+        requires { IsLive self.old }
+        ensures live { IsLive self.new }
+        ensures further { IsFurther self.old self.new 0 }
+    {
+        let spare = self.added / 2 - self.deleted;
+        if spare < MANY {
+            return Ok(());
+        }
+        let chosen = self.choose(alloc, spare as usize)?;
+        if chosen.is_empty() {
+            return Ok(());
+        }
+        self.drop_all(alloc, chosen.as_slice())
+    }
+
+    /// Half of the clauses that may go, and no more than so many.
+    fn choose(&self, alloc: Global, most: usize) -> Result<Vec<u32>, AllocError>
+        requires { IsLive self.now }
+        ensures may { IfOk result (λ chosen. MayAllGo self.now chosen.items) }
+        ensures few { IfOk result (λ chosen. length chosen.items ≤ most) }
+    {
+        let reasons = reasons_of(alloc, &self.trail, self.clauses.len())?;
+        let threshold = self.threshold(alloc, &reasons, most)?;
+        let mut chosen = Vec::new(alloc);
+        for clause in self.formula.len() as u32..self.clauses.len() as u32 {
+            if chosen.len() < most
+                && self.may_go(&reasons, clause)
+                && self.worth(clause) < threshold
+            {
+                chosen.push(clause)?;
+            }
+        }
+        Ok(chosen)
+    }
+
+    /// Half of the clauses that may go are worth less than this, but no more than so many.
+    fn threshold(&self, alloc: Global, reasons: &Vec<bool>, most: usize) -> Result<u64, AllocError>
+        requires live { IsLive self.now }
+        requires reasons { Marks self.now.trail (length self.now.clauses) reasons.now.items }
+    {
+        let mut worths = Vec::new(alloc);
+        for clause in self.formula.len() as u32..self.clauses.len() as u32 {
+            if self.may_go(reasons, clause) {
+                worths.push(self.worth(clause))?;
+            }
+        }
+        worths.sort_unstable();
+        let half = (worths.len() / 2).min(most);
+        Ok(worths.get(half).copied().unwrap_or(u64::MAX))
+    }
+
+    /// Whether a learnt clause is kept and is no reason.
+    fn may_go(&self, reasons: &Vec<bool>, clause: u32) -> bool
+        requires live { IsLive self.now }
+        requires reasons { Marks self.now.trail (length self.now.clauses) reasons.now.items }
+        requires learnt { length self.now.formula.clauses ≤ clause }
+        requires there { clause < length self.now.clauses }
+        ensures { IsTrue result → MayGo self.now clause }
+    {
+        self.clauses.is_kept(clause) && !reasons[clause as usize]
+    }
+
+    /// What a clause is worth: when it was used last, and more than any other where it has two literals or one.
+    fn worth(&self, clause: u32) -> u64
+        requires { clause < length self.now.clauses }
+    {
+        let used = u64::from(self.clauses.used(clause)) << 32 | u64::from(clause);
+        if self.clauses.literals(clause).len() > 2 {
+            used
+        } else {
+            used | 1 << 63
+        }
+    }
+
+    /// These clauses are kept no more, and a line says so.
+    fn drop_all(&mut self, alloc: Global, chosen: &[u32]) -> Result<(), AllocError>
+        requires live { IsLive self.old }
+        requires some { 0 < length chosen.now }
+        requires may { MayAllGo self.old chosen.now }
+        requires few { 2 * (self.old.deleted + length chosen.now) ≤ self.old.added }
+        ensures live { IsLive self.new }
+        ensures further { IsFurther self.old self.new 0 }
+    {
+        let line = delete_line(alloc, chosen)?;
+        self.derivation.push(line)?;
+        forget_all(&self.trail, &mut self.clauses, chosen);
+        self.deleted += chosen.len() as u32;
+        Ok(())
+    }
+}
+
+/// For each of so many clauses, whether it is a reason.
+fn reasons_of(alloc: Global, trail: &Trail, clauses: usize) -> Result<Vec<bool>, AllocError>
+    requires { (p k : ℕ) → p < length trail.now.literals → slice_index_or trail.now.reasons p None ≡ Some k → k < clauses }
+    ensures { IfOk result (λ marks. Marks trail.now clauses marks.items) }
+{
+    let mut marks = vec![in alloc; false; clauses]?;
+    for place in 0..trail.len() {
+        if let Some(reason) = trail.reason(place) {
+            marks[reason as usize] = true;
+        }
+    }
+    Ok(marks)
+}
+
+/// These clauses are kept no more.
+fn forget_all(trail: &Trail, clauses: &mut Clauses, chosen: &[u32])
+    requires there { All (λ k. k < length clauses.old) chosen.now }
+    requires no_reasons { All (IsNoReason trail.now) chosen.now }
+    ensures after { clauses.new ≡ fold dropped clauses.old chosen.now }
+    ensures sound { (ws : List (List Watch)) → IsSound trail.now clauses.old ws → IsSound trail.now clauses.new ws }
+    ensures rooted { AreRooted trail.now clauses.old → AreRooted trail.now clauses.new }
+{
+    for clause in chosen {
+        forget(trail, clauses, *clause);
+    }
+}
+
+/// These clauses are used.
+pub(crate) fn touch_all(clauses: &mut Clauses, used: &[u32], now: u32)
+    ensures { clauses.new ≡ clauses.old }
+{
+    for clause in used {
+        if (*clause as usize) < clauses.len() {
+            clauses.touch(*clause, now);
+        }
+    }
+}

@@ -1,0 +1,87 @@
+//! A search that can be paused.
+ghost use Rattle.std.specs.Prelude.{◌≡◌, ◌+◌, ◌<◌, ◌≤◌, Some, None, IfOk, OnErr};
+ghost use Rattle.cdcl_core.specs.Searches.{most_added, added_in, IsSearched};
+
+use crate::course::Course;
+use crate::progress::Progress;
+use crate::state::State;
+use cnf_core::Cnf;
+use refute_check::Derivation;
+use std::alloc::{AllocError, Global};
+use std::marker::Model;
+
+/// A search for an assignment that satisfies clauses. It goes on until it has its answer, and can be paused before.
+///
+/// Contracts see its clauses, the lines that it has so far, and its answer.
+#[derive(Debug, Drop)]
+pub struct Search {
+    course: Course,
+}
+
+impl Model for Search {
+    ghost use Rattle.cdcl_core.specs.Searches.{Searched};
+
+    ghost Value = { Searched };
+
+    ghost use Rattle.cdcl_core.specs.Stages.{searched_of, IsCourse};
+
+    ghost view = { λ a. searched_of a.course };
+
+    ghost invariant = { λ a. IsCourse a.course };
+}
+
+impl Search {
+    ghost use Rattle.cdcl_core.specs.Searches.{GoesOn, Answers};
+
+    /// A search over the clauses. It keeps a copy of them.
+    pub fn new(alloc: Global, cnf: &Cnf) -> Result<Search, AllocError>
+        ensures formula { IfOk result (λ s. s.formula ≡ cnf.now) }
+        ensures none { IfOk result (λ s. added_in s.lines ≡ 0) }
+        ensures lawful { IfOk result IsSearched }
+    {
+        let course = Course::begin(alloc, cnf)?;
+        Ok(Search { course })
+    }
+
+    /// Goes on until there is an answer, or so many clauses more are learnt: then it is paused. Once there is an answer, it answers the same.
+    /// Where there is no memory, it may be called again.
+    pub fn run(&mut self, alloc: Global, conflicts: u32) -> Result<Progress, AllocError>
+        requires some { 1 ≤ conflicts }
+        requires room { added_in self.old.lines + conflicts ≤ most_added }
+        ensures goes_on { GoesOn self.old self.new }
+        ensures lawful { IsSearched self.new }
+        ensures answers { IfOk result (Answers self.old self.new conflicts) }
+        ensures answered { (p : Progress) → self.old.answer ≡ Some p → (self.new ≡ self.old) × IfOk result (λ q. q ≡ p) }
+        ensures err { OnErr result (added_in self.new.lines < added_in self.old.lines + conflicts) }
+        ensures err_open { OnErr result (self.old.answer ≡ None → self.new.answer ≡ None) }
+    {
+        self.course.run(alloc, conflicts)
+    }
+
+    /// The lines that it has so far.
+    pub fn derivation(&self) -> &Derivation
+        ensures lines { result.now ≡ self.now.lines }
+        ensures lawful { IsSearched self.now }
+    {
+        &self.course.state.derivation
+    }
+
+    /// The lines that it has so far.
+    pub fn into_derivation(self) -> Derivation
+        ensures lines { result ≡ self.lines }
+        ensures lawful { IsSearched self }
+    {
+        let Search { course } = self;
+        let Course { state, .. } = course;
+        let State { derivation, .. } = state;
+        derivation
+    }
+
+    /// How many of its lines add a clause that isn't empty.
+    pub fn added(&self) -> u32
+        ensures added { result ≡ added_in self.now.lines }
+        ensures few { result ≤ most_added }
+    {
+        self.course.state.added
+    }
+}

@@ -1,0 +1,22 @@
+//! A search that isn't to go on.
+ghost use Rattle.std.specs.Prelude.{◌≡◌, ◌≤◌, IfOk, IsTrue};
+ghost use Rattle.cdcl_core.specs.Searches.{most_added};
+ghost use Rattle.cdcl_core.specs.Solving.{Solves};
+
+use crate::{Progress, Search, Solved};
+use cnf_core::Cnf;
+use std::alloc::{AllocError, Global};
+
+/// Searches until there is an answer, or so many clauses are learnt.
+pub fn solve_cnf(alloc: Global, cnf: &Cnf, budget: u32) -> Result<Solved, AllocError>
+    requires some { 1 ≤ budget }
+    requires room { budget ≤ most_added }
+    ensures { IfOk result (Solves cnf.now budget) }
+{
+    let mut search = Search::new(alloc, cnf)?;
+    match search.run(alloc, budget)? {
+        Progress::Sat(assignment) => Ok(Solved::Sat(assignment)),
+        Progress::Closed => Ok(Solved::Unsat(search.into_derivation())),
+        Progress::Paused => Ok(Solved::Spent(search.into_derivation())),
+    }
+}

@@ -1,0 +1,272 @@
+//! One conflict after the other.
+ghost use Rattle.std.specs.Prelude.{◌≡◌, ℕ, ◌+◌, ◌*◌, ◌^◌, ◌<◌, ◌≤◌, [], ◌∷◌, ◌++◌, All, IfOk, IfSome, IsNone, OnOk, OnErr, length};
+ghost use Rattle.cnf_core.specs.Clauses.{limit};
+ghost use Rattle.refute_check.specs.Refutations.{line_limit};
+ghost use Rattle.cdcl_trail.specs.Trail.{cut_to};
+ghost use Rattle.cdcl_clauses.specs.Invariants.{IsConflict};
+ghost use Rattle.cdcl_learn.specs.Lessons.{IsLesson};
+ghost use Rattle.cdcl_learn.specs.Shown.{Shows};
+ghost use Rattle.cdcl_search.specs.Attached.{CanAssert};
+ghost use Rattle.cdcl_lines.specs.Literals.{Rise};
+ghost use Rattle.cdcl_lines.specs.Lines.{added};
+ghost use Rattle.cdcl_core.specs.Searches.{most_added};
+
+use crate::reducing::touch_all;
+use crate::state::State;
+use cdcl_learn::{Lesson, Turn, analyze, close};
+use cdcl_lines::{add_line, assignment_of, sort_lesson};
+use cdcl_search::{attach, detach, go_back, to_conflict};
+use refute_check::Derivation;
+use std::alloc::{AllocError, Global};
+
+/// What a turn comes to.
+#[derive(Debug, Drop)]
+pub(crate) enum Step {
+    /// A clause was learnt.
+    Learnt,
+    /// The derivation is closed.
+    Closed,
+    /// These values of the variables satisfy every clause.
+    Full(Vec<bool>),
+}
+
+impl State {
+    ghost use Rattle.cdcl_core.specs.Helpers.{IsLive, IsAsFar, IsFurther, IsShort, IsSatisfied, IsComplete, ComesTo, CanConclude, IsOver};
+
+    /// So many turns, unless one is the last.
+    pub(crate) fn go(&mut self, alloc: Global, conflicts: u32) -> Result<Step, AllocError>
+        requires live { IsLive self.old }
+        requires some { 0 < conflicts }
+        requires room { self.old.added + conflicts ≤ most_added }
+        ensures ok { IfOk result (ComesTo self.old self.new conflicts) }
+        ensures err_live { OnErr result (IsLive self.new) }
+        ensures err_short { OnErr result (IsShort self.old self.new conflicts) }
+    {
+        let mut done = 0;
+        while done < conflicts {
+            match self.turn(alloc)? {
+                Step::Learnt => done += 1,
+                Step::Closed => return Ok(Step::Closed),
+                Step::Full(values) => return Ok(Step::Full(values)),
+            }
+        }
+        Ok(Step::Learnt)
+    }
+
+    /// From one conflict to what it teaches, once clauses went where there are many.
+    fn turn(&mut self, alloc: Global) -> Result<Step, AllocError>
+        requires live { IsLive self.old }
+        requires room { self.old.added < most_added }
+        ensures ok { IfOk result (ComesTo self.old self.new 1) }
+        ensures err_live { OnErr result (IsLive self.new) }
+        ensures err_further { OnErr result (IsFurther self.old self.new 0) }
+    {
+        self.reduce(alloc)?;
+        self.step(alloc)
+    }
+
+    /// From one conflict to what it teaches.
+    fn step(&mut self, alloc: Global) -> Result<Step, AllocError>
+        requires live { IsLive self.old }
+        requires room { self.old.added < most_added }
+        ensures ok { IfOk result (ComesTo self.old self.new 1) }
+        ensures err_live { OnErr result (IsLive self.new) }
+        ensures err_same { OnErr result (IsAsFar self.old self.new) }
+    {
+        match self.descend()? {
+            None => Ok(Step::Full(self.values(alloc)?)),
+            Some(conflict) => {
+                let lesson = self.lesson(alloc, conflict)?;
+                self.take(alloc, lesson)
+            }
+        }
+    }
+
+    /// Decides until there is a conflict, or no variable is open.
+    fn descend(&mut self) -> Result<Option<u32>, AllocError>
+        requires { IsLive self.old }
+        ensures live { IsLive self.new }
+        ensures same { IsAsFar self.old self.new }
+        ensures complete { IfOk result (λ found. IsNone found → IsComplete self.new.trail) }
+        ensures conflict { IfOk result (λ found. IfSome found (IsConflict self.new.trail self.new.clauses)) }
+    {
+        let variables = self.formula.vars();
+        to_conflict(
+            &mut self.trail,
+            &mut self.clauses,
+            &mut self.watches,
+            &mut self.order,
+            variables,
+        )
+    }
+
+    /// The values of all variables, where none is open: they satisfy every clause.
+    fn values(&self, alloc: Global) -> Result<Vec<bool>, AllocError>
+        requires live { IsLive self.now }
+        requires complete { IsComplete self.now.trail }
+        ensures { IfOk result (λ values. IsSatisfied self.now values.items) }
+    {
+        let assignment = assignment_of(alloc, &self.trail, self.formula.vars())?;
+        Ok(assignment.into_values())
+    }
+
+    /// What a conflict teaches.
+    fn lesson(&mut self, alloc: Global, conflict: u32) -> Result<Lesson, AllocError>
+        requires live { IsLive self.old }
+        requires conflict { IsConflict self.old.trail self.old.clauses conflict }
+        ensures same { self.new ≡ self.old }
+        ensures lesson { IfOk result (IsLesson self.old.trail self.old.clauses) }
+        ensures rise { IfOk result (λ l. Rise l.literals.items) }
+    {
+        let mut lesson = self.study(alloc, conflict)?;
+        sort_lesson(&mut lesson);
+        self.order.decay();
+        Ok(lesson)
+    }
+
+    /// What a conflict teaches, in no order.
+    fn study(&mut self, alloc: Global, conflict: u32) -> Result<Lesson, AllocError>
+        requires live { IsLive self.old }
+        requires conflict { IsConflict self.old.trail self.old.clauses conflict }
+        ensures same { self.new ≡ self.old }
+        ensures lesson { IfOk result (IsLesson self.old.trail self.old.clauses) }
+    {
+        if self.trail.levels() == 0 {
+            close(alloc, &self.trail, &self.clauses, &mut self.order, conflict)
+        } else {
+            analyze(alloc, &self.trail, &self.clauses, &mut self.order, conflict)
+        }
+    }
+
+    /// A lesson becomes a line, and its clause is kept.
+    fn take(&mut self, alloc: Global, lesson: Lesson) -> Result<Step, AllocError>
+        requires live { IsLive self.old }
+        requires room { self.old.added < most_added }
+        requires lesson { IsLesson self.old.trail self.old.clauses lesson }
+        requires rise { Rise lesson.literals.items }
+        ensures ok { IfOk result (ComesTo self.old self.new 1) }
+        ensures err_live { OnErr result (IsLive self.new) }
+        ensures err_same { OnErr result (IsAsFar self.old self.new) }
+    {
+        match lesson.turn {
+            Turn::Closed => {
+                self.conclude(alloc, lesson.hints.as_slice())?;
+                Ok(Step::Closed)
+            }
+            Turn::Back {
+                level,
+                asserted,
+                beside,
+            } => {
+                self.back(level);
+                self.learn(
+                    alloc,
+                    lesson.literals.as_slice(),
+                    lesson.hints.as_slice(),
+                    asserted,
+                    beside,
+                )?;
+                self.restart();
+                Ok(Step::Learnt)
+            }
+        }
+    }
+
+    /// The line that closes the derivation.
+    pub(crate) fn conclude(&mut self, alloc: Global, hints: &[u32]) -> Result<(), AllocError>
+        requires { CanConclude self.old hints.now }
+        ensures over { OnOk result (IsOver self.new) }
+        ensures further { OnOk result (IsFurther self.old self.new 0) }
+        ensures err { OnErr result (self.new ≡ self.old) }
+    {
+        write_line(alloc, &mut self.derivation, &[], hints)
+    }
+
+    /// The levels from one on are taken back.
+    fn back(&mut self, level: usize)
+        requires live { IsLive self.old }
+        requires level { level < length self.old.trail.starts }
+        ensures live { IsLive self.new }
+        ensures same { IsAsFar self.old self.new }
+        ensures clauses { self.new.clauses ≡ self.old.clauses }
+        ensures trail { self.new.trail ≡ cut_to self.old.trail level }
+    {
+        go_back(&mut self.trail, &mut self.order, level);
+    }
+
+    /// A clause is learnt, and its one open literal comes true.
+    fn learn(
+        &mut self,
+        alloc: Global,
+        literals: &[u32],
+        hints: &[u32],
+        asserted: u32,
+        beside: u32,
+    ) -> Result<(), AllocError>
+        requires live { IsLive self.old }
+        requires room { self.old.added < most_added }
+        requires can { CanAssert self.old.trail literals.now asserted beside }
+        requires shown { Shows self.old.clauses literals.now hints.now }
+        requires rise { Rise literals.now }
+        ensures live { IsLive self.new }
+        ensures ok { OnOk result (IsFurther self.old self.new 1) }
+        ensures err { OnErr result (IsAsFar self.old self.new) }
+    {
+        let line = add_line(alloc, literals, hints)?;
+        let clause = self.clauses.len() as u32;
+        attach(
+            &mut self.clauses,
+            &mut self.watches,
+            literals,
+            asserted,
+            beside,
+        )?;
+        match self.derivation.push(line) {
+            Ok(()) => {
+                self.trail.imply(asserted, clause);
+                self.clauses.touch(clause, self.added);
+                touch_all(&mut self.clauses, hints, self.added);
+                self.added += 1;
+                Ok(())
+            }
+            Err(failed) => {
+                detach(&mut self.clauses, &mut self.watches, asserted, beside);
+                Err(AllocError::from(failed))
+            }
+        }
+    }
+
+    /// Starts again where it is time.
+    fn restart(&mut self)
+        requires { IsLive self.old }
+        ensures live { IsLive self.new }
+        ensures same { IsAsFar self.old self.new }
+    {
+        if !self.restarts.is_due() {
+            return;
+        }
+        if self.trail.levels() == 0 {
+            return;
+        }
+        self.back(0);
+    }
+}
+
+/// One more line.
+pub(crate) fn write_line(
+    alloc: Global,
+    derivation: &mut Derivation,
+    literals: &[u32],
+    hints: &[u32],
+) -> Result<(), AllocError>
+    requires rise { Rise literals.now }
+    requires within { All (λ l. l < 2 * limit) literals.now }
+    requires hints { All (λ h. h + 1 < 2 ^ 32) hints.now }
+    requires room { length derivation.old < line_limit }
+    ensures ok { OnOk result (derivation.new ≡ derivation.old ++ added literals.now hints.now ∷ []) }
+    ensures err { OnErr result (derivation.new ≡ derivation.old) }
+{
+    let line = add_line(alloc, literals, hints)?;
+    derivation.push(line)?;
+    Ok(())
+}

@@ -1,0 +1,11 @@
+pub mod Members
+pub mod Numbers
+pub mod Signs
+pub mod Maps
+pub mod Showing
+pub mod Representing
+pub mod Formulas
+pub mod Freshness
+pub mod Satisfying
+pub mod Valuing
+pub mod Ordering

@@ -1,0 +1,24 @@
+-- A search's literals and clauses as a checker has them.
+use Rattle.std.specs.Prelude.{ℕ, suc, ◌+◌, ◌-◌, ◌*◌, ◌/◌, ◌%◌, ◌==◌, if◌then◌else◌, List, map, ℤ, pos, negsuc, IsTrue}
+use Rattle.cnf_core.specs.Clauses.{is_clause}
+
+-- the literal of a number: variables count from 1 there, and the literal of an odd number is negated
+abbrev pub literal_of : ℕ → ℤ
+literal_of l = if l % 2 == 0 then pos (suc (l / 2)) else negsuc (l / 2)
+
+-- the number of a literal
+abbrev pub code_of : ℤ → ℕ
+code_of (pos n) = 2 * (n - 1)
+code_of (negsuc n) = 2 * n + 1
+
+-- the clause of numbers
+abbrev pub clause_of : List ℕ → List ℤ
+clause_of ls = map literal_of ls
+
+-- the literals rise strictly by variable
+abbrev pub Rise : List ℕ → Type 0
+Rise ls = IsTrue (is_clause (clause_of ls))
+
+-- the numbers of clauses, whose indexes count from 0
+abbrev pub numbers_of : List ℕ → List ℕ
+numbers_of ks = map suc ks

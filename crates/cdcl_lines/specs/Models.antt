@@ -1,0 +1,21 @@
+-- The assignment that a full trail is.
+use Rattle.std.specs.Prelude.{◌≡◌, ℕ, Bool, true, List, length, Contains, ℤ, IsTrue}
+use Rattle.cnf_core.specs.Clauses.{literal_true, value_in, satisfies}
+use Rattle.cdcl_trail.specs.Trail.{Trail}
+use Rattle.cdcl_clauses.specs.Clauses.{Clause}
+use Rattle.cdcl_clauses.specs.Invariants.{IsSound}
+use Rattle.cdcl_clauses.specs.declared.watches.Watch.{Watch}
+use Rattle.cdcl_search.specs.Descents.{IsFull}
+use Rattle.cdcl_lines.specs.Literals.{literal_of}
+use Rattle.cdcl_lines.specs.Keeping.{KeepsAll}
+
+-- there is a value for each variable, and what is true on the trail is true by them
+pub record Agrees (t : Trail) (values : List Bool) : Type 0 where
+  pub count : length values ≡ t.variables
+  pub same : (l : ℕ) → Contains t.literals l → literal_true (value_in values) (literal_of l) ≡ true
+
+-- where no variable is open and all is propagated without conflict, the clauses are satisfied
+abbrev pub FullSatisfies : Type 0
+FullSatisfies =
+    (t : Trail) (cs : List Clause) (ws : List (List Watch)) (clauses : List (List ℤ)) (values : List Bool) → IsSound t cs ws → IsFull t
+    → t.propagated ≡ length t.literals → KeepsAll clauses cs → Agrees t values → IsTrue (satisfies (value_in values) clauses)

@@ -1,0 +1,28 @@
+//! The assignment that a full trail is.
+ghost use Rattle.std.specs.Prelude.{◌≡◌, ◌<◌, ◌^◌, IfOk};
+ghost use Rattle.cdcl_trail.specs.Trail.{IsTrail};
+ghost use Rattle.cdcl_search.specs.Descents.{IsFull};
+ghost use Rattle.cdcl_lines.specs.Models.{Agrees, FullSatisfies};
+
+use cdcl_trail::{Trail, Value};
+use cnf_core::Assignment;
+use std::alloc::{AllocError, Global};
+
+/// The assignment that makes true what is true on a trail. What is open there becomes false.
+pub fn assignment_of(alloc: Global, trail: &Trail, variables: u32) -> Result<Assignment, AllocError>
+    requires lawful { IsTrail trail.now }
+    requires variables { variables ≡ trail.now.variables }
+    requires few { variables < 2 ^ 31 }
+    ensures { IfOk result (λ values. Agrees trail.now values) }
+{
+    let mut values = Vec::with_capacity(alloc, variables as usize)?;
+    for variable in 0..variables {
+        values.push(trail.value(2 * variable) == Value::True)?;
+    }
+    Ok(Assignment::new(values))
+}
+
+/// Where no variable is open and all is propagated without conflict, that assignment satisfies each clause that is kept.
+pub fn full_satisfies()
+    ensures { FullSatisfies }
+{}
