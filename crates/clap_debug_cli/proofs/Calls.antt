@@ -1,9 +1,10 @@
 -- From an answer with its cause, as it was put, to the answers by status.
-use Rattle.std.proofs.Common.{◌≡◌, ◌≢◌, ◌≤◌, ℕ, List, [], ◌∷◌, Option, Some, None, IfSome, ◌⊎◌, inl, inr, refl, sym, ◌∙◌, ap, subst, arith}
+use Rattle.std.proofs.Common.{◌≡◌, ◌≢◌, ◌≤◌, length, ℕ, List, [], ◌∷◌, Option, Some, None, IfSome, ◌⊎◌, inl, inr, refl, sym, ◌∙◌, ap, subst, arith}
 use Rattle.std.specs.Option.{IsSomeAnd}
 use Rattle.tc_code.specs.Code.{Code}
-use Rattle.tc_io.specs.Outside.{Files, ShelfTells, SinkTells, bytes_at}
-use Rattle.clap_debug_words.specs.Calls.{Called, Lists, Replays, call_of}
+use Rattle.tc_base.specs.declared.model.Model.{Model}
+use Rattle.tc_io.specs.Outside.{Files, ShelfTells, SinkTells, Kept, KeptPart, bytes_at, put_under}
+use Rattle.clap_debug_words.specs.Calls.{Called, Lists, Replays, Records, call_of}
 use Rattle.clap_debug_cli.specs.Answers.{
   Answer,
   Usage,
@@ -14,34 +15,59 @@ use Rattle.clap_debug_cli.specs.Answers.{
   ScheduleRefused,
   Listed,
   Replayed,
+  RunFailed,
+  RunEnded,
+  WriteFault,
   NoMemory,
   status_of,
   verdict_status,
+  ending_status,
 }
-use Rattle.clap_debug_cli.specs.Causes.{IsCause, IsCauseOf, IsListAnswer, IsLogRefused, IsScheduleRefused, IsReplayAnswer, IsReplayed, IsWorkOf, IsAnswerTo}
+use Rattle.clap_debug_cli.specs.Causes.{IsCause, IsCauseOf, IsListAnswer, IsLogRefused, IsScheduleRefused, IsReplayAnswer, IsRecordAnswer, IsReplayed}
+use Rattle.clap_debug_cli.specs.Causes.{IsWorkOf, IsAnswerTo, IsOutput, IsResult}
 use Rattle.clap_debug_cli.specs.Call.{
   IfTold,
   IsStatus,
   Puts,
   FailsToPut,
   PutsAtMostNoMemory,
+  PutsPart,
+  SaysNoMore,
   Says,
+  HoldsLog,
+  LosesLog,
+  LeavesLog,
+  Leaves,
   CallAnswers,
   ToldAnswers,
   ListAnswers,
   ReplayAnswers,
+  RecordAnswers,
   CommandAnswers,
 }
-use Rattle.clap_debug_cli.specs.Inputs.{Texts, inputs_of, texts_under, IsTooLong}
+use Rattle.clap_debug_cli.specs.Inputs.{Wanted, Texts, GaveInput, GaveAll, inputs_of, texts_under, wanted, limit_of, IsTooLong}
+use Rattle.clap_debug_cli.specs.Held.{KeptNothing}
 use Rattle.clap_debug_cli.specs.Programs.{IsCodeOf, IsRefusal}
+use Rattle.clap_debug_cli.specs.Recorded.{FailsSo, EndsSo, IsRecorded, end_status, run_of}
 use Rattle.tc_parser.specs.declared.fault.TextFault.{TextFault}
 use Rattle.schedule_replay.specs.declared.verdict.Verdict.{Verdict}
 use Rattle.clap_debug_cli.specs.declared.answer.LogRefusal.{LogRefusal}
 use Rattle.schedule_replay.specs.declared.verdict.Verdict.TheVariants as verdict
+use Rattle.tc_record.specs.declared.end.Which.{Which}
 use Rattle.clap_debug_cli.specs.declared.input.Input.{Input}
-use Rattle.clap_debug_cli.proofs.Fetches.{gave_all, passes_told}
+use Rattle.clap_debug_cli.specs.declared.input.Input.TheVariants as input
+use Rattle.clap_debug_cli.specs.declared.run.Ending.{Ending}
+use Rattle.clap_debug_cli.specs.declared.run.Ending.TheVariants.{StepLimit, Over}
+use Rattle.clap_debug_cli.specs.declared.run.Ending.TheVariants as ending
+use Rattle.tc_record.specs.declared.end.End.TheVariants as end
+use Rattle.clap_debug_cli.specs.declared.run.Failure.{Failure}
+use Rattle.clap_debug_cli.proofs.Fetches.{gave_all, passes_told, not_within}
 use Rattle.clap_debug_cli.proofs.OneAnswer.{one_answer}
-use Rattle.clap_debug_cli.proofs.Statuses.{is_usage, is_program_refused, is_log_refused, is_schedule_refused, is_too_long, is_read_fault, is_no_memory, is_not_eight, is_reproduces, is_other}
+use Rattle.clap_debug_cli.proofs.OnePrograms.{one_code, refused_no_code}
+use Rattle.clap_debug_cli.proofs.OneRun.{ended_status}
+use Rattle.clap_debug_cli.proofs.Statuses.{is_usage, is_program_refused, is_log_refused, is_schedule_refused, is_limit, is_read_fault, is_write_fault}
+use Rattle.clap_debug_cli.proofs.Statuses.{is_no_memory, is_step_limit, no_ending}
+use Rattle.clap_debug_cli.proofs.Statuses.{is_reproduces, is_other}
 
 -- what the words ask for is known
 called_of : (P : Called → Type 0) (o : Option Called) (call : Called) → o ≡ Some call → P call → IsSomeAnd o P
@@ -57,12 +83,13 @@ uncalled P o none p = subst (λ o. IsSomeAnd o P) none p
 no_work : (call : Called) (t : Texts) → IsWorkOf call t Usage → ⊥
 no_work (Lists _) (program ∷ []) h = h
 no_work (Replays _ _ _) (program ∷ log ∷ schedule ∷ []) h = h
+no_work (Records _ _ model seed steps) (program ∷ []) h = h
 no_work _ _ h = h
 
 -- the cause of an answer to a call is its cause for the words
 pub cause_of : (words : List (List ℕ)) (old new : ShelfTells) (call : Called) (a : Answer) → call_of words ≡ Some call
     → IsCauseOf call old new a → IsCause words old new a
-cause_of words old new call Usage taken h = absurd (no_work call h.0 h.2.1)
+cause_of words old new call Usage taken h = absurd (no_work call h.0 h.3.1)
 cause_of words old new call NoMemory taken h = tt
 cause_of words old new call (ReadFault name) taken h = called_of _ (call_of words) call taken h
 cause_of words old new call (TooLong i) taken h = called_of _ (call_of words) call taken h
@@ -71,27 +98,159 @@ cause_of words old new call (LogRefused r) taken h = called_of _ (call_of words)
 cause_of words old new call (ScheduleRefused n) taken h = called_of _ (call_of words) call taken h
 cause_of words old new call (Listed code) taken h = called_of _ (call_of words) call taken h
 cause_of words old new call (Replayed v) taken h = called_of _ (call_of words) call taken h
+cause_of words old new call (RunFailed f) taken h = called_of _ (call_of words) call taken h
+cause_of words old new call (RunEnded e) taken h = called_of _ (call_of words) call taken h
+cause_of words old new call (WriteFault name) taken h = called_of _ (call_of words) call taken h
+
+-- what is said without memory for the line
+pub no_more : (a : Answer) (status : ℕ) (j k : SinkTells) → SaysNoMore a status j k
+    → ((name : List ℕ) × (a ≡ WriteFault name) × (status ≡ 8) × (k ≡ j)) ⊎ ((status ≡ 9) × PutsAtMostNoMemory j k) ⊎ ((status ≡ 8) × FailsToPut j k NoMemory)
+no_more (WriteFault name) status j k h = inl (name, refl, h.0, h.1)
+no_more Usage status j k h = inr h
+no_more (ReadFault _) status j k h = inr h
+no_more (TooLong _) status j k h = inr h
+no_more (ProgramRefused _) status j k h = inr h
+no_more (LogRefused _) status j k h = inr h
+no_more (ScheduleRefused _) status j k h = inr h
+no_more (Listed _) status j k h = inr h
+no_more (Replayed _) status j k h = inr h
+no_more (RunFailed _) status j k h = inr h
+no_more (RunEnded _) status j k h = inr h
+no_more NoMemory status j k h = inr h
+
+-- its status
+no_more_status : (a : Answer) (status : ℕ) (j k : SinkTells) → SaysNoMore a status j k → (status ≡ 8) ⊎ (status ≡ 9)
+no_more_status a status j k h =
+    elim (no_more a status j k h) [
+      | inl lost ↦ inl lost.2
+      | inr said ↦ elim said [
+        | inl wanted ↦ inr wanted.0
+        | inr failed ↦ inl failed.0
+      ]
+    ]
+
+-- an answer was put with its status, or the status is that of a fault or of want of memory
+said_status : (a : Answer) (status : ℕ) (j k : SinkTells) → Says a status j k → ((status ≡ status_of a) × Puts j k a) ⊎ (status ≡ 8) ⊎ (status ≡ 9)
+said_status a status j k (inl done) = inl done
+said_status a status j k (inr (inl failed)) = inr (inl failed.0)
+said_status a status j k (inr (inr none)) = inr (no_more_status a status j k none)
 
 -- where the put didn't fail and memory was there, the answer was put
 put_at : (a : Answer) (status : ℕ) (j k : SinkTells) → Says a status j k → (status ≡ 8 → ⊥) → (status ≡ 9 → ⊥) → (status ≡ status_of a) × Puts j k a
-put_at a status j k (inl done) eight nine = done
-put_at a status j k (inr (inl failed)) eight nine = absurd (eight failed.0)
-put_at a status j k (inr (inr (inl wanted))) eight nine = absurd (nine wanted.0)
-put_at a status j k (inr (inr (inr failed))) eight nine = absurd (eight failed.0)
+put_at a status j k says eight nine = from (said_status a status j k says)
+  where
+    from : ((status ≡ status_of a) × Puts j k a) ⊎ (status ≡ 8) ⊎ (status ≡ 9) → (status ≡ status_of a) × Puts j k a
+    from (inl done) = done
+    from (inr (inl h)) = absurd (eight h)
+    from (inr (inr h)) = absurd (nine h)
+
+-- the shelf after the causes of answers
+
+given_held : (ws : List Wanted) (old s : ShelfTells) (t : Texts) → GaveAll ws old s t → s.held ≡ old.held
+given_held [] old s [] g = ap (λ x. x.held) g
+given_held [] old s (t ∷ ts) g = absurd g
+given_held (w ∷ ws) old s [] g = absurd g
+given_held (w ∷ ws) old s (t ∷ ts) g = given_held ws g.0 s ts g.2 ∙ ap (λ x. x.held) g.1.1
+
+-- the one input of `record`
+the_program : (p l : List ℕ) (model : Model) (seed steps : ℕ) (old s : ShelfTells) (t : Texts) (P : List ℕ → Type 0)
+    → GaveAll (inputs_of (Records p l model seed steps)) old s t
+    → ((program : List ℕ) → t ≡ program ∷ [] → GaveInput (wanted input.Program p) old s program → P program)
+    → (program : List ℕ) × P program
+the_program p l model seed steps old s [] P g f = absurd g
+the_program p l model seed steps old s (program ∷ []) P g f =
+    (program, f program refl (subst (λ x. GaveInput (wanted input.Program p) old x program) (sym g.2) g.1))
+the_program p l model seed steps old s (program ∷ t ∷ ts) P g f = absurd g.2
+
+module _ (p l : List ℕ) (model : Model) (seed steps : ℕ) (old new : ShelfTells) where
+  abbrev Asked_for : Called
+  Asked_for = Records p l model seed steps
+
+  -- after the failure of a run its log stands there
+  holds_log : (f : Failure) → IsCauseOf Asked_for old new (RunFailed f) → HoldsLog p l model seed steps old new
+  holds_log f c =
+      let s = c.1 in
+      let found = the_program p l model seed steps old s c.0
+      (λ program. GaveInput (wanted input.Program p) old s program × IsRecorded program model seed steps c.4.1) c.2
+      (λ program is g. (g, subst (λ t. IsResult Asked_for t c.4.1) is c.4.3)) in
+      let held : new.held ≡ put_under l c.4.1 old.held =
+      ap (λ x. x.held) c.4.4 ∙ ap (put_under c.4.0 c.4.1) (given_held (inputs_of Asked_for) old s c.0 c.2) ∙ ap (λ n. put_under n c.4.1 old.held) c.4.2 in
+      (s, found.0, found.1.0, c.4.1, found.1.1, held)
+
+  -- and after a keep that failed maybe a part of it
+  loses_log : (name : List ℕ) → IsCauseOf Asked_for old new (WriteFault name) → LosesLog p l model seed steps old new
+  loses_log name c =
+      let s = c.1 in
+      let text = c.4.1 in
+      let found = the_program p l model seed steps old s c.0
+      (λ program. GaveInput (wanted input.Program p) old s program × IsRecorded program model seed steps text) c.2
+      (λ program is g. (g, subst (λ t. IsResult Asked_for t text) is c.4.2)) in
+      (s, found.0, found.1.0, text, found.1.1, subst (λ n. KeptPart s new n text) c.4.0 c.4.3)
+
+-- words that ask for `record` leave its log by status
+if_called : (o : Option Called) (P : Called → Type 0) → ((call : Called) → o ≡ Some call → P call) → IfSome o P
+if_called None P h = tt
+if_called (Some call) P h = h call refl
+
+-- of the answers of `record` only the failure of a run has status 0
+only_failed_of : (p l : List ℕ) (model : Model) (seed steps : ℕ) (old new : ShelfTells) (a : Answer) → IsCauseOf (Records p l model seed steps) old new a
+    → status_of a ≡ 0 → (f : Failure) × (a ≡ RunFailed f)
+only_failed_of p l model seed steps old new (RunFailed f) c h = (f, refl)
+only_failed_of p l model seed steps old new (RunEnded e) c h = absurd (no_ending e 0 h (λ x. omega (arith, x)) (λ x. omega (arith, x)) (λ x. omega (arith, x)))
+only_failed_of p l model seed steps old new (Listed code) c h = absurd (no_listed c.0 c.3)
+  where
+    no_listed : (t : Texts) → IsAnswerTo (Records p l model seed steps) t (Listed code) → ⊥
+    no_listed (program ∷ []) f = f.1
+    no_listed [] f = f.1
+    no_listed (program ∷ t ∷ ts) f = f.1
+only_failed_of p l model seed steps old new (Replayed v) c h = absurd (no_replayed c.0 c.3)
+  where
+    no_replayed : (t : Texts) → IsAnswerTo (Records p l model seed steps) t (Replayed v) → ⊥
+    no_replayed (program ∷ []) f = f.1
+    no_replayed [] f = f.1
+    no_replayed (program ∷ t ∷ ts) f = f.1
+only_failed_of p l model seed steps old new _ c h = absurd (omega (arith, h))
+
+only_failed : (p l : List ℕ) (model : Model) (seed steps : ℕ) (words : List (List ℕ)) (old new : ShelfTells) (a : Answer)
+    → call_of words ≡ Some (Records p l model seed steps) → IsCause words old new a → status_of a ≡ 0 → (f : Failure) × (a ≡ RunFailed f)
+only_failed p l model seed steps words old new Usage taken c h = absurd (omega (arith, h))
+only_failed p l model seed steps words old new NoMemory taken c h = absurd (omega (arith, h))
+only_failed p l model seed steps words old new a taken c h =
+    only_failed_of p l model seed steps old new a (called_now _ (call_of words) (Records p l model seed steps) taken c) h
 
 module _ (words : List (List ℕ)) (old new : ShelfTells) (a : Answer) (status : ℕ) (j k : SinkTells) (cause : IsCause words old new a)
-    (says : Says a status j k) (unused : call_of words ≡ None → new ≡ old) (kept : new.held ≡ old.held) where
-  failed_at : Says a status j k → status ≡ 8 → (b : Answer) × IsCause words old new b × FailsToPut j k b
-  failed_at (inl done) h = absurd (is_not_eight a (sym done.0 ∙ h))
-  failed_at (inr (inl failed)) h = (a, cause, failed.1)
-  failed_at (inr (inr (inl wanted))) h = absurd (omega (arith, h, wanted.0))
-  failed_at (inr (inr (inr failed))) h = (NoMemory, tt, failed.1)
+    (says : Says a status j k) (unused : call_of words ≡ None → new ≡ old) (kept : KeptNothing a old new) where
+  -- a keep failed, or a put did
+  abbrev Fails : Type 0
+  Fails = ((name : List ℕ) × IsCause words old new (WriteFault name) × PutsPart j k (WriteFault name))
+      ⊎ ((b : Answer) × IsCause words old new b × FailsToPut j k b)
+
+  lost_at : (name : List ℕ) → a ≡ WriteFault name → PutsPart j k a → Fails
+  lost_at name e puts = inl (name, subst (IsCause words old new) e cause, subst (PutsPart j k) e puts)
+
+  failed_at : Says a status j k → status ≡ 8 → Fails
+  failed_at (inl done) h = let e = is_write_fault a (sym done.0 ∙ h) in lost_at e.0 e.1 (inl done.1)
+  failed_at (inr (inl failed)) h = inr (a, cause, failed.1)
+  failed_at (inr (inr none)) h =
+      elim (no_more a status j k none) [
+        | inl lost ↦ lost_at lost.0 lost.1 (inr (inr lost.3))
+        | inr said ↦ elim said [
+          | inl wanted ↦ absurd (omega (arith, h, wanted.0))
+          | inr failed ↦ inr (NoMemory, tt, failed.1)
+        ]
+      ]
 
   wanted_at : Says a status j k → status ≡ 9 → PutsAtMostNoMemory j k
   wanted_at (inl done) h = inr (subst (Puts j k) (is_no_memory a (sym done.0 ∙ h)) done.1)
   wanted_at (inr (inl failed)) h = absurd (omega (arith, h, failed.0))
-  wanted_at (inr (inr (inl wanted))) h = wanted.1
-  wanted_at (inr (inr (inr failed))) h = absurd (omega (arith, h, failed.0))
+  wanted_at (inr (inr none)) h =
+      elim (no_more a status j k none) [
+        | inl lost ↦ absurd (omega (arith, h, lost.2))
+        | inr said ↦ elim said [
+          | inl wanted ↦ wanted.1
+          | inr failed ↦ absurd (omega (arith, h, failed.0))
+        ]
+      ]
 
   answer_at : (status ≡ 8 → ⊥) → (status ≡ 9 → ⊥) → (b : Answer) × IsCause words old new b × (status ≡ status_of b) × Puts j k b
   answer_at eight nine =
@@ -104,11 +263,14 @@ module _ (words : List (List ℕ)) (old new : ShelfTells) (a : Answer) (status :
       let e = is_usage a (sym p.0 ∙ h) in
       (subst (IsCause words old new) e cause, subst (Puts j k) e p.1)
 
-  limit_at : status ≡ 6 → (i : Input) × IsCause words old new (TooLong i) × Puts j k (TooLong i)
+  limit_at : status ≡ 6 → ((i : Input) × IsCause words old new (TooLong i) × Puts j k (TooLong i))
+      ⊎ ((which : Which) × IsCause words old new (RunEnded (Over which)) × Puts j k (RunEnded (Over which)))
   limit_at h =
       let p = put_at a status j k says (λ e. omega (arith, h, e)) (λ e. omega (arith, h, e)) in
-      let e = is_too_long a (sym p.0 ∙ h) in
-      (e.0, subst (IsCause words old new) e.1 cause, subst (Puts j k) e.1 p.1)
+      elim (is_limit a (sym p.0 ∙ h)) [
+        | inl e ↦ inl (e.0, subst (IsCause words old new) e.1 cause, subst (Puts j k) e.1 p.1)
+        | inr e ↦ inr (e.0, subst (IsCause words old new) e.1 cause, subst (Puts j k) e.1 p.1)
+      ]
 
   read_fault_at : status ≡ 7 → (name : List ℕ) × IsCause words old new (ReadFault name) × Puts j k (ReadFault name)
   read_fault_at h =
@@ -127,43 +289,148 @@ module _ (words : List (List ℕ)) (old new : ShelfTells) (a : Answer) (status :
   only_usage_of (ScheduleRefused n) c none = absurd (uncalled _ (call_of words) none c)
   only_usage_of (Listed code) c none = absurd (uncalled _ (call_of words) none c)
   only_usage_of (Replayed v) c none = absurd (uncalled _ (call_of words) none c)
+  only_usage_of (RunFailed f) c none = absurd (uncalled _ (call_of words) none c)
+  only_usage_of (RunEnded e) c none = absurd (uncalled _ (call_of words) none c)
+  only_usage_of (WriteFault name) c none = absurd (uncalled _ (call_of words) none c)
 
-  only_usage_at : Says a status j k → (status_of a ≡ 2) ⊎ (status_of a ≡ 9) → (status ≡ 2) ⊎ (status ≡ 8) ⊎ (status ≡ 9)
-  only_usage_at (inl done) (inl h) = inl (done.0 ∙ h)
-  only_usage_at (inl done) (inr h) = inr (inr (done.0 ∙ h))
-  only_usage_at (inr (inl failed)) h = inr (inl failed.0)
-  only_usage_at (inr (inr (inl wanted))) h = inr (inr wanted.0)
-  only_usage_at (inr (inr (inr failed))) h = inr (inl failed.0)
+  only_usage_at : (status_of a ≡ 2) ⊎ (status_of a ≡ 9) → (status ≡ 2) ⊎ (status ≡ 8) ⊎ (status ≡ 9)
+  only_usage_at own =
+      elim (said_status a status j k says) [
+        | inl done ↦ elim own [
+          | inl h ↦ inl (done.0 ∙ h)
+          | inr h ↦ inr (inr (done.0 ∙ h))
+        ]
+        | inr fault ↦ inr fault
+      ]
+
+  -- of what is left on the shelf
+
+  -- but for the failure of a run and a keep that failed nothing was kept
+  abbrev IsKept : Type 0
+  IsKept = ((f : Failure) × (a ≡ RunFailed f)) ⊎ ((name : List ℕ) × (a ≡ WriteFault name)) ⊎ (new.held ≡ old.held)
+
+  what_is_kept : (b : Answer) → a ≡ b → KeptNothing b old new → IsKept
+  what_is_kept (RunFailed f) e h = inl (f, e)
+  what_is_kept (WriteFault name) e h = inr (inl (name, e))
+  what_is_kept Usage e h = inr (inr h)
+  what_is_kept (ReadFault _) e h = inr (inr h)
+  what_is_kept (TooLong _) e h = inr (inr h)
+  what_is_kept (ProgramRefused _) e h = inr (inr h)
+  what_is_kept (LogRefused _) e h = inr (inr h)
+  what_is_kept (ScheduleRefused _) e h = inr (inr h)
+  what_is_kept (Listed _) e h = inr (inr h)
+  what_is_kept (Replayed _) e h = inr (inr h)
+  what_is_kept (RunEnded _) e h = inr (inr h)
+  what_is_kept NoMemory e h = inr (inr h)
+
+  is_kept : IsKept
+  is_kept = what_is_kept a refl kept
+
+  -- the cause of an answer that only a call has
+  called_cause : (call : Called) → call_of words ≡ Some call → (b : Answer) → (IsCause words old new b → IsSomeAnd (call_of words) (λ c. IsCauseOf c old new b))
+      → a ≡ b → IsCauseOf call old new b
+  called_cause call taken b own e = called_now _ (call_of words) call taken (own (subst (IsCause words old new) e cause))
+
+  -- `list` and `replay` have no such answers
+  no_result : (call : Called) → ((name : List ℕ) → IsOutput call name → ⊥) → call_of words ≡ Some call → new.held ≡ old.held
+  no_result call never taken =
+      elim is_kept [
+        | inl failed ↦ (let c = called_cause call taken (RunFailed failed.0) (λ x. x) failed.1 in absurd (never c.4.0 c.4.2))
+        | inr more ↦ elim more [
+          | inl lost ↦ (let c = called_cause call taken (WriteFault lost.0) (λ x. x) lost.1 in absurd (never lost.0 c.4.0))
+          | inr same ↦ same
+        ]
+      ]
+
+  module _ (p l : List ℕ) (model : Model) (seed steps : ℕ) (taken : call_of words ≡ Some (Records p l model seed steps)) where
+    holds : (f : Failure) → a ≡ RunFailed f → HoldsLog p l model seed steps old new
+    holds f e = holds_log p l model seed steps old new f (called_cause (Records p l model seed steps) taken (RunFailed f) (λ x. x) e)
+
+    loses : (name : List ℕ) → a ≡ WriteFault name → LosesLog p l model seed steps old new
+    loses name e = loses_log p l model seed steps old new name (called_cause (Records p l model seed steps) taken (WriteFault name) (λ x. x) e)
+
+    -- with a status that isn't that of the failure of a run, of a keep that failed or of a fault
+    nothing : status ≢ 0 → status ≢ 8 → status ≢ 9 → new.held ≡ old.held
+    nothing not_zero eight nine =
+        let p = put_at a status j k says eight nine in
+        elim is_kept [
+          | inl failed ↦ absurd (not_zero (p.0 ∙ ap status_of failed.1))
+          | inr more ↦ elim more [
+            | inl lost ↦ absurd (eight (p.0 ∙ ap status_of lost.1))
+            | inr same ↦ same
+          ]
+        ]
+
+    -- status 0 is that of the failure of a run
+    kept_log : status ≡ 0 → HoldsLog p l model seed steps old new
+    kept_log h =
+        let put = put_at a status j k says (λ e. omega (arith, h, e)) (λ e. omega (arith, h, e)) in
+        let e = only_failed p l model seed steps words old new a taken cause (sym put.0 ∙ h) in
+        holds e.0 e.1
+
+    part_of : (new.held ≡ old.held) ⊎ HoldsLog p l model seed steps old new ⊎ LosesLog p l model seed steps old new
+    part_of =
+        elim is_kept [
+          | inl failed ↦ inr (inl (holds failed.0 failed.1))
+          | inr more ↦ elim more [
+            | inl lost ↦ inr (inr (loses lost.0 lost.1))
+            | inr same ↦ inl same
+          ]
+        ]
+
+    whole_of : status ≡ 9 → (new.held ≡ old.held) ⊎ HoldsLog p l model seed steps old new
+    whole_of h =
+        elim is_kept [
+          | inl failed ↦ inr (holds failed.0 failed.1)
+          | inr more ↦ elim more [
+            | inl lost ↦ absurd (not_lost lost.0 says lost.1)
+            | inr same ↦ inl same
+          ]
+        ]
+      where
+        not_lost : (name : List ℕ) → Says a status j k → a ≡ WriteFault name → ⊥
+        not_lost name (inl done) e = omega (arith, h, done.0, ap status_of e)
+        not_lost name (inr (inl failed)) e = omega (arith, h, failed.0)
+        not_lost name (inr (inr none)) e = omega (arith, h, (subst (λ b. SaysNoMore b status j k) e none).0)
+
+    leaves_log : LeavesLog p l model seed steps status old new
+    leaves_log = record { kept = kept_log; none = nothing; whole = whole_of; part = λ h. part_of }
+
+  leaves_of : (call : Called) → call_of words ≡ Some call → Leaves call status old new
+  leaves_of (Lists p) taken = no_result (Lists p) (λ name h. h) taken
+  leaves_of (Replays p l s) taken = no_result (Replays p l s) (λ name h. h) taken
+  leaves_of (Records p l model seed steps) taken = leaves_log p l model seed steps taken
 
   pub call_answers : CallAnswers words old new status j k
   call_answers = record {
     usage = usage_at;
-    only_usage = λ none. (unused none, only_usage_at says (only_usage_of a cause none));
+    only_usage = λ none. (unused none, only_usage_at (only_usage_of a cause none));
     limit = limit_at;
     read_fault = read_fault_at;
     write_fault = failed_at says;
     no_memory = wanted_at says;
     answer = answer_at;
-    kept = kept;
+    leaves = if_called (call_of words) (λ call. Leaves call status old new) leaves_of;
   }
 
--- where the shelf tells what it holds, the cause of an answer is in that, but for read faults and want of memory
+-- where the shelf tells what it holds, the cause of an answer is in that, but for faults of the shelf and want of memory
 pub IsKnown : Called → Texts → Answer → Type 0
-IsKnown call t a = IsAnswerTo call t a ⊎ (status_of a ≡ 7) ⊎ (status_of a ≡ 9)
+IsKnown call t a = IsAnswerTo call t a ⊎ (status_of a ≡ 7) ⊎ (status_of a ≡ 8) ⊎ (status_of a ≡ 9)
 
 known_cause : (call : Called) (old new : ShelfTells) (a : Answer) (files : Files) → old.held ≡ Some files → IsCauseOf call old new a
     → IsKnown call (texts_under files call) a
 unfolding IsKnown
 known_cause call old new (ReadFault _) files told c = inr (inl refl)
 known_cause call old new (TooLong i) files told c = inl (passes_told files (inputs_of call) old new i c told)
-known_cause call old new NoMemory files told c = inr (inr refl)
-known_cause call old new a files told c = inl (subst (λ t. IsAnswerTo call t a) (gave_all files (inputs_of call) old new c.0 c.1 told) c.2)
+known_cause call old new NoMemory files told c = inr (inr (inr refl))
+known_cause call old new (WriteFault _) files told c = inr (inr (inl refl))
+known_cause call old new a files told c = inl (subst (λ t. IsAnswerTo call t a) (gave_all files (inputs_of call) old c.1 c.0 c.2 told) c.3)
 
 known_of : (words : List (List ℕ)) (old new : ShelfTells) (a : Answer) (call : Called) (files : Files) → call_of words ≡ Some call
     → old.held ≡ Some files → IsCause words old new a → IsKnown call (texts_under files call) a
 unfolding IsKnown
 known_of words old new Usage call files taken told c = cc (taken, c.0)
-known_of words old new NoMemory call files taken told c = inr (inr refl)
+known_of words old new NoMemory call files taken told c = inr (inr (inr refl))
 known_of words old new a call files taken told c = known_cause call old new a files told (called_now _ (call_of words) call taken c)
 
 -- an answer that isn't a limit's is the command's own
@@ -172,17 +439,18 @@ work_of call t (TooLong i) f six = absurd (six refl)
 work_of call t a f six = f.1
 
 module _ (call : Called) (t : Texts) (a : Answer) (status : ℕ) (j k : SinkTells) (says : Says a status j k) (known : IsKnown call t a) where
-  answers_at : IsKnown call t a → (status_of a ≡ 7 → ⊥) → (status_of a ≡ 9 → ⊥) → IsAnswerTo call t a
+  answers_at : IsKnown call t a → (status_of a ≡ 7 → ⊥) → (status_of a ≡ 8 → ⊥) → (status_of a ≡ 9 → ⊥) → IsAnswerTo call t a
   unfolding IsKnown
-  answers_at (inl answer) seven nine = answer
-  answers_at (inr (inl h)) seven nine = absurd (seven h)
-  answers_at (inr (inr h)) seven nine = absurd (nine h)
+  answers_at (inl answer) seven eight nine = answer
+  answers_at (inr (inl h)) seven eight nine = absurd (seven h)
+  answers_at (inr (inr (inl h))) seven eight nine = absurd (eight h)
+  answers_at (inr (inr (inr h))) seven eight nine = absurd (nine h)
 
   -- where the status isn't a device's fault or want of memory, the answer is that to the texts, and was put
   plain_at : (status ≡ 7 → ⊥) → (status ≡ 8 → ⊥) → (status ≡ 9 → ⊥) → (status ≡ status_of a) × Puts j k a × IsAnswerTo call t a
   plain_at seven eight nine =
       let p = put_at a status j k says eight nine in
-      (p.0, p.1, answers_at known (λ e. seven (p.0 ∙ e)) (λ e. nine (p.0 ∙ e)))
+      (p.0, p.1, answers_at known (λ e. seven (p.0 ∙ e)) (λ e. eight (p.0 ∙ e)) (λ e. nine (p.0 ∙ e)))
 
   -- below the limit's status it is the command's own
   pub work_at : status ≤ 5 → (status_of a ≡ status) × Puts j k a × IsWorkOf call t a
@@ -190,23 +458,47 @@ module _ (call : Called) (t : Texts) (a : Answer) (status : ℕ) (j k : SinkTell
       let p = plain_at (λ e. omega (arith, h, e)) (λ e. omega (arith, h, e)) (λ e. omega (arith, h, e)) in
       (sym p.0, p.1, work_of call t a p.2 (λ e. omega (arith, h, e, p.0)))
 
-  limit_told : status ≡ 6 → (i : Input) × IsTooLong (inputs_of call) t i × Puts j k (TooLong i)
+  limit_told : status ≡ 6 → ((i : Input) × IsTooLong (inputs_of call) t i × Puts j k (TooLong i))
+      ⊎ ((which : Which) × IsWorkOf call t (RunEnded (Over which)) × Puts j k (RunEnded (Over which)))
   limit_told h =
       let p = plain_at (λ e. omega (arith, h, e)) (λ e. omega (arith, h, e)) (λ e. omega (arith, h, e)) in
-      let e = is_too_long a (sym p.0 ∙ h) in
-      (e.0, subst (IsAnswerTo call t) e.1 p.2, subst (Puts j k) e.1 p.1)
+      elim (is_limit a (sym p.0 ∙ h)) [
+        | inl e ↦ inl (e.0, subst (IsAnswerTo call t) e.1 p.2, subst (Puts j k) e.1 p.1)
+        | inr e ↦ inr (e.0, (subst (IsAnswerTo call t) e.1 p.2).1, subst (Puts j k) e.1 p.1)
+      ]
 
-  exactly_at : Says a status j k → IsKnown call t a → (b : Answer) → IsAnswerTo call t b → IsStatus status (status_of b)
+  known_status : (wanted : ℕ) → (IsAnswerTo call t a → status_of a ≡ wanted) → ((status ≡ status_of a) × Puts j k a) ⊎ (status ≡ 8) ⊎ (status ≡ 9)
+      → IsKnown call t a → IsStatus status wanted
   unfolding IsKnown
-  exactly_at (inl done) (inl answer) b h = inl (done.0 ∙ ap status_of (one_answer call t a b answer h))
-  exactly_at (inl done) (inr (inl seven)) b h = inr (inl (done.0 ∙ seven))
-  exactly_at (inl done) (inr (inr nine)) b h = inr (inr (inr (done.0 ∙ nine)))
-  exactly_at (inr (inl failed)) c b h = inr (inr (inl failed.0))
-  exactly_at (inr (inr (inl wanted))) c b h = inr (inr (inr wanted.0))
-  exactly_at (inr (inr (inr failed))) c b h = inr (inr (inl failed.0))
+  known_status wanted own (inl done) (inl answer) = inl (done.0 ∙ own answer)
+  known_status wanted own (inl done) (inr (inl seven)) = inr (inl (done.0 ∙ seven))
+  known_status wanted own (inl done) (inr (inr (inl eight))) = inr (inr (inl (done.0 ∙ eight)))
+  known_status wanted own (inl done) (inr (inr (inr nine))) = inr (inr (inr (done.0 ∙ nine)))
+  known_status wanted own (inr fault) c = inr (inr fault)
+
+  -- the status that is wanted, where the answer is another's or a fault's
+  pub status_at : (wanted : ℕ) → (IsAnswerTo call t a → status_of a ≡ wanted) → IsStatus status wanted
+  status_at wanted own = known_status wanted own (said_status a status j k says) known
+
+  exactly_at : (b : Answer) → IsAnswerTo call t b → IsStatus status (status_of b)
+  exactly_at b h = status_at (status_of b) (λ answer. ap status_of (one_answer call t a b answer h))
+
+  known_alone : (P : ℕ → Type 0) → (IsAnswerTo call t a → P (status_of a)) → P 7 → P 8 → P 9
+      → ((status ≡ status_of a) × Puts j k a) ⊎ (status ≡ 8) ⊎ (status ≡ 9) → IsKnown call t a → P status
+  unfolding IsKnown
+  known_alone P own seven eight nine (inl done) (inl answer) = subst P (sym done.0) (own answer)
+  known_alone P own seven eight nine (inl done) (inr (inl h)) = subst P (sym (done.0 ∙ h)) seven
+  known_alone P own seven eight nine (inl done) (inr (inr (inl h))) = subst P (sym (done.0 ∙ h)) eight
+  known_alone P own seven eight nine (inl done) (inr (inr (inr h))) = subst P (sym (done.0 ∙ h)) nine
+  known_alone P own seven eight nine (inr (inl h)) c = subst P (sym h) eight
+  known_alone P own seven eight nine (inr (inr h)) c = subst P (sym h) nine
+
+  -- the status is one of those of the command's answers, or a fault's
+  pub alone_of : (P : ℕ → Type 0) → (IsAnswerTo call t a → P (status_of a)) → P 7 → P 8 → P 9 → P status
+  alone_of P own seven eight nine = known_alone P own seven eight nine (said_status a status j k says) known
 
   pub told_at : ToldAnswers call t status j k
-  told_at = record { limit = limit_told; exactly = exactly_at says known }
+  told_at = record { limit = limit_told; exactly = exactly_at }
 
 module _ (name program : List ℕ) (a : Answer) (status : ℕ) (j k : SinkTells) (says : Says a status j k) (known : IsKnown (Lists name) (program ∷ []) a) where
   is_listed : (b : Answer) → IsListAnswer program b → status_of b ≡ 0 → (code : Code) × (b ≡ Listed code)
@@ -232,22 +524,21 @@ module _ (name program : List ℕ) (a : Answer) (status : ℕ) (j k : SinkTells)
   list_status (TooLong i) f = inr (inr refl)
   list_status _ f = absurd f.1
 
-  alone_at : Says a status j k → IsKnown (Lists name) (program ∷ []) a → (status ≡ 0) ⊎ (status ≡ 3) ⊎ IsStatus status 6
-  unfolding IsKnown
-  alone_at (inl done) (inl answer) = own (list_status a answer)
+  abbrev Alone : ℕ → Type 0
+  Alone n = (n ≡ 0) ⊎ (n ≡ 3) ⊎ IsStatus n 6
+
+  alone_at : Alone status
+  alone_at =
+      alone_of (Lists name) (program ∷ []) a status j k says known Alone (λ answer. own (status_of a) (list_status a answer)) (inr (inr (inr (inl refl))))
+      (inr (inr (inr (inr (inl refl))))) (inr (inr (inr (inr (inr refl)))))
     where
-      own : (status_of a ≡ 0) ⊎ (status_of a ≡ 3) ⊎ (status_of a ≡ 6) → (status ≡ 0) ⊎ (status ≡ 3) ⊎ IsStatus status 6
-      own (inl h) = inl (done.0 ∙ h)
-      own (inr (inl h)) = inr (inl (done.0 ∙ h))
-      own (inr (inr h)) = inr (inr (inl (done.0 ∙ h)))
-  alone_at (inl done) (inr (inl seven)) = inr (inr (inr (inl (done.0 ∙ seven))))
-  alone_at (inl done) (inr (inr nine)) = inr (inr (inr (inr (inr (done.0 ∙ nine)))))
-  alone_at (inr (inl failed)) c = inr (inr (inr (inr (inl failed.0))))
-  alone_at (inr (inr (inl wanted))) c = inr (inr (inr (inr (inr wanted.0))))
-  alone_at (inr (inr (inr failed))) c = inr (inr (inr (inr (inl failed.0))))
+      own : (n : ℕ) → (n ≡ 0) ⊎ (n ≡ 3) ⊎ (n ≡ 6) → Alone n
+      own n (inl h) = inl h
+      own n (inr (inl h)) = inr (inl h)
+      own n (inr (inr h)) = inr (inr (inl h))
 
   list_answers : ListAnswers program status j k
-  list_answers = record { listing = listing_at; refused = refused_at; alone = alone_at says known }
+  list_answers = record { listing = listing_at; refused = refused_at; alone = alone_at }
 
 module _ (p l s program log schedule : List ℕ) (a : Answer) (status : ℕ) (j k : SinkTells) (says : Says a status j k)
     (known : IsKnown (Replays p l s) (program ∷ log ∷ schedule ∷ []) a) where
@@ -305,11 +596,110 @@ module _ (p l s program log schedule : List ℕ) (a : Answer) (status : ℕ) (j 
     schedule_refused = schedule_at;
   }
 
+module _ (p l program : List ℕ) (model : Model) (seed steps : ℕ) (a : Answer) (status : ℕ) (j k : SinkTells) (says : Says a status j k)
+    (known : IsKnown (Records p l model seed steps) (program ∷ []) a) where
+  abbrev Asked : Called
+  Asked = Records p l model seed steps
+
+  -- where the status isn't a fault's or a limit's, the answer is the command's own
+  own_answer : status ≢ 6 → status ≢ 7 → status ≢ 8 → status ≢ 9 → (status_of a ≡ status) × Puts j k a × IsRecordAnswer program model seed steps a
+  own_answer six seven eight nine =
+      let w = plain_at Asked (program ∷ []) a status j k says known seven eight nine in
+      (sym w.0, w.1, work_of Asked (program ∷ []) a w.2 (λ e. six (w.0 ∙ e)))
+
+  failed_run : (b : Answer) → IsRecordAnswer program model seed steps b → status_of b ≡ 0 → (f : Failure) × (b ≡ RunFailed f)
+  failed_run (RunFailed f) w h = (f, refl)
+  failed_run (RunEnded e) w h = absurd (no_ending e 0 h (λ x. omega (arith, x)) (λ x. omega (arith, x)) (λ x. omega (arith, x)))
+  failed_run (ProgramRefused r) w h = absurd (omega (arith, h))
+  failed_run _ w h = absurd w
+
+  ended_run : (b : Answer) → IsRecordAnswer program model seed steps b → (status_of b ≡ 1) ⊎ (status_of b ≡ 10) → (e : Ending) × (b ≡ RunEnded e)
+  ended_run (RunEnded e) w h = (e, refl)
+  ended_run (RunFailed f) w (inl h) = absurd (omega (arith, h))
+  ended_run (RunFailed f) w (inr h) = absurd (omega (arith, h))
+  ended_run (ProgramRefused r) w (inl h) = absurd (omega (arith, h))
+  ended_run (ProgramRefused r) w (inr h) = absurd (omega (arith, h))
+  ended_run _ w h = absurd w
+
+  run_failed_at : status ≡ 0 → (f : Failure) × FailsSo program model seed steps f × Puts j k (RunFailed f)
+  run_failed_at h =
+      let w = own_answer (λ e. omega (arith, h, e)) (λ e. omega (arith, h, e)) (λ e. omega (arith, h, e)) (λ e. omega (arith, h, e)) in
+      let e = failed_run a w.2 (w.0 ∙ h) in
+      (e.0, subst (IsRecordAnswer program model seed steps) e.1 w.2, subst (Puts j k) e.1 w.1)
+
+  run_ended_at : status ≡ 1 → (e : Ending) × (ending_status e ≡ 1) × EndsSo program model seed steps e × Puts j k (RunEnded e)
+  run_ended_at h =
+      let w = own_answer (λ e. omega (arith, h, e)) (λ e. omega (arith, h, e)) (λ e. omega (arith, h, e)) (λ e. omega (arith, h, e)) in
+      let e = ended_run a w.2 (inl (w.0 ∙ h)) in
+      (e.0, sym (ap status_of e.1) ∙ w.0 ∙ h, subst (IsRecordAnswer program model seed steps) e.1 w.2, subst (Puts j k) e.1 w.1)
+
+  text_refused_at : status ≡ 3 → (r : TextFault) × IsRefusal program r × Puts j k (ProgramRefused r)
+  text_refused_at h =
+      let w = own_answer (λ e. omega (arith, h, e)) (λ e. omega (arith, h, e)) (λ e. omega (arith, h, e)) (λ e. omega (arith, h, e)) in
+      let e = is_program_refused a (w.0 ∙ h) in
+      (e.0, subst (IsRecordAnswer program model seed steps) e.1 w.2, subst (Puts j k) e.1 w.1)
+
+  goes_on_at : status ≡ 10 → (moves : ℕ) × EndsSo program model seed steps (StepLimit moves) × Puts j k (RunEnded (StepLimit moves))
+  goes_on_at h =
+      let w = own_answer (λ e. omega (arith, h, e)) (λ e. omega (arith, h, e)) (λ e. omega (arith, h, e)) (λ e. omega (arith, h, e)) in
+      let e = ended_run a w.2 (inr (w.0 ∙ h)) in
+      let n = is_step_limit e.0 (sym (ap status_of e.1) ∙ w.0 ∙ h) in
+      let both = e.1 ∙ ap (λ x. RunEnded x) n.1 in
+      (n.0, subst (IsRecordAnswer program model seed steps) both w.2, subst (Puts j k) both w.1)
+
+  -- the status of an answer to a program is that of its run
+  run_status : (code : Code) → IsCodeOf program code → length program ≤ limit_of input.Program → (b : Answer) → IsAnswerTo Asked (program ∷ []) b
+      → status_of b ≡ end_status (run_of model code seed steps).end
+  run_status code is short (RunFailed f) w =
+      ap end_status (sym (subst (λ c. (run_of model c seed steps).end ≡ end.Failed) (one_code program w.1.0 code w.1.1 is) w.1.2.ended))
+  run_status code is short (RunEnded e) w =
+      sym (subst (λ c. end_status (run_of model c seed steps).end ≡ ending_status e) (one_code program w.1.0 code w.1.1 is)
+      (ended_status w.1.0 (run_of model w.1.0 seed steps) e w.1.2))
+  run_status code is short (ProgramRefused r) w = absurd (refused_no_code program r code w.1 is)
+  run_status code is short (TooLong i) w = absurd (not_within (inputs_of Asked) (program ∷ []) i w (short, tt))
+  run_status code is short _ w = absurd w.1
+
+  exactly_run : (code : Code) → IsCodeOf program code → length program ≤ limit_of input.Program
+      → IsStatus status (end_status (run_of model code seed steps).end)
+  exactly_run code is short = status_at Asked (program ∷ []) a status j k says known _ (run_status code is short a)
+
+  abbrev OfRecord : ℕ → Type 0
+  OfRecord n = (n ≡ 0) ⊎ (n ≡ 1) ⊎ (n ≡ 3) ⊎ (n ≡ 10) ⊎ IsStatus n 6
+
+  ending_alone : (e : Ending) → OfRecord (ending_status e)
+  ending_alone ending.Finished = inr (inl refl)
+  ending_alone ending.Deadlock = inr (inl refl)
+  ending_alone (StepLimit n) = inr (inr (inr (inl refl)))
+  ending_alone (Over which) = inr (inr (inr (inr (inl refl))))
+
+  answer_alone : (b : Answer) → IsAnswerTo Asked (program ∷ []) b → OfRecord (status_of b)
+  answer_alone (RunFailed f) w = inl refl
+  answer_alone (RunEnded e) w = ending_alone e
+  answer_alone (ProgramRefused r) w = inr (inr (inl refl))
+  answer_alone (TooLong i) w = inr (inr (inr (inr (inl refl))))
+  answer_alone _ w = absurd w.1
+
+  record_alone : OfRecord status
+  record_alone =
+      alone_of Asked (program ∷ []) a status j k says known OfRecord (answer_alone a) (inr (inr (inr (inr (inr (inl refl))))))
+      (inr (inr (inr (inr (inr (inr (inl refl))))))) (inr (inr (inr (inr (inr (inr (inr refl)))))))
+
+  record_answers : RecordAnswers program model seed steps status j k
+  record_answers = record {
+    failed = run_failed_at;
+    ended = run_ended_at;
+    refused = text_refused_at;
+    goes_on = goes_on_at;
+    exactly = exactly_run;
+    alone = record_alone;
+  }
+
 command_at : (call : Called) (files : Files) (a : Answer) (status : ℕ) (j k : SinkTells) → Says a status j k
     → IsKnown call (texts_under files call) a → CommandAnswers call files status j k
 command_at (Lists p) files a status j k says known = list_answers p (bytes_at files p) a status j k says known
 command_at (Replays p l s) files a status j k says known =
     replay_answers p l s (bytes_at files p) (bytes_at files l) (bytes_at files s) a status j k says known
+command_at (Records p l model seed steps) files a status j k says known = record_answers p l (bytes_at files p) model seed steps a status j k says known
 
 if_told : (o : Option Called) (held : Option Files) (P : Called → Files → Type 0)
     → ((call : Called) (files : Files) → o ≡ Some call → held ≡ Some files → P call files) → IfSome o (λ call. IfSome held (λ files. P call files))

@@ -1,8 +1,11 @@
 pub mod OnePrograms
 pub mod OneFiles
+pub mod OneRun
 pub mod Statuses
 pub mod Fetches
 pub mod Causes
 pub mod OneAnswer
 pub mod Calls
 pub mod Faults
+pub mod Ran
+pub mod Says

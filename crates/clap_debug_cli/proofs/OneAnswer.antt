@@ -1,5 +1,7 @@
 -- At most one answer to what a command's inputs hold has its cause.
-use Rattle.std.proofs.Common.{◌≡◌, ℕ, List, [], ◌∷◌, refl, ap, subst}
+use Rattle.std.proofs.Common.{◌≡◌, ◌∙◌, ℕ, List, [], ◌∷◌, refl, ap, sym, subst}
+use Rattle.std.proofs.lemmas.Option.{same_Some}
+use Rattle.tc_base.specs.declared.model.Model.{Model}
 use Rattle.tc_base.specs.Buffers.{buffer_of}
 use Rattle.tc_code.specs.Code.{Code}
 use Rattle.tc_parser.specs.declared.fault.TextFault.{TextFault}
@@ -9,10 +11,10 @@ use Rattle.schedule_file.proofs.Schedules as schedules
 use Rattle.schedule_replay.specs.Verdicts.{IsVerdict}
 use Rattle.schedule_replay.specs.declared.verdict.Verdict.{Verdict}
 use Rattle.schedule_replay.proofs.OneVerdict.{one_verdict}
-use Rattle.clap_debug_words.specs.Calls.{Called, Lists, Replays}
+use Rattle.clap_debug_words.specs.Calls.{Called, Lists, Replays, Records}
 use Rattle.clap_debug_cli.specs.Files.{IsOfOther, Schedule}
-use Rattle.clap_debug_cli.specs.Answers.{Answer, TooLong, ProgramRefused, LogRefused, ScheduleRefused, Listed, Replayed}
-use Rattle.clap_debug_cli.specs.Causes.{IsListAnswer, IsReplayed, IsLogRefused, IsScheduleRefused, IsReplayAnswer, IsWorkOf, IsAnswerTo}
+use Rattle.clap_debug_cli.specs.Answers.{Answer, TooLong, ProgramRefused, LogRefused, ScheduleRefused, Listed, Replayed, RunFailed, RunEnded}
+use Rattle.clap_debug_cli.specs.Causes.{IsListAnswer, IsRecordAnswer, IsReplayed, IsLogRefused, IsScheduleRefused, IsReplayAnswer, IsWorkOf, IsAnswerTo}
 use Rattle.clap_debug_cli.specs.Inputs.{Texts, inputs_of}
 use Rattle.clap_debug_cli.specs.Programs.{IsRefusal}
 use Rattle.clap_debug_cli.specs.declared.answer.LogRefusal.{LogRefusal}
@@ -20,6 +22,7 @@ use Rattle.clap_debug_cli.specs.declared.answer.LogRefusal.TheVariants.{Form, Ot
 use Rattle.clap_debug_cli.proofs.Fetches.{not_within, one_too_long}
 use Rattle.clap_debug_cli.proofs.OneFiles.{one_log, log_or_fault, one_schedule, schedule_or_fault}
 use Rattle.clap_debug_cli.proofs.OnePrograms.{one_code, one_refusal, refused_no_code}
+use Rattle.clap_debug_cli.proofs.OneRun.{one_failure, one_ending, failed_or_ended}
 
 -- the verdict on what a schedule does with a log
 abbrev IsJudged : Code → StoredLog → Schedule → Verdict → Type 0
@@ -85,9 +88,26 @@ module _ (program log schedule : List ℕ) where
   one_replay_answer (Replayed _) _ f g = absurd g
   one_replay_answer _ b f g = absurd f
 
+module _ (program : List ℕ) (model : Model) (seed steps : ℕ) where
+  one_record_answer : (a b : Answer) → IsRecordAnswer program model seed steps a → IsRecordAnswer program model seed steps b → a ≡ b
+  one_record_answer (ProgramRefused r) (ProgramRefused q) f g = ap (λ x. ProgramRefused x) (one_refusal program r q f g)
+  one_record_answer (ProgramRefused r) (RunFailed y) f g = absurd (refused_no_code program r g.0 f g.1)
+  one_record_answer (ProgramRefused r) (RunEnded y) f g = absurd (refused_no_code program r g.0 f g.1)
+  one_record_answer (RunFailed x) (ProgramRefused q) f g = absurd (refused_no_code program q f.0 g f.1)
+  one_record_answer (RunFailed x) (RunFailed y) f g = ap (λ z. RunFailed z) (one_failure program model seed steps x y f g)
+  one_record_answer (RunFailed x) (RunEnded y) f g = absurd (failed_or_ended program model seed steps x y f g)
+  one_record_answer (RunEnded x) (ProgramRefused q) f g = absurd (refused_no_code program q f.0 g f.1)
+  one_record_answer (RunEnded x) (RunFailed y) f g = absurd (failed_or_ended program model seed steps y x g f)
+  one_record_answer (RunEnded x) (RunEnded y) f g = ap (λ z. RunEnded z) (one_ending program model seed steps x y f g)
+  one_record_answer (ProgramRefused _) _ f g = absurd g
+  one_record_answer (RunFailed _) _ f g = absurd g
+  one_record_answer (RunEnded _) _ f g = absurd g
+  one_record_answer _ b f g = absurd f
+
 one_work : (call : Called) (t : Texts) (a b : Answer) → IsWorkOf call t a → IsWorkOf call t b → a ≡ b
 one_work (Lists _) (program ∷ []) a b f g = one_list_answer program a b f g
 one_work (Replays _ _ _) (program ∷ log ∷ schedule ∷ []) a b f g = one_replay_answer program log schedule a b f g
+one_work (Records _ _ model seed steps) (program ∷ []) a b f g = one_record_answer program model seed steps a b f g
 one_work _ _ a b f g = absurd f
 
 pub one_answer : (call : Called) (t : Texts) (a b : Answer) → IsAnswerTo call t a → IsAnswerTo call t b → a ≡ b

@@ -9,10 +9,16 @@ use Rattle.clap_debug_cli.specs.Inputs.{limit_of, input_text}
 use Rattle.clap_debug_cli.specs.Programs.{refusal_line}
 use Rattle.tc_parser.specs.declared.fault.TextFault.{TextFault}
 use Rattle.schedule_replay.specs.declared.verdict.Verdict.{Verdict}
+use Rattle.tc_record.specs.Ends.{limit_of as most_of}
+use Rattle.tc_record.specs.declared.end.Which.{Which}
+use Rattle.tc_record.specs.declared.end.Which.TheVariants.{Threads, Depth, Steps}
 use Rattle.clap_debug_cli.specs.declared.answer.LogRefusal.{LogRefusal}
 use Rattle.clap_debug_cli.specs.declared.answer.LogRefusal.TheVariants.{Form, OtherProgram}
 use Rattle.schedule_replay.specs.declared.verdict.Verdict.TheVariants as verdict
 use Rattle.clap_debug_cli.specs.declared.input.Input.{Input}
+use Rattle.clap_debug_cli.specs.declared.run.Ending.{Ending}
+use Rattle.clap_debug_cli.specs.declared.run.Ending.TheVariants.{Finished, Deadlock, StepLimit, Over}
+use Rattle.clap_debug_cli.specs.declared.run.Failure.{Failure}
 
 pub data Answer : Type 0 where
   -- the words aren't taken
@@ -27,6 +33,11 @@ pub data Answer : Type 0 where
   ScheduleRefused : (line : ℕ) → Answer
   Listed : (code : Code) → Answer
   Replayed : (verdict : Verdict) → Answer
+  -- a recorded run failed, or ended otherwise
+  RunFailed : (failure : Failure) → Answer
+  RunEnded : (ending : Ending) → Answer
+  -- the log couldn't be kept under this name
+  WriteFault : (name : List ℕ) → Answer
   NoMemory : Answer
 
 abbrev pub verdict_line : Verdict → List ℕ
@@ -35,6 +46,22 @@ verdict_line (verdict.Stops n reason) = codes "stops at move " ++ (decimal n ++ 
 verdict_line verdict.NoFailure = codes "no failure\n"
 verdict_line (verdict.OtherFailure n) = codes "other failure " ++ (name_text n ++ codes "\n")
 verdict_line (verdict.OtherPath n) = codes "other path " ++ (name_text n ++ codes "\n")
+
+-- what there is a limit of in a recorded run
+abbrev pub which_text : Which → List ℕ
+which_text Threads = codes "threads"
+which_text Depth = codes "depth"
+which_text Steps = codes "steps"
+
+abbrev pub failure_line : Failure → List ℕ
+failure_line f = codes "failed " ++ (name_text f.name ++ (codes " line " ++ (decimal f.line ++ (codes " after " ++ (decimal f.moves ++ codes " moves\n")))))
+
+abbrev pub ending_line : Ending → List ℕ
+ending_line Finished = codes "finished\n"
+ending_line Deadlock = codes "deadlock\n"
+ending_line (StepLimit moves) = codes "no failure in " ++ (decimal moves ++ codes " moves\n")
+ending_line (Over which) = codes "limit " ++ (which_text which ++
+    (codes " " ++ (decimal (most_of which + 1) ++ (codes " of " ++ (decimal (most_of which) ++ codes "\n")))))
 
 -- where the log's form breaks, or that it is another program's
 abbrev pub log_refusal_text : LogRefusal → List ℕ
@@ -61,20 +88,32 @@ line_of (LogRefused r) = codes "log refused: " ++ (log_refusal_text r ++ codes "
 line_of (ScheduleRefused n) = codes "schedule refused: line " ++ (decimal n ++ codes "\n")
 line_of (Listed code) = listing_of code
 line_of (Replayed v) = verdict_line v
+line_of (RunFailed f) = failure_line f
+line_of (RunEnded e) = ending_line e
+line_of (WriteFault name) = codes "write fault: " ++ (name ++ codes "\n")
 line_of NoMemory = codes "no memory\n"
 
 abbrev pub verdict_status : Verdict → ℕ
 verdict_status verdict.Reproduces = 0
 verdict_status _ = 1
 
+abbrev pub ending_status : Ending → ℕ
+ending_status Finished = 1
+ending_status Deadlock = 1
+ending_status (StepLimit _) = 10
+ending_status (Over _) = 6
+
 -- the status that the call ends with
 abbrev pub status_of : Answer → ℕ
 status_of (Listed _) = 0
 status_of (Replayed v) = verdict_status v
+status_of (RunFailed _) = 0
+status_of (RunEnded e) = ending_status e
 status_of Usage = 2
 status_of (ProgramRefused _) = 3
 status_of (LogRefused _) = 4
 status_of (ScheduleRefused _) = 5
 status_of (TooLong _) = 6
 status_of (ReadFault _) = 7
+status_of (WriteFault _) = 8
 status_of NoMemory = 9

@@ -1,8 +1,9 @@
 -- What a call of the program answers, over what the shelf and the sink tell before and after it.
-use Rattle.std.specs.Prelude.{◌≡◌, ◌≢◌, ℕ, ◌⊎◌, List, Option, None, IfSome}
+use Rattle.std.specs.Prelude.{◌≡◌, ◌≢◌, ℕ, ◌≤◌, ◌⊎◌, List, length, Option, None, IfSome}
 use Rattle.tc_code.specs.Code.{Code}
-use Rattle.tc_io.specs.Outside.{Files, ShelfTells, SinkTells, Wrote, WrotePart, bytes_at}
-use Rattle.clap_debug_words.specs.Calls.{Called, Lists, Replays, call_of}
+use Rattle.tc_base.specs.declared.model.Model.{Model}
+use Rattle.tc_io.specs.Outside.{Files, ShelfTells, SinkTells, Wrote, WrotePart, KeptPart, bytes_at, put_under}
+use Rattle.clap_debug_words.specs.Calls.{Called, Lists, Replays, Records, call_of}
 use Rattle.clap_debug_cli.specs.Answers.{
   Answer,
   Usage,
@@ -13,18 +14,28 @@ use Rattle.clap_debug_cli.specs.Answers.{
   ScheduleRefused,
   Listed,
   Replayed,
+  RunFailed,
+  RunEnded,
+  WriteFault,
   NoMemory,
+  ending_status,
   line_of,
   status_of,
 }
-use Rattle.clap_debug_cli.specs.Causes.{IsCause, IsAnswerTo, IsReplayed, IsLogRefused, IsScheduleRefused}
-use Rattle.clap_debug_cli.specs.Inputs.{Texts, inputs_of, IsTooLong}
+use Rattle.clap_debug_cli.specs.Causes.{IsCause, IsAnswerTo, IsWorkOf, IsReplayed, IsLogRefused, IsScheduleRefused}
+use Rattle.clap_debug_cli.specs.Inputs.{Texts, GaveInput, inputs_of, limit_of, wanted, IsTooLong}
 use Rattle.clap_debug_cli.specs.Programs.{IsCodeOf, IsRefusal}
+use Rattle.clap_debug_cli.specs.Recorded.{FailsSo, EndsSo, IsRecorded, end_status, run_of}
 use Rattle.tc_parser.specs.declared.fault.TextFault.{TextFault}
 use Rattle.schedule_replay.specs.declared.verdict.Verdict.{Verdict}
 use Rattle.clap_debug_cli.specs.declared.answer.LogRefusal.{LogRefusal}
 use Rattle.schedule_replay.specs.declared.verdict.Verdict.TheVariants as verdict
+use Rattle.tc_record.specs.declared.end.Which.{Which}
 use Rattle.clap_debug_cli.specs.declared.input.Input.{Input}
+use Rattle.clap_debug_cli.specs.declared.input.Input.TheVariants as input
+use Rattle.clap_debug_cli.specs.declared.run.Ending.{Ending}
+use Rattle.clap_debug_cli.specs.declared.run.Ending.TheVariants.{StepLimit, Over}
+use Rattle.clap_debug_cli.specs.declared.run.Failure.{Failure}
 
 -- the answer's line stands at the end of what was written
 abbrev pub Puts : SinkTells → SinkTells → Answer → Type 0
@@ -38,25 +49,61 @@ FailsToPut old new a = WrotePart old new (line_of a)
 abbrev pub PutsAtMostNoMemory : SinkTells → SinkTells → Type 0
 PutsAtMostNoMemory old new = (new ≡ old) ⊎ Puts old new NoMemory
 
--- the answer was put, or the put failed; or memory was wanted then, and that was put, or not even that
+-- the answer's line was written, a part of it or nothing
+abbrev pub PutsPart : SinkTells → SinkTells → Answer → Type 0
+PutsPart old new a = Puts old new a ⊎ FailsToPut old new a ⊎ (new ≡ old)
+
+-- memory was wanted for the line: that was put, or not even that; after a failed keep nothing more is
+abbrev pub SaysNoMore : Answer → ℕ → SinkTells → SinkTells → Type 0
+SaysNoMore (WriteFault _) status old new = (status ≡ 8) × (new ≡ old)
+SaysNoMore _ status old new = ((status ≡ 9) × PutsAtMostNoMemory old new) ⊎ ((status ≡ 8) × FailsToPut old new NoMemory)
+
+-- the answer was put, or the put failed, or there was no memory for it
 abbrev pub Says : Answer → ℕ → SinkTells → SinkTells → Type 0
 Says a status old new =
-    ((status ≡ status_of a) × Puts old new a) ⊎ ((status ≡ 8) × FailsToPut old new a)
-    ⊎ ((status ≡ 9) × PutsAtMostNoMemory old new) ⊎ ((status ≡ 8) × FailsToPut old new NoMemory)
+    ((status ≡ status_of a) × Puts old new a) ⊎ ((status ≡ 8) × FailsToPut old new a) ⊎ SaysNoMore a status old new
+
+-- what stands under every name after a call
+
+-- `record` was given a program, and the text of its run's log stands under the log's name; all else is held that was
+abbrev pub HoldsLog : (program log : List ℕ) → Model → (seed steps : ℕ) → ShelfTells → ShelfTells → Type 0
+HoldsLog program log model seed steps old new = (s : ShelfTells) × (bytes : List ℕ) × GaveInput (wanted input.Program program) old s bytes
+    × (text : List ℕ) × IsRecorded bytes model seed steps text × (new.held ≡ put_under log text old.held)
+
+-- it was given a program, and then the keep of that text failed
+abbrev pub LosesLog : (program log : List ℕ) → Model → (seed steps : ℕ) → ShelfTells → ShelfTells → Type 0
+LosesLog program log model seed steps old new = (s : ShelfTells) × (bytes : List ℕ) × GaveInput (wanted input.Program program) old s bytes
+    × (text : List ℕ) × IsRecorded bytes model seed steps text × KeptPart s new log text
+
+-- what `record` leaves on the shelf, by status
+pub record LeavesLog (program log : List ℕ) (model : Model) (seed steps : ℕ) (status : ℕ) (old new : ShelfTells) : Type 0 where
+  pub kept : status ≡ 0 → HoldsLog program log model seed steps old new
+  pub none : status ≢ 0 → status ≢ 8 → status ≢ 9 → new.held ≡ old.held
+  -- without memory, and after a put that failed, the log stands there whole or nothing was kept
+  pub whole : status ≡ 9 → (new.held ≡ old.held) ⊎ HoldsLog program log model seed steps old new
+  pub part : status ≡ 8 → (new.held ≡ old.held) ⊎ HoldsLog program log model seed steps old new ⊎ LosesLog program log model seed steps old new
+
+-- what a command leaves on the shelf: `list` and `replay` what was there
+abbrev pub Leaves : Called → ℕ → ShelfTells → ShelfTells → Type 0
+Leaves (Records program log model seed steps) status old new = LeavesLog program log model seed steps status old new
+Leaves _ status old new = new.held ≡ old.held
 
 -- the answers that every call may give, by status, over what the shelf and the sink tell before and after it
 pub record CallAnswers (words : List (List ℕ)) (old new : ShelfTells) (status : ℕ) (before after : SinkTells) : Type 0 where
   pub usage : status ≡ 2 → IsCause words old new Usage × Puts before after Usage
   -- where the words aren't taken the shelf is as before
   pub only_usage : call_of words ≡ None → (new ≡ old) × ((status ≡ 2) ⊎ (status ≡ 8) ⊎ (status ≡ 9))
-  pub limit : status ≡ 6 → (i : Input) × IsCause words old new (TooLong i) × Puts before after (TooLong i)
+  pub limit : status ≡ 6 → ((i : Input) × IsCause words old new (TooLong i) × Puts before after (TooLong i))
+      ⊎ ((which : Which) × IsCause words old new (RunEnded (Over which)) × Puts before after (RunEnded (Over which)))
   pub read_fault : status ≡ 7 → (name : List ℕ) × IsCause words old new (ReadFault name) × Puts before after (ReadFault name)
-  pub write_fault : status ≡ 8 → (a : Answer) × IsCause words old new a × FailsToPut before after a
+  -- a keep failed, or a put did
+  pub write_fault : status ≡ 8 → ((name : List ℕ) × IsCause words old new (WriteFault name) × PutsPart before after (WriteFault name))
+      ⊎ ((a : Answer) × IsCause words old new a × FailsToPut before after a)
   pub no_memory : status ≡ 9 → PutsAtMostNoMemory before after
   -- in all other cases an answer was put with its status, and has its cause
   pub answer : (status ≡ 8 → ⊥) → (status ≡ 9 → ⊥) → (a : Answer) × IsCause words old new a × (status ≡ status_of a) × Puts before after a
-  -- no name of the shelf changes
-  pub kept : new.held ≡ old.held
+  -- no name of the shelf changes but that of the log that `record` keeps
+  pub leaves : IfSome (call_of words) (λ call. Leaves call status old new)
 
 -- a fact about a call and the files, where the words are taken and the shelf tells what it holds
 abbrev pub IfTold : List (List ℕ) → Option Files → (Called → Files → Type 0) → Type 0
@@ -68,7 +115,8 @@ IsStatus status wanted = (status ≡ wanted) ⊎ (status ≡ 7) ⊎ (status ≡ 
 
 -- the answers that every command may give to inputs that the shelf tells of
 pub record ToldAnswers (call : Called) (t : Texts) (status : ℕ) (before after : SinkTells) : Type 0 where
-  pub limit : status ≡ 6 → (i : Input) × IsTooLong (inputs_of call) t i × Puts before after (TooLong i)
+  pub limit : status ≡ 6 → ((i : Input) × IsTooLong (inputs_of call) t i × Puts before after (TooLong i))
+      ⊎ ((which : Which) × IsWorkOf call t (RunEnded (Over which)) × Puts before after (RunEnded (Over which)))
   -- each answer comes wherever its cause holds
   pub exactly : (a : Answer) → IsAnswerTo call t a → IsStatus status (status_of a)
 
@@ -87,7 +135,20 @@ pub record ReplayAnswers (program log schedule : List ℕ) (status : ℕ) (befor
   pub log_refused : status ≡ 4 → (r : LogRefusal) × IsLogRefused program log schedule r × Puts before after (LogRefused r)
   pub schedule_refused : status ≡ 5 → (line : ℕ) × IsScheduleRefused program log schedule line × Puts before after (ScheduleRefused line)
 
+-- the answers of `record` to a program that the shelf tells of, by status
+pub record RecordAnswers (program : List ℕ) (model : Model) (seed steps : ℕ) (status : ℕ) (before after : SinkTells) : Type 0 where
+  pub failed : status ≡ 0 → (f : Failure) × FailsSo program model seed steps f × Puts before after (RunFailed f)
+  pub ended : status ≡ 1 → (e : Ending) × (ending_status e ≡ 1) × EndsSo program model seed steps e × Puts before after (RunEnded e)
+  pub refused : status ≡ 3 → (r : TextFault) × IsRefusal program r × Puts before after (ProgramRefused r)
+  pub goes_on : status ≡ 10 → (moves : ℕ) × EndsSo program model seed steps (StepLimit moves) × Puts before after (RunEnded (StepLimit moves))
+  -- of a program that isn't too long, the status is that of its run
+  pub exactly : (code : Code) → IsCodeOf program code → length program ≤ limit_of input.Program
+      → IsStatus status (end_status (run_of model code seed steps).end)
+  -- and no other but those of every command
+  pub alone : (status ≡ 0) ⊎ (status ≡ 1) ⊎ (status ≡ 3) ⊎ (status ≡ 10) ⊎ IsStatus status 6
+
 -- the answers of a command, by status
 abbrev pub CommandAnswers : Called → Files → ℕ → SinkTells → SinkTells → Type 0
 CommandAnswers (Lists program) files = ListAnswers (bytes_at files program)
 CommandAnswers (Replays program log schedule) files = ReplayAnswers (bytes_at files program) (bytes_at files log) (bytes_at files schedule)
+CommandAnswers (Records program log model seed steps) files = RecordAnswers (bytes_at files program) model seed steps

@@ -1,13 +1,14 @@
 -- Why an answer is given: what the words are, what the shelf did, and what the bytes that it gave say.
 use Rattle.std.specs.Prelude.{◌≡◌, ℕ, List, [], ◌∷◌, None, IsSomeAnd}
+use Rattle.tc_base.specs.declared.model.Model.{Model}
 use Rattle.tc_base.specs.Buffers.{buffer_of}
 use Rattle.tc_code.specs.Code.{Code}
-use Rattle.tc_io.specs.Outside.{ShelfTells}
+use Rattle.tc_io.specs.Outside.{ShelfTells, Kept, KeptPart}
 use Rattle.path_log.specs.Faults.{BreaksAt as LogBreaksAt}
 use Rattle.path_log.specs.Texts.{StoredLog}
 use Rattle.schedule_file.specs.Faults.{BreaksAt as ScheduleBreaksAt}
 use Rattle.schedule_replay.specs.Verdicts.{IsVerdict}
-use Rattle.clap_debug_words.specs.Calls.{Called, Lists, Replays, call_of}
+use Rattle.clap_debug_words.specs.Calls.{Called, Lists, Replays, Records, call_of}
 use Rattle.clap_debug_cli.specs.Answers.{
   Answer,
   Usage,
@@ -18,11 +19,15 @@ use Rattle.clap_debug_cli.specs.Answers.{
   ScheduleRefused,
   Listed,
   Replayed,
+  RunFailed,
+  RunEnded,
+  WriteFault,
   NoMemory,
 }
 use Rattle.clap_debug_cli.specs.Files.{IsLog, IsOfOther, Schedule, IsSchedule}
 use Rattle.clap_debug_cli.specs.Inputs.{Texts, inputs_of, AreWithin, IsTooLong, GaveAll, FailsToRead, PassesLimit}
 use Rattle.clap_debug_cli.specs.Programs.{IsCodeOf, IsRefusal}
+use Rattle.clap_debug_cli.specs.Recorded.{FailsSo, EndsSo, IsRecorded}
 use Rattle.schedule_replay.specs.declared.verdict.Verdict.{Verdict}
 use Rattle.clap_debug_cli.specs.declared.answer.LogRefusal.{LogRefusal}
 use Rattle.clap_debug_cli.specs.declared.answer.LogRefusal.TheVariants.{Form, OtherProgram}
@@ -66,10 +71,18 @@ IsReplayAnswer program log schedule (ScheduleRefused line) = IsScheduleRefused p
 IsReplayAnswer program log schedule (Replayed v) = IsReplayed program log schedule v
 IsReplayAnswer program log schedule _ = ⊥
 
+-- the answer of `record` to a program
+abbrev pub IsRecordAnswer : (program : List ℕ) → Model → (seed steps : ℕ) → Answer → Type 0
+IsRecordAnswer program model seed steps (ProgramRefused r) = IsRefusal program r
+IsRecordAnswer program model seed steps (RunFailed f) = FailsSo program model seed steps f
+IsRecordAnswer program model seed steps (RunEnded e) = EndsSo program model seed steps e
+IsRecordAnswer program model seed steps _ = ⊥
+
 -- the answer of a command to what its inputs hold, none of which is too long
 abbrev pub IsWorkOf : Called → Texts → Answer → Type 0
 IsWorkOf (Lists _) (program ∷ []) a = IsListAnswer program a
 IsWorkOf (Replays _ _ _) (program ∷ log ∷ schedule ∷ []) a = IsReplayAnswer program log schedule a
+IsWorkOf (Records _ _ model seed steps) (program ∷ []) a = IsRecordAnswer program model seed steps a
 IsWorkOf _ _ a = ⊥
 
 -- the answer of a command to what its inputs hold
@@ -77,12 +90,33 @@ abbrev pub IsAnswerTo : Called → Texts → Answer → Type 0
 IsAnswerTo call t (TooLong i) = IsTooLong (inputs_of call) t i
 IsAnswerTo call t a = AreWithin (inputs_of call) t × IsWorkOf call t a
 
+-- what a command may keep of its inputs: `record` the text of the log of a run that failed
+abbrev pub IsResult : Called → Texts → List ℕ → Type 0
+IsResult (Records _ _ model seed steps) (program ∷ []) text = IsRecorded program model seed steps text
+IsResult _ _ text = ⊥
+
+-- the name under which a command keeps it, and whether this is that name
+abbrev pub IsOutput : Called → List ℕ → Type 0
+IsOutput (Records _ log _ _ _) name = name ≡ log
+IsOutput _ name = ⊥
+
+-- what a command does to the shelf once it has its inputs: with the failure of a run it keeps a result, and else nothing
+abbrev pub DoesWith : Called → Texts → Answer → ShelfTells → ShelfTells → Type 0
+DoesWith call t (RunFailed _) old new = (name : List ℕ) × (text : List ℕ) × IsOutput call name × IsResult call t text × Kept old new name text
+DoesWith call t _ old new = new ≡ old
+
+-- a result couldn't be kept under this name
+abbrev pub FailsToKeep : Called → Texts → ShelfTells → ShelfTells → List ℕ → Type 0
+FailsToKeep call t old new name = IsOutput call name × (text : List ℕ) × IsResult call t text × KeptPart old new name text
+
 -- why an answer is given to a call
 abbrev pub IsCauseOf : Called → ShelfTells → ShelfTells → Answer → Type 0
 IsCauseOf call old new (ReadFault name) = FailsToRead (inputs_of call) old new name
 IsCauseOf call old new (TooLong i) = PassesLimit (inputs_of call) old new i
 IsCauseOf call old new NoMemory = Unit {0}
-IsCauseOf call old new a = (t : Texts) × GaveAll (inputs_of call) old new t × IsAnswerTo call t a
+IsCauseOf call old new (WriteFault name) =
+    (t : Texts) × (s : ShelfTells) × GaveAll (inputs_of call) old s t × AreWithin (inputs_of call) t × FailsToKeep call t s new name
+IsCauseOf call old new a = (t : Texts) × (s : ShelfTells) × GaveAll (inputs_of call) old s t × IsAnswerTo call t a × DoesWith call t a s new
 
 -- why an answer is given to words
 abbrev pub IsCause : List (List ℕ) → ShelfTells → ShelfTells → Answer → Type 0

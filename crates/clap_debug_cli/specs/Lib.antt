@@ -1,9 +1,11 @@
 pub mod Programs
 pub mod Files
 pub mod Inputs
+pub mod Recorded
 pub mod Answers
 pub mod Causes
 pub mod Call
 pub mod Held
 pub mod Fetched
 pub mod Judged
+pub mod Ran

@@ -1,16 +1,30 @@
 //! Answers: the line and the status of each.
 ghost use Rattle.std.specs.Prelude.{◌≡◌, IfOk, IsOkAnd, string_bytes};
 ghost use Rattle.clap_debug_cli.specs.Inputs.{input_text};
-ghost use Rattle.clap_debug_cli.specs.Answers.{line_of, status_of, verdict_line, verdict_status, log_refusal_text, usage_text};
+ghost use Rattle.clap_debug_cli.specs.Answers.{
+  line_of,
+  status_of,
+  verdict_line,
+  verdict_status,
+  log_refusal_text,
+  usage_text,
+  which_text,
+  failure_line,
+  ending_line,
+  ending_status,
+};
 ghost use Rattle.clap_debug_cli.specs.Answers as plain;
 ghost use Rattle.clap_debug_cli.specs.Held.{plain_answer};
+ghost use Rattle.clap_debug_cli.specs.declared.run.Ending.TheVariants.{Over};
 
 use crate::input::{Input, Missing};
 use crate::program::refusal_line;
+use crate::run::{Ending, Failure};
 use schedule_replay::Verdict;
 use std::alloc::{AllocError, Global};
 use tc_code::{Code, listing};
 use tc_parser::TextFault;
+use tc_record::Which;
 
 /// Why a log isn't taken.
 #[derive(Clone, Copy, Debug, PartialEq, Eq)]
@@ -40,6 +54,12 @@ pub(crate) enum Answer<'a> {
     Listed(Code),
     /// The verdict on the schedule.
     Replayed(Verdict),
+    /// The recorded run failed, and its log is kept.
+    RunFailed(Failure),
+    /// The recorded run ended without a failure.
+    RunEnded(Ending),
+    /// The log couldn't be kept under this name.
+    WriteFault(&'a str),
     /// There is no memory.
     NoMemory,
 }
@@ -77,6 +97,9 @@ pub(crate) fn line(alloc: Global, answer: &Answer) -> Result<Vec<u8>, AllocError
             "schedule refused: line {line}\n"
         )),
         Answer::Replayed(verdict) => bytes(verdict_line(alloc, verdict)),
+        Answer::RunFailed(failure) => bytes(failure_line(alloc, failure)),
+        Answer::RunEnded(ending) => bytes(ending_line(alloc, *ending)),
+        Answer::WriteFault(name) => bytes(format!(in alloc; "write fault: {name}\n")),
         Answer::NoMemory => bytes(String::from_str(alloc, "no memory\n")),
     }
 }
@@ -141,6 +164,43 @@ fn verdict_line(alloc: Global, verdict: &Verdict) -> Result<String, AllocError>
     }
 }
 
+fn failure_line(alloc: Global, failure: &Failure) -> Result<String, AllocError>
+    ensures { IfOk result (λ text. string_bytes text ≡ failure_line failure.now) }
+{
+    let Failure { name, line, moves } = failure;
+    format!(in alloc; "failed {name} line {line} after {moves} moves\n")
+}
+
+fn ending_line(alloc: Global, ending: Ending) -> Result<String, AllocError>
+    ensures { IfOk result (λ text. string_bytes text ≡ ending_line ending) }
+{
+    match ending {
+        Ending::Finished => String::from_str(alloc, "finished\n"),
+        Ending::Deadlock => String::from_str(alloc, "deadlock\n"),
+        Ending::StepLimit(moves) => format!(in alloc; "no failure in {moves} moves\n"),
+        Ending::Over(which) => over_line(alloc, which),
+    }
+}
+
+fn over_line(alloc: Global, which: Which) -> Result<String, AllocError>
+    ensures { IfOk result (λ text. string_bytes text ≡ ending_line (Over which)) }
+{
+    let limit = which.limit();
+    let past = limit + 1;
+    let which = which_text(which);
+    format!(in alloc; "limit {which} {past} of {limit}\n")
+}
+
+fn which_text(which: Which) -> &'static str
+    ensures { result.now ≡ which_text which }
+{
+    match which {
+        Which::Threads => "threads",
+        Which::Depth => "depth",
+        Which::Steps => "steps",
+    }
+}
+
 /// The status that the call ends with.
 pub(crate) fn status(answer: &Answer) -> u8
     ensures { result ≡ status_of (plain_answer answer.now) }
@@ -149,12 +209,25 @@ pub(crate) fn status(answer: &Answer) -> u8
         Answer::Listed(_) => 0,
         Answer::Replayed(Verdict::Reproduces) => 0,
         Answer::Replayed(_) => 1,
+        Answer::RunFailed(_) => 0,
+        Answer::RunEnded(ending) => ending_status(*ending),
         Answer::Usage => 2,
         Answer::ProgramRefused(_) => 3,
         Answer::LogRefused(_) => 4,
         Answer::ScheduleRefused(_) => 5,
         Answer::TooLong(_) => 6,
         Answer::ReadFault(_) => 7,
+        Answer::WriteFault(_) => 8,
         Answer::NoMemory => 9,
+    }
+}
+
+fn ending_status(ending: Ending) -> u8
+    ensures { result ≡ ending_status ending }
+{
+    match ending {
+        Ending::Finished | Ending::Deadlock => 1,
+        Ending::Over(_) => 6,
+        Ending::StepLimit(_) => 10,
     }
 }

@@ -1,20 +1,23 @@
 //! The commands: each fetches its files in order, and answers what they say.
-ghost use Rattle.std.specs.Prelude.{◌≡◌, ◌≤◌, length, IfOk, IfErr};
-ghost use Rattle.clap_debug_words.specs.Calls.{Lists, Replays};
+ghost use Rattle.std.specs.Prelude.{◌≡◌, ◌≤◌, length, IfOk, IfErr, OnErr};
+ghost use Rattle.clap_debug_words.specs.Calls.{Lists, Replays, Records};
 ghost use Rattle.clap_debug_cli.specs.Causes.{IsCauseOf};
 ghost use Rattle.clap_debug_cli.specs.Fetched.{IsWhyNone};
-ghost use Rattle.clap_debug_cli.specs.Held.{plain_answer};
+ghost use Rattle.clap_debug_cli.specs.Held.{plain_answer, KeptNothing};
 ghost use Rattle.clap_debug_cli.specs.Inputs.{inputs_of};
 ghost use Rattle.clap_debug_cli.specs.Judged.{IsListedSo, IsReplayedSo};
+ghost use Rattle.clap_debug_cli.specs.Ran.{KeepsSo};
 
 use crate::answer::{Answer, LogRefusal};
 use crate::input::{Input, Missing, fetch};
 use crate::program::{CodeFault, read_program};
 use crate::replay::{is_of_other, replay_under};
+use crate::run::{Failure, Run, run_program};
 use path_log::{LogFault, read_log};
 use schedule_file::{ScheduleFault, read_schedule};
 use std::alloc::Global;
-use tc_io::Shelf;
+use tc_base::Model;
+use tc_io::{KeepFault, Shelf};
 
 /// `list PROGRAM`: the listing of the program's code.
 pub(crate) fn list_program<'a, H: Shelf>(
@@ -47,6 +50,48 @@ pub(crate) fn replay_schedule<'a, H: Shelf>(
     let log = fetch(alloc, shelf, Input::Log, log)?;
     let schedule = fetch(alloc, shelf, Input::Schedule, schedule)?;
     Ok(replayed(alloc, &program, &log, &schedule))
+}
+
+/// `record PROGRAM LOG`: how a run of the program by moves that a seed chooses ends. The log of one that fails is kept.
+pub(crate) fn record_run<'a, H: Shelf>(
+    alloc: Global,
+    shelf: &mut H,
+    program: &'a str,
+    log: &'a str,
+    model: Model,
+    seed: u64,
+    steps: u32,
+) -> Result<Answer<'a>, Missing<'a>>
+    ensures cause { IfOk result (λ answer.
+        IsCauseOf (Records program.now log.now model seed steps) (H.tells shelf.old) (H.tells shelf.new) (plain_answer answer)) }
+    ensures missing { IfErr result (IsWhyNone (inputs_of (Records program.now log.now model seed steps)) (H.tells shelf.old) (H.tells shelf.new)) }
+    ensures kept { IfOk result (λ answer. KeptNothing (plain_answer answer) (H.tells shelf.old) (H.tells shelf.new)) }
+    ensures none { OnErr result ((H.tells shelf.new).held ≡ (H.tells shelf.old).held) }
+{
+    let program = fetch(alloc, shelf, Input::Program, program)?;
+    match run_program(alloc, &program, model, seed, steps) {
+        Ok(Run::Failed(failure, text)) => Ok(keep_log(alloc, shelf, log, failure, &text)),
+        Ok(Run::Ended(ending)) => Ok(Answer::RunEnded(ending)),
+        Err(CodeFault::Refused(fault)) => Ok(Answer::ProgramRefused(fault)),
+        Err(CodeFault::Memory) => Ok(Answer::NoMemory),
+    }
+}
+
+/// Keeps the log of a run that failed.
+fn keep_log<'a, H: Shelf>(
+    alloc: Global,
+    shelf: &mut H,
+    log: &'a str,
+    failure: Failure,
+    text: &[u8],
+) -> Answer<'a>
+    ensures { KeepsSo log.now text.now failure (H.tells shelf.old) (H.tells shelf.new) (plain_answer result) }
+{
+    match shelf.keep(alloc, log, text) {
+        Ok(()) => Answer::RunFailed(failure),
+        Err(KeepFault::Failed) => Answer::WriteFault(log),
+        Err(KeepFault::Memory) => Answer::NoMemory,
+    }
 }
 
 /// What `list` answers to a program.

@@ -5,19 +5,20 @@ ghost use Rattle.std.specs.Prelude.{◌≡◌, None, map, string_bytes};
 ghost use Rattle.clap_debug_words.specs.Calls.{call_of, plain_call};
 ghost use Rattle.clap_debug_cli.specs.Answers as spec;
 ghost use Rattle.clap_debug_cli.specs.Causes.{IsCause, IsCauseOf};
-ghost use Rattle.clap_debug_cli.specs.Call.{IfTold, Says, CallAnswers, ToldAnswers, CommandAnswers};
+ghost use Rattle.clap_debug_cli.specs.Call.{IfTold, Says, SaysNoMore, CallAnswers, ToldAnswers, CommandAnswers};
 ghost use Rattle.clap_debug_cli.specs.Inputs.{texts_under};
-ghost use Rattle.clap_debug_cli.specs.Held.{plain_answer};
+ghost use Rattle.clap_debug_cli.specs.Held.{plain_answer, KeptNothing};
 
 mod answer;
 mod commands;
 mod input;
 mod program;
 mod replay;
+mod run;
 
 use answer::{Answer, line, status};
 use clap_debug_words::{Call, call_of};
-use commands::{list_program, replay_schedule};
+use commands::{list_program, record_run, replay_schedule};
 use std::alloc::Global;
 use tc_io::{PutFault, Shelf, Sink};
 
@@ -45,7 +46,7 @@ pub fn clap_debug<H: Shelf, K: Sink>(
 fn answered<'a, H: Shelf>(alloc: Global, words: &'a [String], shelf: &mut H) -> Answer<'a>
     ensures cause { IsCause (map string_bytes words.now) (H.tells shelf.old) (H.tells shelf.new) (plain_answer result) }
     ensures unused { call_of (map string_bytes words.now) ≡ None → H.tells shelf.new ≡ H.tells shelf.old }
-    ensures kept { (H.tells shelf.new).held ≡ (H.tells shelf.old).held }
+    ensures kept { KeptNothing (plain_answer result) (H.tells shelf.old) (H.tells shelf.new) }
 {
     match call_of(alloc, words) {
         Ok(Some(call)) => answer_to(alloc, shelf, call),
@@ -57,7 +58,7 @@ fn answered<'a, H: Shelf>(alloc: Global, words: &'a [String], shelf: &mut H) -> 
 /// What is answered to a call.
 fn answer_to<'a, H: Shelf>(alloc: Global, shelf: &mut H, call: Call<'a>) -> Answer<'a>
     ensures cause { IsCauseOf (plain_call call.entry) (H.tells shelf.old) (H.tells shelf.new) (plain_answer result) }
-    ensures kept { (H.tells shelf.new).held ≡ (H.tells shelf.old).held }
+    ensures kept { KeptNothing (plain_answer result) (H.tells shelf.old) (H.tells shelf.new) }
 {
     let answer = match call {
         Call::List { program } => list_program(alloc, shelf, program),
@@ -66,6 +67,13 @@ fn answer_to<'a, H: Shelf>(alloc: Global, shelf: &mut H, call: Call<'a>) -> Answ
             log,
             schedule,
         } => replay_schedule(alloc, shelf, program, log, schedule),
+        Call::Record {
+            program,
+            log,
+            model,
+            seed,
+            steps,
+        } => record_run(alloc, shelf, program, log, model, seed, steps),
     };
     match answer {
         Ok(answer) => answer,
@@ -78,22 +86,31 @@ fn say<K: Sink>(alloc: Global, answer: &Answer, sink: &mut K) -> u8
     ensures { Says (plain_answer answer.now) result (K.tells sink.old) (K.tells sink.new) }
 {
     let Ok(text) = line(alloc, answer) else {
-        return say_no_memory(sink);
+        return say_no_more(answer, sink);
     };
     match sink.put(&text) {
         Ok(()) => status(answer),
         Err(PutFault::Failed) => 8,
-        Err(PutFault::Memory) => say_no_memory(sink),
+        Err(PutFault::Memory) => say_no_more(answer, sink),
+    }
+}
+
+/// Puts that there is no memory for the line, but nothing after a failed keep.
+fn say_no_more<K: Sink>(answer: &Answer, sink: &mut K) -> u8
+    ensures { SaysNoMore (plain_answer answer.now) result (K.tells sink.old) (K.tells sink.new) }
+{
+    match answer {
+        Answer::WriteFault(_) => 8,
+        _ => say_no_memory(sink),
     }
 }
 
 /// Puts that there is no memory.
 fn say_no_memory<K: Sink>(sink: &mut K) -> u8
-    ensures { Says spec.NoMemory result (K.tells sink.old) (K.tells sink.new) }
+    ensures { SaysNoMore spec.NoMemory result (K.tells sink.old) (K.tells sink.new) }
 {
     match sink.put(b"no memory\n") {
-        Ok(()) => 9,
+        Ok(()) | Err(PutFault::Memory) => 9,
         Err(PutFault::Failed) => 8,
-        Err(PutFault::Memory) => 9,
     }
 }

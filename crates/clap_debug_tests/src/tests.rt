@@ -3,7 +3,7 @@ use crate::clap_debug_surely;
 use clap_debug_cli::clap_debug;
 use std::alloc::Global;
 use std::test::Fail;
-use tc_io::mem::{MemSink, SureShelf, SureSink};
+use tc_io::mem::{Fail as ShelfFail, MemShelf, MemSink, SureShelf, SureSink};
 use tc_io::{FetchFault, KeepFault, PutFault, Shelf, Sink};
 
 /// A shelf whose calls find no memory.
@@ -81,5 +81,35 @@ fn no_memory_to_fetch(rt: HostRuntime) -> Result<(), Fail> {
     let mut sink = SureSink::new(alloc);
     let status = clap_debug_surely(alloc, &words, &mut shelf, &mut sink);
     assert_eq!(rt; (status, sink.written()), (0, b"reproduces\n".as_slice()));
+    Ok(())
+}
+
+/// The put of the line finds no memory: the log is kept by then, or its keep has failed.
+#[test]
+fn no_memory_to_say(rt: HostRuntime) -> Result<(), Fail> {
+    let alloc = rt.alloc();
+    let mut words = Vec::new(alloc);
+    for word in ["clap_debug", "record", "p", "l"] {
+        words.push(String::from_str(alloc, word)?)?;
+    }
+    for (fails, status, text, kept) in [(false, 9, "no memory\n", 46), (true, 8, "", 5)] {
+        let mut shelf = MemShelf::new(alloc);
+        shelf.hold(alloc, "p", b"int x; main { x = 1; assert(x == 2); }")?;
+        if fails {
+            shelf.fail(ShelfFail { call: 2, after: 5 })?;
+        }
+        let mut sink = LateSink {
+            refused: 1,
+            sink: SureSink::new(alloc),
+        };
+        let given = clap_debug(alloc, &words, &mut shelf, &mut sink);
+        assert_eq!(rt;
+            (given, sink.sink.written()),
+            (status, text.as_bytes()),
+            "{fails}"
+        );
+        let log = shelf.fetch(alloc, "l", 99).expect(&rt, "a log");
+        assert_eq!(rt; log.len(), kept, "{fails}");
+    }
     Ok(())
 }

@@ -26,7 +26,7 @@ use Rattle.std.proofs.Common.{
   inl,
   inr,
 }
-use Rattle.std.specs.Prelude.{⊤, IsSomeAnd}
+use Rattle.std.specs.Prelude.{⊤, IfSome, IsSomeAnd, if◌then◌else◌, bytes_eq}
 use Rattle.std.specs.List.{list_all}
 use Rattle.std.specs.Option.{option_map_or}
 use Rattle.clap.specs.Words.{App, Row, Shape, Text, first_of, is_simple, subcommand_of}
@@ -34,16 +34,25 @@ use Rattle.clap.specs.Simple.{argument_words, built, entered, label_of, names_of
 use Rattle.clap.specs.Takes.{built_takes, default_passes, entered_passes, level_passes, settle_passes, walk_passes}
 use Rattle.clap.specs.Walk.{answers_to, nothing_held, rows_after, stop_after, walk, walk_from}
 use Rattle.clap.proofs.WalkLemmas.{both}
-use Rattle.clap_debug_words.specs.CommandLine.{command_line, words_taken}
-use Rattle.clap_debug_words.specs.Given.{HasFiles}
-use Rattle.clap_debug_words.proofs.Fits.{AreSetters, Fitness, level_given}
+use Rattle.clap.specs.ValueTests.{accepts, is_unsigned_in}
+use Rattle.clap.specs.declared.builder.value_parser.ValueParser.TheVariants as parser
+use Rattle.clap_debug_words.specs.CommandLine.{command_line, words_taken, last_seed, most_moves, lent_texts, model_names}
+use Rattle.clap_debug_words.specs.Given.{HasFiles, HasValues}
+use Rattle.clap_debug_words.proofs.Fits.{AreSetters, Fitness, all_fit, level_fit, level_given, read_fit}
 
--- any text is fit for a positional
-abbrev any_text : Fitness
-any_text _ _ = true
+-- what each option takes
+abbrev fitness : Fitness
+fitness id v = if bytes_eq id (codes "model") then accepts false (parser.Names (lent_texts model_names)) v
+    else if bytes_eq id (codes "seed") then is_unsigned_in 0 last_seed v
+    else if bytes_eq id (codes "steps") then is_unsigned_in 1 most_moves v
+    else true
+
+-- the files and the values that stand there
+abbrev pub HasBoth : Text × List Row → Type 0
+HasBoth p = HasFiles p × HasValues p
 
 abbrev pub Has : Shape → Type 0
-Has s = (words : List Text) → level_passes s [] nothing_held words false ≡ true → HasFiles (s.name, rows_after s.rules [] words)
+Has s = (words : List Text) → level_passes s [] nothing_held words false ≡ true → HasBoth (s.name, rows_after s.rules [] words)
 
 abbrev pub AllHave : List Shape → Type 0
 AllHave [] = ⊤
@@ -60,16 +69,16 @@ found_has p (x ∷ xs) s all e = go (p x) e (λ f. found_has p xs s all.1 f)
     go false e rec = rec e
 
 entered_has : (a : App) (stop : Option (Text × List Text)) (p : Text × List Row) → AllHave a.subs → entered_passes a stop ≡ true
-    → entered a stop ≡ Some p → HasFiles p
+    → entered a stop ≡ Some p → HasBoth p
 entered_has a None p all e at = cc
 entered_has a (Some q) p all e at = go (find (λ s. answers_to q.0 (label_of s)) a.subs) refl e at
   where
     go : (o : Option Shape) → find (λ s. answers_to q.0 (label_of s)) a.subs ≡ o → option_map_or (λ s. level_passes s [] nothing_held q.1 false) o true ≡ true
-        → option_map (λ s. rows_at s q.1) o ≡ Some p → HasFiles p
+        → option_map (λ s. rows_at s q.1) o ≡ Some p → HasBoth p
     go None is e at = cc
     go (Some s) is e at =
         let same : (s.name, rows_after s.rules [] q.1) ≡ p = ap (λ (o : Option (Text × List Row)). unwrap_or o (s.name, rows_after s.rules [] q.1)) at in
-        subst HasFiles same (found_has _ a.subs s all is q.1 e)
+        subst HasBoth same (found_has _ a.subs s all is q.1 e)
 
 abbrev pub sub_at : ℕ → Shape
 sub_at k = slice_index_or (built command_line).subs k command_line.top
@@ -84,25 +93,72 @@ replay_has : (rows : List Row) → given_in (sub_at 1) rows ≡ true → HasFile
 replay_has rows e =
     let a = both (is_some (first_of (codes "program") rows)) _ e in
     let b = both (is_some (first_of (codes "log") rows)) _ a.1 in
-    inr (refl, a.0, b.0, (both (is_some (first_of (codes "schedule") rows)) _ b.1).0)
+    inr (inl (refl, a.0, b.0, (both (is_some (first_of (codes "schedule") rows)) _ b.1).0))
 
-list_sets : AreSetters any_text (sub_at 0).rules
+record_has : (rows : List Row) → given_in (sub_at 2) rows ≡ true → HasFiles (codes "record", rows)
+record_has rows e =
+    let a = both (is_some (first_of (codes "program") rows)) _ e in
+    inr (inr (refl, a.0, (both (is_some (first_of (codes "log") rows)) _ a.1).0))
+
+if_some : (o : Option Text) (P : Text → Type 0) → ((v : Text) → o ≡ Some v → P v) → IfSome o P
+if_some None P h = tt
+if_some (Some v) P h = h v refl
+
+-- values that are fit are values that the options take
+fit_values : (name : Text) (rows : List Row) → all_fit fitness rows ≡ true → HasValues (name, rows)
+fit_values name rows fit = record {
+  model = if_some _ _ (λ v at. read_fit fitness (codes "model") rows v fit at);
+  seed = if_some _ _ (λ v at. read_fit fitness (codes "seed") rows v fit at);
+  steps = if_some _ _ (λ v at. read_fit fitness (codes "steps") rows v fit at);
+}
+
+list_sets : AreSetters fitness (sub_at 0).rules
 list_sets = (record { sets = refl; least = refl; test = λ v. refl; reads = refl }, tt)
 
-replay_sets : AreSetters any_text (sub_at 1).rules
+replay_sets : AreSetters fitness (sub_at 1).rules
 replay_sets = (
   record { sets = refl; least = refl; test = λ v. refl; reads = refl },
   (record { sets = refl; least = refl; test = λ v. refl; reads = refl }, (record { sets = refl; least = refl; test = λ v. refl; reads = refl }, tt)),
 )
 
+record_sets : AreSetters fitness (sub_at 2).rules
+record_sets = (
+  record { sets = refl; least = refl; test = λ v. refl; reads = refl },
+  (
+    record { sets = refl; least = refl; test = λ v. refl; reads = refl },
+    (
+      record { sets = refl; least = refl; test = λ v. refl; reads = refl },
+      (
+        record { sets = refl; least = refl; test = λ v. refl; reads = refl },
+        (record { sets = refl; least = refl; test = λ v. refl; reads = refl }, tt),
+      ),
+    ),
+  ),
+)
+
 all_have : AllHave (built command_line).subs
 all_have = (
-  λ words e. list_has (rows_after (sub_at 0).rules [] words) (level_given any_text (sub_at 0) words list_sets e refl),
-  (λ words e. replay_has (rows_after (sub_at 1).rules [] words) (level_given any_text (sub_at 1) words replay_sets e refl), tt),
+  λ words e. (
+    list_has (rows_after (sub_at 0).rules [] words) (level_given fitness (sub_at 0) words list_sets e refl),
+    fit_values (codes "list") _ (level_fit fitness (sub_at 0) [] words false list_sets e),
+  ),
+  (
+    λ words e. (
+      replay_has (rows_after (sub_at 1).rules [] words) (level_given fitness (sub_at 1) words replay_sets e refl),
+      fit_values (codes "replay") _ (level_fit fitness (sub_at 1) [] words false replay_sets e),
+    ),
+    (
+      λ words e. (
+        record_has (rows_after (sub_at 2).rules [] words) (level_given fitness (sub_at 2) words record_sets e refl),
+        fit_values (codes "record") _ (level_fit fitness (sub_at 2) [] words false record_sets e),
+      ),
+      tt,
+    ),
+  ),
 )
 
 taken_in : (a : App) (words : List Text) (p : Text × List Row) → AllHave a.subs → built_takes a nothing_held words ≡ true
-    → entered a (stop_after a.top.rules (names_of a) words) ≡ Some p → HasFiles p
+    → entered a (stop_after a.top.rules (names_of a) words) ≡ Some p → HasBoth p
 taken_in a words p all e at =
     entered_has a (stop_after a.top.rules (names_of a) words) p all (both (entered_passes a (stop_after a.top.rules (names_of a) words)) _ e).0 at
 
@@ -122,7 +178,7 @@ enters a words required e =
     let wants = (both _ _ (both _ _ valid).1).0 in
     wanted a.top.subcommand_required _ required wants
 
-there : (o : Option (Text × List Row)) → is_some o ≡ true → ((p : Text × List Row) → o ≡ Some p → HasFiles p) → IsSomeAnd o HasFiles
+there : (o : Option (Text × List Row)) → is_some o ≡ true → ((p : Text × List Row) → o ≡ Some p → HasBoth p) → IsSomeAnd o HasBoth
 there None some has = cc
 there (Some p) some has = has p refl
 
@@ -130,8 +186,19 @@ there (Some p) some has = has p refl
 pub taken_enters : (words : List Text) → words_taken words ≡ true → is_some (subcommand_of command_line words) ≡ true
 taken_enters words e = enters (built command_line) (argument_words command_line words) refl (both (is_simple command_line) _ e).1
 
--- words that are taken have the files of their command
-pub taken_has : (words : List Text) → words_taken words ≡ true → IsSomeAnd (subcommand_of command_line words) HasFiles
-taken_has words e =
+both_taken : (words : List Text) → words_taken words ≡ true → IsSomeAnd (subcommand_of command_line words) HasBoth
+both_taken words e =
     there (subcommand_of command_line words) (taken_enters words e)
     (λ p at. taken_in (built command_line) (argument_words command_line words) p all_have (both (is_simple command_line) _ e).1 at)
+
+weaken : (o : Option (Text × List Row)) (P : Text × List Row → Type 0) → ((p : Text × List Row) → HasBoth p → P p) → IsSomeAnd o HasBoth → IsSomeAnd o P
+weaken None P f h = absurd h
+weaken (Some p) P f h = f p h
+
+-- words that are taken have the files of their command
+pub taken_has : (words : List Text) → words_taken words ≡ true → IsSomeAnd (subcommand_of command_line words) HasFiles
+taken_has words e = weaken (subcommand_of command_line words) HasFiles (λ p h. h.0) (both_taken words e)
+
+-- and values that its options take
+pub taken_has_values : (words : List Text) → words_taken words ≡ true → IsSomeAnd (subcommand_of command_line words) HasValues
+taken_has_values words e = weaken (subcommand_of command_line words) HasValues (λ p h. h.1) (both_taken words e)

@@ -1,13 +1,27 @@
--- Plain words are taken, with the names that stand there.
-use Rattle.std.proofs.Common.{ℕ, ◌≡◌, ◌∙◌, ◌==◌, ◌&&◌, ap, refl, Bool, true, false, not, cond, List, [], ◌∷◌, Some, None, codes, option_map, slice_index_or}
+-- Plain words are taken, with the values that stand there.
+use Rattle.std.proofs.Common.{◌≡◌, ◌∙◌, ◌==◌, ◌&&◌, ◌≤◌, ◌<◌, ℕ, ap, ap₂, refl, Bool, true, false, not, cond, List, [], ◌∷◌, Option, Some, None, codes}
+use Rattle.std.proofs.Common.{option_map, slice_index_or, unwrap_or, arith, ne_eqb, drop}
+use Rattle.std.specs.Prelude.{◌^◌, ◌++◌, IfSome}
+use Rattle.std.specs.Option.{option_map_or}
+use Rattle.std.specs.Fmt.{decimal}
+use Rattle.std.specs.Str.Parse.{IsNumeral, digits_value, without_leading_plus}
+use Rattle.std.proofs.lemmas.Bool.{leb-true}
+use Rattle.std.proofs.lemmas.Fmt.{decimal_is_IsNumeral}
+use Rattle.std.proofs.lemmas.Str.Parse.{digit_from_value}
 use Rattle.clap.specs.Words.{Row, Text, subcommand_of}
 use Rattle.clap.specs.Simple.{Shape, built}
+use Rattle.clap.specs.ValueTests.{accepts, is_unsigned_in}
+use Rattle.clap.specs.declared.builder.value_parser.ValueParser.TheVariants as parser
 use Rattle.clap.proofs.OnLiterals.{clap_on_literals}
+use Rattle.clap.proofs.ValueTestLemmas.{Accepts-accepts}
 use Rattle.clap.proofs.WalkLemmas.{both}
-use Rattle.clap_debug_words.specs.CommandLine.{command_line, words_taken}
-use Rattle.clap_debug_words.specs.Calls.{Called, Lists, Replays, called, call_of}
-use Rattle.clap_debug_words.specs.PlainWords.{is_name, is_plain, words_of}
-use Rattle.clap_debug_words.proofs.PlainWords.{IsPlainWord, Marked, level-marked, rows-marked}
+use Rattle.tc_base.specs.declared.model.Model.{Model}
+use Rattle.tc_base.specs.declared.model.Model.TheVariants.{Sc, Tso, Pso}
+use Rattle.clap_debug_words.specs.CommandLine.{command_line, lent_texts, model_names, words_taken}
+use Rattle.clap_debug_words.specs.Calls.{Called, call_of, called, model_in, number_in}
+use Rattle.clap_debug_words.specs.Calls as calls
+use Rattle.clap_debug_words.specs.PlainWords.{Written, Lists, Replays, Records, asked, is_between, is_name, is_plain, model_name, option_words, words_of}
+use Rattle.clap_debug_words.proofs.PlainWords.{ArePlain, IsPlainWord, Marked, level-marked, rows-marked}
 
 name_plain : (p : Text) → is_name p ≡ true → IsPlainWord p
 name_plain [] e = cc
@@ -17,6 +31,33 @@ name_plain (b ∷ rest) e = go (b == 45) refl e
     go false is e = record { no_dash = rw is refl; no_end = rw is refl }
     go true is e = cc
 
+numeral_plain : (ds : List ℕ) → IsNumeral 10 ds → IsPlainWord ds × (without_leading_plus ds ≡ ds)
+numeral_plain [] h = absurd (omega arith)
+numeral_plain (d ∷ ds) h =
+    let digit = digit_from_value d h.1.0 in
+    let plus : (d == 43) ≡ false = ne_eqb _ _ (λ e. omega (arith, digit)) in
+    let minus : (d == 45) ≡ false = ne_eqb _ _ (λ e. omega (arith, digit)) in
+    (record { no_dash = rw minus refl; no_end = rw minus refl }, ap (λ (b : Bool). drop (cond b 1 0) (d ∷ ds)) plus)
+
+-- a number in range, written in decimal, is a plain word that the option takes and reads
+pub record IsWritten (low high : ℕ) (default n : ℕ) : Type 0 where
+  pub plain : IsPlainWord (decimal n)
+  pub accepted : is_unsigned_in low high (decimal n) ≡ true
+  pub value : number_in low high default (decimal n) ≡ n
+
+written : (low high default n : ℕ) → high < 2 ^ 64 → low ≤ n → n ≤ high → IsWritten low high default n
+written low high default n small least most =
+    let numeral = decimal_is_IsNumeral n (omega arith) in
+    let facts = numeral_plain (decimal n) numeral.0 in
+    let is_n : digits_value 10 (without_leading_plus (decimal n)) ≡ n = ap (digits_value 10) facts.1 ∙ numeral.1 in
+    let passes : is_unsigned_in low high (decimal n) ≡ true =
+    Accepts-accepts false (parser.Unsigned low high) (decimal n) (rw facts.1 numeral.0, rw is_n (omega arith), rw is_n least, rw is_n most) in
+    record {
+      plain = facts.0;
+      accepted = passes;
+      value = ap (λ b. cond b (digits_value 10 (without_leading_plus (decimal n))) default) passes ∙ is_n;
+    }
+
 -- the subcommand at a place, as it is built
 abbrev pub sub_at : ℕ → Shape
 sub_at k = slice_index_or (built command_line).subs k command_line.top
@@ -25,29 +66,143 @@ sub_at k = slice_index_or (built command_line).subs k command_line.top
 abbrev pub Says : List Text → Called → Type 0
 Says words c = (words_taken words ≡ true) × (option_map called (subcommand_of command_line words) ≡ Some c)
 
-list_says : (first p : Text) → IsPlainWord p → Says (words_of first (Lists p)) (Lists p)
+list_says : (w p : Text) → IsPlainWord p → Says (words_of w (Lists p)) (asked (Lists p))
 unfolding clap_on_literals
-list_says first p h =
+list_says w p h =
     let ms : List Marked = (true, p) ∷ [] in (
       ap (λ b. b && true) (level-marked (sub_at 0) ms (h, tt)),
       ap (λ (rows : List Row). Some (called (codes "list", rows))) (rows-marked (sub_at 0) ms (h, tt)),
     )
 
-replay_says : (first p l s : Text) → IsPlainWord p → IsPlainWord l → IsPlainWord s → Says (words_of first (Replays p l s)) (Replays p l s)
+replay_says : (w p l s : Text) → IsPlainWord p → IsPlainWord l → IsPlainWord s → Says (words_of w (Replays p l s)) (asked (Replays p l s))
 unfolding clap_on_literals
-replay_says first p l s hp hl hs =
+replay_says w p l s hp hl hs =
     let ms : List Marked = (true, p) ∷ (true, l) ∷ (true, s) ∷ [] in (
       ap (λ b. b && true) (level-marked (sub_at 1) ms (hp, (hl, (hs, tt)))),
       ap (λ (rows : List Row). Some (called (codes "replay", rows))) (rows-marked (sub_at 1) ms (hp, (hl, (hs, tt)))),
     )
 
+-- a text of an option's value is a plain word that passes
+abbrev pub Passes : (Text → Bool) → Option Text → Type 0
+Passes test t = IfSome t (λ v. IsPlainWord v × (test v ≡ true))
+
+abbrev record_call : Text → Text → Option Text → Option Text → Option Text → Called
+record_call p l m n k = calls.Records p l (option_map_or model_in m Sc) (option_map_or (number_in 0 18446744073709551615 0) n 0)
+    (option_map_or (number_in 1 1000000 1000000) k 1000000)
+
+settled_true : (t : Bool) → t ≡ true → ((t && true) && true) ≡ true
+settled_true t e = ap (λ b. (b && true) && true) e
+
+ended_true : (t : Bool) → t ≡ true → (t && true) ≡ true
+ended_true t e = ap (λ b. b && true) e
+
+both_true : (a b : Bool) → a ≡ true → b ≡ true → (a && (b && true)) ≡ true
+both_true a b e f = ap₂ (λ x y. x && (y && true)) e f
+
+level_true : (passed ended defaults : Bool) → passed ≡ true → ended ≡ true → defaults ≡ true → ((passed && (ended && (defaults && true))) && true) ≡ true
+level_true passed ended defaults e f g = ap₂ (λ x y. (passed && (x && (y && true))) && true) f g ∙ ap (λ x. (x && true) && true) e
+
+-- whether the option of the memory model takes a text
+abbrev accepts_model : Text → Bool
+accepts_model = accepts false (parser.Names (lent_texts model_names))
+
+record_says : (w p l : Text) (m n k : Option Text) → IsPlainWord p → IsPlainWord l → accepts_model (codes "sc") ≡ true
+    → Passes accepts_model m → Passes (is_unsigned_in 0 18446744073709551615) n → Passes (is_unsigned_in 1 1000000) k
+    → Says (w ∷ codes "record" ∷ p ∷ l ∷ (option_words (codes "--model") m ++ (option_words (codes "--seed") n ++ option_words (codes "--steps") k)))
+    (record_call p l m n k)
+unfolding clap_on_literals
+record_says w p l (Some m) (Some n) (Some k) hp hl sc hm hn hk =
+    let ms : List Marked = (true, p) ∷ (true, l) ∷ (false, codes "--model") ∷ (true, m) ∷ (false, codes "--seed") ∷ (true, n) ∷ (false, codes "--steps") ∷
+    (true, k) ∷ [] in
+    let plain : ArePlain ms = (hp, (hl, (hm.0, (hn.0, (hk.0, tt))))) in (
+      ap (λ b. b && true) (level-marked (sub_at 2) ms plain) ∙ level_true _ _ _ (both_true _ _ (settled_true _ hm.1) (settled_true _ hn.1))
+          (ended_true _ hk.1) (settled_true _ sc),
+      ap (λ (rows : List Row). Some (called (codes "record", rows))) (rows-marked (sub_at 2) ms plain),
+    )
+record_says w p l None (Some n) (Some k) hp hl sc hm hn hk =
+    let ms : List Marked = (true, p) ∷ (true, l) ∷ (false, codes "--seed") ∷ (true, n) ∷ (false, codes "--steps") ∷ (true, k) ∷ [] in
+    let plain : ArePlain ms = (hp, (hl, (hn.0, (hk.0, tt)))) in (
+      ap (λ b. b && true) (level-marked (sub_at 2) ms plain) ∙ level_true _ _ _ (ended_true _ (settled_true _ hn.1)) (ended_true _ hk.1) (settled_true _ sc),
+      ap (λ (rows : List Row). Some (called (codes "record", rows))) (rows-marked (sub_at 2) ms plain),
+    )
+record_says w p l (Some m) None (Some k) hp hl sc hm hn hk =
+    let ms : List Marked = (true, p) ∷ (true, l) ∷ (false, codes "--model") ∷ (true, m) ∷ (false, codes "--steps") ∷ (true, k) ∷ [] in
+    let plain : ArePlain ms = (hp, (hl, (hm.0, (hk.0, tt)))) in (
+      ap (λ b. b && true) (level-marked (sub_at 2) ms plain) ∙ level_true _ _ _ (ended_true _ (settled_true _ hm.1)) (ended_true _ hk.1) (settled_true _ sc),
+      ap (λ (rows : List Row). Some (called (codes "record", rows))) (rows-marked (sub_at 2) ms plain),
+    )
+record_says w p l None None (Some k) hp hl sc hm hn hk =
+    let ms : List Marked = (true, p) ∷ (true, l) ∷ (false, codes "--steps") ∷ (true, k) ∷ [] in
+    let plain : ArePlain ms = (hp, (hl, (hk.0, tt))) in (
+      ap (λ b. b && true) (level-marked (sub_at 2) ms plain) ∙ level_true true _ _ refl (ended_true _ hk.1) (settled_true _ sc),
+      ap (λ (rows : List Row). Some (called (codes "record", rows))) (rows-marked (sub_at 2) ms plain),
+    )
+record_says w p l (Some m) (Some n) None hp hl sc hm hn hk =
+    let ms : List Marked = (true, p) ∷ (true, l) ∷ (false, codes "--model") ∷ (true, m) ∷ (false, codes "--seed") ∷ (true, n) ∷ [] in
+    let plain : ArePlain ms = (hp, (hl, (hm.0, (hn.0, tt)))) in (
+      ap (λ b. b && true) (level-marked (sub_at 2) ms plain) ∙ level_true _ _ _ (ended_true _ (settled_true _ hm.1)) (ended_true _ hn.1) (settled_true _ sc),
+      ap (λ (rows : List Row). Some (called (codes "record", rows))) (rows-marked (sub_at 2) ms plain),
+    )
+record_says w p l None (Some n) None hp hl sc hm hn hk =
+    let ms : List Marked = (true, p) ∷ (true, l) ∷ (false, codes "--seed") ∷ (true, n) ∷ [] in
+    let plain : ArePlain ms = (hp, (hl, (hn.0, tt))) in (
+      ap (λ b. b && true) (level-marked (sub_at 2) ms plain) ∙ level_true true _ _ refl (ended_true _ hn.1) (settled_true _ sc),
+      ap (λ (rows : List Row). Some (called (codes "record", rows))) (rows-marked (sub_at 2) ms plain),
+    )
+record_says w p l (Some m) None None hp hl sc hm hn hk =
+    let ms : List Marked = (true, p) ∷ (true, l) ∷ (false, codes "--model") ∷ (true, m) ∷ [] in
+    let plain : ArePlain ms = (hp, (hl, (hm.0, tt))) in (
+      ap (λ b. b && true) (level-marked (sub_at 2) ms plain) ∙ level_true true _ _ refl (ended_true _ hm.1) (settled_true _ sc),
+      ap (λ (rows : List Row). Some (called (codes "record", rows))) (rows-marked (sub_at 2) ms plain),
+    )
+record_says w p l None None None hp hl sc hm hn hk =
+    let ms : List Marked = (true, p) ∷ (true, l) ∷ [] in
+    let plain : ArePlain ms = (hp, (hl, tt)) in (
+      ap (λ b. b && true) (level-marked (sub_at 2) ms plain) ∙ level_true true true _ refl refl (settled_true _ sc),
+      ap (λ (rows : List Row). Some (called (codes "record", rows))) (rows-marked (sub_at 2) ms plain),
+    )
+
+names_model : (m : Model) → IsPlainWord (model_name m) × (accepts_model (model_name m) ≡ true) × (model_in (model_name m) ≡ m)
+names_model Sc = (record { no_dash = refl; no_end = refl }, refl, refl)
+names_model Tso = (record { no_dash = refl; no_end = refl }, refl, refl)
+names_model Pso = (record { no_dash = refl; no_end = refl }, refl, refl)
+
+model_written : (m : Option Model) → Passes accepts_model (option_map model_name m) × (option_map_or model_in (option_map model_name m) Sc ≡ unwrap_or m Sc)
+model_written None = (tt, refl)
+model_written (Some m) = let f = names_model m in ((f.0, f.1), f.2)
+
+number_written : (low high default : ℕ) → high < 2 ^ 64 → (n : Option ℕ) → option_map_or (is_between low high) n true ≡ true
+    → Passes (is_unsigned_in low high) (option_map decimal n) × (option_map_or (number_in low high default) (option_map decimal n) default
+    ≡ unwrap_or n default)
+number_written low high default small None e = (tt, refl)
+number_written low high default small (Some n) e =
+    let within = both _ _ e in
+    let f = written low high default n small (leb-true _ _ within.0) (leb-true _ _ within.1) in
+    ((f.plain, f.accepted), f.value)
+
 said : (words : List Text) (c : Called) → Says words c → call_of words ≡ Some c
 said words c h = ap (λ b. cond b (option_map called (subcommand_of command_line words)) None) h.0 ∙ h.1
 
--- plain words are taken, with the names that stand there
-pub plain_taken : (first : Text) (c : Called) → is_plain c ≡ true → call_of (words_of first c) ≡ Some c
-plain_taken first (Lists p) e = said (words_of first (Lists p)) (Lists p) (list_says first p (name_plain p e))
-plain_taken first (Replays p l s) e =
-    let a = both (is_name p) _ e in
-    let b = both (is_name l) (is_name s) a.1 in
-    said (words_of first (Replays p l s)) (Replays p l s) (replay_says first p l s (name_plain p a.0) (name_plain l b.0) (name_plain s b.1))
+as_call : (words : List Text) (a b : Called) → a ≡ b → Says words a → Says words b
+as_call words a b e h = (h.0, h.1 ∙ ap Some e)
+
+plain_says : (first : Text) (w : Written) → is_plain w ≡ true → Says (words_of first w) (asked w)
+plain_says first (Lists p) e = list_says first p (name_plain p e)
+plain_says first (Replays p l s) e =
+    let a = both _ _ e in
+    let b = both _ _ a.1 in
+    replay_says first p l s (name_plain p a.0) (name_plain l b.0) (name_plain s b.1)
+plain_says first (Records p l model seed steps) e =
+    let a = both (is_name p && is_name l) _ e in
+    let names = both (is_name p) (is_name l) a.0 in
+    let numbers = both (option_map_or (is_between 0 18446744073709551615) seed true) _ a.1 in
+    let m = model_written model in
+    let n = number_written 0 18446744073709551615 0 (omega arith) seed numbers.0 in
+    let k = number_written 1 1000000 1000000 (omega arith) steps numbers.1 in
+    as_call (words_of first (Records p l model seed steps)) _ _ (λ i. calls.Records p l (m.1 i) (n.1 i) (k.1 i))
+    (record_says first p l (option_map model_name model) (option_map decimal seed) (option_map decimal steps) (name_plain p names.0) (name_plain l names.1)
+    refl m.0 n.0 k.0)
+
+-- plain words are taken, with the values that stand there
+pub plain_taken : (first : Text) (w : Written) → is_plain w ≡ true → call_of (words_of first w) ≡ Some (asked w)
+plain_taken first w e = said (words_of first w) (asked w) (plain_says first w e)

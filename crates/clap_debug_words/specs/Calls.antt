@@ -1,23 +1,56 @@
 -- What words ask for.
-use Rattle.std.specs.Prelude.{List, [], Option, None, codes, unwrap_or, if◌then◌else◌, option_map, bytes_eq}
-use Rattle.clap.specs.Words.{Row, Text, first_of, subcommand_of}
-use Rattle.clap_debug_words.specs.CommandLine.{command_line, words_taken}
+use Rattle.std.specs.Prelude.{ℕ, List, [], Option, Some, None, codes, unwrap_or, if◌then◌else◌, option_map, bytes_eq, nat_le, ◌&&◌}
+use Rattle.std.specs.Option.{option_map_or}
+use Rattle.std.specs.Str.Parse.{digits_value, without_leading_plus}
+use Rattle.clap.specs.Words.{Row, Text, first_of, one_of, subcommand_of}
+use Rattle.clap.specs.ValueTests.{is_unsigned_in}
+use Rattle.tc_base.specs.declared.model.Model.{Model}
+use Rattle.tc_base.specs.declared.model.Model.TheVariants.{Sc, Tso, Pso}
+use Rattle.clap_debug_words.specs.CommandLine.{command_line, words_taken, last_seed, most_moves}
 use Rattle.clap_debug_words.specs.declared.Call.{Call}
 use Rattle.clap_debug_words.specs.declared.Call.TheVariants as call
 
--- a command with the names of its files
+-- a command with the names of its files, and the values of its options
 pub data Called : Type 0 where
   Lists : (program : Text) → Called
   Replays : (program log schedule : Text) → Called
+  Records : (program log : Text) (model : Model) (seed steps : ℕ) → Called
 
 -- the text that stands for a positional
 abbrev pub text_of : Text → List Row → Text
 text_of id rows = unwrap_or (first_of id rows) []
 
+-- the number that a text is, where it is one in the range
+abbrev pub number_in : (low high default : ℕ) → Text → ℕ
+number_in low high default text = if is_unsigned_in low high text then digits_value 10 (without_leading_plus text) else default
+
+-- the number of an option
+abbrev pub number_of : (low high default : ℕ) → Text → List Row → ℕ
+number_of low high default id rows = option_map_or (number_in low high default) (one_of id rows) default
+
+-- a number, where there is one in the range
+abbrev pub within : (low high default : ℕ) → Option ℕ → ℕ
+within low high default None = default
+within low high default (Some n) = if nat_le low n && nat_le n high then n else default
+
+-- the memory model of a name
+abbrev pub model_in : Text → Model
+model_in name = if bytes_eq name (codes "tso") then Tso else if bytes_eq name (codes "pso") then Pso else Sc
+
+abbrev pub model_of : List Row → Model
+model_of rows = model_in (text_of (codes "model") rows)
+
+abbrev pub seed_of : List Row → ℕ
+seed_of rows = number_of 0 last_seed 0 (codes "seed") rows
+
+abbrev pub steps_of : List Row → ℕ
+steps_of rows = number_of 1 most_moves most_moves (codes "steps") rows
+
 -- the call of a subcommand's name and matches
 abbrev pub called : Text × List Row → Called
 called p = if bytes_eq p.0 (codes "list") then Lists (text_of (codes "program") p.1)
-    else Replays (text_of (codes "program") p.1) (text_of (codes "log") p.1) (text_of (codes "schedule") p.1)
+    else if bytes_eq p.0 (codes "replay") then Replays (text_of (codes "program") p.1) (text_of (codes "log") p.1) (text_of (codes "schedule") p.1)
+    else Records (text_of (codes "program") p.1) (text_of (codes "log") p.1) (model_of p.1) (seed_of p.1) (steps_of p.1)
 
 -- the call that the words ask for, where they are taken
 abbrev pub call_of : List Text → Option Called
@@ -27,3 +60,4 @@ call_of words = if words_taken words then option_map called (subcommand_of comma
 abbrev pub plain_call : Call → Called
 plain_call (call.List program) = Lists program.now
 plain_call (call.Replay program log schedule) = Replays program.now log.now schedule.now
+plain_call (call.Record program log model seed steps) = Records program.now log.now model seed steps

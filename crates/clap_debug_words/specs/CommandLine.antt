@@ -1,11 +1,43 @@
 -- The command line, as plain data that clap reads words by.
-use Rattle.std.specs.Prelude.{Bool, true, false, List, [], ◌∷◌, codes}
+use Rattle.std.specs.Prelude.{◌≡◌, ℕ, Bool, true, false, List, [], ◌∷◌, Some, codes, map}
+use Rattle.std.specs.Borrow.{Bor}
 use Rattle.clap.specs.Words.{App, Rule, Shape, Text, new_app, new_rule, takes}
 use Rattle.clap.specs.Simple.{new_shape}
+use Rattle.clap.specs.declared.builder.value_parser.ValueParser.{ValueParser}
+use Rattle.clap.specs.declared.builder.value_parser.ValueParser.TheVariants as parser
 
 -- a required positional
 abbrev pub positional : Text → Rule
 positional name = record (new_rule name) { required = true }
+
+-- an option that takes one value, and has this one where it isn't written
+abbrev pub option : Text → Text → ValueParser → Rule
+option name default values = record (new_rule name) { long = Some name; defaults = default ∷ []; parser = Some values }
+
+-- the names of the memory models, wherever they lie in memory
+abbrev pub ModelNames : Type 0
+ModelNames = Bor (List (Bor Text))
+
+abbrev pub model_names : List Text
+model_names = codes "sc" ∷ codes "tso" ∷ codes "pso" ∷ []
+
+abbrev pub AreModelNames : ModelNames → Type 0
+AreModelNames names = map (λ n. n.now) names.now ≡ model_names
+
+-- texts that lie at no place
+abbrev pub lent : Text → Bor Text
+lent text = record { ref_ptr = (0, 0); now = text }
+
+abbrev pub lent_texts : List Text → ModelNames
+lent_texts texts = record { ref_ptr = (0, 0); now = map lent texts }
+
+-- the greatest seed
+abbrev pub last_seed : ℕ
+last_seed = 18446744073709551615
+
+-- the most moves of a recorded run
+abbrev pub most_moves : ℕ
+most_moves = 1000000
 
 -- `list PROGRAM`
 abbrev pub list : Shape
@@ -15,6 +47,17 @@ list = record (new_shape (codes "list")) { rules = positional (codes "program") 
 abbrev pub replay : Shape
 replay = record (new_shape (codes "replay")) {
   rules = positional (codes "program") ∷ positional (codes "log") ∷ positional (codes "schedule") ∷ [];
+}
+
+-- `record PROGRAM LOG [--model sc|tso|pso] [--seed N] [--steps N]`
+abbrev pub recording : ModelNames → Shape
+recording names = record (new_shape (codes "record")) {
+  rules = positional (codes "program")
+      ∷ positional (codes "log")
+      ∷ option (codes "model") (codes "sc") (parser.Names names)
+      ∷ option (codes "seed") (codes "0") (parser.Unsigned 0 last_seed)
+      ∷ option (codes "steps") (codes "1000000") (parser.Unsigned 1 most_moves)
+      ∷ [];
 }
 
 -- a command that wants a subcommand and knows no help
@@ -27,12 +70,16 @@ commands a = record a {
   };
 }
 
+-- the whole command, where the names of the memory models lie there
+abbrev pub command_line_at : ModelNames → App
+command_line_at names = record {
+  top = record (commands (new_app (codes "clap_debug"))).top { is_leaf = false };
+  subs = list ∷ replay ∷ recording names ∷ [];
+}
+
 -- the whole command
 abbrev pub command_line : App
-command_line = record {
-  top = record (commands (new_app (codes "clap_debug"))).top { is_leaf = false };
-  subs = list ∷ replay ∷ [];
-}
+command_line = command_line_at (lent_texts model_names)
 
 -- whether clap takes the words
 abbrev pub words_taken : List Text → Bool

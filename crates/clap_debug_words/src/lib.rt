@@ -1,17 +1,24 @@
 //! The words of a command line, read by `clap`: one command of the program, with its files.
 #![tactic(auto)]
 
-ghost use Rattle.std.specs.Prelude.{◌≡◌, List, Some, true, false, map, IfOk, IsSomeAnd, option_map, string_bytes};
+ghost use Rattle.std.specs.Prelude.{◌≡◌, ◌≤◌, List, Some, true, false, map, codes, IfOk, IsSomeAnd, option_map, string_bytes};
 ghost use Rattle.clap.specs.Words.{app_of, found_of, rows_of, rule_of, shape_of, subcommand_of, subcommand_rows_of, Text};
 ghost use Rattle.clap_debug_words.specs.CommandLine as spec;
-ghost use Rattle.clap_debug_words.specs.CommandLine.{command_line, words_taken};
-ghost use Rattle.clap_debug_words.specs.Calls.{Called, plain_call, called, call_of, text_of};
-ghost use Rattle.clap_debug_words.specs.PlainWords.{is_plain, words_of};
-ghost use Rattle.clap_debug_words.specs.Given.{HasFiles};
+ghost use Rattle.clap_debug_words.specs.CommandLine.{AreModelNames, command_line, words_taken};
+ghost use Rattle.clap_debug_words.specs.Calls.{plain_call, called, call_of, text_of, model_of, number_of, steps_of, within};
+ghost use Rattle.clap_debug_words.specs.PlainWords.{Written, asked, is_plain, words_of};
+ghost use Rattle.clap_debug_words.specs.Given.{HasFiles, HasValues};
 
+use clap::builder::ValueParser;
 use clap::error::ErrorKind;
 use clap::{Arg, ArgMatches, Command};
 use std::alloc::{AllocError, Global};
+use tc_base::Model;
+
+static MODEL_NAMES: [&str; 3] = ["sc", "tso", "pso"];
+
+/// The most moves of a recorded run.
+const MOST_MOVES: u64 = 1_000_000;
 
 /// What the words ask for.
 #[derive(Clone, Copy, Debug)]
@@ -26,6 +33,14 @@ pub enum Call<'a> {
         log: &'a str,
         schedule: &'a str,
     },
+    /// Run a program by moves that a seed chooses, at most `steps` of them, and keep the log of a run that fails.
+    Record {
+        program: &'a str,
+        log: &'a str,
+        model: Model,
+        seed: u64,
+        steps: u32,
+    },
 }
 
 /// What the words ask for, or `None` where they are no words of the program: the asking for help is none either.
@@ -34,7 +49,7 @@ pub enum Call<'a> {
 pub fn call_of<'a>(alloc: Global, words: &'a [String]) -> Result<Option<Call<'a>>, AllocError>
     ensures { IfOk result (λ call. option_map plain_call call ≡ call_of (map string_bytes words.now)) }
 {
-    match command_line(alloc)?.try_get_matches_from(words) {
+    match command_line(alloc, model_names())?.try_get_matches_from(words) {
         Ok(matches) => Ok(call_in(&matches)),
         Err(error) => match error.kind() {
             ErrorKind::OutOfMemory => Err(AllocError),
@@ -43,14 +58,19 @@ pub fn call_of<'a>(alloc: Global, words: &'a [String]) -> Result<Option<Call<'a>
     }
 }
 
-/// Plain words are taken, with the names that stand there.
+/// Plain words are taken, with the names and values that stand there.
 pub fn plain_words_are_taken()
-    ensures { (first : Text) (call : Called) → is_plain call ≡ true → call_of (words_of first call) ≡ Some call }
+    ensures { (first : Text) (written : Written) → is_plain written ≡ true → call_of (words_of first written) ≡ Some (asked written) }
 {}
 
 /// Words that are taken name a command, and each file that it wants.
 pub fn taken_words_name_their_files()
     ensures { (words : List Text) → words_taken words ≡ true → IsSomeAnd (subcommand_of command_line words) HasFiles }
+{}
+
+/// Words that are taken give each option a value that it takes.
+pub fn taken_words_have_values()
+    ensures { (words : List Text) → words_taken words ≡ true → IsSomeAnd (subcommand_of command_line words) HasValues }
 {}
 
 /// The call that the matches of the whole command say.
@@ -69,12 +89,61 @@ fn called<'a>(name: &str, matches: &ArgMatches<'a>) -> Call<'a>
         Call::List {
             program: text(matches, "program"),
         }
-    } else {
+    } else if name == "replay" {
         Call::Replay {
             program: text(matches, "program"),
             log: text(matches, "log"),
             schedule: text(matches, "schedule"),
         }
+    } else {
+        Call::Record {
+            program: text(matches, "program"),
+            log: text(matches, "log"),
+            model: model_in(matches),
+            seed: number(matches, "seed", 0, u64::MAX, 0),
+            steps: steps_in(matches),
+        }
+    }
+}
+
+/// The value of `--model`.
+fn model_in(matches: &ArgMatches<'_>) -> Model
+    ensures { result ≡ model_of (rows_of (found_of matches.now)) }
+{
+    let name = text(matches, "model");
+    if name == "tso" {
+        Model::Tso
+    } else if name == "pso" {
+        Model::Pso
+    } else {
+        Model::Sc
+    }
+}
+
+/// The value of `--steps`.
+fn steps_in(matches: &ArgMatches<'_>) -> u32
+    ensures { result ≡ steps_of (rows_of (found_of matches.now)) }
+{
+    let steps = number(matches, "steps", 1, MOST_MOVES, MOST_MOVES);
+    steps as u32
+}
+
+/// The value of an option that takes a number.
+fn number(matches: &ArgMatches<'_>, id: &str, low: u64, high: u64, default: u64) -> u64
+    ensures value { result ≡ number_of low high default id.now (rows_of (found_of matches.now)) }
+    ensures within { default ≤ high → result ≤ high }
+{
+    within(matches.get_one::<u64>(id), low, high, default)
+}
+
+/// The number, where it is in the range.
+fn within(number: Option<u64>, low: u64, high: u64, default: u64) -> u64
+    ensures value { result ≡ within low high default number }
+    ensures within { default ≤ high → result ≤ high }
+{
+    match number {
+        Some(number) if low <= number && number <= high => number,
+        _ => default,
     }
 }
 
@@ -85,13 +154,14 @@ fn text<'a>(matches: &ArgMatches<'a>, id: &str) -> &'a str
     matches.get_str(id).unwrap_or("")
 }
 
-/// The whole command.
-fn command_line<'a>(alloc: Global) -> Result<Command<'a>, AllocError>
-    ensures { IfOk result (λ command. app_of command ≡ spec.command_line) }
+/// The whole command, with these names of the memory models.
+fn command_line<'a>(alloc: Global, names: &'a [&'a str]) -> Result<Command<'a>, AllocError>
+    ensures { IfOk result (λ command. app_of command ≡ spec.command_line_at names.entry) }
 {
     commands(Command::new(alloc, "clap_debug"))
         .subcommand(list(alloc)?)?
-        .subcommand(replay(alloc)?)
+        .subcommand(replay(alloc)?)?
+        .subcommand(recording(alloc, names)?)
 }
 
 /// The command, where it wants a subcommand and knows no help.
@@ -119,6 +189,44 @@ fn replay<'a>(alloc: Global) -> Result<Command<'a>, AllocError>
         .arg(positional(alloc, "program"))?
         .arg(positional(alloc, "log"))?
         .arg(positional(alloc, "schedule"))
+}
+
+/// `record PROGRAM LOG [--model sc|tso|pso] [--seed N] [--steps N]`.
+fn recording<'a>(alloc: Global, names: &'a [&'a str]) -> Result<Command<'a>, AllocError>
+    ensures { IfOk result (λ command. shape_of command ≡ spec.recording names.entry) }
+{
+    let model = option(alloc, "model", "sc", ValueParser::from(names));
+    let seed = option(alloc, "seed", "0", ValueParser::unsigned(0, u64::MAX));
+    let steps = option(
+        alloc,
+        "steps",
+        "1000000",
+        ValueParser::unsigned(1, MOST_MOVES),
+    );
+    Command::new(alloc, "record")
+        .arg(positional(alloc, "program"))?
+        .arg(positional(alloc, "log"))?
+        .arg(model)?
+        .arg(seed)?
+        .arg(steps)
+}
+
+/// The names of the memory models.
+fn model_names() -> &'static [&'static str]
+    ensures { AreModelNames result }
+{
+    MODEL_NAMES.as_slice()
+}
+
+/// An option that takes one value, and has this one where it isn't written.
+fn option<'a>(alloc: Global, name: &'a str, default: &'a str, parser: ValueParser<'a>) -> Arg<'a>
+    ensures rule { rule_of result ≡ spec.option name.entry.now default.entry.now parser.entry }
+    ensures local { result.global ≡ false }
+{
+    Arg::new(alloc, name)
+        .long(name)
+        .default_value(default)
+        .value_parser(parser)
 }
 
 /// A required positional.

@@ -175,3 +175,15 @@ module _ {B : Type 0} (ops : BufferOps B) (code : Code) (s : State B) (r : IsRea
       both (subst (λ (ts : List ThreadPath). nat_le (length ts) 255 ≡ true) (sym is)
       (le-leb _ 255 (omega (arith, count, length-map (fin.keys s.threads) (named_path s)))))
       (subst (λ (ts : List ThreadPath). list_all is_thread ts ≡ true) (sym is) paths)
+
+  -- and it is small
+  pub small : IsWithin s → (threads : List ThreadPath) → threads ≡ map (named_path s) (fin.keys s.threads)
+      → (nat_le (length threads) 16 && list_all (λ (t : ThreadPath). nat_le (length t.name) 8) threads) ≡ true
+  small within threads is =
+      let count = ltb-false 16 (length (fin.keys s.threads)) within.threads in
+      let shallow : list_all (λ (t : ThreadPath). nat_le (length t.name) 8) (map (named_path s) (fin.keys s.threads)) ≡ true =
+      all_map (λ t. nat_le (length t.name) 8) (named_path s) (fin.keys s.threads) (λ i n e.
+      le-leb (length n) 8 (ltb-false 8 (length n) (none_passes _ (fin.keys s.threads) i n within.depth e))) in
+      both (subst (λ (ts : List ThreadPath). nat_le (length ts) 16 ≡ true) (sym is)
+      (le-leb _ 16 (omega (arith, count, length-map (fin.keys s.threads) (named_path s)))))
+      (subst (λ (ts : List ThreadPath). list_all (λ (t : ThreadPath). nat_le (length t.name) 8) ts ≡ true) (sym is) shallow)

@@ -3,3 +3,6 @@ pub mod Format
 pub mod Paths
 pub mod Reached
 pub mod Runs
+pub mod Lines
+pub mod Sizes
+pub mod Leads

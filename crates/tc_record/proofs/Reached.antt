@@ -15,13 +15,14 @@ use Rattle.tc_base.specs.declared.moves.Move.TheVariants as move
 use Rattle.tc_base.specs.declared.request.Request.{Request}
 use Rattle.tc_base.specs.declared.request.Request.TheVariants.{Write, Fail}
 use Rattle.tc_code.specs.Instr.{Instr, Branch, Create}
-use Rattle.tc_code.specs.Code.{Code}
-use Rattle.tc_code.specs.Step.{step, opening, perform, request, born}
+use Rattle.tc_code.specs.Code.{Code, instr_at}
+use Rattle.tc_code.specs.Facts.{at_its_place}
+use Rattle.tc_code.specs.Step.{step, opening, perform, request, born, stepped}
 use Rattle.tc_code.specs.Run.{IsReached}
 use Rattle.tc_runs.specs.Whole.{AllThreads}
 use Rattle.tc_runs.proofs.Basics.{either, some_is}
 use Rattle.tc_runs.proofs.After.{branch_is}
-use Rattle.tc_runs.proofs.Names.{get_put_cases, get_put_apart, child_apart}
+use Rattle.tc_runs.proofs.Names.{get_put, get_put_cases, get_put_apart, child_apart}
 use Rattle.tc_runs.proofs.Steps.{Went, step_went, none_failed, holds_in_reached}
 use Rattle.tc_runs.proofs.Changes.{Goes, Went_on, Stayed, step_changes}
 use Rattle.tc_runs.proofs.Created.{child_is_new}
@@ -69,6 +70,38 @@ module _ {B : Type 0} (ops : BufferOps B) (code : Code) where
   pub fails_there : (s : State B) → IsReached ops code s → IsSome s.failed → FailsThere s
   fails_there s r some =
       some_and s.failed _ some (holds_in_reached ops code FailedIsThere tt (λ v u m w one h. failed_there v u m one) s r)
+
+  -- The thread that has failed is at its failing instruction.
+
+  -- there is an instruction at the place of this thread
+  abbrev IsAt : State B → Name → Type 0
+  IsAt u n = IsSomeAnd (fin.get u.threads n) (λ t. IsSome (instr_at code t.local.function t.local.instruction))
+
+  abbrev FailedAt : State B → Type 0
+  FailedAt u = IfSome u.failed (IsAt u)
+
+  none_at : (u : State B) → u.failed ≡ None → FailedAt u
+  none_at u none = subst (λ o. IfSome o (IsAt u)) (sym none) tt
+
+  fails_at : (s : State B) (n : Name) (t : Thread B) (i : Instr) (r : Request) → s.failed ≡ None → instr_at code t.local.function t.local.instruction ≡ Some i
+      → FailedAt (perform ops code s n t i r)
+  fails_at s n t i Fail none at =
+      subst (λ o. IsSomeAnd o (λ u. IsSome (instr_at code u.local.function u.local.instruction)))
+      (sym (get_put s.threads n (record t { local = stepped t.local }))) (some_is _ i at)
+  fails_at s n t i (Write c v) none at =
+      none_at (perform ops code s n t i (Write c v)) (either (λ (u : State B). u.failed ≡ None) ops.buffered _ _ none none)
+  fails_at s n t i r none at = none_at (perform ops code s n t i r) none
+
+  failed_at : (s u : State B) (m : Move) → Went ops code s u m → s.failed ≡ None → FailedAt u
+  failed_at s u (move.Run n) w none =
+      subst FailedAt (sym w.after) (fails_at s n w.thread w.instr (request w.thread.local w.instr) none (at_its_place code w.thread.local w.instr w.at))
+  failed_at s u (move.Wake n v) w none = none_at u (ap (λ (v : State B). v.failed) w.after ∙ none)
+  failed_at s u (move.Drain n form) w none = none_at u (ap (λ (v : State B). v.failed) w.after ∙ none)
+
+  pub fails_at_place : (s : State B) → IsReached ops code s → IsSome s.failed → IsSomeAnd s.failed (IsAt s)
+  fails_at_place s r some =
+      some_and s.failed _ some (holds_in_reached ops code FailedAt tt
+      (λ v u m w one h. failed_at v u m (step_went ops code v u m one) (none_failed ops code v u m one)) s r)
 
   -- There are more threads than any of them has created.
 

@@ -1,8 +1,9 @@
 -- Logs of states.
-use Rattle.std.specs.Prelude.{◌≡◌, None}
+use Rattle.std.specs.Prelude.{◌≡◌, None, Bool, ◌&&◌, nat_le, length}
+use Rattle.std.specs.List.{list_all}
 use Rattle.tc_base.specs.Names.{Name}
 use Rattle.tc_base.specs.States.{State}
-use Rattle.tc_base.specs.Logs.{failing_of, path_under}
+use Rattle.tc_base.specs.Logs.{Log, failing_of, path_under}
 use Rattle.tc_base.specs.declared.model.Model.{Model}
 use Rattle.tc_code.specs.Run.{path_in}
 use Rattle.path_log.specs.Texts.{StoredLog}
@@ -13,3 +14,7 @@ pub record IsLogOf {B : Type 0} (under : Model) (s : State B) (stored : StoredLo
   pub model : stored.log.model ≡ under
   pub failing : failing_of stored.log ≡ s.failed
   pub paths : (n : Name) → path_in s n ≡ path_under n stored.log.threads
+
+-- the log has at most 16 threads, to none of which more than 8 creates lead
+abbrev pub is_small : Log → Bool
+is_small log = nat_le (length log.threads) 16 && list_all (λ t. nat_le (length t.name) 8) log.threads

@@ -2,10 +2,14 @@
 #![tactic(auto)]
 
 mod end;
+mod failing;
+mod laws;
 mod logged;
 mod recording;
 mod seeded;
 
 pub use end::Which;
+pub use failing::failing_line;
+pub use laws::recorded_logs_fit;
 pub use recording::run_seeded;
 pub use seeded::{Seeded, SeededFault};

@@ -3,6 +3,7 @@ ghost use Rattle.std.specs.Prelude.{◌≡◌, ◌≤◌, ◌<◌, ◌+◌, ◌^
 ghost use Rattle.tc_code.specs.Run.{Reproduces, run};
 ghost use Rattle.path_log.specs.Texts.{is_of_format};
 ghost use Rattle.tc_record.specs.Ends as ends;
+ghost use Rattle.tc_record.specs.Logged.{is_small};
 ghost use Rattle.tc_record.specs.Seeded.{seeded_run, IsAnswer, IfFailed};
 ghost use Rattle.tc_record.specs.helpers.Turns.{IsTurn};
 
@@ -32,6 +33,8 @@ pub fn run_seeded<M: MemoryModel>(
     // The log of a run that fails is reproduced by the moves that were made, and it has a text.
     ensures reproduced { IfFailed result (λ stored moves. Reproduces M.ops code.now stored.log moves) }
     ensures of_format { IfFailed result (λ stored moves. IsTrue (is_of_format stored.log)) }
+    // It is within the limits of recorded runs.
+    ensures small { IfFailed result (λ stored moves. IsTrue (is_small stored.log)) }
 {
     let mut rng = SplitMix64::seed_from_u64(seed);
     let mut state = start::<M>(alloc, code)?;
@@ -84,6 +87,7 @@ fn answer<M: MemoryModel>(
     ensures answer { IsAnswer M.MODEL (record { moves = made.items; state = state.now; end = end }) result }
     ensures reproduced { IfFailed result (λ stored moves. Reproduces M.ops code.now stored.log moves) }
     ensures of_format { IfFailed result (λ stored moves. IsTrue (is_of_format stored.log)) }
+    ensures small { IfFailed result (λ stored moves. IsTrue (is_small stored.log)) }
 {
     match end {
         End::Over(which) => Err(SeededFault::Limit(which, which.limit() + 1, which.limit())),

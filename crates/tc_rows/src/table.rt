@@ -6,8 +6,9 @@
 //! - `words WORD..`: the words of the call, with `''` for one that is empty;
 //! - `file NAME TEXT`: a file of the shelf, and its bytes;
 //! - `more NAME COUNT TEXT`: more bytes of this file, so many times the text;
-//! - `fetch CALL AFTER` and `put CALL AFTER`: the call of the shelf or the sink, by its number from 1, that is to fail,
-//!   and after how many bytes.
+//! - `fetch CALL AFTER`, `keep CALL AFTER` and `put CALL AFTER`: the call of the shelf (fetches and keeps are counted
+//!   together) or the sink, by its number from 1, that is to fail, and after how many bytes;
+//! - `show NAME..`: names of which is told what stands there afterwards.
 //!
 //! A line that is empty or begins with `#` says nothing.
 use crate::text::bytes_of;
@@ -17,7 +18,8 @@ use std::collections::BTreeMap;
 use std::io;
 use tc_io::mem::{Fail, MemShelf, MemSink};
 
-/// A call: its words, the files of the shelf, and the calls of the shelf and the sink that are to fail.
+/// A call: its words, the files of the shelf, the calls of the shelf and the sink that are to fail, and the names of
+/// which is told what stands there afterwards.
 #[derive(Clone, Drop)]
 pub struct Row {
     pub name: String,
@@ -25,6 +27,7 @@ pub struct Row {
     pub files: BTreeMap<String, Vec<u8>>,
     pub fetches: Vec<Fail>,
     pub puts: Vec<Fail>,
+    pub shows: Vec<String>,
 }
 
 /// The rows so far, and what each begins with.
@@ -42,6 +45,7 @@ impl Table {
             files: BTreeMap::new(alloc),
             fetches: Vec::new(alloc),
             puts: Vec::new(alloc),
+            shows: Vec::new(alloc),
         };
         Table {
             base,
@@ -94,8 +98,9 @@ impl Row {
             "words" => self.words = words_of(alloc, rest)?,
             "file" => self.hold(alloc, rest)?,
             "more" => self.append(alloc, rest)?,
-            "fetch" => self.fetches.push(fail_of(rest)?)?,
+            "fetch" | "keep" => self.fetches.push(fail_of(rest)?)?,
             "put" => self.puts.push(fail_of(rest)?)?,
+            "show" => self.shows = words_of(alloc, rest)?,
             _ if key.starts_with('#') => {}
             _ => bail!("no such line: {key:?}"),
         }

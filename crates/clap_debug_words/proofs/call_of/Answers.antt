@@ -7,11 +7,15 @@ use Rattle.clap_debug_words.proofs.call_of.Goals as goal
 
 pub returns-in-Ok : goal.returns-in-Ok
 returns-in-Ok c =
-    let app_is : app_of c.in_ok-command_line.field-0 ≡ spec.command_line = c.in_ok-command_line.ensures in
+    let app_is : app_of c.in_ok-command_line.field-0 ≡ spec.command_line_at c.model_names.result = c.in_ok-command_line.ensures in
     let got = c.in-Ok.ensures.matches (ap is_simple app_is) in
-    c.call_in.ensures ∙ call_made (app_of c.in_ok-command_line.field-0) _ app_is (c.in-Ok.ensures.kinds (ap is_simple_and_free app_is)) _ got.1
+    c.call_in.ensures
+    ∙ call_made c.model_names.result (app_of c.in_ok-command_line.field-0) _ c.model_names.ensures app_is
+    (c.in-Ok.ensures.kinds (ap is_simple_and_free app_is)) _
+    got.1
 
 pub returns : goal.returns
 returns c =
-    let app_is : app_of c.in_ok-command_line.field-0 ≡ spec.command_line = c.in_ok-command_line.ensures in
-    no_call (app_of c.in_ok-command_line.field-0) _ app_is (λ e. c.in_default.not-OutOfMemory (c.kind.ensures ∙ c.in-Err.ensures.passes e))
+    let app_is : app_of c.in_ok-command_line.field-0 ≡ spec.command_line_at c.model_names.result = c.in_ok-command_line.ensures in
+    no_call c.model_names.result (app_of c.in_ok-command_line.field-0) _ c.model_names.ensures app_is
+    (λ e. c.in_default.not-OutOfMemory (c.kind.ensures ∙ c.in-Err.ensures.passes e))

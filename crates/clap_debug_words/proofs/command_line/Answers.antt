@@ -10,6 +10,9 @@ returns c =
     let top_is : app_of c.commands.result ≡ spec.commands (new_app (codes "clap_debug")) = c.commands.ensures ∙ ap spec.commands c.new.ensures.app in
     let list_is : shape_of c.in_ok-list.field-0 ≡ spec.list = c.in_ok-list.ensures in
     let replay_is : shape_of c.in_ok-replay.field-0 ≡ spec.replay = c.in_ok-replay.ensures in
+    let recording_is : shape_of c.in_ok-recording.field-0 ≡ spec.recording c.args.names = c.in_ok-recording.ensures in
     let listed = c.in_ok-subcommand.ensures.shape (plain_fields _ (ap (λ (s : Shape). s.is_plain) list_is)).globals ∙ ap₂ with_subcommand top_is list_is in
-    IfOk-weaker c.subcommand-2.result _ _
-    (λ _ h. h.shape (plain_fields _ (ap (λ (s : Shape). s.is_plain) replay_is)).globals ∙ ap₂ with_subcommand listed replay_is) c.subcommand-2.ensures
+    let replayed = c.in_ok-subcommand-2.ensures.shape (plain_fields _ (ap (λ (s : Shape). s.is_plain) replay_is)).globals
+    ∙ ap₂ with_subcommand listed replay_is in
+    IfOk-weaker c.subcommand-3.result _ _
+    (λ _ h. h.shape (plain_fields _ (ap (λ (s : Shape). s.is_plain) recording_is)).globals ∙ ap₂ with_subcommand replayed recording_is) c.subcommand-3.ensures
