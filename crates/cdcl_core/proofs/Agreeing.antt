@@ -15,8 +15,9 @@ use Rattle.cdcl_lines.specs.Fresh.{IsFresh, IsFreshLine}
 use Rattle.cdcl_lines.proofs.Representing.{same-represented, shown-passes}
 use Rattle.cdcl_lines.proofs.Formulas.{keeps-on}
 use Rattle.cdcl_lines.proofs.Freshness.{fresh-goes_on}
-use Rattle.cdcl_core.specs.Searches.{checked, teaches, most_added}
-use Rattle.cdcl_core.specs.Helpers.{Agree, Ended}
+use Rattle.cdcl_core.specs.Searches.{IsRoomy, checked, teaches, most_added}
+use Rattle.cdcl_core.specs.Helpers.{Agree, Ended, HasBound}
+use Rattle.cdcl_core.proofs.Tallying.{kept-same, kept-push}
 use Rattle.cdcl_core.proofs.Counts.{checked-push, added-push, added-same, adds-push, deleted-added, few-added}
 
 -- what the clauses watch doesn't matter
@@ -35,6 +36,8 @@ agree-same f cs lines n d a ds e = record {
   many = a.many;
   deleted = a.deleted;
   half = a.half;
+  bound = a.bound;
+  kept = omega (arith, kept-same cs ds e, e.count, a.kept);
   short = a.short;
   fresh = a.fresh;
   few_deleted = a.few_deleted;
@@ -66,11 +69,14 @@ fresh-line : (f : Formula) (lines : List Line) (ls hs : List ℕ) (a : ℕ) → 
 fresh-line f lines [] hs a c h = absurd (omega (arith, c.1))
 fresh-line f lines (x ∷ xs) hs a c h = h
 
+is-roomy : (f : Formula) (cs : List Clause) (lines : List Line) (n d : ℕ) → Agree f cs lines n d → HasBound f.vars n d → IsRoomy f.vars lines
+is-roomy f cs lines n d a bound = omega (arith, a.not_empty, a.deleted, bound)
+
 -- a clause that is learnt is one more, and its line one more
-pub agree-learnt : (f : Formula) (cs : List Clause) (lines : List Line) (n d : ℕ) → Agree f cs lines n d → n < most_added → (ls hs : List ℕ) (a b : ℕ)
+pub agree-learnt : (f : Formula) (cs : List Clause) (lines : List Line) (n d : ℕ) → Agree f cs lines n d → n < most_added → HasBound f.vars n d → (ls hs : List ℕ) (a b : ℕ)
     → All (λ l. l < 2 * f.vars) ls → Rise ls → Shows cs ls hs → Contains ls a → IsFresh (checked f lines).kept (clause_of ls)
     → Agree f (cs ++ kept_clause ls a b ∷ []) (lines ++ added ls hs ∷ []) (n + 1) d
-agree-learnt f cs lines n d a room ls hs x y w r s c new =
+agree-learnt f cs lines n d a room bound ls hs x y w r s c new =
     let w' : All (λ l. l < 2 * (checked f lines).vars) ls = subst (λ (v : ℕ). All (λ l. l < 2 * v) ls) (sym a.vars) w in
     let p = shown-passes cs (checked f lines) ls hs a.represents w' r s in
     let e : checked f (lines ++ added ls hs ∷ []) ≡ passed (checked f lines) (added ls hs) = checked-added f cs lines n d a ls hs w r s in
@@ -87,15 +93,17 @@ agree-learnt f cs lines n d a room ls hs x y w r s c new =
       many = omega (arith, room);
       deleted = a.deleted ∙ sym (deleted-added lines (added ls hs) refl);
       half = omega (arith, a.half);
+      bound = omega (arith, bound);
+      kept = omega (arith, kept-push cs (kept_clause ls x y) refl, length_push cs (kept_clause ls x y), a.kept);
       short = omega (arith, length_push lines (added ls hs), a.short);
-      few_deleted = few-added f lines ls hs a.few_deleted;
+      few_deleted = few-added f lines ls hs a.few_deleted (is-roomy f cs lines n d a bound);
       fresh = fresh-goes_on f lines (added ls hs) a.fresh (fresh-line f lines ls hs x c new);
     }
 
 -- a line that adds the empty clause ends the derivation
-pub ended : (f : Formula) (cs : List Clause) (lines : List Line) (n d : ℕ) → Agree f cs lines n d → (ls hs : List ℕ) → ls ≡ [] → Rise ls → Shows cs ls hs
+pub ended : (f : Formula) (cs : List Clause) (lines : List Line) (n d : ℕ) → Agree f cs lines n d → HasBound f.vars n d → (ls hs : List ℕ) → ls ≡ [] → Rise ls → Shows cs ls hs
     → Ended f (lines ++ added ls hs ∷ []) n
-ended f cs lines n d a ls hs e r s =
+ended f cs lines n d a bound ls hs e r s =
     let w : All (λ l. l < 2 * f.vars) ls = λ k d h. absurd (omega (arith, h, ap length e)) in
     let g : checked f (lines ++ added ls hs ∷ []) ≡ passed (checked f lines) (added ls hs) = checked-added f cs lines n d a ls hs w r s in
     let line : added ls hs ≡ added [] hs = ap (λ (xs : List ℕ). added xs hs) e in
@@ -104,6 +112,6 @@ ended f cs lines n d a ls hs e r s =
       closed = ap (λ (t : Checking). t.closed) g ∙ ap (λ (b : Bool). b || is_nil (clause_of ls)) a.unclosed ∙ ap (λ (xs : List ℕ). is_nil (clause_of xs)) e;
       counted = a.counted ∙ sym (added-same lines (added ls hs) (ap teaches line));
       many = a.many;
-      few_deleted = few-added f lines ls hs a.few_deleted;
+      few_deleted = few-added f lines ls hs a.few_deleted (is-roomy f cs lines n d a bound);
       fresh = fresh-goes_on f lines (added ls hs) a.fresh (subst (λ (l : Line). IsFreshLine (checked f lines).kept l) (sym line) tt);
     }

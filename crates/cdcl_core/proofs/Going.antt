@@ -16,7 +16,7 @@ use Rattle.cdcl_learn.specs.Lessons.{TurnsBack}
 use Rattle.cdcl_search.specs.Attached.{CanAssert, both_listed}
 use Rattle.cdcl_lines.proofs.Members.{all-from_contains, contains-cases}
 use Rattle.cdcl_lines.proofs.Freshness.{not-both}
-use Rattle.cdcl_core.specs.Helpers.{IsAsFar, IsFurther, IsShort, IsLive, ComesTo}
+use Rattle.cdcl_core.specs.Helpers.{IsAsFar, IsFurther, IsShort, IsLive, HasBound, ComesTo}
 use Rattle.cdcl_core.specs.declared.state.State.{State}
 use Rattle.cdcl_core.specs.declared.turns.Step.{Step}
 use Rattle.cdcl_core.specs.declared.turns.Step.TheVariants as steps
@@ -156,3 +156,6 @@ pub comes-further : (s t u : State) (n : ℕ) (p : Step) → IsFurther s t 0 →
 comes-further s t u n steps.Learnt a h = (h.0, subst (λ (k : ℕ). IsFurther s u k) (let e : 0 + n ≡ n = omega arith in e) (further-trans s t u 0 n a h.1))
 comes-further s t u n steps.Closed a h = (h.0, short-after s t u 0 n n a h.1 (omega arith))
 comes-further s t u n (steps.Full values) a h = (h.0, short-after s t u 0 n n a h.1 (omega arith), h.2)
+
+pub bound-far : (s t : State) → IsAsFar s t → HasBound s.formula.vars s.added s.deleted → HasBound t.formula.vars t.added t.deleted
+bound-far s t a h = rw (a.formula, a.added, a.deleted) h

@@ -4,3 +4,4 @@ pub mod Going
 pub mod Searching
 pub mod Starting
 pub mod Dropping
+pub mod Tallying

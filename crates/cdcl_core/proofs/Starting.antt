@@ -29,6 +29,7 @@ use Rattle.cdcl_lines.proofs.Representing.{opening-represented, keep-represented
 use Rattle.cdcl_lines.proofs.Formulas.{keeps-one_more}
 use Rattle.cdcl_core.specs.Helpers.{Agree, IsLive, IsLoaded, IsEmptyAt, CanConclude, LoadsOne}
 use Rattle.cdcl_core.proofs.Counts.{few-none}
+use Rattle.cdcl_core.proofs.Tallying.{kept-all}
 use Rattle.cdcl_core.specs.declared.state.State.{State}
 
 -- what a formula's clauses leave as it was
@@ -61,6 +62,8 @@ agree-start f cs few given count keeps r =
       many = omega arith;
       deleted = refl;
       half = omega arith;
+      bound = omega arith;
+      kept = omega (arith, kept-all f.clauses cs count keeps);
       short = omega arith;
       fresh = fresh-none f;
       few_deleted = few-none f;
@@ -167,6 +170,7 @@ pub conclude-unit : (s : State) → IsLoaded s (length s.formula.clauses) → (l
 conclude-unit s h l e = record {
   clauses = s.clauses;
   agree = agree-loaded s h;
+  bound = rw (h.none_added, h.none_deleted) (omega arith);
   shown = subst (λ (ls : List ℕ). Shows s.clauses ls l.hints.items) (fits-closed s.trail l.literals.items l.turn h.start.starts e.turn) e.shown;
 }
 
@@ -210,6 +214,7 @@ conclude-empty s h all k e kl =
       clauses = cs;
       agree = rw (h.no_lines, h.none_added, h.none_deleted) (agree-start f cs h.few h.given (length-map f.clauses (λ z. kept_clause (map code_of z) 0 0))
           (stored-keeps f.vars f.clauses all) (stored-represented f.vars f.clauses [] (opening f.vars) (opening-represented f.vars) all));
+      bound = rw (h.none_added, h.none_deleted) (omega arith);
       shown = record {
         there = omega (arith, kl, length-map f.clauses (λ z. kept_clause (map code_of z) 0 0));
         kept = ap (λ (c : Clause). c.kept) same;

@@ -24,6 +24,17 @@ pub record IsComplete (t : Trail) : Type 0 where
   pub full : IsFull t
   pub propagated : t.propagated ≡ length t.literals
 
+-- so many lines added clauses and so many were deleted, that one more may be added; and the same once one more was
+abbrev pub HasBound : ℕ → ℕ → ℕ → Type 0
+HasBound vars n d = n ≤ 2 * (d + vars + 4000) + 1
+
+abbrev pub HasNearlyBound : ℕ → ℕ → ℕ → Type 0
+HasNearlyBound vars n d = n ≤ 2 * (d + vars + 4001) + 1
+
+-- how many clauses are kept
+abbrev pub kept_in : List Clause → ℕ
+kept_in cs = count_by (λ c. c.kept) cs
+
 -- the clauses that are kept, the lines and their number belong together
 pub record Agree (f : Formula) (cs : List Clause) (lines : List Line) (n d : ℕ) : Type 0 where
   pub few : f.vars < limit
@@ -38,6 +49,8 @@ pub record Agree (f : Formula) (cs : List Clause) (lines : List Line) (n d : ℕ
   pub many : n ≤ most_added
   pub deleted : d ≡ deleted_in lines
   pub half : 2 * d ≤ n
+  pub bound : HasNearlyBound f.vars n d
+  pub kept : kept_in cs + d ≡ length cs
   pub short : length lines ≤ n + d
   pub fresh : AreFresh f lines
   pub few_deleted : DeletesFew f lines
@@ -66,6 +79,7 @@ IsOver s = Ended s.formula s.derivation s.added
 pub record CanConclude (s : State) (hints : List ℕ) : Type 0 where
   pub clauses : List Clause
   pub agree : Agree s.formula clauses s.derivation s.added s.deleted
+  pub bound : HasBound s.formula.vars s.added s.deleted
   pub shown : Shows clauses [] hints
 
 -- the same lines
@@ -153,4 +167,9 @@ pub record MayAllGo (s : State) (ks : List ℕ) : Type 0 where
 -- each of so many clauses that is a reason is marked
 pub record Marks (t : Trail) (n : ℕ) (marks : List Bool) : Type 0 where
   pub size : length marks ≡ n
+  pub few : count_by (λ b. b) marks ≤ length t.literals
   pub marked : (p k : ℕ) → p < length t.literals → slice_index_or t.reasons p None ≡ Some k → slice_index_or marks k false ≡ true
+
+-- each learnt clause that is kept is marked
+abbrev pub NoneMayGo : State → List Bool → Type 0
+NoneMayGo s marks = (k : ℕ) → length s.formula.clauses ≤ k → k < length s.clauses → (at s.clauses k).kept ≡ true → slice_index_or marks k false ≡ true

@@ -1,5 +1,5 @@
 -- A search as its callers see it.
-use Rattle.std.specs.Prelude.{◌≡◌, ◌↔◌, ℕ, ◌+◌, ◌*◌, ◌<◌, ◌≤◌, Bool, true, false, List, [], ◌∷◌, length, take, count_by, Option, Some, None, IsTrue, All, ⊤}
+use Rattle.std.specs.Prelude.{◌≡◌, ◌↔◌, ℕ, ◌+◌, ◌*◌, ◌/◌, ◌<◌, ◌≤◌, Bool, true, false, List, [], ◌∷◌, length, take, count_by, slice_get, IfSome, Option, Some, None, IsTrue, All, ⊤}
 use Rattle.std.specs.List.{fold, sum_by}
 use Rattle.cnf_core.specs.Clauses.{Formula, satisfies, value_in}
 use Rattle.refute_check.specs.Refutations.{Checking, start, after, IsClosed}
@@ -42,10 +42,16 @@ abbrev pub Spares : ℕ → Line → Type 0
 Spares n (Add literals hints) = ⊤
 Spares n (Delete numbers) = All (λ k. n < k) numbers
 
--- no clause of the formula is deleted, and after each line at most half as many clauses were deleted as were added
+-- of the clauses that lines added, no more are kept than the variables, 4,000, and half of the lines that add
+abbrev pub IsRoomy : ℕ → List Line → Type 0
+IsRoomy vars lines = count_by adds lines ≤ deleted_in lines + vars + 4000 + (count_by adds lines + 1) / 2
+
+-- no clause of the formula is deleted; after each line at most half as many clauses were deleted as were added; and just before each line
+-- that adds one not too many are kept
 pub record DeletesFew (f : Formula) (lines : List Line) : Type 0 where
   pub spares : All (Spares (length f.clauses)) lines
   pub few : (k : ℕ) → 2 * deleted_in (take k lines) ≤ count_by adds (take k lines)
+  pub roomy : (k : ℕ) → IfSome (slice_get lines k) (λ l. adds l ≡ true → IsRoomy f.vars (take k lines))
 
 -- the clauses that a search began with, its lines so far, and its answer once it has one
 pub record Searched : Type 0 where

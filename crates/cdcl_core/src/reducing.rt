@@ -1,9 +1,10 @@
 //! Clauses that were learnt go again.
-ghost use Rattle.std.specs.Prelude.{◌≡◌, ℕ, ◌*◌, ◌+◌, ◌<◌, ◌≤◌, List, All, IfOk, IsTrue, length, slice_index_or, None, Some, fold};
+ghost use Rattle.std.specs.Prelude.{◌≡◌, ◌&&◌, true, false, ℕ, ◌*◌, ◌+◌, ◌<◌, ◌≤◌, List, All, IfOk, IsTrue, OnOk, MatchOption, not, length, slice_index_or, None, Some, fold};
+ghost use Rattle.cdcl_clauses.specs.Clauses.{at};
 ghost use Rattle.cdcl_clauses.specs.Invariants.{IsSound, AreRooted};
 ghost use Rattle.cdcl_clauses.specs.declared.watches.Watch.{Watch};
 ghost use Rattle.cdcl_lines.specs.Keeping.{dropped};
-ghost use Rattle.cdcl_core.specs.Helpers.{Marks, IsNoReason};
+ghost use Rattle.cdcl_core.specs.Helpers.{Marks, IsNoReason, HasBound, NoneMayGo};
 
 use crate::state::State;
 use cdcl_clauses::Clauses;
@@ -24,6 +25,7 @@ impl State {
         requires { IsLive self.old }
         ensures live { IsLive self.new }
         ensures further { IsFurther self.old self.new 0 }
+        ensures bound { OnOk result (HasBound self.new.formula.vars self.new.added self.new.deleted) }
     {
         let spare = self.added / 2 - self.deleted;
         if spare < MANY {
@@ -38,22 +40,64 @@ impl State {
 
     /// Half of the clauses that may go, and no more than so many.
     fn choose(&self, alloc: Global, most: usize) -> Result<Vec<u32>, AllocError>
-        requires { IsLive self.now }
+        requires live { IsLive self.now }
+        requires some { 0 < most }
+        ensures may { IfOk result (λ chosen. MayAllGo self.now chosen.items) }
+        ensures few { IfOk result (λ chosen. length chosen.items ≤ most) }
+        ensures none { IfOk result (λ chosen. length chosen.items ≡ 0 → self.now.added ≤ self.now.deleted + self.now.formula.vars) }
+    {
+        let reasons = reasons_of(alloc, &self.trail, self.clauses.len())?;
+        let chosen = self.choose_half(alloc, &reasons, most)?;
+        if !chosen.is_empty() {
+            return Ok(chosen);
+        }
+        match self.first_to_go(&reasons) {
+            None => Ok(chosen),
+            Some(clause) => {
+                let mut first = Vec::new(alloc);
+                first.push(clause)?;
+                Ok(first)
+            }
+        }
+    }
+
+    /// Half of the clauses that may go, and no more than so many.
+    fn choose_half(
+        &self,
+        alloc: Global,
+        reasons: &Vec<bool>,
+        most: usize,
+    ) -> Result<Vec<u32>, AllocError>
+        requires live { IsLive self.now }
+        requires reasons { Marks self.now.trail (length self.now.clauses) reasons.now.items }
         ensures may { IfOk result (λ chosen. MayAllGo self.now chosen.items) }
         ensures few { IfOk result (λ chosen. length chosen.items ≤ most) }
     {
-        let reasons = reasons_of(alloc, &self.trail, self.clauses.len())?;
-        let threshold = self.threshold(alloc, &reasons, most)?;
+        let threshold = self.threshold(alloc, reasons, most)?;
         let mut chosen = Vec::new(alloc);
         for clause in self.formula.len() as u32..self.clauses.len() as u32 {
             if chosen.len() < most
-                && self.may_go(&reasons, clause)
+                && self.may_go(reasons, clause)
                 && self.worth(clause) < threshold
             {
                 chosen.push(clause)?;
             }
         }
         Ok(chosen)
+    }
+
+    /// The first clause that may go.
+    fn first_to_go(&self, reasons: &Vec<bool>) -> Option<u32>
+        requires live { IsLive self.now }
+        requires reasons { Marks self.now.trail (length self.now.clauses) reasons.now.items }
+        ensures { MatchOption result (NoneMayGo self.now reasons.now.items) (MayGo self.now) }
+    {
+        for clause in self.formula.len() as u32..self.clauses.len() as u32 {
+            if self.may_go(reasons, clause) {
+                return Some(clause);
+            }
+        }
+        None
     }
 
     /// Half of the clauses that may go are worth less than this, but no more than so many.
@@ -78,7 +122,8 @@ impl State {
         requires reasons { Marks self.now.trail (length self.now.clauses) reasons.now.items }
         requires learnt { length self.now.formula.clauses ≤ clause }
         requires there { clause < length self.now.clauses }
-        ensures { IsTrue result → MayGo self.now clause }
+        ensures may { IsTrue result → MayGo self.now clause }
+        ensures exactly { result ≡ ((at self.now.clauses clause).kept && not (slice_index_or reasons.now.items clause false)) }
     {
         self.clauses.is_kept(clause) && !reasons[clause as usize]
     }
@@ -103,6 +148,7 @@ impl State {
         requires few { 2 * (self.old.deleted + length chosen.now) ≤ self.old.added }
         ensures live { IsLive self.new }
         ensures further { IsFurther self.old self.new 0 }
+        ensures deleted { OnOk result (self.old.deleted < self.new.deleted) }
     {
         let line = delete_line(alloc, chosen)?;
         self.derivation.push(line)?;

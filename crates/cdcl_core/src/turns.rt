@@ -10,6 +10,7 @@ ghost use Rattle.cdcl_search.specs.Attached.{CanAssert};
 ghost use Rattle.cdcl_lines.specs.Literals.{Rise};
 ghost use Rattle.cdcl_lines.specs.Lines.{added};
 ghost use Rattle.cdcl_core.specs.Searches.{most_added};
+ghost use Rattle.cdcl_core.specs.Helpers.{HasBound};
 
 use crate::reducing::touch_all;
 use crate::state::State;
@@ -69,6 +70,7 @@ impl State {
     fn step(&mut self, alloc: Global) -> Result<Step, AllocError>
         requires live { IsLive self.old }
         requires room { self.old.added < most_added }
+        requires bound { HasBound self.old.formula.vars self.old.added self.old.deleted }
         ensures ok { IfOk result (ComesTo self.old self.new 1) }
         ensures err_live { OnErr result (IsLive self.new) }
         ensures err_same { OnErr result (IsAsFar self.old self.new) }
@@ -144,6 +146,7 @@ impl State {
         requires room { self.old.added < most_added }
         requires lesson { IsLesson self.old.trail self.old.clauses lesson }
         requires rise { Rise lesson.literals.items }
+        requires bound { HasBound self.old.formula.vars self.old.added self.old.deleted }
         ensures ok { IfOk result (ComesTo self.old self.new 1) }
         ensures err_live { OnErr result (IsLive self.new) }
         ensures err_same { OnErr result (IsAsFar self.old self.new) }
@@ -208,6 +211,7 @@ impl State {
         requires can { CanAssert self.old.trail literals.now asserted beside }
         requires shown { Shows self.old.clauses literals.now hints.now }
         requires rise { Rise literals.now }
+        requires bound { HasBound self.old.formula.vars self.old.added self.old.deleted }
         ensures live { IsLive self.new }
         ensures ok { OnOk result (IsFurther self.old self.new 1) }
         ensures err { OnErr result (IsAsFar self.old self.new) }

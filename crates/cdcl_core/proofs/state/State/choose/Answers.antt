@@ -1,20 +1,10 @@
-use Rattle.std.proofs.Common.{◌+◌, ◌<◌, ℕ, List, arith}
-use Rattle.std.proofs.lemmas.List.{length_push}
-use Rattle.std.proofs.lemmas.List.Elements.{All-push}
-use Rattle.cdcl_core.proofs.Dropping.{may-all-push}
+use Rattle.std.proofs.Common.{ℕ, subst}
+use Rattle.cdcl_core.specs.Helpers.{Marks}
+use Rattle.cdcl_core.proofs.Dropping.{few-where_none}
 use Rattle.cdcl_core.proofs.state.State.choose.Goals as goal
-use Rattle.cdcl_core.proofs.state.State.choose.Goals.{then-len-most+then-may_go+then-worth-threshold+in_ok-push, else-len-most}
 
-pub loop-clause-preserved : goal.loop-clause-preserved
-loop-clause-preserved c =
-    let inv = c.loop-clause.invariant in
-    let ks : List ℕ = c.loop-clause.chosen.items in
-    let x : ℕ = c.loop-clause.clause in
-    elim c.if-len-most.branch [
-      | then-len-most+then-may_go+then-worth-threshold+in_ok-push w ↦ rw (w.chosen-is, w.in_ok-push.ensures.items) (record {
-        may = may-all-push c.args.self.now ks x inv.may inv.below (w.may_go.ensures w.if-may_go.true);
-        below = All-push (λ k. k < x + 1) ks x (λ k d h. omega (arith, inv.below k d h)) (omega arith);
-        few = omega (arith, length_push ks x, w.if-len-most.true, c.len-in-loop-clause.ensures);
-      })
-      | else-len-most w ↦ rw w.chosen-is (record { may = inv.may; below = λ k d h. omega (arith, inv.below k d h); few = inv.few })
-    ]
+pub returns-in-None-clause-none : goal.returns-in-None-clause-none
+returns-in-None-clause-none c = λ e.
+    let s = c.args.self.now in
+    few-where_none s c.requires.live c.in_ok-reasons.reasons.items
+    (subst (λ (n : ℕ). Marks s.trail n c.in_ok-reasons.reasons.items) c.len.ensures c.in_ok-reasons.ensures) c.in-None.ensures

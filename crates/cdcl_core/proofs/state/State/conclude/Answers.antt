@@ -20,5 +20,5 @@ returns-clause-over c =
     let a = c.requires in
     on_ok_weaker c.write_line.result
     (λ e. subst (λ (lines : List Line). Ended s.formula lines s.added) (sym e)
-    (ended s.formula a.clauses s.derivation s.added s.deleted a.agree [] c.args.hints.now refl refl a.shown))
+    (ended s.formula a.clauses s.derivation s.added s.deleted a.agree a.bound [] c.args.hints.now refl refl a.shown))
     c.write_line.ensures.ok

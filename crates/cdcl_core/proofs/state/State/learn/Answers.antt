@@ -88,7 +88,7 @@ returns-in-Ok-clause-live c =
       rooted = rw (after, kept) (rooted-attach t cs ls a b can (Some (length cs)) live.rooted);
       variables = ap (λ (x : Trail). x.variables) after ∙ live.variables;
       order = live.order;
-      agree = rw (kept, line) (agree-learnt s.formula cs s.derivation s.added s.deleted live.agree c.requires.room ls hs a b w c.requires.rise
+      agree = rw (kept, line) (agree-learnt s.formula cs s.derivation s.added s.deleted live.agree c.requires.room c.requires.bound ls hs a b w c.requires.rise
           c.requires.shown can.has fresh);
     }
 
