@@ -1,0 +1,134 @@
+-- What the steps of a thread ask of memory and of the other threads.
+use Rattle.std.specs.Prelude.{ℕ, ◌+◌, List, [], ◌∷◌, map, Bool, false, ◌==◌, Option, Some, None, option_map, unwrap_or, slice_get, sum}
+use Rattle.std.specs.Prelude.{if◌then◌else◌}
+use Rattle.std.specs.List.{filter_map, cons_option}
+use Rattle.std.specs.Option.{option_map_or}
+use Rattle.std.specs.Bool.{beq}
+use Rattle.tc_code.specs.Expr.{Expr, Number, Slot, Unary, Binary}
+use Rattle.tc_code.specs.Code.{Code, line_at}
+use Rattle.tc_code.specs.Instr.{Instr, Set, Load, Load_at, Store, Store_at, Inside, Branch, Holds, Lock, Unlock, Sleep, Wake}
+use Rattle.tc_code.specs.Instr.{Signal, Broadcast, Create, Ready, Join, Assert, Nonzero, In_range, Swap, Cas, Fence, Exit}
+use Rattle.tc_code.specs.Step.{child_number, can_be_joined}
+use Rattle.path_walk.specs.Marks.{Marks, Marked, has_mutex, handle_in}
+use Rattle.path_walk.specs.declared.event.Event.{Event}
+use Rattle.path_walk.specs.declared.event.EventKind.{EventKind}
+use Rattle.path_walk.specs.declared.event.EventKind.TheVariants as kind
+use Rattle.path_walk.specs.declared.event.Region.{Region}
+use Rattle.path_walk.specs.declared.event.Sleep.{Sleep as Wait}
+use Rattle.path_walk.specs.declared.event.Link.{Link}
+
+-- what an instruction that doesn't fail asks, if it asks anything but a bar
+abbrev pub asks : Marks → Instr → Option EventKind
+asks t (Load k c) = Some kind.Load
+asks t (Load_at k first len i) = Some kind.Load
+asks t (Store c e) = Some kind.Store
+asks t (Store_at first len i e) = Some kind.Store
+asks t (Swap k c e) = Some kind.Exchange
+asks t (Cas k c e new) = Some kind.Exchange
+asks t (Lock m) = Some (kind.Lock m)
+asks t (Unlock m) = Some (kind.Unlock m)
+asks t (Sleep c m) = Some (kind.Sleep c m)
+asks t (Wake c m) = Some (kind.Wake c m)
+asks t (Signal c) = Some (kind.Signal c)
+asks t (Broadcast c) = Some (kind.Broadcast c)
+asks t (Create h f es) = Some (kind.Create (t.children + 1))
+asks t (Join h) = Some (kind.Join (child_number (handle_in t h)))
+asks t Fence = Some kind.Fence
+asks t Exit = Some kind.Exit
+asks t _ = None
+
+-- what a step asks, which fails or doesn't: the end of the run, where it fails
+abbrev pub kind_with : Marks → Instr → Bool → Option EventKind
+kind_with t i fails = if fails then Some kind.Fail else asks t i
+
+-- a step as an event, if it is one
+abbrev pub event_of : Code → ℕ → Marked → Option Event
+event_of code f s =
+    option_map (λ k. record { step = s.number; line = unwrap_or (line_at code f s.step.place) 0; kind = k; bars = s.marks.bars }) (kind_with s.marks s.step.instr s.fails)
+
+-- the events of a thread that does a function
+abbrev pub events_of : Code → ℕ → List Marked → List Event
+events_of code f steps = filter_map (event_of code f) steps
+
+-- the mutex that an event takes
+abbrev pub takes : EventKind → Option ℕ
+takes (kind.Lock m) = Some m
+takes (kind.Wake c m) = Some m
+takes _ = None
+
+-- the mutex that it leaves
+abbrev pub leaves : EventKind → Option ℕ
+leaves (kind.Unlock m) = Some m
+leaves (kind.Sleep c m) = Some m
+leaves _ = None
+
+-- the step of the first of some events that leaves a mutex
+abbrev pub left_at : ℕ → List Event → Option ℕ
+left_at m [] = None
+left_at m (e ∷ es) = if option_map_or (λ l. l == m) (leaves e.kind) false then Some e.step else left_at m es
+
+-- for each event that takes a mutex, the steps between which the thread has it
+abbrev pub region_of : Event → List Event → Option Region
+region_of e later = option_map (λ m. record { mutex = m; «from» = e.step; to = left_at m later }) (takes e.kind)
+
+abbrev pub regions_of : List Event → List Region
+regions_of [] = []
+regions_of (e ∷ es) = cons_option (region_of e es) (regions_of es)
+
+-- a wait begins with a sleep; the thread's next event, if there is one, is the wake that ends it
+abbrev pub sleep_by : ℕ → Option Event → EventKind → Option Wait
+sleep_by step next (kind.Sleep c m) = Some (record { step = step; condition = c; mutex = m; wake = option_map (λ w. w.step) next })
+sleep_by step next _ = None
+
+abbrev pub sleeps_of : List Event → List Wait
+sleeps_of [] = []
+sleeps_of (e ∷ es) = cons_option (sleep_by e.step (slice_get es 0) e.kind) (sleeps_of es)
+
+-- a create or a join at a step, with the number of the child
+abbrev pub create_by : ℕ → EventKind → Option Link
+create_by step (kind.Create k) = Some (record { step = step; child = k })
+create_by step _ = None
+
+abbrev pub join_by : ℕ → EventKind → Option Link
+join_by step (kind.Join k) = Some (record { step = step; child = k })
+join_by step _ = None
+
+abbrev pub creates_of : List Event → List Link
+creates_of events = filter_map (λ e. create_by e.step e.kind) events
+
+abbrev pub joins_of : List Event → List Link
+joins_of events = filter_map (λ e. join_by e.step e.kind) events
+
+-- whether the path alone tells that no run does a step, which fails or doesn't: it takes a mutex that the thread has, or a
+-- test of a mutex or a thread variable passes where it is false, or fails where it is true
+abbrev pub excludes : Marks → Instr → Bool → Bool
+excludes t (Lock m) fails = has_mutex t m
+excludes t (Holds m) fails = beq (has_mutex t m) fails
+excludes t (Ready h) fails = beq (can_be_joined (handle_in t h)) fails
+excludes t _ fails = false
+
+abbrev pub is_impossible : Marked → Bool
+is_impossible s = excludes s.marks s.step.instr s.fails
+
+-- the operators of an expression
+abbrev pub operators : Expr → ℕ
+operators (Number n) = 0
+operators (Slot k) = 0
+operators (Unary op a) = 1 + operators a
+operators (Binary op a b) = 1 + (operators a + operators b)
+
+-- and those of all expressions of an instruction
+abbrev pub operators_of : Instr → ℕ
+operators_of (Set k e) = operators e
+operators_of (Load_at k first len i) = operators i
+operators_of (Store c e) = operators e
+operators_of (Store_at first len i e) = operators i + operators e
+operators_of (Inside len i) = operators i
+operators_of (Branch e to) = operators e
+operators_of (Create h f es) = sum (map operators es)
+operators_of (Assert e) = operators e
+operators_of (Nonzero e) = operators e
+operators_of (In_range e) = operators e
+operators_of (Swap k c e) = operators e
+operators_of (Cas k c e new) = operators e + operators new
+operators_of _ = 0

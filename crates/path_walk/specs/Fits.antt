@@ -1,0 +1,85 @@
+-- Which logs fit the code, and what is wrong with those that don't.
+use Rattle.std.specs.Prelude.{◌≡◌, ℕ, zero, suc, ◌-◌, List, [], ◌∷◌, length, Bool, true, false, Option, Some, None, is_some, option_and_then, slice_get}
+use Rattle.std.specs.Prelude.{if◌then◌else◌, bytes_eq, Result, Err}
+use Rattle.std.specs.List.{filter_map}
+use Rattle.std.specs.Option.{option_map_or}
+use Rattle.std.specs.Result.{result_err, result_unwrap_or}
+use Rattle.std.specs.Ordering.{is_lt, nat_cmp}
+use Rattle.std.specs.Cmp.Lexicographic.{slice_cmp}
+use Rattle.tc_base.specs.Names.{Name, main, child}
+use Rattle.tc_base.specs.Logs.{Log, failing_of, path_under}
+use Rattle.tc_code.specs.Code.{Code}
+use Rattle.tc_code.specs.Instr.{Instr, Create}
+use Rattle.path_walk.specs.Steps.{Step, steps_at, places_of}
+use Rattle.path_walk.specs.declared.fault.Misfit.{Misfit}
+use Rattle.path_walk.specs.declared.fault.Misfit.TheVariants as misfit
+use Rattle.path_walk.specs.declared.fault.WalkFault.{WalkFault}
+use Rattle.path_walk.specs.declared.fault.WalkFault.TheVariants as fault
+
+-- the function of the child that an instruction creates
+abbrev pub starts : Instr → Option ℕ
+starts (Create h f es) = Some f
+starts _ = None
+
+-- the functions of the children that steps create, in order
+abbrev pub started : List Step → List ℕ
+started steps = filter_map (λ s. starts s.instr) steps
+
+-- whether the thread of a name is the one that failed
+abbrev pub fails_in : Log → Name → Bool
+fails_in log n = option_map_or (bytes_eq n) (failing_of log) false
+
+module _ (code : Code) (log : Log) where
+  -- the places of the steps of the thread of a name that does a function
+  abbrev pub walked : Name → ℕ → Result (List ℕ) Misfit
+  walked n f = option_map_or (places_of code f (fails_in log n)) (path_under n log.threads) (Err misfit.Missing)
+
+  -- the same, and none where something is wrong
+  abbrev pub places_in : Name → ℕ → List ℕ
+  places_in n f = result_unwrap_or (walked n f) []
+
+  -- the function of its child of a number, from 1. The child of a path with a fault has a greater name than it, so that
+  -- none is counted there doesn't matter
+  abbrev pub child_function : Name → ℕ → ℕ → Option ℕ
+  child_function n f zero = None
+  child_function n f (suc k) = slice_get (started (steps_at code f (places_in n f))) k
+
+  -- the function of a thread below one that does a function, by the numbers of the creates that lead to it
+  abbrev pub function_below : Name → ℕ → List ℕ → Option ℕ
+  function_below n f [] = Some f
+  function_below n f (k ∷ ks) = option_and_then (λ g. function_below (child n k) g ks) (child_function n f k)
+
+  -- the function of the thread of a name: main's is the last, and a child's that of the create; none where nothing creates it
+  abbrev pub function_of : Name → Option ℕ
+  function_of n = function_below main (length code.functions - 1) n
+
+  -- what is wrong with a name that nothing creates
+  abbrev pub unless_absent : Name → Option Misfit
+  unless_absent n = if is_some (path_under n log.threads) then Some misfit.Stranger else None
+
+  -- what is wrong with the thread of a name, if anything is
+  abbrev pub misfit_of : Name → Option Misfit
+  misfit_of n = option_map_or (λ f. result_err (walked n f)) (function_of n) (unless_absent n)
+
+  -- nothing is wrong with any thread
+  abbrev pub Fits : Type 0
+  Fits = (n : Name) → misfit_of n ≡ None
+
+  -- a fault of the thread of a name, and nothing is wrong with lesser names
+  pub record IsFirst (n : Name) (m : Misfit) : Type 0 where
+    pub there : misfit_of n ≡ Some m
+    pub least : (q : Name) → is_lt (slice_cmp nat_cmp q n) ≡ true → misfit_of q ≡ None
+
+-- a fault with its name
+abbrev pub fault_of : Name → Misfit → WalkFault
+fault_of n misfit.Missing = fault.Missing n
+fault_of n misfit.Stranger = fault.Stranger n
+fault_of n misfit.OutcomesShort = fault.OutcomesShort n
+fault_of n misfit.OutcomesLeft = fault.OutcomesLeft n
+fault_of n misfit.PastExit = fault.PastExit n
+fault_of n misfit.NotASite = fault.NotASite n
+
+-- the first fault of a log, if it isn't want of memory
+abbrev pub IsFault : Code → Log → WalkFault → Type 0
+IsFault code log fault.Memory = Unit {0}
+IsFault code log e = (n : Name) × (m : Misfit) × IsFirst code log n m × (e ≡ fault_of n m)

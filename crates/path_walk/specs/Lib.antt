@@ -1,0 +1,6 @@
+pub mod Steps
+pub mod Fits
+pub mod Marks
+pub mod Events
+pub mod Paths
+pub mod Helpers

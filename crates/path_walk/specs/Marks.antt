@@ -1,0 +1,55 @@
+-- What a thread's own steps make of its mutexes and thread variables.
+use Rattle.std.specs.Prelude.{ℕ, ◌+◌, List, [], ◌∷◌, length, Bool, true, false, ◌&&◌, ◌==◌, replicate, slice_set, slice_index_or}
+use Rattle.tc_base.specs.declared.handle.Handle.{Handle}
+use Rattle.tc_base.specs.declared.handle.Handle.TheVariants.{Unset, Child, Joined}
+use Rattle.tc_code.specs.Code.{Code}
+use Rattle.tc_code.specs.Instr.{Instr, Lock, Unlock, Sleep, Wake, Create, Join, Stbar}
+use Rattle.tc_code.specs.Step.{tids_of, child_number}
+use Rattle.path_walk.specs.Steps.{Step}
+
+pub record Marks : Type 0 where
+  -- of each mutex, whether the thread holds it
+  pub held : List Bool
+  -- its thread variables
+  pub handles : List Handle
+  -- how many children it has created, and how many bars it has put between its stores
+  pub children : ℕ
+  pub bars : ℕ
+
+-- at the start of a function nothing is held or set
+abbrev pub unmarked : Code → ℕ → Marks
+unmarked code f = record { held = replicate code.mutexes false; handles = replicate (tids_of code f) Unset; children = 0; bars = 0 }
+
+abbrev pub has_mutex : Marks → ℕ → Bool
+has_mutex t m = slice_index_or t.held m false
+
+abbrev pub handle_in : Marks → ℕ → Handle
+handle_in t h = slice_index_or t.handles h Unset
+
+-- lock and wake take a mutex, unlock and sleep give it; a create sets a thread variable, and a join marks it as joined
+abbrev pub marked : Marks → Instr → Marks
+marked t (Lock m) = record t { held = slice_set t.held m true }
+marked t (Unlock m) = record t { held = slice_set t.held m false }
+marked t (Sleep c m) = record t { held = slice_set t.held m false }
+marked t (Wake c m) = record t { held = slice_set t.held m true }
+marked t (Create h f es) = record t { handles = slice_set t.handles h (Child (t.children + 1)); children = t.children + 1 }
+marked t (Join h) = record t { handles = slice_set t.handles h (Joined (child_number (handle_in t h))) }
+marked t Stbar = record t { bars = t.bars + 1 }
+marked t _ = t
+
+-- a step with its number, whether it fails, and what the steps before it made
+pub record Marked : Type 0 where
+  pub number : ℕ
+  pub step : Step
+  pub fails : Bool
+  pub marks : Marks
+
+-- the steps from a number on; the last one fails where the thread failed
+abbrev pub marked_from : Bool → ℕ → Marks → List Step → List Marked
+marked_from fails k t [] = []
+marked_from fails k t (s ∷ rest) =
+    record { number = k; step = s; fails = fails && length rest == 0; marks = t } ∷ marked_from fails (k + 1) (marked t s.instr) rest
+
+-- the steps of a thread that does a function
+abbrev pub marked_steps : Code → ℕ → Bool → List Step → List Marked
+marked_steps code f fails steps = marked_from fails 0 (unmarked code f) steps

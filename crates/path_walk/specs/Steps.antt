@@ -1,0 +1,75 @@
+-- The steps of one thread, by its path alone.
+use Rattle.std.specs.Prelude.{ℕ, zero, suc, ◌+◌, ◌-◌, List, [], ◌∷◌, Bool, true, false, map, Option, Some, None, unwrap_or, slice_get, length, if◌then◌else◌, Result, Ok, Err}
+use Rattle.std.specs.Option.{option_map_or}
+use Rattle.tc_base.specs.Logs.{Path}
+use Rattle.tc_code.specs.Code.{Code, instr_at}
+use Rattle.tc_code.specs.Instr.{Instr, Branch, Goto, Inside, Holds, Ready, Assert, Nonzero, In_range, Exit}
+use Rattle.path_walk.specs.declared.fault.Misfit.{Misfit}
+use Rattle.path_walk.specs.declared.fault.Misfit.TheVariants.{OutcomesShort, OutcomesLeft, PastExit, NotASite}
+
+-- where a thread goes on, and the outcomes that are left for it
+pub record Onward : Type 0 where
+  pub place : ℕ
+  pub outcomes : List Bool
+
+-- after a branch, by the next of the outcomes, if there is one: to the target where that is false
+abbrev pub branched : ℕ → ℕ → List Bool → Option Onward
+branched next to [] = None
+branched next to (true ∷ outcomes) = Some (record { place = next; outcomes = outcomes })
+branched next to (false ∷ outcomes) = Some (record { place = to; outcomes = outcomes })
+
+-- after an instruction at a place
+abbrev pub onward : ℕ → Instr → List Bool → Option Onward
+onward k (Branch e to) outcomes = branched (k + 1) to outcomes
+onward k (Goto to) outcomes = Some (record { place = to; outcomes = outcomes })
+onward k _ outcomes = Some (record { place = k + 1; outcomes = outcomes })
+
+-- a place before others
+abbrev pub before : ℕ → Result (List ℕ) Misfit → Result (List ℕ) Misfit
+before k (Ok places) = Ok (k ∷ places)
+before k (Err fault) = Err fault
+
+-- the places of so many steps of a function from a place on, with these outcomes; no instruction stands behind an exit
+abbrev pub places_from : Code → ℕ → ℕ → ℕ → List Bool → Result (List ℕ) Misfit
+places_from code f zero k [] = Ok []
+places_from code f zero k (_ ∷ _) = Err OutcomesLeft
+places_from code f (suc n) k outcomes =
+    option_map_or
+    (λ i. option_map_or (λ on. before k (places_from code f n on.place on.outcomes)) (onward k i outcomes) (Err OutcomesShort))
+    (instr_at code f k) (Err PastExit)
+
+-- a step: its instruction, and the place of that in the function
+pub record Step : Type 0 where
+  pub place : ℕ
+  pub instr : Instr
+
+-- the step at a place of a function; of places that a path leads to there is an instruction at each
+abbrev pub step_at : Code → ℕ → ℕ → Step
+step_at code f k = record { place = k; instr = unwrap_or (instr_at code f k) Exit }
+
+-- the steps at places of a function
+abbrev pub steps_at : Code → ℕ → List ℕ → List Step
+steps_at code f places = map (step_at code f) places
+
+-- whether an instruction only tests something, and fails where that is false
+abbrev pub is_site : Instr → Bool
+is_site (Inside len i) = true
+is_site (Holds m) = true
+is_site (Ready h) = true
+is_site (Assert e) = true
+is_site (Nonzero e) = true
+is_site (In_range e) = true
+is_site _ = false
+
+-- whether there is a step, and the last is at a site
+abbrev pub ends_at_site : Code → ℕ → List ℕ → Bool
+ends_at_site code f places = option_map_or (λ k. is_site (step_at code f k).instr) (slice_get places (length places - 1)) false
+
+-- a thread that failed did so at a site
+abbrev pub at_site : Code → ℕ → Bool → Result (List ℕ) Misfit → Result (List ℕ) Misfit
+at_site code f true (Ok places) = if ends_at_site code f places then Ok places else Err NotASite
+at_site code f _ found = found
+
+-- the places of the steps of a thread that does a function, by its path and whether it failed; or what is wrong with the path
+abbrev pub places_of : Code → ℕ → Bool → Path → Result (List ℕ) Misfit
+places_of code f fails path = at_site code f fails (places_from code f path.steps 0 path.outcomes)

@@ -1,0 +1,238 @@
+//! What is told of the first threads of a log.
+ghost use Rattle.std.specs.Prelude.{◌≡◌, ℕ, ◌+◌, ◌<◌, ◌≤◌, ◌^◌, length, Option, Some, IfOk, OnOk, IfErr, IsSome, IfSome, IfNone, is_some, slice_get, true, false, bytes_eq};
+ghost use Rattle.std.specs.List.{list_any};
+ghost use Rattle.tc_base.specs.Names.{Name as PlainName};
+ghost use Rattle.tc_base.specs.Logs.{Log as PlainLog, ThreadPath as PlainPath, path_under};
+ghost use Rattle.path_walk.specs.Fits.{function_of, fault_of, IsFault, Fits};
+ghost use Rattle.path_walk.specs.Paths.{paths_of};
+ghost use Rattle.path_walk.specs.Helpers as helper;
+ghost use Rattle.path_walk.specs.Helpers.{IsDraft, IsNext, IsFirstAbsent, first_fault, added, no_draft};
+
+use crate::course::{Course, Started, tell_course};
+use crate::follow::FollowFault;
+use crate::{Misfit, Paths, Walk, WalkFault};
+use path_log::{Log, ThreadPath};
+use std::alloc::{AllocError, Global};
+use std::marker::Model;
+use tc_base::ThreadName;
+use tc_code::Code;
+
+/// What is told of the first threads of a log.
+#[derive(Drop)]
+pub struct Draft {
+    threads: Vec<Walk>,
+    started: Vec<Started>,
+    events: usize,
+    operators: u64,
+    dead: bool,
+    missing: Option<ThreadName>,
+}
+
+impl Model for Draft {
+    ghost use Rattle.path_walk.specs.Helpers as spec;
+
+    ghost Value = { spec.Draft };
+
+    ghost view = { λ d. record {
+      threads = d.threads.items;
+      started = d.started.items;
+      events = d.events;
+      operators = d.operators;
+      dead = d.dead;
+      missing = d.missing;
+    } };
+}
+
+/// A fault with a name.
+fn fault(name: ThreadName, misfit: Misfit) -> WalkFault
+    ensures { result ≡ fault_of name misfit }
+{
+    match misfit {
+        Misfit::Missing => WalkFault::Missing(name),
+        Misfit::Stranger => WalkFault::Stranger(name),
+        Misfit::OutcomesShort => WalkFault::OutcomesShort(name),
+        Misfit::OutcomesLeft => WalkFault::OutcomesLeft(name),
+        Misfit::PastExit => WalkFault::PastExit(name),
+        Misfit::NotASite => WalkFault::NotASite(name),
+    }
+}
+
+/// Whether a log has the thread of a name.
+fn has_thread(log: &Log, name: &ThreadName) -> bool
+    ensures { result ≡ is_some (path_under name.now log.now.log.threads) }
+{
+    for thread in log.threads() {
+        if name.children() == thread.name().children() {
+            return true;
+        }
+    }
+    false
+}
+
+/// The first of so many children of a thread that isn't in the log.
+fn first_absent(
+    alloc: Global,
+    log: &Log,
+    parent: &ThreadName,
+    count: u32,
+) -> Result<Option<ThreadName>, AllocError>
+    requires { count < 2 ^ 31 }
+    ensures { IfOk result (IsFirstAbsent log.now.log parent.now count) }
+{
+    for number in 0..count {
+        let name = parent.child(number + 1)?;
+        if !has_thread(log, &name) {
+            return Ok(Some(name));
+        }
+    }
+    Ok(None)
+}
+
+/// The lesser of two names, if there are any.
+fn least(first: Option<ThreadName>, second: Option<ThreadName>) -> Option<ThreadName>
+    ensures { result ≡ helper.least first second }
+{
+    match (first, second) {
+        (Some(a), Some(b)) => Some(if b < a { b } else { a }),
+        (Some(a), None) => Some(a),
+        (None, other) => other,
+    }
+}
+
+/// The place of the thread of a name among some.
+fn place_of(threads: &[Walk], name: &[u32]) -> Option<usize>
+    ensures found { IfSome result (λ i. IfSome (slice_get threads.now i) (λ w. bytes_eq name.now w.name ≡ true) × (i < length threads.now)) }
+    ensures none { IfNone result (list_any (λ w. bytes_eq name.now w.name) threads.now ≡ false) }
+{
+    for place in 0..threads.len() {
+        if name == threads[place].name().children() {
+            return Some(place);
+        }
+    }
+    None
+}
+
+impl Draft {
+    /// Of no thread.
+    pub fn new(alloc: Global) -> Draft
+        ensures { result ≡ no_draft }
+    {
+        Draft {
+            threads: Vec::new(alloc),
+            started: Vec::new(alloc),
+            events: 0,
+            operators: 0,
+            dead: false,
+            missing: None,
+        }
+    }
+
+    /// The function of the log's next thread.
+    fn function_of(&self, code: &Code, name: &ThreadName) -> Option<usize>
+        ensures { (log : PlainLog) (t : PlainPath) → IsDraft code.now log self.now → IsNext log (length self.now.threads) t
+            → name.now ≡ t.name → result ≡ function_of code.now log name.now }
+    {
+        let numbers = name.children();
+        if numbers.is_empty() {
+            return Some(code.functions().len().saturating_sub(1));
+        }
+        let last = numbers.len() - 1;
+        match place_of(&self.threads, &numbers[..last]) {
+            Some(parent) => self.child_function(parent, numbers[last]),
+            None => None,
+        }
+    }
+
+    /// The function of the child of that number, from 1, of the thread at a place.
+    fn child_function(&self, place: usize, number: u32) -> Option<usize>
+        ensures { result ≡ helper.started_at self.now.started place number }
+    {
+        if number == 0 {
+            return None;
+        }
+        let started = self.started.get(place)?;
+        let function = started.as_slice().get(number as usize - 1)?;
+        Some(*function as usize)
+    }
+
+    /// A fault of the log's next thread, or that of a lesser child that isn't in the log.
+    fn first_fault(&self, name: &ThreadName, misfit: Misfit) -> Result<WalkFault, AllocError>
+        ensures { IfOk result (λ e. e ≡ first_fault self.now.missing name.now misfit) }
+    {
+        if let Some(missing) = &self.missing {
+            if missing < name {
+                return Ok(WalkFault::Missing(missing.clone()?));
+            }
+        }
+        Ok(fault(name.clone()?, misfit))
+    }
+
+    /// Adds a thread.
+    fn add(&mut self, alloc: Global, log: &Log, course: Course) -> Result<(), AllocError>
+        requires started { length course.started < 2 ^ 31 }
+        requires events { self.old.events + length course.walk.events < 2 ^ 64 }
+        ensures { OnOk result ((found : Option PlainName)
+            × IsFirstAbsent log.now.log course.walk.name (length course.started) found
+            × (self.new ≡ added self.old (record { walk = course.walk; started = course.started; operators = course.operators; dead = course.dead }) found)) }
+    {
+        let count = course.started.as_slice().len() as u32;
+        let absent = first_absent(alloc, log, course.walk.name(), count)?;
+        self.missing = least(self.missing.take(), absent);
+        self.events += course.walk.events().len();
+        self.operators = self.operators.saturating_add(course.operators);
+        self.dead = self.dead || course.dead;
+        self.threads.push(course.walk)?;
+        self.started.push(course.started)?;
+        Ok(())
+    }
+
+    /// Follows the log's next thread.
+    pub fn follow(
+        &mut self,
+        alloc: Global,
+        code: &Code,
+        log: &Log,
+        thread: &ThreadPath,
+    ) -> Result<(), WalkFault>
+        requires few { length log.now.log.threads ≤ 16 }
+        requires draft { IsDraft code.now log.now.log self.old }
+        requires next { IsNext log.now.log (length self.old.threads) thread.now }
+        ensures ok { OnOk result (IsDraft code.now log.now.log self.new × (length self.new.threads ≡ length self.old.threads + 1)) }
+        ensures err { IfErr result (IsFault code.now log.now.log) }
+    {
+        let name = thread.name();
+        let Some(function) = self.function_of(code, name) else {
+            return Err(self.first_fault(name, Misfit::Stranger)?);
+        };
+        let fails = name.children() == log.failing_name().children();
+        match tell_course(alloc, code, function, fails, thread) {
+            Ok(course) => Ok(self.add(alloc, log, course)?),
+            Err(FollowFault::Unfit(misfit)) => Err(self.first_fault(name, misfit)?),
+            Err(FollowFault::Memory) => Err(WalkFault::Memory),
+        }
+    }
+
+    /// The paths of a log of which all threads are told, or the fault of the least child that isn't in it.
+    pub fn finish(self, failing: usize) -> Result<Paths, WalkFault>
+        ensures { result ≡ helper.finished self failing }
+    {
+        let Draft {
+            threads,
+            started: _,
+            events,
+            operators,
+            dead,
+            missing,
+        } = self;
+        match missing {
+            Some(name) => Err(WalkFault::Missing(name)),
+            None => Ok(Paths {
+                failing,
+                threads,
+                events,
+                operators,
+                dead,
+            }),
+        }
+    }
+}

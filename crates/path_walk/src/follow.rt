@@ -1,0 +1,149 @@
+//! The places of the steps of one thread, by its path.
+ghost use Rattle.std.specs.Prelude.{◌≡◌, ◌+◌, ◌<◌, ◌≤◌, ◌^◌, length, drop, option_map, OnSome, IfOk};
+ghost use Rattle.tc_code.specs.Seen.{plain_instr};
+ghost use Rattle.path_walk.specs.Steps.{onward, branched, is_site, step_at, ends_at_site, places_from, places_of};
+ghost use Rattle.path_walk.specs.Helpers.{Gives, position_of};
+ghost use Rattle.path_walk.specs.declared.follow.FollowFault.TheVariants.{Memory};
+
+use crate::Misfit;
+use path_log::ThreadPath;
+use std::alloc::{AllocError, AllocFailed, Global};
+use tc_code::{Code, Instr};
+
+/// Why the steps of a thread can't be told.
+#[derive(Clone, Copy)]
+pub enum FollowFault {
+    /// The path doesn't fit.
+    Unfit(Misfit),
+    /// There is no memory.
+    Memory,
+}
+
+impl From<AllocError> for FollowFault {
+    ghost from_gives = { λ _ fault. fault ≡ Memory };
+
+    fn from(_failed: AllocError) -> Self {
+        FollowFault::Memory
+    }
+}
+
+impl<T: Drop> From<AllocFailed<T>> for FollowFault {
+    ghost from_gives = { λ _ fault. fault ≡ Memory };
+
+    fn from(_failed: AllocFailed<T>) -> Self {
+        FollowFault::Memory
+    }
+}
+
+/// Where a thread is, and how many of its outcomes it has used.
+#[derive(Clone, Copy)]
+pub struct Position {
+    place: usize,
+    used: usize,
+}
+
+/// Where a thread goes on after an instruction.
+fn onward(instr: &Instr, at: Position, outcomes: &[bool]) -> Option<Position>
+    requires { at.place + 1 < 2 ^ 64 }
+    ensures { option_map (position_of outcomes.now) result ≡ onward at.place (plain_instr instr.now) (drop at.used outcomes.now) }
+{
+    let next = Position {
+        place: at.place + 1,
+        used: at.used,
+    };
+    match instr {
+        Instr::Branch { target, .. } => branched(next, *target, outcomes),
+        Instr::Goto { target } => Some(Position {
+            place: *target as usize,
+            used: at.used,
+        }),
+        _ => Some(next),
+    }
+}
+
+/// Where a thread goes on after a branch: to the target where its outcome is false.
+fn branched(next: Position, target: u32, outcomes: &[bool]) -> Option<Position>
+    ensures { option_map (position_of outcomes.now) result ≡ branched next.place target (drop next.used outcomes.now) }
+{
+    let outcome = *outcomes.get(next.used)?;
+    let place = if outcome { next.place } else { target as usize };
+    Some(Position {
+        place,
+        used: next.used + 1,
+    })
+}
+
+/// Whether an instruction only tests something, and fails where that is false.
+fn is_site(instr: &Instr) -> bool
+    ensures { result ≡ is_site (plain_instr instr.now) }
+{
+    matches!(
+        instr,
+        Instr::Inside { .. }
+            | Instr::Holds { .. }
+            | Instr::Ready { .. }
+            | Instr::Assert(_)
+            | Instr::Nonzero(_)
+            | Instr::InRange(_)
+    )
+}
+
+/// Whether there is a step, and the last is at a site.
+fn ends_at_site(code: &Code, function: usize, places: &[usize]) -> bool
+    ensures { result ≡ ends_at_site code.now function places.now }
+{
+    if places.is_empty() {
+        return false;
+    }
+    match code.instr(function, places[places.len() - 1]) {
+        Some(instr) => is_site(instr),
+        None => false,
+    }
+}
+
+/// The places of the steps of a path through a function.
+fn places(
+    alloc: Global,
+    code: &Code,
+    function: usize,
+    path: &ThreadPath,
+) -> Result<Vec<usize>, FollowFault>
+    ensures told { Gives (λ v. v.items) result (places_from code.now function path.now.path.steps 0 path.now.path.outcomes) }
+    ensures few { IfOk result (λ v. length v.items < 2 ^ 16) }
+{
+    let outcomes = path.outcomes();
+    let mut places = Vec::new(alloc);
+    let mut at = Position { place: 0, used: 0 };
+    for step in 0..path.steps() {
+        let Some(instr) = code.instr(function, at.place) else {
+            return Err(FollowFault::Unfit(Misfit::PastExit));
+        };
+        let Some(next) = onward(instr, at, outcomes) else {
+            return Err(FollowFault::Unfit(Misfit::OutcomesShort));
+        };
+        places.push(at.place)?;
+        at = next;
+    }
+    if at.used < outcomes.len() {
+        return Err(FollowFault::Unfit(Misfit::OutcomesLeft));
+    }
+    Ok(places)
+}
+
+/// The places of the steps of a thread that does a function, by its path and whether it failed.
+pub fn follow(
+    alloc: Global,
+    code: &Code,
+    function: usize,
+    fails: bool,
+    path: &ThreadPath,
+) -> Result<Vec<usize>, FollowFault>
+    ensures told { Gives (λ v. v.items) result (places_of code.now function fails path.now.path) }
+    ensures few { IfOk result (λ v. length v.items < 2 ^ 16) }
+{
+    let places = places(alloc, code, function, path)?;
+    if fails && !ends_at_site(code, function, &places) {
+        return Err(FollowFault::Unfit(Misfit::NotASite));
+    }
+    Ok(places)
+}

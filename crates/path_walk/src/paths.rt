@@ -1,0 +1,166 @@
+//! Paths of threads, each with what it tells.
+ghost use Rattle.std.specs.Prelude.{◌≡◌};
+
+use crate::{Event, Link, Region, Sleep};
+use std::marker::Model;
+use tc_base::ThreadName;
+
+/// The way of one thread.
+#[derive(Debug, Drop)]
+pub struct Walk {
+    pub(crate) name: ThreadName,
+    pub(crate) function: usize,
+    pub(crate) outcomes: Vec<bool>,
+    pub(crate) places: Vec<usize>,
+    pub(crate) events: Vec<Event>,
+    pub(crate) regions: Vec<Region>,
+    pub(crate) sleeps: Vec<Sleep>,
+    pub(crate) creates: Vec<Link>,
+    pub(crate) joins: Vec<Link>,
+}
+
+impl Model for Walk {
+    ghost use Rattle.path_walk.specs.Paths.{Walk as PlainWalk};
+
+    ghost Value = { PlainWalk };
+
+    ghost view = { λ w. record {
+      name = w.name;
+      function = w.function;
+      outcomes = w.outcomes.items;
+      places = w.places.items;
+      events = w.events.items;
+      regions = w.regions.items;
+      sleeps = w.sleeps.items;
+      creates = w.creates.items;
+      joins = w.joins.items;
+    } };
+}
+
+impl Walk {
+    /// The thread.
+    pub fn name(&self) -> &ThreadName
+        ensures { result.now ≡ self.now.name }
+    {
+        &self.name
+    }
+
+    /// The number of its function.
+    pub fn function(&self) -> usize
+        ensures { result ≡ self.now.function }
+    {
+        self.function
+    }
+
+    /// The outcomes of its branches, in order.
+    pub fn outcomes(&self) -> &[bool]
+        ensures { result.now ≡ self.now.outcomes }
+    {
+        self.outcomes.as_slice()
+    }
+
+    /// For each step the number of its instruction in the function.
+    pub fn places(&self) -> &[usize]
+        ensures { result.now ≡ self.now.places }
+    {
+        self.places.as_slice()
+    }
+
+    /// Its events, in order.
+    pub fn events(&self) -> &[Event]
+        ensures { result.now ≡ self.now.events }
+    {
+        self.events.as_slice()
+    }
+
+    /// For each step that takes a mutex, the steps between which the thread has it.
+    pub fn regions(&self) -> &[Region]
+        ensures { result.now ≡ self.now.regions }
+    {
+        self.regions.as_slice()
+    }
+
+    /// Its waits, in order.
+    pub fn sleeps(&self) -> &[Sleep]
+        ensures { result.now ≡ self.now.sleeps }
+    {
+        self.sleeps.as_slice()
+    }
+
+    /// Its creates, in order: the one at place k is that of child k + 1.
+    pub fn creates(&self) -> &[Link]
+        ensures { result.now ≡ self.now.creates }
+    {
+        self.creates.as_slice()
+    }
+
+    /// Its joins, in order, each with the child that it awaits.
+    pub fn joins(&self) -> &[Link]
+        ensures { result.now ≡ self.now.joins }
+    {
+        self.joins.as_slice()
+    }
+}
+
+/// The ways of all threads of a log, in the order of their names.
+#[derive(Debug, Drop)]
+pub struct Paths {
+    pub(crate) failing: usize,
+    pub(crate) threads: Vec<Walk>,
+    pub(crate) events: usize,
+    pub(crate) operators: u64,
+    pub(crate) dead: bool,
+}
+
+impl Model for Paths {
+    ghost use Rattle.path_walk.specs.Paths.{Paths as PlainPaths};
+
+    ghost Value = { PlainPaths };
+
+    ghost view = { λ p. record {
+      failing = p.failing;
+      threads = p.threads.items;
+      events = p.events;
+      operators = p.operators;
+      dead = p.dead;
+    } };
+}
+
+impl Paths {
+    /// The place of the thread that failed.
+    pub fn failing(&self) -> usize
+        ensures { result ≡ self.now.failing }
+    {
+        self.failing
+    }
+
+    /// The threads, in the order of their names.
+    pub fn threads(&self) -> &[Walk]
+        ensures { result.now ≡ self.now.threads }
+    {
+        self.threads.as_slice()
+    }
+
+    /// How many events they have together.
+    pub fn events(&self) -> usize
+        ensures { result ≡ self.now.events }
+    {
+        self.events
+    }
+
+    /// How many operators stand in the instructions of their steps, counted for each step; the greatest number where
+    /// there are more.
+    pub fn operators(&self) -> u64
+        ensures { result ≡ self.now.operators }
+    {
+        self.operators
+    }
+
+    /// Whether the paths alone tell that no run goes so: some step takes a mutex that its thread has, or a test of a
+    /// mutex or a thread variable passes where it is false, or fails where it is true.
+    pub fn dead(&self) -> bool
+        ensures { result ≡ self.now.dead }
+    {
+        self.dead
+    }
+}

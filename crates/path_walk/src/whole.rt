@@ -1,0 +1,32 @@
+//! The ways of all threads of a log.
+ghost use Rattle.std.specs.Prelude.{◌≡◌, ◌≤◌, length, IfOk, OnOk, IfErr};
+ghost use Rattle.path_walk.specs.Fits.{Fits, IsFault};
+ghost use Rattle.path_walk.specs.Paths.{paths_of};
+
+use crate::draft::Draft;
+use crate::{Paths, WalkFault};
+use path_log::Log;
+use std::alloc::Global;
+use tc_base::ThreadName;
+use tc_code::Code;
+
+/// The ways of all threads of a log, of at most 16 threads, in the code; or the fault of the least name, where the log
+/// doesn't fit.
+pub fn walk(alloc: Global, code: &Code, log: &Log) -> Result<Paths, WalkFault>
+    requires { length log.now.log.threads ≤ 16 }
+    // The ways are told where the log fits.
+    ensures fits { OnOk result (Fits code.now log.now.log) }
+    // They are what code and log say.
+    ensures paths { IfOk result (λ paths. paths ≡ paths_of code.now log.now.log) }
+    // Else the fault is that of the least name that has one.
+    ensures err { IfErr result (IsFault code.now log.now.log) }
+{
+    if !log.threads()[0].name().children().is_empty() {
+        return Err(WalkFault::Missing(ThreadName::main(alloc)));
+    }
+    let mut draft = Draft::new(alloc);
+    for thread in log.threads() {
+        draft.follow(alloc, code, log, thread)?;
+    }
+    draft.finish(log.failing())
+}
