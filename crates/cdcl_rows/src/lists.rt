@@ -1,0 +1,107 @@
+//! Lists of clauses.
+use anyhow::{Result, bail};
+use cnf_core::{Cnf, LIMIT, Lit, is_clause, is_within};
+use std::alloc::Global;
+
+/// No clauses over so many variables.
+pub(crate) fn empty(alloc: Global, variables: u32) -> Result<Cnf> {
+    if variables >= LIMIT {
+        bail!("too many variables");
+    }
+    Ok(Cnf::new(alloc, variables))
+}
+
+/// One clause more.
+pub(crate) fn push(cnf: &mut Cnf, clause: &[Lit]) -> Result<()> {
+    if !is_clause(clause) || !is_within(cnf.vars(), clause) {
+        bail!("no clause");
+    }
+    if cnf.len() + 1 >= LIMIT as usize {
+        bail!("too many clauses");
+    }
+    cnf.push(clause)?;
+    Ok(())
+}
+
+/// The literal of a number other than 0.
+pub(crate) fn literal(number: i32) -> Result<Lit> {
+    let variable = number.unsigned_abs();
+    if variable == 0 || variable > 1 << 30 {
+        bail!("no literal");
+    }
+    Ok(Lit::new(variable, number < 0))
+}
+
+/// A list as it is written: each clause ends with 0.
+pub(crate) fn read(alloc: Global, variables: u32, text: &str) -> Result<Cnf> {
+    let mut cnf = empty(alloc, variables)?;
+    let mut clause = Vec::new(alloc);
+    for word in text.split_whitespace() {
+        let number = word.parse::<i32>()?;
+        if number == 0 {
+            push(&mut cnf, clause.as_slice())?;
+            clause = Vec::new(alloc);
+        } else {
+            clause.push(literal(number)?)?;
+        }
+    }
+    Ok(cnf)
+}
+
+/// Each of so many pigeons has a hole, of which there is one less, and no hole has two.
+pub(crate) fn pigeons(alloc: Global, count: u32) -> Result<Cnf> {
+    if count < 2 || count > 100 {
+        bail!("so many pigeons won't do");
+    }
+    let holes = count - 1;
+    let mut cnf = empty(alloc, count * holes)?;
+    for pigeon in 0..count {
+        let mut clause = Vec::new(alloc);
+        for hole in 0..holes {
+            clause.push(Lit::new(pigeon * holes + hole + 1, false))?;
+        }
+        push(&mut cnf, clause.as_slice())?;
+    }
+    for hole in 0..holes {
+        for second in 0..count {
+            for first in 0..second {
+                let pair = [
+                    Lit::new(first * holes + hole + 1, true),
+                    Lit::new(second * holes + hole + 1, true),
+                ];
+                push(&mut cnf, &pair)?;
+            }
+        }
+    }
+    Ok(cnf)
+}
+
+/// The next of a row of numbers that look like chance.
+pub(crate) fn next(seed: &mut u64) -> u32 {
+    *seed = seed
+        .wrapping_mul(6_364_136_223_846_793_005)
+        .wrapping_add(1_442_695_040_888_963_407);
+    (*seed >> 33) as u32
+}
+
+/// A list of clauses with up to three literals each.
+pub(crate) fn random(alloc: Global, seed: &mut u64, variables: u32, clauses: u32) -> Result<Cnf> {
+    if variables < 3 || variables > 12 {
+        bail!("so many variables won't do");
+    }
+    let mut cnf = empty(alloc, variables)?;
+    for _ in 0..clauses {
+        let mut clause = Vec::new(alloc);
+        let third = 2 + next(seed) % (variables - 2);
+        let second = 1 + next(seed) % (third - 1);
+        let first = next(seed) % second;
+        for variable in [first, second, third] {
+            let chance = next(seed) % 16;
+            if chance < 15 {
+                clause.push(Lit::new(variable + 1, chance % 2 == 1))?;
+            }
+        }
+        push(&mut cnf, clause.as_slice())?;
+    }
+    Ok(cnf)
+}

@@ -1,0 +1,76 @@
+-- An execution at the beginning of a thread, and in a run.
+use Rattle.std.proofs.Common.{◌≡◌, ◌∙◌, ℕ, zero, suc, ◌-◌, ℤ, pos, List, ◌∷◌, ◌++◌, map, length, replicate, Bool, Option, Some, refl, ap, ap₂, sym}
+use Rattle.std.specs.FinMap as fin
+use Rattle.std.proofs.lemmas.List.{map-append, length-map}
+use Rattle.tc_base.specs.Names.{Name}
+use Rattle.tc_base.specs.Buffers.{BufferOps}
+use Rattle.tc_base.specs.States.{Local, Thread, State}
+use Rattle.tc_base.specs.declared.moves.Move.{Move}
+use Rattle.tc_code.specs.Code.{Code}
+use Rattle.tc_code.specs.Lawful.{IsLawful}
+use Rattle.tc_code.specs.Run.{run}
+use Rattle.tc_code.specs.Step.{ints_of}
+use Rattle.tc_runs.specs.Alone.{Beginning, after_steps}
+use Rattle.tc_runs.proofs.Begun.{threads_live_alone}
+use Rattle.sym_terms.specs.Terms.{AreTerms}
+use Rattle.sym_terms.specs.Values.{value_of}
+use Rattle.sym_terms.specs.declared.node.Node.{Node}
+use Rattle.sym_terms.specs.declared.node.Node.TheVariants.{Constant}
+use Rattle.sym_exec.specs.Making.{Grows, made}
+use Rattle.sym_exec.specs.Thread.{AreOf, started}
+use Rattle.sym_exec.specs.Alone.{slots_by, HasShortArrays, StandsFor}
+use Rattle.sym_exec.specs.Runs.{begun, begun_with, Suits, ThreadTells}
+use Rattle.sym_exec.proofs.Grown.{grows_made}
+use Rattle.sym_exec.proofs.Sound.{start_sound, start_has}
+use Rattle.sym_exec.proofs.Values.{constant_value, values_stay}
+use Rattle.sym_exec.proofs.Tells.{tells}
+
+map_replicate : {A B : Type 0} (f : A → B) (n : ℕ) (x : A) → map f (replicate n x) ≡ replicate n (f x)
+map_replicate f zero x = refl
+map_replicate f (suc n) x = ap (λ ys. f x ∷ ys) (map_replicate f n x)
+
+-- the slots of a thread at the start have the values of their terms
+start_slots : (ints : ℕ) (terms : List ℕ) (first : ℕ) (nodes : List Node) (loads : List ℤ) (arguments : List ℤ) → AreTerms nodes → AreOf nodes terms
+    → map (value_of nodes loads) terms ≡ arguments
+    → arguments ++ replicate (ints - length arguments) (pos 0) ≡ slots_by loads (started ints terms first nodes)
+start_slots ints terms first nodes loads arguments are of is =
+    let none : Node = Constant (pos 0) in
+    let zero = made nodes none in
+    let up : Grows nodes zero.nodes = grows_made nodes none in
+    let h = constant_value nodes (pos 0) loads are in
+    let f = value_of zero.nodes loads in
+    let count : length arguments ≡ length terms = ap length (sym is) ∙ length-map terms (value_of nodes loads) in
+    ap₂ (λ xs k. xs ++ replicate (ints - k) (pos 0)) (sym is ∙ sym (values_stay nodes zero.nodes loads terms up of)) count
+    ∙ ap (λ v. map f terms ++ replicate (ints - length terms) v) (sym h.value)
+    ∙ ap (λ xs. map f terms ++ xs) (sym (map_replicate f (ints - length terms) zero.term))
+    ∙ sym (map-append f terms (replicate (ints - length terms) zero.term))
+
+module _ {B : Type 0} (ops : BufferOps B) (code : Code) where
+  begun_stands : (n : Name) (moves : List Move) (b : Beginning ops code n moves) (outcomes : List Bool) (fails : Option ℕ) (loads : List ℤ)
+      (arguments : List ℕ) (first : ℕ) (nodes : List Node) (places : List ℕ) → Suits ops code n moves b outcomes fails loads arguments first nodes places
+      → StandsFor code b.function outcomes fails loads places (begun_with ops code n moves b arguments first nodes) (begun ops code n moves b)
+  begun_stands n moves b outcomes fails loads arguments first nodes places s = record {
+    terms = (constant_value nodes (pos 0) loads s.terms).terms;
+    sound = start_sound (ints_of code b.function) arguments first nodes s.of;
+    ints = start_has (ints_of code b.function) arguments first nodes;
+    slots = start_slots (ints_of code b.function) arguments first nodes loads b.arguments s.terms s.of s.values;
+    along = s.along;
+    takes = s.takes;
+  }
+
+  pub thread_tells : (moves : List Move) (s : State B) (n : Name) (t : Thread B) → IsLawful code → HasShortArrays code
+      → run ops code moves ≡ Some s → fin.get s.threads n ≡ Some t → ThreadTells ops code moves n t
+  thread_tells moves s n t lawful short leads there =
+      let alone = threads_live_alone ops code moves s n t leads there in
+      let b = alone.0 in (
+        b,
+        λ outcomes fails loads arguments first nodes places count suits.
+            let d = begun_with ops code n moves b arguments first nodes in
+            let told = tells code b.function outcomes fails loads places d (begun ops code n moves b) lawful short
+            (begun_stands n moves b outcomes fails loads arguments first nodes places suits) in
+            record {
+              slots = ap (λ (u : Local). u.slots) alone.1
+                  ∙ ap (λ k. (after_steps code k (begun ops code n moves b)).local.slots) (sym count) ∙ told.slots;
+              steps = told;
+            },
+      )

@@ -1,0 +1,7 @@
+pub mod Grown
+pub mod Sound
+pub mod Steps
+pub mod Courses
+pub mod Values
+pub mod Tells
+pub mod Begun

@@ -1,0 +1,708 @@
+-- An execution tells what a thread does that goes along the path by itself.
+use Rattle.std.proofs.Common.{◌≡◌, ◌∙◌, ℕ, zero, suc, ◌<◌, ◌≤◌, ◌+◌, ◌-◌, ◌^◌, ℤ, pos, negsuc, List, [], ◌∷◌, ◌++◌, map, length, get_or, set, drop, fold}
+use Rattle.std.proofs.Common.{Bool, true, false, cond, ◌&&◌, Option, Some, None, refl, ap, ap₂, sym, subst, arith, append_assoc}
+use Rattle.std.specs.Prelude.{option_and_then, unwrap_or, int_le, int_lt, nat_lt, ◌-ℤ◌}
+use Rattle.std.specs.Bool.{IsTrue}
+use Rattle.std.specs.List.{list_all, cons_option}
+use Rattle.std.specs.Option.{option_map_or}
+use Rattle.std.proofs.Math.Dec.{leb-suc-suc}
+use Rattle.std.proofs.Math.IntN.{pred_ℤ, -ℤ_one}
+use Rattle.std.proofs.lemmas.Bool.{le-ltb, le-leb}
+use Rattle.std.proofs.lemmas.List.Elements.{All-push, All-nil}
+use Rattle.std.proofs.lemmas.List.{map-set, map-append, append-nil}
+use Rattle.tc_base.specs.Arith.{is_distance, truth, bits_xor, bits_and, negated, equal}
+use Rattle.tc_base.specs.States.{Local}
+use Rattle.tc_base.specs.declared.arith.UnOp.TheVariants.{Neg}
+use Rattle.tc_base.specs.declared.arith.BinOp.TheVariants.{Xor, Eq, And}
+use Rattle.tc_code.specs.Code.{Code, instr_at, line_at}
+use Rattle.tc_code.specs.Expr.{Expr, names_slots, value_of as expr_value_of}
+use Rattle.tc_code.specs.Instr.{Instr, Set, Load, Load_at, Store, Store_at, Inside, Branch, Holds, Ready, Create, Assert, Nonzero, In_range, Swap, Cas}
+use Rattle.tc_code.specs.Lawful.{IsLawful}
+use Rattle.tc_code.specs.Step.{ints_of, instr_of, value_in, is_within, is_nonzero, cell_at, site, request, local_after, holds, can_be_joined, handle_of}
+use Rattle.tc_runs.specs.Alone.{Alone, after_request, goes_on}
+use Rattle.tc_runs.proofs.After.{branch_is}
+use Rattle.sym_terms.specs.Terms.{AreTerms}
+use Rattle.sym_terms.specs.Values.{value_of}
+use Rattle.sym_terms.specs.declared.node.Node.{Node}
+use Rattle.sym_terms.specs.declared.node.Node.TheVariants.{Symbol, Unary, Binary}
+use Rattle.sym_exec.specs.Making.{Made, AllMade, Grows, made, expr_term, with_expr, expr_terms, range_test, last_index, replaced_term}
+use Rattle.sym_exec.specs.Thread.{Handed, Doing, AreOf, IsSound, term_in, making, symbol_in, after_instr, wanted_of, after_step, after_all}
+use Rattle.sym_exec.specs.Helpers.{names_within}
+use Rattle.sym_exec.specs.Alone.{slots_by, condition, outcomes_of, given_by, given_of, values_in, Asked, exchanged, asked_by, asked_of}
+use Rattle.sym_exec.specs.Alone.{asked_in, outcome_by, TakesFrom, HasShortArrays, StandsFor, Tells}
+use Rattle.sym_exec.specs.declared.symbolic.Test.{Test}
+use Rattle.sym_exec.specs.declared.symbolic.Access.{Access}
+use Rattle.sym_exec.specs.declared.symbolic.Cell.TheVariants.{Fixed, Element}
+use Rattle.sym_exec.proofs.Grown.{grows_none, grows_both, grows_made, made_within, stays_within, stay_of, expr_grows, both_pass}
+use Rattle.sym_exec.proofs.Sound.{instr_goes, instr_named, step_goes, all_go, replaced_grows, exprs_made}
+use Rattle.sym_exec.proofs.Values.{HasValue, value_stays, values_stay, made_terms, symbol_value, unary_value, binary_value, expr_value, range_value}
+use Rattle.sym_exec.proofs.Values.{truth_nonzero}
+
+-- whether an instruction takes a value from memory
+abbrev is_load : Instr → Bool
+is_load (Load k c) = true
+is_load (Load_at k first len i) = true
+is_load (Swap k c e) = true
+is_load (Cas k c e new) = true
+is_load _ = false
+
+loads_after : (line : ℕ) (wanted : Bool) (d : Doing) (i : Instr) → (after_instr line wanted d i).loads ≡ d.loads + cond (is_load i) 1 0
+loads_after line wanted d (Load k c) = refl
+loads_after line wanted d (Load_at k first len i) = refl
+loads_after line wanted d (Swap k c e) = refl
+loads_after line wanted d (Cas k c e new) = refl
+loads_after line wanted d _ = omega arith
+
+-- what a thread has after an instruction that its request may fail: the slots, and the values that are left
+record After (t : Local) (i : Instr) (vs : List ℤ) (a : Alone) : Type 0 where
+  slots : a.local.slots ≡ (local_after t i (get_or vs 0 (pos 0))).slots
+  values : a.values ≡ cond (is_load i) (drop 1 vs) vs
+
+after_site : (t : Local) (i : Instr) (vs : List ℤ) (b : Bool) → is_load i ≡ false → (local_after t i (pos 0)).slots ≡ t.slots
+    → (local_after t i (get_or vs 0 (pos 0))).slots ≡ t.slots → After t i vs (after_request t i vs (site b))
+after_site t i [] true h p q = record { slots = p ∙ sym q; values = rw h refl }
+after_site t i [] false h p q = record { slots = sym q; values = rw h refl }
+after_site t i (v ∷ vs) true h p q = record { slots = p ∙ sym q; values = rw h refl }
+after_site t i (v ∷ vs) false h p q = record { slots = sym q; values = rw h refl }
+
+branch_slots : (t : Local) (e : Expr) (to : ℕ) (v w : ℤ) → (local_after t (Branch e to) v).slots ≡ (local_after t (Branch e to) w).slots
+branch_slots t e to v w = refl
+
+after_is : (t : Local) (i : Instr) (vs : List ℤ) → After t i vs (after_request t i vs (request t i))
+after_is t (Inside len i) vs = after_site t (Inside len i) vs (is_within len (value_in t i)) refl refl refl
+after_is t (Holds m) vs = after_site t (Holds m) vs (holds t m) refl refl refl
+after_is t (Ready h) vs = after_site t (Ready h) vs (can_be_joined (handle_of t h)) refl refl refl
+after_is t (Assert e) vs = after_site t (Assert e) vs (is_nonzero (value_in t e)) refl refl refl
+after_is t (Nonzero e) vs = after_site t (Nonzero e) vs (is_nonzero (value_in t e)) refl refl refl
+after_is t (In_range e) vs = after_site t (In_range e) vs (is_distance (value_in t e)) refl refl refl
+after_is t _ [] = record { slots = refl; values = refl }
+after_is t _ (v ∷ vs) = record { slots = refl; values = refl }
+
+-- the terms of what a compare-and-exchange writes
+replaced_terms : (nodes : List Node) (v e f : ℕ) → AreTerms nodes → v < length nodes → e < length nodes → f < length nodes
+    → AreTerms (replaced_term nodes v e f).nodes
+replaced_terms nodes v e f are wv we wf =
+    let first : Node = Binary Xor v f in
+    let change = made nodes first in
+    let ac = made_terms nodes first are (wv, wf) in
+    let gc = grows_made nodes first in
+    let second : Node = Binary Eq v e in
+    let same = made change.nodes second in
+    let asame = made_terms change.nodes second ac (stays_within nodes change.nodes v gc wv, stays_within nodes change.nodes e gc we) in
+    let gs = grows_made change.nodes second in
+    let third : Node = Unary Neg same.term in
+    let mask = made same.nodes third in
+    let am = made_terms same.nodes third asame (made_within change.nodes second) in
+    let gm = grows_made same.nodes third in
+    let fourth : Node = Binary And change.term mask.term in
+    let masked = made mask.nodes fourth in
+    let gcm = grows_both change.nodes same.nodes mask.nodes gs gm in
+    let ak = made_terms mask.nodes fourth am (stays_within change.nodes mask.nodes change.term gcm (made_within nodes first), made_within same.nodes third) in
+    let gk = grows_made mask.nodes fourth in
+    let all = grows_both nodes change.nodes masked.nodes gc (grows_both change.nodes mask.nodes masked.nodes gcm gk) in
+    made_terms masked.nodes (Binary Xor v masked.term) ak (stays_within nodes masked.nodes v all wv, made_within mask.nodes fourth)
+
+exprs_terms : (slots : List ℕ) (loads : List ℤ) (nodes : List Node) (es : List Expr) (xs : AllMade) → AreOf nodes slots → Grows nodes xs.nodes
+    → AreTerms xs.nodes → IsTrue (list_all (names_slots (length slots)) es) → AreTerms (fold (with_expr slots) xs es).nodes
+exprs_terms slots loads nodes [] xs of g are named = are
+exprs_terms slots loads nodes (e ∷ es) xs of g are named =
+    let named = both_pass (names_slots (length slots) e) (list_all (names_slots (length slots)) es) named in
+    let next = with_expr slots xs e in
+    let v = expr_value xs.nodes slots e loads are (stay_of nodes xs.nodes slots g of) named.0 in
+    exprs_terms slots loads nodes es next of (grows_both nodes xs.nodes next.nodes g (expr_grows xs.nodes slots e)) v.terms named.1
+
+one_less : (n : ℕ) → pos (suc n) -ℤ pos 1 ≡ pred_ℤ (pos (suc n))
+one_less n = -ℤ_one (pos (suc n))
+
+-- an index is before a length exactly where it is not after the last
+last_is_before : (v : ℤ) (n : ℕ) → int_le v (pos n -ℤ pos 1) ≡ int_lt v (pos n)
+last_is_before (pos k) zero = sym (le-ltb k 0 (omega arith))
+last_is_before (pos k) (suc n) = ap (int_le (pos k)) (one_less n) ∙ sym (leb-suc-suc k n)
+last_is_before (negsuc k) zero = le-leb 0 k (omega arith)
+last_is_before (negsuc k) (suc n) = ap (int_le (negsuc k)) (one_less n)
+
+within_is : (len : ℕ) (v : ℤ) → len ≤ 2 ^ 31 → (int_le (pos 0) v && int_le v (last_index len)) ≡ is_within len v
+within_is len v short =
+    ap (λ b. int_le (pos 0) v && int_le v (cond b (pos (2 ^ 31 - 1)) (pos len -ℤ pos 1))) (le-ltb (2 ^ 31) len short)
+    ∙ ap (λ b. int_le (pos 0) v && b) (last_is_before v len)
+
+-- what one instruction tells
+record Told (loads : List ℤ) (d e : Doing) (t : Local) (i : Instr) (v : ℤ) : Type 0 where
+  terms : AreTerms e.nodes
+  slots : (local_after t i v).slots ≡ slots_by loads e
+  test : List Test
+  tests : e.tests ≡ d.tests ++ test
+  comes : (later : List Node) → Grows e.nodes later → map (outcome_by later loads) test ≡ cons_option (condition t i) []
+
+-- a slot takes the value of a term
+set_told : (loads : List ℤ) (d : Doing) (nodes : List Node) (term k : ℕ) (s : List ℤ) (v : ℤ) → Grows d.nodes nodes → AreOf d.nodes d.slots
+    → value_of nodes loads term ≡ v → s ≡ slots_by loads d → set s k v ≡ map (value_of nodes loads) (set d.slots k term)
+set_told loads d nodes term k s v g of value is =
+    ap₂ (λ xs x. set xs k x) (is ∙ sym (values_stay d.nodes nodes loads d.slots g of)) (sym value)
+    ∙ sym (map-set (value_of nodes loads) d.slots k term)
+
+kept_told : (loads : List ℤ) (d : Doing) (nodes : List Node) (s : List ℤ) → Grows d.nodes nodes → AreOf d.nodes d.slots → s ≡ slots_by loads d
+    → s ≡ map (value_of nodes loads) d.slots
+kept_told loads d nodes s g of is = is ∙ sym (values_stay d.nodes nodes loads d.slots g of)
+
+-- a test comes out as its term tells
+test_comes : (loads : List ℤ) (x : Made) (v : ℤ) (b : Bool) (step line : ℕ) (wanted : Bool) → HasValue loads x v → is_nonzero v ≡ b
+    → (later : List Node) → Grows x.nodes later
+    → map (outcome_by later loads) (record { step = step; line = line; term = x.term; wanted = wanted } ∷ []) ≡ b ∷ []
+test_comes loads x v b step line wanted h is later g =
+    ap (λ w. is_nonzero w ∷ []) (value_stays x.nodes later loads x.term g h.within ∙ h.value) ∙ ap (λ c. c ∷ []) is
+
+-- of a test, the length of an index is no more than an int
+abbrev IsShort : Instr → Type 0
+IsShort (Inside len i) = len ≤ 2 ^ 31
+IsShort _ = Unit {0}
+
+told : (loads : List ℤ) (line : ℕ) (wanted : Bool) (d : Doing) (i : Instr) (t : Local) (v : ℤ) → AreTerms d.nodes → IsSound d
+    → IsTrue (names_within (length d.slots) i) → IsShort i → t.slots ≡ slots_by loads d → (is_load i ≡ true → get_or loads d.loads (pos 0) ≡ v)
+    → Told loads d (after_instr line wanted d i) t i v
+told loads line wanted d (Set k e) t v are s named short is load =
+    let named = both_pass (nat_lt k (length d.slots)) (names_slots (length d.slots) e) named in
+    let x = term_in d e in
+    let h = expr_value d.nodes d.slots e loads are s.slots named.1 in
+    record {
+      terms = h.terms;
+      slots = ap (λ xs. set t.slots k (expr_value_of e xs)) is
+          ∙ set_told loads d x.nodes x.term k t.slots (expr_value_of e (slots_by loads d)) (expr_grows d.nodes d.slots e) s.slots h.value is;
+      test = [];
+      tests = sym (append-nil d.tests);
+      comes = λ later g. refl;
+    }
+told loads line wanted d (Load k c) t v are s named short is load =
+    let x = symbol_in d in
+    let h = symbol_value d.nodes d.loads loads are in
+    record {
+      terms = h.terms;
+      slots = set_told loads d x.nodes x.term k t.slots v (grows_made d.nodes (Symbol d.loads)) s.slots (h.value ∙ load refl) is;
+      test = [];
+      tests = sym (append-nil d.tests);
+      comes = λ later g. refl;
+    }
+told loads line wanted d (Load_at k first len i) t v are s named short is load =
+    let named = both_pass (nat_lt k (length d.slots)) (names_slots (length d.slots) i) named in
+    let x = term_in d i in
+    let hx = expr_value d.nodes d.slots i loads are s.slots named.1 in
+    let y = made x.nodes (Symbol d.loads) in
+    let h = symbol_value x.nodes d.loads loads hx.terms in
+    let g : Grows d.nodes y.nodes = grows_both d.nodes x.nodes y.nodes (expr_grows d.nodes d.slots i) (grows_made x.nodes (Symbol d.loads)) in
+    record {
+      terms = h.terms;
+      slots = set_told loads d y.nodes y.term k t.slots v g s.slots (h.value ∙ load refl) is;
+      test = [];
+      tests = sym (append-nil d.tests);
+      comes = λ later g. refl;
+    }
+told loads line wanted d (Swap k c e) t v are s named short is load =
+    let named = both_pass (nat_lt k (length d.slots)) (names_slots (length d.slots) e) named in
+    let x = term_in d e in
+    let hx = expr_value d.nodes d.slots e loads are s.slots named.1 in
+    let y = made x.nodes (Symbol d.loads) in
+    let h = symbol_value x.nodes d.loads loads hx.terms in
+    let g : Grows d.nodes y.nodes = grows_both d.nodes x.nodes y.nodes (expr_grows d.nodes d.slots e) (grows_made x.nodes (Symbol d.loads)) in
+    record {
+      terms = h.terms;
+      slots = set_told loads d y.nodes y.term k t.slots v g s.slots (h.value ∙ load refl) is;
+      test = [];
+      tests = sym (append-nil d.tests);
+      comes = λ later g. refl;
+    }
+told loads line wanted d (Cas k c e new) t v are s named short is load =
+    let named = both_pass (nat_lt k (length d.slots) && names_slots (length d.slots) e) (names_slots (length d.slots) new) named in
+    let first = both_pass (nat_lt k (length d.slots)) (names_slots (length d.slots) e) named.0 in
+    let x = term_in d e in
+    let hx = expr_value d.nodes d.slots e loads are s.slots first.1 in
+    let gx : Grows d.nodes x.nodes = expr_grows d.nodes d.slots e in
+    let y = term_in (making d x) new in
+    let hy = expr_value x.nodes d.slots new loads hx.terms (stay_of d.nodes x.nodes d.slots gx s.slots) named.1 in
+    let gy : Grows x.nodes y.nodes = expr_grows x.nodes d.slots new in
+    let z = made y.nodes (Symbol d.loads) in
+    let hz = symbol_value y.nodes d.loads loads hy.terms in
+    let gz : Grows y.nodes z.nodes = grows_made y.nodes (Symbol d.loads) in
+    let w = replaced_term z.nodes z.term x.term y.term in
+    let gw : Grows z.nodes w.nodes = replaced_grows z.nodes z.term x.term y.term in
+    let gyz : Grows x.nodes z.nodes = grows_both x.nodes y.nodes z.nodes gy gz in
+    record {
+      terms = replaced_terms z.nodes z.term x.term y.term hz.terms hz.within (stays_within x.nodes z.nodes x.term gyz hx.within)
+          (stays_within y.nodes z.nodes y.term gz hy.within);
+      slots = set_told loads d w.nodes z.term k t.slots v (grows_both d.nodes x.nodes w.nodes gx (grows_both x.nodes z.nodes w.nodes gyz gw)) s.slots
+          (value_stays z.nodes w.nodes loads z.term gw hz.within ∙ hz.value ∙ load refl) is;
+      test = [];
+      tests = sym (append-nil d.tests);
+      comes = λ later g. refl;
+    }
+told loads line wanted d (Store c e) t v are s named short is load =
+    let x = term_in d e in
+    record {
+      terms = (expr_value d.nodes d.slots e loads are s.slots named).terms;
+      slots = kept_told loads d x.nodes t.slots (expr_grows d.nodes d.slots e) s.slots is;
+      test = [];
+      tests = sym (append-nil d.tests);
+      comes = λ later g. refl;
+    }
+told loads line wanted d (Store_at first len i e) t v are s named short is load =
+    let named = both_pass (names_slots (length d.slots) i) (names_slots (length d.slots) e) named in
+    let x = term_in d i in
+    let hx = expr_value d.nodes d.slots i loads are s.slots named.0 in
+    let gx : Grows d.nodes x.nodes = expr_grows d.nodes d.slots i in
+    let y = term_in (making d x) e in
+    record {
+      terms = (expr_value x.nodes d.slots e loads hx.terms (stay_of d.nodes x.nodes d.slots gx s.slots) named.1).terms;
+      slots = kept_told loads d y.nodes t.slots (grows_both d.nodes x.nodes y.nodes gx (expr_grows x.nodes d.slots e)) s.slots is;
+      test = [];
+      tests = sym (append-nil d.tests);
+      comes = λ later g. refl;
+    }
+told loads line wanted d (Inside len i) t v are s named short is load =
+    let x = term_in d i in
+    let n = expr_value_of i (slots_by loads d) in
+    let last = last_index len in
+    let h = range_value x n last loads (expr_value d.nodes d.slots i loads are s.slots named) in
+    let e = after_instr line wanted d (Inside len i) in
+    record {
+      terms = h.terms;
+      slots = kept_told loads d e.nodes t.slots (instr_goes line wanted d (Inside len i) s named).grows s.slots is;
+      test = record { step = d.steps; line = line; term = (range_test x last).term; wanted = wanted } ∷ [];
+      tests = refl;
+      comes = test_comes loads (range_test x last) (truth (int_le (pos 0) n && int_le n last)) (is_within len (value_in t i)) d.steps line wanted h
+          (truth_nonzero (int_le (pos 0) n && int_le n last) ∙ within_is len n short ∙ ap (λ xs. is_within len (expr_value_of i xs)) (sym is));
+    }
+told loads line wanted d (In_range i) t v are s named short is load =
+    let x = term_in d i in
+    let n = expr_value_of i (slots_by loads d) in
+    let h = range_value x n (pos 31) loads (expr_value d.nodes d.slots i loads are s.slots named) in
+    let e = after_instr line wanted d (In_range i) in
+    record {
+      terms = h.terms;
+      slots = kept_told loads d e.nodes t.slots (instr_goes line wanted d (In_range i) s named).grows s.slots is;
+      test = record { step = d.steps; line = line; term = (range_test x (pos 31)).term; wanted = wanted } ∷ [];
+      tests = refl;
+      comes = test_comes loads (range_test x (pos 31)) (truth (is_distance n)) (is_distance (value_in t i)) d.steps line wanted h
+          (truth_nonzero (is_distance n) ∙ ap (λ xs. is_distance (expr_value_of i xs)) (sym is));
+    }
+told loads line wanted d (Branch e to) t v are s named short is load =
+    let x = term_in d e in
+    let h = expr_value d.nodes d.slots e loads are s.slots named in
+    record {
+      terms = h.terms;
+      slots = ap (λ (u : Local). u.slots) (branch_is t (is_nonzero (value_in t e)) to)
+          ∙ kept_told loads d x.nodes t.slots (expr_grows d.nodes d.slots e) s.slots is;
+      test = record { step = d.steps; line = line; term = x.term; wanted = wanted } ∷ [];
+      tests = refl;
+      comes = test_comes loads x (expr_value_of e (slots_by loads d)) (is_nonzero (value_in t e)) d.steps line wanted h
+          (ap (λ xs. is_nonzero (expr_value_of e xs)) (sym is));
+    }
+told loads line wanted d (Assert e) t v are s named short is load =
+    let x = term_in d e in
+    let h = expr_value d.nodes d.slots e loads are s.slots named in
+    record {
+      terms = h.terms;
+      slots = kept_told loads d x.nodes t.slots (expr_grows d.nodes d.slots e) s.slots is;
+      test = record { step = d.steps; line = line; term = x.term; wanted = wanted } ∷ [];
+      tests = refl;
+      comes = test_comes loads x (expr_value_of e (slots_by loads d)) (is_nonzero (value_in t e)) d.steps line wanted h
+          (ap (λ xs. is_nonzero (expr_value_of e xs)) (sym is));
+    }
+told loads line wanted d (Nonzero e) t v are s named short is load =
+    let x = term_in d e in
+    let h = expr_value d.nodes d.slots e loads are s.slots named in
+    record {
+      terms = h.terms;
+      slots = kept_told loads d x.nodes t.slots (expr_grows d.nodes d.slots e) s.slots is;
+      test = record { step = d.steps; line = line; term = x.term; wanted = wanted } ∷ [];
+      tests = refl;
+      comes = test_comes loads x (expr_value_of e (slots_by loads d)) (is_nonzero (value_in t e)) d.steps line wanted h
+          (ap (λ xs. is_nonzero (expr_value_of e xs)) (sym is));
+    }
+told loads line wanted d (Create h f es) t v are s named short is load =
+    let e = after_instr line wanted d (Create h f es) in
+    record {
+      terms = exprs_terms d.slots loads d.nodes es (record { terms = []; nodes = d.nodes }) s.slots (grows_none d.nodes) are named;
+      slots = kept_told loads d e.nodes t.slots (instr_goes line wanted d (Create h f es) s named).grows s.slots is;
+      test = [];
+      tests = sym (append-nil d.tests);
+      comes = λ later g. refl;
+    }
+told loads line wanted d _ t v are s named short is load =
+    record { terms = are; slots = is; test = []; tests = sym (append-nil d.tests); comes = λ later g. refl }
+
+-- the values of the terms of expressions
+exprs_values : (slots : List ℕ) (loads : List ℤ) (nodes : List Node) (es : List Expr) (xs : AllMade) (vs : List ℤ) → AreOf nodes slots → Grows nodes xs.nodes
+    → AreTerms xs.nodes → AreOf xs.nodes xs.terms → IsTrue (list_all (names_slots (length slots)) es) → map (value_of xs.nodes loads) xs.terms ≡ vs
+    → map (value_of (fold (with_expr slots) xs es).nodes loads) (fold (with_expr slots) xs es).terms
+    ≡ vs ++ map (λ e. expr_value_of e (map (value_of nodes loads) slots)) es
+exprs_values slots loads nodes [] xs vs of g are within named is = is ∙ sym (append-nil vs)
+exprs_values slots loads nodes (e ∷ es) xs vs of g are within named is =
+    let named = both_pass (names_slots (length slots) e) (list_all (names_slots (length slots)) es) named in
+    let next = with_expr slots xs e in
+    let x = expr_term xs.nodes slots e in
+    let up : Grows xs.nodes x.nodes = expr_grows xs.nodes slots e in
+    let h = expr_value xs.nodes slots e loads are (stay_of nodes xs.nodes slots g of) named.0 in
+    let v = expr_value_of e (map (value_of nodes loads) slots) in
+    let one : value_of x.nodes loads x.term ≡ v = h.value ∙ ap (expr_value_of e) (values_stay nodes xs.nodes loads slots g of) in
+    let all : map (value_of x.nodes loads) (xs.terms ++ x.term ∷ []) ≡ vs ++ v ∷ [] =
+    map-append (value_of x.nodes loads) xs.terms (x.term ∷ [])
+    ∙ ap₂ (λ ys y. ys ++ y ∷ []) (values_stay xs.nodes x.nodes loads xs.terms up within ∙ is) one in
+    exprs_values slots loads nodes es next (vs ++ v ∷ []) of (grows_both nodes xs.nodes next.nodes g up) h.terms
+    (All-push (λ n. n < length x.nodes) xs.terms x.term (stay_of xs.nodes x.nodes xs.terms up within) h.within) named.1 all
+    ∙ append_assoc vs (v ∷ []) (map (λ e. expr_value_of e (map (value_of nodes loads) slots)) es)
+
+-- what an instruction hands over
+record Gives (loads : List ℤ) (d e : Doing) (t : Local) (i : Instr) : Type 0 where
+  hands : List Handed
+  creates : e.creates ≡ d.creates ++ hands
+  given : (later : List Node) → Grows e.nodes later → map (values_in later loads) hands ≡ given_by t i
+
+gives : (loads : List ℤ) (line : ℕ) (wanted : Bool) (d : Doing) (i : Instr) (t : Local) → AreTerms d.nodes → IsSound d
+    → IsTrue (names_within (length d.slots) i) → t.slots ≡ slots_by loads d → Gives loads d (after_instr line wanted d i) t i
+gives loads line wanted d (Create h f es) t are s named is =
+    let none : AllMade = record { terms = []; nodes = d.nodes } in
+    let xs = expr_terms d.nodes d.slots es in
+    let m = exprs_made d.nodes d.slots es s.slots named in
+    let v = exprs_values d.slots loads d.nodes es none [] s.slots (grows_none d.nodes) are (All-nil (λ n. n < length d.nodes)) named refl in
+    record {
+      hands = record { step = d.steps; terms = xs.terms } ∷ [];
+      creates = refl;
+      given = λ later g. ap (λ vs. vs ∷ []) (values_stay xs.nodes later loads xs.terms g m.within ∙ v
+          ∙ ap (λ slots. map (λ e. expr_value_of e slots) es) (sym is));
+    }
+gives loads line wanted d _ t are s named is = record { hands = []; creates = sym (append-nil d.creates); given = λ later g. refl }
+
+-- what a compare-and-exchange writes has its value by bits
+replaced_value : (nodes : List Node) (v e f : ℕ) (loads : List ℤ) (a b c : ℤ) → AreTerms nodes → v < length nodes → e < length nodes → f < length nodes
+    → value_of nodes loads v ≡ a → value_of nodes loads e ≡ b → value_of nodes loads f ≡ c → HasValue loads (replaced_term nodes v e f) (exchanged a b c)
+replaced_value nodes v e f loads a b c are wv we wf va vb vc =
+    let first : Node = Binary Xor v f in
+    let change = made nodes first in
+    let hc = binary_value Xor nodes v f a c loads are wv wf va vc in
+    let gc : Grows nodes change.nodes = grows_made nodes first in
+    let second : Node = Binary Eq v e in
+    let same = made change.nodes second in
+    let hs = binary_value Eq change.nodes v e a b loads hc.terms (stays_within nodes change.nodes v gc wv) (stays_within nodes change.nodes e gc we)
+    (value_stays nodes change.nodes loads v gc wv ∙ va) (value_stays nodes change.nodes loads e gc we ∙ vb) in
+    let gs : Grows change.nodes same.nodes = grows_made change.nodes second in
+    let third : Node = Unary Neg same.term in
+    let mask = made same.nodes third in
+    let hm = unary_value Neg same (equal a b) loads hs in
+    let gcm : Grows change.nodes mask.nodes = grows_both change.nodes same.nodes mask.nodes gs (grows_made same.nodes third) in
+    let fourth : Node = Binary And change.term mask.term in
+    let masked = made mask.nodes fourth in
+    let hk = binary_value And mask.nodes change.term mask.term (bits_xor a c) (negated (equal a b)) loads hm.terms
+    (stays_within change.nodes mask.nodes change.term gcm hc.within) hm.within (value_stays change.nodes mask.nodes loads change.term gcm hc.within ∙ hc.value)
+    hm.value in
+    let all : Grows nodes masked.nodes = grows_both nodes change.nodes masked.nodes gc
+    (grows_both change.nodes mask.nodes masked.nodes gcm (grows_made mask.nodes fourth)) in
+    binary_value Xor masked.nodes v masked.term a (bits_and (bits_xor a c) (negated (equal a b))) loads hk.terms
+    (stays_within nodes masked.nodes v all wv) hk.within
+    (value_stays nodes masked.nodes loads v all wv ∙ va) hk.value
+
+-- what an instruction asks of a cell
+record Asks (loads : List ℤ) (d e : Doing) (t : Local) (i : Instr) (v : ℤ) : Type 0 where
+  found : List Access
+  accesses : e.accesses ≡ d.accesses ++ found
+  asked : (later : List Node) → Grows e.nodes later → map (asked_in later loads) found ≡ asked_by v (request t i)
+
+asked_is : (c d : ℕ) (k l v w : Option ℤ) → c ≡ d → k ≡ l → v ≡ w
+    → ◌≡◌ {A = List Asked} (record { cell = c; takes = k; writes = v } ∷ []) (record { cell = d; takes = l; writes = w } ∷ [])
+asked_is c d k l v w ec ek ev =
+    ap (λ x. record { cell = x; takes = k; writes = v } ∷ []) ec ∙ ap (λ x. record { cell = d; takes = x; writes = v } ∷ []) ek
+    ∙ ap (λ x. record { cell = d; takes = l; writes = x } ∷ []) ev
+
+site_asks : (loads : List ℤ) (d e : Doing) (t : Local) (i : Instr) (v : ℤ) (b : Bool) → request t i ≡ site b → e.accesses ≡ d.accesses → Asks loads d e t i v
+site_asks loads d e t i v true is same =
+    record { found = []; accesses = same ∙ sym (append-nil d.accesses); asked = λ later g. sym (ap (asked_by v) is) }
+site_asks loads d e t i v false is same =
+    record { found = []; accesses = same ∙ sym (append-nil d.accesses); asked = λ later g. sym (ap (asked_by v) is) }
+
+-- the value of an expression's term, in all later nodes
+in_later : (loads : List ℤ) (x : Made) (e : Expr) (t : Local) (d : Doing) (later : List Node) → HasValue loads x (expr_value_of e (slots_by loads d))
+    → t.slots ≡ slots_by loads d → Grows x.nodes later → value_of later loads x.term ≡ value_in t e
+in_later loads x e t d later h is g = value_stays x.nodes later loads x.term g h.within ∙ h.value ∙ ap (expr_value_of e) (sym is)
+
+asks : (loads : List ℤ) (line : ℕ) (wanted : Bool) (d : Doing) (i : Instr) (t : Local) (v : ℤ) → AreTerms d.nodes → IsSound d
+    → IsTrue (names_within (length d.slots) i) → t.slots ≡ slots_by loads d → (is_load i ≡ true → get_or loads d.loads (pos 0) ≡ v)
+    → Asks loads d (after_instr line wanted d i) t i v
+asks loads line wanted d (Load k c) t v are s named is load = record {
+  found = record { step = d.steps; cell = Fixed c; takes = Some d.loads; writes = None } ∷ [];
+  accesses = refl;
+  asked = λ later g. asked_is c c (Some (get_or loads d.loads (pos 0))) (Some v) None None refl (ap Some (load refl)) refl;
+}
+asks loads line wanted d (Load_at k first len i) t v are s named is load =
+    let named = both_pass (nat_lt k (length d.slots)) (names_slots (length d.slots) i) named in
+    let x = term_in d i in
+    let h = expr_value d.nodes d.slots i loads are s.slots named.1 in
+    let e = after_instr line wanted d (Load_at k first len i) in
+    let up : Grows x.nodes e.nodes = grows_made x.nodes (Symbol d.loads) in
+    record {
+      found = record { step = d.steps; cell = Element first len x.term; takes = Some d.loads; writes = None } ∷ [];
+      accesses = refl;
+      asked = λ later g. asked_is (cell_at first (value_of later loads x.term)) (cell_at first (value_in t i)) (Some (get_or loads d.loads (pos 0))) (Some v)
+          None None
+          (ap (cell_at first) (in_later loads x i t d later h is (grows_both x.nodes e.nodes later up g))) (ap Some (load refl)) refl;
+    }
+asks loads line wanted d (Store c e) t v are s named is load =
+    let x = term_in d e in
+    let h = expr_value d.nodes d.slots e loads are s.slots named in
+    record {
+      found = record { step = d.steps; cell = Fixed c; takes = None; writes = Some x.term } ∷ [];
+      accesses = refl;
+      asked = λ later g. asked_is c c None None (Some (value_of later loads x.term)) (Some (value_in t e)) refl refl
+          (ap Some (in_later loads x e t d later h is g));
+    }
+asks loads line wanted d (Store_at first len i e) t v are s named is load =
+    let named = both_pass (names_slots (length d.slots) i) (names_slots (length d.slots) e) named in
+    let x = term_in d i in
+    let hx = expr_value d.nodes d.slots i loads are s.slots named.0 in
+    let gx : Grows d.nodes x.nodes = expr_grows d.nodes d.slots i in
+    let y = term_in (making d x) e in
+    let gy : Grows x.nodes y.nodes = expr_grows x.nodes d.slots e in
+    let hy = expr_value x.nodes d.slots e loads hx.terms (stay_of d.nodes x.nodes d.slots gx s.slots) named.1 in
+    let value : (later : List Node) → Grows y.nodes later → value_of later loads y.term ≡ value_in t e = λ later g.
+    value_stays y.nodes later loads y.term g hy.within ∙ hy.value
+    ∙ ap (expr_value_of e) (values_stay d.nodes x.nodes loads d.slots gx s.slots ∙ sym is) in
+    record {
+      found = record { step = d.steps; cell = Element first len x.term; takes = None; writes = Some y.term } ∷ [];
+      accesses = refl;
+      asked = λ later g. asked_is (cell_at first (value_of later loads x.term)) (cell_at first (value_in t i)) None None (Some (value_of later loads y.term))
+          (Some (value_in t e)) (ap (cell_at first) (in_later loads x i t d later hx is (grows_both x.nodes y.nodes later gy g))) refl
+          (ap Some (value later g));
+    }
+asks loads line wanted d (Swap k c e) t v are s named is load =
+    let named = both_pass (nat_lt k (length d.slots)) (names_slots (length d.slots) e) named in
+    let x = term_in d e in
+    let h = expr_value d.nodes d.slots e loads are s.slots named.1 in
+    let f = after_instr line wanted d (Swap k c e) in
+    let up : Grows x.nodes f.nodes = grows_made x.nodes (Symbol d.loads) in
+    record {
+      found = record { step = d.steps; cell = Fixed c; takes = Some d.loads; writes = Some x.term } ∷ [];
+      accesses = refl;
+      asked = λ later g. asked_is c c (Some (get_or loads d.loads (pos 0))) (Some v) (Some (value_of later loads x.term)) (Some (value_in t e)) refl
+          (ap Some (load refl)) (ap Some (in_later loads x e t d later h is (grows_both x.nodes f.nodes later up g)));
+    }
+asks loads line wanted d (Cas k c e new) t v are s named is load =
+    let named = both_pass (nat_lt k (length d.slots) && names_slots (length d.slots) e) (names_slots (length d.slots) new) named in
+    let first = both_pass (nat_lt k (length d.slots)) (names_slots (length d.slots) e) named.0 in
+    let x = term_in d e in
+    let hx = expr_value d.nodes d.slots e loads are s.slots first.1 in
+    let gx : Grows d.nodes x.nodes = expr_grows d.nodes d.slots e in
+    let y = term_in (making d x) new in
+    let hy = expr_value x.nodes d.slots new loads hx.terms (stay_of d.nodes x.nodes d.slots gx s.slots) named.1 in
+    let gy : Grows x.nodes y.nodes = expr_grows x.nodes d.slots new in
+    let z = made y.nodes (Symbol d.loads) in
+    let hz = symbol_value y.nodes d.loads loads hy.terms in
+    let gz : Grows y.nodes z.nodes = grows_made y.nodes (Symbol d.loads) in
+    let gyz : Grows x.nodes z.nodes = grows_both x.nodes y.nodes z.nodes gy gz in
+    let w = replaced_term z.nodes z.term x.term y.term in
+    let hw = replaced_value z.nodes z.term x.term y.term loads v (value_in t e) (value_in t new) hz.terms hz.within
+    (stays_within x.nodes z.nodes x.term gyz hx.within)
+    (stays_within y.nodes z.nodes y.term gz hy.within) (hz.value ∙ load refl) (in_later loads x e t d z.nodes hx is gyz)
+    (value_stays y.nodes z.nodes loads y.term gz hy.within ∙ hy.value
+    ∙ ap (expr_value_of new) (values_stay d.nodes x.nodes loads d.slots gx s.slots ∙ sym is)) in
+    record {
+      found = record { step = d.steps; cell = Fixed c; takes = Some d.loads; writes = Some w.term } ∷ [];
+      accesses = refl;
+      asked = λ later g. asked_is c c (Some (get_or loads d.loads (pos 0))) (Some v) (Some (value_of later loads w.term))
+          (Some (exchanged v (value_in t e) (value_in t new))) refl (ap Some (load refl))
+          (ap Some (value_stays w.nodes later loads w.term g hw.within ∙ hw.value));
+    }
+asks loads line wanted d (Inside len i) t v are s named is load =
+    site_asks loads d (after_instr line wanted d (Inside len i)) t (Inside len i) v (is_within len (value_in t i)) refl refl
+asks loads line wanted d (Holds m) t v are s named is load = site_asks loads d d t (Holds m) v (holds t m) refl refl
+asks loads line wanted d (Ready h) t v are s named is load = site_asks loads d d t (Ready h) v (can_be_joined (handle_of t h)) refl refl
+asks loads line wanted d (Assert e) t v are s named is load =
+    site_asks loads d (after_instr line wanted d (Assert e)) t (Assert e) v (is_nonzero (value_in t e)) refl refl
+asks loads line wanted d (Nonzero e) t v are s named is load =
+    site_asks loads d (after_instr line wanted d (Nonzero e)) t (Nonzero e) v (is_nonzero (value_in t e)) refl refl
+asks loads line wanted d (In_range e) t v are s named is load =
+    site_asks loads d (after_instr line wanted d (In_range e)) t (In_range e) v (is_distance (value_in t e)) refl refl
+asks loads line wanted d _ t v are s named is load = record { found = []; accesses = sym (append-nil d.accesses); asked = λ later g. refl }
+
+-- the values that are left
+next_value : (vs : List ℤ) (k : ℕ) → get_or vs (suc k) (pos 0) ≡ get_or (drop 1 vs) k (pos 0)
+next_value [] k = refl
+next_value (v ∷ vs) k = refl
+
+takes_next : (b : Bool) (loads : List ℤ) (first next end : ℕ) (vs ws : List ℤ) → next ≡ first + cond b 1 0 → ws ≡ cond b (drop 1 vs) vs
+    → TakesFrom loads first end vs → TakesFrom loads next end ws
+takes_next true loads first next end vs ws en ew takes k within =
+    let e : next + k ≡ first + suc k = omega (arith, en) in
+    ap (λ n. get_or loads n (pos 0)) e ∙ takes (suc k) (omega (arith, within, en)) ∙ next_value vs k ∙ ap (λ xs. get_or xs k (pos 0)) (sym ew)
+takes_next false loads first next end vs ws en ew takes k within =
+    let e : next + k ≡ first + k = omega (arith, en) in
+    ap (λ n. get_or loads n (pos 0)) e ∙ takes k (omega (arith, within, en)) ∙ ap (λ xs. get_or xs k (pos 0)) (sym ew)
+
+cons_is : {A : Type 0} (o : Option A) (xs : List A) → cons_option o [] ++ xs ≡ cons_option o xs
+cons_is None xs = refl
+cons_is (Some x) xs = refl
+
+module _ (code : Code) (f : ℕ) (outcomes : List Bool) (fails : Option ℕ) where
+  -- a step, where an instruction is at the place, and where none is
+  abbrev stepped_by : Doing → ℕ → Option Instr → Doing
+  stepped_by d place o = option_map_or (λ i.
+      record (after_instr (unwrap_or (line_at code f place) 0) (wanted_of outcomes fails d i) d i) { steps = d.steps + 1 }) o d
+
+  loads_by : (d : Doing) (place : ℕ) (o : Option Instr) → d.loads ≤ (stepped_by d place o).loads
+  loads_by d place None = omega arith
+  loads_by d place (Some i) =
+      let e = loads_after (unwrap_or (line_at code f place) 0) (wanted_of outcomes fails d i) d i in
+      omega (arith, e)
+
+  loads_grow : (places : List ℕ) (d : Doing) → d.loads ≤ (after_all code f outcomes fails d places).loads
+  loads_grow [] d = omega arith
+  loads_grow (place ∷ places) d =
+      let e = after_step code f outcomes fails d place in
+      omega (arith, loads_by d place (instr_at code f place), loads_grow places e)
+
+short_is : (code : Code) (f place : ℕ) (i : Instr) → HasShortArrays code → instr_at code f place ≡ Some i → IsShort i
+short_is code f place (Inside len i) short at = short f place len i at
+short_is code f place _ short at = tt
+
+-- what a step adds, and what the later steps add
+more : {A B : Type 0} (fn : A → B) (old new all : List A) (here later : List B) → all ≡ old ++ new → map fn new ≡ here
+    → map fn all ++ later ≡ map fn old ++ (here ++ later)
+more fn old new all here later is gives =
+    ap (λ xs. map fn xs ++ later) is ∙ ap (λ xs. xs ++ later) (map-append fn old new ∙ ap (λ xs. map fn old ++ xs) gives)
+    ∙ append_assoc (map fn old) here later
+
+module _ (code : Code) (f : ℕ) (outcomes : List Bool) (fails : Option ℕ) (loads : List ℤ) (lawful : IsLawful code) (short : HasShortArrays code) where
+  abbrev after : Doing → List ℕ → Doing
+  after d places = after_all code f outcomes fails d places
+
+  abbrev next : Doing → ℕ → Doing
+  next d place = after_step code f outcomes fails d place
+
+  -- what a step tells
+  record StepTold (place : ℕ) (places : List ℕ) (d : Doing) (a : Alone) : Type 0 where
+    stands : StandsFor code f outcomes fails loads places (next d place) (goes_on code a)
+    test : List Test
+    tests : (next d place).tests ≡ d.tests ++ test
+    comes : (later : List Node) → Grows (next d place).nodes later
+        → map (outcome_by later loads) test ≡ cons_option (option_and_then (condition a.local) (instr_of code a.local)) []
+    hands : List Handed
+    creates : (next d place).creates ≡ d.creates ++ hands
+    given : (later : List Node) → Grows (next d place).nodes later
+        → map (values_in later loads) hands ≡ option_map_or (given_by a.local) (instr_of code a.local) []
+    found : List Access
+    accesses : (next d place).accesses ≡ d.accesses ++ found
+    asked : (later : List Node) → Grows (next d place).nodes later → map (asked_in later loads) found
+        ≡ option_map_or (λ i. asked_by (get_or a.values 0 (pos 0)) (request a.local i)) (instr_of code a.local) []
+
+  -- no instruction is at the place, and nothing is done
+  no_step : (place : ℕ) (places : List ℕ) (d : Doing) (a : Alone) → StandsFor code f outcomes fails loads (place ∷ places) d a
+      → instr_at code f place ≡ None → StepTold place places d a
+  no_step place places d a s at =
+      let stays : next d place ≡ d = ap (λ o. stepped_by code f outcomes fails d place o) at in
+      let none : instr_of code a.local ≡ None = s.along.0 ∙ at in
+      let waits : goes_on code a ≡ a = ap (λ o. option_map_or (λ i. after_request a.local i a.values (request a.local i)) o a) none in
+      record {
+        stands = record {
+          terms = subst (λ x. AreTerms x.nodes) (sym stays) s.terms;
+          sound = subst IsSound (sym stays) s.sound;
+          ints = subst (λ x. ints_of code f ≤ length x.slots) (sym stays) s.ints;
+          slots = ap (λ x. x.local.slots) waits ∙ s.slots ∙ sym (ap (slots_by loads) stays);
+          along = s.along.1;
+          takes = takes_next false loads d.loads (next d place).loads (after (next d place) places).loads a.values (goes_on code a).values
+              (ap (λ x. x.loads) stays ∙ omega arith) (ap (λ x. x.values) waits) s.takes;
+        };
+        test = [];
+        tests = ap (λ x. x.tests) stays ∙ sym (append-nil d.tests);
+        comes = λ later g. sym (ap (λ o. cons_option (option_and_then (condition a.local) o) []) none);
+        hands = [];
+        creates = ap (λ x. x.creates) stays ∙ sym (append-nil d.creates);
+        given = λ later g. sym (ap (λ o. option_map_or (given_by a.local) o []) none);
+        found = [];
+        accesses = ap (λ x. x.accesses) stays ∙ sym (append-nil d.accesses);
+        asked = λ later g. sym (ap (λ o. option_map_or (λ i. asked_by (get_or a.values 0 (pos 0)) (request a.local i)) o []) none);
+      }
+
+  -- an instruction is there, and is done
+  one_step : (place : ℕ) (places : List ℕ) (d : Doing) (a : Alone) (i : Instr) → StandsFor code f outcomes fails loads (place ∷ places) d a
+      → instr_at code f place ≡ Some i → StepTold place places d a
+  one_step place places d a i s at =
+      let line = unwrap_or (line_at code f place) 0 in
+      let wanted = wanted_of outcomes fails d i in
+      let e = after_instr line wanted d i in
+      let v = get_or a.values 0 (pos 0) in
+      let does : next d place ≡ record e { steps = d.steps + 1 } = ap (λ o. stepped_by code f outcomes fails d place o) at in
+      let some : instr_of code a.local ≡ Some i = s.along.0 ∙ at in
+      let goes : goes_on code a ≡ after_request a.local i a.values (request a.local i) =
+      ap (λ o. option_map_or (λ j. after_request a.local j a.values (request a.local j)) o a) some in
+      let left = after_is a.local i a.values in
+      let on = step_goes code f outcomes fails d place lawful s.ints s.sound in
+      let counted : (next d place).loads ≡ d.loads + cond (is_load i) 1 0 = ap (λ x. x.loads) does ∙ loads_after line wanted d i in
+      let up = loads_grow code f outcomes fails places (next d place) in
+      let takes : is_load i ≡ true → get_or loads d.loads (pos 0) ≡ v = λ is.
+      let one : ◌≡◌ {A = ℕ} (cond (is_load i) 1 0) 1 = ap (λ b. cond b 1 0) is in
+      let zero : d.loads + 0 ≡ d.loads = omega arith in
+      ap (λ n. get_or loads n (pos 0)) (sym zero) ∙ s.takes 0 (omega (arith, up, counted, one)) in
+      let t = told loads line wanted d i a.local v s.terms s.sound
+      (instr_named code f place (length d.slots) i lawful at s.ints) (short_is code f place i short at)
+      s.slots takes in
+      let k = asks loads line wanted d i a.local v s.terms s.sound (instr_named code f place (length d.slots) i lawful at s.ints) s.slots takes in
+      let h = gives loads line wanted d i a.local s.terms s.sound (instr_named code f place (length d.slots) i lawful at s.ints) s.slots in
+      record {
+        stands = record {
+          terms = subst (λ x. AreTerms x.nodes) (sym does) t.terms;
+          sound = on.goes.sound;
+          ints = omega (arith, s.ints, on.goes.size);
+          slots = ap (λ x. x.local.slots) goes ∙ left.slots ∙ t.slots ∙ sym (ap (slots_by loads) does);
+          along = s.along.1;
+          takes = takes_next (is_load i) loads d.loads (next d place).loads (after (next d place) places).loads a.values (goes_on code a).values
+              counted (ap (λ x. x.values) goes ∙ left.values) s.takes;
+        };
+        test = t.test;
+        tests = ap (λ x. x.tests) does ∙ t.tests;
+        comes = λ later g. t.comes later (subst (λ x. Grows x.nodes later) does g)
+            ∙ sym (ap (λ o. cons_option (option_and_then (condition a.local) o) []) some);
+        hands = h.hands;
+        creates = ap (λ x. x.creates) does ∙ h.creates;
+        given = λ later g. h.given later (subst (λ x. Grows x.nodes later) does g) ∙ sym (ap (λ o. option_map_or (given_by a.local) o []) some);
+        found = k.found;
+        accesses = ap (λ x. x.accesses) does ∙ k.accesses;
+        asked = λ later g. k.asked later (subst (λ x. Grows x.nodes later) does g)
+            ∙ sym (ap (λ o. option_map_or (λ j. asked_by v (request a.local j)) o []) some);
+      }
+
+  step_told : (place : ℕ) (places : List ℕ) (d : Doing) (a : Alone) → StandsFor code f outcomes fails loads (place ∷ places) d a → StepTold place places d a
+  step_told place places d a s = by (instr_at code f place) refl
+    where
+      by : (o : Option Instr) → instr_at code f place ≡ o → StepTold place places d a
+      by None at = no_step place places d a s at
+      by (Some i) at = one_step place places d a i s at
+
+  all_told : (places : List ℕ) (d : Doing) (a : Alone) → StandsFor code f outcomes fails loads places d a → Tells code f outcomes fails loads places d a
+  all_told [] d a s = record {
+    slots = s.slots;
+    tests = sym (append-nil (map (outcome_by d.nodes loads) d.tests));
+    creates = sym (append-nil (map (values_in d.nodes loads) d.creates));
+    accesses = sym (append-nil (map (asked_in d.nodes loads) d.accesses));
+  }
+  all_told (place ∷ places) d a s =
+      let t = step_told place places d a s in
+      let e = next d place in
+      let rest = all_told places e (goes_on code a) t.stands in
+      let last = (after e places).nodes in
+      let g : Grows e.nodes last = (all_go code f outcomes fails e places lawful t.stands.ints t.stands.sound).grows in
+      let come = outcome_by last loads in
+      let later = outcomes_of code (length places) (goes_on code a) in
+      let here = option_and_then (condition a.local) (instr_of code a.local) in
+      record {
+        slots = rest.slots;
+        tests = rest.tests
+            ∙ ap (λ xs. map come xs ++ later) t.tests
+            ∙ ap (λ xs. xs ++ later) (map-append come d.tests t.test ∙ ap (λ xs. map come d.tests ++ xs) (t.comes last g))
+            ∙ append_assoc (map come d.tests) (cons_option here []) later
+            ∙ ap (λ xs. map come d.tests ++ xs) (cons_is here later);
+        creates = rest.creates ∙ more (values_in last loads) d.creates t.hands e.creates (option_map_or (given_by a.local) (instr_of code a.local) [])
+            (given_of code (length places) (goes_on code a)) t.creates (t.given last g);
+        accesses = rest.accesses ∙ more (asked_in last loads) d.accesses t.found e.accesses
+            (option_map_or (λ i. asked_by (get_or a.values 0 (pos 0)) (request a.local i)) (instr_of code a.local) [])
+            (asked_of code (length places) (goes_on code a)) t.accesses (t.asked last g);
+      }
+
+pub tells : (code : Code) (f : ℕ) (outcomes : List Bool) (fails : Option ℕ) (loads : List ℤ) (places : List ℕ) (d : Doing) (a : Alone)
+    → IsLawful code → HasShortArrays code → StandsFor code f outcomes fails loads places d a → Tells code f outcomes fails loads places d a
+tells code f outcomes fails loads places d a lawful short s = all_told code f outcomes fails loads lawful short places d a s

@@ -1,0 +1,20 @@
+use Rattle.std.proofs.Common.{◌≡◌, OnOk, subst, Some, ℕ, refl}
+use Rattle.sym_terms.specs.declared.node.Node.TheVariants.{Symbol}
+use Rattle.sym_exec.specs.declared.symbolic.Cell.{Cell}
+use Rattle.sym_exec.specs.Helpers.{seen}
+use Rattle.sym_exec.specs.Making.{Made, made}
+use Rattle.sym_exec.specs.Thread.{Doing, making, loading, swapping}
+use Rattle.sym_exec.proofs.thread.Thread.swap.Goals as goal
+
+-- a load of which the terms were made step by step
+swap_is : (d : Doing) (k : ℕ) (cell : Cell) (x y v : Made) → x ≡ y → v ≡ made x.nodes (Symbol d.loads)
+    → loading (making d v) k cell v.term (Some x.term) ≡ swapping d k cell y
+swap_is d k cell x y v ex ev = rw (ev, ex) refl
+
+pub returns-clause-swapped : goal.returns-clause-swapped
+returns-clause-swapped c =
+    let d = seen c.args.self.now c.args.terms.now in
+    let x : Made = record { term = c.in_ok-term.term; nodes = c.term.new.terms } in
+    let v : Made = record { term = c.in_ok-symbol.symbol; nodes = c.symbol.new.terms } in
+    subst (λ (e : Doing). OnOk c.load.result (seen c.load.new.self c.symbol.new.terms ≡ e))
+    (swap_is d c.args.slot c.args.cell x _ v c.in_ok-term.ensures.term c.in_ok-symbol.ensures.made) (c.load.ensures c.symbol.new.terms)

@@ -1,0 +1,129 @@
+-- What the execution of a path tells of a thread that goes along it by itself, under the values that the loads take.
+use Rattle.std.specs.Prelude.{◌≡◌, ℕ, zero, suc, ◌+◌, ◌<◌, ◌≤◌, ◌^◌, ℤ, pos, List, [], ◌∷◌, ◌++◌, map, length, Bool, Option, Some, None, option_map}
+use Rattle.std.specs.Prelude.{option_and_then, slice_index_or}
+use Rattle.std.specs.List.{cons_option}
+use Rattle.std.specs.Option.{option_map_or}
+use Rattle.tc_base.specs.Arith.{is_distance, bits_xor, bits_and, negated, equal}
+use Rattle.tc_base.specs.declared.request.Request.{Request}
+use Rattle.tc_base.specs.declared.request.Request.TheVariants.{Read, Write, Exchange, CompareExchange}
+use Rattle.tc_base.specs.States.{Local}
+use Rattle.tc_code.specs.Code.{Code, instr_at}
+use Rattle.tc_code.specs.Expr.{Expr}
+use Rattle.tc_code.specs.Instr.{Instr, Inside, Branch, Create, Assert, Nonzero, In_range}
+use Rattle.tc_code.specs.Step.{ints_of, instr_of, value_in, is_within, is_nonzero, cell_at, request}
+use Rattle.tc_runs.specs.Alone.{Alone, goes_on, after_steps}
+use Rattle.sym_terms.specs.Terms.{AreTerms}
+use Rattle.sym_terms.specs.Values.{value_of}
+use Rattle.sym_terms.specs.declared.node.Node.{Node}
+use Rattle.sym_exec.specs.Thread.{Handed, Doing, IsSound, after_all}
+use Rattle.sym_exec.specs.declared.symbolic.Access.{Access}
+use Rattle.sym_exec.specs.declared.symbolic.Cell.{Cell}
+use Rattle.sym_exec.specs.declared.symbolic.Cell.TheVariants.{Fixed, Element}
+use Rattle.sym_exec.specs.declared.symbolic.Test.{Test}
+
+-- the values of the slots' terms
+abbrev pub slots_by : List ℤ → Doing → List ℤ
+slots_by loads d = map (value_of d.nodes loads) d.slots
+
+-- what an instruction tests, if it tests a value
+abbrev pub condition : Local → Instr → Option Bool
+condition t (Inside len i) = Some (is_within len (value_in t i))
+condition t (Branch e to) = Some (is_nonzero (value_in t e))
+condition t (Assert e) = Some (is_nonzero (value_in t e))
+condition t (Nonzero e) = Some (is_nonzero (value_in t e))
+condition t (In_range e) = Some (is_distance (value_in t e))
+condition t _ = None
+
+-- how the tests of so many steps of a thread come out, in order
+abbrev pub outcomes_of : Code → ℕ → Alone → List Bool
+outcomes_of code zero a = []
+outcomes_of code (suc k) a = cons_option (option_and_then (condition a.local) (instr_of code a.local)) (outcomes_of code k (goes_on code a))
+
+-- how a test of a term comes out
+abbrev pub outcome_by : List Node → List ℤ → Test → Bool
+outcome_by nodes loads x = is_nonzero (value_of nodes loads x.term)
+
+-- what the creates of so many steps of a thread hand to the children, in order
+abbrev pub given_by : Local → Instr → List (List ℤ)
+given_by t (Create h f es) = map (value_in t) es ∷ []
+given_by t _ = []
+
+abbrev pub given_of : Code → ℕ → Alone → List (List ℤ)
+given_of code zero a = []
+given_of code (suc k) a = option_map_or (given_by a.local) (instr_of code a.local) [] ++ given_of code k (goes_on code a)
+
+-- the values of what a create hands over
+abbrev pub values_in : List Node → List ℤ → Handed → List ℤ
+values_in nodes loads h = map (value_of nodes loads) h.terms
+
+-- what an instruction asks of a cell: the value that it takes, if it loads, and the one that it brings, if it stores
+pub record Asked : Type 0 where
+  pub cell : ℕ
+  pub takes : Option ℤ
+  pub writes : Option ℤ
+
+-- what a compare-and-exchange brings, by bits: v ^ ((v ^ f) & -(v == e))
+abbrev pub exchanged : (v e f : ℤ) → ℤ
+exchanged v e f = bits_xor v (bits_and (bits_xor v f) (negated (equal v e)))
+
+-- by a request that takes this value, if it takes one
+abbrev pub asked_by : ℤ → Request → List Asked
+asked_by v (Read c) = record { cell = c; takes = Some v; writes = None } ∷ []
+asked_by v (Write c w) = record { cell = c; takes = None; writes = Some w } ∷ []
+asked_by v (Exchange c w) = record { cell = c; takes = Some v; writes = Some w } ∷ []
+asked_by v (CompareExchange c e w) = record { cell = c; takes = Some v; writes = Some (exchanged v e w) } ∷ []
+asked_by v _ = []
+
+-- what so many steps of a thread ask of cells, in order
+abbrev pub asked_of : Code → ℕ → Alone → List Asked
+asked_of code zero a = []
+asked_of code (suc k) a =
+    option_map_or (λ i. asked_by (slice_index_or a.values 0 (pos 0)) (request a.local i)) (instr_of code a.local) [] ++ asked_of code k (goes_on code a)
+
+-- the cell of an access, and what it asks, by the values of its terms
+abbrev pub cell_by : List Node → List ℤ → Cell → ℕ
+cell_by nodes loads (Fixed c) = c
+cell_by nodes loads (Element first len index) = cell_at first (value_of nodes loads index)
+
+abbrev pub asked_in : List Node → List ℤ → Access → Asked
+asked_in nodes loads x = record {
+  cell = cell_by nodes loads x.cell;
+  takes = option_map (λ k. slice_index_or loads k (pos 0)) x.takes;
+  writes = option_map (value_of nodes loads) x.writes;
+}
+
+-- a thread does the instructions at places of a function, one after another
+abbrev pub GoesAlong : Code → ℕ → List ℕ → Alone → Type 0
+GoesAlong code f [] a = Unit {0}
+GoesAlong code f (place ∷ places) a = (instr_of code a.local ≡ instr_at code f place) × GoesAlong code f places (goes_on code a)
+
+-- the loads from one number on up to another take these values
+abbrev pub TakesFrom : List ℤ → ℕ → ℕ → List ℤ → Type 0
+TakesFrom loads first end values = (k : ℕ) → first + k < end → slice_index_or loads (first + k) (pos 0) ≡ slice_index_or values k (pos 0)
+
+-- no index is tested against a length that no int reaches
+abbrev pub HasShortArrays : Code → Type 0
+HasShortArrays code = (f place len : ℕ) (i : Expr) → instr_at code f place ≡ Some (Inside len i) → len ≤ 2 ^ 31
+
+module _ (code : Code) (f : ℕ) (outcomes : List Bool) (fails : Option ℕ) (loads : List ℤ) where
+  -- an execution that stands for a thread, which goes along the places
+  pub record StandsFor (places : List ℕ) (d : Doing) (a : Alone) : Type 0 where
+    pub terms : AreTerms d.nodes
+    pub sound : IsSound d
+    pub ints : ints_of code f ≤ length d.slots
+    -- each slot has the value of its term
+    pub slots : a.local.slots ≡ slots_by loads d
+    pub along : GoesAlong code f places a
+    -- the loads of the execution take what the thread takes
+    pub takes : TakesFrom loads d.loads (after_all code f outcomes fails d places).loads a.values
+
+  -- what the steps at the places lead to: each slot has the value of its term, each test comes out as its term tells, and each
+  -- create and each access asks what its terms tell
+  pub record Tells (places : List ℕ) (d : Doing) (a : Alone) : Type 0 where
+    pub slots : (after_steps code (length places) a).local.slots ≡ slots_by loads (after_all code f outcomes fails d places)
+    pub tests : map (outcome_by (after_all code f outcomes fails d places).nodes loads) (after_all code f outcomes fails d places).tests
+        ≡ map (outcome_by (after_all code f outcomes fails d places).nodes loads) d.tests ++ outcomes_of code (length places) a
+    pub creates : map (values_in (after_all code f outcomes fails d places).nodes loads) (after_all code f outcomes fails d places).creates
+        ≡ map (values_in (after_all code f outcomes fails d places).nodes loads) d.creates ++ given_of code (length places) a
+    pub accesses : map (asked_in (after_all code f outcomes fails d places).nodes loads) (after_all code f outcomes fails d places).accesses
+        ≡ map (asked_in (after_all code f outcomes fails d places).nodes loads) d.accesses ++ asked_of code (length places) a

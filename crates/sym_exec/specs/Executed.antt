@@ -1,0 +1,76 @@
+-- The execution of all threads of paths.
+use Rattle.std.specs.Prelude.{ℕ, ◌-◌, ◌==◌, Option, Some, None, List, [], ◌∷◌, ◌++◌, length, take, fold, slice_get, bytes_eq, if◌then◌else◌}
+use Rattle.std.specs.List.{find, last_or}
+use Rattle.std.specs.Option.{option_map_or}
+use Rattle.tc_base.specs.Names.{Name}
+use Rattle.tc_code.specs.Code.{Code}
+use Rattle.tc_code.specs.Step.{ints_of}
+use Rattle.path_walk.specs.Paths.{Walk, Paths}
+use Rattle.sym_terms.specs.declared.node.Node.{Node}
+use Rattle.sym_exec.specs.Thread.{Handed, Doing, started, after_all}
+use Rattle.sym_exec.specs.declared.symbolic.Test.{Test}
+use Rattle.sym_exec.specs.declared.symbolic.Access.{Access}
+
+-- what the execution of a thread's path found
+pub record Course : Type 0 where
+  pub name : Name
+  pub tests : List Test
+  pub accesses : List Access
+  pub creates : List Handed
+
+pub record Symbolic : Type 0 where
+  -- of each thread, in the order of the paths
+  pub threads : List Course
+  -- how many loads they have together
+  pub loads : ℕ
+
+-- what was found, and the nodes after that
+pub record Executed : Type 0 where
+  pub symbolic : Symbolic
+  pub nodes : List Node
+
+-- the terms that a thread hands to its child of a number, from 1
+abbrev pub handed_by : ℕ → Course → List ℕ
+handed_by number c = option_map_or (λ h. h.terms) (slice_get c.creates (number - 1)) []
+
+-- the terms that a child of a number takes from its parent, which came before it
+abbrev pub handed_to : List Course → Name → ℕ → List ℕ
+handed_to courses parent number = option_map_or (handed_by number) (find (λ c. bytes_eq c.name parent) courses) []
+
+-- the terms that the thread of a name takes: main takes none
+abbrev pub arguments_for : List Course → Name → List ℕ
+arguments_for courses n = option_map_or (handed_to courses (take (length n - 1) n)) (last_or None n) []
+
+-- the number of the step in which a thread fails, if it does
+abbrev pub fails_at : Paths → ℕ → Walk → Option ℕ
+fails_at paths number w = if number == paths.failing then Some (length w.places - 1) else None
+
+-- a thread with its first slots, loads and nodes
+abbrev pub thread_started : Code → Executed → Walk → Doing
+thread_started code x w = started (ints_of code w.function) (arguments_for x.symbolic.threads w.name) x.symbolic.loads x.nodes
+
+-- its execution
+abbrev pub thread_done : Code → Paths → Executed → Walk → Doing
+thread_done code paths x w =
+    after_all code w.function w.outcomes (fails_at paths (length x.symbolic.threads) w) (thread_started code x w) w.places
+
+-- one thread more
+abbrev pub with_course : Executed → Name → Doing → Executed
+with_course x name d = record {
+  symbolic = record {
+    threads = x.symbolic.threads ++ record { name = name; tests = d.tests; accesses = d.accesses; creates = d.creates } ∷ [];
+    loads = d.loads;
+  };
+  nodes = d.nodes;
+}
+
+abbrev pub with_thread : Code → Paths → Executed → Walk → Executed
+with_thread code paths x w = with_course x w.name (thread_done code paths x w)
+
+-- nothing is executed yet
+abbrev pub nothing : List Node → Executed
+nothing nodes = record { symbolic = record { threads = []; loads = 0 }; nodes = nodes }
+
+-- all threads of the paths in order, from these nodes on
+abbrev pub executed : Code → Paths → List Node → Executed
+executed code paths nodes = fold (with_thread code paths) (nothing nodes) paths.threads

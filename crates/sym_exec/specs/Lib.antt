@@ -1,0 +1,6 @@
+pub mod Making
+pub mod Thread
+pub mod Executed
+pub mod Helpers
+pub mod Alone
+pub mod Runs

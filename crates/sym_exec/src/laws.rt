@@ -1,0 +1,31 @@
+//! Laws of symbolic execution. Each is a clause of a function that does nothing.
+ghost use Rattle.std.specs.Prelude.{◌≡◌, ℕ, ℤ, Bool, List, Option, Some};
+ghost use Rattle.std.specs.FinMap as fin;
+ghost use Rattle.tc_base.specs.Buffers.{BufferOps};
+ghost use Rattle.tc_base.specs.Names.{Name};
+ghost use Rattle.tc_base.specs.States.{State, Thread};
+ghost use Rattle.tc_base.specs.declared.moves.Move.{Move};
+ghost use Rattle.tc_code.specs.Code.{Code};
+ghost use Rattle.tc_code.specs.Lawful.{IsLawful};
+ghost use Rattle.tc_code.specs.Run.{run};
+ghost use Rattle.tc_runs.specs.Alone.{Alone};
+ghost use Rattle.sym_exec.specs.Alone.{HasShortArrays, StandsFor, Tells};
+ghost use Rattle.sym_exec.specs.Runs.{ThreadTells};
+ghost use Rattle.sym_exec.specs.Thread.{Doing};
+
+/// Where a thread goes along the places of a path by itself, each slot has the value of its term, under the values that
+/// its loads take, and each branch and each site over expressions comes out as its term tells: the outcome is true, or
+/// the site passes, exactly where the term isn't 0.
+///
+/// It speaks of any part of a path, from any execution that stands for the thread at its beginning.
+pub fn executions_tell()
+    ensures { (code : Code) (f : ℕ) (outcomes : List Bool) (fails : Option ℕ) (loads : List ℤ) (places : List ℕ) (d : Doing) (a : Alone)
+        → IsLawful code → HasShortArrays code → StandsFor code f outcomes fails loads places d a → Tells code f outcomes fails loads places d a }
+{}
+
+/// So it is in every run, under every memory model: a thread that was created with arguments, and went along the places
+/// since, has in each slot the value of its term, where the terms of the arguments have the values that were handed over.
+pub fn threads_tell<B>()
+    ensures { (ops : BufferOps B) (code : Code) (moves : List Move) (s : State B) (n : Name) (t : Thread B)
+        → IsLawful code → HasShortArrays code → run ops code moves ≡ Some s → fin.get s.threads n ≡ Some t → ThreadTells ops code moves n t }
+{}

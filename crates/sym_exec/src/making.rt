@@ -1,0 +1,140 @@
+//! Terms of expressions and of tests.
+ghost use Rattle.std.specs.Prelude.{◌≡◌, ◌<◌, ◌≤◌, ◌^◌, ℤ, pos, [], length, IfOk, OnOk, IsTrue};
+ghost use Rattle.std.specs.List.{list_all};
+ghost use Rattle.tc_code.specs.Expr.{names_slots};
+ghost use Rattle.tc_code.specs.SeenExpr.{plain_expr, plain_exprs};
+ghost use Rattle.sym_terms.specs.declared.node.Node.TheVariants.{Constant, Symbol, Unary, Binary};
+ghost use Rattle.sym_exec.specs.Thread.{AreOf};
+ghost use Rattle.sym_exec.specs.Making as spec;
+ghost use Rattle.sym_exec.specs.Making.{Grows};
+
+use std::alloc::{AllocError, Global};
+use sym_terms::{Id, Terms};
+use tc_base::{BinOp, UnOp};
+use tc_code::Expr;
+
+/// The term of a number.
+pub(crate) fn constant(terms: &mut Terms, n: i32) -> Result<Id, AllocError>
+    ensures made { IfOk result (λ id. record { term = id; nodes = terms.new } ≡ spec.made terms.old (Constant n)) }
+    ensures within { IfOk result (λ id. id < length terms.new) }
+    ensures grown { Grows terms.old terms.new }
+{
+    terms.constant(n)
+}
+
+/// The symbol of a load.
+pub(crate) fn symbol(terms: &mut Terms, load: u32) -> Result<Id, AllocError>
+    ensures made { IfOk result (λ id. record { term = id; nodes = terms.new } ≡ spec.made terms.old (Symbol load)) }
+    ensures within { IfOk result (λ id. id < length terms.new) }
+    ensures grown { Grows terms.old terms.new }
+{
+    terms.symbol(load)
+}
+
+/// An operator over a term.
+fn unary(terms: &mut Terms, op: UnOp, a: Id) -> Result<Id, AllocError>
+    requires { a < length terms.old }
+    ensures made { IfOk result (λ id. record { term = id; nodes = terms.new } ≡ spec.made terms.old (Unary op a)) }
+    ensures within { IfOk result (λ id. id < length terms.new) }
+    ensures grown { Grows terms.old terms.new }
+{
+    terms.op1(op, a)
+}
+
+/// An operator over two terms.
+fn binary(terms: &mut Terms, op: BinOp, a: Id, b: Id) -> Result<Id, AllocError>
+    requires first { a < length terms.old }
+    requires second { b < length terms.old }
+    ensures made { IfOk result (λ id. record { term = id; nodes = terms.new } ≡ spec.made terms.old (Binary op a b)) }
+    ensures within { IfOk result (λ id. id < length terms.new) }
+    ensures grown { Grows terms.old terms.new }
+{
+    terms.op2(op, a, b)
+}
+
+/// The term of an expression, where the slots have these terms.
+pub(crate) fn expr_term(terms: &mut Terms, slots: &[Id], e: &Expr) -> Result<Id, AllocError>
+    requires slots { AreOf terms.old slots.now }
+    requires names { IsTrue (names_slots (length slots.now) (plain_expr e.now)) }
+    ensures term { IfOk result (λ term. record { term = term; nodes = terms.new } ≡ spec.expr_term terms.old slots.now (plain_expr e.now)) }
+    ensures within { IfOk result (λ term. term < length terms.new) }
+    ensures grown { Grows terms.old terms.new }
+{
+    match e {
+        Expr::Number(n) => terms.constant(*n),
+        Expr::Slot(k) => Ok(slots[*k as usize]),
+        Expr::Unary(op, operand) => {
+            let operand = expr_term(terms, slots, operand)?;
+            terms.op1(*op, operand)
+        }
+        Expr::Binary(op, left, right) => {
+            let left = expr_term(terms, slots, left)?;
+            let right = expr_term(terms, slots, right)?;
+            terms.op2(*op, left, right)
+        }
+    }
+}
+
+/// The terms of expressions, one after another.
+pub(crate) fn expr_terms(
+    alloc: Global,
+    terms: &mut Terms,
+    slots: &[Id],
+    es: &[Expr],
+) -> Result<Vec<Id>, AllocError>
+    requires slots { AreOf terms.old slots.now }
+    requires names { IsTrue (list_all (names_slots (length slots.now)) (plain_exprs es.now)) }
+    ensures made { IfOk result (λ made. record { terms = made.items; nodes = terms.new } ≡ spec.expr_terms terms.old slots.now (plain_exprs es.now)) }
+    ensures grown { Grows terms.old terms.new }
+{
+    let mut made = Vec::new(alloc);
+    for e in es {
+        made.push(expr_term(terms, slots, e)?)?;
+    }
+    Ok(made)
+}
+
+/// The test whether a term is from 0 to a number.
+pub(crate) fn range_test(terms: &mut Terms, term: Id, last: i32) -> Result<Id, AllocError>
+    requires { term < length terms.old }
+    ensures term { IfOk result (λ test. record { term = test; nodes = terms.new } ≡ spec.range_test (record { term = term; nodes = terms.old }) last) }
+    ensures grown { Grows terms.old terms.new }
+{
+    let zero = constant(terms, 0)?;
+    let low = binary(terms, BinOp::Le, zero, term)?;
+    let top = constant(terms, last)?;
+    let high = binary(terms, BinOp::Le, term, top)?;
+    binary(terms, BinOp::And, low, high)
+}
+
+/// The last index of an array of a length, where an int can be that large, and else the greatest int.
+pub(crate) fn last_index(length: u32) -> i32
+    ensures { result ≡ spec.last_index length }
+{
+    if length > 1 << 31 {
+        i32::MAX
+    } else {
+        (i64::from(length) - 1) as i32
+    }
+}
+
+/// What a cell has after a compare-and-exchange that found a value: the new one where that is the expected one, and else
+/// the same. Terms have no conditional, so it is made by bits.
+pub(crate) fn replaced_term(
+    terms: &mut Terms,
+    found: Id,
+    expected: Id,
+    new: Id,
+) -> Result<Id, AllocError>
+    requires found { found < length terms.old }
+    requires expected { expected < length terms.old }
+    requires new { new < length terms.old }
+    ensures term { IfOk result (λ term. record { term = term; nodes = terms.new } ≡ spec.replaced_term terms.old found expected new) }
+    ensures grown { Grows terms.old terms.new }
+{
+    let change = binary(terms, BinOp::Xor, found, new)?;
+    let same = binary(terms, BinOp::Eq, found, expected)?;
+    let mask = unary(terms, UnOp::Neg, same)?;
+    let masked = binary(terms, BinOp::And, change, mask)?;
+    binary(terms, BinOp::Xor, found, masked)
+}

@@ -1,0 +1,434 @@
+//! The execution of one thread.
+ghost use Rattle.std.specs.Prelude.{◌≡◌, ◌+◌, ◌<◌, ◌≤◌, ◌^◌, ◌-◌, ◌++◌, [], ℕ, List, length, replicate, OnOk, IfOk, IsTrue, option_map, None};
+ghost use Rattle.std.specs.List.{list_all};
+ghost use Rattle.tc_code.specs.Expr.{names_slots};
+ghost use Rattle.tc_code.specs.Lawful.{IsLawful};
+ghost use Rattle.tc_code.specs.Seen.{plain_instr};
+ghost use Rattle.tc_code.specs.Step.{ints_of};
+ghost use Rattle.tc_code.specs.SeenExpr.{plain_expr};
+ghost use Rattle.sym_terms.specs.declared.node.Node.{Node};
+ghost use Rattle.sym_exec.specs.Helpers.{names_within, seen};
+ghost use Rattle.sym_exec.specs.Thread.{AreOf, IsSound};
+ghost use Rattle.sym_exec.specs.Making.{Grows};
+ghost use Rattle.sym_exec.specs.Thread as spec;
+ghost use Rattle.sym_exec.specs.Making.{range_test as range_of};
+ghost use Rattle.sym_exec.specs.declared.symbolic.Cell.TheVariants.{Element};
+
+use crate::making::{
+    constant, expr_term, expr_terms, last_index, range_test, replaced_term, symbol,
+};
+use crate::symbolic::{Access, Cell, Handed, Test};
+use path_walk::Walk;
+use std::alloc::{AllocError, Global};
+use sym_terms::{Id, Terms};
+use tc_code::{Code, Expr, Exprs, Instr};
+
+/// A thread's execution so far.
+#[derive(Drop)]
+pub(crate) struct Thread {
+    /// The term of each slot.
+    pub(crate) slots: Vec<Id>,
+    /// How many loads there were, in the threads before it and in this one.
+    pub(crate) loads: u32,
+    /// How many steps it has done, and how many of them are branches.
+    pub(crate) steps: usize,
+    pub(crate) branches: usize,
+    pub(crate) tests: Vec<Test>,
+    pub(crate) accesses: Vec<Access>,
+    pub(crate) creates: Vec<Handed>,
+}
+
+impl Thread {
+    /// A slot takes a term.
+    fn set(&mut self, slot: u32, term: Id)
+        requires { slot < length self.old.slots.items }
+        ensures { (nodes : List Node) → seen self.new nodes ≡ spec.setting (seen self.old nodes) slot (record { term = term; nodes = nodes }) }
+    {
+        self.slots[slot as usize] = term;
+    }
+
+    /// A term is tested.
+    fn test(&mut self, line: u32, wanted: bool, term: Id) -> Result<(), AllocError>
+        ensures { (nodes : List Node) → OnOk result (seen self.new nodes
+            ≡ spec.testing (seen self.old nodes) line wanted (record { term = term; nodes = nodes })) }
+    {
+        let step = self.steps;
+        self.tests.push(Test {
+            step,
+            line,
+            term,
+            wanted,
+        })?;
+        Ok(())
+    }
+
+    /// A cell takes a term.
+    fn store(&mut self, cell: Cell, term: Id) -> Result<(), AllocError>
+        ensures { (nodes : List Node) → OnOk result (seen self.new nodes ≡ spec.storing (seen self.old nodes) cell (record { term = term; nodes = nodes })) }
+    {
+        let step = self.steps;
+        self.accesses.push(Access {
+            step,
+            cell,
+            takes: None,
+            writes: Some(term),
+        })?;
+        Ok(())
+    }
+
+    /// A slot takes the symbol of a load. There are no more loads than numbers of 32 bits.
+    fn load(
+        &mut self,
+        slot: u32,
+        cell: Cell,
+        symbol: Id,
+        writes: Option<Id>,
+    ) -> Result<(), AllocError>
+        requires { slot < length self.old.slots.items }
+        ensures { (nodes : List Node) → OnOk result (seen self.new nodes ≡ spec.loading (seen self.old nodes) slot cell symbol writes) }
+    {
+        let step = self.steps;
+        self.accesses.push(Access {
+            step,
+            cell,
+            takes: Some(self.loads),
+            writes,
+        })?;
+        self.loads = self.loads.checked_add(1).ok_or(AllocError)?;
+        self.slots[slot as usize] = symbol;
+        Ok(())
+    }
+
+    /// A slot takes what a cell has.
+    fn read(&mut self, terms: &mut Terms, slot: u32, cell: Cell) -> Result<(), AllocError>
+        requires { slot < length self.old.slots.items }
+        ensures read { OnOk result (seen self.new terms.new ≡ spec.reading (seen self.old terms.old) slot cell) }
+        ensures grown { Grows terms.old terms.new }
+    {
+        let symbol = symbol(terms, self.loads)?;
+        self.load(slot, cell, symbol, None)
+    }
+
+    /// The term of an expression over the slots.
+    fn term(&self, terms: &mut Terms, e: &Expr) -> Result<Id, AllocError>
+        requires slots { AreOf terms.old self.now.slots.items }
+        requires names { IsTrue (names_slots (length self.now.slots.items) (plain_expr e.now)) }
+        ensures term { IfOk result (λ term. record { term = term; nodes = terms.new } ≡ spec.term_in (seen self.now terms.old) (plain_expr e.now)) }
+        ensures within { IfOk result (λ term. term < length terms.new) }
+        ensures grown { Grows terms.old terms.new }
+    {
+        expr_term(terms, &self.slots, e)
+    }
+
+    /// An expression is tested.
+    fn test_value(
+        &mut self,
+        terms: &mut Terms,
+        line: u32,
+        wanted: bool,
+        e: &Expr,
+    ) -> Result<(), AllocError>
+        requires slots { AreOf terms.old self.old.slots.items }
+        requires names { IsTrue (names_slots (length self.old.slots.items) (plain_expr e.now)) }
+        ensures tested { OnOk result (seen self.new terms.new
+            ≡ spec.testing (seen self.old terms.old) line wanted (spec.term_in (seen self.old terms.old) (plain_expr e.now))) }
+        ensures grown { Grows terms.old terms.new }
+    {
+        let term = self.term(terms, e)?;
+        self.test(line, wanted, term)
+    }
+
+    /// It is tested that an expression is from 0 to a number.
+    fn test_range(
+        &mut self,
+        terms: &mut Terms,
+        line: u32,
+        wanted: bool,
+        e: &Expr,
+        last: i32,
+    ) -> Result<(), AllocError>
+        requires slots { AreOf terms.old self.old.slots.items }
+        requires names { IsTrue (names_slots (length self.old.slots.items) (plain_expr e.now)) }
+        ensures tested { OnOk result (seen self.new terms.new
+            ≡ spec.testing (seen self.old terms.old) line wanted (range_of (spec.term_in (seen self.old terms.old) (plain_expr e.now)) last)) }
+        ensures grown { Grows terms.old terms.new }
+    {
+        let term = self.term(terms, e)?;
+        let test = range_test(terms, term, last)?;
+        self.test(line, wanted, test)
+    }
+
+    /// A slot takes the term of an expression.
+    fn set_value(&mut self, terms: &mut Terms, slot: u32, e: &Expr) -> Result<(), AllocError>
+        requires slot { slot < length self.old.slots.items }
+        requires slots { AreOf terms.old self.old.slots.items }
+        requires names { IsTrue (names_slots (length self.old.slots.items) (plain_expr e.now)) }
+        ensures set { OnOk result (seen self.new terms.new
+            ≡ spec.setting (seen self.old terms.old) slot (spec.term_in (seen self.old terms.old) (plain_expr e.now))) }
+        ensures grown { Grows terms.old terms.new }
+    {
+        let term = self.term(terms, e)?;
+        self.set(slot, term);
+        Ok(())
+    }
+
+    /// A cell takes the term of an expression.
+    fn store_value(&mut self, terms: &mut Terms, cell: Cell, e: &Expr) -> Result<(), AllocError>
+        requires slots { AreOf terms.old self.old.slots.items }
+        requires names { IsTrue (names_slots (length self.old.slots.items) (plain_expr e.now)) }
+        ensures stored { OnOk result (seen self.new terms.new
+            ≡ spec.storing (seen self.old terms.old) cell (spec.term_in (seen self.old terms.old) (plain_expr e.now))) }
+        ensures grown { Grows terms.old terms.new }
+    {
+        let term = self.term(terms, e)?;
+        self.store(cell, term)
+    }
+
+    /// The cell at an index of an array.
+    fn element(
+        &self,
+        terms: &mut Terms,
+        first: u32,
+        len: u32,
+        index: &Expr,
+    ) -> Result<Cell, AllocError>
+        requires slots { AreOf terms.old self.now.slots.items }
+        requires names { IsTrue (names_slots (length self.now.slots.items) (plain_expr index.now)) }
+        ensures cell { IfOk result (λ cell. cell ≡ Element first len (spec.term_in (seen self.now terms.old) (plain_expr index.now)).term) }
+        ensures nodes { OnOk result (terms.new ≡ (spec.term_in (seen self.now terms.old) (plain_expr index.now)).nodes) }
+        ensures grown { Grows terms.old terms.new }
+    {
+        let index = self.term(terms, index)?;
+        Ok(Cell::Element {
+            first,
+            length: len,
+            index,
+        })
+    }
+
+    /// A slot takes what a cell has, and the cell the value of an expression.
+    fn swap(&mut self, terms: &mut Terms, slot: u32, cell: Cell, e: &Expr) -> Result<(), AllocError>
+        requires slot { slot < length self.old.slots.items }
+        requires slots { AreOf terms.old self.old.slots.items }
+        requires names { IsTrue (names_slots (length self.old.slots.items) (plain_expr e.now)) }
+        ensures swapped { OnOk result (seen self.new terms.new
+            ≡ spec.swapping (seen self.old terms.old) slot cell (spec.term_in (seen self.old terms.old) (plain_expr e.now))) }
+        ensures grown { Grows terms.old terms.new }
+    {
+        let term = self.term(terms, e)?;
+        let symbol = symbol(terms, self.loads)?;
+        self.load(slot, cell, symbol, Some(term))
+    }
+
+    /// A slot takes what a cell has, and the cell a new value where it had the expected one.
+    fn replace(
+        &mut self,
+        terms: &mut Terms,
+        slot: u32,
+        cell: Cell,
+        expected: &Expr,
+        new: &Expr,
+    ) -> Result<(), AllocError>
+        requires slot { slot < length self.old.slots.items }
+        requires slots { AreOf terms.old self.old.slots.items }
+        requires expected { IsTrue (names_slots (length self.old.slots.items) (plain_expr expected.now)) }
+        requires new { IsTrue (names_slots (length self.old.slots.items) (plain_expr new.now)) }
+        ensures replaced { OnOk result (seen self.new terms.new
+            ≡ spec.replacing (seen self.old terms.old) slot cell (plain_expr expected.now) (plain_expr new.now)) }
+        ensures grown { Grows terms.old terms.new }
+    {
+        let expected = self.term(terms, expected)?;
+        let new = self.term(terms, new)?;
+        let symbol = symbol(terms, self.loads)?;
+        let written = replaced_term(terms, symbol, expected, new)?;
+        self.load(slot, cell, symbol, Some(written))
+    }
+
+    /// A child takes the terms of expressions.
+    fn hand(&mut self, alloc: Global, terms: &mut Terms, es: &Exprs) -> Result<(), AllocError>
+        requires slots { AreOf terms.old self.old.slots.items }
+        requires names { IsTrue (list_all (names_slots (length self.old.slots.items)) es.now) }
+        ensures handed { OnOk result (seen self.new terms.new ≡ spec.handing (seen self.old terms.old) es.now) }
+        ensures grown { Grows terms.old terms.new }
+    {
+        let step = self.steps;
+        let handed = expr_terms(alloc, terms, &self.slots, es.as_slice())?;
+        self.creates.push(Handed {
+            step,
+            terms: handed,
+        })?;
+        Ok(())
+    }
+
+    /// The thread does an instruction at a line. Of a test it is told what is wanted.
+    fn follow(
+        &mut self,
+        alloc: Global,
+        terms: &mut Terms,
+        line: u32,
+        wanted: bool,
+        instr: &Instr,
+    ) -> Result<(), AllocError>
+        requires slots { AreOf terms.old self.old.slots.items }
+        requires names { IsTrue (names_within (length self.old.slots.items) (plain_instr instr.now)) }
+        requires room { self.old.branches + 1 < 2 ^ 64 }
+        ensures done { OnOk result (seen self.new terms.new ≡ spec.after_instr line wanted (seen self.old terms.old) (plain_instr instr.now)) }
+        ensures grown { Grows terms.old terms.new }
+    {
+        match instr {
+            Instr::Set { slot, value } => self.set_value(terms, *slot, value),
+            Instr::Load { slot, cell } => self.read(terms, *slot, Cell::Fixed(*cell)),
+            Instr::LoadAt {
+                slot,
+                first,
+                length,
+                index,
+            } => {
+                let cell = self.element(terms, *first, *length, index)?;
+                self.read(terms, *slot, cell)
+            }
+            Instr::Store { cell, value } => self.store_value(terms, Cell::Fixed(*cell), value),
+            Instr::StoreAt {
+                first,
+                length,
+                index,
+                value,
+            } => {
+                let cell = self.element(terms, *first, *length, index)?;
+                self.store_value(terms, cell, value)
+            }
+            Instr::Inside { length, index } => {
+                self.test_range(terms, line, wanted, index, last_index(*length))
+            }
+            Instr::Branch { condition, .. } => {
+                self.branches += 1;
+                self.test_value(terms, line, wanted, condition)
+            }
+            Instr::Create { arguments, .. } => self.hand(alloc, terms, arguments),
+            Instr::Assert(e) => self.test_value(terms, line, wanted, e),
+            Instr::Nonzero(e) => self.test_value(terms, line, wanted, e),
+            Instr::InRange(e) => self.test_range(terms, line, wanted, e, 31),
+            Instr::Swap { slot, cell, value } => {
+                self.swap(terms, *slot, Cell::Fixed(*cell), value)
+            }
+            Instr::Cas {
+                slot,
+                cell,
+                expected,
+                value,
+            } => self.replace(terms, *slot, Cell::Fixed(*cell), expected, value),
+            _ => Ok(()),
+        }
+    }
+
+    /// What is wanted of the test of an instruction: the outcome of a branch, and that a site passes unless the thread
+    /// fails in this step.
+    fn wanted(&self, outcomes: &[bool], fails: Option<usize>, instr: &Instr) -> bool
+        ensures { (nodes : List Node) → result ≡ spec.wanted_of outcomes.now fails (seen self.now nodes) (plain_instr instr.now) }
+    {
+        match instr {
+            Instr::Branch { .. } => outcomes.get(self.branches).copied().unwrap_or(true),
+            _ => fails != Some(self.steps),
+        }
+    }
+
+    /// The thread does the instruction at a place, if there is one.
+    fn step(
+        &mut self,
+        alloc: Global,
+        terms: &mut Terms,
+        code: &Code,
+        walk: &Walk,
+        fails: Option<usize>,
+        place: usize,
+    ) -> Result<(), AllocError>
+        requires sound { IsSound (seen self.old terms.old) }
+        requires ints { ints_of code.now walk.now.function ≤ length self.old.slots.items }
+        requires steps { self.old.steps + 1 < 2 ^ 64 }
+        requires branches { self.old.branches + 1 < 2 ^ 64 }
+        ensures done { OnOk result (seen self.new terms.new
+            ≡ spec.after_step code.now walk.now.function walk.now.outcomes fails (seen self.old terms.old) place) }
+        ensures sound { OnOk result (IsSound (seen self.new terms.new)) }
+        ensures ints { OnOk result (length self.new.slots.items ≡ length self.old.slots.items) }
+        ensures steps { OnOk result (self.new.steps ≤ self.old.steps + 1) }
+        ensures branches { OnOk result (self.new.branches ≤ self.old.branches + 1) }
+        ensures grown { Grows terms.old terms.new }
+    {
+        let Some(instr) = code.instr(walk.function(), place) else {
+            return Ok(());
+        };
+        let line = code.line(walk.function(), place).unwrap_or(0);
+        let wanted = self.wanted(walk.outcomes(), fails, instr);
+        self.follow(alloc, terms, line, wanted, instr)?;
+        self.steps += 1;
+        Ok(())
+    }
+
+    /// The thread does all steps of its path.
+    pub(crate) fn run(
+        &mut self,
+        alloc: Global,
+        terms: &mut Terms,
+        code: &Code,
+        walk: &Walk,
+        fails: Option<usize>,
+    ) -> Result<(), AllocError>
+        requires sound { IsSound (seen self.old terms.old) }
+        requires ints { ints_of code.now walk.now.function ≤ length self.old.slots.items }
+        requires steps { self.old.steps ≡ 0 }
+        requires branches { self.old.branches ≡ 0 }
+        ensures done { OnOk result (seen self.new terms.new
+            ≡ spec.after_all code.now walk.now.function walk.now.outcomes fails (seen self.old terms.old) walk.now.places) }
+        ensures grown { Grows terms.old terms.new }
+    {
+        for place in walk.places() {
+            self.step(alloc, terms, code, walk, fails, *place)?;
+        }
+        Ok(())
+    }
+
+    /// A thread at the start of a function.
+    pub(crate) fn start(
+        alloc: Global,
+        terms: &mut Terms,
+        ints: u32,
+        arguments: &[Id],
+        loads: u32,
+    ) -> Result<Thread, AllocError>
+        ensures started { IfOk result (λ thread. seen thread terms.new ≡ spec.started ints arguments.now loads terms.old) }
+        ensures grown { Grows terms.old terms.new }
+    {
+        let zero = constant(terms, 0)?;
+        Ok(Thread {
+            slots: padded(alloc, arguments, ints as usize, zero)?,
+            loads,
+            steps: 0,
+            branches: 0,
+            tests: Vec::new(alloc),
+            accesses: Vec::new(alloc),
+            creates: Vec::new(alloc),
+        })
+    }
+}
+
+/// Terms, and then others up to a number.
+fn padded(alloc: Global, terms: &[Id], count: usize, other: Id) -> Result<Vec<Id>, AllocError>
+    ensures { IfOk result (λ all. all.items ≡ terms.now ++ replicate (count - length terms.now) other) }
+{
+    let mut all = terms.to_vec(alloc)?;
+    while all.len() < count {
+        all.push(other)?;
+    }
+    Ok(all)
+}
+
+/// How many int slots a function has.
+pub(crate) fn ints_of(code: &Code, function: usize) -> u32
+    ensures ints { result ≡ ints_of code.now function }
+    ensures lawful { IsLawful code.now }
+{
+    match code.functions().get(function) {
+        Some(f) => f.ints,
+        None => 0,
+    }
+}
