@@ -226,7 +226,7 @@ names_there code g n (Store_at a len i e) up h =
     let h = both_pass (nat_le (a + len) (length code.memory) && names_slots g.ints i) (names_slots g.ints e) h in
     let first = (both_pass (nat_le (a + len) (length code.memory)) (names_slots g.ints i) h.0).1 in
     both_true (names_slots n i) (names_slots n e) (names_more g.ints n i up first) (names_more g.ints n e up h.1)
-names_there code g n (Inside len i) up h = names_more g.ints n i up h
+names_there code g n (Inside len i) up h = names_more g.ints n i up (both_pass (nat_le len (length code.memory)) (names_slots g.ints i) h).1
 names_there code g n (Branch e to) up h = names_more g.ints n e up h
 names_there code g n (Create v f es) up h =
     all_names_more g.ints n es up (both_pass (nat_lt v g.tids && takes code f (length es)) (list_all (names_slots g.ints) es) h).1

@@ -289,7 +289,9 @@ module _ (code : Code) (f : Func) (base : ℕ) where
               all_append (names_what_is code f) (index.instrs ++ test ∷ [] ++ v.instrs) (write ∷ [])
               (all_append (names_what_is code f) (index.instrs ++ test ∷ []) v.instrs
               (all_append (names_what_is code f) index.instrs (test ∷ []) (a.named (omega (arith, few, b.grows)))
-              (both_true (names_slots f.ints index.value) true i_named refl))
+              (both_true (nat_le len (length code.memory) && names_slots f.ints index.value) true
+              (both_true (nat_le len (length code.memory)) (names_slots f.ints index.value) (le_true len (length code.memory) (omega (arith, bounded))) i_named)
+              refl))
               (b.named few))
               (both_true (nat_le (first + len) (length code.memory) && names_slots f.ints index.value && names_slots f.ints v.value) true
               (both_true (nat_le (first + len) (length code.memory) && names_slots f.ints index.value) (names_slots f.ints v.value)

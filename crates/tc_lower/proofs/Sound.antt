@@ -195,7 +195,9 @@ module _ (code : Code) (f : Func) (base : ℕ) where
     value = lt_true free (free + 1) (omega arith);
     named = λ few.
         let e_named : IsTrue (names_slots f.ints e) = names_more e free f.ints (omega (arith, few)) named in
-        both_true (names_slots f.ints e) ((nat_lt free f.ints && nat_le (a + len) (length code.memory) && names_slots f.ints e) && true) e_named
+        both_true (nat_le len (length code.memory) && names_slots f.ints e)
+        ((nat_lt free f.ints && nat_le (a + len) (length code.memory) && names_slots f.ints e) && true)
+        (both_true (nat_le len (length code.memory)) (names_slots f.ints e) (le_true len (length code.memory) (omega (arith, there))) e_named)
         (both_true (nat_lt free f.ints && nat_le (a + len) (length code.memory) && names_slots f.ints e) true
         (both_true (nat_lt free f.ints && nat_le (a + len) (length code.memory)) (names_slots f.ints e)
         (both_true (nat_lt free f.ints) (nat_le (a + len) (length code.memory)) (lt_true free f.ints (omega (arith, few)))
