@@ -18,7 +18,7 @@ use Rattle.sym_terms.specs.declared.node.Node.{Node}
 use Rattle.sym_terms.specs.declared.node.Node.TheVariants.{Constant}
 use Rattle.sym_exec.specs.Making.{Grows, made}
 use Rattle.sym_exec.specs.Thread.{AreOf, started}
-use Rattle.sym_exec.specs.Alone.{slots_by, HasShortArrays, StandsFor}
+use Rattle.sym_exec.specs.Alone.{slots_by, StandsFor}
 use Rattle.sym_exec.specs.Runs.{begun, begun_with, Suits, ThreadTells}
 use Rattle.sym_exec.proofs.Grown.{grows_made}
 use Rattle.sym_exec.proofs.Sound.{start_sound, start_has}
@@ -58,15 +58,15 @@ module _ {B : Type 0} (ops : BufferOps B) (code : Code) where
     takes = s.takes;
   }
 
-  pub thread_tells : (moves : List Move) (s : State B) (n : Name) (t : Thread B) → IsLawful code → HasShortArrays code
+  pub thread_tells : (moves : List Move) (s : State B) (n : Name) (t : Thread B) → IsLawful code
       → run ops code moves ≡ Some s → fin.get s.threads n ≡ Some t → ThreadTells ops code moves n t
-  thread_tells moves s n t lawful short leads there =
+  thread_tells moves s n t lawful leads there =
       let alone = threads_live_alone ops code moves s n t leads there in
       let b = alone.0 in (
         b,
         λ outcomes fails loads arguments first nodes places count suits.
             let d = begun_with ops code n moves b arguments first nodes in
-            let told = tells code b.function outcomes fails loads places d (begun ops code n moves b) lawful short
+            let told = tells code b.function outcomes fails loads places d (begun ops code n moves b) lawful
             (begun_stands n moves b outcomes fails loads arguments first nodes places suits) in
             record {
               slots = ap (λ (u : Local). u.slots) alone.1

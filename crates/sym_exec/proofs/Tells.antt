@@ -1,13 +1,13 @@
 -- An execution tells what a thread does that goes along the path by itself.
 use Rattle.std.proofs.Common.{◌≡◌, ◌∙◌, ℕ, zero, suc, ◌<◌, ◌≤◌, ◌+◌, ◌-◌, ◌^◌, ℤ, pos, negsuc, List, [], ◌∷◌, ◌++◌, map, length, get_or, set, drop, fold}
 use Rattle.std.proofs.Common.{Bool, true, false, cond, ◌&&◌, Option, Some, None, refl, ap, ap₂, sym, subst, arith, append_assoc}
-use Rattle.std.specs.Prelude.{option_and_then, unwrap_or, int_le, int_lt, nat_lt, ◌-ℤ◌}
+use Rattle.std.specs.Prelude.{option_and_then, unwrap_or, int_le, int_lt, nat_lt, nat_le, ◌-ℤ◌}
 use Rattle.std.specs.Bool.{IsTrue}
 use Rattle.std.specs.List.{list_all, cons_option}
 use Rattle.std.specs.Option.{option_map_or}
 use Rattle.std.proofs.Math.Dec.{leb-suc-suc}
 use Rattle.std.proofs.Math.IntN.{pred_ℤ, -ℤ_one}
-use Rattle.std.proofs.lemmas.Bool.{le-ltb, le-leb}
+use Rattle.std.proofs.lemmas.Bool.{le-ltb, le-leb, leb-true}
 use Rattle.std.proofs.lemmas.List.Elements.{All-push, All-nil}
 use Rattle.std.proofs.lemmas.List.{map-set, map-append, append-nil}
 use Rattle.tc_base.specs.Arith.{is_distance, truth, bits_xor, bits_and, negated, equal}
@@ -17,6 +17,7 @@ use Rattle.tc_base.specs.declared.arith.BinOp.TheVariants.{Xor, Eq, And}
 use Rattle.tc_code.specs.Code.{Code, instr_at, line_at}
 use Rattle.tc_code.specs.Expr.{Expr, names_slots, value_of as expr_value_of}
 use Rattle.tc_code.specs.Instr.{Instr, Set, Load, Load_at, Store, Store_at, Inside, Branch, Holds, Ready, Create, Assert, Nonzero, In_range, Swap, Cas}
+use Rattle.tc_code.specs.Facts.{placed}
 use Rattle.tc_code.specs.Lawful.{IsLawful}
 use Rattle.tc_code.specs.Step.{ints_of, instr_of, value_in, is_within, is_nonzero, cell_at, site, request, local_after, holds, can_be_joined, handle_of}
 use Rattle.tc_runs.specs.Alone.{Alone, after_request, goes_on}
@@ -29,7 +30,7 @@ use Rattle.sym_exec.specs.Making.{Made, AllMade, Grows, made, expr_term, with_ex
 use Rattle.sym_exec.specs.Thread.{Handed, Doing, AreOf, IsSound, term_in, making, symbol_in, after_instr, wanted_of, after_step, after_all}
 use Rattle.sym_exec.specs.Helpers.{names_within}
 use Rattle.sym_exec.specs.Alone.{slots_by, condition, outcomes_of, given_by, given_of, values_in, Asked, exchanged, asked_by, asked_of}
-use Rattle.sym_exec.specs.Alone.{asked_in, outcome_by, TakesFrom, HasShortArrays, StandsFor, Tells}
+use Rattle.sym_exec.specs.Alone.{asked_in, outcome_by, TakesFrom, StandsFor, Tells}
 use Rattle.sym_exec.specs.declared.symbolic.Test.{Test}
 use Rattle.sym_exec.specs.declared.symbolic.Access.{Access}
 use Rattle.sym_exec.specs.declared.symbolic.Cell.TheVariants.{Fixed, Element}
@@ -39,14 +40,14 @@ use Rattle.sym_exec.proofs.Values.{HasValue, value_stays, values_stay, made_term
 use Rattle.sym_exec.proofs.Values.{truth_nonzero}
 
 -- whether an instruction takes a value from memory
-abbrev is_load : Instr → Bool
+abbrev pub is_load : Instr → Bool
 is_load (Load k c) = true
 is_load (Load_at k first len i) = true
 is_load (Swap k c e) = true
 is_load (Cas k c e new) = true
 is_load _ = false
 
-loads_after : (line : ℕ) (wanted : Bool) (d : Doing) (i : Instr) → (after_instr line wanted d i).loads ≡ d.loads + cond (is_load i) 1 0
+pub loads_after : (line : ℕ) (wanted : Bool) (d : Doing) (i : Instr) → (after_instr line wanted d i).loads ≡ d.loads + cond (is_load i) 1 0
 loads_after line wanted d (Load k c) = refl
 loads_after line wanted d (Load_at k first len i) = refl
 loads_after line wanted d (Swap k c e) = refl
@@ -54,9 +55,9 @@ loads_after line wanted d (Cas k c e new) = refl
 loads_after line wanted d _ = omega arith
 
 -- what a thread has after an instruction that its request may fail: the slots, and the values that are left
-record After (t : Local) (i : Instr) (vs : List ℤ) (a : Alone) : Type 0 where
-  slots : a.local.slots ≡ (local_after t i (get_or vs 0 (pos 0))).slots
-  values : a.values ≡ cond (is_load i) (drop 1 vs) vs
+pub record After (t : Local) (i : Instr) (vs : List ℤ) (a : Alone) : Type 0 where
+  pub slots : a.local.slots ≡ (local_after t i (get_or vs 0 (pos 0))).slots
+  pub values : a.values ≡ cond (is_load i) (drop 1 vs) vs
 
 after_site : (t : Local) (i : Instr) (vs : List ℤ) (b : Bool) → is_load i ≡ false → (local_after t i (pos 0)).slots ≡ t.slots
     → (local_after t i (get_or vs 0 (pos 0))).slots ≡ t.slots → After t i vs (after_request t i vs (site b))
@@ -68,7 +69,7 @@ after_site t i (v ∷ vs) false h p q = record { slots = sym q; values = rw h re
 branch_slots : (t : Local) (e : Expr) (to : ℕ) (v w : ℤ) → (local_after t (Branch e to) v).slots ≡ (local_after t (Branch e to) w).slots
 branch_slots t e to v w = refl
 
-after_is : (t : Local) (i : Instr) (vs : List ℤ) → After t i vs (after_request t i vs (request t i))
+pub after_is : (t : Local) (i : Instr) (vs : List ℤ) → After t i vs (after_request t i vs (request t i))
 after_is t (Inside len i) vs = after_site t (Inside len i) vs (is_within len (value_in t i)) refl refl refl
 after_is t (Holds m) vs = after_site t (Holds m) vs (holds t m) refl refl refl
 after_is t (Ready h) vs = after_site t (Ready h) vs (can_be_joined (handle_of t h)) refl refl refl
@@ -127,12 +128,12 @@ within_is len v short =
     ∙ ap (λ b. int_le (pos 0) v && b) (last_is_before v len)
 
 -- what one instruction tells
-record Told (loads : List ℤ) (d e : Doing) (t : Local) (i : Instr) (v : ℤ) : Type 0 where
-  terms : AreTerms e.nodes
-  slots : (local_after t i v).slots ≡ slots_by loads e
-  test : List Test
-  tests : e.tests ≡ d.tests ++ test
-  comes : (later : List Node) → Grows e.nodes later → map (outcome_by later loads) test ≡ cons_option (condition t i) []
+pub record Told (loads : List ℤ) (d e : Doing) (t : Local) (i : Instr) (v : ℤ) : Type 0 where
+  pub terms : AreTerms e.nodes
+  pub slots : (local_after t i v).slots ≡ slots_by loads e
+  pub test : List Test
+  pub tests : e.tests ≡ d.tests ++ test
+  pub comes : (later : List Node) → Grows e.nodes later → map (outcome_by later loads) test ≡ cons_option (condition t i) []
 
 -- a slot takes the value of a term
 set_told : (loads : List ℤ) (d : Doing) (nodes : List Node) (term k : ℕ) (s : List ℤ) (v : ℤ) → Grows d.nodes nodes → AreOf d.nodes d.slots
@@ -153,11 +154,11 @@ test_comes loads x v b step line wanted h is later g =
     ap (λ w. is_nonzero w ∷ []) (value_stays x.nodes later loads x.term g h.within ∙ h.value) ∙ ap (λ c. c ∷ []) is
 
 -- of a test, the length of an index is no more than an int
-abbrev IsShort : Instr → Type 0
+abbrev pub IsShort : Instr → Type 0
 IsShort (Inside len i) = len ≤ 2 ^ 31
 IsShort _ = Unit {0}
 
-told : (loads : List ℤ) (line : ℕ) (wanted : Bool) (d : Doing) (i : Instr) (t : Local) (v : ℤ) → AreTerms d.nodes → IsSound d
+pub told : (loads : List ℤ) (line : ℕ) (wanted : Bool) (d : Doing) (i : Instr) (t : Local) (v : ℤ) → AreTerms d.nodes → IsSound d
     → IsTrue (names_within (length d.slots) i) → IsShort i → t.slots ≡ slots_by loads d → (is_load i ≡ true → get_or loads d.loads (pos 0) ≡ v)
     → Told loads d (after_instr line wanted d i) t i v
 told loads line wanted d (Set k e) t v are s named short is load =
@@ -351,12 +352,12 @@ exprs_values slots loads nodes (e ∷ es) xs vs of g are within named is =
     ∙ append_assoc vs (v ∷ []) (map (λ e. expr_value_of e (map (value_of nodes loads) slots)) es)
 
 -- what an instruction hands over
-record Gives (loads : List ℤ) (d e : Doing) (t : Local) (i : Instr) : Type 0 where
-  hands : List Handed
-  creates : e.creates ≡ d.creates ++ hands
-  given : (later : List Node) → Grows e.nodes later → map (values_in later loads) hands ≡ given_by t i
+pub record Gives (loads : List ℤ) (d e : Doing) (t : Local) (i : Instr) : Type 0 where
+  pub hands : List Handed
+  pub creates : e.creates ≡ d.creates ++ hands
+  pub given : (later : List Node) → Grows e.nodes later → map (values_in later loads) hands ≡ given_by t i
 
-gives : (loads : List ℤ) (line : ℕ) (wanted : Bool) (d : Doing) (i : Instr) (t : Local) → AreTerms d.nodes → IsSound d
+pub gives : (loads : List ℤ) (line : ℕ) (wanted : Bool) (d : Doing) (i : Instr) (t : Local) → AreTerms d.nodes → IsSound d
     → IsTrue (names_within (length d.slots) i) → t.slots ≡ slots_by loads d → Gives loads d (after_instr line wanted d i) t i
 gives loads line wanted d (Create h f es) t are s named is =
     let none : AllMade = record { terms = []; nodes = d.nodes } in
@@ -400,10 +401,10 @@ replaced_value nodes v e f loads a b c are wv we wf va vb vc =
     (value_stays nodes masked.nodes loads v all wv ∙ va) hk.value
 
 -- what an instruction asks of a cell
-record Asks (loads : List ℤ) (d e : Doing) (t : Local) (i : Instr) (v : ℤ) : Type 0 where
-  found : List Access
-  accesses : e.accesses ≡ d.accesses ++ found
-  asked : (later : List Node) → Grows e.nodes later → map (asked_in later loads) found ≡ asked_by v (request t i)
+pub record Asks (loads : List ℤ) (d e : Doing) (t : Local) (i : Instr) (v : ℤ) : Type 0 where
+  pub found : List Access
+  pub accesses : e.accesses ≡ d.accesses ++ found
+  pub asked : (later : List Node) → Grows e.nodes later → map (asked_in later loads) found ≡ asked_by v (request t i)
 
 asked_is : (c d : ℕ) (k l v w : Option ℤ) → c ≡ d → k ≡ l → v ≡ w
     → ◌≡◌ {A = List Asked} (record { cell = c; takes = k; writes = v } ∷ []) (record { cell = d; takes = l; writes = w } ∷ [])
@@ -422,7 +423,7 @@ in_later : (loads : List ℤ) (x : Made) (e : Expr) (t : Local) (d : Doing) (lat
     → t.slots ≡ slots_by loads d → Grows x.nodes later → value_of later loads x.term ≡ value_in t e
 in_later loads x e t d later h is g = value_stays x.nodes later loads x.term g h.within ∙ h.value ∙ ap (expr_value_of e) (sym is)
 
-asks : (loads : List ℤ) (line : ℕ) (wanted : Bool) (d : Doing) (i : Instr) (t : Local) (v : ℤ) → AreTerms d.nodes → IsSound d
+pub asks : (loads : List ℤ) (line : ℕ) (wanted : Bool) (d : Doing) (i : Instr) (t : Local) (v : ℤ) → AreTerms d.nodes → IsSound d
     → IsTrue (names_within (length d.slots) i) → t.slots ≡ slots_by loads d → (is_load i ≡ true → get_or loads d.loads (pos 0) ≡ v)
     → Asks loads d (after_instr line wanted d i) t i v
 asks loads line wanted d (Load k c) t v are s named is load = record {
@@ -556,9 +557,13 @@ module _ (code : Code) (f : ℕ) (outcomes : List Bool) (fails : Option ℕ) whe
       let e = after_step code f outcomes fails d place in
       omega (arith, loads_by d place (instr_at code f place), loads_grow places e)
 
-short_is : (code : Code) (f place : ℕ) (i : Instr) → HasShortArrays code → instr_at code f place ≡ Some i → IsShort i
-short_is code f place (Inside len i) short at = short f place len i at
-short_is code f place _ short at = tt
+-- lawful code tests no index against more cells than there are
+pub short_is : (code : Code) (f place : ℕ) (i : Instr) → IsLawful code → instr_at code f place ≡ Some i → IsShort i
+short_is code f place (Inside len i) lawful at =
+    let p = placed code f place (Inside len i) lawful at in
+    let few = leb-true len (length code.memory) (both_pass (nat_le len (length code.memory)) (names_slots p.function.ints i) (p.lawful.names place (Inside len i) p.at)).0 in
+    omega (arith, few, lawful.cells)
+short_is code f place _ lawful at = tt
 
 -- what a step adds, and what the later steps add
 more : {A B : Type 0} (fn : A → B) (old new all : List A) (here later : List B) → all ≡ old ++ new → map fn new ≡ here
@@ -567,7 +572,7 @@ more fn old new all here later is gives =
     ap (λ xs. map fn xs ++ later) is ∙ ap (λ xs. xs ++ later) (map-append fn old new ∙ ap (λ xs. map fn old ++ xs) gives)
     ∙ append_assoc (map fn old) here later
 
-module _ (code : Code) (f : ℕ) (outcomes : List Bool) (fails : Option ℕ) (loads : List ℤ) (lawful : IsLawful code) (short : HasShortArrays code) where
+module _ (code : Code) (f : ℕ) (outcomes : List Bool) (fails : Option ℕ) (loads : List ℤ) (lawful : IsLawful code) where
   abbrev after : Doing → List ℕ → Doing
   after d places = after_all code f outcomes fails d places
 
@@ -639,7 +644,7 @@ module _ (code : Code) (f : ℕ) (outcomes : List Bool) (fails : Option ℕ) (lo
       let zero : d.loads + 0 ≡ d.loads = omega arith in
       ap (λ n. get_or loads n (pos 0)) (sym zero) ∙ s.takes 0 (omega (arith, up, counted, one)) in
       let t = told loads line wanted d i a.local v s.terms s.sound
-      (instr_named code f place (length d.slots) i lawful at s.ints) (short_is code f place i short at)
+      (instr_named code f place (length d.slots) i lawful at s.ints) (short_is code f place i lawful at)
       s.slots takes in
       let k = asks loads line wanted d i a.local v s.terms s.sound (instr_named code f place (length d.slots) i lawful at s.ints) s.slots takes in
       let h = gives loads line wanted d i a.local s.terms s.sound (instr_named code f place (length d.slots) i lawful at s.ints) s.slots in
@@ -704,5 +709,5 @@ module _ (code : Code) (f : ℕ) (outcomes : List Bool) (fails : Option ℕ) (lo
       }
 
 pub tells : (code : Code) (f : ℕ) (outcomes : List Bool) (fails : Option ℕ) (loads : List ℤ) (places : List ℕ) (d : Doing) (a : Alone)
-    → IsLawful code → HasShortArrays code → StandsFor code f outcomes fails loads places d a → Tells code f outcomes fails loads places d a
-tells code f outcomes fails loads places d a lawful short s = all_told code f outcomes fails loads lawful short places d a s
+    → IsLawful code → StandsFor code f outcomes fails loads places d a → Tells code f outcomes fails loads places d a
+tells code f outcomes fails loads places d a lawful s = all_told code f outcomes fails loads lawful places d a s

@@ -1,5 +1,5 @@
 -- What the execution of a path tells of a thread that goes along it by itself, under the values that the loads take.
-use Rattle.std.specs.Prelude.{◌≡◌, ℕ, zero, suc, ◌+◌, ◌<◌, ◌≤◌, ◌^◌, ℤ, pos, List, [], ◌∷◌, ◌++◌, map, length, Bool, Option, Some, None, option_map}
+use Rattle.std.specs.Prelude.{◌≡◌, ℕ, zero, suc, ◌+◌, ◌<◌, ◌≤◌, ℤ, pos, List, [], ◌∷◌, ◌++◌, map, length, Bool, Option, Some, None, option_map}
 use Rattle.std.specs.Prelude.{option_and_then, slice_index_or}
 use Rattle.std.specs.List.{cons_option}
 use Rattle.std.specs.Option.{option_map_or}
@@ -8,7 +8,6 @@ use Rattle.tc_base.specs.declared.request.Request.{Request}
 use Rattle.tc_base.specs.declared.request.Request.TheVariants.{Read, Write, Exchange, CompareExchange}
 use Rattle.tc_base.specs.States.{Local}
 use Rattle.tc_code.specs.Code.{Code, instr_at}
-use Rattle.tc_code.specs.Expr.{Expr}
 use Rattle.tc_code.specs.Instr.{Instr, Inside, Branch, Create, Assert, Nonzero, In_range}
 use Rattle.tc_code.specs.Step.{ints_of, instr_of, value_in, is_within, is_nonzero, cell_at, request}
 use Rattle.tc_runs.specs.Alone.{Alone, goes_on, after_steps}
@@ -100,10 +99,6 @@ GoesAlong code f (place ∷ places) a = (instr_of code a.local ≡ instr_at code
 -- the loads from one number on up to another take these values
 abbrev pub TakesFrom : List ℤ → ℕ → ℕ → List ℤ → Type 0
 TakesFrom loads first end values = (k : ℕ) → first + k < end → slice_index_or loads (first + k) (pos 0) ≡ slice_index_or values k (pos 0)
-
--- no index is tested against a length that no int reaches
-abbrev pub HasShortArrays : Code → Type 0
-HasShortArrays code = (f place len : ℕ) (i : Expr) → instr_at code f place ≡ Some (Inside len i) → len ≤ 2 ^ 31
 
 module _ (code : Code) (f : ℕ) (outcomes : List Bool) (fails : Option ℕ) (loads : List ℤ) where
   -- an execution that stands for a thread, which goes along the places

@@ -9,7 +9,7 @@ ghost use Rattle.tc_code.specs.Code.{Code};
 ghost use Rattle.tc_code.specs.Lawful.{IsLawful};
 ghost use Rattle.tc_code.specs.Run.{run};
 ghost use Rattle.tc_runs.specs.Alone.{Alone};
-ghost use Rattle.sym_exec.specs.Alone.{HasShortArrays, StandsFor, Tells};
+ghost use Rattle.sym_exec.specs.Alone.{StandsFor, Tells};
 ghost use Rattle.sym_exec.specs.Runs.{ThreadTells};
 ghost use Rattle.sym_exec.specs.Thread.{Doing};
 
@@ -20,12 +20,12 @@ ghost use Rattle.sym_exec.specs.Thread.{Doing};
 /// It speaks of any part of a path, from any execution that stands for the thread at its beginning.
 pub fn executions_tell()
     ensures { (code : Code) (f : ℕ) (outcomes : List Bool) (fails : Option ℕ) (loads : List ℤ) (places : List ℕ) (d : Doing) (a : Alone)
-        → IsLawful code → HasShortArrays code → StandsFor code f outcomes fails loads places d a → Tells code f outcomes fails loads places d a }
+        → IsLawful code → StandsFor code f outcomes fails loads places d a → Tells code f outcomes fails loads places d a }
 {}
 
 /// So it is in every run, under every memory model: a thread that was created with arguments, and went along the places
 /// since, has in each slot the value of its term, where the terms of the arguments have the values that were handed over.
 pub fn threads_tell<B>()
     ensures { (ops : BufferOps B) (code : Code) (moves : List Move) (s : State B) (n : Name) (t : Thread B)
-        → IsLawful code → HasShortArrays code → run ops code moves ≡ Some s → fin.get s.threads n ≡ Some t → ThreadTells ops code moves n t }
+        → IsLawful code → run ops code moves ≡ Some s → fin.get s.threads n ≡ Some t → ThreadTells ops code moves n t }
 {}
