@@ -1,3 +1,7 @@
 pub mod Local
+pub mod Does
 pub mod States
+pub mod Functions
+pub mod Prefixes
 pub mod Logs
+pub mod Deeds

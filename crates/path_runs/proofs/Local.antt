@@ -32,7 +32,7 @@ branched_more next to (true ∷ os) more on h =
 branched_more next to (false ∷ os) more on h =
     ap (λ (o : Onward). Some (record { place = o.place; outcomes = o.outcomes ++ more })) (same_Some (record { place = to; outcomes = os }) on h)
 
-onward_more : (k : ℕ) (i : Instr) (os more : List Bool) (on : Onward) → onward k i os ≡ Some on
+pub onward_more : (k : ℕ) (i : Instr) (os more : List Bool) (on : Onward) → onward k i os ≡ Some on
     → onward k i (os ++ more) ≡ Some (record { place = on.place; outcomes = on.outcomes ++ more })
 onward_more k (Branch e to) os more on h = branched_more (k + 1) to os more on h
 onward_more k (Goto to) os more on h =
@@ -161,7 +161,8 @@ more_than_none xs s = by (length (xs ++ s ∷ []) == 0) refl
 
 -- the marked steps, with one more, which fails or doesn't
 pub marked_push : (fails : Bool) (k : ℕ) (m : Marks) (ss : List Step) (s : Step)
-    → marked_from fails k m (ss ++ s ∷ []) ≡ marked_from false k m ss ++ record { number = k + length ss; step = s; fails = fails; marks = marks_after m ss } ∷ []
+    → marked_from fails k m (ss ++ s ∷ [])
+    ≡ marked_from false k m ss ++ record { number = k + length ss; step = s; fails = fails; marks = marks_after m ss } ∷ []
 marked_push fails k m [] s =
     let number : k ≡ k + 0 = omega arith in
     ap₂ (λ n b. the_marked (record { number = n; step = s; fails = b; marks = m } ∷ [])) number (and_true fails)
@@ -174,7 +175,8 @@ marked_push fails k m (x ∷ ss) s =
     ap₂ (λ b rest. the_marked (record { number = k; step = x; fails = b; marks = m } ∷ rest))
     (ap (λ b. fails && b) (more_than_none ss s) ∙ and_false fails)
     (marked_push fails (k + 1) (marked m x.instr) ss s
-    ∙ ap (λ n. the_marked (marked_from false (k + 1) (marked m x.instr) ss ++ record { number = n; step = s; fails = fails; marks = marks_after (marked m x.instr) ss } ∷ [])) number)
+    ∙ ap (λ n. the_marked (marked_from false (k + 1) (marked m x.instr) ss
+    ++ record { number = n; step = s; fails = fails; marks = marks_after (marked m x.instr) ss } ∷ [])) number)
   where
     and_false : (b : Bool) → (b && false) ≡ false
     and_false true = refl
@@ -195,13 +197,13 @@ any_push p (y ∷ xs) x h q = by (p y) h (λ g. any_push p xs x g q)
 -- The path of a thread, with the step that it does.
 
 module _ (code : Code) (t u : Local) (i : Instr) (ps : List ℕ) (along : IsAlong code t ps) (at : instr_at code t.function t.instruction ≡ Some i) where
-  abbrev now : Step
+  abbrev pub now : Step
   now = record { place = t.instruction; instr = i }
 
   step_is : step_at code t.function t.instruction ≡ now
   step_is = ap (λ o. the_step (record { place = t.instruction; instr = unwrap_or o Exit })) at
 
-  steps_push : steps_at code t.function (ps ++ t.instruction ∷ []) ≡ steps_at code t.function ps ++ now ∷ []
+  pub steps_push : steps_at code t.function (ps ++ t.instruction ∷ []) ≡ steps_at code t.function ps ++ now ∷ []
   steps_push = map-append (step_at code t.function) ps (t.instruction ∷ []) ∙ ap (λ s. steps_at code t.function ps ++ s ∷ []) step_is
 
   pub started_push : started (steps_at code t.function (ps ++ t.instruction ∷ [])) ≡ started (steps_at code t.function ps) ++ cons_option (starts i) []
@@ -236,7 +238,9 @@ module _ (code : Code) (t u : Local) (i : Instr) (ps : List ℕ) (along : IsAlon
             ∙ more.end;
         marks =
             subst (λ f. HasMarks u (marks_after (unmarked code f) (steps_at code f (ps ++ t.instruction ∷ [])))) (sym m.function)
-            (subst (HasMarks u) (sym (ap (marks_after (unmarked code t.function)) steps_push ∙ marks-append (unmarked code t.function) (steps_at code t.function ps) (now ∷ []))) marks);
+            (subst (HasMarks u)
+            (sym (ap (marks_after (unmarked code t.function)) steps_push ∙ marks-append (unmarked code t.function) (steps_at code t.function ps) (now ∷ [])))
+            marks);
         children =
             ap (λ f. length (started (steps_at code f (ps ++ t.instruction ∷ [])))) m.function
             ∙ ap length started_push

@@ -1,7 +1,7 @@
 -- A log that some moves reproduce.
-use Rattle.std.proofs.Common.{◌≡◌, ◌∙◌, ◌⊎◌, inl, inr, ℕ, zero, suc, ◌-◌, ◌≤◌, ◌<◌, Bool, true, false, ◌||◌, cond, List, [], ◌∷◌, ◌++◌, length}
-use Rattle.std.proofs.Common.{IsSome, Option, Some, None, Result, Ok, Err, refl, sym, ap, ap₂, arith, append-nil, bytes_eq}
-use Rattle.std.specs.Prelude.{slice_get, unwrap_or, option_and_then, option_map, IsSomeAnd}
+use Rattle.std.proofs.Common.{◌≡◌, ◌∙◌, ◌⊎◌, inl, inr, ℕ, zero, suc, ◌-◌, ◌<◌, Bool, true, false, ◌||◌, cond, List, [], ◌∷◌, ◌++◌, length}
+use Rattle.std.proofs.Common.{IsSome, Some, None, Result, Ok, Err, refl, sym, ap, ap₂, arith, append-nil}
+use Rattle.std.specs.Prelude.{slice_get, unwrap_or, option_and_then, option_map}
 use Rattle.std.specs.FinMap as fin
 use Rattle.std.specs.List.{list_any, cons_option}
 use Rattle.std.specs.Option.{option_map_or}
@@ -10,7 +10,7 @@ use Rattle.std.proofs.lemmas.List.{length-append}
 use Rattle.std.proofs.lemmas.Option.{none-some}
 use Rattle.tc_base.specs.Names.{Name, child}
 use Rattle.tc_base.specs.Buffers.{BufferOps}
-use Rattle.tc_base.specs.Logs.{Log, ThreadPath, failing_of, path_under}
+use Rattle.tc_base.specs.Logs.{Log, ThreadPath, path_under}
 use Rattle.tc_base.specs.States.{Local, Thread, State}
 use Rattle.tc_base.specs.declared.moves.Move.{Move}
 use Rattle.tc_code.specs.Code.{Code, instr_at}
@@ -31,12 +31,11 @@ use Rattle.path_walk.proofs.Faults.{option_is, there, not_there, HasParent, pare
 use Rattle.tc_runs.proofs.Main.{main_is_there}
 use Rattle.tc_runs.proofs.Created.{reached_is_created}
 use Rattle.path_walk.proofs.Drafts.{under_own}
+use Rattle.path_runs.specs.Prefixes.{fails_by}
+use Rattle.path_runs.proofs.Functions as functions
+use Rattle.path_runs.proofs.Prefixes.{fails_as, thread_path}
 use Rattle.path_runs.proofs.Local.{still_possible, started_push, marks_here}
-use Rattle.path_runs.proofs.States.{Stands, created, stands_places, told_is, fails_by, fail_is_site, fail_possible, AllKnown, reached_known}
-
-get_last : {X : Type 0} (xs : List X) (x : X) → slice_get (xs ++ x ∷ []) (length xs) ≡ Some x
-get_last [] x = refl
-get_last (y ∷ xs) x = get_last xs x
+use Rattle.path_runs.proofs.States.{Stands, stands_places, fail_is_site, fail_possible, get_last, AllKnown, reached_known}
 
 get_end : {X : Type 0} (xs : List X) (x : X) → slice_get (xs ++ x ∷ []) (length (xs ++ x ∷ []) - 1) ≡ Some x
 get_end xs x =
@@ -108,61 +107,28 @@ module _ (code : Code) where
     known : AllKnown code s.threads s.failed
     known = reached_known ops code lawful s reached
 
-    same_failing : (o : Option Name) → IsSomeAnd o (λ n. s.failed ≡ Some n) → o ≡ s.failed
-    same_failing None h = absurd h
-    same_failing (Some m) h = sym h
-
-    fails_as : (n : Name) → fails_in log n ≡ fails_by s.failed n
-    fails_as n = ap (λ o. option_map_or (bytes_eq n) o false) (same_failing (failing_of log) r.failing)
-
-    thread_path : (n : Name) (t : Thread B) → fin.get s.threads n ≡ Some t → path_under n log.threads ≡ Some (path_of t)
-    thread_path n t there = sym (r.paths n) ∙ ap (option_map path_of) there
-
     no_path : (n : Name) → fin.get s.threads n ≡ None → path_under n log.threads ≡ None
     no_path n none = sym (r.paths n) ∙ ap (option_map path_of) none
 
     placed : (n : Name) (t : Thread B) (there : fin.get s.threads n ≡ Some t)
         → places_of code t.local.function (fails_in log n) (path_of t) ≡ Ok (known n t there).places
     placed n t there =
-        ap (λ b. places_of code t.local.function b (path_of t)) (fails_as n)
+        ap (λ b. places_of code t.local.function b (path_of t)) (fails_as ops code log moves r n)
         ∙ sited (fails_by s.failed n) t.local (known n t there).places (known n t there).stands
 
     places_are : (n : Name) (t : Thread B) (there : fin.get s.threads n ≡ Some t) → places_in code log n t.local.function ≡ (known n t there).places
-    places_are n t there = ap (λ x. result_unwrap_or x []) (walked_there code log n t.local.function (path_of t) (thread_path n t there) ∙ placed n t there)
+    places_are n t there =
+        ap (λ x. result_unwrap_or x [])
+        (walked_there code log n t.local.function (path_of t) (thread_path ops code log moves r n t there) ∙ placed n t there)
 
     -- the functions that a thread's path creates are those that it has created
     child_is : (n : Name) (t : Thread B) (there : fin.get s.threads n ≡ Some t) (j : ℕ)
         → child_function code log n t.local.function (suc j) ≡ slice_get (started (steps_at code t.local.function (known n t there).places)) j
     child_is n t there j = ap (λ xs. slice_get (started (steps_at code t.local.function xs)) j) (places_are n t there)
 
-    born_child : (n : Name) (t : Thread B) (there : fin.get s.threads n ≡ Some t) (j f : ℕ) → slice_get (created code t.local) j ≡ Some f
-        → child_function code log n t.local.function (suc j) ≡ Some f
-    born_child n t there j f at =
-        child_is n t there j
-        ∙ ap (λ xs. slice_get (started (steps_at code t.local.function xs)) j)
-        (sym (told_is code (fails_by s.failed n) t.local (known n t there).places (known n t there).stands))
-        ∙ at
-
     -- each thread's function is that of the code and log
-    has_function : (m : ℕ) (n : Name) (t : Thread B) → length n ≤ m → fin.get s.threads n ≡ Some t → function_of code log n ≡ Some t.local.function
-    has_function zero n t few there =
-        elim (known n t there).born [
-          | inl is ↦ ap (function_of code log) is.0 ∙ ap (λ f. Some f) (sym is.1)
-          | inr b ↦ absurd (omega (arith, few, ap length b.name, length-append b.parent (suc b.number ∷ [])))
-        ]
-    has_function (suc m) n t few there =
-        elim (known n t there).born [
-          | inl is ↦ ap (function_of code log) is.0 ∙ ap (λ f. Some f) (sym is.1)
-          | inr b ↦
-              let less : length b.parent ≤ m = omega (arith, few, ap length b.name, length-append b.parent (suc b.number ∷ [])) in
-              ap (function_of code log) b.name
-              ∙ function_of_child code log b.parent (suc b.number)
-              ∙ ap (option_and_then (λ g. child_function code log b.parent g (suc b.number))) (has_function m b.parent b.thread less b.there)
-              ∙ born_child b.parent b.thread b.there b.number t.local.function b.creates
-        ]
-
     function_is : (n : Name) (t : Thread B) → fin.get s.threads n ≡ Some t → function_of code log n ≡ Some t.local.function
-    function_is n t there = has_function (length n) n t (omega arith) there
+    function_is = functions.function_is code log s known (λ n t there function. ([], places_are n t there ∙ sym (append-nil (known n t there).places)))
 
     -- nothing creates a name that is no thread
     beyond : (p : Name) (t : Thread B) (there : fin.get s.threads p ≡ Some t) (j : ℕ) (xs : List ℕ) → length xs ≡ t.local.children
@@ -206,7 +172,7 @@ module _ (code : Code) where
         elim (option_is (fin.get s.threads n)) [
           | inl none ↦ nobody code log n (none_created n none) (no_path n none)
           | inr is ↦
-              by_path code log n is.0.local.function (path_of is.0) (function_is n is.0 is.1) (thread_path n is.0 is.1)
+              by_path code log n is.0.local.function (path_of is.0) (function_is n is.0 is.1) (thread_path ops code log moves r n is.0 is.1)
               ∙ ap result_err (placed n is.0 is.1)
         ]
 
@@ -219,7 +185,8 @@ module _ (code : Code) where
               let f = x.local.function in
               ap (λ o. list_any is_impossible (marked_steps code (unwrap_or o 0) (fails_in log t.name)
               (steps_at code (unwrap_or o 0) (places_in code log t.name (unwrap_or o 0))))) (function_is t.name x is.1)
-              ∙ ap₂ (λ b xs. list_any is_impossible (marked_steps code f b (steps_at code f xs))) (fails_as t.name) (places_are t.name x is.1)
+              ∙ ap₂ (λ b xs. list_any is_impossible (marked_steps code f b (steps_at code f xs)))
+              (fails_as ops code log moves r t.name) (places_are t.name x is.1)
               ∙ alive (fails_by s.failed t.name) x.local (known t.name x is.1).places (known t.name x is.1).stands
         ]
 

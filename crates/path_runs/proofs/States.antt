@@ -1,13 +1,12 @@
 -- What holds of the paths of all threads, in each state of a run.
 use Rattle.std.proofs.Common.{◌≡◌, ◌≢◌, ◌∙◌, ◌⊎◌, inl, inr, ℕ, zero, suc, ◌+◌, ◌-◌, ℤ, pos, ◌||◌, Bool, true, false, List, [], ◌∷◌, ◌++◌, length}
-use Rattle.std.proofs.Common.{Option, Some, None, Ok, refl, sym, ap, ap₂, subst, arith, append-nil, slice_index_or, slice_set, IsTrue, true≢false, bytes_eq}
-use Rattle.std.specs.Prelude.{slice_get, is_none, not, if◌then◌else◌}
+use Rattle.std.proofs.Common.{Option, Some, None, Ok, refl, sym, ap, ap₂, subst, arith, append-nil, slice_index_or, IsTrue, true≢false}
+use Rattle.std.specs.Prelude.{slice_get, is_none, not}
 use Rattle.std.specs.FinMap as fin
 use Rattle.std.specs.Ordering.{nat_cmp}
 use Rattle.std.specs.Cmp.Lexicographic.{slice_cmp}
 use Rattle.std.specs.List.{cons_option}
 use Rattle.std.specs.Bool.{beq}
-use Rattle.std.specs.Option.{option_map_or}
 use Rattle.std.specs.Result.{result_unwrap_or}
 use Rattle.std.proofs.lemmas.Option.{none-some}
 use Rattle.tc_base.specs.Names.{Name, ByName, child}
@@ -15,20 +14,21 @@ use Rattle.tc_base.specs.Buffers.{BufferOps}
 use Rattle.tc_base.specs.States.{Local, Thread, State}
 use Rattle.tc_base.specs.declared.handle.Handle.TheVariants.{Unset}
 use Rattle.tc_base.specs.declared.request.Request.{Request}
-use Rattle.tc_base.specs.declared.request.Request.TheVariants.{Write, Acquire, Start, Fail}
+use Rattle.tc_base.specs.declared.request.Request.TheVariants.{Acquire, Start, Fail}
 use Rattle.tc_code.specs.Code.{Code, instr_at}
 use Rattle.tc_code.specs.Facts.{at_its_place}
 use Rattle.tc_code.specs.Instr.{Instr, Inside, Branch, Goto, Holds, Lock}
 use Rattle.tc_code.specs.Instr.{Signal, Create, Ready, Assert, Nonzero, In_range}
 use Rattle.tc_code.specs.Lawful.{IsLawful}
 use Rattle.tc_code.specs.Run.{IsReached}
-use Rattle.tc_code.specs.Step.{request, site, holds, handle_of, can_be_joined, stepped, local_after, arguments_of, instr_of, allows, drains_first, perform, with_thread, born, woken, opening}
+use Rattle.tc_code.specs.Step.{request, site, holds, handle_of, can_be_joined, stepped, local_after, arguments_of, instr_of, allows}
+use Rattle.tc_code.specs.Step.{drains_first, perform, with_thread, born, woken, opening}
 use Rattle.tc_code.specs.Step as machine
 use Rattle.path_walk.specs.Steps.{onward, places_from, steps_at, is_site}
 use Rattle.path_walk.specs.Fits.{starts, started}
 use Rattle.path_walk.specs.Marks.{Marks}
 use Rattle.path_walk.specs.Events.{excludes}
-use Rattle.path_walk.proofs.Names.{same_true, same_refl}
+use Rattle.path_walk.proofs.Names.{same_refl}
 use Rattle.tc_runs.specs.Laws.{owner_of}
 use Rattle.tc_runs.proofs.Basics.{second}
 use Rattle.tc_runs.proofs.Changes.{is_fail, site_is_true}
@@ -36,9 +36,11 @@ use Rattle.tc_runs.proofs.Created.{child_is_new}
 use Rattle.tc_runs.proofs.Names.{same_or_apart, one_under, get_put, get_put_apart, get_put_cases, child_apart}
 use Rattle.tc_runs.proofs.Owners.{owners_hold}
 use Rattle.tc_history.proofs.Frame.{Keeps, holds_after}
-use Rattle.tc_history.proofs.Lists.{by_bool}
-use Rattle.tc_history.proofs.Threads.{own, with_born, performed_threads}
+use Rattle.tc_history.specs.Locals.{after_step}
+use Rattle.tc_history.proofs.Threads.{own, with_born, performed_threads, steps_by}
 use Rattle.path_runs.specs.Along.{HasMarks, IsAlong}
+use Rattle.path_runs.specs.Prefixes.{fails_by}
+use Rattle.path_runs.proofs.Does.{bytes_other, failed_after, failed_is}
 use Rattle.path_runs.proofs.Local.{one_more, moves, marks_move, children_move, started_push, goes_along, marks_here}
 
 -- A site that is false.
@@ -56,6 +58,7 @@ fail_is_site t (Nonzero e) h = refl
 fail_is_site t (In_range e) h = refl
 fail_is_site t i h = absurd cc
 
+-- it leads to the next place
 site_leads : (t : Local) (k : ℕ) (i : Instr) → request t i ≡ Fail → onward k i [] ≡ Some (record { place = k + 1; outcomes = [] })
 site_leads t k (Branch e to) h = absurd cc
 site_leads t k (Goto to) h = absurd cc
@@ -69,25 +72,56 @@ fail_possible t m (Ready k) h marks =
     ap (λ b. beq b true) (ap (λ xs. can_be_joined (slice_index_or xs k Unset)) marks.handles ∙ site_fails (can_be_joined (handle_of t k)) h)
 fail_possible t m _ h marks = refl
 
-bytes_other : (q n : Name) → q ≢ n → bytes_eq q n ≡ false
-bytes_other q n apart = by (bytes_eq q n) refl
-  where
-    by : (b : Bool) → bytes_eq q n ≡ b → b ≡ false
-    by true e = absurd (apart (same_true q n e))
-    by false e = refl
+-- A step of a thread, one at which it fails included.
 
-get_front : {X : Type 0} (xs more : List X) (k : ℕ) (x : X) → slice_get xs k ≡ Some x → slice_get (xs ++ more) k ≡ Some x
+-- where a step leads, with its outcome if it has one
+record IsLed (t u : Local) (i : Instr) : Type 0 where
+  more : List Bool
+  outcomes : u.outcomes ≡ t.outcomes ++ more
+  to : ℕ
+  leads : onward t.instruction i more ≡ Some (record { place = to; outcomes = [] })
+
+-- so does each instruction that doesn't fail
+led_on : (t : Local) (i : Instr) (v : ℤ) → IsLed t (local_after t i v) i
+led_on t i v =
+    let m = moves t i v in record { more = m.more; outcomes = m.outcomes; to = (local_after t i v).instruction; leads = m.leads }
+
+-- and each step
+led_by : (t : Local) (i : Instr) (r : Request) (v : ℤ) → request t i ≡ r → IsLed t (after_step t i r v) i
+led_by t i Fail v asks = record {
+  more = [];
+  outcomes = sym (append-nil t.outcomes);
+  to = t.instruction + 1;
+  leads = site_leads t t.instruction i asks;
+}
+led_by t i _ v asks = led_on t i v
+
+-- a step leaves the function
+pub same_function : (t : Local) (i : Instr) (r : Request) (v : ℤ) → (after_step t i r v).function ≡ t.function
+same_function t i Fail v = refl
+same_function t i _ v = (moves t i v).function
+
+-- where a thread is along places, a step adds the place of its instruction
+pub step_told : (code : Code) (t : Local) (i : Instr) (r : Request) (v : ℤ) (ps : List ℕ) → IsAlong code t ps → instr_at code t.function t.instruction ≡ Some i
+    → request t i ≡ r
+    → places_from code (after_step t i r v).function (after_step t i r v).steps 0 (after_step t i r v).outcomes ≡ Ok (ps ++ t.instruction ∷ [])
+step_told code t i r v ps along at asks =
+    let u = after_step t i r v in
+    let led = led_by t i r v asks in
+    let steps : u.steps ≡ suc t.steps = steps_by t i r v ∙ omega arith in
+    let more = one_more code t.function t.steps 0 t.outcomes led.more ps t.instruction i led.to along.told along.end at led.leads in
+    ap₂ (λ f n. places_from code f n 0 u.outcomes) (same_function t i r v) steps
+    ∙ ap (places_from code t.function (suc t.steps) 0) led.outcomes
+    ∙ more.places
+
+pub get_front : {X : Type 0} (xs more : List X) (k : ℕ) (x : X) → slice_get xs k ≡ Some x → slice_get (xs ++ more) k ≡ Some x
 get_front [] more k x e = absurd (none-some x e)
 get_front (y ∷ xs) more zero x e = e
 get_front (y ∷ xs) more (suc k) x e = get_front xs more k x e
 
-get_last : {X : Type 0} (xs : List X) (x : X) → slice_get (xs ++ x ∷ []) (length xs) ≡ Some x
+pub get_last : {X : Type 0} (xs : List X) (x : X) → slice_get (xs ++ x ∷ []) (length xs) ≡ Some x
 get_last [] x = refl
 get_last (y ∷ xs) x = get_last xs x
-
--- whether the thread of a name is the one that failed
-abbrev pub fails_by : Option Name → Name → Bool
-fails_by o n = option_map_or (bytes_eq n) o false
 
 module _ (code : Code) where
   -- a thread failed at a site that is false, and stayed there
@@ -106,7 +140,7 @@ module _ (code : Code) where
   Stands true t ps = HasFailed t ps
   Stands false t ps = IsAlong code t ps
 
-  abbrev told : Local → List ℕ
+  abbrev pub told : Local → List ℕ
   told t = result_unwrap_or (places_from code t.function t.steps 0 t.outcomes) []
 
   -- the functions of the children that it has created
@@ -115,14 +149,8 @@ module _ (code : Code) where
 
   failed_places : (t : Local) (ps : List ℕ) → HasFailed t ps → places_from code t.function t.steps 0 t.outcomes ≡ Ok ps
   failed_places t ps h =
-      let b = h.before in
-      let steps : b.steps + 1 ≡ suc b.steps = omega arith in
-      let at = at_its_place code b h.instr h.at in
-      let more = one_more code b.function b.steps 0 b.outcomes [] h.front b.instruction h.instr (b.instruction + 1) h.along.told h.along.end at
-      (site_leads b b.instruction h.instr h.asks) in
       ap (λ (x : Local). places_from code x.function x.steps 0 x.outcomes) h.is
-      ∙ ap₂ (λ n os. places_from code b.function n 0 os) steps (sym (append-nil b.outcomes))
-      ∙ more.places
+      ∙ step_told code h.before h.instr Fail (pos 0) h.front h.along (at_its_place code h.before h.instr h.at) h.asks
       ∙ ap (λ xs. Ok xs) (sym h.all)
 
   pub stands_places : (b : Bool) (t : Local) (ps : List ℕ) → Stands b t ps → places_from code t.function t.steps 0 t.outcomes ≡ Ok ps
@@ -279,22 +307,6 @@ module _ {B : Type 0} (ops : BufferOps B) (code : Code) (lawful : IsLawful code)
         ∙ passes_beq (can_be_joined (handle_of t.local k)) (site_is_true (can_be_joined (handle_of t.local k)) passes)
     run_possible i passes may = refl
 
-  abbrev the_store : State B → Name → Thread B → Instr → ℕ → ℤ → Bool → State B
-  the_store s n t i c v b =
-      if b
-      then with_thread s n (record { local = local_after t.local i (pos 0); buffer = ops.issue t.buffer c v })
-      else record (machine.did ops s n t i) { memory = slice_set s.memory c v }
-
-  -- who failed after a request
-  abbrev failed_after : Request → Name → Option Name
-  failed_after Fail n = Some n
-  failed_after _ n = None
-
-  failed_is : (s : State B) (n : Name) (t : Thread B) (i : Instr) (r : Request) → s.failed ≡ None → (perform ops code s n t i r).failed ≡ failed_after r n
-  failed_is s n t i (Write c v) going = by_bool (λ b. (the_store s n t i c v b).failed ≡ None) ops.buffered going going
-  failed_is s n t i Fail going = refl
-  failed_is s n t i _ going = going
-
   site_starts_none : (b : Bool) (f : ℕ) → site b ≡ Start f → ⊥
   site_starts_none true f e = cc
   site_starts_none false f e = cc
@@ -406,7 +418,7 @@ module _ {B : Type 0} (ops : BufferOps B) (code : Code) (lawful : IsLawful code)
   keeps_known = record {
     ran = λ s h n t i r reached going there at asks may known.
         let known : AllKnown code s.threads None = subst (AllKnown code s.threads) going known in
-        known_kept (perform ops code s n t i r) _ _ (performed_threads ops code s n t i r) (failed_is s n t i r going)
+        known_kept (perform ops code s n t i r) _ _ (performed_threads ops code s n t i r) (failed_is ops code s n t i r going)
         (asked_known s n t i reached there at known r asks (subst (λ q. IsTrue (allows ops s n t q)) (sym asks) may));
     waked = λ s h n u t c reached going there at empty waits known.
         let known : AllKnown code s.threads None = subst (AllKnown code s.threads) going known in
@@ -415,7 +427,8 @@ module _ {B : Type 0} (ops : BufferOps B) (code : Code) (lawful : IsLawful code)
         let known : AllKnown code s.threads None = subst (AllKnown code s.threads) going known in
         let k = known n t there in
         known_kept (machine.drained ops s n t form) _ None refl going
-        (put_known code s.threads n t (record t { buffer = (ops.drain t.buffer form).rest }) None there known refl k.places k.stands [] (sym (append-nil (created code t.local))) (λ q apart. refl));
+        (put_known code s.threads n t (record t { buffer = (ops.drain t.buffer form).rest }) None there known refl k.places k.stands []
+        (sym (append-nil (created code t.local))) (λ q apart. refl));
   }
 
   opening_known : AllKnown code (opening ops code).threads None
