@@ -6,3 +6,4 @@ pub mod Runs
 pub mod Lines
 pub mod Sizes
 pub mod Leads
+pub mod Fitting

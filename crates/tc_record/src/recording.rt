@@ -2,6 +2,7 @@
 ghost use Rattle.std.specs.Prelude.{◌≡◌, ◌≤◌, ◌<◌, ◌+◌, ◌^◌, length, IfOk, Some, IsTrue};
 ghost use Rattle.tc_code.specs.Run.{Reproduces, run};
 ghost use Rattle.path_log.specs.Texts.{is_of_format};
+ghost use Rattle.path_walk.specs.Fits.{Fits};
 ghost use Rattle.tc_record.specs.Ends as ends;
 ghost use Rattle.tc_record.specs.Logged.{is_small};
 ghost use Rattle.tc_record.specs.Seeded.{seeded_run, IsAnswer, IfFailed};
@@ -35,7 +36,11 @@ pub fn run_seeded<M: MemoryModel>(
     ensures of_format { IfFailed result (λ stored moves. IsTrue (is_of_format stored.log)) }
     // It is within the limits of recorded runs.
     ensures small { IfFailed result (λ stored moves. IsTrue (is_small stored.log)) }
+    // It fits the code.
+    ensures fits { IfFailed result (λ stored moves. Fits code.now stored.log) }
 {
+    // A code is lawful by its type, so what runs of it leave fits it.
+    let _ = code.functions();
     let mut rng = SplitMix64::seed_from_u64(seed);
     let mut state = start::<M>(alloc, code)?;
     let mut made = Vec::new(alloc);

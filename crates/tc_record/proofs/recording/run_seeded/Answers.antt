@@ -5,6 +5,7 @@ use Rattle.tc_code.specs.Run.{run}
 use Rattle.tc_record.specs.Seeded.{behind, seeded_from, seeded_run, IsAnswer}
 use Rattle.tc_record.specs.helpers.Turns.{IsTurn}
 use Rattle.tc_record.proofs.Runs.{words, begins, goes_on, ends_so}
+use Rattle.tc_record.proofs.Fitting.{failed_fits}
 use Rattle.tc_record.proofs.recording.run_seeded.Goals as goal
 
 pub loop-init : goal.loop-init
@@ -43,3 +44,6 @@ returns-in-Some-clause-answer g c =
     (seeded_run ops code c.args.seed c.args.steps) c.loop-test.true c.next_u64-word.ensures c.loop.invariant.so_far c.in-Some.end
     (subst (IsTurn ops code c.loop.state c.turn.new.state c.loop.made.items c.turn.new.made.items c.next_u64-word.result) c.in-Some.is
     c.in_ok-end.ensures.turn)) c.answer.ensures.answer
+
+pub returns-in-Some-clause-fits : goal.returns-in-Some-clause-fits
+returns-in-Some-clause-fits g c = failed_fits g.M.MemoryModel.ops c.args.code.now c.answer.result c.functions.ensures.lawful c.answer.ensures.reproduced
