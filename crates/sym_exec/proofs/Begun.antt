@@ -30,7 +30,7 @@ map_replicate f zero x = refl
 map_replicate f (suc n) x = ap (λ ys. f x ∷ ys) (map_replicate f n x)
 
 -- the slots of a thread at the start have the values of their terms
-start_slots : (ints : ℕ) (terms : List ℕ) (first : ℕ) (nodes : List Node) (loads : List ℤ) (arguments : List ℤ) → AreTerms nodes → AreOf nodes terms
+pub start_slots : (ints : ℕ) (terms : List ℕ) (first : ℕ) (nodes : List Node) (loads : List ℤ) (arguments : List ℤ) → AreTerms nodes → AreOf nodes terms
     → map (value_of nodes loads) terms ≡ arguments
     → arguments ++ replicate (ints - length arguments) (pos 0) ≡ slots_by loads (started ints terms first nodes)
 start_slots ints terms first nodes loads arguments are of is =

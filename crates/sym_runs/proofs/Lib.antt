@@ -1,0 +1,13 @@
+mod Lists
+mod Names
+mod Steps
+mod Beside
+mod Executed
+mod Follows
+mod Born
+mod Moves
+mod Runs
+mod Valued
+mod Numbered
+mod Agree
+mod Whole
