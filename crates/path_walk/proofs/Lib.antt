@@ -2,3 +2,4 @@ pub mod Names
 pub mod Faults
 pub mod Places
 pub mod Drafts
+pub mod Counts

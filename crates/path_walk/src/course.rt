@@ -97,7 +97,7 @@ pub fn tell_course(
     let told = tell(alloc, code, function, fails, &places)?;
     let events = told.events;
     let started = started_by(alloc, code, function, &places)?;
-    let operators = operators(code, function, &places);
+    let operators = operators(alloc, code, function, &places)?;
     let walk = Walk {
         name: path.name().clone()?,
         function,

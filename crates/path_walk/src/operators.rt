@@ -1,13 +1,13 @@
 //! How many operators stand in instructions.
-ghost use Rattle.std.specs.Prelude.{◌≡◌, ℕ, ◌<◌, map, sum, unwrap_or, IsSome};
-ghost use Rattle.std.specs.List.{All};
+ghost use Rattle.std.specs.Prelude.{◌≡◌, ℕ, map, sum, IfOk, slice_get, slice_index_or};
 ghost use Rattle.tc_code.specs.Code.{instr_at};
-ghost use Rattle.tc_code.specs.Seen.{plain_instr};
+ghost use Rattle.tc_code.specs.Seen.{plain_instr, plain_instrs};
 ghost use Rattle.tc_code.specs.SeenExpr.{plain_expr, plain_exprs};
-ghost use Rattle.path_walk.specs.Steps.{steps_at};
+ghost use Rattle.path_walk.specs.Steps.{step_at, steps_at};
 ghost use Rattle.path_walk.specs.Events.{operators, operators_of};
 ghost use Rattle.path_walk.specs.Paths.{counted};
 
+use std::alloc::{AllocError, Global};
 use tc_code::{Code, Expr, Instr};
 
 /// The operators of an expression.
@@ -56,16 +56,42 @@ fn in_instr(instr: &Instr) -> u64
     }
 }
 
-/// The operators of the instructions of all steps at these places; of those that are more than it counts, the
-/// greatest number.
-pub fn operators(code: &Code, function: usize, places: &[usize]) -> u64
-    ensures { result ≡ counted (sum (map (λ s. operators_of s.instr) (steps_at code.now function places.now))) }
+/// The instructions of a function; none where there is no such function.
+fn instrs_of(code: &Code, function: usize) -> &[Instr]
+    ensures { (k : ℕ) → slice_get (plain_instrs result.now) k ≡ instr_at code.now function k }
 {
-    let mut count: u64 = 0;
-    for place in places {
-        if let Some(instr) = code.instr(function, *place) {
-            count = count.saturating_add(in_instr(instr));
-        }
+    match code.functions().get(function) {
+        Some(f) => f.instrs.as_slice(),
+        None => &[],
     }
-    count
+}
+
+/// The operators of each instruction of a function, in order.
+fn in_function(alloc: Global, code: &Code, function: usize) -> Result<Vec<u64>, AllocError>
+    ensures { IfOk result (λ counts. (k : ℕ) → slice_index_or counts.items k 0 ≡ counted (operators_of (step_at code.now function k).instr)) }
+{
+    let mut counts = Vec::new(alloc);
+    for instr in instrs_of(code, function) {
+        counts.push(in_instr(instr))?;
+    }
+    Ok(counts)
+}
+
+/// The operators of the instructions of all steps at these places; of those that are more than it counts, the
+/// greatest number. Those of an instruction are counted once, however often it is done.
+pub fn operators(
+    alloc: Global,
+    code: &Code,
+    function: usize,
+    places: &[usize],
+) -> Result<u64, AllocError>
+    ensures { IfOk result (λ n. n ≡ counted (sum (map (λ s. operators_of s.instr) (steps_at code.now function places.now)))) }
+{
+    let counts = in_function(alloc, code, function)?;
+    let mut total: u64 = 0;
+    for place in places {
+        let count = counts.get(*place).copied().unwrap_or(0);
+        total = total.saturating_add(count);
+    }
+    Ok(total)
 }

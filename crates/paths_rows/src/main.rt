@@ -1,12 +1,16 @@
-//! Worked rows of the ways of threads, as data: reads a row a line, and prints what each is answered.
+//! Worked rows of the ways of threads and of their symbolic execution, as data: reads a row a line, and prints what each
+//! is answered.
 //!
-//! `HEX.. : PROGRAM` is the bytes of a log, and a program on one line. The answer is how many events and operators
-//! the ways have and whether they are dead, or the log's fault.
+//! - `HEX.. : PROGRAM` is the bytes of a log, and a program, in which `$` stands for the end of a line. The answer is how
+//!   many events and operators the ways have and whether they are dead, or the log's fault;
+//! - `sizes HEX.. : PROGRAM`: how many loads and terms their execution has;
+//! - `terms HEX.. : PROGRAM : NUMBER..`: all that it finds, and behind each term its value, where the loads took these.
 //!
 //! A line that is empty or begins with `#` is printed as it is.
 #![tactic(auto)]
 
 mod rows;
+mod terms;
 
 use anyhow::Result;
 use rows::answer;

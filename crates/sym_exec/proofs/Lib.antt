@@ -5,3 +5,4 @@ pub mod Courses
 pub mod Values
 pub mod Tells
 pub mod Begun
+pub mod Ints

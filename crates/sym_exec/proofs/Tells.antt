@@ -373,7 +373,7 @@ gives loads line wanted d (Create h f es) t are s named is =
 gives loads line wanted d _ t are s named is = record { hands = []; creates = sym (append-nil d.creates); given = λ later g. refl }
 
 -- what a compare-and-exchange writes has its value by bits
-replaced_value : (nodes : List Node) (v e f : ℕ) (loads : List ℤ) (a b c : ℤ) → AreTerms nodes → v < length nodes → e < length nodes → f < length nodes
+pub replaced_value : (nodes : List Node) (v e f : ℕ) (loads : List ℤ) (a b c : ℤ) → AreTerms nodes → v < length nodes → e < length nodes → f < length nodes
     → value_of nodes loads v ≡ a → value_of nodes loads e ≡ b → value_of nodes loads f ≡ c → HasValue loads (replaced_term nodes v e f) (exchanged a b c)
 replaced_value nodes v e f loads a b c are wv we wf va vb vc =
     let first : Node = Binary Xor v f in

@@ -4,3 +4,4 @@ pub mod Executed
 pub mod Helpers
 pub mod Alone
 pub mod Runs
+pub mod Ints

@@ -1,5 +1,5 @@
 //! Laws of symbolic execution. Each is a clause of a function that does nothing.
-ghost use Rattle.std.specs.Prelude.{◌≡◌, ℕ, ℤ, Bool, List, Option, Some};
+ghost use Rattle.std.specs.Prelude.{◌≡◌, ◌<◌, ℕ, ℤ, Bool, List, Option, Some, length};
 ghost use Rattle.std.specs.FinMap as fin;
 ghost use Rattle.tc_base.specs.Buffers.{BufferOps};
 ghost use Rattle.tc_base.specs.Names.{Name};
@@ -8,8 +8,14 @@ ghost use Rattle.tc_base.specs.declared.moves.Move.{Move};
 ghost use Rattle.tc_code.specs.Code.{Code};
 ghost use Rattle.tc_code.specs.Lawful.{IsLawful};
 ghost use Rattle.tc_code.specs.Run.{run};
+ghost use Rattle.tc_code.specs.Step.{replaced};
 ghost use Rattle.tc_runs.specs.Alone.{Alone};
-ghost use Rattle.sym_exec.specs.Alone.{StandsFor, Tells};
+ghost use Rattle.sym_terms.specs.Terms.{AreTerms};
+ghost use Rattle.sym_terms.specs.Values.{value_of};
+ghost use Rattle.sym_terms.specs.declared.node.Node.{Node};
+ghost use Rattle.sym_exec.specs.Alone.{StandsFor, Tells, exchanged};
+ghost use Rattle.sym_exec.specs.Ints.{IsInt, AreInts};
+ghost use Rattle.sym_exec.specs.Making.{replaced_term};
 ghost use Rattle.sym_exec.specs.Runs.{ThreadTells};
 ghost use Rattle.sym_exec.specs.Thread.{Doing};
 
@@ -28,4 +34,19 @@ pub fn executions_tell()
 pub fn threads_tell<B>()
     ensures { (ops : BufferOps B) (code : Code) (moves : List Move) (s : State B) (n : Name) (t : Thread B)
         → IsLawful code → run ops code moves ≡ Some s → fin.get s.threads n ≡ Some t → ThreadTells ops code moves n t }
+{}
+
+/// What a compare-and-exchange brings by bits is what the cell has after it: the new value where it had the expected one,
+/// and else the value that it had. So it is of the term that is made for it.
+pub fn exchanges_replace()
+    ensures values { (v e f : ℤ) → IsInt v → IsInt f → exchanged v e f ≡ replaced v e f }
+    ensures terms { (nodes : List Node) (loads : List ℤ) (v e f : ℕ)
+        → AreTerms nodes → AreInts nodes loads → v < length nodes → e < length nodes → f < length nodes
+        → let x = replaced_term nodes v e f in
+        value_of x.nodes loads x.term ≡ replaced (value_of nodes loads v) (value_of nodes loads e) (value_of nodes loads f) }
+{}
+
+/// Where the loads take ints, and the constants are ints, the value of each term is one.
+pub fn values_are_ints()
+    ensures { (nodes : List Node) (loads : List ℤ) (id : ℕ) → AreInts nodes loads → IsInt (value_of nodes loads id) }
 {}

@@ -5,4 +5,4 @@ use Rattle.path_walk.specs.Paths.{counted}
 use Rattle.path_walk.proofs.operators.operators.Given as goal
 
 abbrev pub invariant-loop-place : goal.invariant-loop-place
-invariant-loop-place l = l.count ≡ counted (sum (map (λ s. operators_of s.instr) (steps_at l.code l.function (take l.place-index l.places))))
+invariant-loop-place l = l.total ≡ counted (sum (map (λ s. operators_of s.instr) (steps_at l.code l.function (take l.place-index l.places))))

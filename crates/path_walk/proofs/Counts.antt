@@ -1,0 +1,13 @@
+-- The operators of a function's instructions.
+use Rattle.std.proofs.Common.{◌≡◌, ℕ, zero, suc, List, [], ◌∷◌, map, refl}
+use Rattle.std.specs.Prelude.{slice_get, slice_index_or, unwrap_or}
+use Rattle.tc_code.specs.Instr.{Instr, Exit}
+use Rattle.path_walk.specs.Events.{operators_of}
+use Rattle.path_walk.specs.Paths.{counted}
+
+-- of each instruction that is there, and else 0, as many as an exit has
+pub count_at : (instrs : List Instr) (k : ℕ)
+    → slice_index_or (map (λ i. counted (operators_of i)) instrs) k 0 ≡ counted (operators_of (unwrap_or (slice_get instrs k) Exit))
+count_at [] k = refl
+count_at (i ∷ instrs) zero = refl
+count_at (i ∷ instrs) (suc k) = count_at instrs k
