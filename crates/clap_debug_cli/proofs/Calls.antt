@@ -3,8 +3,8 @@ use Rattle.std.proofs.Common.{◌≡◌, ◌≢◌, ◌≤◌, length, ℕ, List
 use Rattle.std.specs.Option.{IsSomeAnd}
 use Rattle.tc_code.specs.Code.{Code}
 use Rattle.tc_base.specs.declared.model.Model.{Model}
-use Rattle.tc_io.specs.Outside.{Files, ShelfTells, SinkTells, Kept, KeptPart, bytes_at, put_under}
-use Rattle.clap_debug_words.specs.Calls.{Called, Lists, Replays, Records, call_of}
+use Rattle.tc_io.specs.Outside.{Files, ShelfTells, SinkTells, KeptPart, bytes_at, put_under}
+use Rattle.clap_debug_words.specs.Calls.{Called, Lists, Replays, Records, Migrates, call_of}
 use Rattle.clap_debug_cli.specs.Answers.{
   Answer,
   Usage,
@@ -17,6 +17,8 @@ use Rattle.clap_debug_cli.specs.Answers.{
   Replayed,
   RunFailed,
   RunEnded,
+  LogOver,
+  Migrated,
   WriteFault,
   NoMemory,
   status_of,
@@ -24,7 +26,7 @@ use Rattle.clap_debug_cli.specs.Answers.{
   ending_status,
 }
 use Rattle.clap_debug_cli.specs.Causes.{IsCause, IsCauseOf, IsListAnswer, IsLogRefused, IsScheduleRefused, IsReplayAnswer, IsRecordAnswer, IsReplayed}
-use Rattle.clap_debug_cli.specs.Causes.{IsWorkOf, IsAnswerTo, IsOutput, IsResult}
+use Rattle.clap_debug_cli.specs.Causes.{IsWorkOf, IsAnswerTo, IsOutput, KeepsResult, IsMigrateAnswer}
 use Rattle.clap_debug_cli.specs.Call.{
   IfTold,
   IsStatus,
@@ -34,26 +36,29 @@ use Rattle.clap_debug_cli.specs.Call.{
   PutsPart,
   SaysNoMore,
   Says,
-  HoldsLog,
-  LosesLog,
-  LeavesLog,
+  Holds,
+  Loses,
+  LeavesResult,
   Leaves,
   CallAnswers,
   ToldAnswers,
   ListAnswers,
   ReplayAnswers,
   RecordAnswers,
+  MigrateAnswers,
   CommandAnswers,
 }
-use Rattle.clap_debug_cli.specs.Inputs.{Wanted, Texts, GaveInput, GaveAll, inputs_of, texts_under, wanted, limit_of, IsTooLong}
+use Rattle.clap_debug_cli.specs.Inputs.{Wanted, Texts, GaveAll, inputs_of, texts_under, limit_of, IsTooLong}
 use Rattle.clap_debug_cli.specs.Held.{KeptNothing}
 use Rattle.clap_debug_cli.specs.Programs.{IsCodeOf, IsRefusal}
-use Rattle.clap_debug_cli.specs.Recorded.{FailsSo, EndsSo, IsRecorded, end_status, run_of}
+use Rattle.clap_debug_cli.specs.Recorded.{FailsSo, EndsSo, end_status, run_of}
+use Rattle.clap_debug_cli.specs.Migrated.{IsMigrated}
 use Rattle.tc_parser.specs.declared.fault.TextFault.{TextFault}
 use Rattle.schedule_replay.specs.declared.verdict.Verdict.{Verdict}
 use Rattle.clap_debug_cli.specs.declared.answer.LogRefusal.{LogRefusal}
 use Rattle.schedule_replay.specs.declared.verdict.Verdict.TheVariants as verdict
 use Rattle.tc_record.specs.declared.end.Which.{Which}
+use Rattle.clap_debug_cli.specs.declared.answer.Excess.{Excess}
 use Rattle.clap_debug_cli.specs.declared.input.Input.{Input}
 use Rattle.clap_debug_cli.specs.declared.input.Input.TheVariants as input
 use Rattle.clap_debug_cli.specs.declared.run.Ending.{Ending}
@@ -62,6 +67,7 @@ use Rattle.clap_debug_cli.specs.declared.run.Ending.TheVariants as ending
 use Rattle.tc_record.specs.declared.end.End.TheVariants as end
 use Rattle.clap_debug_cli.specs.declared.run.Failure.{Failure}
 use Rattle.clap_debug_cli.proofs.Fetches.{gave_all, passes_told, not_within}
+use Rattle.clap_debug_cli.proofs.Migrations.{migrated_answer, migrated_text}
 use Rattle.clap_debug_cli.proofs.OneAnswer.{one_answer}
 use Rattle.clap_debug_cli.proofs.OnePrograms.{one_code, refused_no_code}
 use Rattle.clap_debug_cli.proofs.OneRun.{ended_status}
@@ -84,6 +90,7 @@ no_work : (call : Called) (t : Texts) → IsWorkOf call t Usage → ⊥
 no_work (Lists _) (program ∷ []) h = h
 no_work (Replays _ _ _) (program ∷ log ∷ schedule ∷ []) h = h
 no_work (Records _ _ model seed steps) (program ∷ []) h = h
+no_work (Migrates _ _ _) (program ∷ log ∷ []) h = h.2.2.1
 no_work _ _ h = h
 
 -- the cause of an answer to a call is its cause for the words
@@ -100,6 +107,8 @@ cause_of words old new call (Listed code) taken h = called_of _ (call_of words) 
 cause_of words old new call (Replayed v) taken h = called_of _ (call_of words) call taken h
 cause_of words old new call (RunFailed f) taken h = called_of _ (call_of words) call taken h
 cause_of words old new call (RunEnded e) taken h = called_of _ (call_of words) call taken h
+cause_of words old new call (LogOver e) taken h = called_of _ (call_of words) call taken h
+cause_of words old new call Migrated taken h = called_of _ (call_of words) call taken h
 cause_of words old new call (WriteFault name) taken h = called_of _ (call_of words) call taken h
 
 -- what is said without memory for the line
@@ -116,6 +125,8 @@ no_more (Listed _) status j k h = inr h
 no_more (Replayed _) status j k h = inr h
 no_more (RunFailed _) status j k h = inr h
 no_more (RunEnded _) status j k h = inr h
+no_more (LogOver _) status j k h = inr h
+no_more Migrated status j k h = inr h
 no_more NoMemory status j k h = inr h
 
 -- its status
@@ -152,71 +163,48 @@ given_held [] old s (t ∷ ts) g = absurd g
 given_held (w ∷ ws) old s [] g = absurd g
 given_held (w ∷ ws) old s (t ∷ ts) g = given_held ws g.0 s ts g.2 ∙ ap (λ x. x.held) g.1.1
 
--- the one input of `record`
-the_program : (p l : List ℕ) (model : Model) (seed steps : ℕ) (old s : ShelfTells) (t : Texts) (P : List ℕ → Type 0)
-    → GaveAll (inputs_of (Records p l model seed steps)) old s t
-    → ((program : List ℕ) → t ≡ program ∷ [] → GaveInput (wanted input.Program p) old s program → P program)
-    → (program : List ℕ) × P program
-the_program p l model seed steps old s [] P g f = absurd g
-the_program p l model seed steps old s (program ∷ []) P g f =
-    (program, f program refl (subst (λ x. GaveInput (wanted input.Program p) old x program) (sym g.2) g.1))
-the_program p l model seed steps old s (program ∷ t ∷ ts) P g f = absurd g.2
-
-module _ (p l : List ℕ) (model : Model) (seed steps : ℕ) (old new : ShelfTells) where
-  abbrev Asked_for : Called
-  Asked_for = Records p l model seed steps
-
-  -- after the failure of a run its log stands there
-  holds_log : (f : Failure) → IsCauseOf Asked_for old new (RunFailed f) → HoldsLog p l model seed steps old new
-  holds_log f c =
-      let s = c.1 in
-      let found = the_program p l model seed steps old s c.0
-      (λ program. GaveInput (wanted input.Program p) old s program × IsRecorded program model seed steps c.4.1) c.2
-      (λ program is g. (g, subst (λ t. IsResult Asked_for t c.4.1) is c.4.3)) in
-      let held : new.held ≡ put_under l c.4.1 old.held =
-      ap (λ x. x.held) c.4.4 ∙ ap (put_under c.4.0 c.4.1) (given_held (inputs_of Asked_for) old s c.0 c.2) ∙ ap (λ n. put_under n c.4.1 old.held) c.4.2 in
-      (s, found.0, found.1.0, c.4.1, found.1.1, held)
+module _ (call : Called) (name : List ℕ) (own : (n : List ℕ) → IsOutput call n → n ≡ name) (old new : ShelfTells) where
+  -- a result that was kept stands there
+  holds_result : (t : Texts) (s : ShelfTells) → GaveAll (inputs_of call) old s t → KeepsResult call t s new → Holds call name old new
+  holds_result t s gave k =
+      let held : new.held ≡ put_under name k.1 old.held =
+      ap (λ x. x.held) k.4 ∙ ap (put_under k.0 k.1) (given_held (inputs_of call) old s t gave) ∙ ap (λ n. put_under n k.1 old.held) (own k.0 k.2) in
+      (t, s, gave, k.1, k.3, held)
 
   -- and after a keep that failed maybe a part of it
-  loses_log : (name : List ℕ) → IsCauseOf Asked_for old new (WriteFault name) → LosesLog p l model seed steps old new
-  loses_log name c =
-      let s = c.1 in
-      let text = c.4.1 in
-      let found = the_program p l model seed steps old s c.0
-      (λ program. GaveInput (wanted input.Program p) old s program × IsRecorded program model seed steps text) c.2
-      (λ program is g. (g, subst (λ t. IsResult Asked_for t text) is c.4.2)) in
-      (s, found.0, found.1.0, text, found.1.1, subst (λ n. KeptPart s new n text) c.4.0 c.4.3)
+  loses_result : (lost : List ℕ) → IsCauseOf call old new (WriteFault lost) → Loses call name old new
+  loses_result lost c = (c.0, c.1, c.2, c.4.1, c.4.2, subst (λ n. KeptPart c.1 new n c.4.1) (own lost c.4.0) c.4.3)
 
--- words that ask for `record` leave its log by status
+-- where the words ask for a call
 if_called : (o : Option Called) (P : Called → Type 0) → ((call : Called) → o ≡ Some call → P call) → IfSome o P
 if_called None P h = tt
 if_called (Some call) P h = h call refl
 
--- of the answers of `record` only the failure of a run has status 0
-only_failed_of : (p l : List ℕ) (model : Model) (seed steps : ℕ) (old new : ShelfTells) (a : Answer) → IsCauseOf (Records p l model seed steps) old new a
-    → status_of a ≡ 0 → (f : Failure) × (a ≡ RunFailed f)
-only_failed_of p l model seed steps old new (RunFailed f) c h = (f, refl)
-only_failed_of p l model seed steps old new (RunEnded e) c h = absurd (no_ending e 0 h (λ x. omega (arith, x)) (λ x. omega (arith, x)) (λ x. omega (arith, x)))
-only_failed_of p l model seed steps old new (Listed code) c h = absurd (no_listed c.0 c.3)
-  where
-    no_listed : (t : Texts) → IsAnswerTo (Records p l model seed steps) t (Listed code) → ⊥
-    no_listed (program ∷ []) f = f.1
-    no_listed [] f = f.1
-    no_listed (program ∷ t ∷ ts) f = f.1
-only_failed_of p l model seed steps old new (Replayed v) c h = absurd (no_replayed c.0 c.3)
-  where
-    no_replayed : (t : Texts) → IsAnswerTo (Records p l model seed steps) t (Replayed v) → ⊥
-    no_replayed (program ∷ []) f = f.1
-    no_replayed [] f = f.1
-    no_replayed (program ∷ t ∷ ts) f = f.1
-only_failed_of p l model seed steps old new _ c h = absurd (omega (arith, h))
+-- answers with which a result is kept
+abbrev Keeps : Answer → Type 0
+Keeps (RunFailed _) = Unit {0}
+Keeps Migrated = Unit {0}
+Keeps _ = ⊥
 
-only_failed : (p l : List ℕ) (model : Model) (seed steps : ℕ) (words : List (List ℕ)) (old new : ShelfTells) (a : Answer)
-    → call_of words ≡ Some (Records p l model seed steps) → IsCause words old new a → status_of a ≡ 0 → (f : Failure) × (a ≡ RunFailed f)
-only_failed p l model seed steps words old new Usage taken c h = absurd (omega (arith, h))
-only_failed p l model seed steps words old new NoMemory taken c h = absurd (omega (arith, h))
-only_failed p l model seed steps words old new a taken c h =
-    only_failed_of p l model seed steps old new a (called_now _ (call_of words) (Records p l model seed steps) taken c) h
+keeps_status : (b : Answer) → Keeps b → status_of b ≡ 0
+keeps_status (RunFailed f) k = refl
+keeps_status Migrated k = refl
+keeps_status _ k = absurd k
+
+-- commands that keep a result neither list nor replay
+no_listing : (call : Called) (name : List ℕ) → IsOutput call name → (t : Texts) (code : Code) → IsWorkOf call t (Listed code) → ⊥
+no_listing (Lists _) name o t code f = o
+no_listing (Replays _ _ _) name o t code f = o
+no_listing (Records _ _ _ _ _) name o (program ∷ []) code f = f
+no_listing (Migrates _ _ _) name o (program ∷ log ∷ []) code f = f.2.2.1
+no_listing _ name o _ code f = f
+
+no_verdict : (call : Called) (name : List ℕ) → IsOutput call name → (t : Texts) (v : Verdict) → IsWorkOf call t (Replayed v) → ⊥
+no_verdict (Lists _) name o t v f = o
+no_verdict (Replays _ _ _) name o t v f = o
+no_verdict (Records _ _ _ _ _) name o (program ∷ []) v f = f
+no_verdict (Migrates _ _ _) name o (program ∷ log ∷ []) v f = f.2.2.1
+no_verdict _ name o _ v f = f
 
 module _ (words : List (List ℕ)) (old new : ShelfTells) (a : Answer) (status : ℕ) (j k : SinkTells) (cause : IsCause words old new a)
     (says : Says a status j k) (unused : call_of words ≡ None → new ≡ old) (kept : KeptNothing a old new) where
@@ -265,11 +253,15 @@ module _ (words : List (List ℕ)) (old new : ShelfTells) (a : Answer) (status :
 
   limit_at : status ≡ 6 → ((i : Input) × IsCause words old new (TooLong i) × Puts j k (TooLong i))
       ⊎ ((which : Which) × IsCause words old new (RunEnded (Over which)) × Puts j k (RunEnded (Over which)))
+      ⊎ ((e : Excess) × IsCause words old new (LogOver e) × Puts j k (LogOver e))
   limit_at h =
       let p = put_at a status j k says (λ e. omega (arith, h, e)) (λ e. omega (arith, h, e)) in
       elim (is_limit a (sym p.0 ∙ h)) [
         | inl e ↦ inl (e.0, subst (IsCause words old new) e.1 cause, subst (Puts j k) e.1 p.1)
-        | inr e ↦ inr (e.0, subst (IsCause words old new) e.1 cause, subst (Puts j k) e.1 p.1)
+        | inr more ↦ elim more [
+          | inl e ↦ inr (inl (e.0, subst (IsCause words old new) e.1 cause, subst (Puts j k) e.1 p.1))
+          | inr e ↦ inr (inr (e.0, subst (IsCause words old new) e.1 cause, subst (Puts j k) e.1 p.1))
+        ]
       ]
 
   read_fault_at : status ≡ 7 → (name : List ℕ) × IsCause words old new (ReadFault name) × Puts j k (ReadFault name)
@@ -291,6 +283,8 @@ module _ (words : List (List ℕ)) (old new : ShelfTells) (a : Answer) (status :
   only_usage_of (Replayed v) c none = absurd (uncalled _ (call_of words) none c)
   only_usage_of (RunFailed f) c none = absurd (uncalled _ (call_of words) none c)
   only_usage_of (RunEnded e) c none = absurd (uncalled _ (call_of words) none c)
+  only_usage_of (LogOver e) c none = absurd (uncalled _ (call_of words) none c)
+  only_usage_of Migrated c none = absurd (uncalled _ (call_of words) none c)
   only_usage_of (WriteFault name) c none = absurd (uncalled _ (call_of words) none c)
 
   only_usage_at : (status_of a ≡ 2) ⊎ (status_of a ≡ 9) → (status ≡ 2) ⊎ (status ≡ 8) ⊎ (status ≡ 9)
@@ -305,101 +299,121 @@ module _ (words : List (List ℕ)) (old new : ShelfTells) (a : Answer) (status :
 
   -- of what is left on the shelf
 
-  -- but for the failure of a run and a keep that failed nothing was kept
-  abbrev IsKept : Type 0
-  IsKept = ((f : Failure) × (a ≡ RunFailed f)) ⊎ ((name : List ℕ) × (a ≡ WriteFault name)) ⊎ (new.held ≡ old.held)
+  -- a result was kept, a keep failed, or nothing was kept
+  abbrev IsKept : Answer → Type 0
+  IsKept b = Keeps b ⊎ ((name : List ℕ) × (b ≡ WriteFault name)) ⊎ (new.held ≡ old.held)
 
-  what_is_kept : (b : Answer) → a ≡ b → KeptNothing b old new → IsKept
-  what_is_kept (RunFailed f) e h = inl (f, e)
-  what_is_kept (WriteFault name) e h = inr (inl (name, e))
-  what_is_kept Usage e h = inr (inr h)
-  what_is_kept (ReadFault _) e h = inr (inr h)
-  what_is_kept (TooLong _) e h = inr (inr h)
-  what_is_kept (ProgramRefused _) e h = inr (inr h)
-  what_is_kept (LogRefused _) e h = inr (inr h)
-  what_is_kept (ScheduleRefused _) e h = inr (inr h)
-  what_is_kept (Listed _) e h = inr (inr h)
-  what_is_kept (Replayed _) e h = inr (inr h)
-  what_is_kept (RunEnded _) e h = inr (inr h)
-  what_is_kept NoMemory e h = inr (inr h)
+  what_is_kept : (b : Answer) → KeptNothing b old new → IsKept b
+  what_is_kept (RunFailed f) h = inl tt
+  what_is_kept Migrated h = inl tt
+  what_is_kept (WriteFault name) h = inr (inl (name, refl))
+  what_is_kept Usage h = inr (inr h)
+  what_is_kept (ReadFault _) h = inr (inr h)
+  what_is_kept (TooLong _) h = inr (inr h)
+  what_is_kept (ProgramRefused _) h = inr (inr h)
+  what_is_kept (LogRefused _) h = inr (inr h)
+  what_is_kept (ScheduleRefused _) h = inr (inr h)
+  what_is_kept (Listed _) h = inr (inr h)
+  what_is_kept (Replayed _) h = inr (inr h)
+  what_is_kept (RunEnded _) h = inr (inr h)
+  what_is_kept (LogOver _) h = inr (inr h)
+  what_is_kept NoMemory h = inr (inr h)
 
-  is_kept : IsKept
-  is_kept = what_is_kept a refl kept
+  is_kept : IsKept a
+  is_kept = what_is_kept a kept
 
-  -- the cause of an answer that only a call has
-  called_cause : (call : Called) → call_of words ≡ Some call → (b : Answer) → (IsCause words old new b → IsSomeAnd (call_of words) (λ c. IsCauseOf c old new b))
-      → a ≡ b → IsCauseOf call old new b
-  called_cause call taken b own e = called_now _ (call_of words) call taken (own (subst (IsCause words old new) e cause))
+  module _ (call : Called) (taken : call_of words ≡ Some call) where
+    -- the cause of an answer that only a call has
+    called_cause : (b : Answer) → IsSomeAnd (call_of words) (λ c. IsCauseOf c old new b) → IsCauseOf call old new b
+    called_cause b c = called_now (λ c. IsCauseOf c old new b) (call_of words) call taken c
 
-  -- `list` and `replay` have no such answers
-  no_result : (call : Called) → ((name : List ℕ) → IsOutput call name → ⊥) → call_of words ≡ Some call → new.held ≡ old.held
-  no_result call never taken =
-      elim is_kept [
-        | inl failed ↦ (let c = called_cause call taken (RunFailed failed.0) (λ x. x) failed.1 in absurd (never c.4.0 c.4.2))
-        | inr more ↦ elim more [
-          | inl lost ↦ (let c = called_cause call taken (WriteFault lost.0) (λ x. x) lost.1 in absurd (never lost.0 c.4.0))
-          | inr same ↦ same
-        ]
-      ]
+    -- what was kept is a result
+    kept_result : (b : Answer) → Keeps b → IsCause words old new b
+        → (t : Texts) × (s : ShelfTells) × GaveAll (inputs_of call) old s t × KeepsResult call t s new
+    kept_result (RunFailed f) k c = let d = called_cause (RunFailed f) c in (d.0, d.1, d.2, d.4)
+    kept_result Migrated k c = let d = called_cause Migrated c in (d.0, d.1, d.2, d.4)
+    kept_result _ k c = absurd k
 
-  module _ (p l : List ℕ) (model : Model) (seed steps : ℕ) (taken : call_of words ≡ Some (Records p l model seed steps)) where
-    holds : (f : Failure) → a ≡ RunFailed f → HoldsLog p l model seed steps old new
-    holds f e = holds_log p l model seed steps old new f (called_cause (Records p l model seed steps) taken (RunFailed f) (λ x. x) e)
+    lost_cause : (lost : List ℕ) → a ≡ WriteFault lost → IsCauseOf call old new (WriteFault lost)
+    lost_cause lost e = called_cause (WriteFault lost) (subst (IsCause words old new) e cause)
 
-    loses : (name : List ℕ) → a ≡ WriteFault name → LosesLog p l model seed steps old new
-    loses name e = loses_log p l model seed steps old new name (called_cause (Records p l model seed steps) taken (WriteFault name) (λ x. x) e)
-
-    -- with a status that isn't that of the failure of a run, of a keep that failed or of a fault
-    nothing : status ≢ 0 → status ≢ 8 → status ≢ 9 → new.held ≡ old.held
-    nothing not_zero eight nine =
-        let p = put_at a status j k says eight nine in
+    -- `list` and `replay` keep none
+    no_result : ((name : List ℕ) → IsOutput call name → ⊥) → new.held ≡ old.held
+    no_result never =
         elim is_kept [
-          | inl failed ↦ absurd (not_zero (p.0 ∙ ap status_of failed.1))
+          | inl k ↦ (let r = kept_result a k cause in absurd (never r.3.0 r.3.2))
           | inr more ↦ elim more [
-            | inl lost ↦ absurd (eight (p.0 ∙ ap status_of lost.1))
+            | inl lost ↦ (let c = lost_cause lost.0 lost.1 in absurd (never lost.0 c.4.0))
             | inr same ↦ same
           ]
         ]
 
-    -- status 0 is that of the failure of a run
-    kept_log : status ≡ 0 → HoldsLog p l model seed steps old new
-    kept_log h =
-        let put = put_at a status j k says (λ e. omega (arith, h, e)) (λ e. omega (arith, h, e)) in
-        let e = only_failed p l model seed steps words old new a taken cause (sym put.0 ∙ h) in
-        holds e.0 e.1
+    module _ (name : List ℕ) (output : IsOutput call name) (own : (n : List ℕ) → IsOutput call n → n ≡ name) where
+      holds : Keeps a → Holds call name old new
+      holds k = let r = kept_result a k cause in holds_result call name own old new r.0 r.1 r.2 r.3
 
-    part_of : (new.held ≡ old.held) ⊎ HoldsLog p l model seed steps old new ⊎ LosesLog p l model seed steps old new
-    part_of =
-        elim is_kept [
-          | inl failed ↦ inr (inl (holds failed.0 failed.1))
-          | inr more ↦ elim more [
-            | inl lost ↦ inr (inr (loses lost.0 lost.1))
-            | inr same ↦ inl same
+      loses : (lost : List ℕ) → a ≡ WriteFault lost → Loses call name old new
+      loses lost e = loses_result call name own old new lost (lost_cause lost e)
+
+      -- with a status that isn't that of a result, of a keep that failed or of a fault
+      nothing : status ≢ 0 → status ≢ 8 → status ≢ 9 → new.held ≡ old.held
+      nothing not_zero eight nine =
+          let p = put_at a status j k says eight nine in
+          elim is_kept [
+            | inl k ↦ absurd (not_zero (p.0 ∙ keeps_status a k))
+            | inr more ↦ elim more [
+              | inl lost ↦ absurd (eight (p.0 ∙ ap status_of lost.1))
+              | inr same ↦ same
+            ]
           ]
-        ]
 
-    whole_of : status ≡ 9 → (new.held ≡ old.held) ⊎ HoldsLog p l model seed steps old new
-    whole_of h =
-        elim is_kept [
-          | inl failed ↦ inr (holds failed.0 failed.1)
-          | inr more ↦ elim more [
-            | inl lost ↦ absurd (not_lost lost.0 says lost.1)
-            | inr same ↦ inl same
+      -- status 0 is that of a result
+      zero_keeps : (b : Answer) → IsCause words old new b → status_of b ≡ 0 → Keeps b
+      zero_keeps (RunFailed f) c h = tt
+      zero_keeps Migrated c h = tt
+      zero_keeps (Listed code) c h = let d = called_cause (Listed code) c in absurd (no_listing call name output d.0 code d.3.1)
+      zero_keeps (Replayed v) c h = let d = called_cause (Replayed v) c in absurd (no_verdict call name output d.0 v d.3.1)
+      zero_keeps (RunEnded e) c h = absurd (no_ending e 0 h (λ x. omega (arith, x)) (λ x. omega (arith, x)) (λ x. omega (arith, x)))
+      zero_keeps _ c h = absurd (omega (arith, h))
+
+      kept_at : status ≡ 0 → Holds call name old new
+      kept_at h =
+          let put = put_at a status j k says (λ e. omega (arith, h, e)) (λ e. omega (arith, h, e)) in
+          holds (zero_keeps a cause (sym put.0 ∙ h))
+
+      part_of : (new.held ≡ old.held) ⊎ Holds call name old new ⊎ Loses call name old new
+      part_of =
+          elim is_kept [
+            | inl k ↦ inr (inl (holds k))
+            | inr more ↦ elim more [
+              | inl lost ↦ inr (inr (loses lost.0 lost.1))
+              | inr same ↦ inl same
+            ]
           ]
-        ]
-      where
-        not_lost : (name : List ℕ) → Says a status j k → a ≡ WriteFault name → ⊥
-        not_lost name (inl done) e = omega (arith, h, done.0, ap status_of e)
-        not_lost name (inr (inl failed)) e = omega (arith, h, failed.0)
-        not_lost name (inr (inr none)) e = omega (arith, h, (subst (λ b. SaysNoMore b status j k) e none).0)
 
-    leaves_log : LeavesLog p l model seed steps status old new
-    leaves_log = record { kept = kept_log; none = nothing; whole = whole_of; part = λ h. part_of }
+      whole_of : status ≡ 9 → (new.held ≡ old.held) ⊎ Holds call name old new
+      whole_of h =
+          elim is_kept [
+            | inl k ↦ inr (holds k)
+            | inr more ↦ elim more [
+              | inl lost ↦ absurd (not_lost lost.0 says lost.1)
+              | inr same ↦ inl same
+            ]
+          ]
+        where
+          not_lost : (lost : List ℕ) → Says a status j k → a ≡ WriteFault lost → ⊥
+          not_lost lost (inl done) e = omega (arith, h, done.0, ap status_of e)
+          not_lost lost (inr (inl failed)) e = omega (arith, h, failed.0)
+          not_lost lost (inr (inr none)) e = omega (arith, h, (subst (λ b. SaysNoMore b status j k) e none).0)
+
+      leaves_result : LeavesResult call name status old new
+      leaves_result = record { kept = kept_at; none = nothing; whole = whole_of; part = λ h. part_of }
 
   leaves_of : (call : Called) → call_of words ≡ Some call → Leaves call status old new
-  leaves_of (Lists p) taken = no_result (Lists p) (λ name h. h) taken
-  leaves_of (Replays p l s) taken = no_result (Replays p l s) (λ name h. h) taken
-  leaves_of (Records p l model seed steps) taken = leaves_log p l model seed steps taken
+  leaves_of (Lists p) taken = no_result (Lists p) taken (λ name h. h)
+  leaves_of (Replays p l s) taken = no_result (Replays p l s) taken (λ name h. h)
+  leaves_of (Records p l model seed steps) taken = leaves_result (Records p l model seed steps) taken l refl (λ n e. e)
+  leaves_of (Migrates p l o) taken = leaves_result (Migrates p l o) taken o refl (λ n e. e)
 
   pub call_answers : CallAnswers words old new status j k
   call_answers = record {
@@ -460,11 +474,15 @@ module _ (call : Called) (t : Texts) (a : Answer) (status : ℕ) (j k : SinkTell
 
   limit_told : status ≡ 6 → ((i : Input) × IsTooLong (inputs_of call) t i × Puts j k (TooLong i))
       ⊎ ((which : Which) × IsWorkOf call t (RunEnded (Over which)) × Puts j k (RunEnded (Over which)))
+      ⊎ ((e : Excess) × IsWorkOf call t (LogOver e) × Puts j k (LogOver e))
   limit_told h =
       let p = plain_at (λ e. omega (arith, h, e)) (λ e. omega (arith, h, e)) (λ e. omega (arith, h, e)) in
       elim (is_limit a (sym p.0 ∙ h)) [
         | inl e ↦ inl (e.0, subst (IsAnswerTo call t) e.1 p.2, subst (Puts j k) e.1 p.1)
-        | inr e ↦ inr (e.0, (subst (IsAnswerTo call t) e.1 p.2).1, subst (Puts j k) e.1 p.1)
+        | inr more ↦ elim more [
+          | inl e ↦ inr (inl (e.0, (subst (IsAnswerTo call t) e.1 p.2).1, subst (Puts j k) e.1 p.1))
+          | inr e ↦ inr (inr (e.0, (subst (IsAnswerTo call t) e.1 p.2).1, subst (Puts j k) e.1 p.1))
+        ]
       ]
 
   known_status : (wanted : ℕ) → (IsAnswerTo call t a → status_of a ≡ wanted) → ((status ≡ status_of a) × Puts j k a) ⊎ (status ≡ 8) ⊎ (status ≡ 9)
@@ -694,12 +712,78 @@ module _ (p l program : List ℕ) (model : Model) (seed steps : ℕ) (a : Answer
     alone = record_alone;
   }
 
+module _ (p l o program log : List ℕ) (a : Answer) (status : ℕ) (j k : SinkTells) (says : Says a status j k)
+    (known : IsKnown (Migrates p l o) (program ∷ log ∷ []) a) where
+  abbrev Sought : Called
+  Sought = Migrates p l o
+
+  own_work : status ≤ 5 → (status_of a ≡ status) × Puts j k a × IsMigrateAnswer program log a
+  own_work h = work_at Sought (program ∷ log ∷ []) a status j k says known h
+
+  is_migrated : (b : Answer) → IsMigrateAnswer program log b → status_of b ≡ 0 → b ≡ Migrated
+  is_migrated Migrated w h = refl
+  is_migrated (Listed _) w h = absurd w.2.2.1
+  is_migrated (Replayed _) w h = absurd w.2.2.1
+  is_migrated (RunFailed _) w h = absurd w.2.2.1
+  is_migrated (RunEnded _) w h = absurd w.2.2.1
+  is_migrated _ w h = absurd (omega (arith, h))
+
+  migrated_at : status ≡ 0 → (text : List ℕ) × IsMigrated program log text × Puts j k Migrated
+  migrated_at h =
+      let w = own_work (omega (arith, h)) in
+      let e = is_migrated a w.2 (w.0 ∙ h) in
+      let m = migrated_text program log (subst (IsMigrateAnswer program log) e w.2) in
+      (m.0, m.1, subst (Puts j k) e w.1)
+
+  no_program_at : status ≡ 3 → (r : TextFault) × IsRefusal program r × Puts j k (ProgramRefused r)
+  no_program_at h =
+      let w = own_work (omega (arith, h)) in
+      let e = is_program_refused a (w.0 ∙ h) in
+      (e.0, subst (IsMigrateAnswer program log) e.1 w.2, subst (Puts j k) e.1 w.1)
+
+  no_log_at : status ≡ 4 → (r : LogRefusal) × IsMigrateAnswer program log (LogRefused r) × Puts j k (LogRefused r)
+  no_log_at h =
+      let w = own_work (omega (arith, h)) in
+      let e = is_log_refused a (w.0 ∙ h) in
+      (e.0, subst (IsMigrateAnswer program log) e.1 w.2, subst (Puts j k) e.1 w.1)
+
+  exactly_migrated : (text : List ℕ) → IsMigrated program log text → length program ≤ limit_of input.Program → length log ≤ limit_of input.Log
+      → IsStatus status 0
+  exactly_migrated text is short small =
+      exactly_at Sought (program ∷ log ∷ []) a status j k says known Migrated ((short, (small, tt)), migrated_answer program log text is)
+
+  abbrev OfMigrate : ℕ → Type 0
+  OfMigrate n = (n ≡ 0) ⊎ (n ≡ 3) ⊎ (n ≡ 4) ⊎ IsStatus n 6
+
+  sought_alone : (b : Answer) → IsAnswerTo Sought (program ∷ log ∷ []) b → OfMigrate (status_of b)
+  sought_alone Migrated w = inl refl
+  sought_alone (ProgramRefused r) w = inr (inl refl)
+  sought_alone (LogRefused r) w = inr (inr (inl refl))
+  sought_alone (LogOver e) w = inr (inr (inr (inl refl)))
+  sought_alone (TooLong i) w = inr (inr (inr (inl refl)))
+  sought_alone _ w = absurd w.1.2.2.1
+
+  migrate_alone : OfMigrate status
+  migrate_alone =
+      alone_of Sought (program ∷ log ∷ []) a status j k says known OfMigrate (sought_alone a) (inr (inr (inr (inr (inl refl)))))
+      (inr (inr (inr (inr (inr (inl refl)))))) (inr (inr (inr (inr (inr (inr refl))))))
+
+  migrate_answers : MigrateAnswers program log status j k
+  migrate_answers = record {
+    migrated = migrated_at;
+    refused = no_program_at;
+    log_refused = no_log_at;
+    exactly = exactly_migrated;
+    alone = migrate_alone;
+  }
+
 command_at : (call : Called) (files : Files) (a : Answer) (status : ℕ) (j k : SinkTells) → Says a status j k
     → IsKnown call (texts_under files call) a → CommandAnswers call files status j k
 command_at (Lists p) files a status j k says known = list_answers p (bytes_at files p) a status j k says known
 command_at (Replays p l s) files a status j k says known =
     replay_answers p l s (bytes_at files p) (bytes_at files l) (bytes_at files s) a status j k says known
 command_at (Records p l model seed steps) files a status j k says known = record_answers p l (bytes_at files p) model seed steps a status j k says known
+command_at (Migrates p l o) files a status j k says known = migrate_answers p l o (bytes_at files p) (bytes_at files l) a status j k says known
 
 if_told : (o : Option Called) (held : Option Files) (P : Called → Files → Type 0)
     → ((call : Called) (files : Files) → o ≡ Some call → held ≡ Some files → P call files) → IfSome o (λ call. IfSome held (λ files. P call files))

@@ -3,6 +3,8 @@ pub mod OneFiles
 pub mod OneRun
 pub mod Statuses
 pub mod Fetches
+pub mod Migrations
+pub mod OneMigration
 pub mod Causes
 pub mod OneAnswer
 pub mod Calls

@@ -1,6 +1,5 @@
 -- At most one answer to what a command's inputs hold has its cause.
-use Rattle.std.proofs.Common.{◌≡◌, ◌∙◌, ℕ, List, [], ◌∷◌, refl, ap, sym, subst}
-use Rattle.std.proofs.lemmas.Option.{same_Some}
+use Rattle.std.proofs.Common.{◌≡◌, ℕ, List, [], ◌∷◌, refl, ap, subst}
 use Rattle.tc_base.specs.declared.model.Model.{Model}
 use Rattle.tc_base.specs.Buffers.{buffer_of}
 use Rattle.tc_code.specs.Code.{Code}
@@ -11,15 +10,16 @@ use Rattle.schedule_file.proofs.Schedules as schedules
 use Rattle.schedule_replay.specs.Verdicts.{IsVerdict}
 use Rattle.schedule_replay.specs.declared.verdict.Verdict.{Verdict}
 use Rattle.schedule_replay.proofs.OneVerdict.{one_verdict}
-use Rattle.clap_debug_words.specs.Calls.{Called, Lists, Replays, Records}
+use Rattle.clap_debug_words.specs.Calls.{Called, Lists, Replays, Records, Migrates}
 use Rattle.clap_debug_cli.specs.Files.{IsOfOther, Schedule}
 use Rattle.clap_debug_cli.specs.Answers.{Answer, TooLong, ProgramRefused, LogRefused, ScheduleRefused, Listed, Replayed, RunFailed, RunEnded}
 use Rattle.clap_debug_cli.specs.Causes.{IsListAnswer, IsRecordAnswer, IsReplayed, IsLogRefused, IsScheduleRefused, IsReplayAnswer, IsWorkOf, IsAnswerTo}
 use Rattle.clap_debug_cli.specs.Inputs.{Texts, inputs_of}
 use Rattle.clap_debug_cli.specs.Programs.{IsRefusal}
 use Rattle.clap_debug_cli.specs.declared.answer.LogRefusal.{LogRefusal}
-use Rattle.clap_debug_cli.specs.declared.answer.LogRefusal.TheVariants.{Form, OtherProgram}
+use Rattle.clap_debug_cli.specs.declared.answer.LogRefusal.TheVariants.{Form, OtherProgram, Unfit}
 use Rattle.clap_debug_cli.proofs.Fetches.{not_within, one_too_long}
+use Rattle.clap_debug_cli.proofs.OneMigration.{one_migrate_answer}
 use Rattle.clap_debug_cli.proofs.OneFiles.{one_log, log_or_fault, one_schedule, schedule_or_fault}
 use Rattle.clap_debug_cli.proofs.OnePrograms.{one_code, one_refusal, refused_no_code}
 use Rattle.clap_debug_cli.proofs.OneRun.{one_failure, one_ending, failed_or_ended}
@@ -52,18 +52,23 @@ module _ (program log schedule : List ℕ) where
   one_log_refused (Form o) OtherProgram f g = absurd (log_or_fault log g.2 o g.3 f.2)
   one_log_refused OtherProgram (Form p) f g = absurd (log_or_fault log f.2 p f.3 g.2)
   one_log_refused OtherProgram OtherProgram f g = refl
+  one_log_refused (Unfit _ _) q f g = absurd f
+  one_log_refused r (Unfit _ _) f g = absurd g
 
   log_refused_no_program : (r : LogRefusal) (q : TextFault) → IsLogRefused program log schedule r → IsRefusal program q → ⊥
   log_refused_no_program (Form o) q f g = refused_no_code program q f.0 g f.1
   log_refused_no_program OtherProgram q f g = refused_no_code program q f.0 g f.1
+  log_refused_no_program (Unfit _ _) q f g = f
 
   log_refused_no_schedule : (r : LogRefusal) (n : ℕ) → IsLogRefused program log schedule r → IsScheduleRefused program log schedule n → ⊥
   log_refused_no_schedule (Form o) n f g = log_or_fault log g.run o g.logs f.2
   log_refused_no_schedule OtherProgram n f g = schedule_or_fault schedule f.4 n f.5 g.breaks
+  log_refused_no_schedule (Unfit _ _) n f g = f
 
   log_refused_no_verdict : (r : LogRefusal) (v : Verdict) → IsLogRefused program log schedule r → IsReplayed program log schedule v → ⊥
   log_refused_no_verdict (Form o) v f g = log_or_fault log g.run o g.logs f.2
   log_refused_no_verdict OtherProgram v f g = g.recorded (subst (λ l. IsOfOther program l) (one_log log f.2 g.run f.3 g.logs) f.6)
+  log_refused_no_verdict (Unfit _ _) v f g = f
 
   one_replay_answer : (a b : Answer) → IsReplayAnswer program log schedule a → IsReplayAnswer program log schedule b → a ≡ b
   one_replay_answer (ProgramRefused r) (ProgramRefused q) f g = ap (λ x. ProgramRefused x) (one_refusal program r q f g)
@@ -108,6 +113,7 @@ one_work : (call : Called) (t : Texts) (a b : Answer) → IsWorkOf call t a → 
 one_work (Lists _) (program ∷ []) a b f g = one_list_answer program a b f g
 one_work (Replays _ _ _) (program ∷ log ∷ schedule ∷ []) a b f g = one_replay_answer program log schedule a b f g
 one_work (Records _ _ model seed steps) (program ∷ []) a b f g = one_record_answer program model seed steps a b f g
+one_work (Migrates _ _ _) (program ∷ log ∷ []) a b f g = one_migrate_answer program log a b f g
 one_work _ _ a b f g = absurd f
 
 pub one_answer : (call : Called) (t : Texts) (a b : Answer) → IsAnswerTo call t a → IsAnswerTo call t b → a ≡ b

@@ -1,8 +1,7 @@
 -- A run of a program ends in one way.
-use Rattle.std.proofs.Common.{◌≡◌, ◌∙◌, ap, sym, subst, refl, ℕ, List, Some}
+use Rattle.std.proofs.Common.{◌≡◌, ◌∙◌, ap, sym, subst, refl, ℕ, List}
 use Rattle.std.proofs.lemmas.Option.{same_Some}
 use Rattle.tc_base.specs.Names.{Name}
-use Rattle.tc_base.specs.Buffers.{BufferOf}
 use Rattle.tc_base.specs.declared.model.Model.{Model}
 use Rattle.tc_code.specs.Code.{Code}
 use Rattle.tc_record.specs.Seeded.{Ended}

@@ -1,5 +1,5 @@
 -- From a run that failed to what is told of it and to the text of its log.
-use Rattle.std.proofs.Common.{◌≡◌, ◌∙◌, ◌≤◌, ap, sym, subst, refl, arith, ℕ, List, length, take, Option, Some, None}
+use Rattle.std.proofs.Common.{◌≡◌, ◌∙◌, ◌≤◌, ap, sym, subst, refl, arith, ℕ, List, length, take, Some}
 use Rattle.std.proofs.Common.{◌<◌, Bool, true, [], ◌∷◌, ◌&&◌, suc, get_or}
 use Rattle.std.specs.Prelude.{nat_lt}
 use Rattle.std.specs.List.{list_all}
@@ -8,7 +8,6 @@ use Rattle.std.proofs.lemmas.List.{take_all}
 use Rattle.std.specs.Prelude.{IsTrue, IsSomeAnd, IfOk, Result, Ok}
 use Rattle.sha2.specs.Sha256.{sha256}
 use Rattle.tc_base.specs.Buffers.{BufferOps, buffer_of}
-use Rattle.tc_base.specs.States.{State}
 use Rattle.tc_base.specs.Logs.{Log, ThreadPath, failing_of}
 use Rattle.tc_base.specs.declared.model.Model.{Model}
 use Rattle.tc_base.specs.declared.moves.Move.{Move}
@@ -17,7 +16,7 @@ use Rattle.tc_code.specs.Run.{Reproduces, run}
 use Rattle.path_log.specs.Texts.{StoredLog, is_log, is_of_format, is_digest, log_text}
 use Rattle.tc_record.specs.Failing.{failing_line}
 use Rattle.tc_record.specs.Logged.{IsLogOf, is_small}
-use Rattle.tc_record.specs.Seeded.{Ended, seeded_run}
+use Rattle.tc_record.specs.Seeded.{seeded_run}
 use Rattle.tc_record.specs.declared.end.End.TheVariants as end
 use Rattle.tc_record.proofs.Leads.{run_leads, run_is_short}
 use Rattle.tc_record.proofs.Sizes.{recorded_size}

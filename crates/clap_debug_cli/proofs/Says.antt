@@ -17,6 +17,8 @@ use Rattle.clap_debug_cli.specs.declared.answer.Answer.TheVariants.{
   Replayed,
   RunFailed,
   RunEnded,
+  LogOver,
+  Migrated,
   WriteFault,
   NoMemory,
 }
@@ -34,12 +36,15 @@ said (Listed _) status j k not h = h
 said (Replayed _) status j k not h = h
 said (RunFailed _) status j k not h = h
 said (RunEnded _) status j k not h = h
+said (LogOver _) status j k not h = h
+said Migrated status j k not h = h
 said NoMemory status j k not h = h
 
 -- where all is held that was, nothing was kept
 pub kept_nothing : (a : Answer) (old new : ShelfTells) → new.held ≡ old.held → KeptNothing (plain_answer a) old new
 kept_nothing (WriteFault name) old new h = tt
 kept_nothing (RunFailed f) old new h = tt
+kept_nothing Migrated old new h = tt
 kept_nothing Usage old new h = h
 kept_nothing (ReadFault _) old new h = h
 kept_nothing (TooLong _) old new h = h
@@ -49,4 +54,5 @@ kept_nothing (ScheduleRefused _) old new h = h
 kept_nothing (Listed _) old new h = h
 kept_nothing (Replayed _) old new h = h
 kept_nothing (RunEnded _) old new h = h
+kept_nothing (LogOver _) old new h = h
 kept_nothing NoMemory old new h = h

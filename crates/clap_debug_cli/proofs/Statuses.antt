@@ -1,16 +1,16 @@
 -- Which answers have a status.
-use Rattle.std.proofs.Common.{◌≡◌, ◌≢◌, ◌≤◌, ◌⊎◌, inl, inr, refl, sym, ap, ◌∙◌, arith, ℕ, List}
-use Rattle.clap_debug_cli.specs.Answers.{Answer, Usage, ReadFault, TooLong, ProgramRefused, LogRefused, ScheduleRefused, Listed, Replayed, RunFailed}
-use Rattle.clap_debug_cli.specs.Answers.{RunEnded, WriteFault, NoMemory, status_of, verdict_status, ending_status}
+use Rattle.std.proofs.Common.{◌≡◌, ◌≢◌, ◌≤◌, ◌⊎◌, inl, inr, refl, sym, ap, arith, ℕ, List}
+use Rattle.clap_debug_cli.specs.Answers.{Answer, Usage, ReadFault, TooLong, ProgramRefused, LogRefused, ScheduleRefused, Replayed}
+use Rattle.clap_debug_cli.specs.Answers.{RunEnded, LogOver, WriteFault, NoMemory, status_of, verdict_status, ending_status}
 use Rattle.tc_parser.specs.declared.fault.TextFault.{TextFault}
 use Rattle.schedule_replay.specs.declared.verdict.Verdict.{Verdict}
 use Rattle.clap_debug_cli.specs.declared.answer.LogRefusal.{LogRefusal}
 use Rattle.schedule_replay.specs.declared.verdict.Verdict.TheVariants as verdict
+use Rattle.clap_debug_cli.specs.declared.answer.Excess.{Excess}
 use Rattle.clap_debug_cli.specs.declared.input.Input.{Input}
 use Rattle.tc_record.specs.declared.end.Which.{Which}
 use Rattle.clap_debug_cli.specs.declared.run.Ending.{Ending}
 use Rattle.clap_debug_cli.specs.declared.run.Ending.TheVariants.{Finished, Deadlock, StepLimit, Over}
-use Rattle.clap_debug_cli.specs.declared.run.Failure.{Failure}
 
 pub verdict_status-le : (v : Verdict) → verdict_status v ≤ 1
 verdict_status-le verdict.Reproduces = omega arith
@@ -59,11 +59,13 @@ is_schedule_refused (Replayed v) h = absurd (omega (arith, h, verdict_status-le 
 is_schedule_refused (RunEnded e) h = absurd (no_ending e 5 h (λ x. omega (arith, x)) (λ x. omega (arith, x)) (λ x. omega (arith, x)))
 is_schedule_refused _ h = absurd (omega (arith, h))
 
--- a file was too long, or a run passed a limit
+-- a file was too long, or a run or a log passed a limit
 pub is_limit : (a : Answer) → status_of a ≡ 6 → ((i : Input) × (a ≡ TooLong i)) ⊎ ((which : Which) × (a ≡ RunEnded (Over which)))
+    ⊎ ((e : Excess) × (a ≡ LogOver e))
 is_limit (TooLong i) h = inl (i, refl)
 is_limit (Replayed v) h = absurd (omega (arith, h, verdict_status-le v))
-is_limit (RunEnded e) h = let o = is_over e h in inr (o.0, ap (λ x. RunEnded x) o.1)
+is_limit (RunEnded e) h = let o = is_over e h in inr (inl (o.0, ap (λ x. RunEnded x) o.1))
+is_limit (LogOver e) h = inr (inr (e, refl))
 is_limit _ h = absurd (omega (arith, h))
 
 pub is_read_fault : (a : Answer) → status_of a ≡ 7 → (name : List ℕ) × (a ≡ ReadFault name)

@@ -13,7 +13,10 @@ use Rattle.tc_record.specs.Ends.{limit_of as most_of}
 use Rattle.tc_record.specs.declared.end.Which.{Which}
 use Rattle.tc_record.specs.declared.end.Which.TheVariants.{Threads, Depth, Steps}
 use Rattle.clap_debug_cli.specs.declared.answer.LogRefusal.{LogRefusal}
-use Rattle.clap_debug_cli.specs.declared.answer.LogRefusal.TheVariants.{Form, OtherProgram}
+use Rattle.clap_debug_cli.specs.declared.answer.LogRefusal.TheVariants.{Form, OtherProgram, Unfit}
+use Rattle.clap_debug_cli.specs.declared.answer.Excess.{Excess}
+use Rattle.path_walk.specs.declared.fault.Misfit.{Misfit}
+use Rattle.path_walk.specs.declared.fault.Misfit.TheVariants.{Missing, Stranger, OutcomesShort, OutcomesLeft, PastExit, NotASite}
 use Rattle.schedule_replay.specs.declared.verdict.Verdict.TheVariants as verdict
 use Rattle.clap_debug_cli.specs.declared.input.Input.{Input}
 use Rattle.clap_debug_cli.specs.declared.run.Ending.{Ending}
@@ -36,7 +39,10 @@ pub data Answer : Type 0 where
   -- a recorded run failed, or ended otherwise
   RunFailed : (failure : Failure) → Answer
   RunEnded : (ending : Ending) → Answer
-  -- the log couldn't be kept under this name
+  -- a log has more than it may have, or its text in format 2 was kept
+  LogOver : (excess : Excess) → Answer
+  Migrated : Answer
+  -- a result couldn't be kept under this name
   WriteFault : (name : List ℕ) → Answer
   NoMemory : Answer
 
@@ -47,11 +53,16 @@ verdict_line verdict.NoFailure = codes "no failure\n"
 verdict_line (verdict.OtherFailure n) = codes "other failure " ++ (name_text n ++ codes "\n")
 verdict_line (verdict.OtherPath n) = codes "other path " ++ (name_text n ++ codes "\n")
 
--- what there is a limit of in a recorded run
+-- what there is a limit of in a run
 abbrev pub which_text : Which → List ℕ
 which_text Threads = codes "threads"
 which_text Depth = codes "depth"
 which_text Steps = codes "steps"
+
+-- there are so many of these, which are too many
+abbrev pub over_line : Which → ℕ → List ℕ
+over_line which number = codes "limit " ++ (which_text which ++
+    (codes " " ++ (decimal number ++ (codes " of " ++ (decimal (most_of which) ++ codes "\n")))))
 
 abbrev pub failure_line : Failure → List ℕ
 failure_line f = codes "failed " ++ (name_text f.name ++ (codes " line " ++ (decimal f.line ++ (codes " after " ++ (decimal f.moves ++ codes " moves\n")))))
@@ -60,13 +71,21 @@ abbrev pub ending_line : Ending → List ℕ
 ending_line Finished = codes "finished\n"
 ending_line Deadlock = codes "deadlock\n"
 ending_line (StepLimit moves) = codes "no failure in " ++ (decimal moves ++ codes " moves\n")
-ending_line (Over which) = codes "limit " ++ (which_text which ++
-    (codes " " ++ (decimal (most_of which + 1) ++ (codes " of " ++ (decimal (most_of which) ++ codes "\n")))))
+ending_line (Over which) = over_line which (most_of which + 1)
 
--- where the log's form breaks, or that it is another program's
+abbrev pub misfit_text : Misfit → List ℕ
+misfit_text Missing = codes "Missing"
+misfit_text Stranger = codes "Stranger"
+misfit_text OutcomesShort = codes "OutcomesShort"
+misfit_text OutcomesLeft = codes "OutcomesLeft"
+misfit_text PastExit = codes "PastExit"
+misfit_text NotASite = codes "NotASite"
+
+-- where the log's form breaks, or that it is another program's, or what is wrong with one of its threads
 abbrev pub log_refusal_text : LogRefusal → List ℕ
 log_refusal_text (Form offset) = codes "form at " ++ decimal offset
 log_refusal_text OtherProgram = codes "other program"
+log_refusal_text (Unfit name misfit) = misfit_text misfit ++ (codes " " ++ name_text name)
 
 abbrev pub usage_text : List ℕ
 usage_text =
@@ -76,6 +95,7 @@ usage_text =
     ++ codes "usage: clap_debug check PROGRAM LOG REFUTATION\n"
     ++ codes "usage: clap_debug list PROGRAM\n"
     ++ codes "usage: clap_debug workload N SEED\n"
+    ++ codes "usage: clap_debug migrate PROGRAM LOG OUT\n"
 
 -- what is written
 abbrev pub line_of : Answer → List ℕ
@@ -90,6 +110,8 @@ line_of (Listed code) = listing_of code
 line_of (Replayed v) = verdict_line v
 line_of (RunFailed f) = failure_line f
 line_of (RunEnded e) = ending_line e
+line_of (LogOver e) = over_line e.which e.number
+line_of Migrated = codes "migrated\n"
 line_of (WriteFault name) = codes "write fault: " ++ (name ++ codes "\n")
 line_of NoMemory = codes "no memory\n"
 
@@ -108,12 +130,14 @@ abbrev pub status_of : Answer → ℕ
 status_of (Listed _) = 0
 status_of (Replayed v) = verdict_status v
 status_of (RunFailed _) = 0
+status_of Migrated = 0
 status_of (RunEnded e) = ending_status e
 status_of Usage = 2
 status_of (ProgramRefused _) = 3
 status_of (LogRefused _) = 4
 status_of (ScheduleRefused _) = 5
 status_of (TooLong _) = 6
+status_of (LogOver _) = 6
 status_of (ReadFault _) = 7
 status_of (WriteFault _) = 8
 status_of NoMemory = 9

@@ -3,7 +3,7 @@ use Rattle.std.specs.Prelude.{◌≡◌, ◌≢◌, ℕ, ◌≤◌, ◌⊎◌, L
 use Rattle.tc_code.specs.Code.{Code}
 use Rattle.tc_base.specs.declared.model.Model.{Model}
 use Rattle.tc_io.specs.Outside.{Files, ShelfTells, SinkTells, Wrote, WrotePart, KeptPart, bytes_at, put_under}
-use Rattle.clap_debug_words.specs.Calls.{Called, Lists, Replays, Records, call_of}
+use Rattle.clap_debug_words.specs.Calls.{Called, Lists, Replays, Records, Migrates, call_of}
 use Rattle.clap_debug_cli.specs.Answers.{
   Answer,
   Usage,
@@ -16,21 +16,25 @@ use Rattle.clap_debug_cli.specs.Answers.{
   Replayed,
   RunFailed,
   RunEnded,
+  LogOver,
+  Migrated,
   WriteFault,
   NoMemory,
   ending_status,
   line_of,
   status_of,
 }
-use Rattle.clap_debug_cli.specs.Causes.{IsCause, IsAnswerTo, IsWorkOf, IsReplayed, IsLogRefused, IsScheduleRefused}
-use Rattle.clap_debug_cli.specs.Inputs.{Texts, GaveInput, inputs_of, limit_of, wanted, IsTooLong}
+use Rattle.clap_debug_cli.specs.Causes.{IsCause, IsAnswerTo, IsWorkOf, IsResult, IsReplayed, IsLogRefused, IsScheduleRefused, IsMigrateAnswer}
+use Rattle.clap_debug_cli.specs.Inputs.{Texts, GaveAll, inputs_of, limit_of, IsTooLong}
+use Rattle.clap_debug_cli.specs.Migrated.{IsMigrated}
 use Rattle.clap_debug_cli.specs.Programs.{IsCodeOf, IsRefusal}
-use Rattle.clap_debug_cli.specs.Recorded.{FailsSo, EndsSo, IsRecorded, end_status, run_of}
+use Rattle.clap_debug_cli.specs.Recorded.{FailsSo, EndsSo, end_status, run_of}
 use Rattle.tc_parser.specs.declared.fault.TextFault.{TextFault}
 use Rattle.schedule_replay.specs.declared.verdict.Verdict.{Verdict}
 use Rattle.clap_debug_cli.specs.declared.answer.LogRefusal.{LogRefusal}
 use Rattle.schedule_replay.specs.declared.verdict.Verdict.TheVariants as verdict
 use Rattle.tc_record.specs.declared.end.Which.{Which}
+use Rattle.clap_debug_cli.specs.declared.answer.Excess.{Excess}
 use Rattle.clap_debug_cli.specs.declared.input.Input.{Input}
 use Rattle.clap_debug_cli.specs.declared.input.Input.TheVariants as input
 use Rattle.clap_debug_cli.specs.declared.run.Ending.{Ending}
@@ -65,27 +69,28 @@ Says a status old new =
 
 -- what stands under every name after a call
 
--- `record` was given a program, and the text of its run's log stands under the log's name; all else is held that was
-abbrev pub HoldsLog : (program log : List ℕ) → Model → (seed steps : ℕ) → ShelfTells → ShelfTells → Type 0
-HoldsLog program log model seed steps old new = (s : ShelfTells) × (bytes : List ℕ) × GaveInput (wanted input.Program program) old s bytes
-    × (text : List ℕ) × IsRecorded bytes model seed steps text × (new.held ≡ put_under log text old.held)
+-- the command was given its inputs, and a result of theirs stands under this name; all else is held that was
+abbrev pub Holds : Called → (name : List ℕ) → ShelfTells → ShelfTells → Type 0
+Holds call name old new = (t : Texts) × (s : ShelfTells) × GaveAll (inputs_of call) old s t
+    × (text : List ℕ) × IsResult call t text × (new.held ≡ put_under name text old.held)
 
--- it was given a program, and then the keep of that text failed
-abbrev pub LosesLog : (program log : List ℕ) → Model → (seed steps : ℕ) → ShelfTells → ShelfTells → Type 0
-LosesLog program log model seed steps old new = (s : ShelfTells) × (bytes : List ℕ) × GaveInput (wanted input.Program program) old s bytes
-    × (text : List ℕ) × IsRecorded bytes model seed steps text × KeptPart s new log text
+-- it was given its inputs, and then the keep of that result failed
+abbrev pub Loses : Called → (name : List ℕ) → ShelfTells → ShelfTells → Type 0
+Loses call name old new = (t : Texts) × (s : ShelfTells) × GaveAll (inputs_of call) old s t
+    × (text : List ℕ) × IsResult call t text × KeptPart s new name text
 
--- what `record` leaves on the shelf, by status
-pub record LeavesLog (program log : List ℕ) (model : Model) (seed steps : ℕ) (status : ℕ) (old new : ShelfTells) : Type 0 where
-  pub kept : status ≡ 0 → HoldsLog program log model seed steps old new
+-- what a command leaves on the shelf that keeps its result under this name, by status
+pub record LeavesResult (call : Called) (name : List ℕ) (status : ℕ) (old new : ShelfTells) : Type 0 where
+  pub kept : status ≡ 0 → Holds call name old new
   pub none : status ≢ 0 → status ≢ 8 → status ≢ 9 → new.held ≡ old.held
-  -- without memory, and after a put that failed, the log stands there whole or nothing was kept
-  pub whole : status ≡ 9 → (new.held ≡ old.held) ⊎ HoldsLog program log model seed steps old new
-  pub part : status ≡ 8 → (new.held ≡ old.held) ⊎ HoldsLog program log model seed steps old new ⊎ LosesLog program log model seed steps old new
+  -- without memory, and after a put that failed, the result stands there whole or nothing was kept
+  pub whole : status ≡ 9 → (new.held ≡ old.held) ⊎ Holds call name old new
+  pub part : status ≡ 8 → (new.held ≡ old.held) ⊎ Holds call name old new ⊎ Loses call name old new
 
 -- what a command leaves on the shelf: `list` and `replay` what was there
 abbrev pub Leaves : Called → ℕ → ShelfTells → ShelfTells → Type 0
-Leaves (Records program log model seed steps) status old new = LeavesLog program log model seed steps status old new
+Leaves (Records program log model seed steps) status old new = LeavesResult (Records program log model seed steps) log status old new
+Leaves (Migrates program log out) status old new = LeavesResult (Migrates program log out) out status old new
 Leaves _ status old new = new.held ≡ old.held
 
 -- the answers that every call may give, by status, over what the shelf and the sink tell before and after it
@@ -95,6 +100,7 @@ pub record CallAnswers (words : List (List ℕ)) (old new : ShelfTells) (status 
   pub only_usage : call_of words ≡ None → (new ≡ old) × ((status ≡ 2) ⊎ (status ≡ 8) ⊎ (status ≡ 9))
   pub limit : status ≡ 6 → ((i : Input) × IsCause words old new (TooLong i) × Puts before after (TooLong i))
       ⊎ ((which : Which) × IsCause words old new (RunEnded (Over which)) × Puts before after (RunEnded (Over which)))
+      ⊎ ((e : Excess) × IsCause words old new (LogOver e) × Puts before after (LogOver e))
   pub read_fault : status ≡ 7 → (name : List ℕ) × IsCause words old new (ReadFault name) × Puts before after (ReadFault name)
   -- a keep failed, or a put did
   pub write_fault : status ≡ 8 → ((name : List ℕ) × IsCause words old new (WriteFault name) × PutsPart before after (WriteFault name))
@@ -102,7 +108,7 @@ pub record CallAnswers (words : List (List ℕ)) (old new : ShelfTells) (status 
   pub no_memory : status ≡ 9 → PutsAtMostNoMemory before after
   -- in all other cases an answer was put with its status, and has its cause
   pub answer : (status ≡ 8 → ⊥) → (status ≡ 9 → ⊥) → (a : Answer) × IsCause words old new a × (status ≡ status_of a) × Puts before after a
-  -- no name of the shelf changes but that of the log that `record` keeps
+  -- no name of the shelf changes but that of the log that `record` or `migrate` keeps
   pub leaves : IfSome (call_of words) (λ call. Leaves call status old new)
 
 -- a fact about a call and the files, where the words are taken and the shelf tells what it holds
@@ -117,6 +123,7 @@ IsStatus status wanted = (status ≡ wanted) ⊎ (status ≡ 7) ⊎ (status ≡ 
 pub record ToldAnswers (call : Called) (t : Texts) (status : ℕ) (before after : SinkTells) : Type 0 where
   pub limit : status ≡ 6 → ((i : Input) × IsTooLong (inputs_of call) t i × Puts before after (TooLong i))
       ⊎ ((which : Which) × IsWorkOf call t (RunEnded (Over which)) × Puts before after (RunEnded (Over which)))
+      ⊎ ((e : Excess) × IsWorkOf call t (LogOver e) × Puts before after (LogOver e))
   -- each answer comes wherever its cause holds
   pub exactly : (a : Answer) → IsAnswerTo call t a → IsStatus status (status_of a)
 
@@ -147,8 +154,20 @@ pub record RecordAnswers (program : List ℕ) (model : Model) (seed steps : ℕ)
   -- and no other but those of every command
   pub alone : (status ≡ 0) ⊎ (status ≡ 1) ⊎ (status ≡ 3) ⊎ (status ≡ 10) ⊎ IsStatus status 6
 
+-- the answers of `migrate` to a program and a log that the shelf tells of, by status
+pub record MigrateAnswers (program log : List ℕ) (status : ℕ) (before after : SinkTells) : Type 0 where
+  pub migrated : status ≡ 0 → (text : List ℕ) × IsMigrated program log text × Puts before after Migrated
+  pub refused : status ≡ 3 → (r : TextFault) × IsRefusal program r × Puts before after (ProgramRefused r)
+  pub log_refused : status ≡ 4 → (r : LogRefusal) × IsMigrateAnswer program log (LogRefused r) × Puts before after (LogRefused r)
+  -- where neither is too long, and the log fits the program within the limits, it is brought to format 2
+  pub exactly : (text : List ℕ) → IsMigrated program log text → length program ≤ limit_of input.Program → length log ≤ limit_of input.Log
+      → IsStatus status 0
+  -- and no other but those of every command
+  pub alone : (status ≡ 0) ⊎ (status ≡ 3) ⊎ (status ≡ 4) ⊎ IsStatus status 6
+
 -- the answers of a command, by status
 abbrev pub CommandAnswers : Called → Files → ℕ → SinkTells → SinkTells → Type 0
 CommandAnswers (Lists program) files = ListAnswers (bytes_at files program)
 CommandAnswers (Replays program log schedule) files = ReplayAnswers (bytes_at files program) (bytes_at files log) (bytes_at files schedule)
 CommandAnswers (Records program log model seed steps) files = RecordAnswers (bytes_at files program) model seed steps
+CommandAnswers (Migrates program log out) files = MigrateAnswers (bytes_at files program) (bytes_at files log)

@@ -1,14 +1,16 @@
 -- Why an answer is given: what the words are, what the shelf did, and what the bytes that it gave say.
-use Rattle.std.specs.Prelude.{◌≡◌, ℕ, List, [], ◌∷◌, None, IsSomeAnd}
+use Rattle.std.specs.Prelude.{◌≡◌, ℕ, List, [], ◌∷◌, Some, None, IsSomeAnd}
 use Rattle.tc_base.specs.declared.model.Model.{Model}
 use Rattle.tc_base.specs.Buffers.{buffer_of}
+use Rattle.tc_base.specs.Logs.{Log}
 use Rattle.tc_code.specs.Code.{Code}
 use Rattle.tc_io.specs.Outside.{ShelfTells, Kept, KeptPart}
 use Rattle.path_log.specs.Faults.{BreaksAt as LogBreaksAt}
 use Rattle.path_log.specs.Texts.{StoredLog}
 use Rattle.schedule_file.specs.Faults.{BreaksAt as ScheduleBreaksAt}
 use Rattle.schedule_replay.specs.Verdicts.{IsVerdict}
-use Rattle.clap_debug_words.specs.Calls.{Called, Lists, Replays, Records, call_of}
+use Rattle.path_walk.specs.Fits.{Fits, IsFirst}
+use Rattle.clap_debug_words.specs.Calls.{Called, Lists, Replays, Records, Migrates, call_of}
 use Rattle.clap_debug_cli.specs.Answers.{
   Answer,
   Usage,
@@ -21,6 +23,8 @@ use Rattle.clap_debug_cli.specs.Answers.{
   Replayed,
   RunFailed,
   RunEnded,
+  LogOver,
+  Migrated,
   WriteFault,
   NoMemory,
 }
@@ -28,9 +32,10 @@ use Rattle.clap_debug_cli.specs.Files.{IsLog, IsOfOther, Schedule, IsSchedule}
 use Rattle.clap_debug_cli.specs.Inputs.{Texts, inputs_of, AreWithin, IsTooLong, GaveAll, FailsToRead, PassesLimit}
 use Rattle.clap_debug_cli.specs.Programs.{IsCodeOf, IsRefusal}
 use Rattle.clap_debug_cli.specs.Recorded.{FailsSo, EndsSo, IsRecorded}
+use Rattle.clap_debug_cli.specs.Migrated.{IsMigrated, excess_of}
 use Rattle.schedule_replay.specs.declared.verdict.Verdict.{Verdict}
 use Rattle.clap_debug_cli.specs.declared.answer.LogRefusal.{LogRefusal}
-use Rattle.clap_debug_cli.specs.declared.answer.LogRefusal.TheVariants.{Form, OtherProgram}
+use Rattle.clap_debug_cli.specs.declared.answer.LogRefusal.TheVariants.{Form, OtherProgram, Unfit}
 
 -- the answer of `list` to a program
 abbrev pub IsListAnswer : List ℕ → Answer → Type 0
@@ -54,6 +59,7 @@ abbrev pub IsLogRefused : (program log schedule : List ℕ) → LogRefusal → T
 IsLogRefused program log schedule (Form offset) = (code : Code) × IsCodeOf program code × LogBreaksAt log offset
 IsLogRefused program log schedule OtherProgram =
     (code : Code) × IsCodeOf program code × (run : StoredLog) × IsLog log run × (plan : Schedule) × IsSchedule schedule plan × IsOfOther program run
+IsLogRefused program log schedule (Unfit _ _) = ⊥
 
 -- program and log are of their forms, and this line of the schedule is the first that isn't
 pub record IsScheduleRefused (program log schedule : List ℕ) (line : ℕ) : Type 0 where
@@ -78,11 +84,36 @@ IsRecordAnswer program model seed steps (RunFailed f) = FailsSo program model se
 IsRecordAnswer program model seed steps (RunEnded e) = EndsSo program model seed steps e
 IsRecordAnswer program model seed steps _ = ⊥
 
+-- The answer of `migrate` to a program and a log: that of the first test that fails.
+
+-- of the log of a code: the limits are tested before the fit
+abbrev pub IsFitAnswer : Code → Log → Answer → Type 0
+IsFitAnswer code log (LogOver e) = excess_of log ≡ Some e
+IsFitAnswer code log (LogRefused (Unfit name misfit)) = (excess_of log ≡ None) × IsFirst code log name misfit
+IsFitAnswer code log Migrated = (excess_of log ≡ None) × Fits code log
+IsFitAnswer code log _ = ⊥
+
+-- of the log with its digest
+abbrev pub IsStoredAnswer : (program : List ℕ) → Code → StoredLog → Answer → Type 0
+IsStoredAnswer program code run (LogRefused OtherProgram) = IsOfOther program run
+IsStoredAnswer program code run a = (IsOfOther program run → ⊥) × IsFitAnswer code run.log a
+
+-- of the text of the log
+abbrev pub IsLogAnswer : (program log : List ℕ) → Code → Answer → Type 0
+IsLogAnswer program log code (LogRefused (Form offset)) = LogBreaksAt log offset
+IsLogAnswer program log code a = (run : StoredLog) × IsLog log run × IsStoredAnswer program code run a
+
+-- of both texts
+abbrev pub IsMigrateAnswer : (program log : List ℕ) → Answer → Type 0
+IsMigrateAnswer program log (ProgramRefused r) = IsRefusal program r
+IsMigrateAnswer program log a = (code : Code) × IsCodeOf program code × IsLogAnswer program log code a
+
 -- the answer of a command to what its inputs hold, none of which is too long
 abbrev pub IsWorkOf : Called → Texts → Answer → Type 0
 IsWorkOf (Lists _) (program ∷ []) a = IsListAnswer program a
 IsWorkOf (Replays _ _ _) (program ∷ log ∷ schedule ∷ []) a = IsReplayAnswer program log schedule a
 IsWorkOf (Records _ _ model seed steps) (program ∷ []) a = IsRecordAnswer program model seed steps a
+IsWorkOf (Migrates _ _ _) (program ∷ log ∷ []) a = IsMigrateAnswer program log a
 IsWorkOf _ _ a = ⊥
 
 -- the answer of a command to what its inputs hold
@@ -90,19 +121,26 @@ abbrev pub IsAnswerTo : Called → Texts → Answer → Type 0
 IsAnswerTo call t (TooLong i) = IsTooLong (inputs_of call) t i
 IsAnswerTo call t a = AreWithin (inputs_of call) t × IsWorkOf call t a
 
--- what a command may keep of its inputs: `record` the text of the log of a run that failed
+-- what a command may keep of its inputs: `record` the text of the log of a run that failed, `migrate` that of the log in format 2
 abbrev pub IsResult : Called → Texts → List ℕ → Type 0
 IsResult (Records _ _ model seed steps) (program ∷ []) text = IsRecorded program model seed steps text
+IsResult (Migrates _ _ _) (program ∷ log ∷ []) text = IsMigrated program log text
 IsResult _ _ text = ⊥
 
 -- the name under which a command keeps it, and whether this is that name
 abbrev pub IsOutput : Called → List ℕ → Type 0
 IsOutput (Records _ log _ _ _) name = name ≡ log
+IsOutput (Migrates _ _ out) name = name ≡ out
 IsOutput _ name = ⊥
 
--- what a command does to the shelf once it has its inputs: with the failure of a run it keeps a result, and else nothing
+-- a result was kept under the command's name for it
+abbrev pub KeepsResult : Called → Texts → ShelfTells → ShelfTells → Type 0
+KeepsResult call t old new = (name : List ℕ) × (text : List ℕ) × IsOutput call name × IsResult call t text × Kept old new name text
+
+-- what a command does to the shelf once it has its inputs: with the failure of a run, and with a log in format 2, it keeps a result, and else nothing
 abbrev pub DoesWith : Called → Texts → Answer → ShelfTells → ShelfTells → Type 0
-DoesWith call t (RunFailed _) old new = (name : List ℕ) × (text : List ℕ) × IsOutput call name × IsResult call t text × Kept old new name text
+DoesWith call t (RunFailed _) old new = KeepsResult call t old new
+DoesWith call t Migrated old new = KeepsResult call t old new
 DoesWith call t _ old new = new ≡ old
 
 -- a result couldn't be kept under this name

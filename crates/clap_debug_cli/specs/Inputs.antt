@@ -1,7 +1,7 @@
 -- The files that a command reads, and what becomes of their fetches.
 use Rattle.std.specs.Prelude.{◌≡◌, ◌⊎◌, ℕ, ◌+◌, ◌<◌, ◌≤◌, List, [], ◌∷◌, length, map, codes}
 use Rattle.tc_io.specs.Outside.{Files, Reading, ShelfTells, Gave, FailedOnce, WasTooLong, bytes_at}
-use Rattle.clap_debug_words.specs.Calls.{Called, Lists, Replays, Records}
+use Rattle.clap_debug_words.specs.Calls.{Called, Lists, Replays, Records, Migrates}
 use Rattle.clap_debug_cli.specs.declared.input.Input.{Input}
 use Rattle.clap_debug_cli.specs.declared.input.Input.TheVariants.{Program, Log, Schedule}
 
@@ -29,6 +29,7 @@ abbrev pub inputs_of : Called → List Wanted
 inputs_of (Lists program) = wanted Program program ∷ []
 inputs_of (Replays program log schedule) = wanted Program program ∷ wanted Log log ∷ wanted Schedule schedule ∷ []
 inputs_of (Records program _ _ _ _) = wanted Program program ∷ []
+inputs_of (Migrates program log _) = wanted Program program ∷ wanted Log log ∷ []
 
 -- what inputs hold, in their order
 abbrev pub Texts : Type 0

@@ -7,6 +7,8 @@ ghost use Rattle.clap_debug_cli.specs.Answers.{
   verdict_line,
   verdict_status,
   log_refusal_text,
+  misfit_text,
+  over_line,
   usage_text,
   which_text,
   failure_line,
@@ -15,24 +17,34 @@ ghost use Rattle.clap_debug_cli.specs.Answers.{
 };
 ghost use Rattle.clap_debug_cli.specs.Answers as plain;
 ghost use Rattle.clap_debug_cli.specs.Held.{plain_answer};
-ghost use Rattle.clap_debug_cli.specs.declared.run.Ending.TheVariants.{Over};
 
 use crate::input::{Input, Missing};
 use crate::program::refusal_line;
 use crate::run::{Ending, Failure};
+use path_walk::Misfit;
 use schedule_replay::Verdict;
 use std::alloc::{AllocError, Global};
+use tc_base::ThreadName;
 use tc_code::{Code, listing};
 use tc_parser::TextFault;
 use tc_record::Which;
 
 /// Why a log isn't taken.
-#[derive(Clone, Copy, Debug, PartialEq, Eq)]
+#[derive(Debug, Drop)]
 pub(crate) enum LogRefusal {
     /// The field at this offset is the first that is cut short or breaks its rule.
     Form(usize),
     /// It was recorded of another program.
     OtherProgram,
+    /// The thread of this name doesn't fit the program.
+    Unfit(ThreadName, Misfit),
+}
+
+/// More of something than a log may have, and how many.
+#[derive(Clone, Copy, Debug, PartialEq, Eq)]
+pub(crate) struct Excess {
+    pub(crate) which: Which,
+    pub(crate) number: usize,
 }
 
 /// What is answered.
@@ -58,7 +70,11 @@ pub(crate) enum Answer<'a> {
     RunFailed(Failure),
     /// The recorded run ended without a failure.
     RunEnded(Ending),
-    /// The log couldn't be kept under this name.
+    /// The log has more of something than it may have.
+    LogOver(Excess),
+    /// The log is kept in format 2.
+    Migrated,
+    /// A result couldn't be kept under this name.
     WriteFault(&'a str),
     /// There is no memory.
     NoMemory,
@@ -79,8 +95,15 @@ impl<'a> From<Missing<'a>> for Answer<'a> {
     }
 }
 
-const USAGE: &str =
-    "usage: clap_debug record PROGRAM LOG [--model sc|tso|pso] [--seed N] [--steps N]\nusage: clap_debug solve PROGRAM LOG OUT [--model sc|tso|pso] [--budget N]\nusage: clap_debug replay PROGRAM LOG SCHEDULE\nusage: clap_debug check PROGRAM LOG REFUTATION\nusage: clap_debug list PROGRAM\nusage: clap_debug workload N SEED\n";
+const USAGE: &str = concat!(
+    "usage: clap_debug record PROGRAM LOG [--model sc|tso|pso] [--seed N] [--steps N]\n",
+    "usage: clap_debug solve PROGRAM LOG OUT [--model sc|tso|pso] [--budget N]\n",
+    "usage: clap_debug replay PROGRAM LOG SCHEDULE\n",
+    "usage: clap_debug check PROGRAM LOG REFUTATION\n",
+    "usage: clap_debug list PROGRAM\n",
+    "usage: clap_debug workload N SEED\n",
+    "usage: clap_debug migrate PROGRAM LOG OUT\n",
+);
 
 /// What is written.
 pub(crate) fn line(alloc: Global, answer: &Answer) -> Result<Vec<u8>, AllocError>
@@ -92,13 +115,15 @@ pub(crate) fn line(alloc: Global, answer: &Answer) -> Result<Vec<u8>, AllocError
         Answer::ReadFault(name) => bytes(format!(in alloc; "read fault: {name}\n")),
         Answer::TooLong(input) => bytes(limit_line(alloc, *input)),
         Answer::ProgramRefused(fault) => bytes(refusal_line(alloc, *fault)),
-        Answer::LogRefused(refusal) => bytes(log_refusal_line(alloc, *refusal)),
+        Answer::LogRefused(refusal) => bytes(log_refusal_line(alloc, refusal)),
         Answer::ScheduleRefused(line) => bytes(format!(in alloc;
             "schedule refused: line {line}\n"
         )),
         Answer::Replayed(verdict) => bytes(verdict_line(alloc, verdict)),
         Answer::RunFailed(failure) => bytes(failure_line(alloc, failure)),
         Answer::RunEnded(ending) => bytes(ending_line(alloc, *ending)),
+        Answer::LogOver(excess) => bytes(over_line(alloc, excess.which, excess.number as u64)),
+        Answer::Migrated => bytes(String::from_str(alloc, "migrated\n")),
         Answer::WriteFault(name) => bytes(format!(in alloc; "write fault: {name}\n")),
         Answer::NoMemory => bytes(String::from_str(alloc, "no memory\n")),
     }
@@ -117,19 +142,36 @@ fn usage(alloc: Global) -> Result<String, AllocError>
     String::from_str(alloc, USAGE)
 }
 
-fn log_refusal_line(alloc: Global, refusal: LogRefusal) -> Result<String, AllocError>
-    ensures { IfOk result (λ text. string_bytes text ≡ line_of (plain.LogRefused refusal)) }
+fn log_refusal_line(alloc: Global, refusal: &LogRefusal) -> Result<String, AllocError>
+    ensures { IfOk result (λ text. string_bytes text ≡ line_of (plain.LogRefused refusal.now)) }
 {
     let refusal = log_refusal_text(alloc, refusal)?;
     format!(in alloc; "log refused: {refusal}\n")
 }
 
-fn log_refusal_text(alloc: Global, refusal: LogRefusal) -> Result<String, AllocError>
-    ensures { IfOk result (λ text. string_bytes text ≡ log_refusal_text refusal) }
+fn log_refusal_text(alloc: Global, refusal: &LogRefusal) -> Result<String, AllocError>
+    ensures { IfOk result (λ text. string_bytes text ≡ log_refusal_text refusal.now) }
 {
     match refusal {
         LogRefusal::Form(offset) => format!(in alloc; "form at {offset}"),
         LogRefusal::OtherProgram => String::from_str(alloc, "other program"),
+        LogRefusal::Unfit(name, misfit) => {
+            let misfit = misfit_text(*misfit);
+            format!(in alloc; "{misfit} {name}")
+        }
+    }
+}
+
+fn misfit_text(misfit: Misfit) -> &'static str
+    ensures { result.now ≡ misfit_text misfit }
+{
+    match misfit {
+        Misfit::Missing => "Missing",
+        Misfit::Stranger => "Stranger",
+        Misfit::OutcomesShort => "OutcomesShort",
+        Misfit::OutcomesLeft => "OutcomesLeft",
+        Misfit::PastExit => "PastExit",
+        Misfit::NotASite => "NotASite",
     }
 }
 
@@ -178,17 +220,16 @@ fn ending_line(alloc: Global, ending: Ending) -> Result<String, AllocError>
         Ending::Finished => String::from_str(alloc, "finished\n"),
         Ending::Deadlock => String::from_str(alloc, "deadlock\n"),
         Ending::StepLimit(moves) => format!(in alloc; "no failure in {moves} moves\n"),
-        Ending::Over(which) => over_line(alloc, which),
+        Ending::Over(which) => over_line(alloc, which, which.limit() + 1),
     }
 }
 
-fn over_line(alloc: Global, which: Which) -> Result<String, AllocError>
-    ensures { IfOk result (λ text. string_bytes text ≡ ending_line (Over which)) }
+fn over_line(alloc: Global, which: Which, number: u64) -> Result<String, AllocError>
+    ensures { IfOk result (λ text. string_bytes text ≡ over_line which number) }
 {
     let limit = which.limit();
-    let past = limit + 1;
     let which = which_text(which);
-    format!(in alloc; "limit {which} {past} of {limit}\n")
+    format!(in alloc; "limit {which} {number} of {limit}\n")
 }
 
 fn which_text(which: Which) -> &'static str
@@ -210,12 +251,14 @@ pub(crate) fn status(answer: &Answer) -> u8
         Answer::Replayed(Verdict::Reproduces) => 0,
         Answer::Replayed(_) => 1,
         Answer::RunFailed(_) => 0,
+        Answer::Migrated => 0,
         Answer::RunEnded(ending) => ending_status(*ending),
         Answer::Usage => 2,
         Answer::ProgramRefused(_) => 3,
         Answer::LogRefused(_) => 4,
         Answer::ScheduleRefused(_) => 5,
         Answer::TooLong(_) => 6,
+        Answer::LogOver(_) => 6,
         Answer::ReadFault(_) => 7,
         Answer::WriteFault(_) => 8,
         Answer::NoMemory => 9,

@@ -1,6 +1,6 @@
 //! The commands: each fetches its files in order, and answers what they say.
 ghost use Rattle.std.specs.Prelude.{◌≡◌, ◌≤◌, length, IfOk, IfErr, OnErr};
-ghost use Rattle.clap_debug_words.specs.Calls.{Lists, Replays, Records};
+ghost use Rattle.clap_debug_words.specs.Calls.{Lists, Replays, Records, Migrates};
 ghost use Rattle.clap_debug_cli.specs.Causes.{IsCauseOf};
 ghost use Rattle.clap_debug_cli.specs.Fetched.{IsWhyNone};
 ghost use Rattle.clap_debug_cli.specs.Held.{plain_answer, KeptNothing};
@@ -10,9 +10,10 @@ ghost use Rattle.clap_debug_cli.specs.Ran.{KeepsSo};
 
 use crate::answer::{Answer, LogRefusal};
 use crate::input::{Input, Missing, fetch};
+use crate::migrate::migrated;
 use crate::program::{CodeFault, read_program};
 use crate::replay::{is_of_other, replay_under};
-use crate::run::{Failure, Run, run_program};
+use crate::run::{Run, run_program};
 use path_log::{LogFault, read_log};
 use schedule_file::{ScheduleFault, read_schedule};
 use std::alloc::Global;
@@ -70,26 +71,51 @@ pub(crate) fn record_run<'a, H: Shelf>(
 {
     let program = fetch(alloc, shelf, Input::Program, program)?;
     match run_program(alloc, &program, model, seed, steps) {
-        Ok(Run::Failed(failure, text)) => Ok(keep_log(alloc, shelf, log, failure, &text)),
+        Ok(Run::Failed(failure, text)) => {
+            let kept = Answer::RunFailed(failure);
+            Ok(keep_result(alloc, shelf, log, &text, kept))
+        }
         Ok(Run::Ended(ending)) => Ok(Answer::RunEnded(ending)),
         Err(CodeFault::Refused(fault)) => Ok(Answer::ProgramRefused(fault)),
         Err(CodeFault::Memory) => Ok(Answer::NoMemory),
     }
 }
 
-/// Keeps the log of a run that failed.
-fn keep_log<'a, H: Shelf>(
+/// `migrate PROGRAM LOG OUT`: keeps the log in format 2, with the digest of the program.
+pub(crate) fn migrate_log<'a, H: Shelf>(
     alloc: Global,
     shelf: &mut H,
+    program: &'a str,
     log: &'a str,
-    failure: Failure,
-    text: &[u8],
-) -> Answer<'a>
-    ensures { KeepsSo log.now text.now failure (H.tells shelf.old) (H.tells shelf.new) (plain_answer result) }
+    out: &'a str,
+) -> Result<Answer<'a>, Missing<'a>>
+    ensures cause { IfOk result (λ answer.
+        IsCauseOf (Migrates program.now log.now out.now) (H.tells shelf.old) (H.tells shelf.new) (plain_answer answer)) }
+    ensures missing { IfErr result (IsWhyNone (inputs_of (Migrates program.now log.now out.now)) (H.tells shelf.old) (H.tells shelf.new)) }
+    ensures kept { IfOk result (λ answer. KeptNothing (plain_answer answer) (H.tells shelf.old) (H.tells shelf.new)) }
+    ensures none { OnErr result ((H.tells shelf.new).held ≡ (H.tells shelf.old).held) }
 {
-    match shelf.keep(alloc, log, text) {
-        Ok(()) => Answer::RunFailed(failure),
-        Err(KeepFault::Failed) => Answer::WriteFault(log),
+    let program = fetch(alloc, shelf, Input::Program, program)?;
+    let log = fetch(alloc, shelf, Input::Log, log)?;
+    match migrated(alloc, &program, &log) {
+        Ok(text) => Ok(keep_result(alloc, shelf, out, &text, Answer::Migrated)),
+        Err(answer) => Ok(answer),
+    }
+}
+
+/// Keeps a result, and answers this where that is done.
+fn keep_result<'a, H: Shelf>(
+    alloc: Global,
+    shelf: &mut H,
+    name: &'a str,
+    text: &[u8],
+    kept: Answer<'a>,
+) -> Answer<'a>
+    ensures { KeepsSo name.now text.now (plain_answer kept.entry) (H.tells shelf.old) (H.tells shelf.new) (plain_answer result) }
+{
+    match shelf.keep(alloc, name, text) {
+        Ok(()) => kept,
+        Err(KeepFault::Failed) => Answer::WriteFault(name),
         Err(KeepFault::Memory) => Answer::NoMemory,
     }
 }

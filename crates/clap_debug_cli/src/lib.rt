@@ -1,24 +1,31 @@
 //! The top call: from the words and the files that come in to the line and the status that go out.
 #![tactic(auto)]
 
-ghost use Rattle.std.specs.Prelude.{◌≡◌, None, map, string_bytes};
+ghost use Rattle.std.specs.Prelude.{◌≡◌, ◌≤◌, ℕ, List, Some, None, length, map, string_bytes};
+ghost use Rattle.sha2.specs.Sha256.{sha256};
+ghost use Rattle.path_log.specs.Texts.{StoredLog};
 ghost use Rattle.clap_debug_words.specs.Calls.{call_of, plain_call};
 ghost use Rattle.clap_debug_cli.specs.Answers as spec;
 ghost use Rattle.clap_debug_cli.specs.Causes.{IsCause, IsCauseOf};
 ghost use Rattle.clap_debug_cli.specs.Call.{IfTold, Says, SaysNoMore, CallAnswers, ToldAnswers, CommandAnswers};
-ghost use Rattle.clap_debug_cli.specs.Inputs.{texts_under};
+ghost use Rattle.clap_debug_cli.specs.Files.{IsLog};
+ghost use Rattle.clap_debug_cli.specs.Inputs.{limit_of, texts_under};
+ghost use Rattle.clap_debug_cli.specs.Migrated.{IsMigrated};
+ghost use Rattle.clap_debug_cli.specs.Recorded.{with_digest};
+ghost use Rattle.clap_debug_cli.specs.declared.input.Input.TheVariants.{Log};
 ghost use Rattle.clap_debug_cli.specs.Held.{plain_answer, KeptNothing};
 
 mod answer;
 mod commands;
 mod input;
+mod migrate;
 mod program;
 mod replay;
 mod run;
 
 use answer::{Answer, line, status};
 use clap_debug_words::{Call, call_of};
-use commands::{list_program, record_run, replay_schedule};
+use commands::{list_program, migrate_log, record_run, replay_schedule};
 use std::alloc::Global;
 use tc_io::{PutFault, Shelf, Sink};
 
@@ -41,6 +48,18 @@ pub fn clap_debug<H: Shelf, K: Sink>(
     let answer = answered(alloc, words, shelf);
     say(alloc, &answer, sink)
 }
+
+/// What `migrate` keeps is the log with the program's digest: the same model, failing thread and paths are read back from it.
+pub fn migrating_keeps_the_log()
+    ensures kept { (program log text : List ℕ) (run : StoredLog) → IsMigrated program log text → IsLog log run → IsLog text (with_digest program run.log) }
+    ensures again { (program log text : List ℕ) (run again : StoredLog) → IsMigrated program log text → IsLog log run → IsLog text again
+        → again ≡ with_digest program run.log }
+    // A log that has the digest stays as it is.
+    ensures whole { (program log text : List ℕ) (run : StoredLog) → IsMigrated program log text → IsLog log run → run.digest ≡ Some (sha256 program)
+        → text ≡ log }
+    // The text isn't too long for a log's.
+    ensures short { (program log text : List ℕ) → IsMigrated program log text → length text ≤ limit_of Log }
+{}
 
 /// What is answered to the words.
 fn answered<'a, H: Shelf>(alloc: Global, words: &'a [String], shelf: &mut H) -> Answer<'a>
@@ -74,6 +93,7 @@ fn answer_to<'a, H: Shelf>(alloc: Global, shelf: &mut H, call: Call<'a>) -> Answ
             seed,
             steps,
         } => record_run(alloc, shelf, program, log, model, seed, steps),
+        Call::Migrate { program, log, out } => migrate_log(alloc, shelf, program, log, out),
     };
     match answer {
         Ok(answer) => answer,

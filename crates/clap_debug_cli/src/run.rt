@@ -97,7 +97,7 @@ fn run_under<M: MemoryModel>(
 }
 
 /// A log with the digest of its program.
-fn with_digest(alloc: Global, log: &Log, digest: &[u8; 32]) -> Result<Log, AllocError>
+pub(crate) fn with_digest(alloc: Global, log: &Log, digest: &[u8; 32]) -> Result<Log, AllocError>
     ensures same { IfOk result (λ copy. copy ≡ record log.now { digest = Some digest.now }) }
     ensures is_log { OnOk result (IsTrue (is_log log.now.log)) }
     ensures is_digest { OnOk result (IsTrue (is_digest digest.now)) }

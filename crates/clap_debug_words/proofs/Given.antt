@@ -98,7 +98,13 @@ replay_has rows e =
 record_has : (rows : List Row) → given_in (sub_at 2) rows ≡ true → HasFiles (codes "record", rows)
 record_has rows e =
     let a = both (is_some (first_of (codes "program") rows)) _ e in
-    inr (inr (refl, a.0, (both (is_some (first_of (codes "log") rows)) _ a.1).0))
+    inr (inr (inl (refl, a.0, (both (is_some (first_of (codes "log") rows)) _ a.1).0)))
+
+migrate_has : (rows : List Row) → given_in (sub_at 3) rows ≡ true → HasFiles (codes "migrate", rows)
+migrate_has rows e =
+    let a = both (is_some (first_of (codes "program") rows)) _ e in
+    let b = both (is_some (first_of (codes "log") rows)) _ a.1 in
+    inr (inr (inr (refl, a.0, b.0, (both (is_some (first_of (codes "out") rows)) _ b.1).0)))
 
 if_some : (o : Option Text) (P : Text → Type 0) → ((v : Text) → o ≡ Some v → P v) → IfSome o P
 if_some None P h = tt
@@ -117,6 +123,12 @@ list_sets = (record { sets = refl; least = refl; test = λ v. refl; reads = refl
 
 replay_sets : AreSetters fitness (sub_at 1).rules
 replay_sets = (
+  record { sets = refl; least = refl; test = λ v. refl; reads = refl },
+  (record { sets = refl; least = refl; test = λ v. refl; reads = refl }, (record { sets = refl; least = refl; test = λ v. refl; reads = refl }, tt)),
+)
+
+migrate_sets : AreSetters fitness (sub_at 3).rules
+migrate_sets = (
   record { sets = refl; least = refl; test = λ v. refl; reads = refl },
   (record { sets = refl; least = refl; test = λ v. refl; reads = refl }, (record { sets = refl; least = refl; test = λ v. refl; reads = refl }, tt)),
 )
@@ -152,7 +164,13 @@ all_have = (
         record_has (rows_after (sub_at 2).rules [] words) (level_given fitness (sub_at 2) words record_sets e refl),
         fit_values (codes "record") _ (level_fit fitness (sub_at 2) [] words false record_sets e),
       ),
-      tt,
+      (
+        λ words e. (
+          migrate_has (rows_after (sub_at 3).rules [] words) (level_given fitness (sub_at 3) words migrate_sets e refl),
+          fit_values (codes "migrate") _ (level_fit fitness (sub_at 3) [] words false migrate_sets e),
+        ),
+        tt,
+      ),
     ),
   ),
 )

@@ -20,7 +20,8 @@ use Rattle.tc_base.specs.declared.model.Model.TheVariants.{Sc, Tso, Pso}
 use Rattle.clap_debug_words.specs.CommandLine.{command_line, lent_texts, model_names, words_taken}
 use Rattle.clap_debug_words.specs.Calls.{Called, call_of, called, model_in, number_in}
 use Rattle.clap_debug_words.specs.Calls as calls
-use Rattle.clap_debug_words.specs.PlainWords.{Written, Lists, Replays, Records, asked, is_between, is_name, is_plain, model_name, option_words, words_of}
+use Rattle.clap_debug_words.specs.PlainWords.{Written, Lists, Replays, Records, Migrates}
+use Rattle.clap_debug_words.specs.PlainWords.{asked, is_between, is_name, is_plain, model_name, option_words, words_of}
 use Rattle.clap_debug_words.proofs.PlainWords.{ArePlain, IsPlainWord, Marked, level-marked, rows-marked}
 
 name_plain : (p : Text) → is_name p ≡ true → IsPlainWord p
@@ -80,6 +81,14 @@ replay_says w p l s hp hl hs =
     let ms : List Marked = (true, p) ∷ (true, l) ∷ (true, s) ∷ [] in (
       ap (λ b. b && true) (level-marked (sub_at 1) ms (hp, (hl, (hs, tt)))),
       ap (λ (rows : List Row). Some (called (codes "replay", rows))) (rows-marked (sub_at 1) ms (hp, (hl, (hs, tt)))),
+    )
+
+migrate_says : (w p l o : Text) → IsPlainWord p → IsPlainWord l → IsPlainWord o → Says (words_of w (Migrates p l o)) (asked (Migrates p l o))
+unfolding clap_on_literals
+migrate_says w p l o hp hl ho =
+    let ms : List Marked = (true, p) ∷ (true, l) ∷ (true, o) ∷ [] in (
+      ap (λ b. b && true) (level-marked (sub_at 3) ms (hp, (hl, (ho, tt)))),
+      ap (λ (rows : List Row). Some (called (codes "migrate", rows))) (rows-marked (sub_at 3) ms (hp, (hl, (ho, tt)))),
     )
 
 -- a text of an option's value is a plain word that passes
@@ -202,6 +211,10 @@ plain_says first (Records p l model seed steps) e =
     as_call (words_of first (Records p l model seed steps)) _ _ (λ i. calls.Records p l (m.1 i) (n.1 i) (k.1 i))
     (record_says first p l (option_map model_name model) (option_map decimal seed) (option_map decimal steps) (name_plain p names.0) (name_plain l names.1)
     refl m.0 n.0 k.0)
+plain_says first (Migrates p l o) e =
+    let a = both _ _ e in
+    let b = both _ _ a.1 in
+    migrate_says first p l o (name_plain p a.0) (name_plain l b.0) (name_plain o b.1)
 
 -- plain words are taken, with the values that stand there
 pub plain_taken : (first : Text) (w : Written) → is_plain w ≡ true → call_of (words_of first w) ≡ Some (asked w)

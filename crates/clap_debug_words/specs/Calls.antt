@@ -15,6 +15,7 @@ pub data Called : Type 0 where
   Lists : (program : Text) → Called
   Replays : (program log schedule : Text) → Called
   Records : (program log : Text) (model : Model) (seed steps : ℕ) → Called
+  Migrates : (program log out : Text) → Called
 
 -- the text that stands for a positional
 abbrev pub text_of : Text → List Row → Text
@@ -50,6 +51,7 @@ steps_of rows = number_of 1 most_moves most_moves (codes "steps") rows
 abbrev pub called : Text × List Row → Called
 called p = if bytes_eq p.0 (codes "list") then Lists (text_of (codes "program") p.1)
     else if bytes_eq p.0 (codes "replay") then Replays (text_of (codes "program") p.1) (text_of (codes "log") p.1) (text_of (codes "schedule") p.1)
+    else if bytes_eq p.0 (codes "migrate") then Migrates (text_of (codes "program") p.1) (text_of (codes "log") p.1) (text_of (codes "out") p.1)
     else Records (text_of (codes "program") p.1) (text_of (codes "log") p.1) (model_of p.1) (seed_of p.1) (steps_of p.1)
 
 -- the call that the words ask for, where they are taken
@@ -61,3 +63,4 @@ abbrev pub plain_call : Call → Called
 plain_call (call.List program) = Lists program.now
 plain_call (call.Replay program log schedule) = Replays program.now log.now schedule.now
 plain_call (call.Record program log model seed steps) = Records program.now log.now model seed steps
+plain_call (call.Migrate program log out) = Migrates program.now log.now out.now

@@ -60,6 +60,12 @@ recording names = record (new_shape (codes "record")) {
       ∷ [];
 }
 
+-- `migrate PROGRAM LOG OUT`
+abbrev pub migration : Shape
+migration = record (new_shape (codes "migrate")) {
+  rules = positional (codes "program") ∷ positional (codes "log") ∷ positional (codes "out") ∷ [];
+}
+
 -- a command that wants a subcommand and knows no help
 abbrev pub commands : App → App
 commands a = record a {
@@ -74,7 +80,7 @@ commands a = record a {
 abbrev pub command_line_at : ModelNames → App
 command_line_at names = record {
   top = record (commands (new_app (codes "clap_debug"))).top { is_leaf = false };
-  subs = list ∷ replay ∷ recording names ∷ [];
+  subs = list ∷ replay ∷ recording names ∷ migration ∷ [];
 }
 
 -- the whole command

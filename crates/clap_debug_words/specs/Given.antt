@@ -1,5 +1,5 @@
 -- The files that words name where they are taken, and the values of their options.
-use Rattle.std.specs.Prelude.{◌≡◌, ◌⊎◌, true, false, List, codes, is_some, Bool, IfSome, if◌then◌else◌, bytes_eq}
+use Rattle.std.specs.Prelude.{◌≡◌, ◌⊎◌, true, false, List, codes, is_some, IfSome}
 use Rattle.clap.specs.Words.{Row, Text, first_of, one_of}
 use Rattle.clap.specs.ValueTests.{accepts, is_unsigned_in}
 use Rattle.clap.specs.declared.builder.value_parser.ValueParser.TheVariants as parser
@@ -9,12 +9,13 @@ use Rattle.clap_debug_words.specs.CommandLine.{last_seed, most_moves, lent_texts
 abbrev pub IsNamed : List Row → Text → Type 0
 IsNamed rows id = is_some (first_of id rows) ≡ true
 
--- the command is one of the three, and a text stands for each of its positionals
+-- the command is one of the four, and a text stands for each of its positionals
 abbrev pub HasFiles : Text × List Row → Type 0
 HasFiles p =
     ((p.0 ≡ codes "list") × IsNamed p.1 (codes "program"))
     ⊎ ((p.0 ≡ codes "replay") × IsNamed p.1 (codes "program") × IsNamed p.1 (codes "log") × IsNamed p.1 (codes "schedule"))
     ⊎ ((p.0 ≡ codes "record") × IsNamed p.1 (codes "program") × IsNamed p.1 (codes "log"))
+    ⊎ ((p.0 ≡ codes "migrate") × IsNamed p.1 (codes "program") × IsNamed p.1 (codes "log") × IsNamed p.1 (codes "out"))
 
 -- the value of an option is one that it takes
 pub record HasValues (p : Text × List Row) : Type 0 where

@@ -14,6 +14,7 @@ pub data Written : Type 0 where
   Lists : (program : Text) → Written
   Replays : (program log schedule : Text) → Written
   Records : (program log : Text) (model : Option Model) (seed steps : Option ℕ) → Written
+  Migrates : (program log out : Text) → Written
 
 abbrev pub model_name : Model → Text
 model_name Sc = codes "sc"
@@ -32,6 +33,7 @@ words_of first (Records program log model seed steps) = first ∷ codes "record"
     ∷ (option_words (codes "--model") (option_map model_name model)
     ++ (option_words (codes "--seed") (option_map decimal seed)
     ++ option_words (codes "--steps") (option_map decimal steps)))
+words_of first (Migrates program log out) = first ∷ codes "migrate" ∷ program ∷ log ∷ out ∷ []
 
 -- a name isn't empty and doesn't begin with `-`
 abbrev pub is_name : Text → Bool
@@ -47,9 +49,11 @@ is_plain (Lists program) = is_name program
 is_plain (Replays program log schedule) = is_name program && (is_name log && is_name schedule)
 is_plain (Records program log model seed steps) = (is_name program && is_name log)
     && (option_map_or (is_between 0 last_seed) seed true && option_map_or (is_between 1 most_moves) steps true)
+is_plain (Migrates program log out) = is_name program && (is_name log && is_name out)
 
 -- what they ask for: what isn't written is sequential consistency, seed 0 and a million moves
 abbrev pub asked : Written → Called
 asked (Lists program) = calls.Lists program
 asked (Replays program log schedule) = calls.Replays program log schedule
 asked (Records program log model seed steps) = calls.Records program log (unwrap_or model Sc) (unwrap_or seed 0) (unwrap_or steps most_moves)
+asked (Migrates program log out) = calls.Migrates program log out

@@ -41,6 +41,12 @@ pub enum Call<'a> {
         seed: u64,
         steps: u32,
     },
+    /// Write a log in format 2, with the digest of its program.
+    Migrate {
+        program: &'a str,
+        log: &'a str,
+        out: &'a str,
+    },
 }
 
 /// What the words ask for, or `None` where they are no words of the program: the asking for help is none either.
@@ -94,6 +100,12 @@ fn called<'a>(name: &str, matches: &ArgMatches<'a>) -> Call<'a>
             program: text(matches, "program"),
             log: text(matches, "log"),
             schedule: text(matches, "schedule"),
+        }
+    } else if name == "migrate" {
+        Call::Migrate {
+            program: text(matches, "program"),
+            log: text(matches, "log"),
+            out: text(matches, "out"),
         }
     } else {
         Call::Record {
@@ -161,7 +173,8 @@ fn command_line<'a>(alloc: Global, names: &'a [&'a str]) -> Result<Command<'a>, 
     commands(Command::new(alloc, "clap_debug"))
         .subcommand(list(alloc)?)?
         .subcommand(replay(alloc)?)?
-        .subcommand(recording(alloc, names)?)
+        .subcommand(recording(alloc, names)?)?
+        .subcommand(migration(alloc)?)
 }
 
 /// The command, where it wants a subcommand and knows no help.
@@ -209,6 +222,16 @@ fn recording<'a>(alloc: Global, names: &'a [&'a str]) -> Result<Command<'a>, All
         .arg(model)?
         .arg(seed)?
         .arg(steps)
+}
+
+/// `migrate PROGRAM LOG OUT`.
+fn migration<'a>(alloc: Global) -> Result<Command<'a>, AllocError>
+    ensures { IfOk result (λ command. shape_of command ≡ spec.migration) }
+{
+    Command::new(alloc, "migrate")
+        .arg(positional(alloc, "program"))?
+        .arg(positional(alloc, "log"))?
+        .arg(positional(alloc, "out"))
 }
 
 /// The names of the memory models.

@@ -1,13 +1,13 @@
 use Rattle.std.proofs.Common.{◌∙◌, ap, sym, subst}
 use Rattle.std.specs.Prelude.{IfErr}
-use Rattle.clap_debug_words.specs.Calls.{Lists, Replays, Records, plain_call}
+use Rattle.clap_debug_words.specs.Calls.{Lists, Replays, Records, Migrates, plain_call}
 use Rattle.clap_debug_cli.specs.Causes.{IsCauseOf}
 use Rattle.clap_debug_cli.specs.Fetched.{IsWhyNone}
 use Rattle.clap_debug_cli.specs.Held.{missing_answer, plain_answer}
 use Rattle.clap_debug_cli.specs.Inputs.{inputs_of}
 use Rattle.clap_debug_cli.proofs.Causes.{missing_cause}
 use Rattle.clap_debug_cli.proofs.answer_to.Goals as goal
-use Rattle.clap_debug_cli.proofs.answer_to.Goals.{in-List, in-Replay, in-Record}
+use Rattle.clap_debug_cli.proofs.answer_to.Goals.{in-List, in-Replay, in-Record, in-Migrate}
 
 pub returns-in-Err-clause-cause : goal.returns-in-Err-clause-cause
 returns-in-Err-clause-cause g c =
@@ -37,4 +37,11 @@ returns-in-Err-clause-cause g c =
           subst (λ k. IsCauseOf k old (tells c.match-call.shelf) answer) (sym (ap plain_call w.in-Record.is))
           (subst (λ s. IsCauseOf call old (tells s) answer) (sym w.shelf-is)
           (missing_cause call old (tells w.record_run-answer.new.shelf) c.in-Err.missing why))
+      | in-Migrate w ↦
+          let call = Migrates w.in-Migrate.program.now w.in-Migrate.log.now w.in-Migrate.out.now in
+          let why = subst (λ r. IfErr r (IsWhyNone (inputs_of call) old (tells w.migrate_log-answer.new.shelf))) (sym w.answer-is ∙ c.in-Err.is)
+          w.migrate_log-answer.ensures.missing in
+          subst (λ k. IsCauseOf k old (tells c.match-call.shelf) answer) (sym (ap plain_call w.in-Migrate.is))
+          (subst (λ s. IsCauseOf call old (tells s) answer) (sym w.shelf-is)
+          (missing_cause call old (tells w.migrate_log-answer.new.shelf) c.in-Err.missing why))
     ])

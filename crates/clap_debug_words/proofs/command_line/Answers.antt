@@ -14,5 +14,8 @@ returns c =
     let listed = c.in_ok-subcommand.ensures.shape (plain_fields _ (ap (λ (s : Shape). s.is_plain) list_is)).globals ∙ ap₂ with_subcommand top_is list_is in
     let replayed = c.in_ok-subcommand-2.ensures.shape (plain_fields _ (ap (λ (s : Shape). s.is_plain) replay_is)).globals
     ∙ ap₂ with_subcommand listed replay_is in
-    IfOk-weaker c.subcommand-3.result _ _
-    (λ _ h. h.shape (plain_fields _ (ap (λ (s : Shape). s.is_plain) recording_is)).globals ∙ ap₂ with_subcommand replayed recording_is) c.subcommand-3.ensures
+    let migration_is : shape_of c.in_ok-migration.field-0 ≡ spec.migration = c.in_ok-migration.ensures in
+    let recorded = c.in_ok-subcommand-3.ensures.shape (plain_fields _ (ap (λ (s : Shape). s.is_plain) recording_is)).globals
+    ∙ ap₂ with_subcommand replayed recording_is in
+    IfOk-weaker c.subcommand-4.result _ _
+    (λ _ h. h.shape (plain_fields _ (ap (λ (s : Shape). s.is_plain) migration_is)).globals ∙ ap₂ with_subcommand recorded migration_is) c.subcommand-4.ensures

@@ -1,6 +1,6 @@
 use Rattle.std.proofs.Common.{◌∙◌, sym, subst, IfOk}
 use Rattle.tc_base.specs.Buffers.{buffer_of}
-use Rattle.clap_debug_cli.specs.Ran.{IsRunOf, IsRunOfCode}
+use Rattle.clap_debug_cli.specs.Ran.{IsRunOfCode}
 use Rattle.clap_debug_cli.proofs.Ran.{ran_under}
 use Rattle.clap_debug_cli.proofs.run.run_program.Goals as goal
 use Rattle.clap_debug_cli.proofs.run.run_program.Goals.{in-Sc, in-Tso, in-Pso}

@@ -1,0 +1,37 @@
+-- Logs brought to format 2: which are, and the text of each.
+use Rattle.std.specs.Prelude.{◌≡◌, ℕ, List, length, map, nat_lt, Option, Some, None, option_map, if◌then◌else◌}
+use Rattle.std.specs.List.{find}
+use Rattle.tc_base.specs.Logs.{Log, ThreadPath}
+use Rattle.tc_code.specs.Code.{Code}
+use Rattle.path_log.specs.Texts.{StoredLog, log_text}
+use Rattle.path_walk.specs.Fits.{Fits}
+use Rattle.tc_record.specs.Ends.{limit_of}
+use Rattle.tc_record.specs.declared.end.Which.{Which}
+use Rattle.tc_record.specs.declared.end.Which.TheVariants.{Threads, Depth}
+use Rattle.clap_debug_cli.specs.Files.{IsLog, IsOfOther}
+use Rattle.clap_debug_cli.specs.Programs.{IsCodeOf}
+use Rattle.clap_debug_cli.specs.Recorded.{with_digest}
+use Rattle.clap_debug_cli.specs.declared.answer.Excess.{Excess}
+
+abbrev pub excess : Which → ℕ → Excess
+excess which number = record { which = which; number = number }
+
+-- the depth of the first name that is deeper than a name may be
+abbrev pub too_deep : List ThreadPath → Option ℕ
+too_deep threads = find (nat_lt (limit_of Depth)) (map (λ t. length t.name) threads)
+
+-- what a log has more of than it may have: threads, or else creates that lead to one of them
+abbrev pub excess_of : Log → Option Excess
+excess_of log = if nat_lt (limit_of Threads) (length log.threads) then Some (excess Threads (length log.threads))
+    else option_map (excess Depth) (too_deep log.threads)
+
+-- a program, and a log that isn't of another program and fits it within the limits; with the program's digest the log has this text
+pub record IsMigrated (program log text : List ℕ) : Type 0 where
+  pub code : Code
+  pub run : StoredLog
+  pub programs : IsCodeOf program code
+  pub logs : IsLog log run
+  pub recorded : IsOfOther program run → ⊥
+  pub within : excess_of run.log ≡ None
+  pub fits : Fits code run.log
+  pub is_text : text ≡ log_text (with_digest program run.log)
