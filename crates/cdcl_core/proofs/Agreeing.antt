@@ -73,7 +73,8 @@ is-roomy : (f : Formula) (cs : List Clause) (lines : List Line) (n d : ℕ) → 
 is-roomy f cs lines n d a bound = omega (arith, a.not_empty, a.deleted, bound)
 
 -- a clause that is learnt is one more, and its line one more
-pub agree-learnt : (f : Formula) (cs : List Clause) (lines : List Line) (n d : ℕ) → Agree f cs lines n d → n < most_added → HasBound f.vars n d → (ls hs : List ℕ) (a b : ℕ)
+pub agree-learnt : (f : Formula) (cs : List Clause) (lines : List Line) (n d : ℕ) → Agree f cs lines n d → n < most_added → HasBound f.vars n d
+    → (ls hs : List ℕ) (a b : ℕ)
     → All (λ l. l < 2 * f.vars) ls → Rise ls → Shows cs ls hs → Contains ls a → IsFresh (checked f lines).kept (clause_of ls)
     → Agree f (cs ++ kept_clause ls a b ∷ []) (lines ++ added ls hs ∷ []) (n + 1) d
 agree-learnt f cs lines n d a room bound ls hs x y w r s c new =
@@ -101,7 +102,8 @@ agree-learnt f cs lines n d a room bound ls hs x y w r s c new =
     }
 
 -- a line that adds the empty clause ends the derivation
-pub ended : (f : Formula) (cs : List Clause) (lines : List Line) (n d : ℕ) → Agree f cs lines n d → HasBound f.vars n d → (ls hs : List ℕ) → ls ≡ [] → Rise ls → Shows cs ls hs
+pub ended : (f : Formula) (cs : List Clause) (lines : List Line) (n d : ℕ) → Agree f cs lines n d → HasBound f.vars n d
+    → (ls hs : List ℕ) → ls ≡ [] → Rise ls → Shows cs ls hs
     → Ended f (lines ++ added ls hs ∷ []) n
 ended f cs lines n d a bound ls hs e r s =
     let w : All (λ l. l < 2 * f.vars) ls = λ k d h. absurd (omega (arith, h, ap length e)) in

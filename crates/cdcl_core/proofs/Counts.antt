@@ -1,5 +1,6 @@
 -- Lines are counted one by one.
-use Rattle.std.proofs.Common.{Some, ◌*◌, ◌≤◌, zero, suc, inl, inr, subst, cond, ◌≡◌, ℕ, ◌+◌, Bool, true, false, List, [], ◌∷◌, ◌++◌, length, take, refl, sym, ◌∙◌, ap, arith, ◌<◌}
+use Rattle.std.proofs.Common.{Some, ◌*◌, ◌≤◌, zero, suc, inl, inr, subst, cond, ◌≡◌, ℕ, ◌+◌, Bool, true, false, List, [], ◌∷◌, ◌++◌, length, take}
+use Rattle.std.proofs.Common.{refl, sym, ◌∙◌, ap, arith, ◌<◌}
 use Rattle.std.specs.Prelude.{count_by, slice_get, IfSome}
 use Rattle.std.proofs.lemmas.List.{length_push, take-append-le, take_all}
 use Rattle.std.proofs.lemmas.List.Sums.{fold-append, sum_by_push}

@@ -1,6 +1,7 @@
 -- Learnt clauses go.
 use Rattle.cdcl_core.proofs.Tallying.{kept-dropped, kept-le, marked-more, none-marked}
-use Rattle.std.proofs.Common.{◌≡◌, ℕ, suc, ◌+◌, ◌*◌, ◌<◌, ◌≤◌, Bool, true, false, Option, Some, None, List, [], ◌∷◌, ◌++◌, map, length, take, get_or, set, inl, inr, refl, sym, ◌∙◌, ap, subst, arith, length-set, replicate}
+use Rattle.std.proofs.Common.{◌≡◌, ℕ, suc, ◌+◌, ◌*◌, ◌<◌, ◌≤◌, Bool, true, false, Option, Some, None, List, [], ◌∷◌, ◌++◌, map, length, take, get_or}
+use Rattle.std.proofs.Common.{set, inl, inr, refl, sym, ◌∙◌, ap, subst, arith, length-set, replicate}
 use Rattle.std.specs.Prelude.{All, MatchOption, fold, not, count_by, ◌&&◌}
 use Rattle.std.proofs.lemmas.Bool.{cases_lt, cases_eq}
 use Rattle.std.proofs.lemmas.List.{length_push, length-map, get_or-map, take_more, get_or-set_same, get_or-set_other, length-replicate}

@@ -1,5 +1,6 @@
 -- From one state of a search to the next.
-use Rattle.std.proofs.Common.{◌≡◌, ℕ, ◌+◌, ◌*◌, ◌^◌, ◌<◌, ◌≤◌, List, [], ◌∷◌, ◌++◌, length, take, get_or, set, length-set, refl, sym, ◌∙◌, ap, subst, inl, inr, arith, get_or-take}
+use Rattle.std.proofs.Common.{◌≡◌, ℕ, ◌+◌, ◌*◌, ◌^◌, ◌<◌, ◌≤◌, List, [], ◌∷◌, ◌++◌, length, take, get_or, set, length-set, refl, sym, ◌∙◌, ap, subst}
+use Rattle.std.proofs.Common.{inl, inr, arith, get_or-take}
 use Rattle.std.specs.Prelude.{Contains, All}
 use Rattle.std.proofs.lemmas.Bool.Decides.{nat_tests}
 use Rattle.std.proofs.lemmas.List.{get_or_default, length-take, length-take-le, take-take, take_all}
@@ -81,7 +82,12 @@ pub as-far-refl : (s : State) → IsAsFar s s
 as-far-refl s = record { formula = refl; derivation = refl; added = refl; deleted = refl }
 
 pub as-far-trans : (s t u : State) → IsAsFar s t → IsAsFar t u → IsAsFar s u
-as-far-trans s t u a b = record { formula = b.formula ∙ a.formula; derivation = b.derivation ∙ a.derivation; added = b.added ∙ a.added; deleted = b.deleted ∙ a.deleted }
+as-far-trans s t u a b = record {
+  formula = b.formula ∙ a.formula;
+  derivation = b.derivation ∙ a.derivation;
+  added = b.added ∙ a.added;
+  deleted = b.deleted ∙ a.deleted;
+}
 
 pub further-none : (s t : State) → IsAsFar s t → IsFurther s t 0
 further-none s t a = record {

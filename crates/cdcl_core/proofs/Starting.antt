@@ -1,8 +1,10 @@
 -- The beginning of a search.
-use Rattle.std.proofs.Common.{◌≡◌, ◌≢◌, ℕ, zero, suc, ◌+◌, ◌*◌, ◌<◌, true, Option, Some, None, List, [], ◌∷◌, ◌++◌, map, length, take, get_or, replicate, inl, inr, ℤ, refl, sym, ◌∙◌, ap, subst, arith, append-nil, append_assoc, get_or-take}
+use Rattle.std.proofs.Common.{◌≡◌, ◌≢◌, ℕ, zero, suc, ◌+◌, ◌*◌, ◌<◌, true, Option, Some, None, List, [], ◌∷◌, ◌++◌, map, length, take, get_or}
+use Rattle.std.proofs.Common.{replicate, inl, inr, ℤ, refl, sym, ◌∙◌, ap, subst, arith, append-nil, append_assoc, get_or-take}
 use Rattle.std.specs.Prelude.{Contains, All, IfSome, MatchOption, slice_get, fold}
 use Rattle.std.proofs.lemmas.Bool.{and_parts, cases_lt}
-use Rattle.std.proofs.lemmas.List.{length_push, length-map, length-replicate, get_or-replicate, get_or_past, length-take, get_or-map, take_more, take_all, take-append-le, length-take-le, get_or_at}
+use Rattle.std.proofs.lemmas.List.{length_push, length-map, length-replicate, get_or-replicate, get_or_past, length-take, get_or-map, take_more}
+use Rattle.std.proofs.lemmas.List.{take_all, take-append-le, length-take-le, get_or_at}
 use Rattle.std.proofs.lemmas.List.Sums.{fold-append}
 use Rattle.std.proofs.lemmas.Option.{slice_get_past}
 use Rattle.cnf_core.specs.Clauses.{Formula, limit, is_clause, are_clauses, rises_above, var_of}
@@ -208,7 +210,8 @@ pub conclude-empty : (s : State) → IsLoaded s 0 → are_clauses s.formula.vars
 conclude-empty s h all k e kl =
     let f : Formula = s.formula in
     let cs : List Clause = stored f.clauses in
-    let same : at cs k ≡ kept_clause (map code_of (get_or f.clauses k [])) 0 0 = get_or-map (λ z. kept_clause (map code_of z) 0 0) f.clauses k [] no_clause kl in
+    let same : at cs k ≡ kept_clause (map code_of (get_or f.clauses k [])) 0 0 =
+    get_or-map (λ z. kept_clause (map code_of z) 0 0) f.clauses k [] no_clause kl in
     let none : (at cs k).literals ≡ [] = ap (λ (c : Clause). c.literals) same ∙ ap (λ (z : List ℤ). map code_of z) (at-get f.clauses k [] kl e) in
     record {
       clauses = cs;
@@ -227,7 +230,10 @@ empty-within zs k e =
     elim (cases_lt k (length zs)) [ inl h ↦ h | inr h ↦ absurd (let g = sym (slice_get_past zs k h) ∙ e in cc) ]
 
 listed-none : (n l : ℕ) → listed (replicate n []) l ≡ []
-listed-none n l = elim (cases_lt l n) [ inl h ↦ get_or-replicate n l [] [] h | inr h ↦ get_or_past (replicate n []) l [] (omega (arith, length-replicate {A = List Watch} n [])) ]
+listed-none n l = elim (cases_lt l n) [
+  | inl h ↦ get_or-replicate n l [] [] h
+  | inr h ↦ get_or_past (replicate n []) l [] (omega (arith, length-replicate {A = List Watch} n []))
+]
 
 -- before any clause
 pub sound-start : (t : Trail) (v : ℕ) → IsTrail t → t ≡ empty v → (ws : List (List Watch)) → ws ≡ replicate (2 * v) [] → IsSound t [] ws

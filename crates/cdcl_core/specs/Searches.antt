@@ -1,5 +1,6 @@
 -- A search as its callers see it.
-use Rattle.std.specs.Prelude.{◌≡◌, ◌↔◌, ℕ, ◌+◌, ◌*◌, ◌/◌, ◌<◌, ◌≤◌, Bool, true, false, List, [], ◌∷◌, length, take, count_by, slice_get, IfSome, Option, Some, None, IsTrue, All, ⊤}
+use Rattle.std.specs.Prelude.{◌≡◌, ◌↔◌, ℕ, ◌+◌, ◌*◌, ◌/◌, ◌<◌, ◌≤◌, Bool, true, false, List, [], ◌∷◌, length, take, count_by, slice_get, IfSome}
+use Rattle.std.specs.Prelude.{Option, Some, None, IsTrue, All, ⊤}
 use Rattle.std.specs.List.{fold, sum_by}
 use Rattle.cnf_core.specs.Clauses.{Formula, satisfies, value_in}
 use Rattle.refute_check.specs.Refutations.{Checking, start, after, IsClosed}
@@ -63,8 +64,8 @@ pub record Searched : Type 0 where
 abbrev pub checked : Formula → List Line → Checking
 checked f lines = fold after (start f) lines
 
--- each line passes and is fresh, and few clauses are deleted; the answer is that the search is closed exactly where the derivation is, and until then no line is empty;
--- and values are the answer only if they satisfy the clauses
+-- each line passes and is fresh, and few clauses are deleted; the answer is that the search is closed exactly where the derivation is,
+-- and until then no line is empty; and values are the answer only if they satisfy the clauses
 pub record IsSearched (s : Searched) : Type 0 where
   pub passes : (checked s.formula s.lines).fault ≡ None
   pub fresh : AreFresh s.formula s.lines

@@ -110,7 +110,8 @@ impl State {
         requires literals { HaveLiterals self.old.formula.clauses }
         ensures formula { self.new.formula ≡ self.old.formula }
         ensures loaded { OnOk result (IsLoaded self.new (length self.new.formula.clauses)) }
-        ensures conflict { IfOk result (λ found. MatchOption found (AreRooted self.new.trail self.new.clauses) (Refutes self.new.clauses self.new.trail.literals)) }
+        ensures conflict { IfOk result (λ found. MatchOption found (AreRooted self.new.trail self.new.clauses)
+            (Refutes self.new.clauses self.new.trail.literals)) }
     {
         let mut conflict = None;
         for place in 0..self.formula.len() {

@@ -1,5 +1,6 @@
 //! Clauses that were learnt go again.
-ghost use Rattle.std.specs.Prelude.{◌≡◌, ◌&&◌, true, false, ℕ, ◌*◌, ◌+◌, ◌<◌, ◌≤◌, List, All, IfOk, IsTrue, OnOk, MatchOption, not, length, slice_index_or, None, Some, fold};
+ghost use Rattle.std.specs.Prelude.{◌≡◌, ◌&&◌, true, false, ℕ, ◌*◌, ◌+◌, ◌<◌, ◌≤◌, List, All, IfOk, IsTrue, OnOk, MatchOption, not, length};
+ghost use Rattle.std.specs.Prelude.{slice_index_or, None, Some, fold};
 ghost use Rattle.cdcl_clauses.specs.Clauses.{at};
 ghost use Rattle.cdcl_clauses.specs.Invariants.{IsSound, AreRooted};
 ghost use Rattle.cdcl_clauses.specs.declared.watches.Watch.{Watch};

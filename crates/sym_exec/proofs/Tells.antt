@@ -561,7 +561,8 @@ module _ (code : Code) (f : ℕ) (outcomes : List Bool) (fails : Option ℕ) whe
 pub short_is : (code : Code) (f place : ℕ) (i : Instr) → IsLawful code → instr_at code f place ≡ Some i → IsShort i
 short_is code f place (Inside len i) lawful at =
     let p = placed code f place (Inside len i) lawful at in
-    let few = leb-true len (length code.memory) (both_pass (nat_le len (length code.memory)) (names_slots p.function.ints i) (p.lawful.names place (Inside len i) p.at)).0 in
+    let named = p.lawful.names place (Inside len i) p.at in
+    let few = leb-true len (length code.memory) (both_pass (nat_le len (length code.memory)) (names_slots p.function.ints i) named).0 in
     omega (arith, few, lawful.cells)
 short_is code f place _ lawful at = tt
 

@@ -11,7 +11,13 @@ push-requires-clause-within c =
 
 pub push-requires-clause-room : goal.push-requires-clause-room
 push-requires-clause-room c =
-    omega (arith, ap length c.loop-place.invariant.clauses, length-take c.loop-place.place c.args.cnf.now.clauses, c.len-place-end.ensures.len, c.len-place-end.ensures.limit)
+    omega (
+      arith,
+      ap length c.loop-place.invariant.clauses,
+      length-take c.loop-place.place c.args.cnf.now.clauses,
+      c.len-place-end.ensures.len,
+      c.len-place-end.ensures.limit,
+    )
 
 pub loop-place-preserved : goal.loop-place-preserved
 loop-place-preserved c =

@@ -11,7 +11,8 @@ load-requires-clause-loaded c = c.loop-place.invariant.loaded
 
 pub load-requires-clause-place : goal.load-requires-clause-place
 load-requires-clause-place c =
-    let e : length c.loop-place.self.formula.clauses ≡ length c.args.self.now.formula.clauses = ap (λ (f : Formula). length f.clauses) c.loop-place.invariant.formula in
+    let e : length c.loop-place.self.formula.clauses ≡ length c.args.self.now.formula.clauses =
+    ap (λ (f : Formula). length f.clauses) c.loop-place.invariant.formula in
     omega (arith, e, c.len-place-end.ensures.len)
 
 pub load-requires-clause-literals : goal.load-requires-clause-literals
