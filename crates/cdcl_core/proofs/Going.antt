@@ -14,7 +14,7 @@ use Rattle.std.proofs.lemmas.List.Elements.{All-contains}
 use Rattle.cdcl_propagate.proofs.Guarding.{contains-take}
 use Rattle.cdcl_learn.specs.Shown.{Leads, Shows}
 use Rattle.cdcl_learn.specs.Lessons.{TurnsBack}
-use Rattle.cdcl_search.specs.Attached.{CanAssert, both_listed}
+use Rattle.cdcl_steps.specs.Attached.{CanAssert, both_listed}
 use Rattle.cdcl_lines.proofs.Members.{all-from_contains, contains-cases}
 use Rattle.cdcl_lines.proofs.Freshness.{not-both}
 use Rattle.cdcl_core.specs.Helpers.{IsAsFar, IsFurther, IsShort, IsLive, HasBound, ComesTo}

@@ -20,9 +20,9 @@ use Rattle.cdcl_learn.specs.declared.lesson.Lesson.{Lesson}
 use Rattle.cdcl_learn.specs.declared.lesson.Turn.{Turn}
 use Rattle.cdcl_learn.specs.declared.lesson.Turn.TheVariants.{Closed, Back}
 use Rattle.std.specs.Prelude.{Result, Ok, Err, IfOk, OnOk}
-use Rattle.cdcl_search.specs.Loads.{IsAtStart, MayBeLoaded, WasLoaded, Loads}
-use Rattle.cdcl_search.specs.declared.loading.Loaded.{Loaded}
-use Rattle.cdcl_search.specs.declared.loading.Loaded.TheVariants.{Taken, Refuted}
+use Rattle.cdcl_steps.specs.Loads.{IsAtStart, MayBeLoaded, WasLoaded, Loads}
+use Rattle.cdcl_steps.specs.declared.loading.Loaded.{Loaded}
+use Rattle.cdcl_steps.specs.declared.loading.Loaded.TheVariants.{Taken, Refuted}
 use Rattle.cdcl_lines.specs.Literals.{literal_of, code_of, clause_of, Rise}
 use Rattle.cdcl_lines.specs.Keeping.{Represents, KeepsAll, kept_clause, as_kept}
 use Rattle.cdcl_lines.specs.Fresh.{AreFresh, IsFreshLine}

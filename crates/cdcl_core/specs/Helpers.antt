@@ -9,10 +9,10 @@ use Rattle.cdcl_trail.specs.Trail.{Trail}
 use Rattle.cdcl_clauses.specs.Clauses.{Clause, at}
 use Rattle.cdcl_clauses.specs.Invariants.{IsSound, AreRooted}
 use Rattle.cdcl_learn.specs.Shown.{Refutes, Shows}
-use Rattle.cdcl_search.specs.Descents.{IsFull}
-use Rattle.cdcl_search.specs.Loads.{IsAtStart}
-use Rattle.cdcl_search.specs.declared.loading.Loaded.{Loaded}
-use Rattle.cdcl_search.specs.declared.loading.Loaded.TheVariants.{Taken, Refuted}
+use Rattle.cdcl_steps.specs.Descents.{IsFull}
+use Rattle.cdcl_steps.specs.Loads.{IsAtStart}
+use Rattle.cdcl_steps.specs.declared.loading.Loaded.{Loaded}
+use Rattle.cdcl_steps.specs.declared.loading.Loaded.TheVariants.{Taken, Refuted}
 use Rattle.cdcl_lines.specs.Keeping.{Represents, KeepsAll}
 use Rattle.cdcl_lines.specs.Fresh.{AreFresh}
 use Rattle.cdcl_core.specs.Searches.{checked, adds, added_in, deleted_in, DeletesFew, most_added}

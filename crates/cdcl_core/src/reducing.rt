@@ -10,7 +10,7 @@ ghost use Rattle.cdcl_core.specs.Helpers.{Marks, IsNoReason, HasBound, NoneMayGo
 use crate::state::State;
 use cdcl_clauses::Clauses;
 use cdcl_lines::delete_line;
-use cdcl_search::forget;
+use cdcl_steps::forget;
 use cdcl_trail::Trail;
 use std::alloc::{AllocError, Global};
 

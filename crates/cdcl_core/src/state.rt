@@ -1,7 +1,7 @@
 //! A search that goes on.
 
 use cdcl_clauses::{Clauses, Watches};
-use cdcl_order::{Luby, Order};
+use cdcl_activity::{Luby, Order};
 use cdcl_trail::Trail;
 use cnf_core::Cnf;
 use refute_check::Derivation;

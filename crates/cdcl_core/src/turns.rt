@@ -6,7 +6,7 @@ ghost use Rattle.cdcl_trail.specs.Trail.{cut_to};
 ghost use Rattle.cdcl_clauses.specs.Invariants.{IsConflict};
 ghost use Rattle.cdcl_learn.specs.Lessons.{IsLesson};
 ghost use Rattle.cdcl_learn.specs.Shown.{Shows};
-ghost use Rattle.cdcl_search.specs.Attached.{CanAssert};
+ghost use Rattle.cdcl_steps.specs.Attached.{CanAssert};
 ghost use Rattle.cdcl_lines.specs.Literals.{Rise};
 ghost use Rattle.cdcl_lines.specs.Lines.{added};
 ghost use Rattle.cdcl_core.specs.Searches.{most_added};
@@ -16,7 +16,7 @@ use crate::reducing::touch_all;
 use crate::state::State;
 use cdcl_learn::{Lesson, Turn, analyze, close};
 use cdcl_lines::{add_line, assignment_of, sort_lesson};
-use cdcl_search::{attach, detach, go_back, to_conflict};
+use cdcl_steps::{attach, detach, go_back, to_conflict};
 use refute_check::Derivation;
 use std::alloc::{AllocError, Global};
 

@@ -6,7 +6,7 @@ ghost use Rattle.cdcl_clauses.specs.Clauses.{at};
 ghost use Rattle.cdcl_clauses.specs.Invariants.{IsClause, AreReasoned, BeginsAt};
 
 use cdcl_clauses::Clauses;
-use cdcl_order::Order;
+use cdcl_activity::Order;
 use cdcl_trail::{Trail, opposite, variable};
 use std::alloc::AllocError;
 

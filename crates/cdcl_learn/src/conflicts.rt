@@ -10,7 +10,7 @@ ghost use Rattle.cdcl_learn.specs.Lessons.{IsLesson};
 use crate::analysis::{Analysis, Bounds};
 use crate::lesson::{Lesson, Turn};
 use cdcl_clauses::Clauses;
-use cdcl_order::Order;
+use cdcl_activity::Order;
 use cdcl_trail::{Trail, opposite};
 use std::alloc::{AllocError, Global};
 

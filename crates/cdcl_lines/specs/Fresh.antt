@@ -11,7 +11,7 @@ use Rattle.cdcl_trail.specs.Trail.{Trail}
 use Rattle.cdcl_clauses.specs.Clauses.{Clause}
 use Rattle.cdcl_clauses.specs.Invariants.{IsSound, AreRooted}
 use Rattle.cdcl_clauses.specs.declared.watches.Watch.{Watch}
-use Rattle.cdcl_search.specs.Attached.{CanAssert}
+use Rattle.cdcl_steps.specs.Attached.{CanAssert}
 use Rattle.cdcl_lines.specs.Literals.{clause_of}
 use Rattle.cdcl_lines.specs.Lines.{added}
 use Rattle.cdcl_lines.specs.Keeping.{Represents}

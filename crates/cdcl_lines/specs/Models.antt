@@ -5,7 +5,7 @@ use Rattle.cdcl_trail.specs.Trail.{Trail}
 use Rattle.cdcl_clauses.specs.Clauses.{Clause}
 use Rattle.cdcl_clauses.specs.Invariants.{IsSound}
 use Rattle.cdcl_clauses.specs.declared.watches.Watch.{Watch}
-use Rattle.cdcl_search.specs.Descents.{IsFull}
+use Rattle.cdcl_steps.specs.Descents.{IsFull}
 use Rattle.cdcl_lines.specs.Literals.{literal_of}
 use Rattle.cdcl_lines.specs.Keeping.{KeepsAll}
 

@@ -1,7 +1,7 @@
 //! The assignment that a full trail is.
 ghost use Rattle.std.specs.Prelude.{◌≡◌, ◌<◌, ◌^◌, IfOk};
 ghost use Rattle.cdcl_trail.specs.Trail.{IsTrail};
-ghost use Rattle.cdcl_search.specs.Descents.{IsFull};
+ghost use Rattle.cdcl_steps.specs.Descents.{IsFull};
 ghost use Rattle.cdcl_lines.specs.Models.{Agrees, FullSatisfies};
 
 use cdcl_trail::{Trail, Value};

@@ -10,8 +10,8 @@ use Rattle.tc_code.specs.Run.{run, Reproduces}
 use Rattle.tc_code.specs.Facts.{run_from-step}
 use Rattle.tc_machine.specs.Why.{why}
 use Rattle.tc_machine.specs.declared.why.Why.{Why}
-use Rattle.tc_runs.specs.Counters.{CountersAreBelowLast}
-use Rattle.tc_runs.proofs.Counts.{counters_below_last}
+use Rattle.run_laws.specs.Counters.{CountersAreBelowLast}
+use Rattle.run_laws.proofs.Counts.{counters_below_last}
 use Rattle.tc_base.specs.Logs.{Log}
 use Rattle.schedule_replay.specs.Verdicts.{StopsAt, IsVerdict}
 use Rattle.schedule_replay.proofs.OneVerdict.{one_verdict}

@@ -10,8 +10,8 @@ use Rattle.tc_code.specs.Code.{Code}
 use Rattle.tc_code.specs.Lawful.{IsLawful}
 use Rattle.tc_code.specs.Run.{run}
 use Rattle.tc_code.specs.Step.{ints_of}
-use Rattle.tc_runs.specs.Alone.{Beginning, after_steps}
-use Rattle.tc_runs.proofs.Begun.{threads_live_alone}
+use Rattle.run_laws.specs.Alone.{Beginning, after_steps}
+use Rattle.run_laws.proofs.Begun.{threads_live_alone}
 use Rattle.sym_terms.specs.Terms.{AreTerms}
 use Rattle.sym_terms.specs.Values.{value_of}
 use Rattle.sym_terms.specs.declared.node.Node.{Node}

@@ -9,7 +9,7 @@ use Rattle.std.proofs.lemmas.Option.{slice_get_within, get_or_from_slice_get}
 use Rattle.std.proofs.lemmas.List.Elements.{All-set, All-push, All-weaker, All-append, All-replicate, All-nil, All-head, All-tail}
 use Rattle.std.specs.Option.{option_map_or}
 use Rattle.tc_base.specs.Names.{Name}
-use Rattle.tc_runs.proofs.Basics.{either}
+use Rattle.run_laws.proofs.Basics.{either}
 use Rattle.path_walk.specs.Paths.{Walk, Paths}
 use Rattle.tc_code.specs.Code.{Code, instr_at, line_at}
 use Rattle.tc_code.specs.Facts.{placed}

@@ -20,8 +20,8 @@ use Rattle.tc_code.specs.Instr.{Instr, Set, Load, Load_at, Store, Store_at, Insi
 use Rattle.tc_code.specs.Facts.{placed}
 use Rattle.tc_code.specs.Lawful.{IsLawful}
 use Rattle.tc_code.specs.Step.{ints_of, instr_of, value_in, is_within, is_nonzero, cell_at, site, request, local_after, holds, can_be_joined, handle_of}
-use Rattle.tc_runs.specs.Alone.{Alone, after_request, goes_on}
-use Rattle.tc_runs.proofs.After.{branch_is}
+use Rattle.run_laws.specs.Alone.{Alone, after_request, goes_on}
+use Rattle.run_laws.proofs.After.{branch_is}
 use Rattle.sym_terms.specs.Terms.{AreTerms}
 use Rattle.sym_terms.specs.Values.{value_of}
 use Rattle.sym_terms.specs.declared.node.Node.{Node}

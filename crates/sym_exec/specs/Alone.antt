@@ -10,7 +10,7 @@ use Rattle.tc_base.specs.States.{Local}
 use Rattle.tc_code.specs.Code.{Code, instr_at}
 use Rattle.tc_code.specs.Instr.{Instr, Inside, Branch, Create, Assert, Nonzero, In_range}
 use Rattle.tc_code.specs.Step.{ints_of, instr_of, value_in, is_within, is_nonzero, cell_at, request}
-use Rattle.tc_runs.specs.Alone.{Alone, goes_on, after_steps}
+use Rattle.run_laws.specs.Alone.{Alone, goes_on, after_steps}
 use Rattle.sym_terms.specs.Terms.{AreTerms}
 use Rattle.sym_terms.specs.Values.{value_of}
 use Rattle.sym_terms.specs.declared.node.Node.{Node}

@@ -6,7 +6,7 @@ use Rattle.tc_base.specs.States.{Thread}
 use Rattle.tc_base.specs.declared.moves.Move.{Move}
 use Rattle.tc_code.specs.Code.{Code}
 use Rattle.tc_code.specs.Step.{born, ints_of}
-use Rattle.tc_runs.specs.Alone.{Alone, Beginning, taken_from}
+use Rattle.run_laws.specs.Alone.{Alone, Beginning, taken_from}
 use Rattle.sym_terms.specs.Terms.{AreTerms}
 use Rattle.sym_terms.specs.Values.{value_of}
 use Rattle.sym_terms.specs.declared.node.Node.{Node}

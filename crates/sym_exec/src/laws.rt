@@ -9,7 +9,7 @@ ghost use Rattle.tc_code.specs.Code.{Code};
 ghost use Rattle.tc_code.specs.Lawful.{IsLawful};
 ghost use Rattle.tc_code.specs.Run.{run};
 ghost use Rattle.tc_code.specs.Step.{replaced};
-ghost use Rattle.tc_runs.specs.Alone.{Alone};
+ghost use Rattle.run_laws.specs.Alone.{Alone};
 ghost use Rattle.sym_terms.specs.Terms.{AreTerms};
 ghost use Rattle.sym_terms.specs.Values.{value_of};
 ghost use Rattle.sym_terms.specs.declared.node.Node.{Node};

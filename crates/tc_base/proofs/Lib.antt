@@ -1,2 +1,4 @@
 pub mod Bits
 pub mod Wraps
+pub mod Names
+pub mod Options

@@ -5,6 +5,7 @@ use Rattle.std.specs.Fmt.{decimal}
 use Rattle.std.specs.Ordering.{nat_cmp}
 use Rattle.std.specs.Cmp.Lexicographic.{slice_cmp}
 use Rattle.std.specs.FinMap.{FinMap}
+use Rattle.std.specs.declared.cmp.Ordering.{Ordering}
 
 -- the numbers of the creates that lead from main to the thread
 abbrev pub Name : Type 0
@@ -21,6 +22,10 @@ child n k = n ++ k ∷ []
 abbrev pub name_text : Name → List ℕ
 name_text n = codes "0" ++ flat_map (λ child. codes "." ++ decimal child) n
 
--- a finite map from names, in their order: child by child, a prefix first
+-- names are ordered child by child, a prefix first
+abbrev pub by_name : Name → Name → Ordering
+by_name = slice_cmp nat_cmp
+
+-- a finite map from names, in their order
 abbrev pub ByName : Type 0 → Type 0
-ByName X = FinMap (slice_cmp nat_cmp) X
+ByName X = FinMap by_name X

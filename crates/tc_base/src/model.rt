@@ -1,4 +1,8 @@
 //! The memory models.
+ghost use Rattle.std.specs.Prelude.{◌≡◌};
+ghost use Rattle.tc_base.specs.Models.{model_name};
+
+use std::fmt;
 
 /// How a thread's stores reach memory.
 #[derive(Clone, Copy, Debug, PartialEq, Eq)]
@@ -9,4 +13,29 @@ pub enum Model {
     Tso,
     /// Partial store order: stores of one thread to different cells may reach memory in any order.
     Pso,
+}
+
+impl Model {
+    /// Its name, as words and files have it.
+    pub fn name(self) -> &'static str
+        ensures { result.now ≡ model_name self }
+    {
+        match self {
+            Model::Sc => "sc",
+            Model::Tso => "tso",
+            Model::Pso => "pso",
+        }
+    }
+}
+
+/// Its name, as words and files have it.
+impl fmt::Display for Model {
+    ghost use Rattle.std.specs.Prelude.{Some};
+    ghost use Rattle.tc_base.specs.Models.{model_name};
+
+    ghost output = { λ m. Some (model_name m) };
+
+    fn fmt<W: fmt::Write>(&self, f: &mut fmt::Formatter<W>) -> fmt::Result {
+        f.write_str(self.name())
+    }
 }

@@ -23,12 +23,12 @@ use Rattle.tc_code.specs.Run.{IsReached}
 use Rattle.tc_code.specs.Facts.{placed_next}
 use Rattle.tc_threads.specs.CanDo.{CanAsk, CanDo, Starts, sized, is_branch}
 use Rattle.tc_machine.specs.helpers.CanDo.{CanPerform, AsksWithin}
-use Rattle.tc_runs.proofs.Basics.{first, second, found}
-use Rattle.tc_runs.proofs.Whole.{names_next, reached_is_whole}
-use Rattle.tc_runs.proofs.Guards.{index_is_within}
-use Rattle.tc_runs.proofs.Created.{child_is_new}
-use Rattle.tc_runs.specs.Counters.{CountersAreBelowLast}
-use Rattle.tc_runs.specs.Whole.{IsWhole, IndexIsWithin}
+use Rattle.run_laws.proofs.Basics.{first, second, found}
+use Rattle.run_laws.proofs.Whole.{names_next, reached_is_whole}
+use Rattle.run_laws.proofs.Guards.{index_is_within}
+use Rattle.run_laws.proofs.Created.{child_is_new}
+use Rattle.run_laws.specs.Counters.{CountersAreBelowLast}
+use Rattle.run_laws.specs.Whole.{IsWhole, IndexIsWithin}
 
 -- what a function names, one of the same size names
 names-sized : (code : Code) (f : Func) (t : Local) (i : Instr) → length t.slots ≡ f.ints → length t.handles ≡ f.tids

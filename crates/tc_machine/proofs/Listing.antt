@@ -23,12 +23,12 @@ use Rattle.tc_code.specs.Code.{Code}
 use Rattle.tc_code.specs.Lawful.{IsLawful}
 use Rattle.tc_code.specs.Run.{IsReached}
 use Rattle.tc_code.specs.Step.{step, wake_of, woken, drain_of, drained, move_of, instr_of, waiting_on}
-use Rattle.tc_runs.proofs.Basics.{second, unless}
+use Rattle.run_laws.proofs.Basics.{second, unless}
 use Rattle.tc_machine.specs.Moves.{is_enabled, steps_of, drains_of, moves_of, enabled_moves}
 use Rattle.tc_threads.proofs.ByName.{tied}
 use Rattle.tc_machine.proofs.Drains.{same_or_more, passing_forms}
 use Rattle.tc_machine.proofs.Within.{form_is_there}
-use Rattle.tc_runs.proofs.Waiters.{waiters_are_threads}
+use Rattle.run_laws.proofs.Waiters.{waiters_are_threads}
 
 module _ {X : Type 0} (p : Move → Bool) where
   -- one more candidate

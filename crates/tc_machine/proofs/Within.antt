@@ -44,10 +44,10 @@ use Rattle.tc_code.specs.Code.{Code}
 use Rattle.tc_code.specs.Lawful.{IsLawful}
 use Rattle.tc_code.specs.Run.{IsReached}
 use Rattle.tc_code.specs.Step.{request, local_after, with_thread, did, perform, stored, drained, drain_of, born, step}
-use Rattle.tc_runs.proofs.Basics.{some_value, unless}
-use Rattle.tc_runs.proofs.Names.{get_put_cases}
-use Rattle.tc_runs.proofs.Steps.{step_went, holds_in_reached}
-use Rattle.tc_runs.proofs.Whole.{reached_is_whole}
+use Rattle.run_laws.proofs.Basics.{some_value, unless}
+use Rattle.run_laws.proofs.Names.{get_put_cases}
+use Rattle.run_laws.proofs.Steps.{step_went, holds_in_reached}
+use Rattle.run_laws.proofs.Whole.{reached_is_whole}
 use Rattle.store_buffers.specs.Pending.{Pending, Store, Bar as PendingBar, Binding, Stands, form_of}
 use Rattle.store_buffers.specs.Laws.{Laws}
 use Rattle.store_buffers.specs.Proved.Lists.{store_last, bar_last}

@@ -8,7 +8,7 @@ ghost use Rattle.tc_code.specs.Run.{IsReached};
 ghost use Rattle.tc_code.specs.Seen.{plain_instr};
 ghost use Rattle.tc_code.specs.Step.{step, instr_of, request};
 ghost use Rattle.tc_machine.specs.Why.{why, why_at, why_doing, why_undrained, why_unmet, why_unwoken};
-ghost use Rattle.tc_runs.specs.Counters.{CountersAreBelowLast};
+ghost use Rattle.run_laws.specs.Counters.{CountersAreBelowLast};
 
 use crate::state::State;
 use crate::why::Why;

@@ -5,7 +5,7 @@ use Rattle.tc_code.specs.Code.{Code}
 use Rattle.tc_code.specs.Lawful.{IsLawful}
 use Rattle.tc_code.specs.Run.{Reproduces}
 use Rattle.path_walk.specs.Fits.{Fits}
-use Rattle.path_runs.proofs.Logs.{reproduced_fits}
+use Rattle.path_laws.proofs.Logs.{reproduced_fits}
 use Rattle.tc_record.specs.declared.seeded.Seeded.{Seeded}
 use Rattle.tc_record.specs.declared.seeded.Seeded.TheVariants.{Failed}
 use Rattle.tc_record.specs.declared.seeded.SeededFault.{SeededFault}

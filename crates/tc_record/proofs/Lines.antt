@@ -13,8 +13,8 @@ use Rattle.tc_code.specs.Code.{Code, instr_at}
 use Rattle.tc_code.specs.Facts.{run_from-append, run_from-step}
 use Rattle.tc_code.specs.Step.{step, opening}
 use Rattle.tc_code.specs.Run.{run, run_from}
-use Rattle.tc_runs.specs.Counters.{CountersAreBelowLast}
-use Rattle.tc_runs.proofs.Counts.{counters_below_last}
+use Rattle.run_laws.specs.Counters.{CountersAreBelowLast}
+use Rattle.run_laws.proofs.Counts.{counters_below_last}
 
 -- a list at one of its places
 split_at : {A : Type 0} (xs : List A) (i : ℕ) (x : A) → i < length xs → x ≡ get_or xs i x → xs ≡ take i xs ++ x ∷ drop (i + 1) xs

@@ -22,7 +22,7 @@ use Rattle.tc_base.specs.declared.moves.Move.{Move}
 use Rattle.tc_code.specs.Code.{Code}
 use Rattle.tc_code.specs.Run.{path_of, path_in, run, Reproduces}
 use Rattle.path_log.specs.Texts.{StoredLog, is_above, rises_from, is_log}
-use Rattle.tc_runs.proofs.Names.{same_name, tells_names}
+use Rattle.run_laws.proofs.Names.{same_name, tells_names}
 use Rattle.tc_record.specs.Logged.{IsLogOf}
 use Rattle.tc_record.specs.helpers.Paths.{path_at, named_path, FailsThere}
 

@@ -19,14 +19,14 @@ use Rattle.tc_code.specs.Code.{Code, instr_at}
 use Rattle.tc_code.specs.Facts.{at_its_place}
 use Rattle.tc_code.specs.Step.{step, opening, perform, request, born, stepped}
 use Rattle.tc_code.specs.Run.{IsReached}
-use Rattle.tc_runs.specs.Whole.{AllThreads}
-use Rattle.tc_runs.proofs.Basics.{either, some_is}
-use Rattle.tc_runs.proofs.After.{branch_is}
-use Rattle.tc_runs.proofs.Names.{get_put, get_put_cases, get_put_apart, child_apart}
-use Rattle.tc_runs.proofs.Steps.{Went, step_went, none_failed, holds_in_reached}
-use Rattle.tc_runs.proofs.Changes.{Goes, Went_on, Stayed, step_changes}
-use Rattle.tc_runs.proofs.Created.{child_is_new}
-use Rattle.tc_runs.proofs.Main.{thread_stays}
+use Rattle.run_laws.specs.Whole.{AllThreads}
+use Rattle.run_laws.proofs.Basics.{either, some_is}
+use Rattle.run_laws.proofs.After.{branch_is}
+use Rattle.run_laws.proofs.Names.{get_put, get_put_cases, get_put_apart, child_apart}
+use Rattle.run_laws.proofs.Steps.{Went, step_went, none_failed, holds_in_reached}
+use Rattle.run_laws.proofs.Changes.{Goes, Went_on, Stayed, step_changes}
+use Rattle.run_laws.proofs.Created.{child_is_new}
+use Rattle.run_laws.proofs.Main.{thread_stays}
 use Rattle.tc_record.specs.helpers.Paths.{FailsThere}
 
 module _ {B : Type 0} (ops : BufferOps B) (code : Code) where

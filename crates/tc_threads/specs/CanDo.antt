@@ -10,8 +10,8 @@ use Rattle.tc_code.specs.declared.code.Func.{Func}
 use Rattle.tc_base.specs.declared.request.Request.{Request}
 use Rattle.tc_base.specs.declared.request.Request.TheVariants.{Start}
 use Rattle.tc_code.specs.Step.{ints_of, arguments_of}
-use Rattle.tc_runs.specs.Counters.{IsBelowLast}
-use Rattle.tc_runs.specs.Whole.{IndexIsWithin}
+use Rattle.run_laws.specs.Counters.{IsBelowLast}
+use Rattle.run_laws.specs.Whole.{IndexIsWithin}
 
 -- a function with as many slots and thread variables as the thread has
 abbrev pub sized : Func → Local → Func

@@ -2,7 +2,7 @@ use Rattle.std.proofs.Common.{◌≡◌, Some, sym, subst, rules}
 use Rattle.tc_code.specs.Facts.{run_from-step}
 use Rattle.tc_code.specs.Run.{run}
 use Rattle.tc_code.specs.Step.{opening}
-use Rattle.tc_runs.proofs.Counts.{counters_below_last}
+use Rattle.run_laws.proofs.Counts.{counters_below_last}
 use Rattle.tc_record.proofs.Runs.{picked, picked_is_enabled, turn_with_move}
 use Rattle.tc_record.proofs.recording.turn.Goals as goal
 

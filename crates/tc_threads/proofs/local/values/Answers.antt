@@ -5,7 +5,7 @@ use Rattle.std.proofs.lemmas.Int.{to_z-of_z}
 use Rattle.std.proofs.lemmas.List.{map-append, take_more, take_all}
 use Rattle.tc_code.specs.Expr.{value_of, names_slots}
 use Rattle.tc_code.specs.SeenExpr.{plain_expr}
-use Rattle.tc_runs.proofs.Basics.{first, second}
+use Rattle.run_laws.proofs.Basics.{first, second}
 use Rattle.tc_threads.proofs.local.values.Goals as goal
 
 mapped_at : {X Y : Type 0} (f : X → Y) (p : Y → Bool) (xs : List X) (i : ℕ) (d : X) → IsTrue (list_all p (map f xs)) → i < length xs

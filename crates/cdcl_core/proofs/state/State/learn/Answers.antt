@@ -5,8 +5,8 @@ use Rattle.std.proofs.lemmas.List.{length_push}
 use Rattle.refute_check.specs.declared.line.Line.{Line}
 use Rattle.cdcl_trail.specs.Trail.{Trail, IsTrail, pushed}
 use Rattle.cdcl_clauses.specs.Clauses.{Clause}
-use Rattle.cdcl_search.proofs.OneMore.{one_more, sound-assert}
-use Rattle.cdcl_search.proofs.Rooting.{rooted-attach}
+use Rattle.cdcl_steps.proofs.OneMore.{one_more, sound-assert}
+use Rattle.cdcl_steps.proofs.Rooting.{rooted-attach}
 use Rattle.cdcl_lines.specs.Lines.{added}
 use Rattle.cdcl_lines.specs.Literals.{clause_of}
 use Rattle.cdcl_lines.specs.Fresh.{IsFresh}

@@ -1,6 +1,6 @@
 use Rattle.std.proofs.Common.{◌≡◌, ◌∙◌, length, ap, sym, subst, arith}
 use Rattle.cnf_core.specs.Clauses.{Formula}
-use Rattle.cdcl_search.specs.declared.loading.Loaded.{Loaded}
+use Rattle.cdcl_steps.specs.declared.loading.Loaded.{Loaded}
 use Rattle.cdcl_core.specs.Helpers.{HaveLiterals, LoadsOne}
 use Rattle.cdcl_core.proofs.Starting.{found-taken}
 use Rattle.cdcl_core.proofs.state.State.load_all.Goals as goal

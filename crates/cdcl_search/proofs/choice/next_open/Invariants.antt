@@ -1,5 +1,0 @@
-use Rattle.std.proofs.Common.{◌≡◌}
-use Rattle.cdcl_search.proofs.choice.next_open.Given as goal
-
-abbrev pub invariant-loop : goal.invariant-loop
-invariant-loop l = l.order ≡ l.initial.order

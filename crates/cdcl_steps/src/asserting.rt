@@ -1,0 +1,36 @@
+//! What was learnt comes true.
+ghost use Rattle.std.specs.Prelude.{◌≡◌, ◌<◌, ◌^◌, Some, OnOk, OnErr, length};
+ghost use Rattle.cdcl_clauses.specs.Invariants.{IsSound, AreRooted};
+ghost use Rattle.cdcl_trail.specs.Trail.{pushed};
+ghost use Rattle.cdcl_steps.specs.Attached.{WasAttached, CanAssert};
+
+use crate::attaching::attach;
+use cdcl_clauses::{Clauses, Watches};
+use cdcl_trail::Trail;
+use std::alloc::AllocError;
+
+/// One more clause, all of whose literals are false but one, which becomes true; or all is as it was.
+pub fn assert_clause(
+    trail: &mut Trail,
+    clauses: &mut Clauses,
+    watches: &mut Watches,
+    literals: &[u32],
+    asserted: u32,
+    beside: u32,
+) -> Result<(), AllocError>
+    requires sound { IsSound trail.old clauses.old watches.old }
+    requires few { length clauses.old < 2 ^ 32 }
+    requires can { CanAssert trail.old literals.now asserted beside }
+    ensures ok { OnOk result (WasAttached clauses.old watches.old clauses.new watches.new literals.now asserted beside) }
+    ensures sound { IsSound trail.new clauses.new watches.new }
+    ensures rooted { AreRooted trail.old clauses.old → AreRooted trail.new clauses.new }
+    ensures trail { OnOk result (trail.new ≡ pushed trail.old asserted (Some (length clauses.old))) }
+    ensures err_trail { OnErr result (trail.new ≡ trail.old) }
+    ensures err_clauses { OnErr result (clauses.new ≡ clauses.old) }
+    ensures err_watches { OnErr result (watches.new ≡ watches.old) }
+{
+    let clause = clauses.len() as u32;
+    attach(clauses, watches, literals, asserted, beside)?;
+    trail.imply(asserted, clause);
+    Ok(())
+}

@@ -1,0 +1,71 @@
+//! One more clause.
+ghost use Rattle.std.specs.Prelude.{◌≡◌, ℕ, ◌<◌, ◌^◌, List, OnOk, OnErr, length};
+ghost use Rattle.cdcl_clauses.specs.Clauses.{Clause};
+ghost use Rattle.cdcl_clauses.specs.declared.watches.Watch.{Watch};
+ghost use Rattle.cdcl_steps.specs.Attached.{WasAttached, both_listed};
+
+use cdcl_clauses::{Clauses, Watch, Watches};
+use std::alloc::AllocError;
+
+/// One more clause, which stands at the two literals that it watches; or all is as it was.
+pub fn attach(
+    clauses: &mut Clauses,
+    watches: &mut Watches,
+    literals: &[u32],
+    first: u32,
+    second: u32,
+) -> Result<(), AllocError>
+    requires few { length clauses.old < 2 ^ 32 }
+    requires first { first < length watches.old }
+    requires second { second < length watches.old }
+    ensures ok { OnOk result (WasAttached clauses.old watches.old clauses.new watches.new literals.now first second) }
+    ensures err_clauses { OnErr result (clauses.new ≡ clauses.old) }
+    ensures err_watches { OnErr result (watches.new ≡ watches.old) }
+{
+    let clause = clauses.len() as u32;
+    clauses.push(literals, first, second)?;
+    if let Err(error) = stand(watches, clause, first, second) {
+        clauses.pop();
+        return Err(error);
+    }
+    Ok(())
+}
+
+/// The last clause, which stands last at both literals, is there no more.
+pub fn detach(clauses: &mut Clauses, watches: &mut Watches, first: u32, second: u32)
+    requires first { first < length watches.old }
+    requires second { second < length watches.old }
+    ensures { (cs : List Clause) (ws : List (List Watch)) (literals : List ℕ)
+        → WasAttached cs ws clauses.old watches.old literals first second → (clauses.new ≡ cs) × (watches.new ≡ ws) }
+{
+    watches.pop(second);
+    watches.pop(first);
+    clauses.pop();
+}
+
+/// The clause stands at both literals; or all is as it was.
+fn stand(watches: &mut Watches, clause: u32, first: u32, second: u32) -> Result<(), AllocError>
+    requires first { first < length watches.old }
+    requires second { second < length watches.old }
+    ensures ok { OnOk result (watches.new ≡ both_listed watches.old clause first second) }
+    ensures err { OnErr result (watches.new ≡ watches.old) }
+{
+    watches.push(
+        first,
+        Watch {
+            clause,
+            blocker: second,
+        },
+    )?;
+    if let Err(error) = watches.push(
+        second,
+        Watch {
+            clause,
+            blocker: first,
+        },
+    ) {
+        watches.pop(first);
+        return Err(error);
+    }
+    Ok(())
+}

@@ -1,0 +1,218 @@
+-- What a move makes of the threads, and of the failure.
+use Rattle.std.proofs.Common.{◌≡◌, ◌≢◌, ◌∙◌, inl, inr, ℕ, ◌≤◌, ◌<◌, ℤ, pos, Bool, true, false, List, [], ◌++◌, Option, Some, None}
+use Rattle.std.proofs.Common.{refl, sym, ap, subst, arith, append-nil, bytes_eq, true≢false, slice_set}
+use Rattle.std.specs.Prelude.{if◌then◌else◌}
+use Rattle.std.specs.FinMap as fin
+use Rattle.std.proofs.lemmas.Option.{none-some}
+use Rattle.tc_base.specs.Buffers.{BufferOps}
+use Rattle.tc_base.specs.Names.{Name}
+use Rattle.tc_base.specs.States.{Local, Thread, State}
+use Rattle.tc_base.specs.declared.moves.Move.{Move}
+use Rattle.tc_base.specs.declared.moves.Move.TheVariants as move
+use Rattle.tc_base.specs.declared.request.Request.{Request}
+use Rattle.tc_base.specs.declared.request.Request.TheVariants.{Write, WakeOne, Fail}
+use Rattle.tc_code.specs.Code.{Code}
+use Rattle.tc_code.specs.Instr.{Instr, Signal}
+use Rattle.tc_code.specs.Run.{IsReached}
+use Rattle.tc_code.specs.Step.{request, local_after, instr_of, perform, with_thread, woken, step}
+use Rattle.tc_code.specs.Step as machine
+use Rattle.path_walk.proofs.Names.{same_true, same_refl}
+use Rattle.run_laws.proofs.Changes.{is_fail}
+use Rattle.run_laws.proofs.Names.{same_or_apart, one_under, get_put, get_put_apart}
+use Rattle.run_laws.proofs.Steps.{Went, step_went, none_failed}
+use Rattle.run_history.specs.History.{taken}
+use Rattle.run_history.specs.Locals.{after_step}
+use Rattle.run_history.proofs.Lists.{by_bool}
+use Rattle.run_history.proofs.Threads.{own, with_born, performed_threads, find, steps_by, Its_own, Its_child, Another}
+use Rattle.path_laws.specs.Prefixes.{fails_by}
+use Rattle.path_laws.proofs.Local.{moves}
+
+-- two names that are apart aren't equal as lists
+pub bytes_other : (q n : Name) → q ≢ n → bytes_eq q n ≡ false
+bytes_other q n apart = by (bytes_eq q n) refl
+  where
+    by : (b : Bool) → bytes_eq q n ≡ b → b ≡ false
+    by true e = absurd (apart (same_true q n e))
+    by false e = refl
+
+-- who failed after a request
+abbrev pub failed_after : Request → Name → Option Name
+failed_after Fail n = Some n
+failed_after _ n = None
+
+-- the thread of a request failed exactly where it asked for that
+pub own_fails : (r : Request) (n : Name) → fails_by (failed_after r n) n ≡ is_fail r
+own_fails Fail n = same_refl n
+own_fails _ n = refl
+
+-- no other thread failed
+pub none_else_fails : (r : Request) (n q : Name) → q ≢ n → fails_by (failed_after r n) q ≡ false
+none_else_fails Fail n q apart = bytes_other q n apart
+none_else_fails _ n q apart = refl
+
+-- a thread has gone on: it has done no fewer steps, and has the same outcomes and maybe more
+pub record GoesOn (t u : Local) : Type 0 where
+  pub steps : t.steps ≤ u.steps
+  pub more : List Bool
+  pub outcomes : u.outcomes ≡ t.outcomes ++ more
+
+-- a thread that stays as it is has gone on, with nothing more
+pub stays : (t : Local) → GoesOn t t
+stays t = record { steps = omega arith; more = []; outcomes = sym (append-nil t.outcomes) }
+
+-- it goes on by each instruction that doesn't fail
+moved_on : (t : Local) (i : Instr) (v : ℤ) → GoesOn t (local_after t i v)
+moved_on t i v = let m = moves t i v in record { steps = omega (arith, m.steps); more = m.more; outcomes = m.outcomes }
+
+-- and by each step
+step_goes_on : (t : Local) (i : Instr) (r : Request) (v : ℤ) → GoesOn t (after_step t i r v)
+step_goes_on t i Fail v = record { steps = omega arith; more = []; outcomes = sym (append-nil t.outcomes) }
+step_goes_on t i _ v = moved_on t i v
+
+module _ {B : Type 0} (ops : BufferOps B) (code : Code) where
+  -- the state after a store, by whether there are buffers
+  abbrev the_store : State B → Name → Thread B → Instr → ℕ → ℤ → Bool → State B
+  the_store s n t i c v b =
+      if b
+      then with_thread s n (record { local = local_after t.local i (pos 0); buffer = ops.issue t.buffer c v })
+      else record (machine.did ops s n t i) { memory = slice_set s.memory c v }
+
+  -- what a request makes of the failure
+  pub failed_is : (s : State B) (n : Name) (t : Thread B) (i : Instr) (r : Request) → s.failed ≡ None → (perform ops code s n t i r).failed ≡ failed_after r n
+  failed_is s n t i (Write c v) going = by_bool (λ b. (the_store s n t i c v b).failed ≡ None) ops.buffered going going
+  failed_is s n t i Fail going = refl
+  failed_is s n t i _ going = going
+
+  -- a thread does the instruction at its place, which asks this
+  pub record Does (s u : State B) (n : Name) (t : Thread B) (i : Instr) (r : Request) : Type 0 where
+    pub there : fin.get s.threads n ≡ Some t
+    pub at : instr_of code t.local ≡ Some i
+    pub asks : request t.local i ≡ r
+    pub threads : u.threads ≡ with_born ops code n t i r (fin.insert s.threads n (own ops code s t i r))
+    pub failed : u.failed ≡ failed_after r n
+
+  -- a drain changes only a buffer
+  pub record Drains (s u : State B) (n : Name) (t : Thread B) (b : B) : Type 0 where
+    pub there : fin.get s.threads n ≡ Some t
+    pub threads : u.threads ≡ fin.insert s.threads n (record t { buffer = b })
+    pub failed : u.failed ≡ None
+
+  -- what a move does
+  pub data Change (s u : State B) : Type 0 where
+    By_step : (n : Name) (t : Thread B) (i : Instr) (r : Request) → Does s u n t i r → Change s u
+    By_drain : (n : Name) (t : Thread B) (b : B) → Drains s u n t b → Change s u
+
+  -- a run move does a step
+  pub ran_does : (s : State B) (n : Name) (t : Thread B) (i : Instr) (r : Request) → s.failed ≡ None → fin.get s.threads n ≡ Some t
+      → instr_of code t.local ≡ Some i → request t.local i ≡ r → Does s (perform ops code s n t i r) n t i r
+  ran_does s n t i r going there at asks =
+      record { there = there; at = at; asks = asks; threads = performed_threads ops code s n t i r; failed = failed_is s n t i r going }
+
+  -- so does a wake
+  pub woke_does : (s : State B) (n v : Name) (t : Thread B) (c : ℕ) → s.failed ≡ None → fin.get s.threads n ≡ Some t
+      → instr_of code t.local ≡ Some (Signal c) → Does s (woken ops s n v t c) n t (Signal c) (WakeOne c)
+  woke_does s n v t c going there at = record { there = there; at = at; asks = refl; threads = refl; failed = going }
+
+  -- a drain drains
+  pub flush_drains : (s : State B) (n : Name) (t : Thread B) (form : Option ℕ) → s.failed ≡ None → fin.get s.threads n ≡ Some t
+      → Drains s (machine.drained ops s n t form) n t (ops.drain t.buffer form).rest
+  flush_drains s n t form going there = record { there = there; threads = refl; failed = going }
+
+  -- by the way that it went
+  went_so : (s u : State B) (m : Move) → s.failed ≡ None → Went ops code s u m → Change s u
+  went_so s u (move.Run n) going g =
+      By_step n g.thread g.instr (request g.thread.local g.instr)
+      (subst (λ x. Does s x n g.thread g.instr (request g.thread.local g.instr)) (sym g.after) (ran_does s n g.thread g.instr _ going g.there g.at refl))
+  went_so s u (move.Wake n v) going g =
+      By_step n g.thread (Signal g.condition) (WakeOne g.condition)
+      (subst (λ x. Does s x n g.thread (Signal g.condition) (WakeOne g.condition)) (sym g.after) (woke_does s n v g.thread g.condition going g.there g.at))
+  went_so s u (move.Drain n form) going g =
+      By_drain n g.thread (ops.drain g.thread.buffer form).rest
+      (subst (λ x. Drains s x n g.thread (ops.drain g.thread.buffer form).rest) (sym g.after) (flush_drains s n g.thread form going g.there))
+
+  -- each move is one of these
+  pub change_of : (s u : State B) (m : Move) → step ops code s m ≡ Some u → Change s u
+  change_of s u m one = went_so s u m (none_failed ops code s u m one) (step_went ops code s u m one)
+
+  -- after its step the thread is there
+  pub own_there : (s u : State B) (n : Name) (t : Thread B) (i : Instr) (r : Request) → IsReached ops code s → Does s u n t i r
+      → fin.get u.threads n ≡ Some (own ops code s t i r)
+  own_there s u n t i r reached d =
+      elim (find ops code s u n t i r reached d.there d.threads n) [
+        | Its_own e there ↦ there
+        | Its_child f vs other there new made ↦ absurd (other refl)
+        | Another other there none ↦ absurd (other refl)
+      ]
+
+  -- a thread is still there, has gone on, and has done a step if it failed
+  pub record IsStillThere (s u : State B) (q : Name) (t : Thread B) : Type 0 where
+    pub thread : Thread B
+    pub there : fin.get u.threads q ≡ Some thread
+    pub goes : GoesOn t.local thread.local
+    pub fails : fails_by u.failed q ≡ true → t.local.steps < thread.local.steps
+
+  -- after a step
+  still_stepped : (s u : State B) (n : Name) (t : Thread B) (i : Instr) (r : Request) → IsReached ops code s → Does s u n t i r
+      → (q : Name) (x : Thread B) → fin.get s.threads q ≡ Some x → IsStillThere s u q x
+  still_stepped s u n t i r reached d q x here =
+      elim (find ops code s u n t i r reached d.there d.threads q) [
+        | Its_own e there ↦
+            let steps = steps_by t.local i r (taken ops code s t r) in
+            subst (IsStillThere s u q) (sym (one_under s.threads q n x t e here d.there))
+            (record {
+              thread = own ops code s t i r;
+              there = there;
+              goes = step_goes_on t.local i r (taken ops code s t r);
+              fails = λ f. omega (arith, steps);
+            })
+        | Its_child f vs other there new made ↦ absurd (none-some x (sym new ∙ here))
+        | Another other there none ↦
+            record {
+              thread = x;
+              there = there ∙ here;
+              goes = stays x.local;
+              fails = λ f. absurd (true≢false (sym f ∙ ap (λ o. fails_by o q) d.failed ∙ none_else_fails r n q other));
+            }
+      ]
+
+  -- what doesn't look at the buffer stays as it was where that is drained
+  pub unchanged : {X : Type 0} (s u : State B) (n : Name) (t : Thread B) (b : B) → Drains s u n t b → (f : Option (Thread B) → X)
+      → f (Some t) ≡ f (Some (record t { buffer = b })) → (q : Name) → f (fin.get u.threads q) ≡ f (fin.get s.threads q)
+  unchanged s u n t b d f blind q =
+      ap (λ ts. f (fin.get ts q)) d.threads
+      ∙ elim (same_or_apart q n) [
+        | inl e ↦
+            ap (λ m. f (fin.get (fin.insert s.threads n (record t { buffer = b })) m)) e
+            ∙ ap f (get_put s.threads n _) ∙ sym blind ∙ ap f (sym d.there) ∙ ap (λ m. f (fin.get s.threads m)) (sym e)
+        | inr other ↦ ap f (get_put_apart s.threads n _ q other)
+      ]
+
+  -- after a drain
+  still_drained : (s u : State B) (n : Name) (t : Thread B) (b : B) → Drains s u n t b → (q : Name) (x : Thread B) → fin.get s.threads q ≡ Some x
+      → IsStillThere s u q x
+  still_drained s u n t b d q x here =
+      elim (same_or_apart q n) [
+        | inl e ↦
+            let same = one_under s.threads q n x t e here d.there in
+            record {
+              thread = record t { buffer = b };
+              there = ap (λ ts. fin.get ts q) d.threads ∙ ap (fin.get (fin.insert s.threads n (record t { buffer = b }))) e ∙ get_put s.threads n _;
+              goes = subst (λ (y : Thread B). GoesOn y.local t.local) (sym same) (stays t.local);
+              fails = none_fails;
+            }
+        | inr other ↦
+            record {
+              thread = x;
+              there = ap (λ ts. fin.get ts q) d.threads ∙ get_put_apart s.threads n _ q other ∙ here;
+              goes = stays x.local;
+              fails = none_fails;
+            }
+      ]
+    where
+      none_fails : {X : Type 0} → fails_by u.failed q ≡ true → X
+      none_fails f = absurd (true≢false (sym f ∙ ap (λ o. fails_by o q) d.failed))
+
+  -- so is each thread after each move
+  pub still_there : (s u : State B) → IsReached ops code s → Change s u → (q : Name) (x : Thread B) → fin.get s.threads q ≡ Some x → IsStillThere s u q x
+  still_there s u reached (By_step n t i r d) q x here = still_stepped s u n t i r reached d q x here
+  still_there s u reached (By_drain n t b d) q x here = still_drained s u n t b d q x here

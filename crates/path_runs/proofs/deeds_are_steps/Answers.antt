@@ -1,5 +1,0 @@
-use Rattle.path_runs.proofs.Deeds.{steps_are_numbered}
-use Rattle.path_runs.proofs.deeds_are_steps.Goals as goal
-
-pub returns : goal.returns
-returns g c = steps_are_numbered

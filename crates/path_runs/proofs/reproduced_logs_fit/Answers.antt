@@ -1,5 +1,0 @@
-use Rattle.path_runs.proofs.Logs.{reproduced_fits}
-use Rattle.path_runs.proofs.reproduced_logs_fit.Goals as goal
-
-pub returns : goal.returns
-returns g c = λ ops code log moves lawful r. reproduced_fits code ops lawful log moves r

@@ -1,5 +1,0 @@
-use Rattle.path_runs.proofs.States.{going_along}
-use Rattle.path_runs.proofs.threads_go_along.Goals as goal
-
-pub returns : goal.returns
-returns g c = going_along

@@ -1,0 +1,57 @@
+-- A log is reproduced where a history goes as logged.
+use Rattle.std.proofs.Common.{◌≡◌, ◌∙◌, List, Option, Some, None, refl, sym, ap, subst}
+use Rattle.std.specs.Prelude.{option_map, IsSomeAnd}
+use Rattle.std.specs.FinMap as fin
+use Rattle.tc_base.specs.Buffers.{BufferOps}
+use Rattle.tc_base.specs.Logs.{Log, failing_of}
+use Rattle.tc_base.specs.Names.{Name}
+use Rattle.tc_base.specs.States.{Thread, State}
+use Rattle.tc_base.specs.declared.model.Model.{Model}
+use Rattle.tc_base.specs.declared.moves.Move.{Move}
+use Rattle.tc_code.specs.Code.{Code}
+use Rattle.tc_code.specs.Lawful.{IsLawful}
+use Rattle.tc_code.specs.Run.{run, Reproduces, path_of, path_in}
+use Rattle.store_buffers.specs.Laws.{Laws}
+use Rattle.store_buffers.specs.Pending.{Binding}
+use Rattle.run_history.specs.History.{Deed, history}
+use Rattle.run_history.specs.Told.{failed_in}
+use Rattle.run_history.proofs.Frame.{holds_after}
+use Rattle.run_history.proofs.Locals.{LocalsAre, keeps_locals, opening_locals}
+use Rattle.run_history.proofs.Shared.{FailureIs, keeps_failure}
+use Rattle.run_follows.specs.Follow.{AllFollow, moves_for}
+use Rattle.run_follows.specs.Logged.{path_by, path_told, GoesAsLogged}
+use Rattle.run_follows.proofs.Plays.{follows_is_run}
+
+module _ {B : Type 0} where
+  path_of_local : (o : Option (Thread B)) → option_map path_by (option_map (λ (t : Thread B). t.local) o) ≡ option_map path_of o
+  path_of_local None = refl
+  path_of_local (Some t) = refl
+
+  module _ (ops : BufferOps B) (code : Code) (ms : List Move) (s : State B) (leads : run ops code ms ≡ Some s) where
+    path_is : (n : Name) → path_told code (history ops code ms) n ≡ path_in s n
+    path_is n =
+        ap (option_map path_by) (holds_after ops code (LocalsAre ops code) (keeps_locals ops code) (opening_locals ops code) ms s leads n)
+        ∙ path_of_local (fin.get s.threads n)
+
+    failure_is : s.failed ≡ failed_in (history ops code ms)
+    failure_is = holds_after ops code (FailureIs ops code) (keeps_failure ops code) refl ms s leads
+
+  pub reproduces_as_logged : (ops : BufferOps B) (code : Code) (log : Log) (ms : List Move) → Reproduces ops code log ms
+      → GoesAsLogged code log (history ops code ms)
+  reproduces_as_logged ops code log ms r = record {
+    failing = subst (λ o. IsSomeAnd (failing_of log) (λ n. o ≡ Some n)) (failure_is ops code ms r.state r.leads) r.failing;
+    paths = λ n. path_is ops code ms r.state r.leads n ∙ r.paths n;
+  }
+
+  pub deeds_reproduce : (ops : BufferOps B) (model : Model) (bound : Binding) (code : Code) (log : Log) (h : List Deed) → Laws ops model bound → IsLawful code
+      → AllFollow ops.buffered bound code h → GoesAsLogged code log h → Reproduces ops code log (moves_for bound h)
+  deeds_reproduce ops model bound code log h laws lawful all goes =
+      let p = follows_is_run ops model bound laws code lawful h all in
+      let ms = moves_for bound h in
+      record {
+        state = p.0;
+        leads = p.1;
+        failing =
+            subst (λ o. IsSomeAnd (failing_of log) (λ n. o ≡ Some n)) (ap failed_in (sym p.2) ∙ sym (failure_is ops code ms p.0 p.1)) goes.failing;
+        paths = λ n. sym (path_is ops code ms p.0 p.1 n) ∙ ap (λ g. path_told code g n) p.2 ∙ goes.paths n;
+      }

@@ -1,0 +1,27 @@
+-- The last deeds that are about something.
+use Rattle.std.specs.Prelude.{◌≡◌, ℕ, ◌==◌, ℤ, Bool, true, false, ◌&&◌, Option, Some, None, List, [], ◌∷◌, ◌++◌, option_and_then, if◌then◌else◌}
+use Rattle.std.specs.List.{filter_map}
+use Rattle.tc_base.specs.Names.{Name}
+use Rattle.tc_base.specs.declared.request.Request.TheVariants.{BeginWait, WakeOne, WakeAll}
+use Rattle.run_history.specs.History.{Deed, Did, same}
+use Rattle.run_history.specs.Told.{reaches}
+
+-- some deed gives this, and none after it gives anything
+pub record IsLast {X : Type 0} (f : Deed → Option X) (h : List Deed) (x : X) : Type 0 where
+  pub older : List Deed
+  pub deed : Deed
+  pub newer : List Deed
+  pub there : h ≡ older ++ deed ∷ newer
+  pub gives : f deed ≡ Some x
+  pub last : filter_map f newer ≡ []
+
+-- the value that a deed's store brings to a cell of memory, if it does
+abbrev pub brings : Bool → ℕ → Deed → Option ℤ
+brings buffered c d = option_and_then (λ e. if e.cell == c then Some e.value else None) (reaches buffered d)
+
+-- whether a thread waits on a condition after a deed that begins or ends its wait
+abbrev pub waits_by : ℕ → Name → Deed → Option Bool
+waits_by c u (Did n k (BeginWait d m) took other) = if d == c && same u n then Some true else None
+waits_by c u (Did n k (WakeOne d) took (Some w)) = if d == c && same u w then Some false else None
+waits_by c u (Did n k (WakeAll d) took other) = if d == c then Some false else None
+waits_by c u _ = None

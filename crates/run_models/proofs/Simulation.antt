@@ -1,0 +1,407 @@
+-- A run under one memory model is one under each model that allows more.
+use Rattle.std.proofs.Common.{◌≡◌, ◌≢◌, ◌∙◌, inl, inr, ℕ, ◌+◌, ◌-◌, ◌||◌, ◌&&◌, ℤ, pos, Bool, true, false, not, List, [], ◌∷◌, ◌++◌}
+use Rattle.std.proofs.Common.{IsTrue, Option, Some, None, refl, sym, ap, ap₂, subst, append-nil, slice_set, length}
+use Rattle.std.specs.Prelude.{unwrap_or, option_and_then, option_map, if◌then◌else◌}
+use Rattle.std.specs.Option.{option_map_or}
+use Rattle.std.specs.Ordering.{nat_cmp}
+use Rattle.std.specs.Cmp.Lexicographic.{slice_cmp}
+use Rattle.std.specs.FinMap as fin
+use Rattle.std.specs.FinSet as set
+use Rattle.std.proofs.lemmas.Bool.{false≢true}
+use Rattle.std.proofs.lemmas.Option.{same_Some, option_and_then_some}
+use Rattle.tc_base.specs.Names.{Name, ByName, child, main}
+use Rattle.tc_base.specs.Buffers.{BufferOps, Entry}
+use Rattle.tc_base.specs.States.{Local, Thread, State}
+use Rattle.tc_base.specs.Logs.{Log}
+use Rattle.tc_base.specs.declared.model.Model.{Model}
+use Rattle.tc_base.specs.declared.moves.Move.{Move}
+use Rattle.tc_base.specs.declared.moves.Move.TheVariants as move
+use Rattle.tc_base.specs.declared.request.Request.{Request}
+use Rattle.tc_base.specs.declared.request.Request.TheVariants.{Silent, Read, Write, Exchange, CompareExchange, Bar}
+use Rattle.tc_base.specs.declared.request.Request.TheVariants.{Start, Await, Fail}
+use Rattle.tc_code.specs.Instr.{Instr, Signal}
+use Rattle.tc_code.specs.Code.{Code}
+use Rattle.tc_code.specs.Step.{request, local_after, stepped, arguments_of, instr_of, in_memory, drains_first, is_let, with_thread}
+use Rattle.tc_code.specs.Step.{allows, loaded, done, did, stored, perform, born, waiting_on, woken, drained, step, opening}
+use Rattle.tc_code.specs.Run.{run_from, run, Reproduces, path_of}
+use Rattle.tc_code.specs.Facts.{run_from-append}
+use Rattle.store_buffers.specs.Pending.{Pending, Store, Bar as bar, stores, Binding, waits, form_of, Stands}
+use Rattle.store_buffers.specs.Laws.{Laws}
+use Rattle.store_buffers.specs.Proved.Lists.{or_false, store_last, bar_last}
+use Rattle.run_laws.proofs.Basics.{known}
+use Rattle.run_laws.proofs.Names.{same_or_apart, get_put, get_put_apart}
+use Rattle.run_laws.proofs.Steps.{Went, step_went, none_failed}
+use Rattle.run_models.specs.Models.{AllowsMore, drains_at_once, move_as, moves_from, moves_as, local_of, SameButBuffers}
+use Rattle.run_laws.proofs.Makes.{makes_run, makes_wake, makes_drain}
+
+-- what isn't bound by more isn't by less
+not_bound : (b c : Bool) → (c ≡ true → b ≡ true) → b ≡ false → c ≡ false
+not_bound b true less e = absurd (false≢true (sym e ∙ less refl))
+not_bound b false less e = refl
+
+-- so what waits for nothing by what binds more doesn't by what binds less
+waits_less : (bound less : Binding) → ((same_cell barred : Bool) → less same_cell barred ≡ true → bound same_cell barred ≡ true)
+    → (ps : List Pending) (c : ℕ) → waits bound ps c ≡ false → waits less ps c ≡ false
+waits_less bound less binds [] c free = refl
+waits_less bound less binds (Store e ∷ ps) c free =
+    let both = or_false _ _ free in
+    ap₂ (λ x y. x || y) (not_bound _ _ (binds _ _) both.0) (waits_less bound less binds ps c both.1)
+waits_less bound less binds (bar ∷ ps) c free = waits_less bound less binds ps c free
+
+-- and where no store is pending, nothing waits
+waits_for_none : (bound : Binding) (ps : List Pending) (c : ℕ) → stores ps ≡ [] → waits bound ps c ≡ false
+waits_for_none bound [] c none = refl
+waits_for_none bound (Store e ∷ ps) c none = cc
+waits_for_none bound (bar ∷ ps) c none = waits_for_none bound ps c none
+
+module _ {B C : Type 0} (ops : BufferOps B) (more : BufferOps C) where
+  -- two buffers that stand for one list
+  pub record Both (b : B) (c : C) : Type 0 where
+    pub list : List Pending
+    pub here : Stands ops b list
+    pub there : Stands more c list
+
+  both_empty : Both ops.empty more.empty
+  both_empty = record {
+    list = [];
+    here = record { made = refl; issued = λ _. refl };
+    there = record { made = refl; issued = λ _. refl };
+  }
+
+  -- what the other model has under a name: the same thread, with a buffer that stands for the same list
+  pub record IsThere (t : Thread B) (o : Option (Thread C)) : Type 0 where
+    pub buffer : C
+    pub is : o ≡ Some (record { local = t.local; buffer = buffer })
+    pub both : Both t.buffer buffer
+
+  abbrev pub Alike : Option (Thread B) → Option (Thread C) → Type 0
+  Alike None o = o ≡ None
+  Alike (Some t) o = IsThere t o
+
+  abbrev pub AllAlike : ByName (Thread B) → ByName (Thread C) → Type 0
+  AllAlike ts us = (n : Name) → Alike (fin.get ts n) (fin.get us n)
+
+  -- the state with the other model's threads
+  abbrev pub as_more : State B → ByName (Thread C) → State C
+  as_more s us = record { memory = s.memory; owners = s.owners; waiters = s.waiters; threads = us; failed = s.failed }
+
+  alike_at : (ts : ByName (Thread B)) (us : ByName (Thread C)) (n : Name) (t : Thread B) → AllAlike ts us → fin.get ts n ≡ Some t
+      → IsThere t (fin.get us n)
+  alike_at ts us n t all there = subst (λ o. Alike o (fin.get us n)) there (all n)
+
+  -- threads stay alike where one is put in on both sides
+  alike_put : (ts : ByName (Thread B)) (us vs : ByName (Thread C)) (n : Name) (l : Local) (b : B) (c : C) → AllAlike ts us
+      → ((q : Name) → q ≢ n → fin.get vs q ≡ fin.get us q) → fin.get vs n ≡ Some (record { local = l; buffer = c }) → Both b c
+      → AllAlike (fin.insert ts n (record { local = l; buffer = b })) vs
+  alike_put ts us vs n l b c all apart there both q =
+      elim (same_or_apart q n) [
+        | inl same ↦
+            subst (λ o. Alike o (fin.get vs q)) (sym (ap (fin.get (fin.insert ts n (record { local = l; buffer = b }))) same ∙ get_put ts n _))
+            (record { buffer = c; is = ap (fin.get vs) same ∙ there; both = both })
+        | inr other ↦
+            subst (λ o. Alike o (fin.get vs q)) (sym (get_put_apart ts n (record { local = l; buffer = b }) q other))
+            (subst (Alike (fin.get ts q)) (sym (apart q other)) (all q))
+      ]
+
+  alike_insert : (ts : ByName (Thread B)) (us : ByName (Thread C)) (n : Name) (l : Local) (b : B) (c : C) → AllAlike ts us → Both b c
+      → AllAlike (fin.insert ts n (record { local = l; buffer = b })) (fin.insert us n (record { local = l; buffer = c }))
+  alike_insert ts us n l b c all both =
+      alike_put ts us (fin.insert us n (record { local = l; buffer = c })) n l b c all (λ q other. get_put_apart us n _ q other) (get_put us n _) both
+
+  -- there is no thread on either side
+  none_alike : AllAlike fin.empty fin.empty
+  none_alike q =
+      subst (λ o. Alike o (fin.get {R = slice_cmp nat_cmp} fin.empty q)) (sym (fin.get-empty (slice_cmp nat_cmp) q)) (fin.get-empty (slice_cmp nat_cmp) q)
+
+  same_exited : (o : Option (Thread B)) (p : Option (Thread C)) → Alike o p
+      → option_map_or (λ t. t.local.has_exited) p false ≡ option_map_or (λ t. t.local.has_exited) o false
+  same_exited None p is = ap (λ x. option_map_or (λ (t : Thread C). t.local.has_exited) x false) is
+  same_exited (Some t) p is = ap (λ x. option_map_or (λ (t : Thread C). t.local.has_exited) x false) is.is
+
+  -- the other threads let a request be met on both sides, or on neither
+  same_let : (s : State B) (us : ByName (Thread C)) (n : Name) (r : Request) → AllAlike s.threads us → is_let (as_more s us) n r ≡ is_let s n r
+  same_let s us n (Await k) all = same_exited (fin.get s.threads (child n k)) (fin.get us (child n k)) (all (child n k))
+  same_let s us n Silent all = refl
+  same_let s us n _ all = refl
+
+  module _ (model model_more : Model) (bound bound_more : Binding) (laws : Laws ops model bound) (laws_more : Laws more model_more bound_more)
+      (allows_more : AllowsMore ops bound more bound_more) (code : Code) where
+    same_empty : (b : B) (c : C) → Both b c → more.is_empty c ≡ ops.is_empty b
+    same_empty b c both = laws_more.empty_law c both.list both.there ∙ sym (laws.empty_law b both.list both.here)
+
+    same_forward : (b : B) (c : C) (cell : ℕ) → Both b c → more.forward c cell ≡ ops.forward b cell
+    same_forward b c cell both = laws_more.forward_stands c both.list cell both.there ∙ sym (laws.forward_stands b both.list cell both.here)
+
+    -- where moves lead from a state on the other side
+    pub record Follows (s : State B) (us : ByName (Thread C)) (moves : List Move) (w : State B) : Type 0 where
+      pub threads : ByName (Thread C)
+      pub leads : run_from more code (as_more s us) moves ≡ Some (as_more w threads)
+      pub alike : AllAlike w.threads threads
+
+    -- one move leads there
+    follows_one : (s : State B) (us : ByName (Thread C)) (m : Move) (w : State B) (vs : ByName (Thread C))
+        → step more code (as_more s us) m ≡ Some (as_more w vs) → AllAlike w.threads vs → Follows s us (m ∷ []) w
+    follows_one s us m w vs one alike = record { threads = vs; leads = ap (option_and_then (λ u. run_from more code u [])) one; alike = alike }
+
+    module _ (s : State B) (us : ByName (Thread C)) (n : Name) (t : Thread B) (c : C) (all : AllAlike s.threads us) (both : Both t.buffer c)
+        (going : s.failed ≡ None) (there : fin.get us n ≡ Some (record { local = t.local; buffer = c })) where
+      abbrev mine : Thread C
+      mine = record { local = t.local; buffer = c }
+
+      same_allows : (r : Request) → allows more (as_more s us) n mine r ≡ allows ops s n t r
+      same_allows r = ap₂ (λ e l. (not (drains_first r) || e) && l) (same_empty t.buffer c both) (same_let s us n r all)
+
+      -- the part of the thread after it, its buffer as before
+      kept : (l : Local) → AllAlike (fin.insert s.threads n (record { local = l; buffer = t.buffer })) (fin.insert us n (record { local = l; buffer = c }))
+      kept l = alike_insert s.threads us n l t.buffer c all both
+
+      -- what a request that is no store does, on the other side
+      record Performs (i : Instr) (r : Request) : Type 0 where
+        threads : ByName (Thread C)
+        same : perform more code (as_more s us) n mine i r ≡ as_more (perform ops code s n t i r) threads
+        alike : AllAlike (perform ops code s n t i r).threads threads
+
+      performs : (i : Instr) (r : Request) → ((cell : ℕ) (v : ℤ) → r ≢ Write cell v) → Performs i r
+      performs i (Write cell v) other = absurd (other cell v refl)
+      performs i (Read cell) other = record {
+        threads = fin.insert us n (record { local = local_after t.local i (loaded ops s t cell); buffer = c });
+        same = ap (λ o. done more (as_more s us) n mine i (unwrap_or o (in_memory s cell))) (same_forward t.buffer c cell both);
+        alike = kept (local_after t.local i (loaded ops s t cell));
+      }
+      performs i (Exchange cell v) other = record { threads = _; same = refl; alike = kept (local_after t.local i (in_memory s cell)) }
+      performs i (CompareExchange cell e v) other = record { threads = _; same = refl; alike = kept (local_after t.local i (in_memory s cell)) }
+      performs i Bar other = record {
+        threads = _;
+        same = refl;
+        alike = alike_insert s.threads us n (local_after t.local i (pos 0)) (ops.bar t.buffer) (more.bar c) all
+            (record { list = both.list ++ bar ∷ []; here = bar_last ops _ _ both.here; there = bar_last more _ _ both.there });
+      }
+      performs i (Start f) other = record {
+        threads = _;
+        same = refl;
+        alike = alike_insert _ _ (child n (t.local.children + 1)) (born ops code f (arguments_of t.local i)).local ops.empty more.empty
+            (kept (local_after t.local i (pos 0))) both_empty;
+      }
+      performs i Fail other = record { threads = _; same = refl; alike = kept (stepped t.local) }
+      performs i Silent other = record { threads = _; same = refl; alike = kept (local_after t.local i (pos 0)) }
+      performs i _ other = record { threads = _; same = refl; alike = kept (local_after t.local i (pos 0)) }
+
+      -- so the thread does it on the other side
+      request_follows : (i : Instr) (r : Request) → instr_of code t.local ≡ Some i → request t.local i ≡ r → IsTrue (allows ops s n t r)
+          → ((cell : ℕ) (v : ℤ) → r ≢ Write cell v) → Follows s us (move.Run n ∷ []) (perform ops code s n t i r)
+      request_follows i r at asks may other =
+          let p = performs i r other in
+          follows_one s us (move.Run n) _ p.threads
+          (makes_run more code (as_more s us) n mine going there i r at asks (same_allows r ∙ may) ∙ ap Some p.same) p.alike
+
+      -- a store: into the buffer, or to memory at once
+      module _ (i : Instr) (cell : ℕ) (v : ℤ) (at : instr_of code t.local ≡ Some i) (asks : request t.local i ≡ Write cell v) where
+        abbrev after : Local
+        after = local_after t.local i (pos 0)
+
+        -- the store's drain is of this form
+        abbrev form : Option ℕ
+        form = form_of bound_more cell
+
+        abbrev buffered_store : State B
+        buffered_store = with_thread s n (record { local = after; buffer = ops.issue t.buffer cell v })
+
+        abbrev store_at_once : State B
+        store_at_once = record (did ops s n t i) { memory = slice_set s.memory cell v }
+
+        -- what the other model makes of it, by whether this model has buffers, and the other
+        abbrev StoreFollows : Bool → Bool → Type 0
+        StoreFollows b d =
+            Follows s us (move.Run n ∷ (if b then [] else if d then move.Drain n form ∷ [] else []))
+            (if b then buffered_store else store_at_once)
+
+        other_stores : step more code (as_more s us) (move.Run n) ≡ Some (stored more (as_more s us) n mine i cell v)
+        other_stores = makes_run more code (as_more s us) n mine going there i (Write cell v) at asks refl
+
+        abbrev issued : Thread C
+        issued = record { local = after; buffer = more.issue c cell v }
+
+        other_issues : more.buffered ≡ true → step more code (as_more s us) (move.Run n) ≡ Some (as_more s (fin.insert us n issued))
+        other_issues buffered =
+            other_stores ∙ ap (λ b. Some (if b then as_more s (fin.insert us n issued)
+            else record (did more (as_more s us) n mine i) { memory = slice_set s.memory cell v })) buffered
+
+        -- both have buffers
+        into_both : ops.buffered ≡ true → StoreFollows true true
+        into_both buffered =
+            let others = allows_more.buffers buffered in
+            follows_one s us (move.Run n) buffered_store (fin.insert us n issued) (other_issues others)
+            (alike_insert s.threads us n after (ops.issue t.buffer cell v) (more.issue c cell v) all
+            (record {
+              list = both.list ++ Store (record { cell = cell; value = v }) ∷ [];
+              here = store_last ops t.buffer both.list cell v buffered both.here;
+              there = store_last more c both.list cell v others both.there;
+            }))
+
+        -- neither has
+        into_neither : more.buffered ≡ false → StoreFollows false false
+        into_neither none =
+            follows_one s us (move.Run n) store_at_once (fin.insert us n (record { local = after; buffer = c }))
+            (other_stores ∙ ap (λ b. Some (if b then as_more s (fin.insert us n issued)
+            else record (did more (as_more s us) n mine i) { memory = slice_set s.memory cell v })) none)
+            (kept after)
+
+        -- the other alone has: its store drains at once
+        into_other : ops.buffered ≡ false → more.buffered ≡ true → StoreFollows false true
+        into_other none buffered =
+            let e : Entry = record { cell = cell; value = v } in
+            let nothing : stores both.list ≡ [] = both.here.issued none in
+            let out = laws_more.drain_stands (more.issue c cell v) (both.list ++ Store e ∷ []) form both.list e []
+            (store_last more c both.list cell v buffered both.there)
+            (record { there = refl; by_form = refl; is_free = waits_for_none bound_more both.list cell nothing }) in
+            let rest = (more.drain (more.issue c cell v) form).rest in
+            let vs = fin.insert us n issued in
+            let drains = makes_drain more code (as_more s vs) n issued going (get_put us n issued) form out.may in
+            record {
+              threads = fin.insert vs n (record { local = after; buffer = rest });
+              leads =
+                  ap (option_and_then (λ u. run_from more code u (move.Drain n form ∷ []))) (other_issues buffered)
+                  ∙ ap (option_and_then (λ u. run_from more code u [])) drains
+                  ∙ ap (λ (x : Entry). Some (as_more (record store_at_once { memory = slice_set s.memory x.cell x.value })
+                  (fin.insert vs n (record { local = after; buffer = rest })))) out.takes;
+              alike = alike_put s.threads us _ n after t.buffer rest all
+                  (λ q other. get_put_apart vs n _ q other ∙ get_put_apart us n _ q other) (get_put vs n _)
+                  (record { list = both.list; here = both.here; there = subst (Stands more rest) (append-nil both.list) out.leaves });
+            }
+
+        store_by_unbuffered : ops.buffered ≡ false → StoreFollows false more.buffered
+        store_by_unbuffered lacks =
+            elim (known more.buffered) [
+              | inl has ↦ subst (StoreFollows false) (sym has) (into_other lacks has)
+              | inr none ↦ subst (StoreFollows false) (sym none) (into_neither none)
+            ]
+
+        store_follows : StoreFollows ops.buffered more.buffered
+        store_follows =
+            elim (known ops.buffered) [
+              | inl has ↦ subst (λ b. StoreFollows b more.buffered) (sym has)
+                  (subst (StoreFollows true) (sym (allows_more.buffers has)) (into_both has))
+              | inr none ↦ subst (λ b. StoreFollows b more.buffered) (sym none) (store_by_unbuffered none)
+            ]
+
+      -- each request
+      run_follows : (i : Instr) (r : Request) → instr_of code t.local ≡ Some i → request t.local i ≡ r → IsTrue (allows ops s n t r)
+          → Follows s us (move.Run n ∷ drains_at_once ops code more.buffered bound_more n r) (perform ops code s n t i r)
+      run_follows i (Write cell v) at asks may = store_follows i cell v at asks
+      run_follows i Silent at asks may = request_follows i Silent at asks may (λ cell v e. cc)
+      run_follows i r at asks may = request_follows i r at asks may (λ cell v e. cc)
+
+      wake_follows : (u : Name) (cond : ℕ) → instr_of code t.local ≡ Some (Signal cond) → IsTrue (ops.is_empty t.buffer)
+          → IsTrue (set.contains (waiting_on s cond) u) → Follows s us (move.Wake n u ∷ []) (woken ops s n u t cond)
+      wake_follows u cond at empty waits =
+          follows_one s us (move.Wake n u) (woken ops s n u t cond) (fin.insert us n (record { local = local_after t.local (Signal cond) (pos 0); buffer = c }))
+          (makes_wake more code (as_more s us) n mine going there u cond at (same_empty t.buffer c both ∙ empty) waits)
+          (kept (local_after t.local (Signal cond) (pos 0)))
+
+      -- a drain takes the same store out on the other side
+      drain_follows : (form : Option ℕ) → IsTrue (ops.may_drain t.buffer form)
+          → Follows s us (move.Drain n (form_of bound_more (ops.drain t.buffer form).entry.cell) ∷ []) (drained ops s n t form)
+      drain_follows form may =
+          let some = laws.may_drain_stands t.buffer both.list form both.here may in
+          let d = some.drains in
+          let e = some.store in
+          let mine_out = laws.drain_stands t.buffer both.list form some.older e some.newer both.here d in
+          let other_form = form_of bound_more e.cell in
+          let out = laws_more.drain_stands c both.list other_form some.older e some.newer both.there
+          (record { there = d.there; by_form = refl; is_free = waits_less bound bound_more allows_more.binds some.older e.cell d.is_free }) in
+          let l = t.local in
+          let rest = (ops.drain t.buffer form).rest in
+          let other_rest = (more.drain c other_form).rest in
+          subst (λ (x : Entry). Follows s us (move.Drain n (form_of bound_more x.cell) ∷ [])
+          (record (with_thread s n (record { local = l; buffer = rest })) { memory = slice_set s.memory x.cell x.value })) (sym mine_out.takes)
+          (follows_one s us (move.Drain n other_form) _ (fin.insert us n (record { local = l; buffer = other_rest }))
+          (makes_drain more code (as_more s us) n mine going there other_form out.may
+          ∙ ap (λ (x : Entry). Some (record (with_thread (as_more s us) n (record { local = l; buffer = other_rest }))
+          { memory = slice_set s.memory x.cell x.value })) out.takes)
+          (alike_insert s.threads us n l rest other_rest all
+          (record { list = some.older ++ some.newer; here = mine_out.leaves; there = out.leaves })))
+
+    -- the drains that go with what a thread does next
+    abbrev drains_of : Name → Thread B → List Move
+    drains_of n t = option_map_or (λ i. drains_at_once ops code more.buffered bound_more n (request t.local i)) (instr_of code t.local) []
+
+    -- each move of a run
+    went_follows : (s w : State B) (us : ByName (Thread C)) (m : Move) → AllAlike s.threads us → s.failed ≡ None → Went ops code s w m
+        → Follows s us (move_as ops code more.buffered bound_more s m) w
+    went_follows s w us (move.Run n) all going g =
+        let at = alike_at s.threads us n g.thread all g.there in
+        subst (λ o. Follows s us (move.Run n ∷ option_map_or (drains_of n) o []) w) (sym g.there)
+        (subst (λ o. Follows s us (move.Run n ∷ option_map_or (λ i. drains_at_once ops code more.buffered bound_more n (request g.thread.local i)) o []) w)
+        (sym g.at)
+        (subst (Follows s us _) (sym g.after)
+        (run_follows s us n g.thread at.buffer all at.both going at.is g.instr (request g.thread.local g.instr) g.at refl g.allowed)))
+    went_follows s w us (move.Wake n u) all going g =
+        let at = alike_at s.threads us n g.thread all g.there in
+        subst (Follows s us (move.Wake n u ∷ [])) (sym g.after)
+        (wake_follows s us n g.thread at.buffer all at.both going at.is u g.condition g.at g.empty g.waits)
+    went_follows s w us (move.Drain n form) all going g =
+        let at = alike_at s.threads us n g.thread all g.there in
+        subst (λ o. Follows s us (move.Drain n (option_map_or (λ t. form_of bound_more (ops.drain t.buffer form).entry.cell) o None) ∷ []) w) (sym g.there)
+        (subst (Follows s us _) (sym g.after) (drain_follows s us n g.thread at.buffer all at.both going at.is form g.may))
+
+    -- and so each run
+    run_from_follows : (s w : State B) (us : ByName (Thread C)) (ms : List Move) → AllAlike s.threads us → run_from ops code s ms ≡ Some w
+        → Follows s us (moves_from ops code more.buffered bound_more s ms) w
+    run_from_follows s w us [] all leads = record {
+      threads = us;
+      leads = ap (λ x. Some (as_more x us)) (same_Some s w leads);
+      alike = subst (λ (x : State B). AllAlike x.threads us) (same_Some s w leads) all;
+    }
+    run_from_follows s w us (m ∷ ms) all leads =
+        option_and_then_some (λ u. run_from ops code u ms) (step ops code s m) w leads (λ u one rest.
+        let f = went_follows s u us m all (none_failed ops code s u m one) (step_went ops code s u m one) in
+        let g = run_from_follows u w f.threads ms f.alike rest in
+        record {
+          threads = g.threads;
+          leads =
+              ap (λ o. run_from more code (as_more s us) (move_as ops code more.buffered bound_more s m
+              ++ option_map_or (λ x. moves_from ops code more.buffered bound_more x ms) o [])) one
+              ∙ run_from-append more code (as_more s us) (move_as ops code more.buffered bound_more s m) _
+              ∙ ap (option_and_then (λ x. run_from more code x (moves_from ops code more.buffered bound_more u ms))) f.leads
+              ∙ g.leads;
+          alike = g.alike;
+        })
+
+    -- the threads at the start are alike
+    opening_alike : AllAlike (opening ops code).threads (opening more code).threads
+    opening_alike = alike_insert fin.empty fin.empty main (born ops code (length code.functions - 1) []).local ops.empty more.empty none_alike both_empty
+
+    run_follows_run : (ms : List Move) (w : State B) → run ops code ms ≡ Some w
+        → Follows (opening ops code) (opening more code).threads (moves_as ops code more.buffered bound_more ms) w
+    run_follows_run ms w leads = run_from_follows (opening ops code) w (opening more code).threads ms opening_alike leads
+
+    -- so each path is the same
+    same_local : (o : Option (Thread B)) (p : Option (Thread C)) → Alike o p → option_map local_of o ≡ option_map local_of p
+    same_local None p is = ap (option_map local_of) (sym is)
+    same_local (Some t) p is = ap (option_map local_of) (sym is.is)
+
+    same_path : (o : Option (Thread B)) (p : Option (Thread C)) → Alike o p → option_map path_of p ≡ option_map path_of o
+    same_path None p is = ap (option_map path_of) is
+    same_path (Some t) p is = ap (option_map path_of) is.is
+
+    -- a run is one of the other model, to the same state but for the buffers
+    pub runs_under_more : (ms : List Move) (s : State B) → run ops code ms ≡ Some s
+        → (u : State C) × (run more code (moves_as ops code more.buffered bound_more ms) ≡ Some u) × SameButBuffers s u
+    runs_under_more ms s leads =
+        let f = run_follows_run ms s leads in (
+          as_more s f.threads,
+          f.leads,
+          record { memory = refl; owners = refl; waiters = refl; failed = refl; threads = λ n. same_local _ _ (f.alike n) },
+        )
+
+    -- so it reproduces what that reproduces
+    pub reproduces_under_more : (log : Log) (ms : List Move) → Reproduces ops code log ms
+        → Reproduces more code log (moves_as ops code more.buffered bound_more ms)
+    reproduces_under_more log ms r =
+        let f = run_follows_run ms r.state r.leads in
+        record {
+          state = as_more r.state f.threads;
+          leads = f.leads;
+          failing = r.failing;
+          paths = λ n. same_path _ _ (f.alike n) ∙ r.paths n;
+        }

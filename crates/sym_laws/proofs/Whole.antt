@@ -1,0 +1,105 @@
+-- Moves that reproduce a log do all steps of its paths.
+use Rattle.std.proofs.Common.{◌≡◌, ◌∙◌, inl, inr, ℕ, suc, ℤ, List, [], ◌∷◌, ◌++◌, length, take, drop, Option, Some, None, true}
+use Rattle.std.proofs.Common.{refl, ap, sym, subst, arith, append-nil}
+use Rattle.std.specs.Prelude.{slice_get, unwrap_or, option_map, nat_lt}
+use Rattle.std.specs.List.{flat_map}
+use Rattle.std.specs.FinMap as fin
+use Rattle.std.proofs.lemmas.Bool.{and_parts}
+use Rattle.std.proofs.lemmas.List.{length-map, take_all}
+use Rattle.std.proofs.lemmas.Option.{none-some, same_Some, slice_get_cases, slice_get_within}
+use Rattle.tc_base.specs.Buffers.{BufferOps}
+use Rattle.tc_base.specs.Logs.{Log, Path, ThreadPath, path_under}
+use Rattle.tc_base.specs.States.{Thread, State}
+use Rattle.tc_base.specs.declared.moves.Move.{Move}
+use Rattle.tc_code.specs.Code.{Code}
+use Rattle.tc_code.specs.Lawful.{IsLawful}
+use Rattle.tc_code.specs.Run.{Reproduces, path_of}
+use Rattle.run_history.specs.History.{Deed, history}
+use Rattle.path_log.specs.Texts.{is_log, rises_from}
+use Rattle.path_walk.specs.Fits.{Fits, places_in}
+use Rattle.path_walk.specs.Paths.{walk_of, paths_of}
+use Rattle.path_walk.proofs.Names.{own_path}
+use Rattle.path_laws.specs.Prefixes.{AreOnPaths}
+use Rattle.path_laws.proofs.Logs.{reproduced_fits}
+use Rattle.path_laws.proofs.Prefixes.{beginnings_on, so_far}
+use Rattle.sym_terms.specs.Terms.{AreTerms}
+use Rattle.sym_terms.specs.declared.node.Node.{Node}
+use Rattle.sym_exec.specs.Thread.{Doing, after_all}
+use Rattle.sym_exec.specs.Executed.{Course, fails_at, thread_started, thread_done}
+use Rattle.sym_exec.specs.Alone.{outcome_by}
+use Rattle.sym_laws.specs.Valued.{IsOneOf, AgreesWith, IsMet, asked_of, found, found_before, execution}
+use Rattle.sym_laws.proofs.Lists.{each_is, split_at}
+use Rattle.sym_laws.proofs.Executed.{course_of, counted}
+use Rattle.sym_laws.proofs.Follows.{Follows, found_at_log, walks}
+use Rattle.sym_laws.proofs.Runs.{follow_after}
+
+-- the path under a thread's own name
+own_under : (log : Log) → is_log log ≡ true → (j : ℕ) (p : ThreadPath) → slice_get log.threads j ≡ Some p → path_under p.name log.threads ≡ Some p.path
+own_under log is j p at =
+    let split = split_at log.threads j p at in
+    let rises : rises_from None (take j log.threads ++ p ∷ drop (suc j) log.threads) ≡ true =
+    ap (rises_from None) (sym split) ∙ (and_parts (rises_from None log.threads) (nat_lt log.failing (length log.threads)) is).0 in
+    ap (path_under p.name) split ∙ own_path p (drop (suc j) log.threads) None (take j log.threads) rises
+
+module _ {B : Type 0} (ops : BufferOps B) (code : Code) (log : Log) (nodes : List Node) (loads : List ℤ) (lawful : IsLawful code) (is : is_log log ≡ true)
+    (terms : AreTerms nodes) (moves : List Move) (r : Reproduces ops code log moves)
+    (agrees : AgreesWith (found code log nodes).symbolic loads (history ops code moves)) where
+  abbrev s : State B
+  s = r.state
+
+  abbrev h : List Deed
+  h = history ops code moves
+
+  fits : Fits code log
+  fits = reproduced_fits code ops lawful log moves r
+
+  on : AreOnPaths log s
+  on = beginnings_on ops code log moves [] s (subst (Reproduces ops code log) (sym (append-nil moves)) r) r.leads
+
+  module _ (j : ℕ) (p : ThreadPath) (at : slice_get log.threads j ≡ Some p) where
+    abbrev whole : Doing
+    whole = thread_done code (paths_of code log) (found_before code log nodes j) (walk_of code log p)
+
+    -- all its steps are done
+    all_done : (t : Thread B) → fin.get s.threads p.name ≡ Some t → t.local.steps ≡ p.path.steps
+        → execution code log nodes j (walk_of code log p) t.local.steps ≡ whole
+    all_done t there steps =
+        let w = walk_of code log p in
+        let so = so_far ops code lawful log fits s (record { moves = moves; leads = r.leads }) on p.name t there in
+        let path : so.on.path ≡ p.path = same_Some so.on.path p.path (sym so.on.there ∙ own_under log is j p at) in
+        let long : length w.places ≡ t.local.steps =
+        ap (λ o. length (places_in code log p.name (unwrap_or o 0))) so.function ∙ so.count ∙ ap (λ (x : Path). x.steps) path ∙ sym steps in
+        ap (after_all code w.function w.outcomes (fails_at (paths_of code log) j w) (thread_started code (found_before code log nodes j) w))
+        (take_all t.local.steps w.places (omega (arith, long)))
+        ∙ ap (λ n. after_all code w.function w.outcomes (fails_at (paths_of code log) n w) (thread_started code (found_before code log nodes j) w) w.places)
+        (sym (found_at_log code log nodes lawful is terms j p at).count)
+
+    met_at : IsMet (found code log nodes).nodes loads h (course_of (walk_of code log p) whole)
+    met_at = by (fin.get s.threads p.name) refl
+      where
+        by : (o : Option (Thread B)) → fin.get s.threads p.name ≡ o → IsMet (found code log nodes).nodes loads h (course_of (walk_of code log p) whole)
+        by None none = absurd (none-some p.path (sym (ap (option_map path_of) none) ∙ r.paths p.name ∙ own_under log is j p at))
+        by (Some t) there =
+            let path : path_of t ≡ p.path = same_Some (path_of t) p.path (sym (ap (option_map path_of) there) ∙ r.paths p.name ∙ own_under log is j p at) in
+            let all = all_done t there (ap (λ (x : Path). x.steps) path) in
+            let f = follow_after ops code log nodes loads lawful is fits terms moves s r.leads on agrees j p t at there in
+            let later = (found code log nodes).nodes in
+            let g = subst (λ (d : Doing). Follows later loads d t.local (flat_map (asked_of p.name) h)) all f in
+            record { tests = λ x one. each_is (λ x. outcome_by later loads x ≡ x.wanted) x whole.tests g.tests one; accesses = g.accesses }
+
+  pub are_met : (c : Course) → IsOneOf c (found code log nodes).symbolic.threads → IsMet (found code log nodes).nodes loads h c
+  are_met c one =
+      elim (slice_get_cases log.threads one.0).1 [
+        | inl is_there ↦
+            let p = is_there.0 in
+            let at = is_there.2 in
+            let same = same_Some (course_of (walk_of code log p) (whole one.0 p at)) c
+            (sym (found_at_log code log nodes lawful is terms one.0 p at).course ∙ one.1) in
+            subst (IsMet (found code log nodes).nodes loads h) same (met_at one.0 p at)
+        | inr past ↦
+            let ws = walks code log nodes lawful is terms in
+            let within = slice_get_within (found code log nodes).symbolic.threads one.0 c one.1 in
+            let count = counted code lawful (paths_of code log) nodes terms ws in
+            let long = length-map log.threads (walk_of code log) in
+            absurd (omega (arith, past, within, count, long))
+      ]

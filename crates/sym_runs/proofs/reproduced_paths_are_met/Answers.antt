@@ -1,6 +1,0 @@
-use Rattle.sym_runs.proofs.Whole.{are_met}
-use Rattle.sym_runs.proofs.reproduced_paths_are_met.Goals as goal
-
-pub returns : goal.returns
-returns g c = λ ops code log nodes loads moves course lawful is terms r agrees one.
-    are_met ops code log nodes loads lawful is terms moves r agrees course one

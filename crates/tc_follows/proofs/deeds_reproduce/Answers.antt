@@ -1,5 +1,0 @@
-use Rattle.tc_follows.proofs.Reproduced.{deeds_reproduce}
-use Rattle.tc_follows.proofs.deeds_reproduce.Goals as goal
-
-pub returns : goal.returns
-returns g c = deeds_reproduce

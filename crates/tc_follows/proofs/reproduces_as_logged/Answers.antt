@@ -1,5 +1,0 @@
-use Rattle.tc_follows.proofs.Reproduced.{reproduces_as_logged}
-use Rattle.tc_follows.proofs.reproduces_as_logged.Goals as goal
-
-pub returns : goal.returns
-returns g c = reproduces_as_logged

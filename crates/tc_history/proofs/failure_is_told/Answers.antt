@@ -1,7 +1,0 @@
-use Rattle.std.proofs.Common.{refl}
-use Rattle.tc_history.proofs.Frame.{holds_after}
-use Rattle.tc_history.proofs.Shared.{FailureIs, keeps_failure}
-use Rattle.tc_history.proofs.failure_is_told.Goals as goal
-
-pub returns : goal.returns
-returns g c = λ ops code moves s leads. holds_after ops code (FailureIs ops code) (keeps_failure ops code) refl moves s leads

@@ -1,5 +1,0 @@
-use Rattle.tc_history.proofs.Grows.{histories_begin}
-use Rattle.tc_history.proofs.histories_begin.Goals as goal
-
-pub returns : goal.returns
-returns g c = histories_begin

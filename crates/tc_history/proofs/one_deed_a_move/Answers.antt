@@ -1,5 +1,0 @@
-use Rattle.tc_history.proofs.Grows.{one_deed_a_move}
-use Rattle.tc_history.proofs.one_deed_a_move.Goals as goal
-
-pub returns : goal.returns
-returns g c = one_deed_a_move
