@@ -27,6 +27,7 @@ use Rattle.std.specs.Prelude.{
   unsigned_abs,
   int_lt,
   int_le,
+  FitsSigned,
 }
 use Rattle.std.specs.Int.{w32, int_wrap, int_div_euclid, is_negative, bit_at, cast_unsigned, cast_signed}
 use Rattle.std.specs.Ordering.{int_eq}
@@ -34,6 +35,10 @@ use Rattle.tc_base.specs.declared.arith.UnOp.{UnOp}
 use Rattle.tc_base.specs.declared.arith.UnOp.TheVariants.{Neg, Not, Inv}
 use Rattle.tc_base.specs.declared.arith.BinOp.{BinOp}
 use Rattle.tc_base.specs.declared.arith.BinOp.TheVariants.{Add, Sub, Mul, And, Or, Xor, Eq, Ne, Lt, Le, Gt, Ge, Div, Rem, Shl, Shr}
+
+-- a whole number in the range of `int`
+abbrev pub IsInt : ℤ → Type 0
+IsInt z = FitsSigned w32 z
 
 -- a whole number, brought into the range of `int` modulo 2 ^ 32
 abbrev pub wrapped : ℤ → ℤ
