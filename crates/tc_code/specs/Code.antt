@@ -1,6 +1,6 @@
 -- Flat code.
 use Rattle.std.specs.Prelude.{ℕ, ℤ, List, Option, option_and_then, slice_get}
-use Rattle.tc_code.specs.Instr.{Instr}
+use Rattle.tc_code.specs.declared.instr.Instr.{Instr}
 use Rattle.tc_code.specs.declared.code.Func.{Func}
 
 pub record Code : Type 0 where

@@ -1,6 +1,6 @@
 -- Expressions over the int slots of a thread.
-use Rattle.std.specs.Prelude.{ℕ, ℤ, pos, List, slice_index_or, nat_lt, ◌==◌, Bool, true, false, ◌&&◌, ◌||◌}
-use Rattle.tc_base.specs.Arith.{unary, binary}
+use Rattle.std.specs.Prelude.{ℕ, ◌+◌, ℤ, pos, List, slice_index_or, nat_lt, ◌==◌, Bool, true, false, ◌&&◌, ◌||◌}
+use Rattle.tc_base.specs.Arith.{IsInt, unary, binary}
 use Rattle.tc_base.specs.declared.arith.UnOp.{UnOp}
 use Rattle.tc_base.specs.declared.arith.BinOp.{BinOp}
 
@@ -24,9 +24,23 @@ names_slots n (Slot k) = nat_lt k n
 names_slots n (Unary _ a) = names_slots n a
 names_slots n (Binary _ a b) = names_slots n a && names_slots n b
 
+-- each number in it is an int
+abbrev pub HasInts : Expr → Type 0
+HasInts (Number n) = IsInt n
+HasInts (Slot _) = Unit {0}
+HasInts (Unary _ a) = HasInts a
+HasInts (Binary _ a b) = HasInts a × HasInts b
+
 -- whether it names the slot
 abbrev pub names_slot : ℕ → Expr → Bool
 names_slot k (Number _) = false
 names_slot k (Slot j) = j == k
 names_slot k (Unary _ a) = names_slot k a
 names_slot k (Binary _ a b) = names_slot k a || names_slot k b
+
+-- how many nodes it has
+abbrev pub size : Expr → ℕ
+size (Number _) = 1
+size (Slot _) = 1
+size (Unary _ a) = size a + 1
+size (Binary _ a b) = size a + size b + 1

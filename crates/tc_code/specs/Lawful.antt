@@ -1,11 +1,14 @@
 -- Lawful code: what it keeps.
-use Rattle.std.specs.Prelude.{◌≡◌, ℕ, zero, suc, ◌+◌, ◌-◌, ◌<◌, ◌≤◌, List, length, nat_lt, nat_le, ◌==◌}
+use Rattle.std.specs.Prelude.{◌≡◌, ℕ, zero, suc, ◌+◌, ◌-◌, ◌<◌, ◌≤◌, List, [], ◌∷◌, length, nat_lt, nat_le, ◌==◌}
 use Rattle.std.specs.Prelude.{Bool, true, false, not, ◌&&◌, IsTrue, Option, Some, None, slice_get}
-use Rattle.std.specs.List.{list_all}
+use Rattle.std.specs.List.{All, list_all}
 use Rattle.std.specs.Option.{option_map_or}
-use Rattle.tc_code.specs.Expr.{Expr, names_slots, names_slot}
-use Rattle.tc_code.specs.Instr.{Instr, Set, Load, Load_at, Store, Store_at, Inside, Branch, Goto, Holds, Lock, Unlock, Sleep, Wake}
-use Rattle.tc_code.specs.Instr.{Signal, Broadcast, Create, Ready, Join, Assert, Nonzero, In_range, Swap, Cas, Fence, Stbar, Exit}
+use Rattle.tc_base.specs.Arith.{IsInt}
+use Rattle.tc_base.specs.declared.limits.TheConstants.{CELLS}
+use Rattle.tc_code.specs.Expr.{Expr, HasInts, names_slots, names_slot}
+use Rattle.tc_code.specs.declared.instr.Instr.{Instr}
+use Rattle.tc_code.specs.declared.instr.Instr.TheVariants.{Set, Load, LoadAt, Store, StoreAt, Inside, Branch, Goto, Holds, Lock, Unlock, Sleep, Wake}
+use Rattle.tc_code.specs.declared.instr.Instr.TheVariants.{Signal, Broadcast, Create, Ready, Join, Assert, Nonzero, InRange, Swap, Cas, Fence, Stbar, Exit}
 use Rattle.tc_code.specs.Code.{Code}
 use Rattle.tc_code.specs.declared.code.Func.{Func}
 
@@ -17,9 +20,9 @@ takes code f n = option_map_or (λ g. g.params == n) (slice_get code.functions f
 abbrev pub names_what_is : Code → Func → Instr → Bool
 names_what_is code f (Set k e) = nat_lt k f.ints && names_slots f.ints e
 names_what_is code f (Load k c) = nat_lt k f.ints && nat_lt c (length code.memory)
-names_what_is code f (Load_at k a len i) = nat_lt k f.ints && nat_le (a + len) (length code.memory) && names_slots f.ints i
+names_what_is code f (LoadAt k a len i) = nat_lt k f.ints && nat_le (a + len) (length code.memory) && names_slots f.ints i
 names_what_is code f (Store c e) = nat_lt c (length code.memory) && names_slots f.ints e
-names_what_is code f (Store_at a len i e) = nat_le (a + len) (length code.memory) && names_slots f.ints i && names_slots f.ints e
+names_what_is code f (StoreAt a len i e) = nat_le (a + len) (length code.memory) && names_slots f.ints i && names_slots f.ints e
 names_what_is code f (Inside len i) = nat_le len (length code.memory) && names_slots f.ints i
 names_what_is code f (Branch e to) = names_slots f.ints e
 names_what_is code f (Goto to) = true
@@ -30,17 +33,46 @@ names_what_is code f (Sleep c m) = nat_lt c code.conditions && nat_lt m code.mut
 names_what_is code f (Wake c m) = nat_lt c code.conditions && nat_lt m code.mutexes
 names_what_is code f (Signal c) = nat_lt c code.conditions
 names_what_is code f (Broadcast c) = nat_lt c code.conditions
-names_what_is code f (Create h g es) = nat_lt h f.tids && takes code g (length es) && list_all (names_slots f.ints) es
-names_what_is code f (Ready h) = nat_lt h f.tids
-names_what_is code f (Join h) = nat_lt h f.tids
+names_what_is code f (Create h g es) = nat_lt h f.handles && takes code g (length es) && list_all (names_slots f.ints) es
+names_what_is code f (Ready h) = nat_lt h f.handles
+names_what_is code f (Join h) = nat_lt h f.handles
 names_what_is code f (Assert e) = names_slots f.ints e
 names_what_is code f (Nonzero e) = names_slots f.ints e
-names_what_is code f (In_range e) = names_slots f.ints e
+names_what_is code f (InRange e) = names_slots f.ints e
 names_what_is code f (Swap k c e) = nat_lt k f.ints && nat_lt c (length code.memory) && names_slots f.ints e
 names_what_is code f (Cas k c e new) = nat_lt k f.ints && nat_lt c (length code.memory) && names_slots f.ints e && names_slots f.ints new
 names_what_is code f Fence = true
 names_what_is code f Stbar = true
 names_what_is code f Exit = true
+
+-- the expressions of an instruction
+abbrev pub exprs_of : Instr → List Expr
+exprs_of (Set k e) = e ∷ []
+exprs_of (Load k c) = []
+exprs_of (LoadAt k a len i) = i ∷ []
+exprs_of (Store c e) = e ∷ []
+exprs_of (StoreAt a len i e) = i ∷ e ∷ []
+exprs_of (Inside len i) = i ∷ []
+exprs_of (Branch e to) = e ∷ []
+exprs_of (Goto to) = []
+exprs_of (Holds m) = []
+exprs_of (Lock m) = []
+exprs_of (Unlock m) = []
+exprs_of (Sleep c m) = []
+exprs_of (Wake c m) = []
+exprs_of (Signal c) = []
+exprs_of (Broadcast c) = []
+exprs_of (Create h g es) = es
+exprs_of (Ready h) = []
+exprs_of (Join h) = []
+exprs_of (Assert e) = e ∷ []
+exprs_of (Nonzero e) = e ∷ []
+exprs_of (InRange e) = e ∷ []
+exprs_of (Swap k c e) = e ∷ []
+exprs_of (Cas k c e new) = e ∷ new ∷ []
+exprs_of Fence = []
+exprs_of Stbar = []
+exprs_of Exit = []
 
 -- whether an instruction goes only with the one directly before it
 abbrev pub is_bound : Instr → Bool
@@ -54,9 +86,9 @@ is_bound _ = false
 abbrev pub written : Instr → Option ℕ
 written (Set k e) = Some k
 written (Load k c) = Some k
-written (Load_at k a len i) = Some k
+written (LoadAt k a len i) = Some k
 written (Store c e) = None
-written (Store_at a len i e) = None
+written (StoreAt a len i e) = None
 written (Inside len i) = None
 written (Branch e to) = None
 written (Goto to) = None
@@ -72,7 +104,7 @@ written (Ready h) = None
 written (Join h) = None
 written (Assert e) = None
 written (Nonzero e) = None
-written (In_range e) = None
+written (InRange e) = None
 written (Swap k c e) = Some k
 written (Cas k c e new) = Some k
 written Fence = None
@@ -119,6 +151,8 @@ pub record IsLawfulFunction (code : Code) (f : Func) : Type 0 where
   pub params : f.params ≤ f.ints
   -- all that an instruction names is there
   pub names : (k : ℕ) (i : Instr) → slice_get f.instrs k ≡ Some i → IsTrue (names_what_is code f i)
+  -- each number of its expressions is an int
+  pub ints : (k : ℕ) (i : Instr) → slice_get f.instrs k ≡ Some i → All HasInts (exprs_of i)
   -- a jump leads to an instruction, and not in between two that go together
   pub jump : (k to : ℕ) (i : Instr) → slice_get f.instrs k ≡ Some i → target i ≡ Some to → IsTarget f.instrs to
   -- a mutex is left, and a wait begins, directly after the test that the thread holds the mutex
@@ -130,8 +164,8 @@ pub record IsLawfulFunction (code : Code) (f : Func) : Type 0 where
   -- a child is joined directly after the test that it can be
   pub join : (k h : ℕ) → slice_get f.instrs k ≡ Some (Join h) → StandsBefore f.instrs k (Ready h)
   -- the index of an access was tested
-  pub load : (k slot first len : ℕ) (index : Expr) → slice_get f.instrs k ≡ Some (Load_at slot first len index) → IsGuarded f.instrs len index k
-  pub store : (k first len : ℕ) (index value : Expr) → slice_get f.instrs k ≡ Some (Store_at first len index value) → IsGuarded f.instrs len index k
+  pub load : (k slot first len : ℕ) (index : Expr) → slice_get f.instrs k ≡ Some (LoadAt slot first len index) → IsGuarded f.instrs len index k
+  pub store : (k first len : ℕ) (index value : Expr) → slice_get f.instrs k ≡ Some (StoreAt first len index value) → IsGuarded f.instrs len index k
   -- the last instruction is an exit, and no other is
   pub last : slice_get f.instrs (length f.instrs - 1) ≡ Some Exit
   pub only : (k : ℕ) → slice_get f.instrs k ≡ Some Exit → k + 1 ≡ length f.instrs
@@ -143,7 +177,8 @@ pub record HasMain (code : Code) : Type 0 where
   pub params : main.params ≡ 0
 
 pub record IsLawful (code : Code) : Type 0 where
-  -- memory has at most 1024 cells
-  pub cells : length code.memory ≤ 1024
+  pub cells : length code.memory ≤ CELLS
+  -- each cell has an int at the start
+  pub ints : All IsInt code.memory
   pub functions : (f : ℕ) (g : Func) → slice_get code.functions f ≡ Some g → IsLawfulFunction code g
   pub main : HasMain code

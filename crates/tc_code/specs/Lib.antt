@@ -1,11 +1,8 @@
 pub mod Expr
-pub mod Instr
+pub mod Node
 pub mod Code
 pub mod Lawful
-pub mod SeenExpr
-pub mod Seen
 pub mod Step
 pub mod Run
 pub mod Listing
-pub mod Facts
 pub mod helpers

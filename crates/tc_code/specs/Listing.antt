@@ -7,8 +7,9 @@ use Rattle.tc_base.specs.declared.arith.UnOp.TheVariants as unary
 use Rattle.tc_base.specs.declared.arith.BinOp.{BinOp}
 use Rattle.tc_base.specs.declared.arith.BinOp.TheVariants as binary
 use Rattle.tc_code.specs.Expr.{Expr, Number, Slot, Unary, Binary}
-use Rattle.tc_code.specs.Instr.{Instr, Set, Load, Load_at, Store, Store_at, Inside, Branch, Goto, Holds, Lock, Unlock, Sleep, Wake}
-use Rattle.tc_code.specs.Instr.{Signal, Broadcast, Create, Ready, Join, Assert, Nonzero, In_range, Swap, Cas, Fence, Stbar, Exit}
+use Rattle.tc_code.specs.declared.instr.Instr.{Instr}
+use Rattle.tc_code.specs.declared.instr.Instr.TheVariants.{Set, Load, LoadAt, Store, StoreAt, Inside, Branch, Goto, Holds, Lock, Unlock, Sleep, Wake}
+use Rattle.tc_code.specs.declared.instr.Instr.TheVariants.{Signal, Broadcast, Create, Ready, Join, Assert, Nonzero, InRange, Swap, Cas, Fence, Stbar, Exit}
 use Rattle.tc_code.specs.Code.{Code}
 use Rattle.tc_code.specs.declared.code.Func.{Func}
 
@@ -59,9 +60,9 @@ expr_text (Binary op a b) = codes "(" ++ (spaced (expr_text a ∷ binary_text op
 abbrev pub instr_text : Instr → List ℕ
 instr_text (Set k e) = spaced (codes "set" ∷ slot_text k ∷ expr_text e ∷ [])
 instr_text (Load k c) = spaced (codes "load" ∷ slot_text k ∷ decimal c ∷ [])
-instr_text (Load_at k a len i) = spaced (codes "loadat" ∷ slot_text k ∷ decimal a ∷ decimal len ∷ expr_text i ∷ [])
+instr_text (LoadAt k a len i) = spaced (codes "loadat" ∷ slot_text k ∷ decimal a ∷ decimal len ∷ expr_text i ∷ [])
 instr_text (Store c e) = spaced (codes "store" ∷ decimal c ∷ expr_text e ∷ [])
-instr_text (Store_at a len i e) = spaced (codes "storeat" ∷ decimal a ∷ decimal len ∷ expr_text i ∷ expr_text e ∷ [])
+instr_text (StoreAt a len i e) = spaced (codes "storeat" ∷ decimal a ∷ decimal len ∷ expr_text i ∷ expr_text e ∷ [])
 instr_text (Inside len i) = spaced (codes "inside" ∷ decimal len ∷ expr_text i ∷ [])
 instr_text (Branch e to) = spaced (codes "branch" ∷ expr_text e ∷ decimal to ∷ [])
 instr_text (Goto to) = spaced (codes "goto" ∷ decimal to ∷ [])
@@ -77,7 +78,7 @@ instr_text (Ready h) = spaced (codes "ready" ∷ decimal h ∷ [])
 instr_text (Join h) = spaced (codes "join" ∷ decimal h ∷ [])
 instr_text (Assert e) = spaced (codes "assert" ∷ expr_text e ∷ [])
 instr_text (Nonzero e) = spaced (codes "nonzero" ∷ expr_text e ∷ [])
-instr_text (In_range e) = spaced (codes "inrange" ∷ expr_text e ∷ [])
+instr_text (InRange e) = spaced (codes "inrange" ∷ expr_text e ∷ [])
 instr_text (Swap k c e) = spaced (codes "swap" ∷ slot_text k ∷ decimal c ∷ expr_text e ∷ [])
 instr_text (Cas k c e new) = spaced (codes "cas" ∷ slot_text k ∷ decimal c ∷ expr_text e ∷ expr_text new ∷ [])
 instr_text Fence = codes "fence"
@@ -92,9 +93,9 @@ row_text n line i = as_line (decimal n ∷ decimal line ∷ instr_text i ∷ [])
 abbrev pub instrs_text : Func → List ℕ
 instrs_text f = flat_map (λ r. row_text r.0 r.1.0 r.1.1) (enumerate_from 0 (zip f.lines f.instrs))
 
--- a function's name, and how many parameters, int slots and thread variables it has
+-- a function's name, and how many parameters, int slots and handles it has
 abbrev pub head_text : Func → List ℕ
-head_text f = as_line (f.name ∷ decimal f.params ∷ decimal f.ints ∷ decimal f.tids ∷ [])
+head_text f = as_line (f.name ∷ decimal f.params ∷ decimal f.ints ∷ decimal f.handles ∷ [])
 
 abbrev pub function_text : Func → List ℕ
 function_text f = head_text f ++ instrs_text f

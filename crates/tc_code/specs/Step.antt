@@ -19,8 +19,9 @@ use Rattle.tc_base.specs.declared.request.Request.{Request}
 use Rattle.tc_base.specs.declared.request.Request.TheVariants.{Silent, Read, Write, Exchange, CompareExchange, Bar, Acquire, Release, BeginWait}
 use Rattle.tc_base.specs.declared.request.Request.TheVariants.{EndWait, WakeOne, WakeAll, Start, Await, OrderStores, Finish, Fail}
 use Rattle.tc_code.specs.Expr.{Expr, value_of}
-use Rattle.tc_code.specs.Instr.{Instr, Set, Load, Load_at, Store, Store_at, Inside, Branch, Goto, Holds, Lock, Unlock, Sleep, Wake}
-use Rattle.tc_code.specs.Instr.{Signal, Broadcast, Create, Ready, Join, Assert, Nonzero, In_range, Swap, Cas, Fence, Stbar, Exit}
+use Rattle.tc_code.specs.declared.instr.Instr.{Instr}
+use Rattle.tc_code.specs.declared.instr.Instr.TheVariants.{Set, Load, LoadAt, Store, StoreAt, Inside, Branch, Goto, Holds, Lock, Unlock, Sleep, Wake}
+use Rattle.tc_code.specs.declared.instr.Instr.TheVariants.{Signal, Broadcast, Create, Ready, Join, Assert, Nonzero, InRange, Swap, Cas, Fence, Stbar, Exit}
 use Rattle.tc_code.specs.Code.{Code, instr_at}
 
 -- a site asks for nothing where it is true
@@ -62,9 +63,9 @@ child_number _ = 0
 abbrev pub request : Local → Instr → Request
 request t (Set k e) = Silent
 request t (Load k c) = Read c
-request t (Load_at k first len i) = Read (cell_at first (value_in t i))
+request t (LoadAt k first len i) = Read (cell_at first (value_in t i))
 request t (Store c e) = Write c (value_in t e)
-request t (Store_at first len i e) = Write (cell_at first (value_in t i)) (value_in t e)
+request t (StoreAt first len i e) = Write (cell_at first (value_in t i)) (value_in t e)
 request t (Inside len i) = site (is_within len (value_in t i))
 request t (Branch e to) = Silent
 request t (Goto to) = Silent
@@ -80,7 +81,7 @@ request t (Ready h) = site (can_be_joined (handle_of t h))
 request t (Join h) = Await (child_number (handle_of t h))
 request t (Assert e) = site (is_nonzero (value_in t e))
 request t (Nonzero e) = site (is_nonzero (value_in t e))
-request t (In_range e) = site (is_distance (value_in t e))
+request t (InRange e) = site (is_distance (value_in t e))
 request t (Swap k c e) = Exchange c (value_in t e)
 request t (Cas k c e new) = CompareExchange c (value_in t e) (value_in t new)
 request t Fence = OrderStores
@@ -112,9 +113,9 @@ holding t m b = record (next t) { held = slice_set t.held m b }
 abbrev pub local_after : Local → Instr → ℤ → Local
 local_after t (Set k e) v = record (next t) { slots = slice_set t.slots k (value_in t e) }
 local_after t (Load k c) v = record (next t) { slots = slice_set t.slots k v }
-local_after t (Load_at k a len i) v = record (next t) { slots = slice_set t.slots k v }
+local_after t (LoadAt k a len i) v = record (next t) { slots = slice_set t.slots k v }
 local_after t (Store c e) v = next t
-local_after t (Store_at a len i e) v = next t
+local_after t (StoreAt a len i e) v = next t
 local_after t (Inside len i) v = next t
 local_after t (Branch e to) v = branched t (is_nonzero (value_in t e)) to
 local_after t (Goto to) v = jumped t to
@@ -130,7 +131,7 @@ local_after t (Ready h) v = next t
 local_after t (Join h) v = record (next t) { handles = slice_set t.handles h (Joined (child_number (handle_of t h))) }
 local_after t (Assert e) v = next t
 local_after t (Nonzero e) v = next t
-local_after t (In_range e) v = next t
+local_after t (InRange e) v = next t
 local_after t (Swap k c e) v = record (next t) { slots = slice_set t.slots k v }
 local_after t (Cas k c e new) v = record (next t) { slots = slice_set t.slots k v }
 local_after t Fence v = next t
@@ -232,12 +233,12 @@ is_let s n OrderStores = true
 is_let s n Finish = true
 is_let s n Fail = true
 
--- the number of int slots of a function, and of its thread variables
+-- the number of int slots of a function, and of its handles
 abbrev pub ints_of : Code → ℕ → ℕ
 ints_of code f = option_map_or (λ g. g.ints) (slice_get code.functions f) 0
 
-abbrev pub tids_of : Code → ℕ → ℕ
-tids_of code f = option_map_or (λ g. g.tids) (slice_get code.functions f) 0
+abbrev pub handles_of : Code → ℕ → ℕ
+handles_of code f = option_map_or (λ g. g.handles) (slice_get code.functions f) 0
 
 module _ {B : Type 0} (ops : BufferOps B) where
   -- whether the request may be met now
@@ -274,7 +275,7 @@ module _ {B : Type 0} (ops : BufferOps B) where
       function = f;
       instruction = 0;
       slots = arguments ++ replicate (ints_of code f - length arguments) (pos 0);
-      handles = replicate (tids_of code f) Unset;
+      handles = replicate (handles_of code f) Unset;
       held = replicate code.mutexes false;
       children = 0;
       has_exited = false;

@@ -1,4 +1,4 @@
 -- No promise speaks of what stands in this folder.
 pub mod CodedExpr
-pub mod CodedInstr
+pub mod Falls
 pub mod CodedCode

@@ -3,7 +3,6 @@ ghost use Rattle.std.specs.Prelude.{◌≡◌, option_map, ◌<◌, ◌+◌, ◌
 ghost use Rattle.tc_code.specs.Code.{code_of, instr_at, line_at};
 ghost use Rattle.tc_code.specs.Code as spec;
 ghost use Rattle.tc_code.specs.Lawful.{IsLawful};
-ghost use Rattle.tc_code.specs.Seen.{plain_instr};
 
 use crate::{FuncName, Instr, Instrs, Lines};
 use std::marker::Model;
@@ -17,8 +16,8 @@ pub struct Func {
     pub params: u32,
     /// How many int slots it has.
     pub ints: u32,
-    /// How many thread variables it has.
-    pub tids: u32,
+    /// How many handles it has.
+    pub handles: u32,
     /// The instructions, in order.
     pub instrs: Instrs,
     /// The line of each instruction: that of the first token of its statement, and of the closing brace for the exit.
@@ -27,7 +26,8 @@ pub struct Func {
 
 /// Lawful code, in which
 /// - each instruction has its line;
-/// - all that an instruction names is there, and memory has at most `CELLS` cells;
+/// - memory has at most `CELLS` cells, and ints in them, as each number of an expression is one;
+/// - all that an instruction names is there;
 /// - a child's function has as many parameters as it is given arguments, and parameters are slots;
 /// - a mutex is left, and a wait begins, directly after the test that the thread holds the mutex;
 /// - the second half of a wait stands directly after the first;
@@ -106,7 +106,7 @@ impl Code {
 
     /// The instruction at a place, if there is one.
     pub fn instr(&self, function: usize, instruction: usize) -> Option<&Instr>
-        ensures seen { option_map (λ i. plain_instr i.now) result ≡ instr_at self.now function instruction }
+        ensures seen { option_map (λ i. i.now) result ≡ instr_at self.now function instruction }
         ensures lawful { IsLawful self.now }
         ensures room { OnSome result (instruction + 1 < 2 ^ 64) }
     {

@@ -2,7 +2,7 @@
 ghost use Rattle.std.specs.Prelude.{◌≡◌};
 ghost use Rattle.tc_code.specs.Listing.{unary_text, binary_text};
 
-use crate::{Expr, Exprs, Instr};
+use crate::{Expr, Exprs, Instr, Node};
 use std::fmt;
 use tc_base::{BinOp, UnOp};
 
@@ -43,21 +43,20 @@ fn binary_text(op: BinOp) -> &'static str
 impl fmt::Display for Expr {
     ghost use Rattle.std.specs.Prelude.{Some};
     ghost use Rattle.tc_code.specs.Listing.{expr_text};
-    ghost use Rattle.tc_code.specs.SeenExpr.{plain_expr};
 
-    ghost output = { λ e. Some (expr_text (plain_expr e)) };
+    ghost output = { λ e. Some (expr_text e) };
 
     fn fmt<W: fmt::Write>(&self, f: &mut fmt::Formatter<W>) -> fmt::Result {
-        match self {
-            Expr::Number(n) => write!(f, "{n}"),
-            Expr::Slot(k) => write!(f, "${k}"),
-            Expr::Unary(op, operand) => {
+        match &self.node {
+            Node::Number(n) => write!(f, "{n}"),
+            Node::Slot(k) => write!(f, "${k}"),
+            Node::Unary(op, operand) => {
                 let op = unary_text(*op);
                 write!(f, "({op}")?;
                 (**operand).fmt(f)?;
                 write!(f, ")")
             }
-            Expr::Binary(op, left, right) => {
+            Node::Binary(op, left, right) => {
                 let op = binary_text(*op);
                 write!(f, "(")?;
                 (**left).fmt(f)?;
@@ -89,9 +88,8 @@ impl fmt::Display for Exprs {
 impl fmt::Display for Instr {
     ghost use Rattle.std.specs.Prelude.{Some};
     ghost use Rattle.tc_code.specs.Listing.{instr_text};
-    ghost use Rattle.tc_code.specs.Seen.{plain_instr};
 
-    ghost output = { λ i. Some (instr_text (plain_instr i)) };
+    ghost output = { λ i. Some (instr_text i) };
 
     fn fmt<W: fmt::Write>(&self, f: &mut fmt::Formatter<W>) -> fmt::Result {
         match self {

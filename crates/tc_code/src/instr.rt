@@ -1,6 +1,5 @@
 //! Instructions.
 ghost use Rattle.std.specs.Prelude.{◌≡◌, ◌+◌, ◌<◌, ◌^◌, OnSome, option_map, slice_get};
-ghost use Rattle.tc_code.specs.Seen.{plain_instr, plain_instrs};
 
 use crate::{Expr, Exprs};
 use std::marker::Model;
@@ -82,13 +81,13 @@ pub enum Instr {
     Broadcast {
         condition: u32,
     },
-    /// The thread variable takes a new child, which does the function with these parameters.
+    /// The handle takes a new child, which does the function with these parameters.
     Create {
         handle: u32,
         function: u32,
         arguments: Exprs,
     },
-    /// A site, which fails where the thread variable is no child, or one that was joined.
+    /// A site, which fails where the handle is no child, or one that was joined.
     Ready {
         handle: u32,
     },
@@ -132,36 +131,34 @@ pub struct Instrs {
 impl Model for Instrs {
     ghost use Rattle.std.specs.Prelude.{List};
     ghost use Rattle.std.specs.Coded.{coded_list};
-    ghost use Rattle.tc_code.specs.Instr as flat;
-    ghost use Rattle.tc_code.specs.Seen.{plain_instrs};
-    ghost use Rattle.tc_code.specs.helpers.CodedInstr.{coded_instr};
+    ghost use Rattle.tc_code.specs.contracts.instr.Instr as instr;
+    ghost use Rattle.tc_code.specs.declared.instr.Instr.{Instr};
 
-    ghost Value = { List flat.Instr };
+    ghost Value = { List Instr };
 
-    ghost coded = { coded_list coded_instr };
+    ghost coded = { coded_list instr.the_row.coded };
 
-    ghost view = { λ is. plain_instrs is.instrs.items };
+    ghost view = { λ is. is.instrs.items };
 }
 
 impl Instrs {
     /// These instructions.
     pub fn new(instrs: Vec<Instr>) -> Instrs
-        ensures { result ≡ plain_instrs instrs.items }
+        ensures { result ≡ instrs.items }
     {
         Instrs { instrs }
     }
 
     /// The instructions, one after another.
     pub fn as_slice(&self) -> &[Instr]
-        ensures { plain_instrs result.now ≡ self.now }
+        ensures { result.now ≡ self.now }
     {
         self.instrs.as_slice()
     }
 
     /// The instruction at a place, if there is one.
-    #[tactic(auto, using(crate::proofs::Lists::mapped))]
     pub fn get(&self, place: usize) -> Option<&Instr>
-        ensures seen { option_map (λ i. plain_instr i.now) result ≡ slice_get self.now place }
+        ensures seen { option_map (λ i. i.now) result ≡ slice_get self.now place }
         ensures room { OnSome result (place + 1 < 2 ^ 64) }
     {
         self.instrs.get(place)

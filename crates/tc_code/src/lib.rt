@@ -9,7 +9,7 @@ mod list;
 mod source;
 
 pub use code::{Code, Func};
-pub use expr::{Expr, Exprs, value};
+pub use expr::{Expr, Exprs, Node, value};
 pub use instr::{Instr, Instrs};
 pub use list::listing;
 pub use source::{FuncName, Lines};

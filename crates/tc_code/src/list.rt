@@ -1,13 +1,12 @@
 //! The listing of code.
 ghost use Rattle.std.specs.Prelude.{◌≡◌, ◌++◌, IfOk, OnOk, length};
-ghost use Rattle.tc_code.specs.Seen.{plain_instr};
 ghost use Rattle.tc_code.specs.Listing.{listing_of, head_text, instrs_text, row_text};
 
 use crate::{Code, Func, Instr};
 use std::alloc::{AllocError, Global};
 
-/// The listing of code: for each function a line with its name and how many parameters, int slots and thread
-/// variables it has, and then a line for each instruction, with its number in the function, its line in the text and
+/// The listing of code: for each function a line with its name and how many parameters, int slots and handles it
+/// has, and then a line for each instruction, with its number in the function, its line in the text and
 /// what it does. Cells, slots, mutexes, conditions, functions and places are given by number.
 pub fn listing(alloc: Global, code: &Code) -> Result<Vec<u8>, AllocError>
     ensures { IfOk result (λ bytes. bytes.items ≡ listing_of code.now) }
@@ -24,7 +23,7 @@ fn list_head(alloc: Global, out: &mut Vec<u8>, f: &Func) -> Result<(), AllocErro
     ensures { OnOk result (out.new.items ≡ out.old.items ++ head_text f.now) }
 {
     out.extend_from_slice(f.name.as_bytes())?;
-    let counts = format!(in alloc; " {} {} {}\n", f.params, f.ints, f.tids)?;
+    let counts = format!(in alloc; " {} {} {}\n", f.params, f.ints, f.handles)?;
     out.extend_from_slice(counts.as_bytes())
 }
 
@@ -46,7 +45,7 @@ fn list_row(
     line: u32,
     instr: &Instr,
 ) -> Result<(), AllocError>
-    ensures { OnOk result (out.new.items ≡ out.old.items ++ row_text number line (plain_instr instr.now)) }
+    ensures { OnOk result (out.new.items ≡ out.old.items ++ row_text number line instr.now) }
 {
     let row = format!(in alloc; "{number} {line} {instr}\n")?;
     out.extend_from_slice(row.as_bytes())

@@ -4,7 +4,6 @@ use Rattle.std.specs.Prelude.{codes}
 use Rattle.std.specs.List.{flat_map}
 use Rattle.std.specs.Fmt.{decimal}
 use Rattle.tc_code.specs.Listing.{expr_text, instr_text}
-use Rattle.tc_code.specs.Seen.{plain_instr}
 use Rattle.tc_code.proofs.Texts.{spaced_after}
 use Rattle.tc_code.proofs.display.InstrDisplay.fmt.Goals as goal
 
@@ -16,5 +15,5 @@ returns-in-Create-clause-writes g c p ok =
     has_written_of_eq _ _
     (codes "create " ++ (decimal h ++ (codes " " ++ (decimal f ++ flat_map (λ e. codes " " ++ expr_text e) es)))) _ _
     (ap (λ t. codes "create " ++ (decimal h ++ (codes " " ++ t))) (sym (spaced_after expr_text (decimal f) es))
-    ∙ ap (λ i. instr_text (plain_instr i)) (sym c.in-Create.is))
+    ∙ ap instr_text (sym c.in-Create.is))
     (search rules)
