@@ -1,3 +1,4 @@
+pub mod Rising
 pub mod Loops
 pub mod Bits
 pub mod Packing

@@ -51,12 +51,9 @@ use Rattle.path_log.specs.Faults.{BreaksAt}
 use Rattle.path_log.specs.declared.fault.LogFault.{LogFault}
 use Rattle.path_log.specs.declared.fault.LogFault.TheVariants.{Form, Memory}
 use Rattle.path_log.specs.helpers.Reading.{Fails}
-use Rattle.path_log.proofs.Loops.{Read, read_is, such_passes, within}
+use Rattle.path_log.proofs.Loops.{Read, whole_read, read_is, such_passes, within}
 use Rattle.path_log.proofs.Texts.{Takes, Takes-then, Takes-nothing, Gives, behind_ok, field_takes, field_again, byte_takes, byte_again, two_takes, two_again}
 use Rattle.path_log.proofs.Texts.{such_again, within_again, threads_rise, threads_take, threads_again}
-
-abbrev given : {X : Type 0} → X × Place → Read X
-given x = Ok x
 
 -- The head.
 
@@ -98,7 +95,7 @@ model_again : (m : Model) (rest : List ℕ) (offset : ℕ) → model (offset, mo
 model_again m rest offset =
     ap (λ (r : Read ℕ). behind r (λ code. done (model_of code)))
     (such_again byte (is_within 0 2) (offset, model_code m ∷ rest) (model_code m) (offset + 1, rest) (byte_again (model_code m) rest offset) (small m))
-    ∙ ap (λ (n : Model). given (n, (offset + 1, rest))) (back m)
+    ∙ ap (λ (n : Model). whole_read (n, (offset + 1, rest))) (back m)
   where
     small : (m : Model) → is_within 0 2 (model_code m) ≡ true
     small Sc = refl
@@ -117,12 +114,16 @@ all_bytes : (bytes : List ℕ) → AreBytes bytes → list_all (λ byte. ltb byt
 all_bytes [] h = refl
 all_bytes (b ∷ bytes) h = and_from (ltb b 256) (list_all (λ byte. ltb byte 256) bytes) (lt-ltb b 256 (h 0)) (all_bytes bytes (λ i. h (suc i)))
 
+-- 32 bytes are a digest
+pub digest_is : (digest : List ℕ) → length digest ≡ 32 → AreBytes digest → is_digest digest ≡ true
+digest_is digest long h = and_from (eqb (length digest) 32) (list_all (λ byte. ltb byte 256) digest) (eq-eqb (length digest) 32 long) (all_bytes digest h)
+
 digest_takes : (format : ℕ) (place : Place) (x : Option (List ℕ) × Place) → 1 ≤ format → format ≤ 2 → AreBytes place.1 → digest_in format place ≡ Ok x
     → Takes place.1 (digest_text x.0) x.1.1 × (format ≡ format_of x.0) × IsDigest x.0
 digest_takes format place x low high h e = elim (cases_lt format 2) [
   | inl less ↦
       let is : format ≡ 1 = omega arith in
-      let none : given (None, place) ≡ given x = sym (ap (λ (f : ℕ). digest_in f place) is) ∙ e in
+      let none : whole_read (None, place) ≡ whole_read x = sym (ap (λ (f : ℕ). digest_in f place) is) ∙ e in
       subst (λ (y : Option (List ℕ) × Place). Takes place.1 (digest_text y.0) y.1.1 × (format ≡ format_of y.0) × IsDigest y.0) (read_is (None, place) x none)
       (Takes-nothing place.1 h, is, tt)
   | inr most ↦
@@ -132,7 +133,7 @@ digest_takes format place x low high h e = elim (cases_lt format 2) [
       let t = field_takes 32 place a.0 h a.1 in
       subst (λ (y : Option (List ℕ) × Place). Takes place.1 (digest_text y.0) y.1.1 × (format ≡ format_of y.0) × IsDigest y.0)
       (read_is (Some a.0.0, a.0.1) x a.2)
-      (t.0, is, and_from (eqb (length a.0.0) 32) (list_all (λ byte. ltb byte 256) a.0.0) (eq-eqb (length a.0.0) 32 t.1) (all_bytes a.0.0 t.2))
+      (t.0, is, digest_is a.0.0 t.1 t.2)
 ]
 
 digest_again : (digest : Option (List ℕ)) (rest : List ℕ) (offset : ℕ) → IsDigest digest

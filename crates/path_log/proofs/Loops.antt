@@ -47,7 +47,7 @@ use Rattle.path_log.specs.helpers.Reading.{Fails, last_name}
 abbrev pub Read : Type 0 → Type 0
 Read X = Result (X × Place) ℕ
 
-abbrev whole_read : {X : Type 0} → X × Place → Read X
+abbrev pub whole_read : {X : Type 0} → X × Place → Read X
 whole_read x = Ok x
 
 pub read_is : {X : Type 0} (x y : X × Place) → whole_read x ≡ whole_read y → x ≡ y

@@ -39,7 +39,7 @@ use Rattle.std.proofs.Common.{
 }
 use Rattle.std.specs.List.{list_all}
 use Rattle.std.proofs.Math.Nat.{pow-suc, zero-mod, add-mod_left, mod-eq_of_lt, mod-eq-sub-mod}
-use Rattle.std.proofs.lemmas.Bool.{and_parts, cases_Bool, cases_lt, lt-leb, le-leb, leb-true, leb-false}
+use Rattle.std.proofs.lemmas.Bool.{and_parts, cases_Bool, cases_lt, lt-leb, le-leb, leb-true, leb-false, not-true}
 use Rattle.std.proofs.lemmas.List.{length-append, length-take, length-drop, drop_at, take_all, drop_all, drop_more}
 use Rattle.std.proofs.lemmas.List.Concat.{flat_map-cons}
 use Rattle.path_log.specs.Texts.{AreBytes, bits_value, packed, bytes_for}
@@ -181,10 +181,6 @@ length-all_bits [] = refl
 length-all_bits (b ∷ bytes) =
     ap length (flat_map-cons (bits_of 8) b bytes) ∙ (length-append (bits_of 8 b) (all_bits bytes)
     ∙ (let front = length-bits 8 b in let rest = length-all_bits bytes in omega arith))
-
-not-true : (b : Bool) → not b ≡ true → b ≡ false
-not-true true h = absurd cc
-not-true false h = refl
 
 padded_take : (k n : ℕ) (bs : List Bool) → length bs ≡ k → list_all not (drop n bs) ≡ true → padded k (take n bs) ≡ bs
 padded_take zero n [] e h = refl

@@ -51,7 +51,7 @@ use Rattle.path_log.specs.Texts.{AreBytes, is_above, rises_from, is_within, is_t
 use Rattle.path_log.specs.Texts.{thread_text}
 use Rattle.path_log.specs.Fields.{Place, Fields, done, behind, kept, ◌such◌, ◌>>=◌, field, byte, two, times, name, all_bits, is_padded, packed_outcomes}
 use Rattle.path_log.specs.Fields.{lengths, alternating, runs_of, run_outcomes, outcomes, thread, threads}
-use Rattle.path_log.proofs.Loops.{Read, read_is, such_passes, within, lengths_more, nothing_left}
+use Rattle.path_log.proofs.Loops.{Read, whole_read, read_is, such_passes, within, lengths_more, nothing_left}
 use Rattle.path_log.proofs.Packing.{packed_again, length-taken, length-packed, taken_packed, packed_pads}
 use Rattle.path_log.proofs.Runs.{are_runs, total, runs_of_alternating, alternating_of_runs, runs_are_runs, total-runs, length-alternating}
 
@@ -80,9 +80,6 @@ pub record Gives {X : Type 0} (read : Read X) (x : X) (rest : List ℕ) : Type 0
 short_ok : {X : Type 0} (b : Bool) (offset : ℕ) (y x : X × Place) → cond b (Err offset) (Ok y) ≡ Ok x → (b ≡ false) × (y ≡ x)
 short_ok true offset y x e = absurd cc
 short_ok false offset y x e = (refl, cc)
-
-abbrev given : {X : Type 0} → X × Place → Read X
-given x = Ok x
 
 drop_are : (n : ℕ) (bytes : List ℕ) → AreBytes bytes → AreBytes (drop n bytes)
 drop_are n bytes h i = rw get_or-drop (h (n + i))
@@ -139,12 +136,12 @@ pub two_again : (n : ℕ) (rest : List ℕ) (offset : ℕ) → n < 2 ^ 16 → tw
 two_again n rest offset lt =
     let number : big_number 2 (big_bytes 2 n) ≡ n = omega arith in
     ap (λ (r : Read (List ℕ)). behind r (λ bytes. done (big_number 2 bytes))) (field_again (big_bytes 2 n) rest 2 offset refl)
-    ∙ ap (λ (m : ℕ). given (m, (offset + 2, rest))) number
+    ∙ ap (λ (m : ℕ). whole_read (m, (offset + 2, rest))) number
 
 pub such_again : {X : Type 0} (fields : Fields X) (rule : X → Bool) (place : Place) (x : X) (after : Place) → fields place ≡ Ok (x, after) → rule x ≡ true
     → (fields such rule) place ≡ Ok (x, after)
 such_again {X} fields rule place x after e h =
-    ap (λ (r : Read X). kept rule place.0 r) e ∙ ap (λ (b : Bool). cond b (given (x, after)) (Err place.0)) h
+    ap (λ (r : Read X). kept rule place.0 r) e ∙ ap (λ (b : Bool). cond b (whole_read (x, after)) (Err place.0)) h
 
 pub within_again : (low high n : ℕ) → low ≤ n → n ≤ high → is_within low high n ≡ true
 within_again low high n l h = and_from (leb low n) (leb n high) (le-leb low n l) (le-leb n high h)
@@ -228,7 +225,7 @@ packed_outcomes_again bs rest offset =
     record {
       end = offset + bytes_for n;
       read_is = ap (λ (r : Read (List ℕ)). behind r (λ bytes. done (take n (all_bits bytes)))) one
-          ∙ ap (λ (xs : List Bool). given (xs, (offset + bytes_for n, rest))) (taken_packed bs);
+          ∙ ap (λ (xs : List Bool). whole_read (xs, (offset + bytes_for n, rest))) (taken_packed bs);
     }
 
 -- Outcomes as runs.
@@ -236,7 +233,7 @@ packed_outcomes_again bs rest offset =
 none_left : (most left : ℕ) (place : Place) (x : List ℕ × Place) → AreBytes place.1 → left ≡ 0 → lengths most left place ≡ Ok x
     → Takes place.1 (flat_map (big_bytes 2) x.0) x.1.1 × (are_runs x.0 ≡ true) × (total x.0 ≡ left)
 none_left most left place x h none e =
-    let nothing : given ([], place) ≡ given x = sym (ap (λ (l : ℕ). lengths most l place) none ∙ nothing_left most place) ∙ e in
+    let nothing : whole_read ([], place) ≡ whole_read x = sym (ap (λ (l : ℕ). lengths most l place) none ∙ nothing_left most place) ∙ e in
     subst (λ (y : List ℕ × Place). Takes place.1 (flat_map (big_bytes 2) y.0) y.1.1 × (are_runs y.0 ≡ true)
     × (total y.0 ≡ left)) (read_is ([], place) x nothing)
     (Takes-nothing place.1 h, refl, sym none)
@@ -338,7 +335,7 @@ runs_take n place x h e = elim (cases_lt 0 n) [
       (subst (λ (f : List ℕ). Takes place.1 f b.0.1.1) (sym text) both, length-alternating outcome ns ∙ sums)
   | inr none ↦
       let zero_is : n ≡ 0 = omega arith in
-      let nothing : given ([], place) ≡ given x = sym (ap (λ (m : ℕ). run_outcomes m place) zero_is ∙ no_runs place) ∙ e in
+      let nothing : whole_read ([], place) ≡ whole_read x = sym (ap (λ (m : ℕ). run_outcomes m place) zero_is ∙ no_runs place) ∙ e in
       subst (λ (y : List Bool × Place). Takes place.1 (runs_text y.0) y.1.1 × (length y.0 ≡ n)) (read_is ([], place) x nothing)
       (Takes-nothing place.1 h, sym zero_is)
 ]
@@ -368,7 +365,7 @@ runs_again (b ∷ bs) rest offset small =
       read_is = runs_more n (offset, first_byte b ∷ others) (omega arith)
           ∙ (ap (λ (r : Read ℕ). behind r (λ first. runs_of (eqb first 1) n)) one
           ∙ (ap (λ (r : Read (List ℕ)). behind r (λ found. done (alternating (eqb (first_byte b) 1) found))) found.read_is
-          ∙ ap (λ (xs : List Bool). given (xs, (found.end, rest))) value));
+          ∙ ap (λ (xs : List Bool). whole_read (xs, (found.end, rest))) value));
     }
 
 outcomes_take : (as_runs : Bool) (n : ℕ) (place : Place) (x : List Bool × Place) → AreBytes place.1 → outcomes as_runs n place ≡ Ok x

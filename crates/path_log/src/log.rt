@@ -2,7 +2,7 @@
 ghost use Rattle.std.specs.Prelude.{◌≡◌, ◌^◌, ◌&&◌, nat_le, nat_lt, length, IsTrue, Some, option_map};
 ghost use Rattle.std.specs.List.{list_all};
 ghost use Rattle.tc_base.specs.Logs.{Log as PlainLog, failing_of};
-ghost use Rattle.path_log.specs.Texts.{is_log, is_of_format, is_thread, is_within};
+ghost use Rattle.path_log.specs.Texts.{is_digest, is_log, is_of_format, is_thread, is_within};
 
 use std::marker::Model;
 use tc_base::ThreadName;
@@ -132,6 +132,15 @@ impl Log {
             failing,
             threads,
         }
+    }
+
+    /// The same log, of the program that has this digest.
+    pub fn with_digest(self, digest: &[u8; 32]) -> Log
+        ensures log { result ≡ record { digest = Some digest.now; log = self.log } }
+        ensures is_log { IsTrue (is_log self.log) }
+        ensures is_digest { IsTrue (is_digest digest.now) }
+    {
+        Log::new(Some(*digest), self.model, self.failing, self.threads)
     }
 
     /// The digest of the program, where the log has it.
