@@ -1,13 +1,13 @@
 -- Why files couldn't be had.
 use Rattle.std.specs.Prelude.{◌≡◌, ◌+◌, List}
-use Rattle.tc_io.specs.Outside.{Reading, ShelfTells, FailedOnce, WasTooLong}
+use Rattle.tc_io.specs.Outside.{ShelfTells, FailedToGive, WasTooLong}
 use Rattle.clap_debug_cli.specs.Inputs.{Wanted, limit_of, FailsToRead, PassesLimit}
 use Rattle.clap_debug_cli.specs.declared.input.Missing.{Missing}
 use Rattle.clap_debug_cli.specs.declared.input.Missing.TheVariants.{Read, TooLong, Memory}
 
 -- why this input couldn't be had
 abbrev pub IsWhyMissing : Wanted → ShelfTells → ShelfTells → Missing → Type 0
-IsWhyMissing w old new (Read n) = (n.now ≡ w.name) × FailedOnce old new (Reading n.now) (limit_of w.input + 1)
+IsWhyMissing w old new (Read n) = (n.now ≡ w.name) × FailedToGive old new n.now (limit_of w.input)
 IsWhyMissing w old new (TooLong i) = (i ≡ w.input) × WasTooLong old new w.name (limit_of w.input)
 IsWhyMissing w old new Memory = Unit {0}
 

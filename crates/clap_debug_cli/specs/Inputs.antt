@@ -1,6 +1,6 @@
 -- The files that a command reads, and what becomes of their fetches.
 use Rattle.std.specs.Prelude.{◌≡◌, ◌⊎◌, ℕ, ◌+◌, ◌<◌, ◌≤◌, List, [], ◌∷◌, length, map, codes}
-use Rattle.tc_io.specs.Outside.{Files, Reading, ShelfTells, Gave, FailedOnce, WasTooLong, bytes_at}
+use Rattle.tc_io.specs.Outside.{Files, ShelfTells, Gave, FailedToGive, WasTooLong, bytes_at}
 use Rattle.clap_debug_words.specs.Calls.{Called, Lists, Replays, Records, Migrates}
 use Rattle.clap_debug_cli.specs.declared.input.Input.{Input}
 use Rattle.clap_debug_cli.specs.declared.input.Input.TheVariants.{Program, Log, Schedule}
@@ -56,7 +56,7 @@ GoesOn w old P = (s : ShelfTells) × (bytes : List ℕ) × GaveInput w old s byt
 abbrev pub FailsToRead : List Wanted → ShelfTells → ShelfTells → List ℕ → Type 0
 FailsToRead [] old new name = ⊥
 FailsToRead (w ∷ ws) old new name =
-    ((name ≡ w.name) × FailedOnce old new (Reading name) (limit_of w.input + 1)) ⊎ GoesOn w old (λ s. FailsToRead ws s new name)
+    ((name ≡ w.name) × FailedToGive old new name (limit_of w.input)) ⊎ GoesOn w old (λ s. FailsToRead ws s new name)
 
 -- this input was longer than its limit, and the shelf gave those before it
 abbrev pub PassesLimit : List Wanted → ShelfTells → ShelfTells → Input → Type 0

@@ -1,5 +1,5 @@
 pub mod Outside
-pub mod Past
-pub mod Given
+pub mod Faults
+pub mod Files
 pub mod Plan
 pub mod Mem

@@ -1,19 +1,25 @@
 -- Shelves and sinks in memory.
-use Rattle.std.specs.Prelude.{ℕ, List, [], Some, None}
+use Rattle.std.specs.Prelude.{ℕ, ◌+◌, List, [], length, min, unwrap_or, Some, None}
 use Rattle.std.specs.FinMap.{empty}
-use Rattle.tc_io.specs.Outside.{Files, ShelfTells, SinkTells}
-use Rattle.tc_io.specs.Past.{PlainPast, no_past, shelf_tells}
-use Rattle.tc_io.specs.Plan.{PlainPlan, no_plan}
+use Rattle.tc_io.specs.Outside.{Files, ShelfTells, SinkTells, bytes_at, counted_on}
+use Rattle.tc_io.specs.Faults.{PlainFaults, no_faults}
+use Rattle.tc_io.specs.Plan.{PlainPlan, no_plan, told_at}
 
--- a shelf: what it holds, which calls are to fail, and what it remembers
+-- a shelf: what it holds, which calls are to fail, how many bytes were taken, and its faults
 pub record PlainShelf : Type 0 where
   pub held : Files
   pub plan : PlainPlan
-  pub past : PlainPast
+  pub taken : ℕ
+  pub faults : PlainFaults
 
 -- a shelf that holds nothing, before the first call
 abbrev pub empty_shelf : PlainShelf
-empty_shelf = record { held = empty; plan = no_plan; past = no_past }
+empty_shelf = record { held = empty; plan = no_plan; taken = 0; faults = no_faults }
+
+-- the count after a fetch that was counted: the bytes under the name, as many as the call may take
+abbrev pub taken_after : PlainShelf → PlainPlan → List ℕ → (limit : ℕ) → ℕ
+taken_after old plan name limit =
+    let there = length (bytes_at old.held name) in counted_on old.taken (min (unwrap_or (told_at plan) there) (min there (limit + 1)))
 
 -- a sink: what was written, which puts are to fail, and how often it failed
 pub record PlainSink : Type 0 where
@@ -36,7 +42,7 @@ empty_sure_shelf = record { held = empty; taken = 0 }
 
 -- what such a shelf tells
 abbrev pub mem_tells : PlainShelf → ShelfTells
-mem_tells shelf = shelf_tells (Some shelf.held) shelf.past
+mem_tells shelf = record { held = Some shelf.held; faults = shelf.faults.count; taken = shelf.taken; last_fault = shelf.faults.last }
 
 -- what such a sink tells
 abbrev pub sink_tells : PlainSink → SinkTells

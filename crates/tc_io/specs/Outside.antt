@@ -32,14 +32,18 @@ pub record ShelfTells : Type 0 where
 abbrev pub Took : ShelfTells → ShelfTells → ℕ → Type 0
 Took old new count = new ≡ record old { taken = counted_on old.taken count }
 
--- at most so many bytes were taken, and all else is as before
-abbrev pub TookAtMost : ShelfTells → ShelfTells → ℕ → Type 0
-TookAtMost old new most = (count : ℕ) × (count ≤ most) × Took old new count
+-- a fetch within a limit may take so many: at most one byte past it, and where it's told, no more than there are under the name
+abbrev pub MayTake : Option Files → List ℕ → (limit count : ℕ) → Type 0
+MayTake held name limit count = (count ≤ limit + 1) × IfSome held (λ files. count ≤ length (bytes_at files name))
 
--- the call failed: one fault was counted, at most so many bytes were taken, and all else is as before
-abbrev pub FailedOnce : ShelfTells → ShelfTells → Fault → ℕ → Type 0
-FailedOnce old new fault most =
-    (count : ℕ) × (count ≤ most) × (new ≡ record old { faults = counted_on old.faults 1; taken = counted_on old.taken count; last_fault = Some fault })
+-- some bytes were taken, and all else is as before
+abbrev pub TookPart : ShelfTells → ShelfTells → List ℕ → ℕ → Type 0
+TookPart old new name limit = (count : ℕ) × MayTake old.held name limit count × Took old new count
+
+-- the call failed: one fault was counted, some bytes were taken, and all else is as before
+abbrev pub FailedToGive : ShelfTells → ShelfTells → List ℕ → ℕ → Type 0
+FailedToGive old new name limit = (count : ℕ) × MayTake old.held name limit count
+    × (new ≡ record old { faults = counted_on old.faults 1; taken = counted_on old.taken count; last_fault = Some (Reading name) })
 
 -- these bytes were taken, at most the limit; where it's told, they are those under the name
 abbrev pub Gave : ShelfTells → ShelfTells → List ℕ → ℕ → List ℕ → Type 0

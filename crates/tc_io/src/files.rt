@@ -4,13 +4,12 @@
 //! What a reader gives is promised by [`read_up_to`]; `FileShelf` opens the file of a name and reads it so. What a
 //! writer has is promised by [`write_whole`], where the writer tells that; `FileShelf` creates or truncates the file of a
 //! name and writes it so, and `StdSink` writes so to the writer it has. They count each failure, and stop on every input.
-ghost use Rattle.std.specs.Prelude.{◌≡◌, ◌≢◌, ◌+◌, ◌≤◌, ◌<◌, length, take, IfOk, IfSome, OnOk, IsErrOf, Err, None, ℕ};
+ghost use Rattle.std.specs.Prelude.{◌≡◌, ◌≢◌, ◌+◌, ◌≤◌, ◌<◌, ◌⊎◌, length, take, IfOk, IfSome, OnOk, IsErrOf, Err, None, ℕ};
 ghost use Rattle.std.specs.Io.KnownBytes.{Appends, Consumes, IsAtEnd};
-ghost use Rattle.tc_io.specs.Given.{GaveAtMost};
-ghost use Rattle.tc_io.specs.Outside.{Reading, Gave, FailedOnce, WasTooLong, TookAtMost, Kept, KeptPart, Wrote, WrotePart, counted_on};
-ghost use Rattle.tc_io.specs.Past.{no_past, shelf_tells};
+ghost use Rattle.tc_io.specs.Files.{GaveAtMost, file_tells, new_file_shelf};
+ghost use Rattle.tc_io.specs.Outside.{Gave, FailedToGive, WasTooLong, TookPart, Kept, KeptPart, counted_on};
 
-use crate::past::{Call, Past};
+use crate::faults::{Call, Faults};
 use crate::{FetchFault, KeepFault, PutFault, Shelf, Sink};
 use std::alloc::Global;
 use std::fs::{File, Files};
@@ -21,55 +20,64 @@ use std::marker::Model;
 #[derive(Drop)]
 pub struct FileShelf<R: Files + Drop> {
     files: R,
-    past: Past,
+    taken: u64,
+    faults: Faults,
 }
 
 impl<R: Files + Drop> Model for FileShelf<R> {
-    ghost use Rattle.tc_io.specs.Past.{PlainPast};
+    ghost use Rattle.tc_io.specs.Files.{PlainFileShelf};
 
-    ghost Value = { PlainPast };
+    ghost Value = { PlainFileShelf };
 
-    ghost view = { λ s. s.past };
+    ghost view = { λ s. record { taken = s.taken; faults = s.faults } };
 }
 
 impl<R: Files + Drop> FileShelf<R> {
     /// A shelf over these files, from which nothing was fetched.
     pub fn new(files: R) -> Self
-        ensures { result ≡ no_past }
+        ensures { result ≡ new_file_shelf }
     {
         FileShelf {
             files,
-            past: Past::new(),
+            taken: 0,
+            faults: Faults::new(),
         }
+    }
+
+    /// How many bytes were taken from it so far.
+    pub fn taken(&self) -> u64
+        ensures { result ≡ self.now.taken }
+    {
+        self.taken
     }
 }
 
 impl<R: Files + Drop> Shelf for FileShelf<R> {
-    ghost use Rattle.std.specs.Prelude.{None};
-    ghost use Rattle.tc_io.specs.Past.{shelf_tells};
+    ghost use Rattle.tc_io.specs.Files.{file_tells};
 
-    ghost tells = { shelf_tells None };
+    ghost tells = { file_tells };
 
     fn fetch(&mut self, alloc: Global, name: &str, limit: u64) -> Result<Vec<u8>, FetchFault>
-        ensures ok { IfOk result (λ bytes. Gave (shelf_tells None self.old) (shelf_tells None self.new) name.now limit bytes.items) }
-        ensures failed { IsErrOf result FetchFault.Failed → FailedOnce (shelf_tells None self.old) (shelf_tells None self.new) (Reading name.now) (limit + 1) }
-        ensures too_long { IsErrOf result FetchFault.TooLong → WasTooLong (shelf_tells None self.old) (shelf_tells None self.new) name.now limit }
-        ensures memory { IsErrOf result FetchFault.Memory → TookAtMost (shelf_tells None self.old) (shelf_tells None self.new) (limit + 1) }
+        ensures ok { IfOk result (λ bytes. Gave (file_tells self.old) (file_tells self.new) name.now limit bytes.items) }
+        ensures failed { IsErrOf result FetchFault.Failed → FailedToGive (file_tells self.old) (file_tells self.new) name.now limit }
+        ensures too_long { IsErrOf result FetchFault.TooLong → WasTooLong (file_tells self.old) (file_tells self.new) name.now limit }
+        ensures memory { IsErrOf result FetchFault.Memory → TookPart (file_tells self.old) (file_tells self.new) name.now limit }
 
         // A file was opened, and the bytes are all that it had left, where files tell that.
         ensures opened { IfOk result (λ bytes. (file : R.File) × IfSome (R.File.remaining file) (λ all. bytes.items ≡ all)) }
+        // Where the count rose at all, a file gave what was counted, on every answer.
+        ensures counted { (self.new.taken ≡ self.old.taken) ⊎ ((file : R.File) × (after : R.File)
+            × GaveAtMost (limit + 1) (R.File.remaining file) (R.File.remaining after) self.old.taken self.new.taken) }
     {
         let Ok(copy) = String::from_str(alloc, name) else {
             return Err(FetchFault::Memory);
         };
-        let mut taken = 0;
         let answer = match File::open(&self.files, name) {
-            Ok(mut file) => read_up_to(alloc, &mut file, limit, &mut taken),
+            Ok(mut file) => read_up_to(alloc, &mut file, limit, &mut self.taken),
             Err(_) => Err(FetchFault::Failed),
         };
-        self.past.take(taken);
         if let Err(FetchFault::Failed) = answer {
-            self.past.fail(Call::Fetch, copy);
+            self.faults.add(Call::Fetch, copy);
         }
         answer
     }
@@ -78,9 +86,9 @@ impl<R: Files + Drop> Shelf for FileShelf<R> {
     /// promise for the file that is opened. This call adds the opening, which creates or truncates the file: that the
     /// system does so, and keeps what it took, no clause says, and tests alone show it.
     fn keep(&mut self, alloc: Global, name: &str, bytes: &[u8]) -> Result<(), KeepFault>
-        ensures ok { OnOk result (Kept (shelf_tells None self.old) (shelf_tells None self.new) name.now bytes.now) }
-        ensures failed { IsErrOf result KeepFault.Failed → KeptPart (shelf_tells None self.old) (shelf_tells None self.new) name.now bytes.now }
-        ensures memory { IsErrOf result KeepFault.Memory → shelf_tells None self.new ≡ shelf_tells None self.old }
+        ensures ok { OnOk result (Kept (file_tells self.old) (file_tells self.new) name.now bytes.now) }
+        ensures failed { IsErrOf result KeepFault.Failed → KeptPart (file_tells self.old) (file_tells self.new) name.now bytes.now }
+        ensures memory { IsErrOf result KeepFault.Memory → file_tells self.new ≡ file_tells self.old }
 
         // A file was opened, and took all of the bytes, where files tell that.
         ensures opened { OnOk result ((file : R.File) × (new : R.File) × Appends (R.File.contents file) (R.File.contents new) bytes.now) }
@@ -93,7 +101,7 @@ impl<R: Files + Drop> Shelf for FileShelf<R> {
                 return Ok(());
             }
         }
-        self.past.fail(Call::Keep, copy);
+        self.faults.add(Call::Keep, copy);
         Err(KeepFault::Failed)
     }
 }

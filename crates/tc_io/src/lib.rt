@@ -4,13 +4,13 @@
 //! the system and its writers, and is the edge that is trusted.
 #![tactic(auto)]
 
-ghost use Rattle.std.specs.Prelude.{◌≡◌, ◌+◌, IfOk, OnOk, IsErrOf};
-ghost use Rattle.tc_io.specs.Outside.{ShelfTells, SinkTells, Reading, Gave, FailedOnce, WasTooLong, TookAtMost, Kept, KeptPart, Wrote, WrotePart};
+ghost use Rattle.std.specs.Prelude.{◌≡◌, IfOk, OnOk, IsErrOf};
+ghost use Rattle.tc_io.specs.Outside.{ShelfTells, SinkTells, Gave, FailedToGive, WasTooLong, TookPart, Kept, KeptPart, Wrote, WrotePart};
 
+mod faults;
 pub mod files;
 pub mod mem;
 mod named;
-mod past;
 mod plan;
 
 use std::alloc::Global;
@@ -57,9 +57,9 @@ pub trait Shelf {
     /// most, which shows it that there are too many.
     fn fetch(&mut self, alloc: Global, name: &str, limit: u64) -> Result<Vec<u8>, FetchFault>
         ensures ok { IfOk result (λ bytes. Gave (tells self.old) (tells self.new) name.now limit bytes.items) }
-        ensures failed { IsErrOf result FetchFault.Failed → FailedOnce (tells self.old) (tells self.new) (Reading name.now) (limit + 1) }
+        ensures failed { IsErrOf result FetchFault.Failed → FailedToGive (tells self.old) (tells self.new) name.now limit }
         ensures too_long { IsErrOf result FetchFault.TooLong → WasTooLong (tells self.old) (tells self.new) name.now limit }
-        ensures memory { IsErrOf result FetchFault.Memory → TookAtMost (tells self.old) (tells self.new) (limit + 1) };
+        ensures memory { IsErrOf result FetchFault.Memory → TookPart (tells self.old) (tells self.new) name.now limit };
 
     /// Puts all of the bytes under a name, in place of what is there.
     ///

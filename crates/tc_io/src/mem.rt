@@ -24,12 +24,12 @@ ghost use Rattle.std.specs.Prelude.{
   OnErr,
 };
 ghost use Rattle.std.specs.FinMap as map;
-ghost use Rattle.tc_io.specs.Mem.{empty_shelf, empty_sink, empty_sure_shelf, mem_tells, sink_tells};
-ghost use Rattle.tc_io.specs.Outside.{Reading, bytes_at, counted_on, put_under, Gave, FailedOnce, WasTooLong, TookAtMost, Kept, KeptPart, Wrote, WrotePart};
+ghost use Rattle.tc_io.specs.Mem.{empty_shelf, empty_sink, empty_sure_shelf, mem_tells, sink_tells, taken_after};
+ghost use Rattle.tc_io.specs.Outside.{Gave, FailedToGive, WasTooLong, TookPart, Kept, KeptPart, Wrote, WrotePart};
 ghost use Rattle.tc_io.specs.Plan.{told_at, with_call};
 
+use crate::faults::{Call, Faults};
 use crate::named::NamedBytes;
-use crate::past::{Call, Past};
 pub use crate::plan::Fail;
 use crate::plan::Plan;
 use crate::{FetchFault, KeepFault, PutFault, Shelf, Sink};
@@ -43,7 +43,8 @@ use std::marker::Model;
 pub struct MemShelf {
     files: NamedBytes,
     plan: Plan,
-    past: Past,
+    taken: u64,
+    faults: Faults,
 }
 
 impl Model for MemShelf {
@@ -55,7 +56,7 @@ impl Model for MemShelf {
 
     ghost coded = { Prim.hlevel (codes, named.the_row.coded) };
 
-    ghost view = { λ s. record { held = s.files; plan = s.plan; past = s.past } };
+    ghost view = { λ s. record { held = s.files; plan = s.plan; taken = s.taken; faults = s.faults } };
 }
 
 impl MemShelf {
@@ -66,7 +67,8 @@ impl MemShelf {
         MemShelf {
             files: NamedBytes::new(alloc),
             plan: Plan::new(alloc),
-            past: Past::new(),
+            taken: 0,
+            faults: Faults::new(),
         }
     }
 
@@ -94,31 +96,31 @@ impl Shelf for MemShelf {
 
     fn fetch(&mut self, alloc: Global, name: &str, limit: u64) -> Result<Vec<u8>, FetchFault>
         ensures ok { IfOk result (λ bytes. Gave (mem_tells self.old) (mem_tells self.new) name.now limit bytes.items) }
-        ensures failed { IsErrOf result FetchFault.Failed → FailedOnce (mem_tells self.old) (mem_tells self.new) (Reading name.now) (limit + 1) }
+        ensures failed { IsErrOf result FetchFault.Failed → FailedToGive (mem_tells self.old) (mem_tells self.new) name.now limit }
         ensures too_long { IsErrOf result FetchFault.TooLong → WasTooLong (mem_tells self.old) (mem_tells self.new) name.now limit }
-        ensures memory { IsErrOf result FetchFault.Memory → TookAtMost (mem_tells self.old) (mem_tells self.new) (limit + 1) }
+        ensures memory { IsErrOf result FetchFault.Memory → TookPart (mem_tells self.old) (mem_tells self.new) name.now limit }
 
         // What this shelf alone says: which fetches fail, and after how many bytes.
         ensures there { IfOk result (λ bytes. map.get self.old.held name.now ≡ Some bytes.items) }
         ensures told { (result ≢ Err FetchFault.Memory) → IsSome (told_at self.new.plan) → result ≡ Err FetchFault.Failed }
         ensures cause { IsErrOf result FetchFault.Failed → IsSome (told_at self.new.plan) ⊎ (map.get self.old.held name.now ≡ None) }
-        ensures after { IsErrOf result FetchFault.Failed → self.new.past.taken ≡ counted_on self.old.past.taken
-            (min (unwrap_or (told_at self.new.plan) 0) (min (length (bytes_at self.old.held name.now)) (limit + 1))) }
-        ensures counted { (result ≢ Err FetchFault.Memory) → self.new.plan ≡ with_call self.old.plan }
+        // The call is counted and the bytes are taken, or there was no memory for the name.
+        ensures taken { ((result ≡ Err FetchFault.Memory) × (self.new ≡ self.old))
+            ⊎ ((self.new.plan ≡ with_call self.old.plan) × (self.new.taken ≡ taken_after self.old self.new.plan name.now limit)) }
     {
         let Ok(copy) = String::from_str(alloc, name) else {
             return Err(FetchFault::Memory);
         };
         match (self.plan.call(), self.files.get(name)) {
             (None, Some(bytes)) => {
-                self.past.take(taken_by(bytes.len(), limit));
+                self.taken = self.taken.saturating_add(taken_by(bytes.len(), limit));
                 copy_within(alloc, bytes, limit)
             }
             (told, found) => {
                 let there = found.map_or(0, |bytes| bytes.len());
                 let after = told.map_or(0, |after| after as u64);
-                self.past.take(after.min(taken_by(there, limit)));
-                self.past.fail(Call::Fetch, copy);
+                self.taken = self.taken.saturating_add(after.min(taken_by(there, limit)));
+                self.faults.add(Call::Fetch, copy);
                 Err(FetchFault::Failed)
             }
         }
@@ -146,7 +148,7 @@ impl Shelf for MemShelf {
         if told.is_none() {
             return Ok(());
         }
-        self.past.fail(Call::Keep, copy);
+        self.faults.add(Call::Keep, copy);
         Err(KeepFault::Failed)
     }
 }

@@ -115,10 +115,37 @@ fn fetches_file<H: Shelf>(
     fs::remove_file(rt, name)
 }
 
+/// A folder of a test's own, which is empty.
+fn own_folder(rt: &HostRuntime, what: &str) -> Result<String, test::Fail> {
+    let folder = env::temp_dir(rt)?;
+    let now = SystemTime::now(rt)?
+        .duration_since(SystemTime::UNIX_EPOCH)?
+        .as_nanos();
+    let own = format!(in rt.alloc(); "{}/tc_io-{what}-{now}", folder.as_str())?;
+    fs::create_dir(rt, own.as_str())?;
+    Ok(own)
+}
+
+/// Tests whether the folder holds these names and no others, in their order.
+fn holds(rt: &HostRuntime, folder: &str, want: &[&str]) -> Result<bool, test::Fail> {
+    let mut names = Vec::new(rt.alloc());
+    for entry in fs::read_dir(rt, folder)? {
+        names.push(String::from_str(rt.alloc(), entry?.file_name())?)?;
+    }
+    names.sort()?;
+    Ok(
+        names.len() == want.len()
+            && names
+                .iter()
+                .zip(want)
+                .all(|(name, want)| name.as_str() == *want),
+    )
+}
+
 #[test]
 fn real_files(rt: HostRuntime) -> Result<(), test::Fail> {
-    let folder = env::temp_dir(&rt)?;
-    let name = own_path(&rt, "read")?;
+    let folder = own_folder(&rt, "read")?;
+    let name = format!(in rt.alloc(); "{folder}/a")?;
     let long = format!(in rt.alloc(); "{:>10000}", "x")?;
     let mut shelf = FileShelf::new(rt.clone()?);
     for text in ["", "hello", long.as_str()] {
@@ -128,35 +155,31 @@ fn real_files(rt: HostRuntime) -> Result<(), test::Fail> {
     for missing in [name.as_str(), folder.as_str()] {
         fetches(&rt, &mut shelf, &[(missing, 9, Err(FetchFault::Failed))]);
     }
-    Ok(())
-}
-
-/// The path of a file of a test's own, which isn't there.
-fn own_path(rt: &HostRuntime, what: &str) -> Result<String, test::Fail> {
-    let folder = env::temp_dir(rt)?;
-    let now = SystemTime::now(rt)?
-        .duration_since(SystemTime::UNIX_EPOCH)?
-        .as_nanos();
-    Ok(format!(in rt.alloc(); "{}/tc_io-{what}-{now}", folder.as_str())?)
+    assert!(rt; holds(&rt, folder.as_str(), &[])?, "its folder");
+    Ok(fs::remove_dir(&rt, folder.as_str())?)
 }
 
 #[test]
 fn files_are_kept(rt: HostRuntime) -> Result<(), test::Fail> {
-    let path = own_path(&rt, "kept")?;
+    let folder = own_folder(&rt, "kept")?;
+    let path = format!(in rt.alloc(); "{folder}/b")?;
     let name = path.as_str();
     let long = format!(in rt.alloc(); "{:>60000}", "x")?;
     let mut shelf = FileShelf::new(rt.clone()?);
     for text in ["hello", long.as_str(), "", "ab"] {
         keeps(&rt, &mut shelf, &[(name, text, Ok(()))]);
         fetches(&rt, &mut shelf, &[(name, 60_000, Ok(text))]);
+        assert!(rt; holds(&rt, folder.as_str(), &["b"])?, "its folder");
     }
     fs::remove_file(&rt, name)?;
-    Ok(())
+    Ok(fs::remove_dir(&rt, folder.as_str())?)
 }
 
 #[test]
 fn a_link_is_written_through(rt: HostRuntime) -> Result<(), test::Fail> {
-    let (path, link) = (own_path(&rt, "file")?, own_path(&rt, "link")?);
+    let folder = own_folder(&rt, "link")?;
+    let path = format!(in rt.alloc(); "{folder}/a")?;
+    let link = format!(in rt.alloc(); "{folder}/b")?;
     fs::write(&rt, path.as_str(), "long text")?;
     symlink(&rt, path.as_str(), link.as_str())?;
     let mut shelf = FileShelf::new(rt.clone()?);
@@ -168,16 +191,14 @@ fn a_link_is_written_through(rt: HostRuntime) -> Result<(), test::Fail> {
         fs::symlink_metadata(&rt, link.as_str())?.is_symlink(),
         "the link stays"
     );
-    fs::remove_file(&rt, link.as_str())?;
-    fs::remove_file(&rt, path.as_str())?;
-    Ok(())
+    assert!(rt; holds(&rt, folder.as_str(), &["a", "b"])?, "its folder");
+    Ok(fs::remove_dir_all(&rt, folder.as_str())?)
 }
 
 #[test]
 fn files_that_can_not_be_kept(rt: HostRuntime) -> Result<(), test::Fail> {
-    let folder = env::temp_dir(&rt)?;
-    let path = own_path(&rt, "missing")?;
-    let inside = format!(in rt.alloc(); "{path}/log")?;
+    let folder = own_folder(&rt, "missing")?;
+    let inside = format!(in rt.alloc(); "{folder}/none/log")?;
     let mut shelf = FileShelf::new(rt.clone()?);
     let failed = Err(KeepFault::Failed);
     keeps(
@@ -192,10 +213,8 @@ fn files_that_can_not_be_kept(rt: HostRuntime) -> Result<(), test::Fail> {
             ("/dev/full", "", Ok(())),
         ],
     );
-    for missing in [path.as_str(), inside.as_str()] {
-        assert!(rt; !fs::exists(&rt, missing)?, "{missing}");
-    }
-    Ok(())
+    assert!(rt; holds(&rt, folder.as_str(), &[])?, "its folder");
+    Ok(fs::remove_dir(&rt, folder.as_str())?)
 }
 
 #[test]

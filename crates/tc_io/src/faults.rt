@@ -1,0 +1,48 @@
+//! The faults of a shelf.
+ghost use Rattle.std.specs.Prelude.{◌≡◌, Some, string_bytes};
+ghost use Rattle.tc_io.specs.Faults.{no_faults, fault_of};
+ghost use Rattle.tc_io.specs.Outside.{counted_on};
+
+use std::marker::Model;
+
+/// Which of a shelf's two calls.
+#[derive(Clone, Copy)]
+pub enum Call {
+    Fetch,
+    Keep,
+}
+
+/// How often a shelf failed, and the call that failed last, with its name.
+#[derive(Drop)]
+pub struct Faults {
+    count: u64,
+    last: Option<(Call, String)>,
+}
+
+impl Model for Faults {
+    ghost use Rattle.std.specs.Prelude.{string_bytes, option_map};
+    ghost use Rattle.tc_io.specs.Faults.{PlainFaults, fault_of};
+
+    ghost Value = { PlainFaults };
+
+    ghost view = { λ f. record { count = f.count; last = option_map (λ last. fault_of last.0 (string_bytes last.1)) f.last } };
+}
+
+impl Faults {
+    pub fn new() -> Self
+        ensures { result ≡ no_faults }
+    {
+        Faults {
+            count: 0,
+            last: None,
+        }
+    }
+
+    /// Counts a call with this name that failed.
+    pub fn add(&mut self, call: Call, name: String)
+        ensures { self.new ≡ record { count = counted_on self.old.count 1; last = Some (fault_of call (string_bytes name)) } }
+    {
+        self.count = self.count.saturating_add(1);
+        self.last = Some((call, name));
+    }
+}
