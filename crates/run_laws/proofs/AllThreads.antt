@@ -1,15 +1,14 @@
--- What each step keeps of each thread.
+-- What each move keeps of each thread.
 use Rattle.std.proofs.Common.{◌≡◌, ◌∙◌, inl, inr, ℕ, ◌+◌, ◌-◌, ◌≤◌, length, List, [], Some, sym, subst, arith}
 use Rattle.std.specs.FinMap as fin
-use Rattle.std.specs.Ordering.{nat_cmp}
-use Rattle.std.specs.Cmp.Lexicographic.{slice_cmp}
 use Rattle.std.proofs.lemmas.Option.{none-some}
-use Rattle.tc_base.specs.Names.{Name, ByName, main}
+use Rattle.tc_base.specs.Names.{Name, ByName, main, by_name}
 use Rattle.tc_base.specs.Buffers.{BufferOps}
 use Rattle.tc_base.specs.States.{Local, Thread, State}
 use Rattle.tc_base.specs.declared.moves.Move.{Move}
 use Rattle.tc_code.specs.Expr.{Expr}
-use Rattle.tc_code.specs.Instr.{Instr, Create}
+use Rattle.tc_code.specs.declared.instr.Instr.{Instr}
+use Rattle.tc_code.specs.declared.instr.Instr.TheVariants.{Create}
 use Rattle.tc_code.specs.Code.{Code}
 use Rattle.tc_code.specs.Step.{local_after, arguments_of, born, step, opening}
 use Rattle.tc_code.specs.Run.{IsReached}
@@ -28,7 +27,7 @@ all_after_put {B} P threads n new all p q t there =
     ]
 
 module _ {B : Type 0} (ops : BufferOps B) (code : Code) where
-  -- what holds of a thread before a step from the state gives what holds of it after that, and of a child born in it
+  -- what holds of a thread before a move from the state gives what holds of it after that, and of a child born in it
   pub record Keeps (s : State B) (P Q : Local → Type 0) : Type 0 where
     pub stays : (t : Local) (steps : ℕ) → steps ≤ t.steps + 1 → P t → Q (record t { steps = steps })
     pub does : (u : State B) (n : Name) (i : Instr) (g : Goes ops code s u n i) → P g.before.local → Q (local_after g.before.local i g.value)
@@ -49,7 +48,7 @@ module _ {B : Type 0} (ops : BufferOps B) (code : Code) where
     all_gone n (Create h f es) g = all_after_put Q _ _ _ (all_done n (Create h f es) g) (keeps.bears u n h f es g (all n g.before g.there))
     all_gone n i g = all_done n i g
 
-  -- what holds of each thread before a step gives what holds of each after it, where it does so for one
+  -- what holds of each thread before a move gives what holds of each after it, where it does so for one
   pub all_after_step : (s u : State B) (m : Move) (P Q : Local → Type 0) → Keeps s P Q → step ops code s m ≡ Some u → AllThreads P s.threads
       → AllThreads Q u.threads
   all_after_step s u m P Q keeps one all =
@@ -61,9 +60,9 @@ module _ {B : Type 0} (ops : BufferOps B) (code : Code) where
 
   -- what main has at the start, each thread has
   pub all_at_opening : (P : Local → Type 0) → P (born ops code (length code.functions - 1) []).local → AllThreads P (opening ops code).threads
-  all_at_opening P p = all_after_put P fin.empty main _ (λ n t there. absurd (none-some t (sym (fin.get-empty (slice_cmp nat_cmp) n) ∙ there))) p
+  all_at_opening P p = all_after_put P fin.empty main _ (λ n t there. absurd (none-some t (sym (fin.get-empty by_name n) ∙ there))) p
 
-  -- what main has at the start, and each step keeps for one thread, each thread of a reached state has
+  -- what main has at the start, and each move keeps for one thread, each thread of a reached state has
   pub all_in_reached : (P : Local → Type 0) → ((s : State B) → IsReached ops code s → Keeps s P P)
       → P (born ops code (length code.functions - 1) []).local → (s : State B) → IsReached ops code s → AllThreads P s.threads
   all_in_reached P keeps p =

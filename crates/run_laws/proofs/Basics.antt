@@ -1,32 +1,18 @@
 -- Tests, options and lists.
-use Rattle.std.proofs.Common.{◌≡◌, ◌⊎◌, inl, inr, ℕ, zero, suc, List, [], ◌∷◌, Bool, true, false, ◌&&◌, IsTrue, cond, IsSome}
+use Rattle.std.proofs.Common.{◌≡◌, ◌⊎◌, inl, inr, ℕ, zero, suc, List, [], ◌∷◌, Bool, true, false, IsTrue, cond, IsSome}
 use Rattle.std.proofs.Common.{Option, Some, None, refl, ap, sym, subst, replicate, slice_set, slice_index_or, true≢false}
 use Rattle.std.specs.Option.{option_map_or}
 use Rattle.std.proofs.lemmas.Option.{none-some}
-
--- a test is true or false
-pub known : (b : Bool) → (b ≡ true) ⊎ (b ≡ false)
-known true = inl refl
-known false = inr refl
-
--- what passes two tests passes each
-pub first : (a b : Bool) → IsTrue (a && b) → IsTrue a
-first true b h = refl
-first false b h = h
-
-pub second : (a b : Bool) → IsTrue (a && b) → IsTrue b
-second true b h = h
-second false b h = absurd (true≢false (sym h))
 
 -- a value that passes is there
 pub found : {A : Type 0} (p : A → Bool) (o : Option A) → IsTrue (option_map_or p o false) → (x : A) × (o ≡ Some x) × IsTrue (p x)
 found p None h = absurd (true≢false (sym h))
 found p (Some x) h = (x, refl, h)
 
--- what stands under a test that failed
-pub unless : {A : Type 0} (b : Bool) (o : Option A) (x : A) → cond b None o ≡ Some x → o ≡ Some x
+-- what stands under a test, which failed
+pub unless : {A : Type 0} (b : Bool) (o : Option A) (x : A) → cond b None o ≡ Some x → (b ≡ false) × (o ≡ Some x)
 unless true o x h = absurd (none-some x h)
-unless false o x h = h
+unless false o x h = (refl, h)
 
 -- what is some value is there
 pub some_is : {X : Type 0} (o : Option X) (x : X) → o ≡ Some x → IsSome o
@@ -63,7 +49,11 @@ index_or-set_cases (y ∷ ys) zero (suc j) x d = inr refl
 index_or-set_cases (y ∷ ys) (suc k) zero x d = inr refl
 index_or-set_cases (y ∷ ys) (suc k) (suc j) x d = elim (index_or-set_cases ys k j x d) [ inl is ↦ inl (ap suc is.0, is.1) | inr was ↦ inr was ]
 
+-- what is asked of both ways that a test may go
+pub by_bool : (P : Bool → Type 0) (b : Bool) → P true → P false → P b
+by_bool P true p q = p
+by_bool P false p q = q
+
 -- of two things one stands, whichever it is
 pub either : {A : Type 0} (P : A → Type 0) (b : Bool) (x y : A) → P x → P y → P (cond b x y)
-either P true x y p q = p
-either P false x y p q = q
+either P b x y p q = by_bool (λ c. P (cond c x y)) b p q

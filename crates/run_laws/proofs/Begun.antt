@@ -2,22 +2,21 @@
 use Rattle.std.proofs.Common.{◌≡◌, ◌∙◌, ◌⊎◌, inl, inr, ℕ, ◌+◌, ℤ, List, [], ◌∷◌, ◌++◌, Bool, true, false, IsSome, Some, refl, ap, sym, subst, arith}
 use Rattle.std.specs.Prelude.{option_and_then}
 use Rattle.std.specs.FinMap as fin
-use Rattle.std.specs.Ordering.{nat_cmp}
-use Rattle.std.specs.Cmp.Lexicographic.{slice_cmp}
 use Rattle.std.proofs.lemmas.List.{append_assoc, append-nil}
 use Rattle.std.proofs.lemmas.Option.{none-some, same_Some, option_and_then_some}
-use Rattle.tc_base.specs.Names.{Name, main, child}
+use Rattle.tc_base.specs.Names.{Name, main, child, by_name}
 use Rattle.tc_base.specs.Buffers.{BufferOps}
 use Rattle.tc_base.specs.States.{Thread, State}
 use Rattle.tc_base.specs.declared.moves.Move.{Move}
 use Rattle.tc_base.specs.declared.moves.Move.TheVariants as move
 use Rattle.tc_code.specs.Expr.{Expr}
-use Rattle.tc_code.specs.Instr.{Instr, Store, Store_at, Inside, Holds, Create, Ready, Assert, Nonzero, In_range}
+use Rattle.tc_code.specs.declared.instr.Instr.{Instr}
+use Rattle.tc_code.specs.declared.instr.Instr.TheVariants.{Store, StoreAt, Inside, Holds, Create, Ready, Assert, Nonzero, InRange}
 use Rattle.tc_code.specs.Code.{Code}
 use Rattle.tc_base.specs.declared.request.Request.TheVariants.{Write}
 use Rattle.tc_code.specs.Step.{request, site, arguments_of, instr_of, perform, step, opening}
 use Rattle.tc_code.specs.Run.{run, run_from}
-use Rattle.tc_code.specs.Facts.{run_from-append, run_from-step}
+use Rattle.tc_code.proofs.Facts.{run_from-append, run_from-step}
 use Rattle.run_laws.specs.Alone.{Of_main, By_parent, Beginning, alone_since}
 use Rattle.run_laws.proofs.Basics.{some_is, some_value, either}
 use Rattle.run_laws.proofs.Names.{get_put, get_put_cases, there_before_put}
@@ -45,7 +44,7 @@ module _ {B : Type 0} (ops : BufferOps B) (code : Code) where
       let is = some_value _ there in
       elim (get_put_cases fin.empty main _ n is.0 is.1) [
         | inl e ↦ subst (λ m. Beginning ops code m []) (sym e.0) main_begins
-        | inr e ↦ absurd (none-some is.0 (sym (fin.get-empty (slice_cmp nat_cmp) n) ∙ e.1))
+        | inr e ↦ absurd (none-some is.0 (sym (fin.get-empty by_name n) ∙ e.1))
       ]
 
   -- a thread that began so began so where there is one move more
@@ -105,9 +104,9 @@ module _ {B : Type 0} (ops : BufferOps B) (code : Code) where
             | inr e ↦ inl (was_there _ (some_is _ is.0 e.1))
           ]
       begins_by u (Store c e) at one after here = inl (store_creates_none (Store c e) c _ here)
-      begins_by u (Store_at a len k e) at one after here = inl (store_creates_none (Store_at a len k e) _ _ here)
+      begins_by u (StoreAt a len k e) at one after here = inl (store_creates_none (StoreAt a len k e) _ _ here)
       begins_by u (Nonzero e) at one after here = inl (site_creates_none (Nonzero e) _ here)
-      begins_by u (In_range e) at one after here = inl (site_creates_none (In_range e) _ here)
+      begins_by u (InRange e) at one after here = inl (site_creates_none (InRange e) _ here)
       begins_by u (Inside len e) at one after here = inl (site_creates_none (Inside len e) _ here)
       begins_by u (Holds m) at one after here = inl (site_creates_none (Holds m) _ here)
       begins_by u (Ready k) at one after here = inl (site_creates_none (Ready k) _ here)

@@ -1,17 +1,16 @@
 -- What a thread has at an instruction that goes with the one before it.
-use Rattle.std.proofs.Common.{◌≡◌, ◌∙◌, inl, inr, ℕ, suc, ◌+◌, ℤ, List, [], true, false, not, IsTrue, Some, refl, ap, sym, subst, arith, slice_get, true≢false}
-use Rattle.std.proofs.lemmas.Bool.{not_from_true}
-use Rattle.std.proofs.lemmas.Bool.Decides.{Decides-eqb}
-use Rattle.std.proofs.lemmas.Option.{none-some, same_Some}
+use Rattle.std.proofs.Common.{◌≡◌, ◌∙◌, inl, inr, ℕ, suc, ℤ, List, [], true, false, IsTrue, Some, refl, ap, sym, subst, arith, slice_get, true≢false}
+use Rattle.std.proofs.lemmas.Option.{same_Some}
 use Rattle.tc_base.specs.Buffers.{BufferOps}
 use Rattle.tc_base.specs.States.{Local, State}
-use Rattle.tc_code.specs.Instr.{Instr, Branch, Goto, Holds, Unlock, Sleep, Ready, Join}
+use Rattle.tc_code.specs.declared.instr.Instr.{Instr}
+use Rattle.tc_code.specs.declared.instr.Instr.TheVariants.{Holds, Unlock, Sleep, Ready, Join}
 use Rattle.tc_code.specs.Code.{Code}
 use Rattle.tc_code.specs.Lawful.{target, is_bound, StandsBefore, IsTarget, IsLawfulFunction, IsLawful}
 use Rattle.tc_code.specs.declared.code.Func.{Func}
-use Rattle.tc_code.specs.Step.{holds, can_be_joined, handle_of, value_in, is_nonzero, branched, local_after, instr_of, request, site, stepped, born}
+use Rattle.tc_code.specs.Step.{holds, can_be_joined, handle_of, local_after, instr_of, request, born}
 use Rattle.tc_code.specs.Run.{IsReached}
-use Rattle.tc_code.specs.Facts.{placed_next}
+use Rattle.tc_code.proofs.Facts.{placed_next}
 use Rattle.run_laws.specs.Laws.{HasTested}
 use Rattle.run_laws.specs.Whole.{AllThreads}
 use Rattle.run_laws.proofs.After.{Leads, after_has, place_after}
@@ -72,7 +71,7 @@ module _ {B : Type 0} (ops : BufferOps B) (code : Code) where
         join = λ h at. let p = placed_next code t (Join h) lawful at in absurd (p.lawful.join 0 h p.at);
       }
 
-  -- each step keeps that
+  -- each move keeps that
   keeps_tested : IsLawful code → (s : State B) → Keeps ops code s (HasTested code) (HasTested code)
   keeps_tested lawful s = record {
     stays = λ t steps few h. record { unlock = h.unlock; sleep = h.sleep; join = h.join };

@@ -1,23 +1,23 @@
--- What a step changes.
+-- What a move changes.
 use Rattle.std.proofs.Common.{◌≡◌, ◌∙◌, ◌⊎◌, inl, inr, ℕ, ◌+◌, ◌≤◌, ℤ, pos, List, Bool, true, false, IsTrue, Option, Some}
 use Rattle.std.proofs.Common.{None, refl, ap, sym, subst, arith, slice_set, slice_index_or, ◌||◌, true≢false}
 use Rattle.std.specs.FinMap as fin
 use Rattle.std.specs.FinSet as set
-use Rattle.std.specs.Ordering.{nat_cmp}
-use Rattle.std.specs.Cmp.Lexicographic.{slice_cmp}
+use Rattle.std.proofs.lemmas.Bool.{and_parts}
 use Rattle.std.proofs.lemmas.Cmp.{nat_list_cmp_total}
-use Rattle.tc_base.specs.Names.{Name, ByName, child}
+use Rattle.tc_base.specs.Names.{Name, ByName, child, by_name}
 use Rattle.tc_base.specs.Buffers.{BufferOps}
 use Rattle.tc_base.specs.States.{Local, Thread, State}
 use Rattle.tc_base.specs.declared.moves.Move.{Move}
 use Rattle.tc_base.specs.declared.moves.Move.TheVariants as move
-use Rattle.tc_code.specs.Instr.{Instr, Load, Load_at, Store, Store_at, Inside, Holds, Lock, Unlock, Sleep, Wake}
-use Rattle.tc_code.specs.Instr.{Signal, Broadcast, Create, Ready, Assert, Nonzero, In_range, Swap, Cas}
+use Rattle.tc_code.specs.declared.instr.Instr.{Instr}
+use Rattle.tc_code.specs.declared.instr.Instr.TheVariants.{Load, LoadAt, Store, StoreAt, Inside, Holds, Lock, Unlock, Sleep, Wake}
+use Rattle.tc_code.specs.declared.instr.Instr.TheVariants.{Signal, Broadcast, Create, Ready, Assert, Nonzero, InRange, Swap, Cas}
 use Rattle.tc_code.specs.Code.{Code}
 use Rattle.tc_base.specs.declared.request.Request.{Request}
 use Rattle.tc_base.specs.declared.request.Request.TheVariants.{WakeOne, Fail}
 use Rattle.tc_code.specs.Step.{request, site, local_after, arguments_of, instr_of, NameSet, is_let, born, perform, step}
-use Rattle.run_laws.proofs.Basics.{second, index_or-set_cases, either}
+use Rattle.run_laws.proofs.Basics.{index_or-set_cases, either}
 use Rattle.run_laws.proofs.Names.{tells_names}
 use Rattle.run_laws.proofs.Steps.{Went, step_went}
 
@@ -109,7 +109,7 @@ empties : (waiters : List NameSet) (c d : ℕ) (q : Name) → Waits (slice_set w
 empties waiters c d q h =
     elim (waits_after_set waiters c d _ q h) [
       | inl old ↦ old
-      | inr is ↦ absurd (true≢false (sym is.1 ∙ set.contains-empty (slice_cmp nat_cmp) q))
+      | inr is ↦ absurd (true≢false (sym is.1 ∙ set.contains-empty by_name q))
     ]
 
 -- who waits after a signal waited before
@@ -119,7 +119,7 @@ removes waiters c v d q h =
     elim (waits_after_set waiters c d _ q h) [
       | inl old ↦ old
       | inr is ↦ subst (λ k. Waits waiters k q) (sym is.0)
-          (second _ _ (sym (set.contains-remove nat_list_cmp_total (slice_index_or waiters c set.empty) v q) ∙ is.1))
+          (and_parts _ _ (sym (set.contains-remove nat_list_cmp_total (slice_index_or waiters c set.empty) v q) ∙ is.1)).1
     ]
 
 module _ {B : Type 0} (ops : BufferOps B) (code : Code) where
@@ -154,7 +154,7 @@ module _ {B : Type 0} (ops : BufferOps B) (code : Code) where
     pub owners : u.owners ≡ s.owners
     pub waiters : u.waiters ≡ s.waiters
 
-  -- what a step changes
+  -- what a move changes
   pub data Change (s u : State B) : Type 0 where
     Went_on : (n : Name) (i : Instr) → Goes s u n i → Change s u
     Stayed : (n : Name) → Stays s u n → Change s u
@@ -201,19 +201,19 @@ module _ {B : Type 0} (ops : BufferOps B) (code : Code) where
     -- what an instruction changes
     performed : (i : Instr) → instr_of code t.local ≡ Some i → IsTrue (is_let s n (request t.local i)) → Change s (perform ops code s n t i (request t.local i))
     performed (Load k c) at may = goes _ (Load k c) _ _ at refl may refl refl refl (λ q d h. inl h)
-    performed (Load_at k a len e) at may = goes _ (Load_at k a len e) _ _ at refl may refl refl refl (λ q d h. inl h)
+    performed (LoadAt k a len e) at may = goes _ (LoadAt k a len e) _ _ at refl may refl refl refl (λ q d h. inl h)
     performed (Store c e) at may =
         either (Change s) ops.buffered _ _
         (goes _ (Store c e) (pos 0) _ at refl may refl refl refl (λ q d h. inl h))
         (goes _ (Store c e) (pos 0) _ at refl may refl refl refl (λ q d h. inl h))
-    performed (Store_at a len i e) at may =
+    performed (StoreAt a len i e) at may =
         either (Change s) ops.buffered _ _
-        (goes _ (Store_at a len i e) (pos 0) _ at refl may refl refl refl (λ q d h. inl h))
-        (goes _ (Store_at a len i e) (pos 0) _ at refl may refl refl refl (λ q d h. inl h))
+        (goes _ (StoreAt a len i e) (pos 0) _ at refl may refl refl refl (λ q d h. inl h))
+        (goes _ (StoreAt a len i e) (pos 0) _ at refl may refl refl refl (λ q d h. inl h))
     performed (Swap k c e) at may = goes _ (Swap k c e) _ _ at refl may refl refl refl (λ q d h. inl h)
     performed (Cas k c e new) at may = goes _ (Cas k c e new) _ _ at refl may refl refl refl (λ q d h. inl h)
     performed (Nonzero e) at may = site_performed (Nonzero e) _ at refl (λ m. refl) refl
-    performed (In_range e) at may = site_performed (In_range e) _ at refl (λ m. refl) refl
+    performed (InRange e) at may = site_performed (InRange e) _ at refl (λ m. refl) refl
     performed (Inside len e) at may = site_performed (Inside len e) _ at refl (λ m. refl) refl
     performed (Holds m) at may = site_performed (Holds m) _ at refl (λ m. refl) refl
     performed (Ready k) at may = site_performed (Ready k) _ at refl (λ m. refl) refl
@@ -226,7 +226,7 @@ module _ {B : Type 0} (ops : BufferOps B) (code : Code) where
   -- what a move changes
   went_changes : (s u : State B) (m : Move) → Went ops code s u m → Change s u
   went_changes s u (move.Run n) w =
-      subst (Change s) (sym w.after) (performed s n w.thread w.there w.instr w.at (second _ (is_let s n (request w.thread.local w.instr)) w.allowed))
+      subst (Change s) (sym w.after) (performed s n w.thread w.there w.instr w.at (and_parts _ (is_let s n (request w.thread.local w.instr)) w.allowed).1)
   went_changes s u (move.Wake n v) w =
       goes s n w.thread w.there u (Signal w.condition) (pos 0) _ w.at refl refl refl (ap (λ x. x.threads) w.after) (ap (λ x. x.owners) w.after)
       (λ q d h. inl (removes s.waiters w.condition v d q (subst (λ x. Waits x.waiters d q) w.after h)))
@@ -242,6 +242,6 @@ module _ {B : Type 0} (ops : BufferOps B) (code : Code) where
     waiters = ap (λ x. x.waiters) w.after;
   })
 
-  -- what each step changes
+  -- what each move changes
   pub step_changes : (s u : State B) (m : Move) → step ops code s m ≡ Some u → Change s u
   step_changes s u m one = went_changes s u m (step_went ops code s u m one)

@@ -4,7 +4,8 @@ use Rattle.std.proofs.lemmas.Option.{same_Some, option_and_then_some}
 use Rattle.tc_base.specs.Buffers.{BufferOps}
 use Rattle.tc_base.specs.States.{Local, State}
 use Rattle.tc_base.specs.declared.moves.Move.{Move}
-use Rattle.tc_code.specs.Instr.{Instr, Branch}
+use Rattle.tc_code.specs.declared.instr.Instr.{Instr}
+use Rattle.tc_code.specs.declared.instr.Instr.TheVariants.{Branch}
 use Rattle.tc_code.specs.Code.{Code}
 use Rattle.tc_code.specs.Step.{local_after, step, opening}
 use Rattle.tc_code.specs.Run.{run, run_from}
@@ -33,7 +34,7 @@ counted_on : (k : ℕ) (old new : Local) → CountsOne old new → CountsUpTo k 
 counted_on k old new one c = record { steps = omega (arith, one.steps, c.steps); children = omega (arith, one.children, c.children) }
 
 module _ {B : Type 0} (ops : BufferOps B) (code : Code) where
-  -- what each step counts one further, a run counts on by the number of its moves
+  -- what each move counts one further, a run counts on by the number of its moves
   counted_by_run : (P : ℕ → State B → Type 0) → ((k : ℕ) (s u : State B) (m : Move) → step ops code s m ≡ Some u → P k s → P (k + 1) u)
       → (k : ℕ) (s u : State B) (ms : List Move) → run_from ops code s ms ≡ Some u → P k s → P (k + length ms) u
   counted_by_run P counts k s u [] h p = let e : k ≡ k + 0 = omega arith in subst (λ j. P j u) e (subst (P k) (same_Some s u h) p)

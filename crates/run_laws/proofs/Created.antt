@@ -2,15 +2,14 @@
 use Rattle.std.proofs.Common.{◌≡◌, ◌≢◌, ◌↔◌, ◌∙◌, inl, inr, ℕ, ◌+◌, ◌≤◌, length, [], ◌∷◌, IsSome, Option, Some, None, refl, ap, sym, subst, arith}
 use Rattle.std.specs.Option.{option_map_or}
 use Rattle.std.specs.FinMap as fin
-use Rattle.std.specs.Ordering.{nat_cmp}
-use Rattle.std.specs.Cmp.Lexicographic.{slice_cmp}
 use Rattle.std.proofs.lemmas.List.{same_from_push}
 use Rattle.std.proofs.lemmas.Option.{none-some}
-use Rattle.tc_base.specs.Names.{Name, ByName, main, child}
+use Rattle.tc_base.specs.Names.{Name, ByName, main, child, by_name}
 use Rattle.tc_base.specs.Buffers.{BufferOps}
 use Rattle.tc_base.specs.States.{Thread, State}
 use Rattle.tc_base.specs.declared.moves.Move.{Move}
-use Rattle.tc_code.specs.Instr.{Instr, Branch, Create}
+use Rattle.tc_code.specs.declared.instr.Instr.{Instr}
+use Rattle.tc_code.specs.declared.instr.Instr.TheVariants.{Branch, Create}
 use Rattle.tc_code.specs.Code.{Code}
 use Rattle.tc_code.specs.Step.{opening, step}
 use Rattle.tc_code.specs.Run.{IsReached}
@@ -137,7 +136,7 @@ module _ {B : Type 0} (ops : BufferOps B) (code : Code) where
       subst IsTree (sym g.threads) (kept_tree s.threads n g.before g.after g.there (ap (λ t. t.children) (g.local ∙ branch_is g.before.local _ to)) tree)
   tree_goes s u n _ g tree = subst IsTree (sym g.threads) (kept_tree s.threads n g.before g.after g.there (ap (λ t. t.children) g.local) tree)
 
-  -- each step does
+  -- each move does
   tree_after_step : (s u : State B) (m : Move) → step ops code s m ≡ Some u → IsTree s.threads → IsTree u.threads
   tree_after_step s u m one tree =
       elim (step_changes ops code s u m one) [
@@ -147,7 +146,7 @@ module _ {B : Type 0} (ops : BufferOps B) (code : Code) where
 
   -- main is alone at the start
   alone_at_opening : (q : Name) → q ≢ main → fin.get (opening ops code).threads q ≡ None
-  alone_at_opening q apart = get_put_apart fin.empty main _ q apart ∙ fin.get-empty (slice_cmp nat_cmp) q
+  alone_at_opening q apart = get_put_apart fin.empty main _ q apart ∙ fin.get-empty by_name q
 
   -- and has no child
   no_children_at_opening : (q : Name) → children_of (opening ops code).threads q ≡ 0

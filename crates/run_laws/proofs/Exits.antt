@@ -1,22 +1,21 @@
 -- A thread has exited exactly where its last instruction was an exit.
-use Rattle.std.proofs.Common.{◌≡◌, ◌∙◌, ℕ, ◌+◌, ◌-◌, ◌<◌, length, List, [], Bool, true, false, IsTrue, Option}
-use Rattle.std.proofs.Common.{Some, None, refl, ap, sym, subst, arith, cond, ℤ, slice_get, inl, inr}
-use Rattle.std.specs.Prelude.{not, ◌==◌, position}
+use Rattle.std.proofs.Common.{◌≡◌, ◌∙◌, ℕ, ◌+◌, ◌-◌, ◌<◌, length, List, [], Bool, true, false, IsTrue}
+use Rattle.std.proofs.Common.{Some, refl, ap, sym, subst, arith, ℤ, slice_get, inl, inr}
 use Rattle.std.proofs.lemmas.Bool.{false≢true, true≢false, cases_lt, true_from_ne_false}
-use Rattle.std.proofs.lemmas.Bool.Decides.{nat_tests}
-use Rattle.std.proofs.lemmas.List.Quantifiers.{position-Some}
-use Rattle.std.proofs.lemmas.Option.{none-some, same_Some, option_and_then_some, slice_get_within, get_or_from_slice_get}
+use Rattle.std.proofs.lemmas.Option.{same_Some, option_and_then_some, slice_get_within}
 use Rattle.tc_base.specs.Buffers.{BufferOps}
 use Rattle.tc_base.specs.States.{Local, State}
-use Rattle.tc_code.specs.Instr.{Instr, Branch, Exit}
+use Rattle.tc_code.specs.declared.instr.Instr.{Instr}
+use Rattle.tc_code.specs.declared.instr.Instr.TheVariants.{Branch, Exit}
 use Rattle.tc_code.specs.Code.{Code}
 use Rattle.tc_code.specs.Lawful.{IsLawfulFunction, IsLawful}
 use Rattle.tc_code.specs.declared.code.Func.{Func}
 use Rattle.tc_code.specs.Step.{local_after, instr_of, born}
 use Rattle.tc_code.specs.Run.{IsReached}
-use Rattle.tc_code.specs.Facts.{IsPlaced, at_its_place, placed_next}
+use Rattle.tc_code.proofs.Facts.{IsPlaced, at_its_place, placed_next}
 use Rattle.run_laws.specs.Laws.{IsPastExit, ExitedPastExit}
 use Rattle.run_laws.specs.Whole.{AllThreads}
+use Rattle.run_laws.proofs.Basics.{unless}
 use Rattle.run_laws.proofs.After.{Leads, branch_is, after_has, place_after}
 use Rattle.run_laws.proofs.AllThreads.{Keeps, all_in_reached}
 
@@ -41,11 +40,6 @@ after_stays : (t : Local) (i : Instr) (v : ℤ) → is_exit i ≡ false → (loc
 after_stays t (Branch e to) v h = ap (λ u. u.has_exited) (branch_is t _ to)
 after_stays t Exit v h = absurd (true≢false h)
 after_stays t _ v h = refl
-
--- who does an instruction has not exited
-runs : {A : Type 0} (b : Bool) (o : Option A) (x : A) → cond b None o ≡ Some x → b ≡ false
-runs true o x h = absurd (none-some x h)
-runs false o x h = refl
 
 -- a thread that has exited is past an exit, and another is at an instruction of its function
 record Exits (code : Code) (t : Local) : Type 0 where
@@ -75,7 +69,7 @@ after_exits code t Exit v lawful at = record {
   past = λ gone. record { place = t.instruction; next = refl; exit = at_its_place code t Exit at };
   below = λ g not_yet there. absurd (true≢false not_yet);
 }
-after_exits code t i v lawful at = after_other code t i v (placed_next code t i lawful at) (runs t.has_exited _ i at) refl
+after_exits code t i v lawful at = after_other code t i v (placed_next code t i lawful at) (unless t.has_exited _ i at).0 refl
 
 -- a function of lawful code has an instruction
 begins_below : (code : Code) (f : ℕ) (g : Func) → IsLawful code → slice_get code.functions f ≡ Some g → 0 < length g.instrs
@@ -88,7 +82,7 @@ module _ {B : Type 0} (ops : BufferOps B) (code : Code) where
   born_exits : (f : ℕ) (vs : List ℤ) → IsLawful code → Exits code (born ops code f vs).local
   born_exits f vs lawful = record { past = λ gone. absurd (false≢true gone); below = λ g not_yet there. begins_below code f g lawful there }
 
-  -- each step keeps that
+  -- each move keeps that
   keeps_exits : IsLawful code → (s : State B) → Keeps ops code s (Exits code) (Exits code)
   keeps_exits lawful s = record {
     stays = λ t steps few h. record { past = λ gone. let p = h.past gone in record { place = p.place; next = p.next; exit = p.exit }; below = h.below };

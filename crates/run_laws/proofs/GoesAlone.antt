@@ -10,17 +10,18 @@ use Rattle.tc_base.specs.Buffers.{BufferOps}
 use Rattle.tc_base.specs.States.{Local, Thread, State}
 use Rattle.tc_base.specs.declared.moves.Move.{Move}
 use Rattle.tc_base.specs.declared.moves.Move.TheVariants as move
-use Rattle.tc_code.specs.Instr.{Instr, Signal}
+use Rattle.tc_code.specs.declared.instr.Instr.{Instr}
+use Rattle.tc_code.specs.declared.instr.Instr.TheVariants.{Signal}
 use Rattle.tc_code.specs.Code.{Code}
 use Rattle.tc_base.specs.declared.request.Request.{Request}
 use Rattle.tc_base.specs.declared.request.Request.TheVariants.{Read, Write, Exchange, CompareExchange, Bar, WakeOne, Start, Fail}
 use Rattle.tc_code.specs.Step.{request, stepped, local_after, instr_of, loaded, in_memory, perform, step}
 use Rattle.tc_code.specs.Run.{IsReached, run_from}
-use Rattle.tc_code.specs.Facts.{step_is_reached}
-use Rattle.run_laws.specs.Alone.{Alone, after_request, goes_on, after_steps, taken_by, taken_in, taken_from}
+use Rattle.tc_code.proofs.Facts.{step_is_reached}
+use Rattle.run_laws.specs.Alone.{same, Alone, after_request, goes_on, after_steps, taken_by, taken_in, taken_from}
 use Rattle.run_laws.proofs.Counts.{after_counts}
 use Rattle.run_laws.proofs.Basics.{either}
-use Rattle.run_laws.proofs.Names.{same_name, tells_names, one_under, get_put, get_put_apart, child_apart}
+use Rattle.run_laws.proofs.Names.{tells_names, one_under, get_put, get_put_apart, child_apart}
 use Rattle.run_laws.proofs.Created.{not_next_child}
 use Rattle.run_laws.proofs.Steps.{Went, step_went}
 
@@ -59,7 +60,7 @@ goes_by code t i vs at = ap (λ o. option_map_or (λ j. after_request t j vs (re
 
 module _ {B : Type 0} (ops : BufferOps B) (code : Code) where
   -- what the thread of a name does in a move: so many steps, with the values that it takes
-  record Goes (w : State B) (n : Name) (t : Thread B) (taken : List ℤ) : Type 0 where
+  record GoesOn (w : State B) (n : Name) (t : Thread B) (taken : List ℤ) : Type 0 where
     after : Thread B
     there : fin.get w.threads n ≡ Some after
     count : ℕ
@@ -67,7 +68,7 @@ module _ {B : Type 0} (ops : BufferOps B) (code : Code) where
     goes : (vs : List ℤ) → after_steps code count (record { local = t.local; values = taken ++ vs }) ≡ record { local = after.local; values = vs }
 
   -- it may do nothing
-  stays_put : (w : State B) (n : Name) (t u : Thread B) → fin.get w.threads n ≡ Some u → u.local ≡ t.local → Goes w n t []
+  stays_put : (w : State B) (n : Name) (t u : Thread B) → fin.get w.threads n ≡ Some u → u.local ≡ t.local → GoesOn w n t []
   stays_put w n t u there same = record {
     after = u;
     there = there;
@@ -83,7 +84,7 @@ module _ {B : Type 0} (ops : BufferOps B) (code : Code) where
 
   -- it may do an instruction that takes no value
   does_one : (w : State B) (n : Name) (t : Thread B) (i : Instr) (r : Request) (buffer : B) → instr_of code t.local ≡ Some i → request t.local i ≡ r
-      → is_read r ≡ false → fin.get w.threads n ≡ Some (record { local = local_by t.local i r; buffer = buffer }) → Goes w n t []
+      → is_read r ≡ false → fin.get w.threads n ≡ Some (record { local = local_by t.local i r; buffer = buffer }) → GoesOn w n t []
   does_one w n t i r buffer at e reads there = record {
     after = record { local = local_by t.local i r; buffer = buffer };
     there = there;
@@ -95,7 +96,7 @@ module _ {B : Type 0} (ops : BufferOps B) (code : Code) where
   -- or one that takes a value
   takes_one : (w : State B) (n : Name) (t : Thread B) (i : Instr) (v : ℤ) → instr_of code t.local ≡ Some i
       → ((vs : List ℤ) → after_request t.local i (v ∷ vs) (request t.local i) ≡ record { local = local_after t.local i v; values = vs })
-      → fin.get w.threads n ≡ Some (record t { local = local_after t.local i v }) → Goes w n t (v ∷ [])
+      → fin.get w.threads n ≡ Some (record t { local = local_after t.local i v }) → GoesOn w n t (v ∷ [])
   takes_one w n t i v at takes there = record {
     after = record t { local = local_after t.local i v };
     there = there;
@@ -106,7 +107,7 @@ module _ {B : Type 0} (ops : BufferOps B) (code : Code) where
 
   -- a thread that does an instruction takes what its request takes
   own_goes : (s : State B) (n : Name) (t : Thread B) (i : Instr) (r : Request) → instr_of code t.local ≡ Some i → request t.local i ≡ r
-      → Goes (perform ops code s n t i r) n t (taken_by ops code s t r)
+      → GoesOn (perform ops code s n t i r) n t (taken_by ops code s t r)
   own_goes s n t i (Read c) at e =
       takes_one _ n t i (loaded ops s t c) at (λ vs. ap (after_request t.local i (loaded ops s t c ∷ vs)) e) (get_put s.threads n _)
   own_goes s n t i (Exchange c v) at e =
@@ -115,7 +116,7 @@ module _ {B : Type 0} (ops : BufferOps B) (code : Code) where
       takes_one _ n t i (in_memory s c) at (λ vs. ap (after_request t.local i (in_memory s c ∷ vs)) e) (get_put s.threads n _)
   own_goes s n t i Bar at e = does_one _ n t i Bar (ops.bar t.buffer) at e refl (get_put s.threads n _)
   own_goes s n t i (Write c v) at e =
-      either (λ w. Goes w n t []) ops.buffered _ _
+      either (λ w. GoesOn w n t []) ops.buffered _ _
       (does_one _ n t i (Write c v) (ops.issue t.buffer c v) at e refl (get_put s.threads n _))
       (does_one _ n t i (Write c v) t.buffer at e refl (get_put s.threads n _))
   own_goes s n t i (Start f) at e =
@@ -134,13 +135,13 @@ module _ {B : Type 0} (ops : BufferOps B) (code : Code) where
 
   -- what the thread of a name does where it is the one that moves, and where it is another
   own_or_other : (s w : State B) (n q : Name) (t x : Thread B) (taken : Bool → List ℤ) → fin.get s.threads n ≡ Some t → fin.get s.threads q ≡ Some x
-      → Goes w q x (taken true) → (n ≢ q → Goes w n t (taken false)) → Goes w n t (taken (same_name n q))
+      → GoesOn w q x (taken true) → (n ≢ q → GoesOn w n t (taken false)) → GoesOn w n t (taken (same n q))
   own_or_other s w n q t x taken there here own other =
       elim (tells_names n q) [
         | inl e ↦
             let one = one_under s.threads q n x t (sym e.1) here there in
-            subst (λ b. Goes w n t (taken b)) (sym e.0) (subst (λ y. Goes w n y (taken true)) one (subst (λ m. Goes w m x (taken true)) (sym e.1) own))
-        | inr e ↦ subst (λ b. Goes w n t (taken b)) (sym e.0) (other e.1)
+            subst (λ b. GoesOn w n t (taken b)) (sym e.0) (subst (λ y. GoesOn w n y (taken true)) one (subst (λ m. GoesOn w m x (taken true)) (sym e.1) own))
+        | inr e ↦ subst (λ b. GoesOn w n t (taken b)) (sym e.0) (other e.1)
       ]
 
   -- what the thread that there may be takes
@@ -154,19 +155,20 @@ module _ {B : Type 0} (ops : BufferOps B) (code : Code) where
 
   -- what each thread does in a move
   went_goes : (s u : State B) (m : Move) (n : Name) (t : Thread B) → IsReached ops code s → Went ops code s u m → fin.get s.threads n ≡ Some t
-      → Goes u n t (taken_in ops code s n m)
+      → GoesOn u n t (taken_in ops code s n m)
   went_goes s u (move.Run q) n t reached w there =
-      subst (λ x. Goes x n t (taken_in ops code s n (move.Run q))) (sym w.after)
+      subst (λ x. GoesOn x n t (taken_in ops code s n (move.Run q))) (sym w.after)
       (own_or_other s _ n q t w.thread (λ b. cond b (taken_at s (fin.get s.threads q)) []) there w.there
-      (subst (Goes _ q w.thread) (sym (taken_is s q w.thread w.instr w.there w.at)) (own_goes s q w.thread w.instr (request w.thread.local w.instr) w.at refl))
+      (subst (GoesOn _ q w.thread) (sym (taken_is s q w.thread w.instr w.there w.at))
+      (own_goes s q w.thread w.instr (request w.thread.local w.instr) w.at refl))
       (λ apart. stays_put _ n t t (leaves s q w.thread w.instr _ n t there apart (not_next_child ops code s q n w.thread t reached w.there there)) refl))
   went_goes s u (move.Wake q v) n t reached w there =
-      subst (λ x. Goes x n t []) (sym w.after)
+      subst (λ x. GoesOn x n t []) (sym w.after)
       (own_or_other s _ n q t w.thread (λ b. []) there w.there
       (does_one _ q w.thread (Signal w.condition) (WakeOne w.condition) w.thread.buffer w.at refl refl (get_put s.threads q _))
       (λ apart. stays_put _ n t t (get_put_apart s.threads q _ n apart ∙ there) refl))
   went_goes s u (move.Drain q form) n t reached w there =
-      subst (λ x. Goes x n t []) (sym w.after)
+      subst (λ x. GoesOn x n t []) (sym w.after)
       (own_or_other s _ n q t w.thread (λ b. []) there w.there
       (stays_put _ q w.thread _ (get_put s.threads q _) refl)
       (λ apart. stays_put _ n t t (get_put_apart s.threads q _ n apart ∙ there) refl))
@@ -179,7 +181,7 @@ module _ {B : Type 0} (ops : BufferOps B) (code : Code) where
 
   -- a thread goes alone from a state, where it does so from the next
   goes_further : (s u : State B) (m : Move) (ms : List Move) (n : Name) (t v : Thread B) → step ops code s m ≡ Some u
-      → (g : Goes u n t (taken_in ops code s n m)) → GoesAlone u ms n g.after v → GoesAlone s (m ∷ ms) n t v
+      → (g : GoesOn u n t (taken_in ops code s n m)) → GoesAlone u ms n g.after v → GoesAlone s (m ∷ ms) n t v
   goes_further s u m ms n t v one g rest =
       let later = taken_from ops code u n ms in
       let all : taken_from ops code s n (m ∷ ms) ≡ taken_in ops code s n m ++ later =

@@ -1,29 +1,24 @@
 -- The index of an access that a thread does next is inside its array.
-use Rattle.std.proofs.Common.{◌≡◌, ◌∙◌, ℕ, ◌+◌, ◌-◌, ◌<◌, ◌≤◌, length, List, true, false, ◌&&◌, IsTrue, Some, refl}
-use Rattle.std.proofs.Common.{ap, ap₂, sym, subst, arith, ℤ, pos, slice_get, slice_set, nat_lt, inl, inr}
-use Rattle.std.specs.Prelude.{◌==◌, ◌||◌, nat_le, not}
-use Rattle.std.specs.Option.{option_map_or}
+use Rattle.std.proofs.Common.{◌≡◌, ◌∙◌, ℕ, ◌<◌, ◌≤◌, List, false, IsTrue, Some, refl}
+use Rattle.std.proofs.Common.{ap, ap₂, sym, subst, arith, ℤ, pos, slice_get, slice_set, inl, inr}
 use Rattle.std.specs.FinMap as fin
-use Rattle.std.proofs.lemmas.Bool.{false≢true, cases_lt, or_parts, not-true}
-use Rattle.std.proofs.lemmas.Bool.Decides.{nat_tests, Decides-int_eq}
+use Rattle.std.proofs.lemmas.Bool.{cases_lt, or_parts, not-true}
+use Rattle.std.proofs.lemmas.Bool.Decides.{nat_tests}
 use Rattle.std.proofs.lemmas.List.{get_or-set_other}
-use Rattle.std.proofs.lemmas.Option.{same_Some, option_and_then_some, slice_get_within}
-use Rattle.tc_base.specs.Arith.{unary, binary, same_unary, same_binary}
+use Rattle.std.proofs.lemmas.Option.{same_Some, option_and_then_some}
+use Rattle.tc_base.specs.Arith.{unary, binary}
 use Rattle.tc_base.specs.Names.{Name}
 use Rattle.tc_base.specs.Buffers.{BufferOps}
 use Rattle.tc_base.specs.States.{Local, Thread, State}
-use Rattle.tc_base.specs.declared.arith.UnOp.{UnOp}
-use Rattle.tc_base.specs.declared.arith.UnOp.TheVariants.{Neg, Not, Inv}
-use Rattle.tc_base.specs.declared.arith.BinOp.{BinOp}
-use Rattle.tc_base.specs.declared.arith.BinOp.TheVariants.{Add, Sub, Mul, And, Or, Xor, Eq, Ne, Lt, Le, Gt, Ge}
 use Rattle.tc_code.specs.Expr.{Expr, Number, Slot, Unary, Binary, value_of, names_slot}
-use Rattle.tc_code.specs.Instr.{Instr, Set, Load, Load_at, Store_at, Inside, Branch, Swap, Cas}
+use Rattle.tc_code.specs.declared.instr.Instr.{Instr}
+use Rattle.tc_code.specs.declared.instr.Instr.TheVariants.{Set, Load, LoadAt, StoreAt, Inside, Branch, Swap, Cas}
 use Rattle.tc_code.specs.Code.{Code}
 use Rattle.tc_code.specs.Lawful.{keeps, Guards, IsGuarded, IsLawful}
 use Rattle.tc_code.specs.declared.code.Func.{Func}
 use Rattle.tc_code.specs.Step.{is_within, value_in, request, local_after, instr_of}
 use Rattle.tc_code.specs.Run.{IsReached}
-use Rattle.tc_code.specs.Facts.{at_its_place, placed_next}
+use Rattle.tc_code.proofs.Facts.{at_its_place, placed_next}
 use Rattle.run_laws.specs.Whole.{AllThreads, IndexIsWithin}
 use Rattle.run_laws.proofs.After.{Leads, branch_is, after_has, place_after}
 use Rattle.run_laws.proofs.Changes.{is_fail, site_is_true}
@@ -42,7 +37,7 @@ value_of-set (Binary op a b) slots k v h =
 after_keeps : (t : Local) (i : Instr) (v : ℤ) (e : Expr) → IsTrue (keeps e i) → value_of e (local_after t i v).slots ≡ value_of e t.slots
 after_keeps t (Set k a) v e h = value_of-set e t.slots k _ (not-true _ h)
 after_keeps t (Load k c) v e h = value_of-set e t.slots k v (not-true _ h)
-after_keeps t (Load_at k first len i) v e h = value_of-set e t.slots k v (not-true _ h)
+after_keeps t (LoadAt k first len i) v e h = value_of-set e t.slots k v (not-true _ h)
 after_keeps t (Swap k c a) v e h = value_of-set e t.slots k v (not-true _ h)
 after_keeps t (Cas k c a b) v e h = value_of-set e t.slots k v (not-true _ h)
 after_keeps t (Branch a to) v e h = ap (λ u. value_of e u.slots) (branch_is t _ to)
@@ -99,7 +94,7 @@ after_guards code t i v at passes before g len e p k there h low high =
     goes_within len e g.instrs p k t i v h (next_in code t i g at here) passes low high (before g len e p k here h) (place_after t i v)
 
 module _ {B : Type 0} (ops : BufferOps B) (code : Code) where
-  -- each step does
+  -- each move does
   keeps_guards : (s : State B) → Keeps ops code s (GuardsHold code) (GuardsHold code)
   keeps_guards s = record {
     stays = λ t steps few h. h;
@@ -120,12 +115,12 @@ module _ {B : Type 0} (ops : BufferOps B) (code : Code) where
   -- the index of an access that a thread does next is inside its array
   pub index_is_within : (s : State B) (n : Name) (t : Thread B) (i : Instr) → IsLawful code → IsReached ops code s → fin.get s.threads n ≡ Some t
       → instr_of code t.local ≡ Some i → IndexIsWithin t.local i
-  index_is_within s n t (Load_at k first len e) lawful reached there at =
-      let placed = placed_next code t.local (Load_at k first len e) lawful at in
+  index_is_within s n t (LoadAt k first len e) lawful reached there at =
+      let placed = placed_next code t.local (LoadAt k first len e) lawful at in
       access_is_within t.local placed.function len e placed.there (placed.lawful.load t.local.instruction k first len e placed.at)
       (guards_hold s reached n t there)
-  index_is_within s n t (Store_at first len e a) lawful reached there at =
-      let placed = placed_next code t.local (Store_at first len e a) lawful at in
+  index_is_within s n t (StoreAt first len e a) lawful reached there at =
+      let placed = placed_next code t.local (StoreAt first len e a) lawful at in
       access_is_within t.local placed.function len e placed.there (placed.lawful.store t.local.instruction first len e a placed.at)
       (guards_hold s reached n t there)
   index_is_within s n t _ lawful reached there at = tt

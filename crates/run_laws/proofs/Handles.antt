@@ -7,9 +7,10 @@ use Rattle.tc_base.specs.Buffers.{BufferOps}
 use Rattle.tc_base.specs.States.{Local, Thread, State}
 use Rattle.tc_base.specs.declared.handle.Handle.{Handle}
 use Rattle.tc_base.specs.declared.handle.Handle.TheVariants.{Unset, Child, Joined}
-use Rattle.tc_code.specs.Instr.{Instr, Branch, Create, Join}
+use Rattle.tc_code.specs.declared.instr.Instr.{Instr}
+use Rattle.tc_code.specs.declared.instr.Instr.TheVariants.{Branch, Create, Join}
 use Rattle.tc_code.specs.Code.{Code}
-use Rattle.tc_code.specs.Step.{local_after, handle_of, child_number, child_has_exited, tids_of, born}
+use Rattle.tc_code.specs.Step.{local_after, handle_of, child_number, child_has_exited, handles_of, born}
 use Rattle.tc_code.specs.Run.{IsReached}
 use Rattle.run_laws.specs.Laws.{IsChildOf, ThreadsAreCreated, HoldsChild, HandlesAreChildren}
 use Rattle.run_laws.specs.Whole.{AllThreads}
@@ -50,7 +51,7 @@ joined_child t (Joined k) is some = absurd (some refl)
 module _ {B : Type 0} (ops : BufferOps B) (code : Code) where
   -- a new thread holds no child
   born_has_none : (f : ℕ) (vs : List ℤ) → HandlesAreChildren (born ops code f vs).local
-  born_has_none f vs h = subst (HoldsChild (born ops code f vs).local) (sym (index_or-replicate (tids_of code f) h Unset)) tt
+  born_has_none f vs h = subst (HoldsChild (born ops code f vs).local) (sym (index_or-replicate (handles_of code f) h Unset)) tt
 
   -- no child has the number 0
   no_child_zero : (s : State B) (n : Name) → ThreadsAreCreated s → IsTrue (child_has_exited s n 0) → ⊥
@@ -78,7 +79,7 @@ module _ {B : Type 0} (ops : BufferOps B) (code : Code) where
       (record { first = is.first; last = is.last }) all
   does_keep s u n i created g all = still_children g.before.local _ refl (le_refl _) all
 
-  -- each step does
+  -- each move does
   keeps_children : (s : State B) → ThreadsAreCreated s → Keeps ops code s HandlesAreChildren HandlesAreChildren
   keeps_children s created = record {
     stays = λ t steps few all. still_children t (record t { steps = steps }) refl (le_refl t.children) all;

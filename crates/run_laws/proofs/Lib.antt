@@ -1,5 +1,6 @@
 pub mod After
 pub mod AllThreads
+pub mod Asks
 pub mod Basics
 pub mod Begun
 pub mod Bound
@@ -10,6 +11,7 @@ pub mod Exits
 pub mod GoesAlone
 pub mod Guards
 pub mod Handles
+pub mod Ints
 pub mod Main
 pub mod Makes
 pub mod Names

@@ -5,7 +5,8 @@ use Rattle.tc_base.specs.Names.{Name, ByName, main}
 use Rattle.tc_base.specs.Buffers.{BufferOps}
 use Rattle.tc_base.specs.States.{Local, Thread, State}
 use Rattle.tc_base.specs.declared.moves.Move.{Move}
-use Rattle.tc_code.specs.Instr.{Instr, Create}
+use Rattle.tc_code.specs.declared.instr.Instr.{Instr}
+use Rattle.tc_code.specs.declared.instr.Instr.TheVariants.{Create}
 use Rattle.tc_code.specs.Code.{Code}
 use Rattle.tc_code.specs.Step.{step}
 use Rattle.tc_code.specs.Run.{IsReached}
@@ -21,7 +22,7 @@ module _ {B : Type 0} (ops : BufferOps B) (code : Code) where
   stays_with_child t n (Create h f es) threads q there = stays_after_put threads _ _ q there
   stays_with_child t n _ threads q there = there
 
-  -- a thread that is there stays in each step
+  -- a thread that is there stays in each move
   pub thread_stays : (q : Name) (s u : State B) (m : Move) → step ops code s m ≡ Some u → IsSome (fin.get s.threads q) → IsSome (fin.get u.threads q)
   thread_stays q s u m one there =
       elim (step_changes ops code s u m one) [

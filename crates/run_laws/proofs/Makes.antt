@@ -1,24 +1,22 @@
 -- A move is made where all that it asks is given.
-use Rattle.std.proofs.Common.{◌≡◌, ◌∙◌, ℕ, ◌&&◌, Bool, true, false, IsTrue, Option, Some, None, ap}
+use Rattle.std.proofs.Common.{◌≡◌, ◌∙◌, ℕ, IsTrue, Option, Some, None, ap}
 use Rattle.std.specs.Prelude.{is_some, if◌then◌else◌, option_and_then}
 use Rattle.std.specs.FinMap as fin
 use Rattle.std.specs.FinSet as set
+use Rattle.std.proofs.lemmas.Bool.{and_from}
 use Rattle.tc_base.specs.Names.{Name}
 use Rattle.tc_base.specs.Buffers.{BufferOps}
 use Rattle.tc_base.specs.States.{Thread, State}
 use Rattle.tc_base.specs.declared.moves.Move.{Move}
 use Rattle.tc_base.specs.declared.moves.Move.TheVariants as move
 use Rattle.tc_base.specs.declared.request.Request.{Request}
-use Rattle.tc_code.specs.Instr.{Instr, Signal}
+use Rattle.tc_code.specs.declared.instr.Instr.{Instr}
+use Rattle.tc_code.specs.declared.instr.Instr.TheVariants.{Signal}
 use Rattle.tc_code.specs.Code.{Code}
 use Rattle.tc_code.specs.Step.{request, instr_of, allows, perform, waiting_on, woken, drained, step, move_of, run_of, wake_of, drain_of}
 
-both_pass : (a b : Bool) → IsTrue a → IsTrue b → IsTrue (a && b)
-both_pass true b p q = q
-both_pass false b p q = p
-
-module _ {B : Type 0} (ops : BufferOps B) (code : Code) (s : State B) (n : Name) (t : Thread B) (going : s.failed ≡ None) (there : fin.get s.threads n ≡ Some
-    t) where
+module _ {B : Type 0} (ops : BufferOps B) (code : Code) (s : State B) (n : Name) (t : Thread B) (going : s.failed ≡ None)
+    (there : fin.get s.threads n ≡ Some t) where
   goes : (m : Move) → step ops code s m ≡ move_of ops code s m
   goes m = ap (λ o. if is_some o then None else move_of ops code s m) going
 
@@ -39,7 +37,7 @@ module _ {B : Type 0} (ops : BufferOps B) (code : Code) (s : State B) (n : Name)
       goes (move.Wake n u)
       ∙ ap (option_and_then (λ x. option_and_then (wake_of ops s n u x) (instr_of code x.local))) there
       ∙ ap (option_and_then (wake_of ops s n u t)) at
-      ∙ ap (λ b. if b then Some (woken ops s n u t c) else None) (both_pass _ _ empty waits)
+      ∙ ap (λ b. if b then Some (woken ops s n u t c) else None) (and_from _ _ empty waits)
 
   -- a store of it reaches memory
   pub makes_drain : (form : Option ℕ) → IsTrue (ops.may_drain t.buffer form) → step ops code s (move.Drain n form) ≡ Some (drained ops s n t form)

@@ -1,27 +1,31 @@
 -- Names of threads, and what is in a map under them.
 use Rattle.std.proofs.Common.{◌≡◌, ◌≢◌, ◌∙◌, ◌⊎◌, inl, inr, ℕ, length, Bool, true, false, cond, IsSome, Some, refl, ap, sym, subst, arith, true≢false}
 use Rattle.std.specs.FinMap as fin
-use Rattle.std.specs.Ordering.{nat_cmp, eq_by_cmp}
-use Rattle.std.specs.Cmp.Lexicographic.{slice_cmp}
 use Rattle.std.proofs.lemmas.Cmp.{nat_list_cmp_total, eq_by_cmp_equiv}
 use Rattle.std.proofs.lemmas.List.{length_push}
 use Rattle.std.proofs.lemmas.Map.Lookups.{exact_bytes}
 use Rattle.std.proofs.lemmas.Map.Views.{tells_apart}
 use Rattle.std.proofs.lemmas.Option.{same_Some}
 use Rattle.tc_base.specs.Names.{Name, ByName, main, child}
-
--- whether the map takes two names for one
-abbrev pub same_name : Name → Name → Bool
-same_name q n = eq_by_cmp (slice_cmp nat_cmp) q n
+use Rattle.run_laws.specs.Alone.{same}
 
 -- what the map says of two names, case by case
-tells : (q n : Name) (b : Bool) → same_name q n ≡ b → ((same_name q n ≡ true) × (q ≡ n)) ⊎ ((same_name q n ≡ false) × (q ≢ n))
+tells : (q n : Name) (b : Bool) → same q n ≡ b → ((same q n ≡ true) × (q ≡ n)) ⊎ ((same q n ≡ false) × (q ≢ n))
 tells q n true e = inl (e, tells_apart exact_bytes q n e)
-tells q n false e = inr (e, λ same. true≢false (sym ((eq_by_cmp_equiv nat_list_cmp_total).refl n) ∙ subst (λ m. same_name m n ≡ false) same e))
+tells q n false e = inr (e, λ one. true≢false (sym ((eq_by_cmp_equiv nat_list_cmp_total).refl n) ∙ subst (λ m. same m n ≡ false) one e))
 
 -- the map takes two names for one exactly where they are one
-pub tells_names : (q n : Name) → ((same_name q n ≡ true) × (q ≡ n)) ⊎ ((same_name q n ≡ false) × (q ≢ n))
+pub tells_names : (q n : Name) → ((same q n ≡ true) × (q ≡ n)) ⊎ ((same q n ≡ false) × (q ≢ n))
 tells_names q n = tells q n _ refl
+
+pub same_self : (q n : Name) → q ≡ n → same q n ≡ true
+same_self q n e = elim (tells_names q n) [ inl is ↦ is.0 | inr is ↦ absurd (is.1 e) ]
+
+pub same_other : (q n : Name) → q ≢ n → same q n ≡ false
+same_other q n other = elim (tells_names q n) [ inl is ↦ absurd (other is.1) | inr is ↦ is.0 ]
+
+pub is_same : (q n : Name) → same q n ≡ true → q ≡ n
+is_same q n e = tells_apart exact_bytes q n e
 
 -- a name is another, or not
 pub same_or_apart : (q n : Name) → (q ≡ n) ⊎ (q ≢ n)

@@ -3,23 +3,22 @@ use Rattle.std.proofs.Common.{◌≡◌, ◌≢◌, ◌↔◌, ◌∙◌, inl, i
 use Rattle.std.proofs.Common.{Some, None, is_none, refl, ap, sym, subst, arith, nat_lt, slice_set, slice_index_or, true≢false}
 use Rattle.std.specs.FinMap as fin
 use Rattle.std.specs.FinSet as set
-use Rattle.std.specs.Ordering.{nat_cmp}
-use Rattle.std.specs.Cmp.Lexicographic.{slice_cmp}
-use Rattle.std.proofs.lemmas.Bool.{cases_eq, ltb-true}
+use Rattle.std.proofs.lemmas.Bool.{and_parts, cases_eq, ltb-true}
 use Rattle.std.proofs.lemmas.List.{get_or-set_same, get_or-set_other}
 use Rattle.std.proofs.lemmas.Option.{none-some, same_Some}
-use Rattle.tc_base.specs.Names.{Name, ByName, main, child}
+use Rattle.tc_base.specs.Names.{Name, ByName, main, child, by_name}
 use Rattle.tc_base.specs.Buffers.{BufferOps}
 use Rattle.tc_base.specs.States.{Local, Thread, State}
 use Rattle.tc_base.specs.declared.moves.Move.{Move}
-use Rattle.tc_code.specs.Instr.{Instr, Branch, Lock, Unlock, Sleep, Wake, Create}
+use Rattle.tc_code.specs.declared.instr.Instr.{Instr}
+use Rattle.tc_code.specs.declared.instr.Instr.TheVariants.{Branch, Lock, Unlock, Sleep, Wake, Create}
 use Rattle.tc_code.specs.Code.{Code}
 use Rattle.tc_code.specs.Lawful.{IsLawful}
 use Rattle.tc_code.specs.Step.{holds, waiting_on, is_free, local_after, opening, step}
 use Rattle.tc_code.specs.Run.{IsReached}
 use Rattle.run_laws.specs.Laws.{OwnersHold}
 use Rattle.run_laws.specs.Whole.{IsWhole}
-use Rattle.run_laws.proofs.Basics.{second, some_is, some_value, index_or-replicate, index_or-set_default}
+use Rattle.run_laws.proofs.Basics.{some_is, some_value, index_or-replicate, index_or-set_default}
 use Rattle.run_laws.proofs.Names.{same_or_apart, get_put, get_put_apart, get_put_cases, stays_after_put, child_apart}
 use Rattle.run_laws.proofs.Steps.{holds_in_reached}
 use Rattle.run_laws.proofs.After.{branch_is}
@@ -169,8 +168,8 @@ module _ {B : Type 0} (ops : BufferOps B) (code : Code) where
     may_do (Lock m) g = may_take s n g.before m (reached_is_whole ops code s lawful r) g.there (names_next code g.before.local (Lock m) lawful g.at) g.allowed
     may_do (Wake c m) g =
         may_take s n g.before m (reached_is_whole ops code s lawful r) g.there
-        (second (nat_lt c code.conditions) _ (names_next code g.before.local (Wake c m) lawful g.at))
-        (second (not (set.contains (waiting_on s c) n)) _ g.allowed)
+        (and_parts (nat_lt c code.conditions) _ (names_next code g.before.local (Wake c m) lawful g.at)).1
+        (and_parts (not (set.contains (waiting_on s c) n)) _ g.allowed).1
     may_do (Unlock m) g = (agree.holder n g.before m g.there).0 ((reached_has_tested ops code s lawful r n g.before g.there).unlock m g.at)
     may_do (Sleep c m) g = (agree.holder n g.before m g.there).0 ((reached_has_tested ops code s lawful r n g.before g.there).sleep c m g.at)
     may_do _ g = tt
@@ -196,7 +195,7 @@ module _ {B : Type 0} (ops : BufferOps B) (code : Code) where
         subst (Agree u.owners) (sym g.threads) (subst (λ owners. Agree owners (fin.insert s.threads n g.after)) (sym g.owners)
         (agree_goes s.owners s.threads n g.before g.after Keeps g.there (ap (λ t. t.held) g.local) tt agree))
 
-  -- each step from a reached state keeps that
+  -- each move from a reached state keeps that
   agreed_after_step : IsLawful code → (s u : State B) (m : Move) → IsReached ops code s → step ops code s m ≡ Some u → Agree s.owners s.threads
       → Agree u.owners u.threads
   agreed_after_step lawful s u m r one agree =
@@ -208,9 +207,9 @@ module _ {B : Type 0} (ops : BufferOps B) (code : Code) where
   -- owners and threads agree at the start
   opening_agrees : Agree (opening ops code).owners (opening ops code).threads
   opening_agrees =
-      agree_born (opening ops code).owners fin.empty main _ (fin.get-empty (slice_cmp nat_cmp) main) (λ m. index_or-replicate code.mutexes m false)
+      agree_born (opening ops code).owners fin.empty main _ (fin.get-empty by_name main) (λ m. index_or-replicate code.mutexes m false)
       (record {
-        holder = λ n t m there. absurd (none-some t (sym (fin.get-empty (slice_cmp nat_cmp) n) ∙ there));
+        holder = λ n t m there. absurd (none-some t (sym (fin.get-empty by_name n) ∙ there));
         there = λ n m o. absurd (none-some n (sym (index_or-replicate code.mutexes m None) ∙ o));
       })
 

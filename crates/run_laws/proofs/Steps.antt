@@ -1,20 +1,22 @@
--- How a step goes: it is a run move, a wake or a drain, of a thread that is there.
+-- How a move goes: it is a run, a wake or a drain, of a thread that is there.
 use Rattle.std.proofs.Common.{◌≡◌, ℕ, ◌&&◌, IsTrue, Option, Some, None, refl, sym}
 use Rattle.std.specs.Prelude.{is_some, if◌then◌else◌}
 use Rattle.std.specs.FinMap as fin
 use Rattle.std.specs.FinSet as set
+use Rattle.std.proofs.lemmas.Bool.{and_parts}
 use Rattle.std.proofs.lemmas.Option.{none-some, option_and_then_some, cond_some}
 use Rattle.tc_base.specs.Names.{Name}
 use Rattle.tc_base.specs.Buffers.{BufferOps}
 use Rattle.tc_base.specs.States.{Thread, State}
 use Rattle.tc_base.specs.declared.moves.Move.{Move}
 use Rattle.tc_base.specs.declared.moves.Move.TheVariants as move
-use Rattle.tc_code.specs.Instr.{Instr, Signal}
+use Rattle.tc_code.specs.declared.instr.Instr.{Instr}
+use Rattle.tc_code.specs.declared.instr.Instr.TheVariants.{Signal}
 use Rattle.tc_code.specs.Code.{Code}
 use Rattle.tc_code.specs.Step.{request, instr_of, allows, perform, waiting_on, woken, drained, step, move_of, run_of, wake_of, drain_of, opening}
 use Rattle.tc_code.specs.Run.{IsReached}
-use Rattle.tc_code.specs.Facts.{kept_by_run, opening_is_reached, step_is_reached}
-use Rattle.run_laws.proofs.Basics.{first, second, unless}
+use Rattle.tc_code.proofs.Facts.{kept_by_run, opening_is_reached, step_is_reached}
+use Rattle.run_laws.proofs.Basics.{unless}
 
 module _ {B : Type 0} (ops : BufferOps B) (code : Code) where
   -- a thread does an instruction that it may
@@ -54,13 +56,14 @@ module _ {B : Type 0} (ops : BufferOps B) (code : Code) where
       → wake_of ops s n v t i ≡ Some u → Woke s u n v
   woke_at s u n v t (Signal c) there at h =
       let may = cond_some (ops.is_empty t.buffer && set.contains (waiting_on s c) v) _ u h in
+      let both = and_parts (ops.is_empty t.buffer) _ may.0 in
       record {
         thread = t;
         there = there;
         condition = c;
         at = at;
-        empty = first (ops.is_empty t.buffer) _ may.0;
-        waits = second (ops.is_empty t.buffer) _ may.0;
+        empty = both.0;
+        waits = both.1;
         after = sym may.1;
       }
   woke_at s u n v t _ there at h = absurd (none-some u h)
@@ -80,7 +83,7 @@ module _ {B : Type 0} (ops : BufferOps B) (code : Code) where
       let may = cond_some (ops.may_drain t.buffer form) _ u g in
       record { thread = t; there = there; may = may.0; after = sym may.1 })
 
-  -- before each step no thread has failed
+  -- before each move no thread has failed
   pub none_failed : (s u : State B) (m : Move) → step ops code s m ≡ Some u → s.failed ≡ None
   none_failed s u m h = still_none s.failed h
     where
@@ -88,11 +91,11 @@ module _ {B : Type 0} (ops : BufferOps B) (code : Code) where
       still_none None h = refl
       still_none (Some n) h = absurd (none-some u h)
 
-  -- how each step goes
+  -- how each move goes
   pub step_went : (s u : State B) (m : Move) → step ops code s m ≡ Some u → Went s u m
-  step_went s u m h = went s u m (unless (is_some s.failed) _ u h)
+  step_went s u m h = went s u m (unless (is_some s.failed) _ u h).1
 
-  -- what holds at the start, and what each step from a reached state keeps, holds in each reached state
+  -- what holds at the start, and what each move from a reached state keeps, holds in each reached state
   pub holds_in_reached : (P : State B → Type 0) → P (opening ops code)
       → ((s u : State B) (m : Move) → IsReached ops code s → step ops code s m ≡ Some u → P s → P u) → (s : State B) → IsReached ops code s → P s
   holds_in_reached P start keeps s r =

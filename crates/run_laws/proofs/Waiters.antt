@@ -1,27 +1,25 @@
 -- A waiter is a thread at a wake of the condition.
-use Rattle.std.proofs.Common.{◌≡◌, ◌≢◌, ◌∙◌, inl, inr, ℕ, ◌+◌, Bool, true, false, IsTrue, IsSome}
-use Rattle.std.proofs.Common.{Option, Some, None, ap, ap₂, sym, subst, slice_get, true≢false}
-use Rattle.std.specs.Prelude.{◌==◌, if◌then◌else◌}
+use Rattle.std.proofs.Common.{◌≡◌, ◌≢◌, ◌∙◌, inl, inr, ℕ, ◌+◌, IsTrue, IsSome}
+use Rattle.std.proofs.Common.{Some, None, ap, sym, subst, slice_get, true≢false}
+use Rattle.std.specs.Prelude.{if◌then◌else◌}
 use Rattle.std.specs.Option.{option_and_then}
 use Rattle.std.specs.FinMap as fin
 use Rattle.std.specs.FinSet as set
-use Rattle.std.specs.Ordering.{nat_cmp}
-use Rattle.std.specs.Cmp.Lexicographic.{slice_cmp}
-use Rattle.std.proofs.lemmas.Bool.{not_from_true}
-use Rattle.std.proofs.lemmas.Bool.Decides.{Decides-eqb}
-use Rattle.std.proofs.lemmas.Option.{none-some, same_Some}
-use Rattle.tc_base.specs.Names.{Name}
+use Rattle.std.proofs.lemmas.Bool.{and_parts, not_from_true}
+use Rattle.std.proofs.lemmas.Option.{same_Some}
+use Rattle.tc_base.specs.Names.{Name, by_name}
 use Rattle.tc_base.specs.Buffers.{BufferOps}
 use Rattle.tc_base.specs.States.{Local, Thread, State}
 use Rattle.tc_base.specs.declared.moves.Move.{Move}
-use Rattle.tc_code.specs.Instr.{Instr, Sleep, Wake, Create}
+use Rattle.tc_code.specs.declared.instr.Instr.{Instr}
+use Rattle.tc_code.specs.declared.instr.Instr.TheVariants.{Sleep, Wake, Create}
 use Rattle.tc_code.specs.Code.{Code, instr_at}
 use Rattle.tc_code.specs.Lawful.{IsLawful}
 use Rattle.tc_code.specs.Step.{is_free, request, instr_of, opening, step}
 use Rattle.tc_code.specs.Run.{IsReached}
-use Rattle.tc_code.specs.Facts.{placed_next}
+use Rattle.tc_code.proofs.Facts.{placed_next}
 use Rattle.run_laws.specs.Laws.{IsAtWake, WaitersAreAtWake}
-use Rattle.run_laws.proofs.Basics.{first, index_or-replicate, some_is}
+use Rattle.run_laws.proofs.Basics.{unless, index_or-replicate, some_is}
 use Rattle.run_laws.proofs.Main.{thread_stays}
 use Rattle.run_laws.proofs.Names.{same_or_apart, one_under, get_put, get_put_apart}
 use Rattle.run_laws.proofs.Steps.{holds_in_reached}
@@ -31,11 +29,6 @@ use Rattle.run_laws.proofs.Created.{not_next_child}
 -- who waits is a thread
 abbrev pub WaitersAreThere : {B : Type 0} → State B → Type 0
 WaitersAreThere s = (q : Name) (d : ℕ) → Waits s.waiters d q → IsSome (fin.get s.threads q)
-
--- a thread that hasn't exited does what stands at the next place
-goes_on : (b : Bool) (o p : Option Instr) (i j : Instr) → (if b then None else o) ≡ Some i → p ≡ Some j → (if b then None else p) ≡ Some j
-goes_on true o p i j at next = absurd (none-some i at)
-goes_on false o p i j at next = next
 
 -- after a sleep a thread is at the wake
 at_wake_after : (code : Code) (t : Local) (c m : ℕ) → IsLawful code → instr_of code t ≡ Some (Sleep c m)
@@ -48,7 +41,7 @@ module _ {B : Type 0} (ops : BufferOps B) (code : Code) where
   -- a waiter can't go on
   waiter_stays : (s : State B) (n : Name) (t : Local) (i : Instr) (c m : ℕ) → i ≡ Wake c m → Waits s.waiters c n → IsTrue (lets s n (request t i)) → ⊥
   waiter_stays s n t i c m is waits may =
-      true≢false (sym (first _ (is_free s m) (subst (λ j. IsTrue (lets s n (request t j))) is may)) ∙ not_from_true _ waits)
+      true≢false (sym (and_parts _ (is_free s m) (subst (λ j. IsTrue (lets s n (request t j))) is may)).0 ∙ not_from_true _ waits)
 
   module _ (s u : State B) (n : Name) (lawful : IsLawful code) (r : IsReached ops code s) (all : WaitersAreAtWake code s) where
     -- the other threads stay as they are
@@ -67,7 +60,9 @@ module _ {B : Type 0} (ops : BufferOps B) (code : Code) where
       mutex = m;
       at =
           ap (instr_of code) g.local
-          ∙ goes_on g.before.local.has_exited _ _ (Sleep c m) (Wake c m) g.at (at_wake_after code g.before.local c m lawful g.at)
+          ∙ ap (λ b. if b then None else instr_at code g.before.local.function (g.before.local.instruction + 1))
+          (unless g.before.local.has_exited _ (Sleep c m) g.at).0
+          ∙ at_wake_after code g.before.local c m lawful g.at
           ∙ ap (λ k. Some (Wake k m)) (sym on);
     }
     slept _ d g on = absurd on
@@ -114,7 +109,7 @@ module _ {B : Type 0} (ops : BufferOps B) (code : Code) where
           }
         ]
 
-  -- each step from a reached state keeps that
+  -- each move from a reached state keeps that
   at_wake_after_step : IsLawful code → (s u : State B) (m : Move) → IsReached ops code s → step ops code s m ≡ Some u → WaitersAreAtWake code s
       → WaitersAreAtWake code u
   at_wake_after_step lawful s u m r one all =
@@ -126,13 +121,13 @@ module _ {B : Type 0} (ops : BufferOps B) (code : Code) where
   -- nobody waits at the start
   nobody_waits : (q : Name) (d : ℕ) → Waits (opening ops code).waiters d q → ⊥
   nobody_waits q d waits =
-      true≢false (sym waits ∙ ap (λ ns. set.contains ns q) (index_or-replicate code.conditions d set.empty) ∙ set.contains-empty (slice_cmp nat_cmp) q)
+      true≢false (sym waits ∙ ap (λ ns. set.contains ns q) (index_or-replicate code.conditions d set.empty) ∙ set.contains-empty by_name q)
 
   -- in each reached state of lawful code a waiter is a thread at a wake of that condition
   pub waiters_are_at_wake : (s : State B) → IsLawful code → IsReached ops code s → WaitersAreAtWake code s
   waiters_are_at_wake s lawful = holds_in_reached ops code (WaitersAreAtWake code) (λ q d waits. absurd (nobody_waits q d waits)) (at_wake_after_step lawful) s
 
-  -- who waits after a step is there, where who waited was
+  -- who waits after a move is there, where who waited was
   there_after_step : (s u : State B) (m : Move) → IsReached ops code s → step ops code s m ≡ Some u → WaitersAreThere s → WaitersAreThere u
   there_after_step s u m r one all q d waits =
       elim (step_changes ops code s u m one) [

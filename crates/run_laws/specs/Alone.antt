@@ -1,21 +1,25 @@
 -- A thread by itself: what it does with the values that its loads take.
-use Rattle.std.specs.Prelude.{◌≡◌, ℕ, zero, suc, ◌+◌, ◌-◌, ℤ, pos, List, [], ◌∷◌, ◌++◌, length, map, Some, if◌then◌else◌}
+use Rattle.std.specs.Prelude.{◌≡◌, Bool, ℕ, zero, suc, ◌+◌, ◌-◌, ℤ, pos, List, [], ◌∷◌, ◌++◌, length, map, Some, if◌then◌else◌}
 use Rattle.std.specs.Option.{option_map_or}
-use Rattle.std.specs.Ordering.{nat_cmp, eq_by_cmp}
-use Rattle.std.specs.Cmp.Lexicographic.{slice_cmp}
+use Rattle.std.specs.Ordering.{eq_by_cmp}
 use Rattle.std.specs.FinMap as fin
-use Rattle.tc_base.specs.Names.{Name, main, child}
+use Rattle.tc_base.specs.Names.{Name, main, child, by_name}
 use Rattle.tc_base.specs.Buffers.{BufferOps}
 use Rattle.tc_base.specs.States.{Local, Thread, State}
 use Rattle.tc_base.specs.declared.moves.Move.{Move}
 use Rattle.tc_base.specs.declared.moves.Move.TheVariants as move
 use Rattle.tc_code.specs.Expr.{Expr}
-use Rattle.tc_code.specs.Instr.{Instr, Create}
+use Rattle.tc_code.specs.declared.instr.Instr.{Instr}
+use Rattle.tc_code.specs.declared.instr.Instr.TheVariants.{Create}
 use Rattle.tc_code.specs.Code.{Code}
 use Rattle.tc_base.specs.declared.request.Request.{Request}
 use Rattle.tc_base.specs.declared.request.Request.TheVariants.{Read, Exchange, CompareExchange, Fail}
 use Rattle.tc_code.specs.Step.{request, stepped, value_in, local_after, instr_of, loaded, in_memory, born, step}
 use Rattle.tc_code.specs.Run.{run}
+
+-- whether two names are one
+abbrev pub same : Name → Name → Bool
+same m n = eq_by_cmp by_name m n
 
 -- a thread, and the values that its further loads take
 pub record Alone : Type 0 where
@@ -50,7 +54,7 @@ module _ {B : Type 0} (ops : BufferOps B) (code : Code) where
   -- the value that a move's load by the thread of a name takes, if it is one
   abbrev pub taken_in : State B → Name → Move → List ℤ
   taken_in s q (move.Run n) =
-      if eq_by_cmp (slice_cmp nat_cmp) q n
+      if same q n
       then option_map_or (λ t. option_map_or (λ i. taken_by s t (request t.local i)) (instr_of code t.local) []) (fin.get s.threads n) []
       else []
   taken_in s q _ = []

@@ -6,7 +6,7 @@ use Rattle.tc_base.specs.Names.{Name, main, child}
 use Rattle.tc_base.specs.States.{Local, Thread, State}
 use Rattle.tc_base.specs.declared.handle.Handle.{Handle}
 use Rattle.tc_base.specs.declared.handle.Handle.TheVariants.{Unset, Child, Joined}
-use Rattle.tc_code.specs.Instr.{Unlock, Sleep, Wake, Join, Exit}
+use Rattle.tc_code.specs.declared.instr.Instr.TheVariants.{Unlock, Sleep, Wake, Join, Exit}
 use Rattle.tc_code.specs.Code.{Code, instr_at}
 use Rattle.tc_code.specs.Step.{holds, can_be_joined, handle_of, instr_of, waiting_on}
 

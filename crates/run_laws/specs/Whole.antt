@@ -3,7 +3,8 @@ use Rattle.std.specs.Prelude.{◌≡◌, length, Some, slice_get, IsTrue}
 use Rattle.std.specs.FinMap as fin
 use Rattle.tc_base.specs.Names.{Name, ByName}
 use Rattle.tc_base.specs.States.{Local, Thread, State}
-use Rattle.tc_code.specs.Instr.{Instr, Load_at, Store_at}
+use Rattle.tc_code.specs.declared.instr.Instr.{Instr}
+use Rattle.tc_code.specs.declared.instr.Instr.TheVariants.{LoadAt, StoreAt}
 use Rattle.tc_code.specs.Code.{Code}
 use Rattle.tc_code.specs.declared.code.Func.{Func}
 use Rattle.tc_code.specs.Step.{is_within, value_in}
@@ -17,7 +18,7 @@ pub record IsWholeThread (code : Code) (t : Local) : Type 0 where
   pub function : Func
   pub there : slice_get code.functions t.function ≡ Some function
   pub slots : length t.slots ≡ function.ints
-  pub handles : length t.handles ≡ function.tids
+  pub handles : length t.handles ≡ function.handles
   pub held : length t.held ≡ code.mutexes
 
 -- there are all cells, mutexes and conditions of the code, and each thread is whole
@@ -29,6 +30,6 @@ pub record IsWhole {B : Type 0} (code : Code) (s : State B) : Type 0 where
 
 -- the index of an access is inside its array
 abbrev pub IndexIsWithin : Local → Instr → Type 0
-IndexIsWithin t (Load_at k first len i) = IsTrue (is_within len (value_in t i))
-IndexIsWithin t (Store_at first len i e) = IsTrue (is_within len (value_in t i))
+IndexIsWithin t (LoadAt k first len i) = IsTrue (is_within len (value_in t i))
+IndexIsWithin t (StoreAt first len i e) = IsTrue (is_within len (value_in t i))
 IndexIsWithin t _ = Unit {0}

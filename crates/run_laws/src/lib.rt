@@ -4,16 +4,19 @@
 
 ghost use Rattle.std.specs.Prelude.{◌≡◌, ◌≤◌, ◌+◌, ℕ, ℤ, List, length, Option, Some, None, IsSome, IsTrue};
 ghost use Rattle.std.specs.FinMap as fin;
+ghost use Rattle.std.specs.List.{All};
+ghost use Rattle.tc_base.specs.Arith.{IsInt};
 ghost use Rattle.tc_base.specs.Buffers.{BufferOps};
 ghost use Rattle.tc_base.specs.Names.{Name, main, child};
 ghost use Rattle.tc_base.specs.States.{State, Thread};
 ghost use Rattle.tc_base.specs.declared.moves.Move.{Move};
-ghost use Rattle.tc_code.specs.Instr.{Instr};
+ghost use Rattle.tc_code.specs.declared.instr.Instr.{Instr};
 ghost use Rattle.tc_code.specs.Code.{Code};
 ghost use Rattle.tc_code.specs.Lawful.{IsLawful};
 ghost use Rattle.tc_code.specs.Run.{IsReached, run, run_from};
-ghost use Rattle.tc_code.specs.Step.{step, instr_of};
+ghost use Rattle.tc_code.specs.Step.{step, instr_of, request};
 ghost use Rattle.run_laws.specs.Alone.{after_steps, taken_from, Beginning, alone_since};
+ghost use Rattle.run_laws.specs.Ints.{PassesInts, StateHasInts, AsksInts};
 ghost use Rattle.run_laws.specs.Laws.{HasTested, OwnersHold, WaitersAreAtWake, ExitedPastExit, ThreadsAreCreated, HandlesAreChildren};
 ghost use Rattle.run_laws.specs.Whole.{AllThreads, IsWhole, IndexIsWithin};
 
@@ -85,6 +88,26 @@ pub fn threads_are_created<B>()
 pub fn handles_are_children<B>()
     ensures { (ops : BufferOps B) (code : Code) (s : State B)
         → IsReached ops code s → AllThreads HandlesAreChildren s.threads }
+{}
+
+/// Where a model's buffers give back ints wherever ints were put in, all values are ints: those in memory, in the slots of
+/// threads and in buffers.
+pub fn values_are_ints<B>()
+    ensures { (ops : BufferOps B) (code : Code) (s : State B)
+        → PassesInts ops → IsLawful code → IsReached ops code s → StateHasInts ops s }
+{}
+
+/// So are those that a thread asks by its next instruction.
+pub fn requests_have_ints<B>()
+    ensures { (ops : BufferOps B) (code : Code) (s : State B) (n : Name) (t : Thread B) (i : Instr)
+        → PassesInts ops → IsLawful code → IsReached ops code s → fin.get s.threads n ≡ Some t
+        → instr_of code t.local ≡ Some i → AsksInts (request t.local i) }
+{}
+
+/// And those that its loads take.
+pub fn taken_are_ints<B>()
+    ensures { (ops : BufferOps B) (code : Code) (s : State B) (n : Name) (moves : List Move)
+        → PassesInts ops → IsLawful code → IsReached ops code s → All IsInt (taken_from ops code s n moves) }
 {}
 
 /// What a thread has to itself is a function of its code, of what it had in an earlier state, as at its creation,

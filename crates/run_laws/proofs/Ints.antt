@@ -1,0 +1,224 @@
+-- In a run of lawful code all values are ints.
+use Rattle.std.proofs.Common.{◌≡◌, ◌∙◌, inl, inr, ℕ, ◌+◌, ◌-◌, length, ℤ, pos, List, [], ◌∷◌, map, Bool, true, false, Option}
+use Rattle.std.proofs.Common.{Some, None, refl, sym, subst}
+use Rattle.std.specs.Prelude.{unwrap_or}
+use Rattle.std.specs.List.{All}
+use Rattle.std.specs.Option.{option_map_or}
+use Rattle.std.specs.Ordering.{int_eq}
+use Rattle.std.specs.FinMap as fin
+use Rattle.std.proofs.lemmas.Bool.{cond_both}
+use Rattle.std.proofs.lemmas.List.Elements.{All-nil, All-cons, All-head, All-tail, All-append, All-replicate, All-set, All-weaker, All-map}
+use Rattle.std.proofs.lemmas.Option.{none-some}
+use Rattle.tc_base.specs.Arith.{IsInt}
+use Rattle.tc_base.specs.Names.{Name, by_name, main, child}
+use Rattle.tc_base.specs.Buffers.{BufferOps}
+use Rattle.tc_base.specs.States.{Local, Thread, State}
+use Rattle.tc_base.specs.declared.moves.Move.{Move}
+use Rattle.tc_base.specs.declared.moves.Move.TheVariants as move
+use Rattle.tc_base.specs.declared.request.Request.{Request}
+use Rattle.tc_base.specs.declared.request.Request.TheVariants.{Read, Write, Exchange, CompareExchange, Bar, Start, Fail}
+use Rattle.tc_base.proofs.Ints.{there_int, truth_int}
+use Rattle.tc_code.specs.Expr.{Expr, value_of, HasInts}
+use Rattle.tc_code.specs.declared.instr.Instr.{Instr}
+use Rattle.tc_code.specs.declared.instr.Instr.TheVariants.{Set, Load, LoadAt, Store, StoreAt, Inside, Branch, Holds, Signal, Create}
+use Rattle.tc_code.specs.declared.instr.Instr.TheVariants.{Ready, Assert, Nonzero, InRange, Swap, Cas}
+use Rattle.tc_code.specs.Code.{Code}
+use Rattle.tc_code.specs.Lawful.{exprs_of, IsLawful}
+use Rattle.tc_code.specs.Step.{request, site, stepped, value_in, local_after, arguments_of, instr_of, in_memory, replaced, ints_of, loaded, born}
+use Rattle.tc_code.specs.Step.{perform, with_thread, did, exchanged, step, opening}
+use Rattle.tc_code.specs.Run.{IsReached}
+use Rattle.tc_code.proofs.Facts.{placed_next, step_is_reached}
+use Rattle.tc_code.proofs.Ints.{value_int}
+use Rattle.run_laws.specs.Alone.{same, taken_by, taken_in, taken_from}
+use Rattle.run_laws.specs.Ints.{AsksInts, HoldsInts, Empty, Issued, Barred, Drained, PassesInts, ThreadHasInts, StateHasInts}
+use Rattle.run_laws.proofs.Basics.{either}
+use Rattle.run_laws.proofs.Names.{get_put_cases}
+use Rattle.run_laws.proofs.After.{branch_is}
+use Rattle.run_laws.proofs.Steps.{Went, step_went, holds_in_reached}
+
+-- what the next instruction of a thread computes with are ints
+ints_next : (code : Code) (t : Local) (i : Instr) (lawful : IsLawful code) (at : instr_of code t ≡ Some i) → All HasInts (exprs_of i)
+ints_next code t i lawful at = let placed = placed_next code t i lawful at in placed.lawful.ints t.instruction i placed.at
+
+-- 0 is an int
+pub zero_int : IsInt (pos 0)
+zero_int = truth_int false
+
+-- over ints expressions of ints are ints
+values_int : (es : List Expr) (slots : List ℤ) → All HasInts es → All IsInt slots → All IsInt (map (λ e. value_of e slots) es)
+values_int es slots i are =
+    All-map IsInt (λ e. value_of e slots) es (All-weaker HasInts (λ e. IsInt (value_of e slots)) (λ e is. value_int e slots is are) es i)
+
+module _ (t : Local) (are : All IsInt t.slots) where
+  first_int : (e : Expr) (es : List Expr) → All HasInts (e ∷ es) → IsInt (value_in t e)
+  first_int e es is = value_int e t.slots (All-head HasInts e es is) are
+
+  second_int : (d e : Expr) → All HasInts (d ∷ e ∷ []) → IsInt (value_in t e)
+  second_int d e is = first_int e [] (All-tail HasInts d (e ∷ []) is)
+
+  site_asks_ints : (b : Bool) → AsksInts (site b)
+  site_asks_ints true = tt
+  site_asks_ints false = tt
+
+  -- so an instruction of ints asks ints
+  asks_ints : (i : Instr) → All HasInts (exprs_of i) → AsksInts (request t i)
+  asks_ints (Store c e) is = first_int e [] is
+  asks_ints (StoreAt a len i e) is = second_int i e is
+  asks_ints (Swap k c e) is = first_int e [] is
+  asks_ints (Cas k c e new) is = (first_int e (new ∷ []) is, second_int e new is)
+  asks_ints (Inside len i) is = site_asks_ints _
+  asks_ints (Holds m) is = site_asks_ints _
+  asks_ints (Ready h) is = site_asks_ints _
+  asks_ints (Assert e) is = site_asks_ints _
+  asks_ints (Nonzero e) is = site_asks_ints _
+  asks_ints (InRange e) is = site_asks_ints _
+  asks_ints i is = tt
+
+  -- hands ints to a child
+  arguments_int : (i : Instr) → All HasInts (exprs_of i) → All IsInt (arguments_of t i)
+  arguments_int (Create h f es) is = values_int es t.slots is are
+  arguments_int i is = All-nil IsInt
+
+  -- and leaves ints in the slots, where it takes one
+  after_int : (i : Instr) (v : ℤ) → All HasInts (exprs_of i) → IsInt v → All IsInt (local_after t i v).slots
+  after_int (Set k e) v is int = All-set IsInt t.slots k _ (first_int e [] is) are
+  after_int (Load k c) v is int = All-set IsInt t.slots k v int are
+  after_int (LoadAt k a len i) v is int = All-set IsInt t.slots k v int are
+  after_int (Swap k c e) v is int = All-set IsInt t.slots k v int are
+  after_int (Cas k c e new) v is int = All-set IsInt t.slots k v int are
+  after_int (Branch e to) v is int = subst (λ u. All IsInt u.slots) (sym (branch_is t _ to)) are
+  after_int i v is int = are
+
+module _ {B : Type 0} (ops : BufferOps B) (code : Code) (passes : PassesInts ops) where
+  -- a thread that begins with ints has ints
+  born_ints : (f : ℕ) (vs : List ℤ) → All IsInt vs → ThreadHasInts ops (born ops code f vs)
+  born_ints f vs are = record {
+    slots = All-append IsInt vs _ are (All-replicate IsInt (ints_of code f - length vs) (pos 0) zero_int);
+    buffer = Empty;
+  }
+
+  module _ (s : State B) (has : StateHasInts ops s) where
+    -- a thread that has ints is put in
+    put_ints : (n : Name) (t : Thread B) → ThreadHasInts ops t → StateHasInts ops (with_thread s n t)
+    put_ints n t ints = record {
+      memory = has.memory;
+      threads = λ q u there.
+          elim (get_put_cases s.threads n t q u there) [
+            | inl is ↦ subst (ThreadHasInts ops) is.1 ints
+            | inr was ↦ has.threads q u was.1
+          ];
+    }
+
+    -- what is in memory is an int
+    pub in_memory_int : (c : ℕ) → IsInt (in_memory s c)
+    in_memory_int c = there_int s.memory c has.memory
+
+    -- and so is what a load takes
+    pub loaded_int : (t : Thread B) (c : ℕ) → ThreadHasInts ops t → IsInt (loaded ops s t c)
+    loaded_int t c ints = by (ops.forward t.buffer c) refl
+      where
+        by : (o : Option ℤ) → ops.forward t.buffer c ≡ o → IsInt (unwrap_or o (in_memory s c))
+        by None is = in_memory_int c
+        by (Some v) is = passes.forwards t.buffer c v ints.buffer is
+
+    taken_by_int : (t : Thread B) (r : Request) → ThreadHasInts ops t → All IsInt (taken_by ops code s t r)
+    taken_by_int t (Read c) ints = All-cons IsInt _ [] (loaded_int t c ints) (All-nil IsInt)
+    taken_by_int t (Exchange c v) ints = All-cons IsInt _ [] (in_memory_int c) (All-nil IsInt)
+    taken_by_int t (CompareExchange c e v) ints = All-cons IsInt _ [] (in_memory_int c) (All-nil IsInt)
+    taken_by_int t r ints = All-nil IsInt
+
+    -- what the thread of a name takes in a move
+    taken_in_int : (q : Name) (m : Move) → All IsInt (taken_in ops code s q m)
+    taken_in_int q (move.Run n) = either (All IsInt) (same q n) _ _ (by_thread (fin.get s.threads n) refl) (All-nil IsInt)
+      where
+        by_instr : (t : Thread B) → ThreadHasInts ops t → (o : Option Instr) → All IsInt (option_map_or (λ i. taken_by ops code s t (request t.local i)) o [])
+        by_instr t ints None = All-nil IsInt
+        by_instr t ints (Some i) = taken_by_int t (request t.local i) ints
+
+        by_thread : (o : Option (Thread B)) → fin.get s.threads n ≡ o
+            → All IsInt (option_map_or (λ t. option_map_or (λ i. taken_by ops code s t (request t.local i)) (instr_of code t.local) []) o [])
+        by_thread None there = All-nil IsInt
+        by_thread (Some t) there = by_instr t (has.threads n t there) (instr_of code t.local)
+    taken_in_int q (move.Wake n v) = All-nil IsInt
+    taken_in_int q (move.Drain n form) = All-nil IsInt
+
+  module _ (s : State B) (n : Name) (t : Thread B) (i : Instr) (has : StateHasInts ops s) (ints : ThreadHasInts ops t) (is : All HasInts (exprs_of i)) where
+    -- a thread does an instruction
+    does_ints : (v : ℤ) (b : B) → IsInt v → HoldsInts ops b → StateHasInts ops (with_thread s n (record { local = local_after t.local i v; buffer = b }))
+    does_ints v b int holds = put_ints s has n _ (record { slots = after_int t.local ints.slots i v is int; buffer = holds })
+
+    did_ints : StateHasInts ops (did ops s n t i)
+    did_ints = does_ints (pos 0) t.buffer zero_int ints.buffer
+
+    exchanged_ints : (c : ℕ) (v : ℤ) → IsInt v → StateHasInts ops (exchanged ops s n t i c v)
+    exchanged_ints c v int = record {
+      memory = All-set IsInt s.memory c v int has.memory;
+      threads = (does_ints (in_memory s c) t.buffer (in_memory_int s has c) ints.buffer).threads;
+    }
+
+    performed_ints : (r : Request) → AsksInts r → StateHasInts ops (perform ops code s n t i r)
+    performed_ints (Read c) asks = does_ints (loaded ops s t c) t.buffer (loaded_int s has t c ints) ints.buffer
+    performed_ints (Write c v) asks =
+        cond_both ops.buffered _ _ (StateHasInts ops)
+        (λ buffered. does_ints (pos 0) (ops.issue t.buffer c v) zero_int (Issued t.buffer c v buffered ints.buffer asks))
+        (λ _. record { memory = All-set IsInt s.memory c v asks has.memory; threads = did_ints.threads })
+    performed_ints (Exchange c v) asks = exchanged_ints c v asks
+    performed_ints (CompareExchange c e v) asks =
+        exchanged_ints c (replaced (in_memory s c) e v) (either IsInt (int_eq (in_memory s c) e) v (in_memory s c) asks.1 (in_memory_int s has c))
+    performed_ints Bar asks = does_ints (pos 0) (ops.bar t.buffer) zero_int (Barred t.buffer ints.buffer)
+    performed_ints (Start f) asks =
+        put_ints (did ops s n t i) did_ints (child n (t.local.children + 1)) _ (born_ints f _ (arguments_int t.local ints.slots i is))
+    performed_ints Fail asks =
+        let failed = put_ints s has n (record t { local = stepped t.local }) (record { slots = ints.slots; buffer = ints.buffer }) in
+        record { memory = failed.memory; threads = failed.threads }
+    performed_ints r asks = record { memory = did_ints.memory; threads = did_ints.threads }
+
+  module _ (lawful : IsLawful code) where
+    -- so each move of lawful code keeps ints
+    went_ints : (s u : State B) (m : Move) → Went ops code s u m → StateHasInts ops s → StateHasInts ops u
+    went_ints s u (move.Run n) w has =
+        let ints = has.threads n w.thread w.there in
+        let is = ints_next code w.thread.local w.instr lawful w.at in
+        subst (StateHasInts ops) (sym w.after)
+        (performed_ints s n w.thread w.instr has ints is (request w.thread.local w.instr) (asks_ints w.thread.local ints.slots w.instr is))
+    went_ints s u (move.Wake n v) w has =
+        let does = did_ints s n w.thread (Signal w.condition) has (has.threads n w.thread w.there) (All-nil HasInts) in
+        subst (StateHasInts ops) (sym w.after) (record { memory = does.memory; threads = does.threads })
+    went_ints s u (move.Drain n form) w has =
+        let ints = has.threads n w.thread w.there in
+        let rest = put_ints s has n (record (w.thread) { buffer = (ops.drain w.thread.buffer form).rest })
+        (record { slots = ints.slots; buffer = Drained w.thread.buffer form w.may ints.buffer }) in
+        subst (StateHasInts ops) (sym w.after)
+        (record { memory = All-set IsInt s.memory _ _ (passes.drains w.thread.buffer form ints.buffer w.may) has.memory; threads = rest.threads })
+
+    opening_ints : StateHasInts ops (opening ops code)
+    opening_ints = record {
+      memory = lawful.ints;
+      threads = λ n t there.
+          elim (get_put_cases fin.empty main _ n t there) [
+            | inl is ↦ subst (ThreadHasInts ops) is.1 (born_ints _ [] (All-nil IsInt))
+            | inr was ↦ absurd (none-some t (sym (fin.get-empty by_name n) ∙ was.1))
+          ];
+    }
+
+    -- in each reached state memory, slots and buffers have ints
+    pub values_are_ints : (s : State B) → IsReached ops code s → StateHasInts ops s
+    values_are_ints = holds_in_reached ops code (StateHasInts ops) opening_ints (λ s u m r one has. went_ints s u m (step_went ops code s u m one) has)
+
+    -- what a thread asks next has ints
+    pub requests_have_ints : (s : State B) (n : Name) (t : Thread B) (i : Instr) → IsReached ops code s → fin.get s.threads n ≡ Some t
+        → instr_of code t.local ≡ Some i → AsksInts (request t.local i)
+    requests_have_ints s n t i reached there at =
+        asks_ints t.local ((values_are_ints s reached).threads n t there).slots i (ints_next code t.local i lawful at)
+
+    -- and what it takes are ints
+    pub taken_are_ints : (s : State B) (n : Name) (moves : List Move) → IsReached ops code s → All IsInt (taken_from ops code s n moves)
+    taken_are_ints s n [] reached = All-nil IsInt
+    taken_are_ints s n (m ∷ ms) reached =
+        All-append IsInt (taken_in ops code s n m) _ (taken_in_int s (values_are_ints s reached) n m)
+        (later (λ u one. taken_are_ints u n ms (step_is_reached ops code s u m one reached)) (step ops code s m) refl)
+      where
+        later : ((u : State B) → step ops code s m ≡ Some u → All IsInt (taken_from ops code u n ms)) → (o : Option (State B)) → step ops code s m ≡ o
+            → All IsInt (option_map_or (λ u. taken_from ops code u n ms) o [])
+        later each None one = All-nil IsInt
+        later each (Some u) one = each u one

@@ -1,0 +1,19 @@
+-- What a request asks for is there.
+use Rattle.std.specs.Prelude.{ℕ, ◌<◌}
+use Rattle.tc_base.specs.declared.request.Request.{Request}
+use Rattle.tc_base.specs.declared.request.Request.TheVariants.{Read, Write, Exchange, CompareExchange, Acquire, Release}
+use Rattle.tc_base.specs.declared.request.Request.TheVariants.{BeginWait, EndWait, WakeOne, WakeAll}
+
+-- where there are so many cells, mutexes and conditions
+abbrev pub AsksWithin : (cells mutexes conditions : ℕ) → Request → Type 0
+AsksWithin cells mutexes conditions (Read c) = c < cells
+AsksWithin cells mutexes conditions (Write c v) = c < cells
+AsksWithin cells mutexes conditions (Exchange c v) = c < cells
+AsksWithin cells mutexes conditions (CompareExchange c e v) = c < cells
+AsksWithin cells mutexes conditions (Acquire m) = m < mutexes
+AsksWithin cells mutexes conditions (Release m) = m < mutexes
+AsksWithin cells mutexes conditions (BeginWait c m) = (c < conditions) × (m < mutexes)
+AsksWithin cells mutexes conditions (EndWait c m) = (c < conditions) × (m < mutexes)
+AsksWithin cells mutexes conditions (WakeOne c) = c < conditions
+AsksWithin cells mutexes conditions (WakeAll c) = c < conditions
+AsksWithin cells mutexes conditions _ = Unit {0}
