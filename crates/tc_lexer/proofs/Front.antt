@@ -1,12 +1,11 @@
 -- The piece at the front of some bytes is the one that the reader finds there.
 use Rattle.std.proofs.Common.{◌≡◌, ◌+◌, ◌<◌, ◌≤◌, ◌^◌, ℕ, ℤ, pos, negsuc, Bool, true, false, List, [], ◌∷◌, ◌++◌, length, take, drop, refl, sym, ap, inl, inr}
 use Rattle.std.proofs.Common.{◌∙◌, subst, arith, Option, Some, None, append_assoc, length-take}
-use Rattle.std.specs.Prelude.{codes, nat_eq, nat_lt, option_map, slice_get, ◌==◌, ◌&&◌, ◌||◌, not}
+use Rattle.std.specs.Prelude.{codes, nat_eq, option_map, slice_get, ◌==◌, ◌&&◌, ◌||◌, not}
 use Rattle.std.specs.List.{list_all, prefix_len, starts_with}
 use Rattle.std.specs.Fmt.{decimal}
-use Rattle.std.specs.Str.Parse.{digits_value}
-use Rattle.std.proofs.lemmas.Bool.{cases_Bool, and_parts, and_from, and_left, or_parts, or_from, not-true, not_from_false, cond-true, cond-false, lt-ltb}
-use Rattle.std.proofs.lemmas.Bool.{ltb-true}
+use Rattle.std.proofs.lemmas.List.Sums.{prefix_len-le-length}
+use Rattle.std.proofs.lemmas.Bool.{cases_Bool, and_parts, and_from, and_left, or_parts, or_from, not-true, not_from_false, cond-true, cond-false}
 use Rattle.std.proofs.lemmas.Bool.Decides.{nat_tests, Decides-eqb}
 use Rattle.std.proofs.lemmas.List.{take_at, take-append-drop}
 use Rattle.std.proofs.lemmas.Slice.Eq.{starts_is}
@@ -17,14 +16,15 @@ use Rattle.tc_lexer.specs.declared.token.Sign.TheVariants.{Plus, Minus, Star, Sl
 use Rattle.tc_lexer.specs.declared.token.Sign.TheVariants.{BangEqual, ShiftLeft, ShiftRight, And, Caret, Or, AndAnd, OrOr}
 use Rattle.tc_lexer.specs.declared.token.TokenKind.{TokenKind}
 use Rattle.tc_lexer.specs.declared.piece.Piece.{Piece as Shape}
-use Rattle.tc_lexer.specs.Tokens.{PlainToken, Name, Number, Keyword, Sign, is_digit, is_letter, is_word, begins_with_letter, keyword_text, sign_text}
+use Rattle.tc_lexer.specs.Tokens.{PlainToken, Name, Number, Keyword, Sign, is_letter, is_word, begins_with_letter, keyword_text, sign_text}
 use Rattle.tc_lexer.specs.Tokens.{keyword_since, spelling, IsName, IsToken, token_continues}
 use Rattle.tc_lexer.specs.Pieces.{Piece, Space, LineComment, BlockComment, Token, is_space, is_line_feed, written, IsPiece, continues, EndsBefore, Begins}
 use Rattle.tc_lexer.specs.Text.{kind_of}
-use Rattle.tc_lexer.specs.helpers.Reading.{shape_of, keyword_of, sign_at, leads_with_zero, number_of, keyword_or_name, word_token, before_close, word_piece}
+use Rattle.tc_lexer.specs.helpers.Reading.{shape_of, keyword_of, sign_at, int_of, keyword_or_name, word_token, before_close, word_piece}
 use Rattle.tc_lexer.specs.helpers.Reading.{mark_piece, front}
-use Rattle.tc_lexer.proofs.Lists.{prefix_len_run, run_ends, run_passes, prefix_len_within}
-use Rattle.tc_lexer.proofs.Numbers.{decimal_digits, decimal_some, decimal_cells, decimal_value, decimal_leads, value_written}
+use Rattle.tc_decimal.specs.Decimals.{is_digit, number_of}
+use Rattle.tc_decimal.proofs.Decimals.{decimal_digits, decimal_some, decimal_cells, number_again, number_is}
+use Rattle.tc_decimal.proofs.Runs.{prefix_len_run, run_ends, run_passes}
 use Rattle.tc_lexer.proofs.Keywords.{keyword_found, keyword_is, keyword_letters, name_no_keyword, no_keyword_is}
 use Rattle.tc_lexer.proofs.Signs.{eq_swapped, SignEnds, sign_found, sign_ends, sign_is}
 use Rattle.tc_lexer.proofs.Comments.{HasNoClose, mapped, close_is, close_found}
@@ -104,20 +104,15 @@ keyword_token language k h =
     cond-true (begins_with_letter (keyword_text k)) _ _ letters.0
     ∙ ap (λ (o : Option AnyKeyword). Some (keyword_or_name o (keyword_text k))) (keyword_found language k h)
 
-number_found : (n : ℕ) → n < 2 ^ 31 → number_of (decimal n) ≡ Some (pos n)
-number_found n h =
-    let value = decimal_value n h in
-    let small : nat_lt (digits_value 10 (decimal n)) (2 ^ 31) ≡ true = lt-ltb _ _ (omega arith) in
-    let all : (list_all is_digit (decimal n) && not (leads_with_zero (decimal n))) ≡ true =
-    and_from _ _ (decimal_digits n h) (not_from_false _ (decimal_leads n h)) in
-    cond-true _ _ _ (and_from _ _ all small) ∙ ap (λ (k : ℕ). Some (pos k)) value
+number_found : (n : ℕ) → n < 2 ^ 31 → int_of (decimal n) ≡ Some (pos n)
+number_found n h = ap (option_map pos) (number_again 2147483647 n (omega arith) (omega arith))
 
 no_letter_first : (bs : List ℕ) (b : ℕ) (rest : List ℕ) → bs ≡ b ∷ rest → is_digit b ≡ true → begins_with_letter bs ≡ false
 no_letter_first bs b rest e h = ap begins_with_letter e ∙ digit_no_letter b h
 
 number_token : (language n : ℕ) → n < 2 ^ 31 → word_token language (decimal n) ≡ Some (Number (pos n))
 number_token language n h =
-    let d = decimal_cells n h in
+    let d = decimal_cells n (omega arith) in
     cond-false (begins_with_letter (decimal n)) _ _ (no_letter_first (decimal n) d.0 d.1 d.2 d.3) ∙ ap (option_map Number) (number_found n h)
 
 and_with_true : (x : Bool) → (x && true) ≡ false → x ≡ false
@@ -178,7 +173,7 @@ token_front language (Name word) rest h e =
     word_front language word rest (Name word) (letter_some word h.letter) h.all (ends_run language (Token (Name word)) is_word (λ b. refl) rest e)
     (name_token language word h)
 token_front language (Number (pos n)) rest h e =
-    word_front language (decimal n) rest (Number (pos n)) (decimal_some n h) (digits_are_words (decimal n) (decimal_digits n h))
+    word_front language (decimal n) rest (Number (pos n)) (decimal_some n (omega arith)) (digits_are_words (decimal n) (decimal_digits n (omega arith)))
     (ends_run language (Token (Number (pos n))) is_word (λ b. refl) rest e) (number_token language n h)
 token_front language (Number (negsuc n)) rest h e = absurd h
 token_front language (Keyword k) rest h e =
@@ -207,24 +202,12 @@ pub record Writes (language : ℕ) (t : PlainToken) (word : List ℕ) : Type 0 w
   pub spelled : spelling t ≡ word
   pub ends : (b : ℕ) → token_continues language t b ≡ is_word b
 
-number_writes : (language : ℕ) (word : List ℕ) (n : ℤ) → 0 < length word → number_of word ≡ Some n → Writes language (Number n) word
-number_writes language word n some e = elim (cases_Bool (list_all is_digit word && not (leads_with_zero word) && nat_lt (digits_value 10 word) (2 ^ 31))) [
-  | inl h ↦
-      let same : ◌≡◌ {A = Option ℤ} (Some (pos (digits_value 10 word))) (Some n) = sym (cond-true _ _ _ h) ∙ e in
-      let value : pos (digits_value 10 word) ≡ n = cc in
-      let p = and_parts (list_all is_digit word && not (leads_with_zero word)) _ h in
-      let q = and_parts (list_all is_digit word) (not (leads_with_zero word)) p.0 in
-      let small = ltb-true _ _ p.1 in
-      subst (λ (m : ℤ). Writes language (Number m) word) value (record {
-        token = small;
-        spelled = value_written word q.0 (not-true _ q.1) some small;
-        ends =
-            λ b. refl;
-      })
-  | inr h ↦
-      let none : ◌≡◌ {A = Option ℤ} None (Some n) = sym (cond-false _ _ _ h) ∙ e in
-      absurd cc
-]
+number_writes : (language : ℕ) (word : List ℕ) (n : ℤ) → int_of word ≡ Some n → Writes language (Number n) word
+number_writes language word n e =
+    let m = mapped pos (number_of 2147483647 word) n e in
+    let w = number_is 2147483647 word m.0 (omega arith) m.1 in
+    let small : m.0 < 2 ^ 31 = omega (arith, w.within) in
+    subst (λ (k : ℤ). Writes language (Number k) word) m.2 (record { token = small; spelled = w.spelled; ends = λ b. refl })
 
 letters_write : (language : ℕ) (word : List ℕ) (o : Option AnyKeyword) → begins_with_letter word ≡ true → list_all is_word word ≡ true
     → keyword_of language word ≡ o → Writes language (keyword_or_name o word) word
@@ -240,8 +223,8 @@ word_writes language word t some all e = elim (cases_Bool (begins_with_letter wo
       let token : keyword_or_name (keyword_of language word) word ≡ t = cc in
       subst (λ (u : PlainToken). Writes language u word) token (letters_write language word (keyword_of language word) h all refl)
   | inr h ↦
-      let m = mapped Number (number_of word) t (sym (cond-false (begins_with_letter word) _ _ h) ∙ e) in
-      subst (λ (u : PlainToken). Writes language u word) m.2 (number_writes language word m.0 some m.1)
+      let m = mapped Number (int_of word) t (sym (cond-false (begins_with_letter word) _ _ h) ∙ e) in
+      subst (λ (u : PlainToken). Writes language u word) m.2 (number_writes language word m.0 m.1)
 ]
 
 -- these bytes begin with the piece
@@ -252,7 +235,7 @@ word_is : (language : ℕ) (bytes : List ℕ) (p : Piece) → 0 < prefix_len is_
 word_is language bytes p some e =
     let n = prefix_len is_word bytes in
     let m = mapped Token (word_token language (take n bytes)) p e in
-    let long : 0 < length (take n bytes) = omega (arith, length-take n bytes, prefix_len_within is_word bytes) in
+    let long : 0 < length (take n bytes) = omega (arith, length-take n bytes, prefix_len-le-length is_word bytes) in
     let w = word_writes language (take n bytes) m.0 long (run_passes is_word bytes) m.1 in
     let split : bytes ≡ spelling m.0 ++ drop n bytes = sym (take-append-drop n bytes) ∙ ap (λ (s : List ℕ). s ++ drop n bytes) (sym w.spelled) in
     let begins : Begins language bytes (Token m.0) (drop n bytes) =
@@ -366,7 +349,7 @@ pub word_shape : (bytes : List ℕ) (n : ℕ) (kind : TokenKind) → n ≡ prefi
     → ◌≡◌ {A = Option Shape} (Some (record { kind = Some kind; len = n })) (option_map shape_of (word_piece 3 bytes))
 word_shape bytes n kind e some h =
     let m = mapped kind_of (word_token 3 (take n bytes)) kind h in
-    let long : length (take n bytes) ≡ n = omega (arith, length-take n bytes, prefix_len_within is_word bytes) in
+    let long : length (take n bytes) ≡ n = omega (arith, length-take n bytes, prefix_len-le-length is_word bytes) in
     let passes : list_all is_word (take n bytes) ≡ true = ap (λ (k : ℕ). list_all is_word (take k bytes)) e ∙ run_passes is_word bytes in
     let w = word_writes 3 (take n bytes) m.0 (omega arith) passes m.1 in
     shape_token m.0 kind n m.2 (ap length w.spelled ∙ long)

@@ -1,5 +1,3 @@
-pub mod Lists
-pub mod Numbers
 pub mod Places
 pub mod Keywords
 pub mod Signs

@@ -12,8 +12,9 @@ use Rattle.tc_lexer.specs.declared.token.Sign.TheVariants.{BangEqual, ShiftLeft,
 use Rattle.tc_lexer.specs.Tokens.{PlainToken, Name, Number, Keyword, Sign, is_word, begins_with_letter, keyword_text, sign_text, sign_since, spelling, IsToken}
 use Rattle.tc_lexer.specs.Pieces.{Piece, Space, LineComment, BlockComment, Token, is_space, is_line_feed, written, IsPiece, Begins}
 use Rattle.tc_lexer.specs.helpers.Reading.{word_token, sign_at, front}
-use Rattle.tc_lexer.proofs.Lists.{run_passes, prefix_len_within}
-use Rattle.tc_lexer.proofs.Numbers.{decimal_some, decimal_digits}
+use Rattle.std.proofs.lemmas.List.Sums.{prefix_len-le-length}
+use Rattle.tc_decimal.proofs.Decimals.{decimal_some, decimal_digits}
+use Rattle.tc_decimal.proofs.Runs.{run_passes}
 use Rattle.tc_lexer.proofs.Keywords.{keyword_letters}
 use Rattle.tc_lexer.proofs.Comments.{mapped}
 use Rattle.tc_lexer.proofs.Signs.{ends_alone, sign_found}
@@ -47,7 +48,7 @@ line_long language body after h p f =
     let found_line : ◌≡◌ {A = Option Piece} (Some (LineComment (take n (body ++ after)))) (Some p) = f in
     let same : LineComment (take n (body ++ after)) ≡ p = cc in
     let run = run_holds other body after h in
-    omega (arith, ap (λ (r : Piece). length (written r)) same, length-take n (body ++ after), prefix_len_within other (body ++ after))
+    omega (arith, ap (λ (r : Piece). length (written r)) same, length-take n (body ++ after), prefix_len-le-length other (body ++ after))
 
 word_long : (language : ℕ) (word after : List ℕ) → 0 < length word → list_all is_word word ≡ true → LongEnough language (word ++ after) (length word)
 word_long language [] after some all p f = absurd (omega arith)
@@ -58,7 +59,7 @@ word_long language (b ∷ bs) after some all p f =
     let run = run_holds is_word (b ∷ bs) after all in
     let m = mapped Token (word_token language (take n bytes)) p (sym (cond-false (is_space b) _ _ (word_no_space b first) ∙ cond-true (is_word b) _ _ first)
     ∙ f) in
-    let len : length (take n bytes) ≡ n = omega (arith, length-take n bytes, prefix_len_within is_word bytes) in
+    let len : length (take n bytes) ≡ n = omega (arith, length-take n bytes, prefix_len-le-length is_word bytes) in
     let w = word_writes language (take n bytes) m.0 (omega arith) (run_passes is_word bytes) m.1 in
     omega (arith, ap length w.spelled, ap (λ (r : Piece). length (written r)) m.2)
 
@@ -111,7 +112,7 @@ token_long : (language : ℕ) (t : PlainToken) (after : List ℕ) → IsToken la
     → 0 < length (written p) → length (spelling t) ≤ length (written p)
 token_long language (Name word) after h p f some = word_long language word after (letter_some word h.letter) h.all p f
 token_long language (Number (pos n)) after h p f some =
-    word_long language (decimal n) after (decimal_some n h) (digits_are_words (decimal n) (decimal_digits n h)) p f
+    word_long language (decimal n) after (decimal_some n (omega arith)) (digits_are_words (decimal n) (decimal_digits n (omega arith))) p f
 token_long language (Number (negsuc n)) after h p f some = absurd h
 token_long language (Keyword k) after h p f some =
     let letters = and_parts (begins_with_letter (keyword_text k)) (list_all is_word (keyword_text k)) (keyword_letters k) in

@@ -2,5 +2,6 @@ pub mod Tokens
 pub mod Pieces
 pub mod Places
 pub mod Text
+pub mod Faults
 pub mod Languages
 pub mod helpers

@@ -7,7 +7,8 @@ use Rattle.tc_lexer.specs.declared.token.TokenKind.TheVariants as kind
 use Rattle.tc_lexer.specs.declared.token.Token.{Token as SpannedToken}
 use Rattle.tc_lexer.specs.declared.fault.LexFault.{LexFault}
 use Rattle.tc_lexer.specs.declared.fault.LexFault.TheVariants.{BadByte, Number, OpenComment}
-use Rattle.tc_lexer.specs.Tokens.{PlainToken, is_digit, spelling, IsToken, plain_token}
+use Rattle.tc_decimal.specs.Decimals.{is_digit}
+use Rattle.tc_lexer.specs.Tokens.{PlainToken, spelling, IsToken, plain_token}
 use Rattle.tc_lexer.specs.Tokens as plain
 use Rattle.tc_lexer.specs.Pieces.{Piece, Token, written, Begins, ArePieces}
 use Rattle.tc_lexer.specs.Places.{place_after}

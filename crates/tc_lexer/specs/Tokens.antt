@@ -3,6 +3,7 @@
 use Rattle.std.specs.Prelude.{◌≡◌, ℕ, ℤ, pos, negsuc, ◌^◌, ◌<◌, ◌≤◌, Bool, false, ◌&&◌, ◌||◌, ◌==◌, nat_le, IsTrue, List, [], ◌∷◌, map, slice_range, codes}
 use Rattle.std.specs.List.{list_all}
 use Rattle.std.specs.Fmt.{decimal}
+use Rattle.tc_decimal.specs.Decimals.{is_digit}
 use Rattle.tc_lexer.specs.declared.token.Keyword.{Keyword as AnyKeyword}
 use Rattle.tc_lexer.specs.declared.token.Keyword.TheVariants.{Int, Mutex, Cond, Thread, Main, Tid, If, Else, While, Create, Join, Lock, Unlock, Wait, Signal}
 use Rattle.tc_lexer.specs.declared.token.Keyword.TheVariants.{Broadcast, Fence, Assert, Swap, Cas, Stbar}
@@ -33,9 +34,6 @@ plain_token source t = plain_kind (slice_range source t.start t.end) t.kind
 
 abbrev pub plain_tokens : List ℕ → List Token → List PlainToken
 plain_tokens source ts = map (plain_token source) ts
-
-abbrev pub is_digit : ℕ → Bool
-is_digit b = nat_le 48 b && nat_le b 57
 
 -- A to Z, a to z, or `_`
 abbrev pub is_letter : ℕ → Bool

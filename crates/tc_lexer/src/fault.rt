@@ -1,21 +1,37 @@
 //! Why a text has no tokens.
 
+use std::error::Error;
+use std::fmt;
 use tc_base::Place;
-use thiserror::Error;
 
 /// Why a text has no tokens: the first byte at which no token and no blank begins.
-#[derive(Clone, Copy, Debug, PartialEq, Eq, Error)]
+#[derive(Clone, Copy, Debug, PartialEq, Eq)]
 pub enum LexFault {
     /// A byte that begins no token.
-    #[error("BadByte at {}:{}", .0.line, .0.col)]
     BadByte(Place),
     /// Letters, digits and `_` that begin with a digit and are no number from 0 to the greatest `int`.
-    #[error("Number at {}:{}", .0.line, .0.col)]
     Number(Place),
     /// A `/*` that no `*/` ends.
-    #[error("OpenComment at {}:{}", .0.line, .0.col)]
     OpenComment(Place),
     /// There is no memory.
-    #[error("no memory")]
     Memory,
 }
+
+/// What is wrong, and the line and column where.
+impl fmt::Display for LexFault {
+    ghost use Rattle.std.specs.Prelude.{Some};
+    ghost use Rattle.tc_lexer.specs.Faults.{lex_fault_text};
+
+    ghost output = { λ f. Some (lex_fault_text f) };
+
+    fn fmt<W: fmt::Write>(&self, f: &mut fmt::Formatter<W>) -> fmt::Result {
+        match self {
+            LexFault::BadByte(Place { line, col }) => write!(f, "BadByte at {line}:{col}"),
+            LexFault::Number(Place { line, col }) => write!(f, "Number at {line}:{col}"),
+            LexFault::OpenComment(Place { line, col }) => write!(f, "OpenComment at {line}:{col}"),
+            LexFault::Memory => write!(f, "no memory"),
+        }
+    }
+}
+
+impl Error for LexFault {}

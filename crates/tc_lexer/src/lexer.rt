@@ -1,6 +1,7 @@
 //! From a text to its tokens.
 ghost use Rattle.std.specs.Prelude.{◌≡◌, ◌≢◌, ◌<◌, ◌≤◌, ◌^◌, length, IfOk, IfErr};
 ghost use Rattle.tc_lexer.specs.declared.fault.LexFault.TheVariants as lex_fault;
+ghost use Rattle.tc_base.specs.declared.limits.TheConstants.{PROGRAM_BYTES};
 ghost use Rattle.tc_lexer.specs.Text.{AreTokens, IsFault, fault_at, begins_with_digit};
 
 use crate::fault::LexFault;
@@ -16,7 +17,7 @@ use tc_base::Place;
 /// A text has either one list of tokens or one fault, so the answer is the only one that there is, but for
 /// `Memory` where there is none. The time grows linearly with the text.
 pub fn lex(alloc: Global, text: &[u8]) -> Result<Tokens, LexFault>
-    requires { length text.now ≤ 65536 }
+    requires { length text.now ≤ PROGRAM_BYTES }
     ensures found { IfOk result (λ tokens. AreTokens 3 text.now tokens) }
     ensures refused { IfErr result (λ fault. fault ≢ lex_fault.Memory → IsFault 3 text.now fault) }
 {

@@ -1,9 +1,7 @@
 //! The pieces of a text: its tokens, and the blanks round them.
 ghost use Rattle.std.specs.Prelude.{◌≡◌, ◌+◌, ◌<◌, ◌≤◌, ◌^◌, pos, not, length, option_map, Option, IsTrue, IfSome};
-ghost use Rattle.std.specs.List.{list_all, prefix_len};
-ghost use Rattle.std.specs.Option.{SomeIff};
-ghost use Rattle.std.specs.Str.Parse.{digits_value};
-ghost use Rattle.tc_lexer.specs.Tokens.{is_digit, is_letter, is_word, begins_with_letter};
+ghost use Rattle.std.specs.List.{prefix_len};
+ghost use Rattle.tc_lexer.specs.Tokens.{is_letter, is_word, begins_with_letter};
 ghost use Rattle.tc_lexer.specs.Pieces.{is_space, is_line_feed};
 ghost use Rattle.tc_lexer.specs.Text.{kind_of};
 ghost use Rattle.tc_lexer.specs.helpers.Reading as reading;
@@ -11,7 +9,7 @@ ghost use Rattle.tc_lexer.specs.helpers.Reading.{shape_of};
 
 use crate::token::TokenKind;
 use crate::words::{keyword_of, sign_at};
-use std::str;
+use tc_decimal::number_of;
 
 /// A piece of a text: a token, or a blank, which has no kind.
 #[derive(Clone, Copy, Debug)]
@@ -114,7 +112,7 @@ fn word_kind(word: &[u8]) -> Option<TokenKind>
     ensures { result ≡ option_map kind_of (reading.word_token 3 word.now) }
 {
     if !begins_with_letter(word) {
-        return Some(TokenKind::Number(number_of(word)?));
+        return Some(TokenKind::Number(int_of(word)?));
     }
     match keyword_of(word) {
         Some(keyword) => Some(TokenKind::Keyword(keyword)),
@@ -128,38 +126,11 @@ fn begins_with_letter(word: &[u8]) -> bool
     matches!(word, [first, ..] if is_letter(*first))
 }
 
-/// The number that a word writes: `0`, or digits of which the first is no `0`, and no more than the greatest `int`.
-fn number_of(word: &[u8]) -> Option<i32>
-    requires { 0 < length word.now }
-    ensures { result ≡ reading.number_of word.now }
+/// The number that a word writes, if it is an `int`.
+fn int_of(word: &[u8]) -> Option<i32>
+    ensures { result ≡ reading.int_of word.now }
 {
-    if is_all_digits(word) && !leads_with_zero(word) {
-        value_of(word)
-    } else {
-        None
-    }
-}
-
-fn is_all_digits(word: &[u8]) -> bool
-    ensures { result ≡ list_all is_digit word.now }
-{
-    word.iter().all(|b| b.is_ascii_digit())
-}
-
-/// Whether a `0` stands before other bytes.
-fn leads_with_zero(word: &[u8]) -> bool
-    ensures { result ≡ reading.leads_with_zero word.now }
-{
-    matches!(word, [b'0', _, ..])
-}
-
-/// The value of some digits, if it is an `int`.
-fn value_of(digits: &[u8]) -> Option<i32>
-    requires { IsTrue (list_all is_digit digits.now) }
-    ensures { SomeIff result ((0 < length digits.now) × (digits_value 10 digits.now < 2 ^ 31))
-        (pos (digits_value 10 digits.now)) }
-{
-    str::from_utf8(digits).ok()?.parse().ok()
+    Some(number_of(i32::MAX as u32, word)? as i32)
 }
 
 fn is_space(b: u8) -> bool

@@ -1,8 +1,8 @@
 -- How the reader finds the piece at the front of a text. No promise of a public function speaks of these.
-use Rattle.std.specs.Prelude.{ℕ, ℤ, pos, ◌+◌, ◌^◌, Bool, false, ◌&&◌, not, nat_le, nat_lt, nat_eq, ◌==◌, if◌then◌else◌, List, [], ◌∷◌, length, Option, None}
+use Rattle.std.specs.Prelude.{ℕ, ℤ, pos, ◌+◌, ◌&&◌, not, nat_le, nat_eq, if◌then◌else◌, List, [], ◌∷◌, length, Option, None}
 use Rattle.std.specs.Prelude.{Some, option_map, bytes_eq, codes, drop}
-use Rattle.std.specs.List.{find, starts_with, list_all, take_while}
-use Rattle.std.specs.Str.Parse.{digits_value}
+use Rattle.std.specs.List.{find, starts_with, take_while}
+use Rattle.tc_decimal.specs.Decimals.{number_of}
 use Rattle.tc_base.specs.declared.place.Place.{Place}
 use Rattle.tc_lexer.specs.declared.token.Keyword.{Keyword}
 use Rattle.tc_lexer.specs.declared.token.Keyword.TheVariants.{Int, Mutex, Cond, Thread, Main, Tid, If, Else, While, Create, Join, Lock, Unlock, Wait, Signal}
@@ -13,7 +13,7 @@ use Rattle.tc_lexer.specs.declared.token.Sign.TheVariants.{Plus, Minus, Star, Sl
 use Rattle.tc_lexer.specs.declared.token.Sign.TheVariants.{BangEqual, ShiftLeft, ShiftRight, And, Caret, Or, AndAnd, OrOr}
 use Rattle.tc_lexer.specs.declared.token.TokenKind.{TokenKind}
 use Rattle.tc_lexer.specs.declared.piece.Piece.{Piece as Shape}
-use Rattle.tc_lexer.specs.Tokens.{keyword_text, keyword_since, sign_text, sign_since, is_digit, is_word, begins_with_letter, PlainToken}
+use Rattle.tc_lexer.specs.Tokens.{keyword_text, keyword_since, sign_text, sign_since, is_word, begins_with_letter, PlainToken}
 use Rattle.tc_lexer.specs.Tokens as plain
 use Rattle.tc_lexer.specs.Pieces.{Piece, Space, LineComment, BlockComment, Token, written, is_space, is_line_feed}
 use Rattle.tc_lexer.specs.Text.{kind_of}
@@ -35,17 +35,9 @@ keyword_of language word = find (λ k. bytes_eq (keyword_text k) word && nat_le 
 abbrev pub sign_at : ℕ → List ℕ → Option Sign
 sign_at language bytes = find (λ s. starts_with nat_eq bytes (sign_text s) && nat_le (sign_since s) language) signs
 
--- a `0` stands before other bytes
-abbrev pub leads_with_zero : List ℕ → Bool
-leads_with_zero (b ∷ _ ∷ _) = b == 48
-leads_with_zero _ = false
-
--- the number that a word writes
-abbrev pub number_of : List ℕ → Option ℤ
-number_of word =
-    if list_all is_digit word && not (leads_with_zero word) && nat_lt (digits_value 10 word) (2 ^ 31)
-    then Some (pos (digits_value 10 word))
-    else None
+-- the number that a word writes, if it is an `int`
+abbrev pub int_of : List ℕ → Option ℤ
+int_of word = option_map pos (number_of 2147483647 word)
 
 -- the keyword that a word is, or else the name
 abbrev pub keyword_or_name : Option Keyword → List ℕ → PlainToken
@@ -57,7 +49,7 @@ abbrev pub word_token : ℕ → List ℕ → Option PlainToken
 word_token language word =
     if begins_with_letter word
     then Some (keyword_or_name (keyword_of language word) word)
-    else option_map plain.Number (number_of word)
+    else option_map plain.Number (int_of word)
 
 -- what stands before the first `*/`
 abbrev pub before_close : List ℕ → Option (List ℕ)
