@@ -11,12 +11,13 @@ use Rattle.tc_base.specs.declared.moves.Move.{Move}
 use Rattle.tc_base.specs.declared.moves.Move.TheVariants as move
 use Rattle.tc_base.specs.declared.request.Request.{Request}
 use Rattle.tc_base.specs.declared.request.Request.TheVariants.{WakeOne}
-use Rattle.tc_code.specs.Instr.{Instr, Signal}
+use Rattle.tc_code.specs.declared.instr.Instr.{Instr}
+use Rattle.tc_code.specs.declared.instr.Instr.TheVariants.{Signal}
 use Rattle.tc_code.specs.Code.{Code}
 use Rattle.tc_code.specs.Step.{request, instr_of, allows, perform, waiting_on, woken, step, opening}
 use Rattle.tc_code.specs.Step as machine
 use Rattle.tc_code.specs.Run.{run_from, run, IsReached}
-use Rattle.tc_code.specs.Facts.{opening_is_reached, step_is_reached}
+use Rattle.tc_code.proofs.Facts.{opening_is_reached, step_is_reached}
 use Rattle.run_laws.proofs.Steps.{Went, step_went, none_failed}
 use Rattle.run_history.specs.History.{Deed, did, woke, drained, by_instr, deed_of, history_from, history}
 
@@ -51,7 +52,7 @@ module _ {B : Type 0} (ops : BufferOps B) (code : Code) where
         (subst (λ x. P x (h ++ drained ops code h n (ops.drain g.thread.buffer form).entry ∷ [])) (sym g.after)
         (keeps.flushed s h n g.thread form reached going g.there g.may p))
 
-    -- so does each step
+    -- so does each move
     pub kept_by_step : (s u : State B) (h : List Deed) (m : Move) → IsReached ops code s → step ops code s m ≡ Some u → P s h
         → P u (h ++ deed_of ops code s h m)
     kept_by_step s u h m reached one p = kept_by_move s u h m reached (none_failed ops code s u m one) (step_went ops code s u m one) p

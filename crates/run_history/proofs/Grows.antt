@@ -9,7 +9,7 @@ use Rattle.tc_base.specs.declared.moves.Move.TheVariants as move
 use Rattle.tc_code.specs.Code.{Code}
 use Rattle.tc_code.specs.Step.{request, step, opening}
 use Rattle.tc_code.specs.Run.{run_from, run}
-use Rattle.tc_code.specs.Facts.{run_from-append}
+use Rattle.tc_code.proofs.Facts.{run_from-append}
 use Rattle.run_laws.proofs.Steps.{Went, step_went}
 use Rattle.run_history.specs.History.{Deed, did, woke, drained, by_instr, deed_of, history_from, history}
 

@@ -5,13 +5,12 @@ use Rattle.std.specs.Prelude.{unwrap_or, option_and_then, fold}
 use Rattle.std.specs.Option.{option_or}
 use Rattle.std.specs.List.{filter_map, cons_option, last_or}
 use Rattle.std.specs.FinSet as set
-use Rattle.std.specs.Ordering.{nat_cmp}
-use Rattle.std.specs.Cmp.Lexicographic.{slice_cmp}
 use Rattle.std.proofs.lemmas.Bool.{false≢true}
 use Rattle.std.proofs.lemmas.Cmp.{nat_list_cmp_total}
 use Rattle.std.proofs.lemmas.List.Elements.{filter_map-append}
 use Rattle.std.proofs.lemmas.Option.{none-some}
-use Rattle.tc_base.specs.Names.{Name}
+use Rattle.tc_base.specs.Names.{Name, by_name}
+use Rattle.tc_base.proofs.Options.{or_none}
 use Rattle.tc_base.specs.Buffers.{Entry, newest}
 use Rattle.tc_base.specs.declared.request.Request.TheVariants.{Silent, BeginWait, WakeOne, WakeAll}
 use Rattle.tc_code.specs.Code.{Code}
@@ -67,10 +66,6 @@ some_first : {A : Type 0} (p : Option A) (x : A) (o : Option A) → option_or p 
 some_first None x o = refl
 some_first (Some y) x o = refl
 
-or_none : {A : Type 0} (p : Option A) → option_or p None ≡ p
-or_none None = refl
-or_none (Some x) = refl
-
 last_or-or : {A : Type 0} (o : Option A) (xs : List A) → last_or o xs ≡ option_or (last_or None xs) o
 last_or-or o [] = refl
 last_or-or o (x ∷ xs) = last_or-or (Some x) xs ∙ some_first (last_or None xs) x o ∙ ap (λ p. option_or p o) (sym (last_or-or (Some x) xs))
@@ -123,7 +118,7 @@ removed true s x ns w u e is = set.contains-remove nat_list_cmp_total ns w u ∙
     either false b = refl
 
 emptied : (b x : Bool) (ns : NameSet) (u : Name) → set.contains ns u ≡ x → set.contains (cond b set.empty ns) u ≡ unwrap_or (cond b (Some false) None) x
-emptied true x ns u is = set.contains-empty (slice_cmp nat_cmp) u
+emptied true x ns u is = set.contains-empty by_name u
 emptied false x ns u is = is
 
 waits_after : (c : ℕ) (u : Name) (ns : NameSet) (d : Deed) (x : Bool) → set.contains ns u ≡ x
@@ -154,7 +149,7 @@ waits_true (Some b) e = ap Some e
 
 pub waiters_are_last : (h : List Deed) (c : ℕ) (u : Name) → (set.contains (waiting_in h c) u ≡ true) ↔ IsLast (waits_by c u) h true
 waiters_are_last h c u =
-    let is = waits_from c u set.empty h false (set.contains-empty (slice_cmp nat_cmp) u) in (
+    let is = waits_from c u set.empty h false (set.contains-empty by_name u) in (
       λ e. is_last (waits_by c u) h true (waits_true _ (sym is ∙ e)),
       λ l. is ∙ ap (λ o. unwrap_or o false) (last_is (waits_by c u) h true l),
     )

@@ -1,5 +1,6 @@
 pub mod Frame
 pub mod Grows
+pub mod Ints
 pub mod Last
 pub mod Lists
 pub mod Locals

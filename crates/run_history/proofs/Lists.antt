@@ -4,25 +4,19 @@ use Rattle.std.proofs.Common.{refl, sym, ap, arith, cond, append-nil, slice_set,
 use Rattle.std.specs.Prelude.{unwrap_or, if◌then◌else◌}
 use Rattle.std.specs.Option.{option_or}
 use Rattle.std.specs.List.{filter_map, cons_option, last_or, count_by}
-use Rattle.std.proofs.lemmas.Bool.{false≢true}
+use Rattle.std.proofs.lemmas.Bool.{false≢true, eqb-true, eq-eqb}
 use Rattle.std.proofs.lemmas.List.{get_or-set_same, get_or-set_other}
 use Rattle.std.proofs.lemmas.List.Elements.{filter_map-append}
 use Rattle.std.proofs.lemmas.List.Sums.{sum_by-append}
 use Rattle.tc_base.specs.Buffers.{Entry, newest}
 use Rattle.store_buffers.specs.Proved.Lists.{newest-append}
-use Rattle.store_buffers.specs.Proved.Segments.{eq_is, eq_self}
-
--- what is asked of both ways that a test may go
-pub by_bool : (P : Bool → Type 0) (b : Bool) → P true → P false → P b
-by_bool P true p q = p
-by_bool P false p q = q
 
 -- what a place has after a write
 index_by : {A : Type 0} (xs : List A) (k c : ℕ) (x d : A) (b : Bool) → (k == c) ≡ b → c < length xs
     → slice_index_or (slice_set xs k x) c d ≡ cond b x (slice_index_or xs c d)
 index_by xs k c x d true e within =
-    ap (λ j. slice_index_or (slice_set xs j x) c d) (eq_is k c e) ∙ get_or-set_same xs c x d within
-index_by xs k c x d false e within = get_or-set_other xs k c x d (λ same. false≢true (sym e ∙ ap (λ j. k == j) same ∙ eq_self k))
+    ap (λ j. slice_index_or (slice_set xs j x) c d) (eqb-true k c e) ∙ get_or-set_same xs c x d within
+index_by xs k c x d false e within = get_or-set_other xs k c x d (λ same. false≢true (sym e ∙ eq-eqb k c (sym same)))
 
 pub index_or-set : {A : Type 0} (xs : List A) (k c : ℕ) (x d : A) → c < length xs
     → slice_index_or (slice_set xs k x) c d ≡ (if k == c then x else slice_index_or xs c d)

@@ -3,15 +3,14 @@ use Rattle.std.proofs.Common.{◌≡◌, ◌∙◌, inl, inr, ℕ, ◌+◌, ◌-
 use Rattle.std.specs.Prelude.{option_map}
 use Rattle.std.specs.Option.{option_map_or}
 use Rattle.std.specs.FinMap as fin
-use Rattle.std.specs.Ordering.{nat_cmp}
-use Rattle.std.specs.Cmp.Lexicographic.{slice_cmp}
 use Rattle.std.proofs.lemmas.List.Sums.{fold-append}
-use Rattle.tc_base.specs.Names.{Name, ByName, main, child}
+use Rattle.tc_base.specs.Names.{Name, ByName, main, child, by_name}
 use Rattle.tc_base.specs.Buffers.{BufferOps}
 use Rattle.tc_base.specs.States.{Local, Thread, State}
 use Rattle.tc_base.specs.declared.request.Request.{Request}
 use Rattle.tc_base.specs.declared.request.Request.TheVariants.{Silent, WakeOne, Start}
-use Rattle.tc_code.specs.Instr.{Instr, Signal}
+use Rattle.tc_code.specs.declared.instr.Instr.{Instr}
+use Rattle.tc_code.specs.declared.instr.Instr.TheVariants.{Signal}
 use Rattle.tc_code.specs.Code.{Code}
 use Rattle.tc_code.specs.Step.{arguments_of, instr_of, perform, born, woken, opening}
 use Rattle.run_laws.proofs.Names.{same_or_apart, get_put, get_put_apart}
@@ -94,4 +93,4 @@ module _ {B : Type 0} (ops : BufferOps B) (code : Code) where
   pub opening_locals : LocalsAre (opening ops code) []
   opening_locals =
       locals_put fin.empty fin.empty main (born ops code (length code.functions - 1) [])
-      (λ q. fin.get-empty (slice_cmp nat_cmp) q ∙ sym (ap (option_map local) (fin.get-empty (slice_cmp nat_cmp) q)))
+      (λ q. fin.get-empty by_name q ∙ sym (ap (option_map local) (fin.get-empty by_name q)))

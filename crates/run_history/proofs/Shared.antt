@@ -4,6 +4,7 @@ use Rattle.std.proofs.Common.{refl, sym, ap, subst, cond, slice_set, slice_index
 use Rattle.std.specs.Prelude.{unwrap_or, if◌then◌else◌}
 use Rattle.std.specs.Option.{option_or}
 use Rattle.std.specs.FinSet as set
+use Rattle.std.proofs.lemmas.Bool.{eqb-true}
 use Rattle.std.proofs.lemmas.List.{length-set, length-replicate}
 use Rattle.std.proofs.lemmas.List.Sums.{fold-append}
 use Rattle.tc_base.specs.Names.{Name}
@@ -12,15 +13,15 @@ use Rattle.tc_base.specs.States.{Thread, State}
 use Rattle.tc_base.specs.declared.request.Request.{Request}
 use Rattle.tc_base.specs.declared.request.Request.TheVariants.{Read, Write, Acquire, Release, BeginWait, EndWait}
 use Rattle.tc_base.specs.declared.request.Request.TheVariants.{WakeOne, WakeAll, Fail}
-use Rattle.tc_code.specs.Instr.{Instr}
+use Rattle.tc_code.specs.declared.instr.Instr.{Instr}
 use Rattle.tc_code.specs.Code.{Code}
 use Rattle.tc_code.specs.Step.{perform, with_thread, local_after, woken, waiting_on, in_memory, NameSet, opening}
 use Rattle.tc_code.specs.Step as machine
-use Rattle.run_laws.proofs.Basics.{index_or-replicate}
-use Rattle.store_buffers.specs.Proved.Segments.{eq_is}
+use Rattle.run_laws.proofs.Basics.{by_bool, either, index_or-replicate}
+use Rattle.run_laws.proofs.Whole.{performed_shares}
 use Rattle.run_history.specs.History.{Deed, did, woke}
 use Rattle.run_history.specs.Told.{reaches, value_in, owner_by, owner_in, waiting_after, waiting_in, fails, failed_in}
-use Rattle.run_history.proofs.Lists.{by_bool, index_or-set, last_of-push, put_in, newest_of-push}
+use Rattle.run_history.proofs.Lists.{index_or-set, last_of-push, put_in, newest_of-push}
 use Rattle.run_history.proofs.Frame.{Keeps}
 
 abbrev written : List ℤ → Option Entry → List ℤ
@@ -55,7 +56,7 @@ waiting-push h d c = fold-append (waiting_after c) set.empty h (d ∷ [])
 by_itself : (f : NameSet → NameSet) (waiters : List NameSet) (d c : ℕ) (b : Bool) → (d == c) ≡ b
     → cond b (f (slice_index_or waiters d set.empty)) (slice_index_or waiters c set.empty)
     ≡ cond b (f (slice_index_or waiters c set.empty)) (slice_index_or waiters c set.empty)
-by_itself f waiters d c true e = ap (λ k. f (slice_index_or waiters k set.empty)) (eq_is d c e)
+by_itself f waiters d c true e = ap (λ k. f (slice_index_or waiters k set.empty)) (eqb-true d c e)
 by_itself f waiters d c false e = refl
 
 changed_at : (f : NameSet → NameSet) (waiters : List NameSet) (d c : ℕ) → c < length waiters
@@ -65,7 +66,7 @@ changed_at f waiters d c within = index_or-set waiters d c (f (slice_index_or wa
 
 module _ {B : Type 0} (ops : BufferOps B) (code : Code) where
   -- the state after a store, by whether there are buffers
-  abbrev store_as : State B → Name → Thread B → Instr → ℕ → ℤ → Bool → State B
+  abbrev pub store_as : State B → Name → Thread B → Instr → ℕ → ℤ → Bool → State B
   store_as s n t i c v b =
       if b
       then with_thread s n (record { local = local_after t.local i (pos 0); buffer = ops.issue t.buffer c v })
@@ -112,16 +113,8 @@ module _ {B : Type 0} (ops : BufferOps B) (code : Code) where
   performed_owner s n t i (BeginWait c l) m within = index_or-set s.owners l m None None within ∙ owned (l == m) None _
   performed_owner s n t i (EndWait c l) m within = index_or-set s.owners l m (Some n) None within ∙ owned (l == m) (Some n) _
   performed_owner s n t i (Write c v) m within =
-      by_bool (λ b. slice_index_or (store_as s n t i c v b).owners m None ≡ slice_index_or s.owners m None) ops.buffered refl refl
+      either (λ (w : State B). slice_index_or w.owners m None ≡ slice_index_or s.owners m None) ops.buffered _ _ refl refl
   performed_owner s n t i _ m within = refl
-
-  performed_mutexes : (s : State B) (n : Name) (t : Thread B) (i : Instr) (r : Request) → length (perform ops code s n t i r).owners ≡ length s.owners
-  performed_mutexes s n t i (Acquire l) = length-set s.owners l (Some n)
-  performed_mutexes s n t i (Release l) = length-set s.owners l None
-  performed_mutexes s n t i (BeginWait c l) = length-set s.owners l None
-  performed_mutexes s n t i (EndWait c l) = length-set s.owners l (Some n)
-  performed_mutexes s n t i (Write c v) = by_bool (λ b. length (store_as s n t i c v b).owners ≡ length s.owners) ops.buffered refl refl
-  performed_mutexes s n t i _ = refl
 
   owners_by : (s u : State B) (h : List Deed) (d : Deed) → length u.owners ≡ length s.owners
       → ((m : ℕ) → m < length s.owners → slice_index_or u.owners m None ≡ unwrap_or (owner_by m d) (slice_index_or s.owners m None)) → OwnersAre s h
@@ -134,7 +127,7 @@ module _ {B : Type 0} (ops : BufferOps B) (code : Code) where
 
   pub keeps_owners : Keeps ops code OwnersAre
   keeps_owners = record {
-    ran = λ s h n t i r _ _ _ _ _ _ o. owners_by s _ h (did ops code s n t r) (performed_mutexes s n t i r) (performed_owner s n t i r) o;
+    ran = λ s h n t i r _ _ _ _ _ _ o. owners_by s _ h (did ops code s n t r) (performed_shares ops code s n t i r).owners (performed_owner s n t i r) o;
     waked = λ s h n u t c _ _ _ _ _ _ o. owners_by s _ h _ refl (λ m within. refl) o;
     flushed = λ s h n t form _ _ _ _ o. owners_by s _ h _ refl (λ m within. refl) o;
   }
@@ -149,14 +142,8 @@ module _ {B : Type 0} (ops : BufferOps B) (code : Code) where
   performed_waiting s n t i (BeginWait d m) c within = changed_at (λ ns. set.insert ns n) s.waiters d c within
   performed_waiting s n t i (WakeAll d) c within = index_or-set s.waiters d c set.empty set.empty within
   performed_waiting s n t i (Write d v) c within =
-      by_bool (λ b. slice_index_or (store_as s n t i d v b).waiters c set.empty ≡ slice_index_or s.waiters c set.empty) ops.buffered refl refl
+      either (λ (w : State B). slice_index_or w.waiters c set.empty ≡ slice_index_or s.waiters c set.empty) ops.buffered _ _ refl refl
   performed_waiting s n t i _ c within = refl
-
-  performed_conditions : (s : State B) (n : Name) (t : Thread B) (i : Instr) (r : Request) → length (perform ops code s n t i r).waiters ≡ length s.waiters
-  performed_conditions s n t i (BeginWait d m) = length-set s.waiters d _
-  performed_conditions s n t i (WakeAll d) = length-set s.waiters d _
-  performed_conditions s n t i (Write d v) = by_bool (λ b. length (store_as s n t i d v b).waiters ≡ length s.waiters) ops.buffered refl refl
-  performed_conditions s n t i _ = refl
 
   waiters_by : (s u : State B) (h : List Deed) (d : Deed) → length u.waiters ≡ length s.waiters
       → ((c : ℕ) → c < length s.waiters → waiting_on u c ≡ waiting_after c (waiting_on s c) d) → WaitersAre s h → WaitersAre u (h ++ d ∷ [])
@@ -168,7 +155,7 @@ module _ {B : Type 0} (ops : BufferOps B) (code : Code) where
 
   pub keeps_waiters : Keeps ops code WaitersAre
   keeps_waiters = record {
-    ran = λ s h n t i r _ _ _ _ _ _ w. waiters_by s _ h (did ops code s n t r) (performed_conditions s n t i r) (performed_waiting s n t i r) w;
+    ran = λ s h n t i r _ _ _ _ _ _ w. waiters_by s _ h (did ops code s n t r) (performed_shares ops code s n t i r).waiters (performed_waiting s n t i r) w;
     waked = λ s h n u t d _ _ _ _ _ _ w.
         waiters_by s _ h (woke ops code n u t (WakeOne d)) (length-set s.waiters d _) (λ c within. changed_at (λ ns. set.remove ns u) s.waiters d c within) w;
     flushed = λ s h n t form _ _ _ _ w. waiters_by s _ h _ refl (λ c within. refl) w;
@@ -180,7 +167,7 @@ module _ {B : Type 0} (ops : BufferOps B) (code : Code) where
 
   performed_failed : (s : State B) (n : Name) (t : Thread B) (i : Instr) (r : Request)
       → (perform ops code s n t i r).failed ≡ option_or (fails (did ops code s n t r)) s.failed
-  performed_failed s n t i (Write c v) = by_bool (λ b. (store_as s n t i c v b).failed ≡ s.failed) ops.buffered refl refl
+  performed_failed s n t i (Write c v) = either (λ (w : State B). w.failed ≡ s.failed) ops.buffered _ _ refl refl
   performed_failed s n t i Fail = refl
   performed_failed s n t i _ = refl
 

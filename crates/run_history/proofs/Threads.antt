@@ -5,34 +5,29 @@ use Rattle.std.specs.Prelude.{if◌then◌else◌, is_some}
 use Rattle.std.specs.Option.{option_map_or}
 use Rattle.std.specs.List.{filter_map, cons_option, list_any}
 use Rattle.std.specs.FinMap as fin
-use Rattle.std.specs.Ordering.{nat_cmp}
-use Rattle.std.specs.Cmp.Lexicographic.{slice_cmp}
+use Rattle.std.proofs.Math.Bool.{and-true, and-false, or-true, or-false, or_assoc}
 use Rattle.std.proofs.lemmas.List.Folds.{list_any-append}
-use Rattle.tc_base.specs.Names.{Name, ByName, main, child}
+use Rattle.tc_base.specs.Names.{Name, ByName, main, child, by_name}
 use Rattle.tc_base.specs.Buffers.{BufferOps}
 use Rattle.tc_base.specs.States.{Local, Thread, State}
 use Rattle.tc_base.specs.declared.request.Request.{Request}
 use Rattle.tc_base.specs.declared.request.Request.TheVariants.{Silent, Write, Bar, WakeOne, Start, Finish, Fail}
-use Rattle.tc_code.specs.Instr.{Instr, Inside, Branch, Holds, Signal, Create, Ready, Assert, Nonzero, In_range, Exit}
+use Rattle.tc_code.specs.declared.instr.Instr.{Instr}
+use Rattle.tc_code.specs.declared.instr.Instr.TheVariants.{Inside, Branch, Holds, Signal, Create, Ready, Assert, Nonzero, InRange, Exit}
 use Rattle.tc_code.specs.Code.{Code}
 use Rattle.tc_code.specs.Step.{request, site, stepped, local_after, arguments_of, instr_of, perform, with_thread, born, woken, opening}
 use Rattle.tc_code.specs.Step as machine
 use Rattle.tc_code.specs.Run.{IsReached}
+use Rattle.run_laws.proofs.Basics.{by_bool}
 use Rattle.run_laws.proofs.After.{branch_is}
 use Rattle.run_laws.proofs.Counts.{after_counts}
 use Rattle.run_laws.proofs.Created.{child_is_new}
-use Rattle.run_laws.proofs.Names.{tells_names, same_or_apart, get_put, get_put_apart, child_apart}
+use Rattle.run_laws.proofs.Names.{same_self, same_other, same_or_apart, get_put, get_put_apart, child_apart}
 use Rattle.run_history.specs.History.{Deed, Did, Drained, same, taken, created_by}
 use Rattle.run_history.specs.Locals.{after_step}
 use Rattle.run_history.specs.Told.{creates, is_thread_in, is_step_of, steps_in, is_start_of, children_in, is_exit_of, has_exited_in}
-use Rattle.run_history.proofs.Lists.{by_bool, filter_map-push, count-push}
+use Rattle.run_history.proofs.Lists.{filter_map-push, count-push}
 use Rattle.run_history.proofs.Frame.{Keeps}
-
-pub same_self : (q n : Name) → q ≡ n → same q n ≡ true
-same_self q n e = elim (tells_names q n) [ inl is ↦ is.0 | inr is ↦ absurd (is.1 e) ]
-
-pub same_other : (q n : Name) → q ≢ n → same q n ≡ false
-same_other q n other = elim (tells_names q n) [ inl is ↦ absurd (other is.1) | inr is ↦ is.0 ]
 
 pub steps_by : (t : Local) (i : Instr) (r : Request) (v : ℤ) → (after_step t i r v).steps ≡ t.steps + 1
 steps_by t i Fail v = refl
@@ -54,7 +49,7 @@ exited_after t (Holds m) v = ap (λ b. b || t.has_exited) (sym (no_finish _))
 exited_after t (Ready h) v = ap (λ b. b || t.has_exited) (sym (no_finish _))
 exited_after t (Assert e) v = ap (λ b. b || t.has_exited) (sym (no_finish _))
 exited_after t (Nonzero e) v = ap (λ b. b || t.has_exited) (sym (no_finish _))
-exited_after t (In_range e) v = ap (λ b. b || t.has_exited) (sym (no_finish _))
+exited_after t (InRange e) v = ap (λ b. b || t.has_exited) (sym (no_finish _))
 exited_after t Exit v = refl
 exited_after t _ v = refl
 
@@ -81,7 +76,7 @@ children_after t (Holds m) v = same_count t.children _ (no_start _)
 children_after t (Ready h) v = same_count t.children _ (no_start _)
 children_after t (Assert e) v = same_count t.children _ (no_start _)
 children_after t (Nonzero e) v = same_count t.children _ (no_start _)
-children_after t (In_range e) v = same_count t.children _ (no_start _)
+children_after t (InRange e) v = same_count t.children _ (no_start _)
 children_after t (Create h f es) v = refl
 children_after t _ v = same_count t.children false refl
 
@@ -104,14 +99,6 @@ module _ {B : Type 0} (ops : BufferOps B) (code : Code) where
   abbrev pub with_born : Name → Thread B → Instr → Request → ByName (Thread B) → ByName (Thread B)
   with_born n t i (Start f) ts = fin.insert ts (child n (t.local.children + 1)) (born ops code f (arguments_of t.local i))
   with_born n t i _ ts = ts
-
-  abbrev stored_threads : State B → Name → Thread B → Instr → ℕ → ℤ → Bool → ByName (Thread B)
-  stored_threads s n t i c v b =
-      let w : State B =
-      if b
-      then with_thread s n (record { local = local_after t.local i (pos 0); buffer = ops.issue t.buffer c v })
-      else machine.did ops s n t i in
-      w.threads
 
   pub performed_threads : (s : State B) (n : Name) (t : Thread B) (i : Instr) (r : Request)
       → (perform ops code s n t i r).threads ≡ with_born n t i r (fin.insert s.threads n (own s t i r))
@@ -171,14 +158,21 @@ module _ {B : Type 0} (ops : BufferOps B) (code : Code) where
   abbrev children_at : Option (Thread B) → ℕ
   children_at o = option_map_or (λ t. t.local.children) o 0
 
+  -- so the history tells the number of a thread's next step, and how many children it has created
+  module _ (s : State B) (h : List Deed) (n : Name) (a : ThreadsAre s h) where
+    pub number_is : (t : Thread B) → fin.get s.threads n ≡ Some t → t.local.steps ≡ steps_in h n
+    number_is t here = ap steps_at (sym here) ∙ a.steps n
+
+    pub none_done : fin.get s.threads n ≡ None → 0 ≡ steps_in h n
+    none_done none = ap steps_at (sym none) ∙ a.steps n
+
+    pub children_are : (t : Thread B) → fin.get s.threads n ≡ Some t → t.local.children ≡ children_in h n
+    children_are t here = ap children_at (sym here) ∙ a.children n
+
   start_by : (q n : Name) (k : ℕ) (r : Request) (v : ℤ) (o : Option Name) → is_start_of q (Did n k r v o) ≡ is_start r && same q n
   start_by q n k (Start f) v o = refl
   start_by q n k Silent v o = refl
   start_by q n k r v o = refl
-
-  or_false : (b : Bool) → b ≡ b || false
-  or_false true = refl
-  or_false false = refl
 
   or_swap : (a b : Bool) → a || b ≡ b || (a || false)
   or_swap true true = refl
@@ -214,59 +208,43 @@ module _ {B : Type 0} (ops : BufferOps B) (code : Code) where
     exit-push : (q : Name) → has_exited_in (h ++ deed ∷ []) q ≡ has_exited_in h q || ((is_finish r && same q n) || false)
     exit-push q = list_any-append (is_exit_of q) h (deed ∷ []) ∙ ap (λ b. has_exited_in h q || (b || false)) (exit_by q n t.local.steps r v o)
 
-    and_true : (b : Bool) → b && true ≡ b
-    and_true true = refl
-    and_true false = refl
-
-    and_false : (b : Bool) → b && false ≡ false
-    and_false true = refl
-    and_false false = refl
-
     children-push : (q : Name) → children_in (h ++ deed ∷ []) q ≡ children_in h q + cond (is_start r && same q n) 1 0
     children-push q =
         count-push (is_start_of q) h deed ∙ ap (λ b. children_in h q + cond b 1 0) (start_by q n t.local.steps r v o)
 
     children_other : (q : Name) → q ≢ n → children_in (h ++ deed ∷ []) q ≡ children_in h q
     children_other q other =
-        children-push q ∙ sym (same_count (children_in h q) _ (ap (λ b. is_start r && b) (same_other q n other) ∙ and_false (is_start r)))
+        children-push q ∙ sym (same_count (children_in h q) _ (ap (λ b. is_start r && b) (same_other q n other) ∙ and-false (is_start r)))
 
     children_now : (q : Name) → Found s u n t i r q → children_at (fin.get u.threads q) ≡ children_in (h ++ deed ∷ []) q
     children_now q (Its_own e there) =
         let before : t.local.children ≡ children_in h q = ap children_at (sym here) ∙ ap (λ m. children_at (fin.get s.threads m)) (sym e) ∙ a.children q in
         ap children_at there ∙ children_by t.local i r _ asks ∙ ap (λ k. k + cond (is_start r) 1 0) before
         ∙ sym (children-push q ∙ ap (λ b. children_in h q + cond (is_start r && b) 1 0) (same_self q n e)
-        ∙ ap (λ b. children_in h q + cond b 1 0) (and_true (is_start r)))
+        ∙ ap (λ b. children_in h q + cond b 1 0) (and-true (is_start r)))
     children_now q (Its_child f vs other there new made) = ap children_at there ∙ sym (ap children_at new) ∙ a.children q ∙ sym (children_other q other)
     children_now q (Another other there none) = ap children_at there ∙ a.children q ∙ sym (children_other q other)
 
     exits_other : (q : Name) → q ≢ n → has_exited_in (h ++ deed ∷ []) q ≡ has_exited_in h q
     exits_other q other =
         exit-push q ∙ ap (λ b. has_exited_in h q || ((is_finish r && b) || false)) (same_other q n other)
-        ∙ ap (λ b. has_exited_in h q || (b || false)) (and_false (is_finish r)) ∙ sym (or_false _)
+        ∙ ap (λ b. has_exited_in h q || (b || false)) (and-false (is_finish r)) ∙ or-false _
 
     exits_after : (q : Name) → Found s u n t i r q → exited_at (fin.get u.threads q) ≡ has_exited_in (h ++ deed ∷ []) q
     exits_after q (Its_own e there) =
         let before : t.local.has_exited ≡ has_exited_in h q = ap exited_at (sym here) ∙ ap (λ m. exited_at (fin.get s.threads m)) (sym e) ∙ a.exits q in
         ap exited_at there ∙ exited_by t.local i r _ asks ∙ ap (λ b. is_finish r || b) before ∙ or_swap (is_finish r) (has_exited_in h q)
         ∙ sym (exit-push q ∙ ap (λ b. has_exited_in h q || ((is_finish r && b) || false)) (same_self q n e)
-        ∙ ap (λ b. has_exited_in h q || (b || false)) (and_true (is_finish r)))
+        ∙ ap (λ b. has_exited_in h q || (b || false)) (and-true (is_finish r)))
     exits_after q (Its_child f vs other there new made) = ap exited_at there ∙ sym (ap exited_at new) ∙ a.exits q ∙ sym (exits_other q other)
     exits_after q (Another other there none) = ap exited_at there ∙ a.exits q ∙ sym (exits_other q other)
-
-    assoc : (x y z : Bool) → x || (y || z) ≡ (x || y) || z
-    assoc true y z = refl
-    assoc false y z = refl
-
-    or_true : (x : Bool) → x || true ≡ true
-    or_true true = refl
-    or_true false = refl
 
     thread-push : (q : Name)
         → is_thread_in (h ++ deed ∷ []) q ≡ is_thread_in h q || list_any (same q) (cons_option (created_by ops code n t.local r) [])
     thread-push q =
         ap (λ ns. same q main || list_any (same q) ns) (filter_map-push creates h deed)
         ∙ ap (λ b. same q main || b) (list_any-append (same q) (filter_map creates h) (cons_option (creates deed) []))
-        ∙ assoc (same q main) _ _
+        ∙ sym (or_assoc (same q main) _ _)
         ∙ ap (λ c. is_thread_in h q || list_any (same q) (cons_option c [])) makes
 
     there_after : (q : Name) → Found s u n t i r q → is_some (fin.get u.threads q) ≡ is_thread_in (h ++ deed ∷ []) q
@@ -274,9 +252,9 @@ module _ {B : Type 0} (ops : BufferOps B) (code : Code) where
         let before : true ≡ is_thread_in h q = ap is_some (sym here) ∙ ap (λ m. is_some (fin.get s.threads m)) (sym e) ∙ a.there q in
         ap is_some there ∙ sym (thread-push q ∙ ap (λ b. b || list_any (same q) (cons_option (created_by ops code n t.local r) [])) (sym before))
     there_after q (Its_child f vs other there new made) =
-        ap is_some there ∙ sym (thread-push q ∙ ap (λ b. is_thread_in h q || b) made ∙ or_true _)
+        ap is_some there ∙ sym (thread-push q ∙ ap (λ b. is_thread_in h q || b) made ∙ or-true _)
     there_after q (Another other there none) =
-        ap is_some there ∙ a.there q ∙ sym (thread-push q ∙ ap (λ b. is_thread_in h q || b) none ∙ sym (or_false _))
+        ap is_some there ∙ a.there q ∙ sym (thread-push q ∙ ap (λ b. is_thread_in h q || b) none ∙ or-false _)
 
     pub threads_by : ThreadsAre u (h ++ deed ∷ [])
     threads_by = record {
@@ -307,7 +285,7 @@ module _ {B : Type 0} (ops : BufferOps B) (code : Code) where
     pub threads_flushed : ThreadsAre u (h ++ Drained n k c v ∷ [])
     threads_flushed = record {
       steps = λ q. stays steps_at refl q ∙ a.steps q ∙ sym (count-push (is_step_of q) h (Drained n k c v) ∙ omega arith);
-      exits = λ q. stays exited_at refl q ∙ a.exits q ∙ sym (list_any-append (is_exit_of q) h (Drained n k c v ∷ []) ∙ sym (or_false _));
+      exits = λ q. stays exited_at refl q ∙ a.exits q ∙ sym (list_any-append (is_exit_of q) h (Drained n k c v ∷ []) ∙ or-false _);
       children = λ q. stays children_at refl q ∙ a.children q ∙ sym (count-push (is_start_of q) h (Drained n k c v) ∙ omega arith);
       there = λ q.
           stays is_some refl q ∙ a.there q
@@ -330,7 +308,7 @@ module _ {B : Type 0} (ops : BufferOps B) (code : Code) where
   alone q =
       elim (same_or_apart q main) [
         | inl e ↦ inl (e, ap (fin.get (opening ops code).threads) e ∙ get_put fin.empty main _)
-        | inr other ↦ inr (other, get_put_apart fin.empty main _ q other ∙ fin.get-empty (slice_cmp nat_cmp) q)
+        | inr other ↦ inr (other, get_put_apart fin.empty main _ q other ∙ fin.get-empty by_name q)
       ]
 
   pub opening_threads : ThreadsAre (opening ops code) []

@@ -2,8 +2,6 @@
 use Rattle.std.specs.Prelude.{ℕ, ◌+◌, ◌==◌, ℤ, pos, Bool, false, not, ◌&&◌, Option, Some, None, List, [], ◌∷◌, ◌++◌, map, if◌then◌else◌}
 use Rattle.std.specs.List.{filter, filter_map, list_any}
 use Rattle.std.specs.Option.{option_map_or}
-use Rattle.std.specs.Ordering.{nat_cmp, eq_by_cmp}
-use Rattle.std.specs.Cmp.Lexicographic.{slice_cmp}
 use Rattle.std.specs.FinMap as fin
 use Rattle.tc_base.specs.Names.{Name, child}
 use Rattle.tc_base.specs.Buffers.{BufferOps, Entry}
@@ -15,6 +13,7 @@ use Rattle.tc_base.specs.declared.request.Request.TheVariants.{Read, Write, Exch
 use Rattle.tc_code.specs.Code.{Code}
 use Rattle.tc_code.specs.Step.{request, instr_of, loaded, in_memory, step, opening}
 use Rattle.store_buffers.specs.Pending.{Pending, Store, Bar as barred}
+pub use Rattle.run_laws.specs.Alone.{same}
 
 pub data Deed : Type 0 where
   -- a thread does its step of that number, from 0, which asks this; it takes this value from memory, and 0 where it takes none;
@@ -22,9 +21,6 @@ pub data Deed : Type 0 where
   Did : (thread : Name) (number : ℕ) (asks : Request) (took : ℤ) (other : Option Name) → Deed
   -- the store of a thread's step of that number reaches memory
   Drained : (thread : Name) (number : ℕ) (cell : ℕ) (value : ℤ) → Deed
-
-abbrev pub same : Name → Name → Bool
-same n q = eq_by_cmp (slice_cmp nat_cmp) n q
 
 -- a store or a bar that a thread has put into its buffer, and the number of its step
 pub record Issue : Type 0 where

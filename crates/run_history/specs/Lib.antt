@@ -1,4 +1,5 @@
 pub mod History
+pub mod Ints
 pub mod Last
 pub mod Locals
 pub mod Told

@@ -7,7 +7,7 @@ use Rattle.tc_base.specs.Buffers.{no_buffer}
 use Rattle.tc_base.specs.States.{Local}
 use Rattle.tc_base.specs.declared.request.Request.{Request}
 use Rattle.tc_base.specs.declared.request.Request.TheVariants.{Start, Fail}
-use Rattle.tc_code.specs.Instr.{Instr}
+use Rattle.tc_code.specs.declared.instr.Instr.{Instr}
 use Rattle.tc_code.specs.Code.{Code}
 use Rattle.tc_code.specs.Step.{request, stepped, local_after, arguments_of, instr_of, born}
 use Rattle.run_history.specs.History.{Deed, Did, Drained}

@@ -6,18 +6,24 @@
 
 ghost use Rattle.std.specs.Prelude.{◌≡◌, ◌↔◌, ◌<◌, ℕ, ℤ, pos, Bool, true, false, List, length, Some, is_some, option_map, slice_index_or, ◌++◌, ◌∷◌, []};
 ghost use Rattle.std.specs.Option.{option_map_or};
-ghost use Rattle.std.specs.List.{filter_map};
+ghost use Rattle.std.specs.List.{All, filter_map};
 ghost use Rattle.std.specs.FinMap as fin;
 ghost use Rattle.std.specs.FinSet as set;
 ghost use Rattle.tc_base.specs.Buffers.{BufferOps};
 ghost use Rattle.tc_base.specs.Names.{Name};
 ghost use Rattle.tc_base.specs.States.{State};
+ghost use Rattle.tc_base.specs.declared.model.Model.{Model};
 ghost use Rattle.tc_base.specs.declared.moves.Move.{Move};
 ghost use Rattle.tc_code.specs.Code.{Code};
+ghost use Rattle.tc_code.specs.Lawful.{IsLawful};
 ghost use Rattle.tc_code.specs.Run.{run};
 ghost use Rattle.tc_code.specs.Step.{in_memory, waiting_on, step};
+ghost use Rattle.store_buffers.specs.Laws.{Laws};
+ghost use Rattle.store_buffers.specs.Pending.{Binding};
+ghost use Rattle.run_laws.specs.Ints.{PassesInts};
 ghost use Rattle.run_laws.specs.Laws.{owner_of};
 ghost use Rattle.run_history.specs.History.{Deed, history, deed_of};
+ghost use Rattle.run_history.specs.Ints.{DeedHasInts};
 ghost use Rattle.run_history.specs.Locals.{locals_in};
 ghost use Rattle.run_history.specs.Last.{IsLast, brings, waits_by};
 ghost use Rattle.run_history.specs.Told.{value_in, owner_by, owner_in, waiting_in, is_thread_in, steps_in, children_in, has_exited_in, failed_in};
@@ -119,4 +125,15 @@ pub fn cells_have_last()
     ensures last { (buffered : Bool) (code : Code) (h : List Deed) (c : ℕ) (v : ℤ) → IsLast (brings buffered c) h v → value_in buffered code h c ≡ v }
     ensures begin { (buffered : Bool) (code : Code) (h : List Deed) (c : ℕ)
         → filter_map (brings buffered c) h ≡ [] → value_in buffered code h c ≡ slice_index_or code.memory c (pos 0) }
+{}
+
+/// Under every memory model a buffer gives back ints wherever ints were put in.
+pub fn models_pass_ints<B>()
+    ensures { (ops : BufferOps B) (model : Model) (bound : Binding) → Laws ops model bound → PassesInts ops }
+{}
+
+/// All that the deeds of lawful code ask, take and drain are ints.
+pub fn deeds_have_ints<B>()
+    ensures { (ops : BufferOps B) (code : Code) (moves : List Move) (s : State B)
+        → PassesInts ops → IsLawful code → run ops code moves ≡ Some s → All DeedHasInts (history ops code moves) }
 {}

@@ -3,13 +3,11 @@ use Rattle.std.proofs.Common.{◌≡◌, ◌≢◌, ◌∙◌, inl, inr, ℕ, �
 use Rattle.std.proofs.Common.{IsTrue, Option, Some, None, refl, sym, ap, ap₂, subst, append-nil, slice_set, length}
 use Rattle.std.specs.Prelude.{unwrap_or, option_and_then, option_map, if◌then◌else◌}
 use Rattle.std.specs.Option.{option_map_or}
-use Rattle.std.specs.Ordering.{nat_cmp}
-use Rattle.std.specs.Cmp.Lexicographic.{slice_cmp}
 use Rattle.std.specs.FinMap as fin
 use Rattle.std.specs.FinSet as set
-use Rattle.std.proofs.lemmas.Bool.{false≢true}
+use Rattle.std.proofs.lemmas.Bool.{false≢true, cases_Bool, or_parts}
 use Rattle.std.proofs.lemmas.Option.{same_Some, option_and_then_some}
-use Rattle.tc_base.specs.Names.{Name, ByName, child, main}
+use Rattle.tc_base.specs.Names.{Name, ByName, child, main, by_name}
 use Rattle.tc_base.specs.Buffers.{BufferOps, Entry}
 use Rattle.tc_base.specs.States.{Local, Thread, State}
 use Rattle.tc_base.specs.Logs.{Log}
@@ -19,16 +17,16 @@ use Rattle.tc_base.specs.declared.moves.Move.TheVariants as move
 use Rattle.tc_base.specs.declared.request.Request.{Request}
 use Rattle.tc_base.specs.declared.request.Request.TheVariants.{Silent, Read, Write, Exchange, CompareExchange, Bar}
 use Rattle.tc_base.specs.declared.request.Request.TheVariants.{Start, Await, Fail}
-use Rattle.tc_code.specs.Instr.{Instr, Signal}
+use Rattle.tc_code.specs.declared.instr.Instr.{Instr}
+use Rattle.tc_code.specs.declared.instr.Instr.TheVariants.{Signal}
 use Rattle.tc_code.specs.Code.{Code}
 use Rattle.tc_code.specs.Step.{request, local_after, stepped, arguments_of, instr_of, in_memory, drains_first, is_let, with_thread}
 use Rattle.tc_code.specs.Step.{allows, loaded, done, did, stored, perform, born, waiting_on, woken, drained, step, opening}
 use Rattle.tc_code.specs.Run.{run_from, run, Reproduces, path_of}
-use Rattle.tc_code.specs.Facts.{run_from-append}
+use Rattle.tc_code.proofs.Facts.{run_from-append}
 use Rattle.store_buffers.specs.Pending.{Pending, Store, Bar as bar, stores, Binding, waits, form_of, Stands}
 use Rattle.store_buffers.specs.Laws.{Laws}
-use Rattle.store_buffers.specs.Proved.Lists.{or_false, store_last, bar_last}
-use Rattle.run_laws.proofs.Basics.{known}
+use Rattle.store_buffers.specs.Proved.Lists.{store_last, bar_last}
 use Rattle.run_laws.proofs.Names.{same_or_apart, get_put, get_put_apart}
 use Rattle.run_laws.proofs.Steps.{Went, step_went, none_failed}
 use Rattle.run_models.specs.Models.{AllowsMore, drains_at_once, move_as, moves_from, moves_as, local_of, SameButBuffers}
@@ -44,7 +42,7 @@ waits_less : (bound less : Binding) → ((same_cell barred : Bool) → less same
     → (ps : List Pending) (c : ℕ) → waits bound ps c ≡ false → waits less ps c ≡ false
 waits_less bound less binds [] c free = refl
 waits_less bound less binds (Store e ∷ ps) c free =
-    let both = or_false _ _ free in
+    let both = or_parts _ _ free in
     ap₂ (λ x y. x || y) (not_bound _ _ (binds _ _) both.0) (waits_less bound less binds ps c both.1)
 waits_less bound less binds (bar ∷ ps) c free = waits_less bound less binds ps c free
 
@@ -111,7 +109,7 @@ module _ {B C : Type 0} (ops : BufferOps B) (more : BufferOps C) where
   -- there is no thread on either side
   none_alike : AllAlike fin.empty fin.empty
   none_alike q =
-      subst (λ o. Alike o (fin.get {R = slice_cmp nat_cmp} fin.empty q)) (sym (fin.get-empty (slice_cmp nat_cmp) q)) (fin.get-empty (slice_cmp nat_cmp) q)
+      subst (λ o. Alike o (fin.get {R = by_name} fin.empty q)) (sym (fin.get-empty by_name q)) (fin.get-empty by_name q)
 
   same_exited : (o : Option (Thread B)) (p : Option (Thread C)) → Alike o p
       → option_map_or (λ t. t.local.has_exited) p false ≡ option_map_or (λ t. t.local.has_exited) o false
@@ -271,14 +269,14 @@ module _ {B C : Type 0} (ops : BufferOps B) (more : BufferOps C) where
 
         store_by_unbuffered : ops.buffered ≡ false → StoreFollows false more.buffered
         store_by_unbuffered lacks =
-            elim (known more.buffered) [
+            elim (cases_Bool more.buffered) [
               | inl has ↦ subst (StoreFollows false) (sym has) (into_other lacks has)
               | inr none ↦ subst (StoreFollows false) (sym none) (into_neither none)
             ]
 
         store_follows : StoreFollows ops.buffered more.buffered
         store_follows =
-            elim (known ops.buffered) [
+            elim (cases_Bool ops.buffered) [
               | inl has ↦ subst (λ b. StoreFollows b more.buffered) (sym has)
                   (subst (StoreFollows true) (sym (allows_more.buffers has)) (into_both has))
               | inr none ↦ subst (λ b. StoreFollows b more.buffered) (sym none) (store_by_unbuffered none)

@@ -1,0 +1,8 @@
+-- What a deed asks, takes and drains is an int.
+use Rattle.tc_base.specs.Arith.{IsInt}
+use Rattle.run_laws.specs.Ints.{AsksInts}
+use Rattle.run_history.specs.History.{Deed, Did, Drained}
+
+abbrev pub DeedHasInts : Deed → Type 0
+DeedHasInts (Did n k r took other) = AsksInts r × IsInt took
+DeedHasInts (Drained n k c v) = IsInt v
