@@ -47,19 +47,19 @@ use Rattle.std.proofs.lemmas.List.{nil_from_length}
 use Rattle.std.specs.FinMap as fin
 use Rattle.std.specs.FinMap.{find, put, entries, entries-insert, len-entries, len-empty, get-from_entries, same_map, nat_cmp-IsAntisymmetric}
 use Rattle.std.specs.Ordering.{nat_cmp}
-use Rattle.std.specs.Cmp.{nat_cmp_total, unsigned_tied}
+use Rattle.std.specs.Cmp.{nat_cmp_total, nat_eq_equiv, unsigned_tied}
 use Rattle.std.specs.Map.{lookup, keys_of}
 use Rattle.std.specs.List.{AllByRecursion}
 use Rattle.std.specs.List.Sorted.{IsStrictlySortedBy}
 use Rattle.std.specs.declared.cmp.Ordering.TheVariants.{Less}
 use Rattle.std.proofs.lemmas.Map.Keys.{sorted_head, sorted_tail}
 use Rattle.std.specs.BTreeMap.{is_at}
-use Rattle.std.proofs.lemmas.Bool.{false≢true}
+use Rattle.std.proofs.lemmas.Bool.{false≢true, eqb-true}
 use Rattle.std.proofs.lemmas.Option.{none-some}
 use Rattle.std.proofs.Math.Dec.{eqb-suc-zero}
 use Rattle.std.proofs.lemmas.Bool.Decides.{nat_tests}
 use Rattle.tc_base.specs.Buffers.{Segment, values_to, with_values, has_no_store, is_nil}
-use Rattle.store_buffers.specs.Proved.Segments.{
+use Rattle.store_buffers.specs.helpers.Segments.{
   IsTidy,
   some_values,
   get-with_values,
@@ -68,9 +68,6 @@ use Rattle.store_buffers.specs.Proved.Segments.{
   tidy-with_values,
   no_store-empty,
   has_store,
-  eq_is,
-  eq_self,
-  eq_comm,
 }
 
 abbrev pub Entries : Type 0
@@ -98,7 +95,7 @@ pub segment_of_update : (es fs : Entries) (c : ℕ) (vs : List ℤ)
     → ((d : ℕ) → at_cell fs d ≡ cond (is_at (nat_cmp c) d) (some_values vs) (at_cell es d)) → segment_of fs ≡ with_values (segment_of es) c vs
 segment_of_update es fs c vs h = same_map nat_cmp_total nat_cmp-IsAntisymmetric _ _ (λ d.
     get-segment_of fs d ∙ h d
-    ∙ ap (λ b. cond b (some_values vs) (at_cell es d)) (unsigned_tied c d ∙ eq_comm c d)
+    ∙ ap (λ b. cond b (some_values vs) (at_cell es d)) (unsigned_tied c d ∙ nat_eq_equiv.symm c d)
     ∙ ap (cond (d == c) (some_values vs)) (sym (get-segment_of es d))
     ∙ sym (get-with_values (segment_of es) c vs d))
 
@@ -111,7 +108,7 @@ pub is_there : (s : Segment) (c : ℕ) (o : Option (List ℤ)) → IsTidy s → 
 is_there s c o t e = ap is_some (sym e ∙ t.at c) ∙ is_some-some_values (values_to s c)
 
 back_there : {A : Type 0} (b : Bool) (f : ℕ → A) (c d : ℕ) → (d == c) ≡ b → cond b (f c) (f d) ≡ f d
-back_there true f c d e = ap f (sym (eq_is d c e))
+back_there true f c d e = ap f (sym (eqb-true d c e))
 back_there false f c d e = refl
 
 -- what is there already is put in without a change
@@ -127,11 +124,9 @@ pub no_entry-none : (es : Entries) → IsTidy (segment_of es) → has_no_store (
 no_entry-none [] t = no_store-empty
 no_entry-none (e ∷ es) t =
     has_store (segment_of (e ∷ es)) e.0
-    (some_entry _ e.1 (sym (t.at e.0) ∙ get-segment_of (e ∷ es) e.0 ∙ ap (λ b. cond b (Some e.1) (at_cell es e.0)) (unsigned_tied e.0 e.0 ∙ eq_self e.0)))
+    (some_entry _ e.1 (sym (t.at e.0) ∙ get-segment_of (e ∷ es) e.0
+    ∙ ap (λ b. cond b (Some e.1) (at_cell es e.0)) (unsigned_tied e.0 e.0 ∙ nat_eq_equiv.refl e.0)))
     ∙ sym (eqb-suc-zero (length es))
-
-pub no_entries : (es : Entries) → length es ≡ 0 → es ≡ []
-no_entries es e = nil_from_length es e
 
 -- a test of a number for 0
 pub tested : (b : Bool) (n : ℕ) → IsTrue b ↔ (n ≡ 0) → b ≡ (n == 0)
@@ -185,10 +180,6 @@ tidy_put es fs s c vs is t put = subst IsTidy (sym put) (tidy-with_values s c vs
 pub nil_drop : (vs : List ℤ) → is_nil (drop 1 vs) ≡ false → is_nil vs ≡ false
 nil_drop [] e = e
 nil_drop (v ∷ vs) e = refl
-
-pub nil_of : (vs : List ℤ) → is_nil vs ≡ true → vs ≡ []
-nil_of [] e = refl
-nil_of (v ∷ vs) e = absurd (false≢true e)
 
 pub nil-append : (vs : List ℤ) (v : ℤ) → is_nil (vs ++ v ∷ []) ≡ false
 nil-append [] v = refl

@@ -34,7 +34,7 @@ use Rattle.std.specs.List.{list_any, AllByRecursion}
 use Rattle.std.specs.List.Sorted.{IsStrictlySortedBy}
 use Rattle.tc_base.specs.Buffers.{Entry, BufferOps, Segment, fifo_buffer, cell_buffer, values_to, first_values, may_drain_cell, is_nil}
 use Rattle.store_buffers.specs.Laws.{AreForms}
-use Rattle.store_buffers.specs.Proved.Segments.{IsTidy}
+use Rattle.store_buffers.specs.helpers.Segments.{IsTidy}
 use Rattle.store_buffers.proofs.ByCell.{is_there}
 use Rattle.store_buffers.proofs.Skips.{first_values-alone}
 

@@ -1,13 +1,14 @@
 -- The oldest store of a form.
 use Rattle.std.proofs.Common.{◌≡◌, ℕ, ◌==◌, nat_eq, Bool, true, false, cond, Option, Some, None, List, [], ◌∷◌, ◌++◌, filter, refl, sym, ap, ◌∙◌, subst}
 use Rattle.std.specs.Option.{option_eq}
-use Rattle.std.proofs.lemmas.Bool.{false≢true}
+use Rattle.std.proofs.lemmas.Bool.{false≢true, or_parts}
+use Rattle.std.proofs.lemmas.List.Elements.{filter-append}
+use Rattle.std.specs.Cmp.{nat_eq_equiv}
 use Rattle.tc_base.specs.Buffers.{Entry, BufferOps}
 use Rattle.tc_base.specs.declared.model.Model.{Model}
 use Rattle.store_buffers.specs.Pending.{Pending, Store, Bar, stores, has_bar, Binding, waits, form_of, stores_by, Drains}
 use Rattle.store_buffers.specs.Laws.{Laws}
-use Rattle.store_buffers.specs.Proved.Lists.{stores-append, or_false}
-use Rattle.store_buffers.specs.Proved.Segments.{eq_self}
+use Rattle.store_buffers.specs.helpers.Lists.{stores-append}
 
 -- two stores of one form are bound
 bound_by_form : (bound : Binding) → ((b : Bool) → bound true b ≡ true) → (bound false false ≡ true → bound false true ≡ true)
@@ -24,7 +25,7 @@ none_by_form : (bound : Binding) → ((b : Bool) → bound true b ≡ true) → 
     → (older : List Pending) (c : ℕ) → waits bound older c ≡ false → stores_by bound (form_of bound c) older ≡ []
 none_by_form bound one barred [] c free = refl
 none_by_form bound one barred (Store d ∷ older) c free =
-    let both = or_false (bound (d.cell == c) (has_bar older)) (waits bound older c) free in
+    let both = or_parts (bound (d.cell == c) (has_bar older)) (waits bound older c) free in
     ap (λ b. cond b (d ∷ stores_by bound (form_of bound c) older) (stores_by bound (form_of bound c) older))
     (bound_by_form bound one barred c d.cell (has_bar older) _ refl both.0)
     ∙ none_by_form bound one barred older c both.1
@@ -32,15 +33,7 @@ none_by_form bound one barred (Bar ∷ older) c free = none_by_form bound one ba
 
 same_form : (o : Option ℕ) → option_eq nat_eq o o ≡ true
 same_form None = refl
-same_form (Some c) = eq_self c
-
-filter-append : {A : Type 0} (p : A → Bool) (xs ys : List A) → filter p (xs ++ ys) ≡ filter p xs ++ filter p ys
-filter-append p [] ys = refl
-filter-append p (x ∷ xs) ys = ap (λ zs. cond (p x) (x ∷ zs) zs) (filter-append p xs ys) ∙ pushed (p x) x (filter p xs) (filter p ys)
-  where
-    pushed : {A : Type 0} (b : Bool) (x : A) (xs ys : List A) → cond b (x ∷ xs ++ ys) (xs ++ ys) ≡ cond b (x ∷ xs) xs ++ ys
-    pushed true x xs ys = refl
-    pushed false x xs ys = refl
+same_form (Some c) = nat_eq_equiv.refl c
 
 oldest_by : (bound : Binding) → ((b : Bool) → bound true b ≡ true) → (bound false false ≡ true → bound false true ≡ true)
     → (older newer : List Pending) (e : Entry) → waits bound older e.cell ≡ false

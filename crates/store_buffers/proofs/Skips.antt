@@ -37,15 +37,19 @@ use Rattle.std.proofs.Common.{
   arith,
 }
 use Rattle.std.proofs.Math.Dec.{eqb-suc-zero}
-use Rattle.std.specs.Ordering.{nat_cmp}
 use Rattle.std.specs.List.{list_all, last_or}
 use Rattle.std.specs.Option.{option_or}
 use Rattle.std.specs.FinMap as fin
 use Rattle.std.specs.FinMap.{empty_of_len}
-use Rattle.std.proofs.lemmas.Bool.{false≢true}
+use Rattle.std.proofs.lemmas.Bool.{false≢true, eqb-true}
+use Rattle.std.proofs.Math.Bool.{and-true}
+use Rattle.std.proofs.lemmas.List.{length-replicate}
+use Rattle.tc_base.proofs.Options.{or_none}
 use Rattle.tc_base.specs.Buffers.{Segment, values_to, with_values, has_no_store, issue_last, last_value, first_values, drop_first, is_nil}
-use Rattle.store_buffers.specs.Proved.Segments.{values-empty, no_store-empty, has_store, eq_is}
-use Rattle.store_buffers.specs.Seen.{after_empty, begins_empty, values_in_first, drop_in_first}
+use Rattle.store_buffers.specs.helpers.Lists.{or_assoc}
+use Rattle.store_buffers.specs.helpers.Segments.{values-empty, no_store-empty, has_store}
+use Rattle.store_buffers.specs.helpers.Segments.{first_values-store, first_values-past, drop_first-store, drop_first-past}
+use Rattle.store_buffers.specs.helpers.Seen.{after_empty, begins_empty, values_in_first, drop_in_first}
 
 -- a store goes into the last
 pub issue-last : (ss : List Segment) (s : Segment) (c : ℕ) (v : ℤ) → issue_last (ss ++ s ∷ []) c v ≡ ss ++ with_values s c (values_to s c ++ v ∷ []) ∷ []
@@ -54,25 +58,13 @@ issue-last (t ∷ []) s c v = refl
 issue-last (t ∷ u ∷ ss) s c v = ap (λ us. t ∷ us) (issue-last (u ∷ ss) s c v)
 
 pub last_value-append : (ss : List Segment) (s : Segment) (c : ℕ) → last_value (ss ++ s ∷ []) c ≡ option_or (last_or None (values_to s c)) (last_value ss c)
-last_value-append [] s c = or_none (last_or None (values_to s c))
-  where
-    or_none : (o : Option ℤ) → o ≡ option_or o None
-    or_none None = refl
-    or_none (Some v) = refl
+last_value-append [] s c = sym (or_none (last_or None (values_to s c)))
 last_value-append (t ∷ ss) s c = ap (λ o. option_or o (last_or None (values_to t c))) (last_value-append ss s c)
-    ∙ assoc (last_or None (values_to s c)) (last_value ss c) (last_or None (values_to t c))
-  where
-    assoc : (o p q : Option ℤ) → option_or (option_or o p) q ≡ option_or o (option_or p q)
-    assoc None p q = refl
-    assoc (Some v) p q = refl
+    ∙ or_assoc (last_or None (values_to s c)) (last_value ss c) (last_or None (values_to t c))
 
 pub last_value-after : (n : ℕ) (ss : List Segment) (c : ℕ) → last_value (after_empty n ss) c ≡ last_value ss c
 last_value-after zero ss c = refl
 last_value-after (suc n) ss c = ap (λ vs. option_or (last_value (after_empty n ss) c) (last_or None vs)) (values-empty c) ∙ or_none _ ∙ last_value-after n ss c
-  where
-    or_none : (o : Option ℤ) → option_or o None ≡ o
-    or_none None = refl
-    or_none (Some v) = refl
 
 pub all_empty-after : (n : ℕ) (ss : List Segment) → list_all has_no_store (after_empty n ss) ≡ list_all has_no_store ss
 all_empty-after zero ss = refl
@@ -80,12 +72,12 @@ all_empty-after (suc n) ss = ap (λ b. b && list_all has_no_store (after_empty n
 
 pub first_values-after : (n : ℕ) (ss : List Segment) (c : ℕ) → first_values (after_empty n ss) c ≡ first_values ss c
 first_values-after zero ss c = refl
-first_values-after (suc n) ss c = ap (λ b. cond b (first_values (after_empty n ss) c) (values_to fin.empty c)) no_store-empty ∙ first_values-after n ss c
+first_values-after (suc n) ss c = first_values-past (after_empty n ss) c ∙ first_values-after n ss c
 
 pub drop_first-after : (n : ℕ) (ss : List Segment) (c : ℕ) → drop_first (after_empty n ss) c ≡ after_empty n (drop_first ss c)
 drop_first-after zero ss c = refl
 drop_first-after (suc n) ss c =
-    ap (λ b. cond b (fin.empty ∷ drop_first (after_empty n ss) c) (with_values fin.empty c (drop 1 (values_to fin.empty c)) ∷ after_empty n ss)) no_store-empty
+    drop_first-past (after_empty n ss) c
     ∙ ap (λ us. fin.empty ∷ us) (drop_first-after n ss c)
 
 -- an empty segment is one more of them
@@ -98,7 +90,7 @@ one_more n ss = ap (λ k. after_empty k ss) (add-one n) ∙ one_behind n ss
 
 -- a segment without a store is the empty one
 pub empty_is : (s : Segment) → has_no_store s ≡ true → s ≡ fin.empty
-empty_is s e = empty_of_len s (eq_is (fin.len s) 0 e)
+empty_is s e = empty_of_len s (eqb-true (fin.len s) 0 e)
 
 no_values : (s : Segment) (c : ℕ) (b : Bool) → has_no_store s ≡ b → cond b [] (values_to s c) ≡ values_to s c
 no_values s c true e = sym (ap (λ t. values_to t c) (empty_is s e) ∙ values-empty c)
@@ -107,13 +99,6 @@ no_values s c false e = refl
 -- one segment alone counts whether or not it has a store
 pub first_values-alone : (s : Segment) (c : ℕ) → first_values (s ∷ []) c ≡ values_to s c
 first_values-alone s c = no_values s c _ refl
-
-pub first_values-store : (s : Segment) (ss : List Segment) (c : ℕ) → has_no_store s ≡ false → first_values (s ∷ ss) c ≡ values_to s c
-first_values-store s ss c e = ap (λ b. cond b (first_values ss c) (values_to s c)) e
-
-pub drop_first-store : (s : Segment) (ss : List Segment) (c : ℕ) → has_no_store s ≡ false
-    → drop_first (s ∷ ss) c ≡ with_values s c (drop 1 (values_to s c)) ∷ ss
-drop_first-store s ss c e = ap (λ b. cond b (s ∷ drop_first ss c) (with_values s c (drop 1 (values_to s c)) ∷ ss)) e
 
 -- what a store, a load, a drain and a bar make of them
 pub issued : (n : ℕ) (older : List Segment) (s t : Segment) (now : List Segment) (c : ℕ) (v w : ℤ) → after_empty n (older ++ s ∷ []) ≡ now → w ≡ v
@@ -158,11 +143,7 @@ older_dropped (t ∷ older) s c some begins = drop_first-store t (older ++ s ∷
 
 pub all_empty : (n : ℕ) (older : List Segment) (s : Segment) (now : List Segment) → after_empty n (older ++ s ∷ []) ≡ now → begins_empty older ≡ false
     → list_all has_no_store now ≡ is_nil older && has_no_store s
-all_empty n [] s now is begins = ap (list_all has_no_store) (sym is) ∙ all_empty-after n (s ∷ []) ∙ and_true (has_no_store s)
-  where
-    and_true : (b : Bool) → b && true ≡ b
-    and_true true = refl
-    and_true false = refl
+all_empty n [] s now is begins = ap (list_all has_no_store) (sym is) ∙ all_empty-after n (s ∷ []) ∙ and-true (has_no_store s)
 all_empty n (t ∷ older) s now is begins = ap (list_all has_no_store) (sym is) ∙ all_empty-after n (t ∷ older ++ s ∷ [])
     ∙ ap (λ b. b && list_all has_no_store (older ++ s ∷ [])) begins
 
@@ -176,11 +157,7 @@ nil_by_len (x ∷ xs) true n len is = absurd (not_both n (length xs) len (is.0 r
 nil_by_len (x ∷ xs) false n len is = refl
 
 pub length-after : (n : ℕ) (ss : List Segment) → length (after_empty n ss) ≡ n + length ss
-length-after n ss = length-append (replicate n fin.empty) ss ∙ ap (λ k. k + length ss) (length-replicate n)
-  where
-    length-replicate : (n : ℕ) → length (replicate n (fin.empty {K = ℕ} {X = List ℤ} {R = nat_cmp})) ≡ n
-    length-replicate zero = refl
-    length-replicate (suc n) = ap suc (length-replicate n)
+length-after n ss = length-append (replicate n fin.empty) ss ∙ ap (λ k. k + length ss) (length-replicate n fin.empty)
 
 -- how many segments there are
 pub segment_count : (n : ℕ) (older : List Segment) (s : Segment) (now : List Segment) → after_empty n (older ++ s ∷ []) ≡ now
@@ -205,10 +182,6 @@ pub begins_after : (n : ℕ) (older : List Segment) (s : Segment) (now : List Se
 begins_after n [] s now is begins e = sym (all_empty n [] s now is refl) ∙ e
 begins_after n (t ∷ older) s now is begins e = begins
 
-pub nil_of_len : (ss : List Segment) → length ss ≡ 0 → ss ≡ []
-nil_of_len [] e = refl
-nil_of_len (s ∷ ss) e = absurd (omega arith)
-
 -- with no older segment the last counts
 pub alone_front : (older : List Segment) (s : Segment) (c : ℕ) → older ≡ [] → first_values (older ++ s ∷ []) c ≡ values_to s c
 alone_front older s c none = ap (λ ss. first_values (ss ++ s ∷ []) c) none ∙ first_values-alone s c
@@ -224,10 +197,6 @@ nil_test (x ∷ xs) n len = ap (λ k. k == 0) len ∙ eqb-suc-zero (length xs)
 pub some_len : {A : Type 0} (xs : List A) → is_nil xs ≡ false → 0 < length xs
 some_len [] e = absurd (false≢true (sym e))
 some_len (x ∷ xs) e = omega arith
-
-pub nil_is : {A : Type 0} (xs : List A) → is_nil xs ≡ true → xs ≡ []
-nil_is [] e = refl
-nil_is (x ∷ xs) e = absurd (false≢true e)
 
 -- an empty segment in front is skipped
 pub skipped_one : (n : ℕ) (ss ts : List Segment) → begins_empty ss ≡ true → ts ≡ drop 1 ss → after_empty (n + 1) ts ≡ after_empty n ss

@@ -1,4 +1,3 @@
 pub mod Pending
 pub mod Laws
-pub mod Seen
-pub mod Proved
+pub mod helpers

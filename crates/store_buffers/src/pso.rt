@@ -3,7 +3,7 @@ ghost use Rattle.std.specs.Prelude.{refl, true};
 ghost use Rattle.tc_base.specs.Buffers.{cell_buffer};
 ghost use Rattle.tc_base.specs.declared.model.Model.TheVariants as model;
 ghost use Rattle.store_buffers.specs.Pending.{binds_cells};
-ghost use Rattle.store_buffers.specs.Proved.Partial.{pso_laws};
+ghost use Rattle.store_buffers.specs.helpers.Partial.{pso_laws};
 
 use crate::MemoryModel;
 use crate::segments::Segments;

@@ -26,15 +26,15 @@ pub struct Queue {
 impl Model for Queue {
     ghost use Rattle.std.specs.Prelude.{◌≡◌, List, map};
     ghost use Rattle.tc_base.specs.Buffers.{Entry};
-    ghost use Rattle.store_buffers.specs.Seen.{plain_store, stores_by_cell, coded_entries};
+    ghost use Rattle.store_buffers.specs.helpers.Seen.{entry_of, stores_by_cell, coded_entries};
 
     ghost Value = { List Entry };
 
     ghost coded = { coded_entries };
 
-    ghost view = { λ a. map plain_store a.stores.items };
+    ghost view = { λ a. map entry_of a.stores.items };
 
-    ghost invariant = { λ a. a.by_cell ≡ stores_by_cell (map plain_store a.stores.items) };
+    ghost invariant = { λ a. a.by_cell ≡ stores_by_cell (map entry_of a.stores.items) };
 }
 
 impl Queue {

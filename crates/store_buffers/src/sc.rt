@@ -3,7 +3,7 @@ ghost use Rattle.std.specs.Prelude.{refl, true, false};
 ghost use Rattle.tc_base.specs.Buffers.{no_buffer};
 ghost use Rattle.tc_base.specs.declared.model.Model.TheVariants as model;
 ghost use Rattle.store_buffers.specs.Pending.{binds_all};
-ghost use Rattle.store_buffers.specs.Proved.Sequential.{sc_laws};
+ghost use Rattle.store_buffers.specs.helpers.Sequential.{sc_laws};
 
 use crate::MemoryModel;
 use std::alloc::{AllocError, Global};

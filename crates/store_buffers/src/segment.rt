@@ -22,7 +22,7 @@ impl Model for Segment {
     ghost use Rattle.std.specs.Ordering.{nat_cmp};
     ghost use Rattle.std.specs.Coded.{coded_ℕ, coded_ℤ, coded_list};
     ghost use Rattle.std.specs.BTreeMap.{IsOrdered};
-    ghost use Rattle.store_buffers.specs.Proved.Segments.{IsTidy};
+    ghost use Rattle.store_buffers.specs.helpers.Segments.{IsTidy};
 
     ghost Value = { fin.FinMap nat_cmp (List ℤ) };
 

@@ -5,7 +5,7 @@ ghost use Rattle.std.specs.FinMap as fin;
 ghost use Rattle.std.specs.List.{list_all};
 ghost use Rattle.tc_base.specs.Buffers.{is_nil, has_no_store, issue_last, last_value, first_values, values_to, drop_first, cell_buffer};
 ghost use Rattle.store_buffers.specs.Laws.{AreForms};
-ghost use Rattle.store_buffers.specs.Seen.{begins_empty, after_empty, values_in_first, drop_in_first};
+ghost use Rattle.store_buffers.specs.helpers.Seen.{begins_empty, after_empty, values_in_first, drop_in_first};
 
 use crate::segment::Segment;
 use std::alloc::{AllocError, Global};
@@ -28,7 +28,7 @@ impl Model for Segments {
     ghost use Rattle.std.specs.FinMap as fin;
     ghost use Rattle.std.specs.Ordering.{nat_cmp};
     ghost use Rattle.std.specs.Coded.{coded_ℕ, coded_ℤ, coded_list};
-    ghost use Rattle.store_buffers.specs.Seen.{begins_empty, after_empty};
+    ghost use Rattle.store_buffers.specs.helpers.Seen.{begins_empty, after_empty};
 
     ghost Value = { List (fin.FinMap nat_cmp (List ℤ)) };
 

@@ -3,7 +3,7 @@ ghost use Rattle.std.specs.Prelude.{refl, true};
 ghost use Rattle.tc_base.specs.Buffers.{fifo_buffer};
 ghost use Rattle.tc_base.specs.declared.model.Model.TheVariants as model;
 ghost use Rattle.store_buffers.specs.Pending.{binds_all};
-ghost use Rattle.store_buffers.specs.Proved.Total.{tso_laws};
+ghost use Rattle.store_buffers.specs.helpers.Total.{tso_laws};
 
 use crate::MemoryModel;
 use crate::queue::Queue;

@@ -1,4 +1,4 @@
-use Rattle.store_buffers.specs.Proved.Lists.{bar_last}
+use Rattle.store_buffers.specs.helpers.Lists.{bar_last}
 use Rattle.store_buffers.proofs.laws.bar_stands.Goals as goal
 
 pub returns : goal.returns

@@ -1,4 +1,4 @@
-use Rattle.store_buffers.specs.Proved.Lists.{store_last}
+use Rattle.store_buffers.specs.helpers.Lists.{store_last}
 use Rattle.store_buffers.proofs.laws.issue_stands.Goals as goal
 
 pub returns : goal.returns

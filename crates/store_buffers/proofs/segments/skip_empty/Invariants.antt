@@ -1,5 +1,5 @@
 use Rattle.std.proofs.Common.{◌≡◌, ◌+◌, deque_len}
-use Rattle.store_buffers.specs.Seen.{after_empty}
+use Rattle.store_buffers.specs.helpers.Seen.{after_empty}
 use Rattle.store_buffers.proofs.segments.skip_empty.Given as goal
 
 abbrev pub invariant-loop-segments : goal.invariant-loop-segments

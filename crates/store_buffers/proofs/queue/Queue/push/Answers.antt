@@ -1,7 +1,7 @@
 use Rattle.std.proofs.Common.{◌∙◌, [], ◌∷◌, ◌++◌, ap, map, sym, w32, to_z, of_z}
 use Rattle.std.proofs.lemmas.List.{map-append}
 use Rattle.tc_base.specs.Buffers.{values_to, with_values}
-use Rattle.store_buffers.specs.Seen.{plain_store, stores_by_cell}
+use Rattle.store_buffers.specs.helpers.Seen.{entry_of, stores_by_cell}
 use Rattle.store_buffers.proofs.Queues.{by_cell-end}
 use Rattle.store_buffers.proofs.queue.Queue.push.Goals as goal
 
@@ -12,5 +12,5 @@ invariant_of-self-in_default c =
     let stores = c.self.inside.stores.items in
     c.in_default.ensures.ok
     ∙ ap (λ s. with_values s k (values_to s k ++ v ∷ [])) c.self.invariant
-    ∙ by_cell-end (map plain_store stores) k v
-    ∙ ap stores_by_cell (sym (ap (map plain_store) c.in_ok-push_back.ensures.items ∙ map-append plain_store stores _))
+    ∙ by_cell-end (map entry_of stores) k v
+    ∙ ap stores_by_cell (sym (ap (map entry_of) c.in_ok-push_back.ensures.items ∙ map-append entry_of stores _))

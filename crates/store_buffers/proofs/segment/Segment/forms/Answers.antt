@@ -2,7 +2,7 @@ use Rattle.std.proofs.Common.{◌++◌, ◌∙◌, map, Some, List, ℕ, Option,
 use Rattle.std.specs.FinMap as fin
 use Rattle.std.specs.Ordering.{nat_cmp}
 use Rattle.std.specs.List.Sorted.{IsStrictlySortedBy}
-use Rattle.store_buffers.specs.Proved.Segments.{IsTidy}
+use Rattle.store_buffers.specs.helpers.Segments.{IsTidy}
 use Rattle.store_buffers.proofs.ByCell.{keys-segment_of}
 use Rattle.store_buffers.proofs.Forms.{cells_are_forms}
 use Rattle.store_buffers.proofs.segment.Segment.forms.Goals as goal

@@ -1,5 +1,5 @@
 use Rattle.std.proofs.Common.{◌∙◌, subst}
-use Rattle.store_buffers.specs.Proved.Segments.{IsTidy}
+use Rattle.store_buffers.specs.helpers.Segments.{IsTidy}
 use Rattle.store_buffers.proofs.ByCell.{is_there, get_of_entries}
 use Rattle.store_buffers.proofs.segment.Segment.has.Goals as goal
 

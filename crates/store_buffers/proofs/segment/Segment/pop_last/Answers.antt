@@ -1,6 +1,7 @@
 use Rattle.std.proofs.Common.{◌∙◌, sym, ap, [], List, ℤ, slice_get}
 use Rattle.tc_base.specs.Buffers.{with_values}
-use Rattle.store_buffers.proofs.ByCell.{entry_values, out_values, tidy_put, nil_of}
+use Rattle.store_buffers.proofs.ByCell.{entry_values, out_values, tidy_put}
+use Rattle.store_buffers.specs.helpers.Lists.{nil_is}
 use Rattle.store_buffers.proofs.segment.Segment.pop_last.Goals as goal
 use Rattle.store_buffers.proofs.segment.Segment.pop_last.Goals.{in-Some, in-None}
 
@@ -14,7 +15,7 @@ invariant_of-self c = (
 pub returns-clause-rest : goal.returns-clause-rest
 returns-clause-rest c =
     out_values c.self.inside.by_cell.entries c.remove.new.self.entries c.args.self.now c.args.cell c.self.view_is c.remove.ensures.updates.0
-    ∙ ap (with_values c.args.self.now c.args.cell) (sym (nil_of _ c.requires))
+    ∙ ap (with_values c.args.self.now c.args.cell) (sym (nil_is _ c.requires))
 
 pub returns-clause-first : goal.returns-clause-first
 returns-clause-first c = elim c.match-remove.branch [

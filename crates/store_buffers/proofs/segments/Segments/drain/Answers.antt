@@ -1,5 +1,6 @@
 use Rattle.std.proofs.Common.{◌∙◌, sym, ap, List, ℤ, slice_get}
-use Rattle.store_buffers.proofs.Skips.{front_values, alone_front, older_first, drained_last, drained_older, nil_test, nil_is, some_len}
+use Rattle.store_buffers.proofs.Skips.{front_values, alone_front, older_first, drained_last, drained_older, nil_test, some_len}
+use Rattle.store_buffers.specs.helpers.Lists.{nil_is}
 use Rattle.store_buffers.proofs.segments.Segments.drain.Goals as goal
 
 pub returns-then-is_empty-clause-value : goal.returns-then-is_empty-clause-value

@@ -1,10 +1,12 @@
 -- Lists of pending stores and bars.
-use Rattle.std.proofs.Common.{◌≡◌, ℕ, ℤ, ◌==◌, Bool, true, false, ◌||◌, Option, Some, None, List, [], ◌∷◌, ◌++◌, fold, if◌then◌else◌, refl, sym, ap, ◌∙◌}
+use Rattle.std.proofs.Common.{◌≡◌, ℕ, ℤ, ◌==◌, true, Option, Some, None, List, [], ◌∷◌, ◌++◌, if◌then◌else◌, refl, sym, ap, ◌∙◌}
 use Rattle.std.specs.Option.{option_or}
 use Rattle.std.proofs.lemmas.Bool.{false≢true}
-use Rattle.tc_base.specs.Buffers.{Entry, BufferOps, newest}
+use Rattle.tc_base.specs.Buffers.{Entry, BufferOps, newest, is_nil}
 use Rattle.store_buffers.specs.Pending.{Pending, Store, Bar, stores, Stands, put}
+use Rattle.std.proofs.lemmas.List.Sums.{fold-append}
 use Rattle.std.specs.Cmp.{nat_eq_equiv}
+use Rattle.tc_base.proofs.Options.{or_none}
 
 pub stores-append : (ps qs : List Pending) → stores (ps ++ qs) ≡ stores ps ++ stores qs
 stores-append [] qs = refl
@@ -15,16 +17,12 @@ pub not_nil : {A : Type 0} (xs : List A) (y : A) (ys : List A) → xs ++ y ∷ y
 not_nil [] y ys e = cc
 not_nil (x ∷ xs) y ys e = cc
 
+pub nil_is : {A : Type 0} (xs : List A) → is_nil xs ≡ true → xs ≡ []
+nil_is [] e = refl
+nil_is (x ∷ xs) e = absurd (false≢true e)
+
 pub store_there : (older : List Pending) (e : Entry) (newer : List Pending) → stores (older ++ Store e ∷ newer) ≡ [] → ⊥
 store_there older e newer none = not_nil (stores older) e (stores newer) (sym (stores-append older (Store e ∷ newer)) ∙ none)
-
-pub or_false : (a b : Bool) → a || b ≡ false → (a ≡ false) × (b ≡ false)
-or_false true b e = absurd (false≢true (sym e))
-or_false false b e = (refl, e)
-
-pub fold-append : {A B : Type 0} (f : B → A → B) (b : B) (xs ys : List A) → fold f b (xs ++ ys) ≡ fold f (fold f b xs) ys
-fold-append f b [] ys = refl
-fold-append f b (x ∷ xs) ys = fold-append f (f b x) xs ys
 
 -- a list that a buffer stands for, with one more
 pub store_last : {B : Type 0} (ops : BufferOps B) (b : B) (ps : List Pending) (c : ℕ) (v : ℤ) → ops.buffered ≡ true → Stands ops b ps
@@ -43,18 +41,14 @@ bar_last ops b ps s = record {
   issued = λ e. no_more ps (s.issued e);
 }
 
+pub or_assoc : {A : Type 0} (o p q : Option A) → option_or (option_or o p) q ≡ option_or o (option_or p q)
+or_assoc None p q = refl
+or_assoc (Some x) p q = refl
+
 pub newest-append : (es fs : List Entry) (c : ℕ) → newest (es ++ fs) c ≡ option_or (newest fs c) (newest es c)
-newest-append [] fs c = or_none (newest fs c)
-  where
-    or_none : (o : Option ℤ) → o ≡ option_or o None
-    or_none None = refl
-    or_none (Some v) = refl
+newest-append [] fs c = sym (or_none (newest fs c))
 newest-append (e ∷ es) fs c = ap (λ o. option_or o (if e.cell == c then Some e.value else None)) (newest-append es fs c)
-    ∙ assoc (newest fs c) (newest es c) (if e.cell == c then Some e.value else None)
-  where
-    assoc : (o p q : Option ℤ) → option_or (option_or o p) q ≡ option_or o (option_or p q)
-    assoc None p q = refl
-    assoc (Some v) p q = refl
+    ∙ or_assoc (newest fs c) (newest es c) (if e.cell == c then Some e.value else None)
 
 -- the newest store to its cell is the last
 pub newest_last : (ps : List Pending) (c : ℕ) (v : ℤ) → newest (stores (ps ++ Store (record { cell = c; value = v }) ∷ [])) c ≡ Some v

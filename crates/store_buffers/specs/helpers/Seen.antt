@@ -5,8 +5,8 @@ use Rattle.std.specs.FinMap as fin
 use Rattle.tc_base.specs.Buffers.{Entry, Segment, values_to, with_values, has_no_store}
 use Rattle.store_buffers.specs.declared.queue.Store.{Store}
 
-abbrev pub plain_store : Store → Entry
-plain_store s = record { cell = s.cell; value = s.value }
+abbrev pub entry_of : Store → Entry
+entry_of s = record { cell = s.cell; value = s.value }
 
 -- segments behind a number of empty ones
 abbrev pub after_empty : ℕ → List Segment → List Segment

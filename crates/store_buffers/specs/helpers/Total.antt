@@ -30,7 +30,7 @@ use Rattle.tc_base.specs.Buffers.{Entry, fifo_buffer, newest, no_entry, is_nil}
 use Rattle.tc_base.specs.declared.model.Model.TheVariants.{Tso}
 use Rattle.store_buffers.specs.Pending.{Pending, Store, Bar, stores, binds_all, waits, Stands, put}
 use Rattle.store_buffers.specs.Laws.{Laws, SomeDrains, TakesOut}
-use Rattle.store_buffers.specs.Proved.Lists.{stores-append}
+use Rattle.store_buffers.specs.helpers.Lists.{stores-append}
 
 put_all : (b : List Entry) (ps : List Pending) → fold (put fifo_buffer) b ps ≡ b ++ stores ps
 put_all b [] = sym (append-nil b)

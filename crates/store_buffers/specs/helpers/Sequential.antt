@@ -5,7 +5,7 @@ use Rattle.tc_base.specs.Buffers.{no_buffer, newest, is_nil}
 use Rattle.tc_base.specs.declared.model.Model.TheVariants.{Sc}
 use Rattle.store_buffers.specs.Pending.{stores, binds_all}
 use Rattle.store_buffers.specs.Laws.{Laws}
-use Rattle.store_buffers.specs.Proved.Lists.{store_there}
+use Rattle.store_buffers.specs.helpers.Lists.{store_there}
 
 pub sc_laws : Laws no_buffer Sc binds_all
 sc_laws = record {

@@ -33,7 +33,8 @@ use Rattle.std.proofs.Common.{
 use Rattle.std.specs.List.{list_all, last_or}
 use Rattle.std.specs.Option.{option_or}
 use Rattle.std.specs.FinMap as fin
-use Rattle.std.proofs.lemmas.Bool.{false≢true}
+use Rattle.std.proofs.lemmas.Bool.{false≢true, not-true, or_parts, eqb-true}
+use Rattle.std.specs.Cmp.{nat_eq_equiv}
 use Rattle.tc_base.specs.Buffers.{
   Entry,
   Segment,
@@ -52,8 +53,9 @@ use Rattle.tc_base.specs.Buffers.{
 use Rattle.tc_base.specs.declared.model.Model.TheVariants.{Pso}
 use Rattle.store_buffers.specs.Pending.{Pending, Store, Bar, stores, has_bar, binds_cells, waits, Stands, put}
 use Rattle.store_buffers.specs.Laws.{Laws, SomeDrains, TakesOut}
-use Rattle.store_buffers.specs.Proved.Lists.{or_false}
-use Rattle.store_buffers.specs.Proved.Segments.{
+use Rattle.tc_base.proofs.Options.{or_none}
+use Rattle.store_buffers.specs.helpers.Lists.{or_assoc}
+use Rattle.store_buffers.specs.helpers.Segments.{
   IsTidy,
   values-empty,
   tidy-empty,
@@ -61,8 +63,10 @@ use Rattle.store_buffers.specs.Proved.Segments.{
   has_store,
   with_first,
   tidy-with_first,
-  eq_is,
-  eq_comm,
+  first_values-store,
+  first_values-past,
+  drop_first-store,
+  drop_first-past,
   values-with_first-same,
   values-with_first-other,
   has_store-with_first,
@@ -138,14 +142,6 @@ empty_law [] = ap (λ b. b && true) no_store-empty
 empty_law (Store e ∷ ps) = ap (λ b. b && list_all has_no_store (rest ps)) (has_store-with_first e.cell e.value (first ps))
 empty_law (Bar ∷ ps) = ap (λ b. b && list_all has_no_store (segments ps)) no_store-empty ∙ empty_law ps
 
-or_none : {A : Type 0} (o : Option A) → option_or o None ≡ o
-or_none None = refl
-or_none (Some x) = refl
-
-or_assoc : {A : Type 0} (o p q : Option A) → option_or o (option_or p q) ≡ option_or (option_or o p) q
-or_assoc None p q = refl
-or_assoc (Some x) p q = refl
-
 some_either : {A : Type 0} (o : Option A) (y x : A) → option_or o (Some y) ≡ option_or (option_or o (Some y)) (Some x)
 some_either None y x = refl
 some_either (Some z) y x = refl
@@ -158,13 +154,13 @@ last_after x (y ∷ xs) = last_after y xs ∙ some_either (last_or None xs) y x 
 pub forward_behind : (s : Segment) (o : Option ℤ) (d : ℕ) (w : ℤ) (c : ℕ) (b : Bool) → (d == c) ≡ b
     → option_or o (last_or None (values_to (with_first d w s) c)) ≡ option_or (option_or o (last_or None (values_to s c))) (cond b (Some w) None)
 forward_behind s o d w c true e =
-    ap (λ x. option_or o (last_or None (values_to (with_first d w s) x))) (sym (eq_is d c e))
+    ap (λ x. option_or o (last_or None (values_to (with_first d w s) x))) (sym (eqb-true d c e))
     ∙ ap (λ vs. option_or o (last_or None vs)) (values-with_first-same d w s)
     ∙ ap (option_or o) (last_after w (values_to s d))
-    ∙ or_assoc o (last_or None (values_to s d)) (Some w)
-    ∙ ap (λ x. option_or (option_or o (last_or None (values_to s x))) (Some w)) (eq_is d c e)
+    ∙ sym (or_assoc o (last_or None (values_to s d)) (Some w))
+    ∙ ap (λ x. option_or (option_or o (last_or None (values_to s x))) (Some w)) (eqb-true d c e)
 forward_behind s o d w c false e =
-    ap (λ vs. option_or o (last_or None vs)) (values-with_first-other d w s c (eq_comm c d ∙ e))
+    ap (λ vs. option_or o (last_or None vs)) (values-with_first-other d w s c (nat_eq_equiv.symm c d ∙ e))
     ∙ sym (or_none (option_or o (last_or None (values_to s c))))
 
 forward_law : (ps : List Pending) (c : ℕ) → last_value (segments ps) c ≡ newest (stores ps) c
@@ -174,19 +170,6 @@ forward_law (Store e ∷ ps) c =
     forward_behind (first ps) (last_value (rest ps) c) e.cell e.value c _ refl
     ∙ ap (λ o. option_or o (cond (e.cell == c) (Some e.value) None)) (forward_law ps c)
 forward_law (Bar ∷ ps) c = ap (λ vs. option_or (last_value (segments ps) c) (last_or None vs)) (values-empty c) ∙ or_none _ ∙ forward_law ps c
-
--- where the first segment has no store the others count, and else it alone
-first_of : (s : Segment) (ss : List Segment) (c : ℕ) → has_no_store s ≡ false → first_values (s ∷ ss) c ≡ values_to s c
-first_of s ss c e = ap (λ b. cond b (first_values ss c) (values_to s c)) e
-
-dropped_of : (s : Segment) (ss : List Segment) (c : ℕ) → has_no_store s ≡ false → drop_first (s ∷ ss) c ≡ with_values s c (drop 1 (values_to s c)) ∷ ss
-dropped_of s ss c e = ap (λ b. cond b (s ∷ drop_first ss c) (with_values s c (drop 1 (values_to s c)) ∷ ss)) e
-
-first_past : (ss : List Segment) (c : ℕ) → first_values (fin.empty ∷ ss) c ≡ first_values ss c
-first_past ss c = ap (λ b. cond b (first_values ss c) (values_to fin.empty c)) no_store-empty
-
-dropped_past : (ss : List Segment) (c : ℕ) → drop_first (fin.empty ∷ ss) c ≡ fin.empty ∷ drop_first ss c
-dropped_past ss c = ap (λ b. cond b (fin.empty ∷ drop_first ss c) (with_values fin.empty c (drop 1 (values_to fin.empty c)) ∷ ss)) no_store-empty
 
 -- a store to the cell with no bar and no other store to the cell before it
 record IsFirst (ps : List Pending) (c : ℕ) : Type 0 where
@@ -204,9 +187,9 @@ waits_not d older c p q r = ap (λ b. (b || has_bar older) || waits binds_cells 
 
 is_first_by : (d : Entry) (ps : List Pending) (c : ℕ) (b : Bool) → (d.cell == c) ≡ b
     → is_nil (values_to (with_first d.cell d.value (first ps)) c) ≡ false → (is_nil (values_to (first ps) c) ≡ false → IsFirst ps c) → IsFirst (Store d ∷ ps) c
-is_first_by d ps c true e some behind = record { older = []; store = d; newer = ps; there = refl; to = eq_is d.cell c e; no_bar = refl; is_free = refl }
+is_first_by d ps c true e some behind = record { older = []; store = d; newer = ps; there = refl; to = eqb-true d.cell c e; no_bar = refl; is_free = refl }
 is_first_by d ps c false e some behind =
-    let f = behind (sym (ap is_nil (values-with_first-other d.cell d.value (first ps) c (eq_comm c d.cell ∙ e))) ∙ some) in
+    let f = behind (sym (ap is_nil (values-with_first-other d.cell d.value (first ps) c (nat_eq_equiv.symm c d.cell ∙ e))) ∙ some) in
     record {
       older = Store d ∷ f.older;
       store = f.store;
@@ -226,9 +209,9 @@ is_first (Bar ∷ ps) c some = absurd (false≢true (sym some ∙ ap is_nil (val
 
 some_drains : (ps : List Pending) (c : ℕ) → not (is_nil (first_values (segments ps) c)) ≡ true → SomeDrains cell_buffer binds_cells ps (Some c)
 unfolding first rest
-some_drains [] c may = absurd (false≢true (sym (ap (λ vs. not (is_nil vs)) (first_past [] c)) ∙ may))
+some_drains [] c may = absurd (false≢true (sym (ap (λ vs. not (is_nil vs)) (first_values-past [] c)) ∙ may))
 some_drains (Store d ∷ ps) c may =
-    let some = not_true _ (sym (ap (λ vs. not (is_nil vs)) (first_of _ (rest ps) c (has_store-with_first d.cell d.value (first ps)))) ∙ may) in
+    let some = not-true _ (sym (ap (λ vs. not (is_nil vs)) (first_values-store _ (rest ps) c (has_store-with_first d.cell d.value (first ps)))) ∙ may) in
     let f = is_first (Store d ∷ ps) c some in
     record {
       older = f.older;
@@ -236,12 +219,8 @@ some_drains (Store d ∷ ps) c may =
       newer = f.newer;
       drains = record { there = f.there; by_form = ap Some f.to; is_free = subst (λ x. waits binds_cells f.older x ≡ false) (sym f.to) f.is_free };
     }
-  where
-    not_true : (b : Bool) → not b ≡ true → b ≡ false
-    not_true true e = absurd (false≢true e)
-    not_true false e = refl
 some_drains (Bar ∷ ps) c may =
-    let s = some_drains ps c (sym (ap (λ vs. not (is_nil vs)) (first_past (segments ps) c)) ∙ may) in
+    let s = some_drains ps c (sym (ap (λ vs. not (is_nil vs)) (first_values-past (segments ps) c)) ∙ may) in
     record {
       older = Bar ∷ s.older;
       store = s.store;
@@ -263,7 +242,7 @@ in_first_segment (Store d ∷ older) e newer none = some_behind d (first (older 
   where
     some_behind : (d : Entry) (s : Segment) (c : ℕ) (b : Bool) → (c == d.cell) ≡ b → is_nil (values_to s c) ≡ false
         → is_nil (values_to (with_first d.cell d.value s) c) ≡ false
-    some_behind d s c true e some = ap (λ x. is_nil (values_to (with_first d.cell d.value s) x)) (eq_is c d.cell e)
+    some_behind d s c true e some = ap (λ x. is_nil (values_to (with_first d.cell d.value s) x)) (eqb-true c d.cell e)
         ∙ ap is_nil (values-with_first-same d.cell d.value s)
     some_behind d s c false e some = ap is_nil (values-with_first-other d.cell d.value s c e) ∙ some
 in_first_segment (Bar ∷ older) e newer none = absurd (false≢true (sym none))
@@ -277,9 +256,9 @@ record Leaves (ss : List Segment) (c : ℕ) (v : ℤ) (left : List Segment) : Ty
 leaves_first : (e : Entry) (s : Segment) (ss : List Segment) → IsTidy s → Leaves (with_first e.cell e.value s ∷ ss) e.cell e.value (s ∷ ss)
 leaves_first e s ss t = record {
   others = values_to s e.cell;
-  values = first_of _ ss e.cell (has_store-with_first e.cell e.value s) ∙ values-with_first-same e.cell e.value s;
+  values = first_values-store _ ss e.cell (has_store-with_first e.cell e.value s) ∙ values-with_first-same e.cell e.value s;
   are_left =
-      dropped_of _ ss e.cell (has_store-with_first e.cell e.value s)
+      drop_first-store _ ss e.cell (has_store-with_first e.cell e.value s)
       ∙ ap (λ vs. with_values (with_first e.cell e.value s) e.cell (drop 1 vs) ∷ ss) (values-with_first-same e.cell e.value s)
       ∙ ap (λ u. u ∷ ss) (with_values-back s e.cell (e.value ∷ values_to s e.cell) t);
 }
@@ -287,16 +266,16 @@ leaves_first e s ss t = record {
 leaves_behind : (d : Entry) (c : ℕ) (v : ℤ) (s : Segment) (ss left : List Segment) → (d.cell == c) ≡ false → IsTidy s → has_no_store s ≡ false
     → Leaves (s ∷ ss) c v left → Leaves (with_first d.cell d.value s ∷ ss) c v (in_first d.cell d.value left)
 leaves_behind d c v s ss left other t some l =
-    let same = values-with_first-other d.cell d.value s c (eq_comm c d.cell ∙ other) in
+    let same = values-with_first-other d.cell d.value s c (nat_eq_equiv.symm c d.cell ∙ other) in
     let after = has_store-with_first d.cell d.value s in
     record {
       others = l.others;
-      values = first_of _ ss c after ∙ same ∙ sym (first_of s ss c some) ∙ l.values;
+      values = first_values-store _ ss c after ∙ same ∙ sym (first_values-store s ss c some) ∙ l.values;
       are_left =
-          dropped_of _ ss c after
+          drop_first-store _ ss c after
           ∙ ap (λ vs. with_values (with_first d.cell d.value s) c (drop 1 vs) ∷ ss) same
-          ∙ ap (λ u. u ∷ ss) (with_values-with_first s c (drop 1 (values_to s c)) d.cell d.value (eq_comm c d.cell ∙ other) t)
-          ∙ ap (in_first d.cell d.value) (sym (dropped_of s ss c some) ∙ l.are_left);
+          ∙ ap (λ u. u ∷ ss) (with_values-with_first s c (drop 1 (values_to s c)) d.cell d.value (nat_eq_equiv.symm c d.cell ∙ other) t)
+          ∙ ap (in_first d.cell d.value) (sym (drop_first-store s ss c some) ∙ l.are_left);
     }
 
 leaves : (older : List Pending) (e : Entry) (newer : List Pending) → waits binds_cells older e.cell ≡ false
@@ -304,8 +283,8 @@ leaves : (older : List Pending) (e : Entry) (newer : List Pending) → waits bin
 unfolding first rest
 leaves [] e newer free = leaves_first e (first newer) (rest newer) (tidy newer)
 leaves (Store d ∷ older) e newer free =
-    let both = or_false _ _ free in
-    let other = or_false _ _ both.0 in
+    let both = or_parts _ _ free in
+    let other = or_parts _ _ both.0 in
     leaves_behind d e.cell e.value (first (older ++ Store e ∷ newer)) (rest (older ++ Store e ∷ newer)) (segments (older ++ newer)) other.0
     (tidy (older ++ Store e ∷ newer))
     (has_store (first (older ++ Store e ∷ newer)) e.cell (in_first_segment older e newer other.1)) (leaves older e newer both.1)
@@ -313,8 +292,8 @@ leaves (Bar ∷ older) e newer free =
     let l = leaves older e newer free in
     record {
       others = l.others;
-      values = first_past (segments (older ++ Store e ∷ newer)) e.cell ∙ l.values;
-      are_left = dropped_past (segments (older ++ Store e ∷ newer)) e.cell ∙ ap (λ ss. fin.empty ∷ ss) l.are_left;
+      values = first_values-past (segments (older ++ Store e ∷ newer)) e.cell ∙ l.values;
+      are_left = drop_first-past (segments (older ++ Store e ∷ newer)) e.cell ∙ ap (λ ss. fin.empty ∷ ss) l.are_left;
     }
 
 takes_out : (b : List Segment) (older : List Pending) (e : Entry) (newer : List Pending) → b ≡ segments (older ++ Store e ∷ newer)

@@ -21,15 +21,14 @@ use Rattle.std.proofs.Common.{
   ap,
   ◌∙◌,
   subst,
-  eqb→eq,
-  T,
+  drop,
 }
 use Rattle.std.specs.FinMap as fin
 use Rattle.std.specs.FinMap.{get-empty, get-insert, get-remove, len-empty, empty_of_len, same_map, nat_cmp-IsAntisymmetric}
 use Rattle.std.specs.Ordering.{nat_cmp}
 use Rattle.std.specs.Cmp.{nat_cmp_total, unsigned_tied, nat_eq_equiv}
-use Rattle.std.proofs.lemmas.Bool.{false≢true}
-use Rattle.tc_base.specs.Buffers.{Segment, values_to, with_values, has_no_store, is_nil}
+use Rattle.std.proofs.lemmas.Bool.{false≢true, eqb-true}
+use Rattle.tc_base.specs.Buffers.{Segment, values_to, with_values, has_no_store, first_values, drop_first, is_nil}
 
 -- a map has a queue only where it has values
 abbrev pub some_values : List ℤ → Option (List ℤ)
@@ -74,18 +73,28 @@ same_values s t p q is = same_map nat_cmp_total nat_cmp-IsAntisymmetric s t (λ 
 pub no_store-empty : has_no_store fin.empty ≡ true
 no_store-empty = ap (λ n. n == 0) (len-empty nat_cmp (List ℤ))
 
--- numbers that are held for equal are the same
-pub eq_is : (m n : ℕ) → (m == n) ≡ true → m ≡ n
-eq_is m n e = eqb→eq m n (subst T (sym e) tt)
-
 has_store_by : (s : Segment) (c : ℕ) (b : Bool) → has_no_store s ≡ b → is_nil (values_to s c) ≡ false → b ≡ false
-has_store_by s c true none some = absurd (false≢true (sym some ∙ ap (λ t. is_nil (values_to t c)) (empty_of_len s (eq_is _ 0 none))
+has_store_by s c true none some = absurd (false≢true (sym some ∙ ap (λ t. is_nil (values_to t c)) (empty_of_len s (eqb-true _ 0 none))
     ∙ ap is_nil (values-empty c)))
 has_store_by s c false none some = refl
 
 -- a segment with a value to some cell has a store
 pub has_store : (s : Segment) (c : ℕ) → is_nil (values_to s c) ≡ false → has_no_store s ≡ false
 has_store s c some = has_store_by s c _ refl some
+
+-- where the first segment has no store the others count, and else it alone
+pub first_values-store : (s : Segment) (ss : List Segment) (c : ℕ) → has_no_store s ≡ false → first_values (s ∷ ss) c ≡ values_to s c
+first_values-store s ss c e = ap (λ b. cond b (first_values ss c) (values_to s c)) e
+
+pub drop_first-store : (s : Segment) (ss : List Segment) (c : ℕ) → has_no_store s ≡ false
+    → drop_first (s ∷ ss) c ≡ with_values s c (drop 1 (values_to s c)) ∷ ss
+drop_first-store s ss c e = ap (λ b. cond b (s ∷ drop_first ss c) (with_values s c (drop 1 (values_to s c)) ∷ ss)) e
+
+pub first_values-past : (ss : List Segment) (c : ℕ) → first_values (fin.empty ∷ ss) c ≡ first_values ss c
+first_values-past ss c = ap (λ b. cond b (first_values ss c) (values_to fin.empty c)) no_store-empty
+
+pub drop_first-past : (ss : List Segment) (c : ℕ) → drop_first (fin.empty ∷ ss) c ≡ fin.empty ∷ drop_first ss c
+drop_first-past ss c = ap (λ b. cond b (fin.empty ∷ drop_first ss c) (with_values fin.empty c (drop 1 (values_to fin.empty c)) ∷ ss)) no_store-empty
 
 -- one more store before those of a segment
 abbrev pub with_first : ℕ → ℤ → Segment → Segment
@@ -94,14 +103,8 @@ with_first c v s = with_values s c (v ∷ values_to s c)
 pub tidy-with_first : (c : ℕ) (v : ℤ) (s : Segment) → IsTidy s → IsTidy (with_first c v s)
 tidy-with_first c v s t = tidy-with_values s c (v ∷ values_to s c) t
 
-pub eq_self : (c : ℕ) → (c == c) ≡ true
-eq_self c = nat_eq_equiv.refl c
-
-pub eq_comm : (c d : ℕ) → (c == d) ≡ (d == c)
-eq_comm c d = nat_eq_equiv.symm c d
-
 pub values-with_first-same : (c : ℕ) (v : ℤ) (s : Segment) → values_to (with_first c v s) c ≡ v ∷ values_to s c
-values-with_first-same c v s = values-with_values s c _ c ∙ ap (λ b. cond b (v ∷ values_to s c) (values_to s c)) (eq_self c)
+values-with_first-same c v s = values-with_values s c _ c ∙ ap (λ b. cond b (v ∷ values_to s c) (values_to s c)) (nat_eq_equiv.refl c)
 
 pub values-with_first-other : (c : ℕ) (v : ℤ) (s : Segment) (d : ℕ) → (d == c) ≡ false → values_to (with_first c v s) d ≡ values_to s d
 values-with_first-other c v s d e = values-with_values s c _ d ∙ ap (λ b. cond b (v ∷ values_to s c) (values_to s d)) e
@@ -110,7 +113,7 @@ pub has_store-with_first : (c : ℕ) (v : ℤ) (s : Segment) → has_no_store (w
 has_store-with_first c v s = has_store _ c (ap is_nil (values-with_first-same c v s))
 
 cond_back : {A : Type 0} (b : Bool) (f : ℕ → A) (c d : ℕ) (x : A) → (d == c) ≡ b → cond b (f c) (cond b x (f d)) ≡ f d
-cond_back true f c d x e = ap f (sym (eq_is d c e))
+cond_back true f c d x e = ap f (sym (eqb-true d c e))
 cond_back false f c d x e = refl
 
 -- what was put in is taken back by what was there
@@ -126,7 +129,7 @@ either_first true false x y z e = refl
 either_first false b x y z e = refl
 
 not_both : (x c d : ℕ) → (c == d) ≡ false → (x == c) ≡ true → (x == d) ≡ true → ⊥
-not_both x c d other p q = false≢true (sym other ∙ ap (λ y. y == d) (sym (eq_is x c p)) ∙ q)
+not_both x c d other p q = false≢true (sym other ∙ ap (λ y. y == d) (sym (eqb-true x c p)) ∙ q)
 
 -- values to one cell, and a first store to another
 pub with_values-with_first : (s : Segment) (c : ℕ) (vs : List ℤ) (d : ℕ) (w : ℤ) → (c == d) ≡ false → IsTidy s
@@ -139,7 +142,7 @@ with_values-with_first s c vs d w other t =
     ∙ sym (
     values-with_values (with_values s c vs) d _ x
     ∙ ap (λ us. cond (x == d) (w ∷ us) (values_to (with_values s c vs) x)) (values-with_values s c vs d
-    ∙ ap (λ b. cond b vs (values_to s d)) (eq_comm d c ∙ other))
+    ∙ ap (λ b. cond b vs (values_to s d)) (nat_eq_equiv.symm d c ∙ other))
     ∙ ap (cond (x == d) (w ∷ values_to s d)) (values-with_values s c vs x)))
 
 -- one more store after those of a segment
@@ -157,7 +160,7 @@ with_last-with_first-same s c v w t =
     ∙ sym (
     values-with_values (with_last c v s) c _ x
     ∙ ap (λ us. cond (x == c) (w ∷ us) (values_to (with_last c v s) x)) (values-with_values s c _ c
-    ∙ ap (λ b. cond b (values_to s c ++ v ∷ []) (values_to s c)) (eq_self c))
+    ∙ ap (λ b. cond b (values_to s c ++ v ∷ []) (values_to s c)) (nat_eq_equiv.refl c))
     ∙ ap (cond (x == c) (w ∷ values_to s c ++ v ∷ [])) (values-with_values s c (values_to s c ++ v ∷ []) x)))
   where
     twice : {A : Type 0} (b : Bool) (x y z u : A) → cond b x (cond b y z) ≡ cond b x (cond b u z)
@@ -166,7 +169,7 @@ with_last-with_first-same s c v w t =
 
 by_cell : (s : Segment) (c : ℕ) (v : ℤ) (d : ℕ) (w : ℤ) (b : Bool) → (c == d) ≡ b → IsTidy s
     → with_last c v (with_first d w s) ≡ with_first d w (with_last c v s)
-by_cell s c v d w true e t = subst (λ d. with_last c v (with_first d w s) ≡ with_first d w (with_last c v s)) (eq_is c d e)
+by_cell s c v d w true e t = subst (λ d. with_last c v (with_first d w s) ≡ with_first d w (with_last c v s)) (eqb-true c d e)
     (with_last-with_first-same s c v w t)
 by_cell s c v d w false e t =
     ap (λ us. with_values (with_first d w s) c (us ++ v ∷ [])) (values-with_first-other d w s c e)
