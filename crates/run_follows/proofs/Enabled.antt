@@ -1,10 +1,10 @@
 -- Whether a move is enabled is told by the history.
 use Rattle.std.proofs.Common.{◌≡◌, ◌↔◌, ◌∙◌, ℕ, ◌<◌, ◌==◌, length, Bool, true, false, not, ◌&&◌, ◌||◌, List, []}
-use Rattle.std.proofs.Common.{inl, inr, ◌∷◌, ◌++◌, Option, Some, None, refl, sym, ap, ap₂, subst}
+use Rattle.std.proofs.Common.{IsTrue, inl, inr, ◌∷◌, ◌++◌, Option, Some, None, refl, sym, ap, ap₂, subst}
 use Rattle.std.specs.Prelude.{is_some, is_none, unwrap_or, option_and_then, if◌then◌else◌}
 use Rattle.std.specs.FinMap as fin
 use Rattle.std.specs.FinSet as set
-use Rattle.std.proofs.lemmas.Bool.{false≢true}
+use Rattle.std.proofs.lemmas.Bool.{false≢true, cases_Bool, and_parts}
 use Rattle.std.proofs.lemmas.List.{map-append}
 use Rattle.tc_base.specs.Names.{Name, child}
 use Rattle.tc_base.specs.Buffers.{BufferOps, is_nil}
@@ -14,7 +14,8 @@ use Rattle.tc_base.specs.declared.moves.Move.{Move}
 use Rattle.tc_base.specs.declared.moves.Move.TheVariants as move
 use Rattle.tc_base.specs.declared.request.Request.{Request}
 use Rattle.tc_base.specs.declared.request.Request.TheVariants.{Read, Exchange, CompareExchange, Acquire, EndWait, WakeOne, Await}
-use Rattle.tc_code.specs.Instr.{Instr, Inside, Holds, Signal, Ready, Assert, Nonzero, In_range}
+use Rattle.tc_code.specs.declared.instr.Instr.{Instr}
+use Rattle.tc_code.specs.declared.instr.Instr.TheVariants.{Inside, Holds, Signal, Ready, Assert, Nonzero, InRange}
 use Rattle.tc_code.specs.Code.{Code}
 use Rattle.tc_code.specs.Step.{request, site, instr_of, in_memory, loaded, drains_first, is_let, allows, perform, waiting_on, woken, step, move_of}
 use Rattle.tc_code.specs.Step.{run_of, wake_of, drain_of, opening}
@@ -23,16 +24,15 @@ use Rattle.tc_code.specs.Run.{run}
 use Rattle.store_buffers.specs.Pending.{Store, stores, Binding, Stands, waits}
 use Rattle.store_buffers.specs.Laws.{Laws, SomeDrains}
 use Rattle.run_history.specs.History.{Deed, pending, taken, history, Issue, pending_issues}
-use Rattle.run_follows.specs.Follow.{seen_in, is_let_in, is_allowed_in, may_wake_in, taken_in, HasTurn}
+use Rattle.run_follows.specs.Follow.{seen_in, is_let_in, is_allowed_in, may_wake_in, taken_in, IsNextDrain, HasTurn}
 use Rattle.run_history.specs.Told.{failed_in}
 use Rattle.run_history.proofs.Locals.{LocalsAre, keeps_locals, opening_locals}
 use Rattle.run_history.proofs.Shared.{MemoryIs, keeps_memory, opening_memory, OwnersAre, keeps_owners, opening_owners}
 use Rattle.run_history.proofs.Shared.{WaitersAre, keeps_waiters, opening_waiters, FailureIs, keeps_failure}
 use Rattle.run_pending.proofs.Apart.{DeedsAre, keeps_deeds, opening_deeds}
-use Rattle.run_laws.proofs.Basics.{known}
-use Rattle.run_pending.proofs.Issues.{Rises, whats, split_at}
+use Rattle.run_pending.proofs.Issues.{Rises, whats, SplitAt, split_at}
 use Rattle.run_pending.proofs.Turns.{next_by_steps, split_by_steps}
-use Rattle.run_follows.proofs.Asks.{LooksWithin}
+use Rattle.run_laws.proofs.Asks.{AsksOf}
 use Rattle.run_history.proofs.Frame.{Keeps, holds_after}
 
 module _ {B : Type 0} (ops : BufferOps B) (model : Model) (bound : Binding) (laws : Laws ops model bound) (code : Code) where
@@ -93,6 +93,11 @@ module _ {B : Type 0} (ops : BufferOps B) (model : Model) (bound : Binding) (law
   pub told : (ms : List Move) (s : State B) → run ops code ms ≡ Some s → Tells s (history ops code ms)
   told ms s leads = holds_after ops code Tells keeps_tells opening_tells ms s leads
 
+  -- where something may drain there are buffers
+  pub drains_by_buffers : (b : B) (form : Option ℕ) → IsTrue (ops.may_drain b form) → ops.buffered ≡ true
+  drains_by_buffers b form may =
+      elim (cases_Bool ops.buffered) [ inl has ↦ has | inr none ↦ absurd (false≢true (sym (laws.unbuffered none b form) ∙ may)) ]
+
   module _ (s : State B) (h : List Deed) (a : Tells s h) (n : Name) (t : Thread B) (here : fin.get s.threads n ≡ Some t) where
     stands : Stands ops t.buffer (pending ops.buffered h n)
     stands = a.deeds.buffers.stands n t here
@@ -103,20 +108,20 @@ module _ {B : Type 0} (ops : BufferOps B) (model : Model) (bound : Binding) (law
     pub load_told : (c : ℕ) → c < length code.memory → loaded ops s t c ≡ seen_in ops.buffered code h n c
     load_told c within = ap₂ unwrap_or (laws.forward_stands t.buffer (pending ops.buffered h n) c stands) (a.memory.values c within)
 
-    pub taken_told : (r : Request) → LooksWithin code r → taken ops code s t r ≡ taken_in ops.buffered code h n r
+    pub taken_told : (r : Request) → AsksOf code r → taken ops code s t r ≡ taken_in ops.buffered code h n r
     taken_told (Read c) within = load_told c within
     taken_told (Exchange c v) within = a.memory.values c within
     taken_told (CompareExchange c e v) within = a.memory.values c within
     taken_told _ within = refl
 
-    let_told : (r : Request) → LooksWithin code r → is_let s n r ≡ is_let_in h n r
+    let_told : (r : Request) → AsksOf code r → is_let s n r ≡ is_let_in h n r
     let_told (Acquire m) within = ap is_none (a.owners.owners m within)
     let_told (EndWait c m) within = ap₂ (λ ns o. not (set.contains ns n) && is_none o) (a.waiters.waiters c within.0) (a.owners.owners m within.1)
     let_told (WakeOne c) within = ap (λ ns. set.len ns == 0) (a.waiters.waiters c within)
     let_told (Await k) within = a.deeds.buffers.threads.exits (child n k)
     let_told _ within = refl
 
-    pub allowed_told : (r : Request) → LooksWithin code r → allows ops s n t r ≡ is_allowed_in ops.buffered h n r
+    pub allowed_told : (r : Request) → AsksOf code r → allows ops s n t r ≡ is_allowed_in ops.buffered h n r
     allowed_told r within = ap₂ (λ e l. (not (drains_first r) || e) && l) empty_told (let_told r within)
 
     -- where no thread has failed, a move goes by what it needs
@@ -131,7 +136,7 @@ module _ {B : Type 0} (ops : BufferOps B) (model : Model) (bound : Binding) (law
     move_told : (m : Move) (b : Bool) → is_some (move_of ops code s m) ≡ b → is_some (step ops code s m) ≡ is_none (failed_in h) && b
     move_told m b is = unless_failed s.failed (move_of ops code s m) ∙ ap₂ (λ o x. is_none o && x) a.failure is
 
-    pub run_told : (i : Instr) → instr_of code t.local ≡ Some i → LooksWithin code (request t.local i)
+    pub run_told : (i : Instr) → instr_of code t.local ≡ Some i → AsksOf code (request t.local i)
         → is_some (step ops code s (move.Run n)) ≡ is_none (failed_in h) && is_allowed_in ops.buffered h n (request t.local i)
     run_told i at within =
         move_told (move.Run n) (is_allowed_in ops.buffered h n (request t.local i))
@@ -144,7 +149,7 @@ module _ {B : Type 0} (ops : BufferOps B) (model : Model) (bound : Binding) (law
     no_wake u true = refl
     no_wake u false = refl
 
-    wake_of_told : (u : Name) (i : Instr) → LooksWithin code (request t.local i)
+    wake_of_told : (u : Name) (i : Instr) → AsksOf code (request t.local i)
         → is_some (wake_of ops s n u t i) ≡ may_wake_in ops.buffered h n u (request t.local i)
     wake_of_told u (Signal c) within =
         where_true _ (woken ops s n u t c) ∙ ap₂ (λ e ns. e && set.contains ns u) empty_told (a.waiters.waiters c within)
@@ -153,10 +158,10 @@ module _ {B : Type 0} (ops : BufferOps B) (model : Model) (bound : Binding) (law
     wake_of_told u (Ready v) within = sym (no_wake u _)
     wake_of_told u (Assert e) within = sym (no_wake u _)
     wake_of_told u (Nonzero e) within = sym (no_wake u _)
-    wake_of_told u (In_range e) within = sym (no_wake u _)
+    wake_of_told u (InRange e) within = sym (no_wake u _)
     wake_of_told u _ within = refl
 
-    pub wake_told : (u : Name) (i : Instr) → instr_of code t.local ≡ Some i → LooksWithin code (request t.local i)
+    pub wake_told : (u : Name) (i : Instr) → instr_of code t.local ≡ Some i → AsksOf code (request t.local i)
         → is_some (step ops code s (move.Wake n u)) ≡ is_none (failed_in h) && may_wake_in ops.buffered h n u (request t.local i)
     wake_told u i at within =
         move_told (move.Wake n u) (may_wake_in ops.buffered h n u (request t.local i))
@@ -177,9 +182,18 @@ module _ {B : Type 0} (ops : BufferOps B) (model : Model) (bound : Binding) (law
       λ some. (laws.drain_stands t.buffer (pending ops.buffered h n) form some.older some.store some.newer stands some.drains).may,
     )
 
-    and_parts : (x y : Bool) → x && y ≡ true → (x ≡ true) × (y ≡ true)
-    and_parts true y e = (refl, e)
-    and_parts false y e = absurd (false≢true e)
+    -- it is the turn of a store that may drain
+    pub next_drain : (form : Option ℕ) → ops.buffered ≡ true → (some : SomeDrains ops bound (pending ops.buffered h n) form)
+        → (split : SplitAt (pending_issues ops.buffered h n) some.older (Store some.store) some.newer)
+        → IsNextDrain ops.buffered bound h n split.at.number some.store.cell some.store.value
+    next_drain form has some split = record {
+      buffers = has;
+      next = next_by_steps h n a.deeds.named (subst (λ b. Rises (pending_issues b h n)) has (a.deeds.buffers.numbers n).rises) bound split.older
+          split.newer split.at.number some.store.cell some.store.value
+          (ap (λ b. pending_issues b h n) (sym has) ∙ split.there
+          ∙ ap (λ p. split.older ++ record { number = split.at.number; what = p } ∷ split.newer) split.what)
+          (subst (λ qs. waits bound qs some.store.cell ≡ false) (sym split.olders) some.drains.is_free);
+    }
 
     -- some store may drain exactly where it is its turn
     turn_by : (form : Option ℕ) → ops.buffered ≡ true → SomeDrains ops bound (pending ops.buffered h n) form → HasTurn ops.buffered bound h n form
@@ -190,14 +204,7 @@ module _ {B : Type 0} (ops : BufferOps B) (model : Model) (bound : Binding) (law
           cell = some.store.cell;
           value = some.store.value;
           by_form = some.drains.by_form;
-          next = record {
-            buffers = has;
-            next = next_by_steps h n a.deeds.named (subst (λ b. Rises (pending_issues b h n)) has (a.deeds.buffers.numbers n).rises) bound split.older
-                split.newer split.at.number some.store.cell some.store.value
-                (ap (λ b. pending_issues b h n) (sym has) ∙ split.there
-                ∙ ap (λ p. split.older ++ record { number = split.at.number; what = p } ∷ split.newer) split.what)
-                (subst (λ qs. waits bound qs some.store.cell ≡ false) (sym split.olders) some.drains.is_free);
-          };
+          next = next_drain form has some split;
         }
 
     drains_by : (form : Option ℕ) → HasTurn ops.buffered bound h n form → SomeDrains ops bound (pending ops.buffered h n) form
@@ -217,16 +224,12 @@ module _ {B : Type 0} (ops : BufferOps B) (model : Model) (bound : Binding) (law
           };
         }
 
-    has_buffers : (form : Option ℕ) → ops.may_drain t.buffer form ≡ true → ops.buffered ≡ true
-    has_buffers form may =
-        elim (known ops.buffered) [ inl has ↦ has | inr none ↦ absurd (false≢true (sym (laws.unbuffered none t.buffer form) ∙ may)) ]
-
     -- so a drain is enabled exactly there, unless a thread has failed
     pub drain_iff : (form : Option ℕ)
         → (is_some (step ops code s (move.Drain n form)) ≡ true) ↔ ((is_none (failed_in h) ≡ true) × HasTurn ops.buffered bound h n form)
     drain_iff form = (
       λ enabled.
           let both = and_parts _ _ (sym (drain_told form) ∙ enabled) in
-          (both.0, turn_by form (has_buffers form both.1) ((may_drain_told form).0 both.1)),
+          (both.0, turn_by form (drains_by_buffers t.buffer form both.1) ((may_drain_told form).0 both.1)),
       λ both. drain_told form ∙ ap₂ (λ x y. x && y) both.0 ((may_drain_told form).1 (drains_by form both.1)),
     )

@@ -1,12 +1,11 @@
 -- Each deed of a history may come after those before it.
-use Rattle.std.proofs.Common.{◌≡◌, ◌∙◌, inl, inr, ℕ, ◌+◌, ℤ, Bool, true, false, ◌&&◌, IsTrue, List, [], ◌∷◌, ◌++◌}
-use Rattle.std.proofs.Common.{Option, Some, None, refl, sym, ap, ap₂, subst}
-use Rattle.std.specs.Prelude.{is_some, option_map, option_and_then, if◌then◌else◌}
+use Rattle.std.proofs.Common.{◌≡◌, ◌∙◌, inl, inr, ℕ, ◌+◌, ℤ, Bool, true, false, IsTrue, List, [], ◌∷◌, ◌++◌}
+use Rattle.std.proofs.Common.{Option, Some, None, refl, sym, ap, subst}
+use Rattle.std.specs.Prelude.{is_some, option_map, option_and_then}
 use Rattle.std.specs.Option.{option_map_or}
 use Rattle.std.specs.FinMap as fin
 use Rattle.std.specs.FinSet as set
-use Rattle.std.proofs.lemmas.Bool.{false≢true}
-use Rattle.std.proofs.lemmas.Option.{none-some}
+use Rattle.std.proofs.lemmas.Bool.{false≢true, and_from}
 use Rattle.tc_base.specs.Names.{Name, child}
 use Rattle.tc_base.specs.Buffers.{BufferOps, is_nil}
 use Rattle.tc_base.specs.States.{Local, Thread, State}
@@ -14,7 +13,8 @@ use Rattle.tc_base.specs.declared.model.Model.{Model}
 use Rattle.tc_base.specs.declared.moves.Move.{Move}
 use Rattle.tc_base.specs.declared.request.Request.{Request}
 use Rattle.tc_base.specs.declared.request.Request.TheVariants.{Silent, WakeOne, Start}
-use Rattle.tc_code.specs.Instr.{Instr, Signal}
+use Rattle.tc_code.specs.declared.instr.Instr.{Instr}
+use Rattle.tc_code.specs.declared.instr.Instr.TheVariants.{Signal}
 use Rattle.tc_code.specs.Code.{Code}
 use Rattle.tc_code.specs.Lawful.{IsLawful}
 use Rattle.tc_code.specs.Step.{request, instr_of, waiting_on, opening}
@@ -22,26 +22,21 @@ use Rattle.tc_code.specs.Step as machine
 use Rattle.tc_code.specs.Run.{IsReached, run}
 use Rattle.store_buffers.specs.Pending.{Store, stores, Binding, waits}
 use Rattle.store_buffers.specs.Laws.{Laws}
-use Rattle.store_buffers.specs.Proved.Lists.{not_nil}
+use Rattle.store_buffers.specs.helpers.Lists.{not_nil}
 use Rattle.run_history.specs.History.{Deed, Did, Drained, pending_issues, pending, did, woke, drained, created_by, history}
-use Rattle.run_history.specs.Told.{is_thread_in, has_exited_in, steps_in, children_in, failed_in, waiting_in}
+use Rattle.run_history.specs.Told.{is_thread_in, has_exited_in, children_in, failed_in, waiting_in}
 use Rattle.run_follows.specs.Follow.{may_do_in, is_allowed_in}
 use Rattle.run_follows.specs.Follow.{OtherIs, MayFollow, AllFollow, IsOfThread, StepsAreOfThreads}
 use Rattle.run_pending.specs.Deeds.{name_of}
 use Rattle.run_history.specs.Locals.{asks_next}
-use Rattle.run_laws.proofs.Basics.{known}
-use Rattle.run_pending.proofs.Issues.{Rises, split_at}
-use Rattle.run_pending.proofs.Turns.{next_by_steps}
+use Rattle.run_laws.proofs.Basics.{unless}
+use Rattle.run_pending.proofs.Issues.{split_at}
 use Rattle.run_pending.proofs.Buffers.{deed_is}
 use Rattle.run_pending.proofs.Apart.{last_or_before}
-use Rattle.run_follows.proofs.Asks.{LooksWithin, next_looks_within}
-use Rattle.run_follows.proofs.Enabled.{Tells, keeps_tells, opening_tells, empty_told, taken_told, allowed_told}
+use Rattle.run_laws.proofs.Asks.{AsksOf, next_asks_within}
+use Rattle.run_follows.proofs.Enabled.{Tells, keeps_tells, opening_tells, drains_by_buffers, next_drain, empty_told, taken_told, allowed_told}
+use Rattle.run_history.proofs.Threads.{number_is, children_are}
 use Rattle.run_history.proofs.Frame.{Keeps, holds_after}
-
--- who does an instruction hasn't exited
-hasnt_exited : {A : Type 0} (b : Bool) (o : Option A) (x : A) → (if b then None else o) ≡ Some x → b ≡ false
-hasnt_exited true o x h = absurd (none-some x h)
-hasnt_exited false o x h = refl
 
 -- one more deed may follow
 follow_push : (buffered : Bool) (bound : Binding) (code : Code) (h : List Deed) (d : Deed) → AllFollow buffered bound code h → failed_in h ≡ None
@@ -99,13 +94,7 @@ module _ {B : Type 0} (ops : BufferOps B) (model : Model) (bound : Binding) (law
     not_exited : has_exited_in h n ≡ false
     not_exited =
         sym (a.deeds.buffers.threads.exits n) ∙ ap (λ o. option_map_or (λ (x : Thread B). x.local.has_exited) o false) here
-        ∙ hasnt_exited t.local.has_exited _ i at
-
-    number_is : t.local.steps ≡ steps_in h n
-    number_is = ap (λ o. option_map_or (λ (x : Thread B). x.local.steps) o 0) (sym here) ∙ a.deeds.buffers.threads.steps n
-
-    children_are : t.local.children ≡ children_in h n
-    children_are = ap (λ o. option_map_or (λ (x : Thread B). x.local.children) o 0) (sym here) ∙ a.deeds.buffers.threads.children n
+        ∙ (unless t.local.has_exited _ i at).0
 
   -- what a thread asks is what the history tells
   asks_what : (s : State B) (h : List Deed) (n : Name) (t : Thread B) (i : Instr) (r : Request) → fin.get s.threads n ≡ Some t
@@ -118,38 +107,30 @@ module _ {B : Type 0} (ops : BufferOps B) (model : Model) (bound : Binding) (law
       → instr_of code t.local ≡ Some i → request t.local i ≡ r → IsTrue (machine.allows ops s n t r) → Tells ops model bound laws code s h
       → MayFollow ops.buffered bound code h (did ops code s n t r)
   step_follows s h n t i r reached here at asks may a =
-      let within = subst (LooksWithin code) asks (next_looks_within ops code s n t i lawful reached here at) in
+      let within = subst (AsksOf code) asks (next_asks_within ops code s n t i lawful reached here at) in
       record {
         asks = asks_what s h n t i r here at asks a;
-        number = number_is s h n t i here at a;
+        number = number_is ops code s h n a.deeds.buffers.threads t here;
         may = may_do_is h n t.local r ∙ sym (allowed_told ops model bound laws code s h a n t here r within) ∙ may;
         takes = taken_told ops model bound laws code s h a n t here r within;
-        other_is = other_told h n t.local r (children_are s h n t i here at a);
+        other_is = other_told h n t.local r (children_are ops code s h n a.deeds.buffers.threads t here);
       }
-
-  both_true : (x y : Bool) → x ≡ true → y ≡ true → x && y ≡ true
-  both_true x y p q = ap₂ (λ a b. a && b) p q
 
   wake_follows : (s : State B) (h : List Deed) (n u : Name) (t : Thread B) (c : ℕ) → IsReached ops code s → fin.get s.threads n ≡ Some t
       → instr_of code t.local ≡ Some (Signal c) → IsTrue (ops.is_empty t.buffer) → IsTrue (set.contains (waiting_on s c) u)
       → Tells ops model bound laws code s h → MayFollow ops.buffered bound code h (woke ops code n u t (WakeOne c))
   wake_follows s h n u t c reached here at empty waits a =
-      let within = next_looks_within ops code s n t (Signal c) lawful reached here at in
+      let within = next_asks_within ops code s n t (Signal c) lawful reached here at in
       record {
         asks = asks_what s h n t (Signal c) (WakeOne c) here at refl a;
-        number = number_is s h n t (Signal c) here at a;
+        number = number_is ops code s h n a.deeds.buffers.threads t here;
         may =
-            both_true (is_nil (stores (pending ops.buffered h n))) (set.contains (waiting_in h c) u)
+            and_from (is_nil (stores (pending ops.buffered h n))) (set.contains (waiting_in h c) u)
             (sym (empty_told ops model bound laws code s h a n t here) ∙ empty)
             (ap (λ ns. set.contains ns u) (sym (a.waiters.waiters c within)) ∙ waits);
         takes = refl;
         other_is = tt;
       }
-
-  -- where something may drain there are buffers
-  drains_by_buffers : (b : B) (form : Option ℕ) → IsTrue (ops.may_drain b form) → ops.buffered ≡ true
-  drains_by_buffers b form may =
-      elim (known ops.buffered) [ inl has ↦ has | inr none ↦ absurd (false≢true (sym (laws.unbuffered none b form) ∙ may)) ]
 
   drain_follows : (s : State B) (h : List Deed) (n : Name) (t : Thread B) (form : Option ℕ) → fin.get s.threads n ≡ Some t
       → IsTrue (ops.may_drain t.buffer form) → Tells ops model bound laws code s h
@@ -157,21 +138,14 @@ module _ {B : Type 0} (ops : BufferOps B) (model : Model) (bound : Binding) (law
   drain_follows s h n t form here may a =
       let ps = pending ops.buffered h n in
       let st = a.deeds.buffers.stands n t here in
-      let has = drains_by_buffers t.buffer form may in
+      let has = drains_by_buffers ops model bound laws code t.buffer form may in
       let some = laws.may_drain_stands t.buffer ps form st may in
       let out = laws.drain_stands t.buffer ps form some.older some.store some.newer st some.drains in
       let split = split_at (pending_issues ops.buffered h n) some.older (Store some.store) some.newer some.drains.there in
       subst (MayFollow ops.buffered bound code h)
       (sym (deed_is ops model bound laws code s (machine.drained ops s n t form) h n t form here refl some.older some.store some.newer some.drains.is_free out
       a.deeds.buffers split))
-      (record {
-        buffers = has;
-        next = next_by_steps h n a.deeds.named (subst (λ b. Rises (pending_issues b h n)) has (a.deeds.buffers.numbers n).rises) bound split.older split.newer
-            split.at.number some.store.cell some.store.value
-            (ap (λ b. pending_issues b h n) (sym has) ∙ split.there
-            ∙ ap (λ p. split.older ++ record { number = split.at.number; what = p } ∷ split.newer) split.what)
-            (subst (λ qs. waits bound qs some.store.cell ≡ false) (sym split.olders) some.drains.is_free);
-      })
+      (next_drain ops model bound laws code s h a n t here form has some split)
 
   pub keeps_all : Keeps ops code AllTold
   keeps_all =

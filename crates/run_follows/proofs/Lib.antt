@@ -1,4 +1,3 @@
-pub mod Asks
 pub mod Enabled
 pub mod Follows
 pub mod Plays

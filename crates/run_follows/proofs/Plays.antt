@@ -5,6 +5,7 @@ use Rattle.std.specs.Prelude.{option_map, option_and_then}
 use Rattle.std.specs.Option.{option_map_or}
 use Rattle.std.specs.FinMap as fin
 use Rattle.std.specs.FinSet as set
+use Rattle.std.proofs.lemmas.Bool.{and_parts}
 use Rattle.std.proofs.lemmas.List.{map-append}
 use Rattle.std.proofs.lemmas.Option.{none-some, same_Some}
 use Rattle.tc_base.specs.Names.{Name, child}
@@ -14,26 +15,28 @@ use Rattle.tc_base.specs.declared.model.Model.{Model}
 use Rattle.tc_base.specs.declared.moves.Move.TheVariants as move
 use Rattle.tc_base.specs.declared.request.Request.{Request}
 use Rattle.tc_base.specs.declared.request.Request.TheVariants.{Silent, WakeOne, Start}
-use Rattle.tc_code.specs.Instr.{Instr, Inside, Holds, Signal, Ready, Assert, Nonzero, In_range}
+use Rattle.tc_code.specs.declared.instr.Instr.{Instr}
+use Rattle.tc_code.specs.declared.instr.Instr.TheVariants.{Inside, Holds, Signal, Ready, Assert, Nonzero, InRange}
 use Rattle.tc_code.specs.Code.{Code}
 use Rattle.tc_code.specs.Lawful.{IsLawful}
 use Rattle.tc_code.specs.Step.{request, site, instr_of, waiting_on, step, opening}
 use Rattle.tc_code.specs.Step as machine
 use Rattle.tc_code.specs.Run.{IsReached, run_from, run}
-use Rattle.tc_code.specs.Facts.{opening_is_reached, step_is_reached}
+use Rattle.tc_code.proofs.Facts.{opening_is_reached, step_is_reached}
 use Rattle.store_buffers.specs.Pending.{Store, stores, Binding, form_of, waits}
 use Rattle.store_buffers.specs.Laws.{Laws}
 use Rattle.run_history.specs.History.{Deed, Did, Drained, Issue, pending_issues, pending, did, woke, drained, taken, created_by}
 use Rattle.run_history.specs.History.{by_instr, deed_of, history_from, history}
 use Rattle.run_history.specs.Locals.{asks_next}
-use Rattle.run_history.specs.Told.{steps_in, children_in, failed_in, waiting_in}
+use Rattle.run_history.specs.Told.{steps_in, failed_in, waiting_in}
 use Rattle.run_follows.specs.Follow.{may_do_in, is_allowed_in, taken_in, OtherIs, IsNextDrain, MayFollow}
 use Rattle.run_follows.specs.Follow.{AllFollow, move_for, moves_for}
 use Rattle.run_pending.proofs.Issues.{Rises, AllBelow, below_at, whats, SplitAt}
 use Rattle.run_pending.proofs.Turns.{split_by_steps}
-use Rattle.run_pending.proofs.Buffers.{deed_is, and_both}
-use Rattle.run_follows.proofs.Asks.{LooksWithin, next_looks_within}
+use Rattle.run_pending.proofs.Buffers.{deed_is}
+use Rattle.run_laws.proofs.Asks.{AsksOf, next_asks_within}
 use Rattle.run_follows.proofs.Enabled.{Tells, keeps_tells, opening_tells, empty_told, taken_told, allowed_told}
+use Rattle.run_history.proofs.Threads.{number_is, none_done, children_are}
 use Rattle.run_history.proofs.Frame.{kept_by_step}
 use Rattle.run_laws.proofs.Makes.{makes_run, makes_wake, makes_drain}
 
@@ -49,7 +52,7 @@ wake_is_signal t (Holds m) c e = absurd (site_wakes_none _ c e)
 wake_is_signal t (Ready v) c e = absurd (site_wakes_none _ c e)
 wake_is_signal t (Assert x) c e = absurd (site_wakes_none _ c e)
 wake_is_signal t (Nonzero x) c e = absurd (site_wakes_none _ c e)
-wake_is_signal t (In_range x) c e = absurd (site_wakes_none _ c e)
+wake_is_signal t (InRange x) c e = absurd (site_wakes_none _ c e)
 wake_is_signal t i c e = cc
 
 -- an instruction that asks something is there
@@ -97,9 +100,8 @@ module _ {B : Type 0} (ops : BufferOps B) (model : Model) (bound : Binding) (law
       plays_run r o x may number takes made named =
           let t = x.thread in
           let i = x.by.instr in
-          let within = subst (LooksWithin code) x.by.asks (next_looks_within ops code s n t i lawful reached x.there x.by.at) in
-          let steps : t.local.steps ≡ k =
-          ap (λ o. option_map_or (λ (y : Thread B). y.local.steps) o 0) (sym x.there) ∙ a.deeds.buffers.threads.steps n ∙ sym number in
+          let within = subst (AsksOf code) x.by.asks (next_asks_within ops code s n t i lawful reached x.there x.by.at) in
+          let steps : t.local.steps ≡ k = number_is ops code s h n a.deeds.buffers.threads t x.there ∙ sym number in
           let took : taken ops code s t r ≡ v = taken_told ops model bound laws code s h a n t x.there r within ∙ sym takes in
           record {
             state = machine.perform ops code s n t i r;
@@ -122,10 +124,9 @@ module _ {B : Type 0} (ops : BufferOps B) (model : Model) (bound : Binding) (law
           let t = x.thread in
           let signal = wake_is_signal t.local x.by.instr c x.by.asks in
           let at : instr_of code t.local ≡ Some (Signal c) = x.by.at ∙ ap Some signal in
-          let within = next_looks_within ops code s n t (Signal c) lawful reached x.there at in
-          let both = and_both (is_nil (stores (pending ops.buffered h n))) (set.contains (waiting_in h c) u) may in
-          let steps : t.local.steps ≡ k =
-          ap (λ o. option_map_or (λ (y : Thread B). y.local.steps) o 0) (sym x.there) ∙ a.deeds.buffers.threads.steps n ∙ sym number in
+          let within = next_asks_within ops code s n t (Signal c) lawful reached x.there at in
+          let both = and_parts (is_nil (stores (pending ops.buffered h n))) (set.contains (waiting_in h c) u) may in
+          let steps : t.local.steps ≡ k = number_is ops code s h n a.deeds.buffers.threads t x.there ∙ sym number in
           record {
             state = machine.woken ops s n u t c;
             goes =
@@ -137,16 +138,13 @@ module _ {B : Type 0} (ops : BufferOps B) (model : Model) (bound : Binding) (law
                 ∙ ap₂ (λ j w. Did n j (WakeOne c) w (Some u) ∷ []) steps (sym takes);
           }
 
-      children_told : (r : Request) (x : Asker s n r) → children_in h n ≡ x.thread.local.children
-      children_told r x =
-          sym (a.deeds.buffers.threads.children n) ∙ ap (λ o. option_map_or (λ (y : Thread B). y.local.children) o 0) x.there
-
       plays_did : (r : Request) (o : Option Name) (x : Asker s n r) → k ≡ steps_in h n → may_do_in ops.buffered h n r o ≡ true
           → v ≡ taken_in ops.buffered code h n r → OtherIs h n r o → Plays s h (Did n k r v o)
       plays_did (WakeOne c) (Some u) x number may takes other = plays_wake c u x may number takes
       plays_did (WakeOne c) None x number may takes other = plays_run (WakeOne c) None x may number takes refl refl
       plays_did (Start f) o x number may takes other =
-          plays_run (Start f) o x may number takes (other ∙ ap (λ j. Some (child n (j + 1))) (children_told (Start f) x)) refl
+          let children = children_are ops code s h n a.deeds.buffers.threads x.thread x.there in
+          plays_run (Start f) o x may number takes (other ∙ ap (λ j. Some (child n (j + 1))) (sym children)) refl
       plays_did Silent o x number may takes other = plays_run Silent o x may number takes other refl
       plays_did r o x number may takes other = plays_run r o x may number takes other refl
 
@@ -190,9 +188,7 @@ module _ {B : Type 0} (ops : BufferOps B) (model : Model) (bound : Binding) (law
     pending_of_thread n (Some t) here older newer x there = (t, here)
     pending_of_thread n None here older newer x there =
         let below = below_at (steps_in h n) older x newer (subst (AllBelow (steps_in h n)) there (a.deeds.buffers.numbers n).below) in
-        let zero_steps : 0 ≡ steps_in h n =
-        ap (λ o. option_map_or (λ (y : Thread B). y.local.steps) o 0) (sym here) ∙ a.deeds.buffers.threads.steps n in
-        absurd (omega (arith, below, zero_steps))
+        absurd (omega (arith, below, none_done ops code s h n a.deeds.buffers.threads here))
 
     -- so each deed that may follow is done by a move
     plays : (d : Deed) → MayFollow ops.buffered bound code h d → Plays s h d

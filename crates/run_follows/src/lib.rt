@@ -22,7 +22,7 @@ ghost use Rattle.run_follows.specs.Follow.{AllFollow, seen_in, is_allowed_in, ma
 ghost use Rattle.run_follows.specs.Logged.{GoesAsLogged};
 ghost use Rattle.tc_code.specs.Lawful.{IsLawful};
 ghost use Rattle.tc_base.specs.declared.moves.Move.TheVariants as move;
-ghost use Rattle.tc_code.specs.Instr.{Instr};
+ghost use Rattle.tc_code.specs.declared.instr.Instr.{Instr};
 
 /// A load takes the newest of the thread's pending stores to the cell, else the last store that reached it, else the
 /// value at the start.

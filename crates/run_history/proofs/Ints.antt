@@ -16,7 +16,7 @@ use Rattle.tc_code.specs.Lawful.{IsLawful}
 use Rattle.tc_code.specs.Run.{run}
 use Rattle.store_buffers.specs.Pending.{Pending, Store, Bar, stores, Binding, Stands}
 use Rattle.store_buffers.specs.Laws.{Laws}
-use Rattle.store_buffers.specs.Proved.Lists.{store_last, bar_last}
+use Rattle.store_buffers.specs.helpers.Lists.{store_last, bar_last}
 use Rattle.run_laws.specs.Ints.{AsksInts, HoldsInts, Empty, Issued, Barred, Drained, PassesInts, ThreadHasInts, StateHasInts}
 use Rattle.run_laws.proofs.Ints.{zero_int, in_memory_int, loaded_int, values_are_ints, requests_have_ints}
 use Rattle.run_history.specs.History.{taken, history}

@@ -9,7 +9,7 @@ use Rattle.std.proofs.lemmas.List.{get_or-set_same, get_or-set_other}
 use Rattle.std.proofs.lemmas.List.Elements.{filter_map-append}
 use Rattle.std.proofs.lemmas.List.Sums.{sum_by-append}
 use Rattle.tc_base.specs.Buffers.{Entry, newest}
-use Rattle.store_buffers.specs.Proved.Lists.{newest-append}
+use Rattle.store_buffers.specs.helpers.Lists.{newest-append}
 
 -- what a place has after a write
 index_by : {A : Type 0} (xs : List A) (k c : ℕ) (x d : A) (b : Bool) → (k == c) ≡ b → c < length xs

@@ -26,7 +26,7 @@ use Rattle.tc_code.specs.Run.{run_from, run, Reproduces, path_of}
 use Rattle.tc_code.proofs.Facts.{run_from-append}
 use Rattle.store_buffers.specs.Pending.{Pending, Store, Bar as bar, stores, Binding, waits, form_of, Stands}
 use Rattle.store_buffers.specs.Laws.{Laws}
-use Rattle.store_buffers.specs.Proved.Lists.{store_last, bar_last}
+use Rattle.store_buffers.specs.helpers.Lists.{store_last, bar_last}
 use Rattle.run_laws.proofs.Names.{same_or_apart, get_put, get_put_apart}
 use Rattle.run_laws.proofs.Steps.{Went, step_went, none_failed}
 use Rattle.run_models.specs.Models.{AllowsMore, drains_at_once, move_as, moves_from, moves_as, local_of, SameButBuffers}

@@ -1,10 +1,10 @@
 -- Thread, step and kind name a deed, and a drain is that of a store that was issued.
 use Rattle.std.proofs.Common.{◌≡◌, ◌∙◌, ◌⊎◌, inl, inr, ℕ, ◌+◌, ◌<◌, ◌≤◌, ℤ, Bool, true, false, not, ◌||◌, ◌&&◌, cond, IsTrue}
-use Rattle.std.proofs.Common.{List, [], ◌∷◌, ◌++◌, Option, Some, None, refl, sym, ap, ap₂, subst, arith}
-use Rattle.std.specs.Option.{option_map_or}
-use Rattle.std.specs.List.{filter, filter_map, cons_option}
+use Rattle.std.proofs.Common.{List, [], ◌∷◌, ◌++◌, Option, Some, refl, sym, ap, ap₂, subst, arith}
+use Rattle.std.specs.List.{filter_map}
 use Rattle.std.specs.FinMap as fin
-use Rattle.std.proofs.lemmas.Bool.{false≢true}
+use Rattle.std.proofs.Math.Bool.{or-true}
+use Rattle.std.proofs.lemmas.Bool.{false≢true, and_parts, not-true, eq-eqb}
 use Rattle.std.proofs.lemmas.List.Folds.{list_any-append}
 use Rattle.std.proofs.lemmas.Option.{none-some, cond_some}
 use Rattle.tc_base.specs.Names.{Name}
@@ -18,17 +18,18 @@ use Rattle.tc_base.specs.declared.moves.Move.{Move}
 use Rattle.tc_code.specs.Run.{run}
 use Rattle.tc_code.specs.Step.{opening}
 use Rattle.tc_code.specs.Step as machine
+use Rattle.run_laws.proofs.Names.{same_self, is_same}
 use Rattle.store_buffers.specs.Pending.{Store, Bar as barred, Binding}
 use Rattle.store_buffers.specs.Laws.{Laws}
-use Rattle.store_buffers.specs.Proved.Lists.{not_nil}
-use Rattle.store_buffers.specs.Proved.Segments.{eq_self}
+use Rattle.store_buffers.specs.helpers.Lists.{not_nil}
 use Rattle.run_history.specs.History.{Deed, Did, Drained, Issue, same, issue_of, drains, has_drained, pending_issues, pending, drained, history}
 use Rattle.run_history.specs.Told.{is_step_of, steps_in}
 use Rattle.run_pending.specs.Deeds.{name_of, AllApart, IsIssuedIn, DrainsAreOfStores}
 use Rattle.run_pending.proofs.Issues.{split_at}
 use Rattle.run_history.proofs.Lists.{count-push}
-use Rattle.run_history.proofs.Threads.{same_self}
-use Rattle.run_pending.proofs.Buffers.{BuffersAre, keeps_buffers, opening_buffers, is_same, deed_is}
+use Rattle.run_history.proofs.Threads.{number_is}
+use Rattle.run_pending.proofs.Buffers.{BuffersAre, keeps_buffers, opening_buffers, deed_is}
+use Rattle.run_pending.proofs.In.{In, in_at, in_split, from_filter, from_mapped}
 use Rattle.run_history.proofs.Frame.{Keeps, holds_after}
 
 -- a place in a list with one more at the end: the last, or one before
@@ -50,44 +51,6 @@ last_or_before (z ∷ xs) x (y ∷ older) e newer is =
       | inr b ↦ inr (record { rest = b.rest; ends = b.ends; there = ap₂ (λ a ks. a ∷ ks) first b.there })
     ]
 
--- what stands in what a test leaves stood there before, and passes
-pub record StoodAt {A : Type 0} (xs : List A) (x : A) : Type 0 where
-  pub older : List A
-  pub newer : List A
-  pub there : xs ≡ older ++ x ∷ newer
-
-stood_behind : {A : Type 0} (y : A) (xs : List A) (x : A) → StoodAt xs x → StoodAt (y ∷ xs) x
-stood_behind y xs x s = record { older = y ∷ s.older; newer = s.newer; there = ap (λ zs. y ∷ zs) s.there }
-
-kept_by : {A : Type 0} (p : A → Bool) (y : A) (xs : List A) (x : A) (bs : List A)
-    → ((ks : List A) → filter p xs ≡ ks ++ x ∷ bs → StoodAt xs x × (p x ≡ true)) → (b : Bool) → p y ≡ b → (ks : List A)
-    → cond b (y ∷ filter p xs) (filter p xs) ≡ ks ++ x ∷ bs → StoodAt (y ∷ xs) x × (p x ≡ true)
-kept_by p y xs x bs deeper true e [] is =
-    let same : y ≡ x = cc in (record { older = []; newer = xs; there = ap (λ z. z ∷ xs) same }, ap p (sym same) ∙ e)
-kept_by p y xs x bs deeper true e (a ∷ ks) is =
-    let rest : filter p xs ≡ ks ++ x ∷ bs = cc in
-    let s = deeper ks rest in (stood_behind y xs x s.0, s.1)
-kept_by p y xs x bs deeper false e ks is = let s = deeper ks is in (stood_behind y xs x s.0, s.1)
-
-pub kept_stood : {A : Type 0} (p : A → Bool) (xs ks : List A) (x : A) (bs : List A) → filter p xs ≡ ks ++ x ∷ bs → StoodAt xs x × (p x ≡ true)
-kept_stood p [] ks x bs is = absurd (not_nil ks x bs (sym is))
-kept_stood p (y ∷ xs) ks x bs is = kept_by p y xs x bs (λ cs e. kept_stood p xs cs x bs e) (p y) refl ks is
-
-mapped_by : {A C : Type 0} (f : A → Option C) (y : A) (xs : List A) (i : C) (bs : List C)
-    → ((ks : List C) → filter_map f xs ≡ ks ++ i ∷ bs → (d : A) × StoodAt xs d × (f d ≡ Some i)) → (o : Option C) → f y ≡ o → (ks : List C)
-    → cons_option o (filter_map f xs) ≡ ks ++ i ∷ bs → (d : A) × StoodAt (y ∷ xs) d × (f d ≡ Some i)
-mapped_by f y xs i bs deeper None e ks is = let s = deeper ks is in (s.0, stood_behind y xs s.0 s.1, s.2)
-mapped_by f y xs i bs deeper (Some c) e [] is =
-    let same : c ≡ i = cc in (y, record { older = []; newer = xs; there = refl }, e ∙ ap Some same)
-mapped_by f y xs i bs deeper (Some c) e (a ∷ ks) is =
-    let rest : filter_map f xs ≡ ks ++ i ∷ bs = cc in
-    let s = deeper ks rest in (s.0, stood_behind y xs s.0 s.1, s.2)
-
-pub mapped_stood : {A C : Type 0} (f : A → Option C) (xs : List A) (ks : List C) (i : C) (bs : List C) → filter_map f xs ≡ ks ++ i ∷ bs
-    → (d : A) × StoodAt xs d × (f d ≡ Some i)
-mapped_stood f [] ks i bs is = absurd (not_nil ks i bs (sym is))
-mapped_stood f (y ∷ xs) ks i bs is = mapped_by f y xs i bs (λ cs e. mapped_stood f xs cs i bs e) (f y) refl ks is
-
 -- a deed that issues a store
 pub record IsWrite (d : Deed) (n : Name) (k : ℕ) (e : Entry) : Type 0 where
   pub took : ℤ
@@ -108,14 +71,10 @@ is_write b n (Did q j (Write c w) took other) k e is =
       took = took;
       other = other;
       is =
-          ap (λ m. Did m j (Write c w) took other) (sym (is_same n q (and_second b (same n q) may.0)))
+          ap (λ m. Did m j (Write c w) took other) (sym (is_same n q (and_parts b (same n q) may.0).1))
           ∙ ap (λ m. Did n m (Write c w) took other) (ap (λ (i : Issue). i.number) may.1)
           ∙ ap (λ (x : Entry). Did n k (Write x.cell x.value) took other) entry;
     }
-  where
-    and_second : (x y : Bool) → x && y ≡ true → y ≡ true
-    and_second true y p = p
-    and_second false y p = absurd (false≢true p)
 is_write b n (Did q j Bar took other) k e is =
     let may = cond_some (same n q) (record { number = j; what = barred }) (a_store k e) is in
     let no : barred ≡ Store e = ap (λ (i : Issue). i.what) may.1 in
@@ -129,25 +88,21 @@ pub record IsIssued (h : List Deed) (n : Name) (k : ℕ) (e : Entry) : Type 0 wh
   pub issued : IsIssuedIn h n k e.cell e.value
   pub pending : has_drained h n k ≡ false
 
-not_true : (b : Bool) → not b ≡ true → b ≡ false
-not_true true p = absurd (false≢true p)
-not_true false p = refl
-
-pub is_issued : (b : Bool) (h : List Deed) (n : Name) (older newer : List Issue) (x : Issue) (e : Entry) → pending_issues b h n ≡ older ++ x ∷ newer
-    → x.what ≡ Store e → IsIssued h n x.number e
-is_issued b h n older newer x e is what =
-    let kept = kept_stood (λ i. not (has_drained h n i.number)) (filter_map (issue_of b n) h) older x newer is in
-    let from = mapped_stood (issue_of b n) h kept.0.older x kept.0.newer kept.0.there in
-    let w = is_write b n from.0 x.number e (from.2 ∙ ap (λ p. Some (record { number = x.number; what = p })) what) in
+pub is_issued : (b : Bool) (h : List Deed) (n : Name) (x : Issue) (e : Entry) → In x (pending_issues b h n) → x.what ≡ Store e → IsIssued h n x.number e
+is_issued b h n x e is what =
+    let kept = from_filter (λ i. not (has_drained h n i.number)) x (filter_map (issue_of b n) h) is in
+    let from = from_mapped (issue_of b n) x h kept.0 in
+    let stood = in_split from.of h from.there in
+    let w = is_write b n from.of x.number e (from.gives ∙ ap (λ p. Some (record { number = x.number; what = p })) what) in
     record {
       issued = record {
-        before = from.1.older;
-        after = from.1.newer;
+        before = stood.older;
+        after = stood.newer;
         took = w.took;
         other = w.other;
-        issued = from.1.there ∙ ap (λ d. from.1.older ++ d ∷ from.1.newer) w.is;
+        issued = stood.there ∙ ap (λ d. stood.older ++ d ∷ stood.newer) w.is;
       };
-      pending = not_true _ kept.1;
+      pending = not-true _ kept.1;
     }
 
 -- what is told of deeds by their names
@@ -156,14 +111,10 @@ pub record Named (h : List Deed) : Type 0 where
   pub apart : AllApart h
   pub stores : DrainsAreOfStores h
 
-or_true : (x : Bool) → x || true ≡ true
-or_true true = refl
-or_true false = refl
-
 drained_at : (h older newer : List Deed) (q : Name) (k c : ℕ) (v : ℤ) → h ≡ older ++ Drained q k c v ∷ newer → has_drained h q k ≡ true
 drained_at h older newer q k c v is =
     ap (λ g. has_drained g q k) is ∙ list_any-append (drains q k) older (Drained q k c v ∷ newer)
-    ∙ ap₂ (λ x y. has_drained older q k || (x && y || has_drained newer q k)) (same_self q q refl) (eq_self k) ∙ or_true (has_drained older q k)
+    ∙ ap₂ (λ x y. has_drained older q k || (x && y || has_drained newer q k)) (same_self q q refl) (eq-eqb k k refl) ∙ or-true (has_drained older q k)
 
 -- where the name of one more deed is new, all stay apart
 apart_push : (h : List Deed) (x : Deed) → AllApart h → ((older newer : List Deed) (d : Deed) → h ≡ older ++ d ∷ newer → name_of d ≡ name_of x → ⊥)
@@ -247,10 +198,6 @@ module _ {B : Type 0} (ops : BufferOps B) (model : Model) (bound : Binding) (law
     pub buffers : BuffersAre ops model bound laws code s h
     pub named : Named h
 
-  next_number : (s : State B) (h : List Deed) (n : Name) (t : Thread B) → fin.get s.threads n ≡ Some t → BuffersAre ops model bound laws code s h
-      → t.local.steps ≡ steps_in h n
-  next_number s h n t here a = ap (λ x. option_map_or (λ (y : Thread B). y.local.steps) x 0) (sym here) ∙ a.threads.steps n
-
   drain_named : (s : State B) (h : List Deed) (n : Name) (t : Thread B) (form : Option ℕ) → fin.get s.threads n ≡ Some t
       → IsTrue (ops.may_drain t.buffer form) → DeedsAre s h → Named (h ++ drained ops code h n (ops.drain t.buffer form).entry ∷ [])
   drain_named s h n t form here may a =
@@ -263,7 +210,7 @@ module _ {B : Type 0} (ops : BufferOps B) (model : Model) (bound : Binding) (law
       (sym (deed_is ops model bound laws code s (machine.drained ops s n t form) h n t form here refl some.older some.store some.newer some.drains.is_free out
       a.buffers split))
       (named_drained h n split.at.number some.store
-      (is_issued ops.buffered h n split.older split.newer split.at some.store split.there split.what) a.named)
+      (is_issued ops.buffered h n split.at some.store (subst (In split.at) (sym split.there) (in_at split.older split.at split.newer)) split.what) a.named)
 
   pub keeps_deeds : Keeps ops code DeedsAre
   keeps_deeds =
@@ -271,11 +218,11 @@ module _ {B : Type 0} (ops : BufferOps B) (model : Model) (bound : Binding) (law
       record {
         ran = λ s h n t i r reached going here at asks may a. record {
           buffers = keeps.ran s h n t i r reached going here at asks may a.buffers;
-          named = named_did h n t.local.steps r _ _ (next_number s h n t here a.buffers) a.named;
+          named = named_did h n t.local.steps r _ _ (number_is ops code s h n a.buffers.threads t here) a.named;
         };
         waked = λ s h n u t c reached going here at empty waits a. record {
           buffers = keeps.waked s h n u t c reached going here at empty waits a.buffers;
-          named = named_did h n t.local.steps (WakeOne c) _ _ (next_number s h n t here a.buffers) a.named;
+          named = named_did h n t.local.steps (WakeOne c) _ _ (number_is ops code s h n a.buffers.threads t here) a.named;
         };
         flushed = λ s h n t form reached going here may a. record {
           buffers = keeps.flushed s h n t form reached going here may a.buffers;

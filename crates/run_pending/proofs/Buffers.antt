@@ -1,66 +1,48 @@
 -- What is in a thread's buffer is told by the history: what it issued and hasn't drained.
-use Rattle.std.proofs.Common.{◌≡◌, ◌≢◌, ◌∙◌, ◌⊎◌, inl, inr, ℕ, ◌+◌, ◌<◌, ◌≤◌, ◌==◌, ℤ, pos, Bool, true, false, not, ◌||◌, ◌&&◌, cond, IsTrue}
+use Rattle.std.proofs.Common.{◌≡◌, ◌≢◌, ◌∙◌, inl, inr, ℕ, ◌+◌, ◌<◌, ◌≤◌, ◌==◌, ℤ, pos, Bool, true, false, not, ◌||◌, ◌&&◌, cond, IsTrue}
 use Rattle.std.proofs.Common.{List, [], ◌∷◌, ◌++◌, Option, Some, None, refl, sym, ap, ap₂, subst, arith, append-nil, if◌then◌else◌}
-use Rattle.std.specs.Option.{option_map_or}
 use Rattle.std.specs.List.{filter, filter_map, cons_option}
 use Rattle.std.specs.FinMap as fin
-use Rattle.std.specs.Ordering.{nat_cmp}
-use Rattle.std.specs.Cmp.Lexicographic.{slice_cmp}
-use Rattle.std.proofs.lemmas.Bool.{false≢true}
+use Rattle.std.proofs.lemmas.Bool.{false≢true, cases_Bool, and_parts, or_cases, eqb-true, false_from_ne_true}
+use Rattle.std.proofs.Math.Bool.{or-false}
 use Rattle.std.proofs.lemmas.List.{map-append}
-use Rattle.std.proofs.lemmas.List.Elements.{filter-append}
+use Rattle.std.proofs.lemmas.List.Elements.{filter-append, filter_agree}
 use Rattle.std.proofs.lemmas.List.Folds.{list_any-append}
 use Rattle.std.proofs.lemmas.Option.{none-some, same_Some}
-use Rattle.tc_base.specs.Names.{Name, main}
+use Rattle.tc_base.specs.Names.{Name, main, by_name}
 use Rattle.tc_base.specs.Buffers.{BufferOps, Entry}
 use Rattle.tc_base.specs.States.{Thread, State}
 use Rattle.tc_base.specs.declared.model.Model.{Model}
 use Rattle.tc_base.specs.declared.request.Request.{Request}
 use Rattle.tc_base.specs.declared.request.Request.TheVariants.{Silent, Write, Bar, WakeOne}
-use Rattle.tc_code.specs.Instr.{Instr, Signal}
+use Rattle.tc_code.specs.declared.instr.Instr.{Instr}
+use Rattle.tc_code.specs.declared.instr.Instr.TheVariants.{Signal}
 use Rattle.tc_code.specs.Code.{Code}
 use Rattle.tc_code.specs.Step.{request, perform, born, woken, opening}
 use Rattle.tc_code.specs.Step as machine
 use Rattle.tc_code.specs.Run.{IsReached}
-use Rattle.run_laws.proofs.Basics.{known}
-use Rattle.run_laws.proofs.Names.{same_or_apart, get_put_cases, tells_names}
+use Rattle.run_laws.proofs.Names.{same_self, same_other, is_same, same_or_apart, get_put_cases}
 use Rattle.store_buffers.specs.Pending.{Pending, Store, Bar as barred, Binding, waits, Stands}
 use Rattle.store_buffers.specs.Laws.{Laws, TakesOut}
-use Rattle.store_buffers.specs.Proved.Lists.{store_last, bar_last}
-use Rattle.store_buffers.specs.Proved.Segments.{eq_is}
+use Rattle.store_buffers.specs.helpers.Lists.{store_last, bar_last}
 use Rattle.run_history.specs.History.{Deed, Did, Drained, Issue, same, issue_of, drains, has_drained, pending_issues, pending, oldest_to}
 use Rattle.run_history.specs.History.{drained, taken, created_by}
 use Rattle.run_history.specs.Told.{is_step_of, steps_in}
 use Rattle.run_pending.proofs.Issues.{AllBelow, Rises, below_more, below_push, none_below_zero, rises_push, below_filter, rises_filter}
-use Rattle.run_pending.proofs.Issues.{filter-same, filter-twice, isnt, taken_out, below_at, whats, SplitAt, split_at, oldest_is}
+use Rattle.run_pending.proofs.Issues.{filter-twice, isnt, taken_out, below_at, whats, SplitAt, split_at, oldest_is}
 use Rattle.run_history.proofs.Lists.{filter_map-push, count-push}
-use Rattle.run_history.proofs.Threads.{same_self, same_other, own, buffer_by, with_born, Found, Its_own, Its_child, Another, find, performed_threads}
-use Rattle.run_history.proofs.Threads.{ThreadsAre, threads_by, threads_flushed, makes_what, opening_threads}
+use Rattle.run_history.proofs.Threads.{own, buffer_by, with_born, Found, Its_own, Its_child, Another, find, performed_threads}
+use Rattle.run_history.proofs.Threads.{ThreadsAre, number_is, none_done, threads_by, threads_flushed, makes_what, opening_threads}
 use Rattle.run_history.proofs.Frame.{Keeps}
-
-or_nothing : (b : Bool) → b || false ≡ b
-or_nothing true = refl
-or_nothing false = refl
-
-pub and_both : (a b : Bool) → a && b ≡ true → (a ≡ true) × (b ≡ true)
-and_both true b e = (refl, e)
-and_both false b e = absurd (false≢true e)
-
-pub is_same : (q n : Name) → same q n ≡ true → q ≡ n
-is_same q n e = elim (tells_names q n) [ inl is ↦ is.1 | inr is ↦ absurd (false≢true (sym is.0 ∙ e)) ]
-
-or_cases : (a b : Bool) → a || b ≡ true → (a ≡ true) ⊎ (b ≡ true)
-or_cases true b e = inl refl
-or_cases false b e = inr e
 
 -- a step drains nothing
 drained-did : (h : List Deed) (n q : Name) (k j : ℕ) (r : Request) (v : ℤ) (o : Option Name)
     → has_drained (h ++ Did n k r v o ∷ []) q j ≡ has_drained h q j
-drained-did h n q k j r v o = list_any-append (drains q j) h (Did n k r v o ∷ []) ∙ or_nothing _
+drained-did h n q k j r v o = list_any-append (drains q j) h (Did n k r v o ∷ []) ∙ or-false _
 
 drained-drained : (h : List Deed) (n q : Name) (k j c : ℕ) (v : ℤ)
     → has_drained (h ++ Drained n k c v ∷ []) q j ≡ has_drained h q j || (same q n && j == k)
-drained-drained h n q k j c v = list_any-append (drains q j) h (Drained n k c v ∷ []) ∙ ap (λ b. has_drained h q j || b) (or_nothing _)
+drained-drained h n q k j c v = list_any-append (drains q j) h (Drained n k c v ∷ []) ∙ ap (λ b. has_drained h q j || b) (or-false _)
 
 module _ (buffered : Bool) where
   abbrev undrained : List Deed → Name → Issue → Bool
@@ -71,7 +53,7 @@ module _ (buffered : Bool) where
       → pending_issues buffered (h ++ Did n k r v o ∷ []) q
       ≡ pending_issues buffered h q ++ filter (undrained h q) (cons_option (issue_of buffered q (Did n k r v o)) [])
   pending-did h n q k r v o =
-      filter-same (undrained (h ++ Did n k r v o ∷ []) q) (undrained h q) _ (λ i. ap not (drained-did h n q k i.number r v o))
+      filter_agree (undrained (h ++ Did n k r v o ∷ []) q) (undrained h q) (λ i. ap not (drained-did h n q k i.number r v o)) _
       ∙ ap (filter (undrained h q)) (filter_map-push (issue_of buffered q) h (Did n k r v o))
       ∙ filter-append (undrained h q) (filter_map (issue_of buffered q) h) _
 
@@ -118,8 +100,8 @@ module _ (buffered : Bool) where
       → pending_issues buffered (h ++ Drained n k c v ∷ []) q ≡ pending_issues buffered h q
   pending-drained_other h n q k c v other =
       ap (filter (undrained (h ++ Drained n k c v ∷ []) q)) (filter_map-push (issue_of buffered q) h (Drained n k c v) ∙ append-nil _)
-      ∙ filter-same (undrained (h ++ Drained n k c v ∷ []) q) (undrained h q) _ (λ i.
-      ap not (drained-drained h n q k i.number c v ∙ ap (λ b. has_drained h q i.number || (b && i.number == k)) (same_other q n other) ∙ or_nothing _))
+      ∙ filter_agree (undrained (h ++ Drained n k c v ∷ []) q) (undrained h q)
+      (λ i. ap not (drained-drained h n q k i.number c v ∙ ap (λ b. has_drained h q i.number || (b && i.number == k)) (same_other q n other) ∙ or-false _)) _
 
 -- the numbers of what a history tells of a buffer
 pub record NumbersAre (buffered : Bool) (h : List Deed) (q : Name) : Type 0 where
@@ -134,10 +116,6 @@ numbers_stay buffered h g q is more drained a = record {
   below = subst (AllBelow (steps_in g q)) (sym is) (below_more (steps_in h q) (steps_in g q) (pending_issues buffered h q) more a.below);
   drained = λ k e. let l = a.drained k (sym (drained k) ∙ e) in omega (arith, l, more);
 }
-
-not_drained_by : (b : Bool) (P : Type 0) → (b ≡ true → P) → (P → ⊥) → b ≡ false
-not_drained_by true P f never = absurd (never (f refl))
-not_drained_by false P f never = refl
 
 module _ {B : Type 0} (ops : BufferOps B) (model : Model) (bound : Binding) (laws : Laws ops model bound) (code : Code) where
   -- what is told of buffers
@@ -155,7 +133,7 @@ module _ {B : Type 0} (ops : BufferOps B) (model : Model) (bound : Binding) (law
       → Issues b ps r k (issue_of ops.buffered n (Did n k r v o))
   issues b ps (Write c w) n k v o st =
       let i : Issue = record { number = k; what = Store (record { cell = c; value = w }) } in
-      elim (known ops.buffered) [
+      elim (cases_Bool ops.buffered) [
         | inl has ↦ Something (Store (record { cell = c; value = w }))
             (ap₂ (λ x y. if x && y then Some i else None) has (same_self n n refl))
             (subst (λ x. Stands ops (if x then ops.issue b c w else b) (ps ++ Store (record { cell = c; value = w }) ∷ [])) (sym has)
@@ -177,7 +155,7 @@ module _ {B : Type 0} (ops : BufferOps B) (model : Model) (bound : Binding) (law
       new = h ++ deed ∷ []
 
       its_steps : t.local.steps ≡ steps_in h n
-      its_steps = ap (λ x. option_map_or (λ (y : Thread B). y.local.steps) x 0) (sym here) ∙ a.threads.steps n
+      its_steps = number_is ops code s h n a.threads t here
 
       more_steps : (q : Name) → steps_in h q ≤ steps_in new q
       more_steps q = let e = count-push (is_step_of q) h deed in omega (arith, e)
@@ -186,7 +164,7 @@ module _ {B : Type 0} (ops : BufferOps B) (model : Model) (bound : Binding) (law
       one_more_step = count-push (is_step_of n) h deed ∙ ap (λ b. steps_in h n + cond b 1 0) (same_self n n refl)
 
       not_drained : has_drained h n t.local.steps ≡ false
-      not_drained = not_drained_by _ (t.local.steps < steps_in h n) ((a.numbers n).drained t.local.steps) (λ less. omega (arith, less, its_steps))
+      not_drained = false_from_ne_true _ (λ drained. let less = (a.numbers n).drained t.local.steps drained in omega (arith, less, its_steps))
 
       same_drains : (q : Name) (k : ℕ) → has_drained new q k ≡ has_drained h q k
       same_drains q k = drained-did h n q t.local.steps k r v o
@@ -236,9 +214,8 @@ module _ {B : Type 0} (ops : BufferOps B) (model : Model) (bound : Binding) (law
       -- a new thread has nothing pending
       none_pending : (q : Name) → fin.get s.threads q ≡ None → pending ops.buffered h q ≡ []
       none_pending q none =
-          let zero_steps : 0 ≡ steps_in h q = ap (λ x. option_map_or (λ (y : Thread B). y.local.steps) x 0) (sym none) ∙ a.threads.steps q in
           ap whats (none_below_zero (pending_issues ops.buffered h q)
-          (subst (λ k. AllBelow k (pending_issues ops.buffered h q)) (sym zero_steps) (a.numbers q).below))
+          (subst (λ k. AllBelow k (pending_issues ops.buffered h q)) (sym (none_done ops code s h q a.threads none)) (a.numbers q).below))
 
       empty_stands : Stands ops ops.empty []
       empty_stands = record { made = refl; issued = λ _. refl }
@@ -269,8 +246,8 @@ module _ {B : Type 0} (ops : BufferOps B) (model : Model) (bound : Binding) (law
       (is : u.threads ≡ fin.insert s.threads n (record t { buffer = (ops.drain t.buffer form).rest })) (older : List Pending) (e : Entry) (newer : List Pending)
       (free : waits bound older e.cell ≡ false) (out : TakesOut ops t.buffer form older e newer) (a : BuffersAre s h)
       (split : SplitAt (pending_issues ops.buffered h n) older (Store e) newer) where
-    number_is : oldest_to e.cell (pending_issues ops.buffered h n) ≡ split.at.number
-    number_is =
+    oldest_number : oldest_to e.cell (pending_issues ops.buffered h n) ≡ split.at.number
+    oldest_number =
         ap (oldest_to e.cell) split.there
         ∙ oldest_is bound laws.same_cell split.older split.at split.newer e split.what (subst (λ ps. waits bound ps e.cell ≡ false) (sym split.olders) free)
 
@@ -301,8 +278,8 @@ module _ {B : Type 0} (ops : BufferOps B) (model : Model) (bound : Binding) (law
         (elim (or_cases (has_drained h q j) (same q n && j == k) (sym (drained-drained h n q k j e.cell e.value) ∙ e')) [
           | inl before ↦ (a.numbers q).drained j before
           | inr now ↦
-              let both = and_both (same q n) (j == k) now in
-              subst (λ m. j < steps_in h m) (sym (is_same q n both.0)) (subst (λ m. m < steps_in h n) (sym (eq_is j k both.1)) k_below)
+              let both = and_parts (same q n) (j == k) now in
+              subst (λ m. j < steps_in h m) (sym (is_same q n both.0)) (subst (λ m. m < steps_in h n) (sym (eqb-true j k both.1)) k_below)
         ])
 
     numbers_left : (q : Name) → NumbersAre ops.buffered left q
@@ -338,7 +315,7 @@ module _ {B : Type 0} (ops : BufferOps B) (model : Model) (bound : Binding) (law
 
     -- the deed is the drain of that store
     pub deed_is : drained ops code h n (ops.drain t.buffer form).entry ≡ Drained n k e.cell e.value
-    deed_is = ap (drained ops code h n) out.takes ∙ ap (λ j. Drained n j e.cell e.value) number_is
+    deed_is = ap (drained ops code h n) out.takes ∙ ap (λ j. Drained n j e.cell e.value) oldest_number
 
     buffers_flushed : BuffersAre u (h ++ drained ops code h n (ops.drain t.buffer form).entry ∷ [])
     buffers_flushed =
@@ -377,7 +354,7 @@ module _ {B : Type 0} (ops : BufferOps B) (model : Model) (bound : Binding) (law
     stands = λ q x found.
         elim (get_put_cases fin.empty main _ q x found) [
           | inl own ↦ subst (λ (y : Thread B). Stands ops y.buffer []) own.1 (record { made = refl; issued = λ _. refl })
-          | inr other ↦ absurd (none-some x (sym (fin.get-empty (slice_cmp nat_cmp) q) ∙ other.1))
+          | inr other ↦ absurd (none-some x (sym (fin.get-empty by_name q) ∙ other.1))
         ];
     numbers = λ q. record { rises = tt; below = tt; drained = λ k e. absurd (false≢true e) };
   }

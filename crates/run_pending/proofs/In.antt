@@ -1,10 +1,10 @@
 -- What is in a list.
 use Rattle.std.proofs.Common.{◌≡◌, ◌∙◌, ◌⊎◌, inl, inr, Bool, true, false, ◌||◌, cond, List, [], ◌∷◌, ◌++◌, Option, Some, None, refl, sym, ap, subst}
 use Rattle.std.specs.List.{filter, filter_map, cons_option, list_any}
+use Rattle.std.proofs.Math.Bool.{or-true}
 use Rattle.std.proofs.lemmas.Bool.{false≢true}
 use Rattle.run_history.specs.History.{Deed}
 use Rattle.run_pending.specs.Deeds.{name_of, AllApart}
-use Rattle.run_pending.proofs.Apart.{StoodAt}
 
 abbrev pub In : {A : Type 0} → A → List A → Type 0
 In y [] = ⊥
@@ -26,6 +26,12 @@ in_right y (x ∷ xs) ys i = inr (in_right y xs ys i)
 
 pub in_at : {A : Type 0} (older : List A) (y : A) (newer : List A) → In y (older ++ y ∷ newer)
 in_at older y newer = in_right y older (y ∷ newer) (inl refl)
+
+-- where something stands in a list
+pub record StoodAt {A : Type 0} (xs : List A) (x : A) : Type 0 where
+  pub older : List A
+  pub newer : List A
+  pub there : xs ≡ older ++ x ∷ newer
 
 pub in_split : {A : Type 0} (y : A) (xs : List A) → In y xs → StoodAt xs y
 in_split y [] i = absurd i
@@ -105,14 +111,10 @@ pub any_in : {A : Type 0} (p : A → Bool) (xs : List A) → list_any p xs ≡ t
 any_in p [] any = absurd (false≢true any)
 any_in p (x ∷ xs) any = any_by p x xs (any_in p xs) (p x) refl any
 
-or_true : (b : Bool) → b || true ≡ true
-or_true true = refl
-or_true false = refl
-
 pub in_any : {A : Type 0} (p : A → Bool) (y : A) (xs : List A) → In y xs → p y ≡ true → list_any p xs ≡ true
 in_any p y [] i e = absurd i
 in_any p y (x ∷ xs) (inl same) e = ap (λ b. b || list_any p xs) (ap p same ∙ e)
-in_any p y (x ∷ xs) (inr i) e = ap (λ b. p x || b) (in_any p y xs i e) ∙ or_true (p x)
+in_any p y (x ∷ xs) (inr i) e = ap (λ b. p x || b) (in_any p y xs i e) ∙ or-true (p x)
 
 apart_behind : (x : Deed) (h : List Deed) → AllApart (x ∷ h) → AllApart h
 apart_behind x h apart older newer between d e is = apart (x ∷ older) newer between d e (ap (λ g. x ∷ g) is)

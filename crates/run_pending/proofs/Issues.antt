@@ -3,13 +3,12 @@ use Rattle.std.proofs.Common.{◌≡◌, ◌≢◌, ◌∙◌, ℕ, ◌<◌, ◌
 use Rattle.std.proofs.Common.{refl, sym, ap, ap₂, arith, if◌then◌else◌}
 use Rattle.std.specs.Prelude.{map}
 use Rattle.std.specs.List.{filter}
-use Rattle.std.proofs.lemmas.Bool.{false≢true}
+use Rattle.std.proofs.lemmas.Bool.{false≢true, or_parts, eq-eqb, ne_eqb}
 use Rattle.tc_base.specs.Buffers.{Entry}
 use Rattle.store_buffers.specs.Pending.{Pending, Store, Bar, Binding, waits, has_bar}
-use Rattle.store_buffers.specs.Proved.Lists.{or_false, not_nil}
-use Rattle.store_buffers.specs.Proved.Segments.{eq_is, eq_self}
+use Rattle.store_buffers.specs.helpers.Lists.{not_nil}
 use Rattle.run_history.specs.History.{Issue, is_to, oldest_to}
-use Rattle.run_history.proofs.Lists.{by_bool}
+use Rattle.run_laws.proofs.Basics.{by_bool}
 
 abbrev pub AllAbove : ℕ → List Issue → Type 0
 AllAbove k [] = Unit {0}
@@ -60,11 +59,6 @@ rises_filter p (i ∷ is) r =
     by_bool (λ c. Rises (cond c (i ∷ filter p is) (filter p is))) (p i)
     (above_filter p i.number is r.0, rises_filter p is r.1) (rises_filter p is r.1)
 
-pub filter-same : {X : Type 0} (p q : X → Bool) (xs : List X) → ((x : X) → p x ≡ q x) → filter p xs ≡ filter q xs
-filter-same p q [] is = refl
-filter-same p q (x ∷ xs) is =
-    ap (λ b. cond b (x ∷ filter p xs) (filter p xs)) (is x) ∙ ap (λ ys. cond (q x) (x ∷ ys) ys) (filter-same p q xs is)
-
 -- two tests, one after the other
 filter-twice_by : {X : Type 0} (p q : X → Bool) (x : X) (xs : List X) (b c : Bool) → p x ≡ b → q x ≡ c
     → cond (b && c) (x ∷ filter q (filter p xs)) (filter q (filter p xs)) ≡ filter q (cond b (x ∷ filter p xs) (filter p xs))
@@ -78,13 +72,6 @@ filter-twice p q r (x ∷ xs) is =
     ∙ ap (λ ys. cond (p x && q x) (x ∷ ys) ys) (filter-twice p q r xs is)
     ∙ filter-twice_by p q x xs (p x) (q x) refl refl
 
-unequal : (a b : ℕ) (c : Bool) → (a == b) ≡ c → a ≢ b → c ≡ false
-unequal a b true e other = absurd (other (eq_is a b e))
-unequal a b false e other = refl
-
-pub apart_test : (a b : ℕ) → a ≢ b → (a == b) ≡ false
-apart_test a b other = unequal a b _ refl other
-
 -- whether it has another number
 abbrev pub isnt : ℕ → Issue → Bool
 isnt k i = not (i.number == k)
@@ -93,7 +80,7 @@ others_stay : (k : ℕ) (is : List Issue) → AllAbove k is → filter (isnt k) 
 others_stay k [] a = refl
 others_stay k (i ∷ is) a =
     let other : i.number ≢ k = λ e. omega (arith, a.0, e) in
-    ap (λ b. cond (not b) (i ∷ filter (isnt k) is) (filter (isnt k) is)) (apart_test i.number k other)
+    ap (λ b. cond (not b) (i ∷ filter (isnt k) is) (filter (isnt k) is)) (ne_eqb i.number k other)
     ∙ ap (λ ys. i ∷ ys) (others_stay k is a.1)
 
 pub above_at : (k : ℕ) (older : List Issue) (x : Issue) (newer : List Issue) → AllAbove k (older ++ x ∷ newer) → k < x.number
@@ -104,12 +91,12 @@ above_at k (i ∷ older) x newer a = above_at k older x newer a.1
 pub taken_out : (older : List Issue) (x : Issue) (newer : List Issue) → Rises (older ++ x ∷ newer)
     → filter (isnt x.number) (older ++ x ∷ newer) ≡ older ++ newer
 taken_out [] x newer r =
-    ap (λ b. cond (not b) (x ∷ filter (isnt x.number) newer) (filter (isnt x.number) newer)) (eq_self x.number)
+    ap (λ b. cond (not b) (x ∷ filter (isnt x.number) newer) (filter (isnt x.number) newer)) (eq-eqb x.number x.number refl)
     ∙ others_stay x.number newer r.0
 taken_out (i ∷ older) x newer r =
     let above = above_at i.number older x newer r.0 in
     let other : i.number ≢ x.number = λ e. omega (arith, above, e) in
-    ap (λ b. cond (not b) (i ∷ filter (isnt x.number) (older ++ x ∷ newer)) (filter (isnt x.number) (older ++ x ∷ newer))) (apart_test _ _ other)
+    ap (λ b. cond (not b) (i ∷ filter (isnt x.number) (older ++ x ∷ newer)) (filter (isnt x.number) (older ++ x ∷ newer))) (ne_eqb _ _ other)
     ∙ ap (λ ys. i ∷ ys) (taken_out older x newer r.1)
 
 pub below_at : (k : ℕ) (older : List Issue) (x : Issue) (newer : List Issue) → AllBelow k (older ++ x ∷ newer) → x.number < k
@@ -158,7 +145,7 @@ not_to_by bound barred same false e = refl
 not_to : (bound : Binding) → ((b : Bool) → bound true b ≡ true) → (p : Pending) (ps : List Pending) (c : ℕ) → waits bound (p ∷ ps) c ≡ false
     → (is_to c p ≡ false) × (waits bound ps c ≡ false)
 not_to bound same (Store e) ps c free =
-    let both = or_false _ _ free in (not_to_by bound (has_bar ps) same (e.cell == c) both.0, both.1)
+    let both = or_parts _ _ free in (not_to_by bound (has_bar ps) same (e.cell == c) both.0, both.1)
 not_to bound same Bar ps c free = (refl, free)
 
 -- so the oldest store to its cell is one that needn't wait
@@ -166,7 +153,7 @@ pub oldest_is : (bound : Binding) → ((b : Bool) → bound true b ≡ true) →
     → waits bound (whats older) e.cell ≡ false → oldest_to e.cell (older ++ x ∷ newer) ≡ x.number
 oldest_is bound same [] x newer e is free =
     ap (λ p. if is_to e.cell p then x.number else oldest_to e.cell newer) is
-    ∙ ap (λ b. if b then x.number else oldest_to e.cell newer) (eq_self e.cell)
+    ∙ ap (λ b. if b then x.number else oldest_to e.cell newer) (eq-eqb e.cell e.cell refl)
 oldest_is bound same (i ∷ older) x newer e is free =
     let f = not_to bound same i.what (whats older) e.cell free in
     ap (λ b. if b then i.number else oldest_to e.cell (older ++ x ∷ newer)) f.0 ∙ oldest_is bound same older x newer e is f.1

@@ -1,22 +1,22 @@
 -- What a thread has pending, by what it issued and what has drained.
-use Rattle.std.proofs.Common.{◌≡◌, ◌↔◌, ◌∙◌, inl, inr, ℕ, ◌==◌, ℤ, Bool, true, false, not, ◌&&◌, cond, List, [], ◌∷◌, Option, Some, None}
+use Rattle.std.proofs.Common.{◌≡◌, ◌↔◌, ◌∙◌, inl, inr, ℕ, ◌==◌, ℤ, Bool, true, false, not, ◌&&◌, cond, List, [], ◌∷◌, Some, None}
 use Rattle.std.proofs.Common.{refl, sym, ap, subst}
 use Rattle.std.specs.Option.{option_or}
 use Rattle.std.specs.List.{filter, filter_map, cons_option, last_or}
-use Rattle.std.proofs.lemmas.Bool.{false≢true}
+use Rattle.std.proofs.lemmas.Bool.{false≢true, and_parts, true_from_ne_false}
 use Rattle.std.proofs.lemmas.Option.{none-some, cond_some}
 use Rattle.tc_base.specs.Names.{Name}
+use Rattle.tc_base.proofs.Options.{or_none}
 use Rattle.tc_base.specs.Buffers.{Entry, newest, is_nil}
 use Rattle.tc_base.specs.declared.request.Request.TheVariants.{Silent, Write, Bar}
 use Rattle.store_buffers.specs.Pending.{Pending, Store, Bar as barred, stores}
 use Rattle.run_history.specs.History.{Deed, Did, Drained, Issue, same, issue_of, has_drained, pending_issues, pending}
 use Rattle.run_history.specs.Last.{IsLast}
 use Rattle.run_history.proofs.Last.{cons_last, last_is}
-use Rattle.run_laws.proofs.Basics.{first}
 use Rattle.run_pending.specs.Deeds.{IsIssuedIn, own_value}
 use Rattle.run_pending.proofs.Issues.{whats}
 use Rattle.run_pending.proofs.Apart.{a_store, is_issued}
-use Rattle.run_pending.proofs.In.{In, in_split, from_filter, from_mapped}
+use Rattle.run_pending.proofs.In.{In, from_filter, from_mapped}
 use Rattle.run_pending.proofs.Turns.{store_pending}
 
 -- stores among what is pending
@@ -42,7 +42,7 @@ no_store (x ∷ is) none = no_store_by x is (no_store is (λ k e i. none k e (in
 -- a store is issued only where there are buffers
 issues_by : (b : Bool) (n : Name) (d : Deed) (k : ℕ) (e : Entry) → issue_of b n d ≡ Some (a_store k e) → b ≡ true
 issues_by b n (Did q j (Write c w) took other) k e is =
-    first b (same n q) (cond_some (b && same n q) (a_store j (record { cell = c; value = w })) (a_store k e) is).0
+    (and_parts b (same n q) (cond_some (b && same n q) (a_store j (record { cell = c; value = w })) (a_store k e) is).0).0
 issues_by b n (Did q j Bar took other) k e is =
     let may = cond_some (same n q) (record { number = j; what = barred }) (a_store k e) is in
     let no : barred ≡ Store e = ap (λ (i : Issue). i.what) may.1 in
@@ -51,33 +51,24 @@ issues_by b n (Did q j Silent took other) k e is = absurd (none-some _ is)
 issues_by b n (Did q j r took other) k e is = absurd (none-some _ is)
 issues_by b n (Drained q j c w) k e is = absurd (none-some _ is)
 
-has_or_not : (b : Bool) → (b ≡ false → ⊥) → b ≡ true
-has_or_not true never = refl
-has_or_not false never = absurd (never refl)
-
 -- no store is pending exactly where each that was issued has drained
 pub stores_have_drained : (buffered : Bool) (h : List Deed) (n : Name)
     → (is_nil (stores (pending buffered h n)) ≡ true)
     ↔ (buffered ≡ true → (k c : ℕ) (v : ℤ) → IsIssuedIn h n k c v → has_drained h n k ≡ true)
 stores_have_drained buffered h n = (
   λ nil has k c v issued.
-      has_or_not (has_drained h n k) (λ none.
+      true_from_ne_false (has_drained h n k) (λ none.
       store_among (pending_issues true h n) k (record { cell = c; value = v }) (store_pending h n k c v issued none)
       (subst (λ b. is_nil (stores (pending b h n)) ≡ true) has nil)),
   λ all.
       no_store (pending_issues buffered h n) (λ k e i.
-      let s = in_split (a_store k e) (pending_issues buffered h n) i in
-      let of = is_issued buffered h n s.older s.newer (a_store k e) e s.there refl in
+      let of = is_issued buffered h n (a_store k e) e i refl in
       let kept = from_filter (λ i. not (has_drained h n i.number)) (a_store k e) (filter_map (issue_of buffered n) h) i in
       let from = from_mapped (issue_of buffered n) (a_store k e) h kept.0 in
       false≢true (sym of.pending ∙ all (issues_by buffered n from.of k e from.gives) k e.cell e.value of.issued)),
 )
 
 -- the newest of what is pending is the last that was issued and hasn't drained
-or_none : {A : Type 0} (o : Option A) → option_or o None ≡ o
-or_none None = refl
-or_none (Some x) = refl
-
 module _ (p : Issue → Bool) (k x : ℕ) (v : ℤ) (is : List Issue) (vs : List ℤ) (c : ℕ) (rest : newest (stores (whats (filter p is))) c ≡ last_or None vs) where
   abbrev I : Issue
   I = a_store k (record { cell = x; value = v })

@@ -1,24 +1,21 @@
 -- Whose turn it is to drain, by what was issued and has drained.
-use Rattle.std.proofs.Common.{◌≡◌, ◌∙◌, ◌⊎◌, inl, inr, ℕ, ◌<◌, ◌==◌, ℤ, Bool, true, false, not, ◌||◌, ◌&&◌, nat_lt, List, [], ◌∷◌, ◌++◌}
-use Rattle.std.proofs.Common.{Option, Some, None, refl, sym, ap, ap₂, subst, arith, append_assoc, if◌then◌else◌}
+use Rattle.std.proofs.Common.{◌≡◌, ◌∙◌, ◌⊎◌, inl, inr, ℕ, ◌<◌, ◌==◌, ℤ, true, false, not, ◌||◌, ◌&&◌, nat_lt, List, [], ◌∷◌, ◌++◌}
+use Rattle.std.proofs.Common.{Option, Some, None, refl, sym, ap, ap₂, subst, arith, if◌then◌else◌}
 use Rattle.std.specs.List.{filter_map}
-use Rattle.std.proofs.lemmas.Bool.{false≢true}
+use Rattle.std.specs.Cmp.{both_ways}
+use Rattle.std.proofs.lemmas.Bool.{false≢true, and_parts, or_parts, not_from_false, false_from_ne_true, eqb-true}
 use Rattle.std.proofs.lemmas.Bool.Decides.{nat_tests}
 use Rattle.std.proofs.lemmas.Option.{none-some, cond_some}
 use Rattle.tc_base.specs.Names.{Name}
 use Rattle.tc_base.specs.Buffers.{Entry}
 use Rattle.tc_base.specs.declared.request.Request.TheVariants.{Silent, Write, Bar}
 use Rattle.store_buffers.specs.Pending.{Pending, Store, Bar as barred, has_bar, Binding, waits}
-use Rattle.store_buffers.specs.Proved.Lists.{or_false}
-use Rattle.store_buffers.specs.Proved.Segments.{eq_is}
-use Rattle.run_laws.proofs.Basics.{first, second}
+use Rattle.run_laws.proofs.Names.{same_self, is_same}
 use Rattle.run_history.specs.History.{Deed, Did, Drained, Issue, same, issue_of, drains, has_drained, pending_issues}
-use Rattle.run_history.proofs.Threads.{same_self}
 use Rattle.run_pending.specs.Deeds.{IsIssuedIn, is_bar_between, has_bar_between, MayDrainNext}
 use Rattle.run_pending.proofs.Issues.{AllAbove, Rises, above_at, whats}
-use Rattle.run_pending.proofs.Buffers.{is_same}
-use Rattle.run_pending.proofs.Apart.{StoodAt, a_store, is_issued, Named}
-use Rattle.run_pending.proofs.In.{Passes, In, in_append, in_left, in_right, in_at, in_split, in_filter, from_filter}
+use Rattle.run_pending.proofs.Apart.{a_store, is_issued, Named}
+use Rattle.run_pending.proofs.In.{StoodAt, Passes, In, in_append, in_left, in_right, in_at, in_split, in_filter, from_filter}
 use Rattle.run_pending.proofs.In.{in_mapped, from_mapped, any_in, in_any, one_of_name}
 
 -- numbers that rise tell which is before
@@ -121,23 +118,11 @@ is_bar n (Did q j Silent took other) k is = absurd (none-some _ is)
 is_bar n (Did q j r took other) k is = absurd (none-some _ is)
 is_bar n (Drained q j c w) k is = absurd (none-some _ is)
 
-both_ways : (a b : Bool) → (a ≡ true → b ≡ true) → (b ≡ true → a ≡ true) → a ≡ b
-both_ways true b f g = sym (f refl)
-both_ways false true f g = g refl
-both_ways false false f g = refl
-
 below_true : (a b : ℕ) → a < b → nat_lt a b ≡ true
 below_true a b l = grind (arith, nat_tests)
 
 true_below : (a b : ℕ) → nat_lt a b ≡ true → a < b
 true_below a b e = grind (arith, nat_tests)
-
-not_drained : (b : Bool) → b ≡ false → not b ≡ true
-not_drained b e = ap not e
-
-unless_true : (b : Bool) → (b ≡ true → ⊥) → b ≡ false
-unless_true true f = absurd (f refl)
-unless_true false f = refl
 
 -- what a deed drains
 record IsDrain (d : Deed) (n : Name) (k : ℕ) : Type 0 where
@@ -150,8 +135,8 @@ is_drain n k (Drained q j c v) e = record {
   cell = c;
   value = v;
   is =
-      ap (λ m. Drained m j c v) (sym (is_same n q (first (same n q) (k == j) e)))
-      ∙ ap (λ m. Drained n m c v) (sym (eq_is k j (second (same n q) (k == j) e)));
+      let both = and_parts (same n q) (k == j) e in
+      ap (λ m. Drained m j c v) (sym (is_same n q both.0)) ∙ ap (λ m. Drained n m c v) (sym (eqb-true k j both.1));
 }
 is_drain n k (Did q j r v o) e = absurd (false≢true e)
 
@@ -166,7 +151,7 @@ module _ (h : List Deed) (n : Name) where
       in_filter (λ i. not (has_drained h n i.number)) (a_store k (record { cell = c; value = v })) (filter_map (issue_of true n) h)
       (in_mapped (issue_of true n) (Did n k (Write c v) i.took i.other) (a_store k (record { cell = c; value = v })) h (issued_in k c v i)
       (ap (λ b. if b then Some (a_store k (record { cell = c; value = v })) else None) (same_self n n refl)))
-      (not_drained _ none)
+      (not_from_false _ none)
 
 module _ (h : List Deed) (n : Name) (named : Named h) (rises : Rises (pending_issues true h n)) where
   -- a store that was issued before something is in the history
@@ -194,13 +179,13 @@ module _ (h : List Deed) (n : Name) (named : Named h) (rises : Rises (pending_is
 
   -- a bar never drains
   bar_stays : (k : ℕ) (v : ℤ) (o : Option Name) → In (Did n k Bar v o) h → has_drained h n k ≡ false
-  bar_stays k v o i = unless_true (has_drained h n k) (λ drained. bar_never_drains k v o i (any_in (drains n k) h drained))
+  bar_stays k v o i = false_from_ne_true (has_drained h n k) (λ drained. bar_never_drains k v o i (any_in (drains n k) h drained))
 
   bar_pending : (k : ℕ) (v : ℤ) (o : Option Name) → In (Did n k Bar v o) h → In (a_bar k) (pending_issues true h n)
   bar_pending k v o i =
       in_filter (λ i. not (has_drained h n i.number)) (a_bar k) (filter_map (issue_of true n) h)
       (in_mapped (issue_of true n) (Did n k Bar v o) (a_bar k) h i (ap (λ b. if b then Some (a_bar k) else None) (same_self n n refl)))
-      (not_drained _ (bar_stays k v o i))
+      (not_from_false _ (bar_stays k v o i))
 
   -- where two of what is pending stand, a bar stands between them where the thread put one in between their steps
   module _ (o₁ : List Issue) (j d : ℕ) (w : ℤ) (o₂ : List Issue) (k c : ℕ) (v : ℤ) (newer : List Issue)
@@ -234,9 +219,11 @@ module _ (h : List Deed) (n : Name) (named : Named h) (rises : Rises (pending_is
 
     between : (e : Deed) → In e h → is_bar_between n j k e ≡ true → has_bar (whats o₂) ≡ true
     between (Did q i Bar took other) there e =
-        let mine = is_same n q (first (same n q) (nat_lt j i) (first (same n q && nat_lt j i) (nat_lt i k) e)) in
-        let more = true_below j i (second (same n q) (nat_lt j i) (first (same n q && nat_lt j i) (nat_lt i k) e)) in
-        let less = true_below i k (second (same n q && nat_lt j i) (nat_lt i k) e) in
+        let parts = and_parts (same n q && nat_lt j i) (nat_lt i k) e in
+        let first = and_parts (same n q) (nat_lt j i) parts.0 in
+        let mine = is_same n q first.0 in
+        let more = true_below j i first.1 in
+        let less = true_below i k parts.1 in
         let pending = subst (In (a_bar i)) split
         (bar_pending i took other (subst (λ m. In (Did m i Bar took other) h) (sym mine) there)) in
         let older = before_at (o₁ ++ J ∷ o₂) K newer (a_bar i) rise pending less in
@@ -252,11 +239,11 @@ module _ (h : List Deed) (n : Name) (named : Named h) (rises : Rises (pending_is
   -- what waits for none of these isn't bound behind any of them
   free_at : (bound : Binding) (o₁ : List Issue) (j : ℕ) (e : Entry) (o₂ : List Issue) (c : ℕ) → waits bound (whats (o₁ ++ a_store j e ∷ o₂)) c ≡ false
       → bound (e.cell == c) (has_bar (whats o₂)) ≡ false
-  free_at bound [] j e o₂ c free = (or_false _ _ free).0
+  free_at bound [] j e o₂ c free = (or_parts _ _ free).0
   free_at bound (i ∷ o₁) j e o₂ c free = free_at bound o₁ j e o₂ c (waits_behind bound i.what (whats (o₁ ++ a_store j e ∷ o₂)) c free)
     where
       waits_behind : (bound : Binding) (p : Pending) (ps : List Pending) (c : ℕ) → waits bound (p ∷ ps) c ≡ false → waits bound ps c ≡ false
-      waits_behind bound (Store e) ps c free = (or_false _ _ free).1
+      waits_behind bound (Store e) ps c free = (or_parts _ _ free).1
       waits_behind bound barred ps c free = free
 
   -- so a pending store that waits for no older one is the next, by the steps
@@ -265,7 +252,7 @@ module _ (h : List Deed) (n : Name) (named : Named h) (rises : Rises (pending_is
       → MayDrainNext bound h n k c v
   next_by_steps bound older newer k c v there free =
       let K = a_store k (record { cell = c; value = v }) in
-      let of = is_issued true h n older newer K (record { cell = c; value = v }) there refl in
+      let of = is_issued true h n K (record { cell = c; value = v }) (subst (In K) (sym there) (in_at older K newer)) refl in
       record {
         issued = of.issued;
         pending = of.pending;
@@ -300,7 +287,8 @@ module _ (h : List Deed) (n : Name) (named : Named h) (rises : Rises (pending_is
         free_by bound c s.older (λ o₁ j e o₂ at.
             let J = a_store j e in
             let split = s.there ∙ ap (λ os. os ++ K ∷ s.newer) at in
-            let of = is_issued true h n o₁ (o₂ ++ K ∷ s.newer) J e (split ∙ append_assoc o₁ (J ∷ o₂) (K ∷ s.newer)) refl in
-            let less = older_less s.older K s.newer J (subst Rises s.there rises) (subst (In J) (sym at) (in_at o₁ J o₂)) in
+            let older = subst (In J) (sym at) (in_at o₁ J o₂) in
+            let of = is_issued true h n J e (subst (In J) (sym s.there) (in_left J s.older (K ∷ s.newer) older)) refl in
+            let less = older_less s.older K s.newer J (subst Rises s.there rises) older in
             ap (bound (e.cell == c)) (same_bars o₁ j e.cell e.value o₂ k c v s.newer split) ∙ m.is_free j e.cell e.value of.issued of.pending less),
       )

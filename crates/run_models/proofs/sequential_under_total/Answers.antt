@@ -2,8 +2,8 @@ use Rattle.std.proofs.Common.{refl}
 use Rattle.tc_base.specs.Buffers.{no_buffer, fifo_buffer}
 use Rattle.tc_base.specs.declared.model.Model.TheVariants.{Sc, Tso}
 use Rattle.store_buffers.specs.Pending.{binds_all}
-use Rattle.store_buffers.specs.Proved.Sequential.{sc_laws}
-use Rattle.store_buffers.specs.Proved.Total.{tso_laws}
+use Rattle.store_buffers.specs.helpers.Sequential.{sc_laws}
+use Rattle.store_buffers.specs.helpers.Total.{tso_laws}
 use Rattle.run_models.specs.Models.{AllowsMore}
 use Rattle.run_models.proofs.Simulation.{reproduces_under_more}
 use Rattle.run_models.proofs.sequential_under_total.Goals as goal

@@ -2,8 +2,8 @@ use Rattle.std.proofs.Common.{refl}
 use Rattle.tc_base.specs.Buffers.{fifo_buffer, cell_buffer}
 use Rattle.tc_base.specs.declared.model.Model.TheVariants.{Tso, Pso}
 use Rattle.store_buffers.specs.Pending.{binds_all, binds_cells}
-use Rattle.store_buffers.specs.Proved.Partial.{pso_laws}
-use Rattle.store_buffers.specs.Proved.Total.{tso_laws}
+use Rattle.store_buffers.specs.helpers.Partial.{pso_laws}
+use Rattle.store_buffers.specs.helpers.Total.{tso_laws}
 use Rattle.run_models.specs.Models.{AllowsMore}
 use Rattle.run_models.proofs.Simulation.{reproduces_under_more}
 use Rattle.run_models.proofs.total_under_partial.Goals as goal
