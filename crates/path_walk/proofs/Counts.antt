@@ -1,7 +1,8 @@
 -- The operators of a function's instructions.
 use Rattle.std.proofs.Common.{◌≡◌, ℕ, zero, suc, List, [], ◌∷◌, map, refl}
 use Rattle.std.specs.Prelude.{slice_get, slice_index_or, unwrap_or}
-use Rattle.tc_code.specs.Instr.{Instr, Exit}
+use Rattle.tc_code.specs.declared.instr.Instr.{Instr}
+use Rattle.tc_code.specs.declared.instr.Instr.TheVariants.{Exit}
 use Rattle.path_walk.specs.Events.{operators_of}
 use Rattle.path_walk.specs.Paths.{counted}
 

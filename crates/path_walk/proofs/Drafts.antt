@@ -1,5 +1,6 @@
 -- The threads of a log, told one after another.
-use Rattle.std.proofs.Common.{◌≡◌, ◌∙◌, ◌⊎◌, inl, inr, ℕ, zero, suc, ◌+◌, ◌-◌, ◌≤◌, ◌<◌, Bool, true, false, cond, ◌||◌, List, [], ◌∷◌, ◌++◌, length, map, take, get_or, slice_index, sum, ◌==◌}
+use Rattle.std.proofs.Common.{◌≡◌, ◌∙◌, ◌⊎◌, inl, inr, ℕ, zero, suc, ◌+◌, ◌-◌, ◌≤◌, ◌<◌, Bool, true, false, cond, ◌||◌}
+use Rattle.std.proofs.Common.{List, [], ◌∷◌, ◌++◌, length, map, take, drop, get_or, slice_index, sum, ◌==◌}
 use Rattle.std.proofs.Common.{IsSome, Option, Some, None, Result, Ok, Err, refl, sym, ap, ap₂, subst, arith, true≢false, bytes_eq}
 use Rattle.std.specs.Prelude.{is_some, option_and_then, slice_get, unwrap_or, IfSome, IfOk, OnOk, IfErr}
 use Rattle.std.specs.List.{list_any}
@@ -7,34 +8,29 @@ use Rattle.std.specs.Option.{option_map_or}
 use Rattle.std.specs.Ordering.{is_lt}
 use Rattle.std.specs.Result.{result_err, result_unwrap_or}
 use Rattle.std.specs.declared.cmp.Ordering.TheVariants.{Less}
-use Rattle.std.proofs.lemmas.List.{map-append, length-append, length-take}
+use Rattle.std.proofs.Math.Seq.{take-length}
+use Rattle.std.proofs.lemmas.List.{map-append, length-append, length-take, take-append-drop, drop_more, get_or_default}
 use Rattle.std.proofs.lemmas.Bool.{cases_lt, eqb-true}
 use Rattle.std.proofs.lemmas.List.Sums.{fold-append}
 use Rattle.std.proofs.lemmas.Option.{none-some}
-use Rattle.tc_base.specs.Names.{Name, child}
+use Rattle.tc_base.specs.Names.{Name, child, by_name}
 use Rattle.tc_base.specs.Logs.{Log, Path, ThreadPath, failing_of, path_under}
 use Rattle.tc_code.specs.Code.{Code}
 use Rattle.path_log.specs.Texts.{rises_from}
 use Rattle.path_walk.specs.Steps.{steps_at, places_of}
-use Rattle.path_walk.specs.Fits.{started, fails_in, places_in, child_function, function_of, misfit_of, IsFirst, IsFault, fault_of, Fits}
+use Rattle.path_walk.specs.Fits.{started, fails_in, places_in, child_function, function_of, misfit_of, IsFault, Fits}
 use Rattle.path_walk.specs.Paths.{Walk, walk_of, function_in, steps_in, operators_in, is_dead, counted, Paths, paths_of}
-use Rattle.path_walk.specs.Helpers.{Draft, Course, course_by, mapped, IsMissing, IsAtLeast, IsAbsentChild, IsFirstAbsent, IsNext, IsDraft, first_fault, least}
-use Rattle.path_walk.specs.Helpers.{added, no_draft, started_at, paths_by, finished, finished_by}
+use Rattle.path_walk.specs.helpers.Accounts.{Account, account_by, mapped}
+use Rattle.path_walk.specs.helpers.Drafts.{Draft, IsMissing, IsAtLeast, IsAbsentChild, IsFirstAbsent, IsNext, IsDraft, first_fault, least}
+use Rattle.path_walk.specs.helpers.Drafts.{added, no_draft, started_at, paths_by, finished, finished_by}
 use Rattle.path_walk.specs.declared.fault.Misfit.{Misfit}
 use Rattle.path_walk.specs.declared.fault.Misfit.TheVariants as misfit
 use Rattle.path_walk.specs.declared.fault.WalkFault.{WalkFault}
-use Rattle.path_walk.specs.declared.fault.WalkFault.TheVariants as fault
-use Rattle.path_walk.proofs.Names.{by_name, between, less_true, up_to, child_is_above, later_child, same_true, same_refl, own_path, lesser_is_older, none_under}
-use Rattle.path_walk.proofs.Faults.{option_is, there, not_there, HasParent, parent_of, function_of_child, walked_there, no_child, missing, nobody, stranger, by_path, fitting}
-
--- a fault with its name is told
-is_fault : (code : Code) (log : Log) (n : Name) (m : Misfit) → IsFirst code log n m → IsFault code log (fault_of n m)
-is_fault code log n misfit.Missing f = (n, misfit.Missing, f, refl)
-is_fault code log n misfit.Stranger f = (n, misfit.Stranger, f, refl)
-is_fault code log n misfit.OutcomesShort f = (n, misfit.OutcomesShort, f, refl)
-is_fault code log n misfit.OutcomesLeft f = (n, misfit.OutcomesLeft, f, refl)
-is_fault code log n misfit.PastExit f = (n, misfit.PastExit, f, refl)
-is_fault code log n misfit.NotASite f = (n, misfit.NotASite, f, refl)
+use Rattle.path_walk.specs.declared.fault.WalkFault.TheVariants.{Unfit}
+use Rattle.tc_base.proofs.Names.{between, less_true, up_to, child_is_above, later_child, same_true, same_refl}
+use Rattle.path_log.proofs.Rising.{own_path, lesser_is_older, none_under}
+use Rattle.path_walk.proofs.Faults.{option_is, there, not_there, HasParent, parent_of, function_of_child, walked_there, no_child, missing, nobody}
+use Rattle.path_walk.proofs.Faults.{stranger, by_path, fitting}
 
 -- whether a thread is the one that failed
 pub fails_is : (log : Log) (n m x y : Name) → failing_of log ≡ Some m → x ≡ n → y ≡ m → bytes_eq x y ≡ fails_in log n
@@ -51,23 +47,19 @@ mapped_err f (Err d) e h = cc
 
 -- a list up to a place, the element there, and the rest
 pub split_at : {X : Type 0} (xs : List X) (k : ℕ) (x : X) → k < length xs → x ≡ get_or xs k x → (newer : List X) × (xs ≡ take k xs ++ x ∷ newer)
-split_at [] k x lt e = absurd (omega arith)
-split_at (y ∷ xs) zero x lt e = (xs, ap (λ z. z ∷ xs) (sym e))
-split_at (y ∷ xs) (suc k) x lt e = let rest = split_at xs k x (omega arith) e in (rest.0, ap (λ ys. y ∷ ys) rest.1)
-
--- what stands at a place within a list is the same, whatever stands for what isn't there
-same_at : {X : Type 0} (xs : List X) (k : ℕ) (d e : X) → k < length xs → get_or xs k d ≡ get_or xs k e
-same_at [] k d e lt = absurd (omega arith)
-same_at (x ∷ xs) zero d e lt = refl
-same_at (x ∷ xs) (suc k) d e lt = same_at xs k d e (omega arith)
+split_at xs k x lt e = (
+  drop (k + 1) xs,
+  sym (take-append-drop k xs) ∙ ap (λ ys. take k xs ++ ys) (drop_more xs k x lt) ∙ ap (λ y. take k xs ++ y ∷ drop (k + 1) xs) (sym e),
+)
 
 -- the last number of a name, and those before it
 pub take_last : (xs : List ℕ) → 0 < length xs → xs ≡ take (length xs - 1) xs ++ slice_index xs (length xs - 1) ∷ []
 take_last xs some =
     let parts = split_at xs (length xs - 1) (slice_index xs (length xs - 1)) (omega arith)
-    (same_at xs (length xs - 1) 0 (slice_index xs (length xs - 1)) (omega arith)) in
+    (get_or_default xs (length xs - 1) 0 (slice_index xs (length xs - 1)) (omega arith)) in
     let last : length (take (length xs - 1) xs) ≡ length xs - 1 = length-take (length xs - 1) xs ∙ omega arith in
-    parts.1 ∙ ap (λ ys. take (length xs - 1) xs ++ slice_index xs (length xs - 1) ∷ ys) (none_left parts.0 (omega (arith, ap length parts.1, last, length-append (take (length xs - 1) xs) (slice_index xs (length xs - 1) ∷ parts.0))))
+    let long = length-append (take (length xs - 1) xs) (slice_index xs (length xs - 1) ∷ parts.0) in
+    parts.1 ∙ ap (λ ys. take (length xs - 1) xs ++ slice_index xs (length xs - 1) ∷ ys) (none_left parts.0 (omega (arith, ap length parts.1, last, long)))
   where
     none_left : (ys : List ℕ) → length ys ≡ 0 → ys ≡ []
     none_left [] h = refl
@@ -104,7 +96,8 @@ under_more : (n : Name) (ts us : List ThreadPath) → IsSome (path_under n ts) �
 under_more n [] us h = absurd (true≢false (sym h))
 under_more n (o ∷ ts) us h = by (bytes_eq n o.name) (λ g. under_more n ts us g) h
   where
-    by : (b : Bool) → (IsSome (path_under n ts) → IsSome (path_under n (ts ++ us))) → IsSome (cond b (Some o.path) (path_under n ts)) → IsSome (cond b (Some o.path) (path_under n (ts ++ us)))
+    by : (b : Bool) → (IsSome (path_under n ts) → IsSome (path_under n (ts ++ us))) → IsSome (cond b (Some o.path) (path_under n ts))
+        → IsSome (cond b (Some o.path) (path_under n (ts ++ us)))
     by true rest h = refl
     by false rest h = rest h
 
@@ -209,10 +202,6 @@ any_push p (o ∷ ts) t = by (p o) (any_push p ts t)
 counted_sum : (a b : ℕ) → counted (counted a + counted b) ≡ counted (a + b)
 counted_sum a b = omega arith
 
-take_whole : {X : Type 0} (xs : List X) → take (length xs) xs ≡ xs
-take_whole [] = refl
-take_whole (x ∷ xs) = ap (λ ys. x ∷ ys) (take_whole xs)
-
 -- the first child that isn't in the log
 pub first_found : (log : Log) (parent : Name) (k count : ℕ) (n : Name) → k < count → n ≡ child parent (k + 1) → is_some (path_under n log.threads) ≡ false
     → ((j : ℕ) → j < k → IsSome (path_under (child parent (j + 1)) log.threads)) → IsFirstAbsent log parent count (Some n)
@@ -230,6 +219,17 @@ first_found log parent k count n within name absent before = record {
     by j none (inr le) = subst (λ m. is_lt (by_name (child parent (j + 1)) m) ≡ false) (sym name) (later_child parent (j + 1) (k + 1) (omega arith))
 
 module _ (code : Code) (log : Log) where
+  -- what is missing among some threads is missing among others that have the parent
+  missing_among : (ts us : List ThreadPath) (n : Name) (is : IsMissing code log ts n) → IsSome (path_under is.parent us) → IsMissing code log us n
+  missing_among ts us n is within = record {
+    parent = is.parent;
+    number = is.number;
+    name = is.name;
+    within = within;
+    created = is.created;
+    absent = is.absent;
+  }
+
   -- nothing is wrong with a name that isn't missing, where the paths of the names up to it are told
   clear : (ts : List ThreadPath) → ((n : Name) → IsSome (path_under n ts) → misfit_of code log n ≡ None) → IsSome (path_under [] log.threads)
       → (r : Name) → ((p : Name) → (p ≡ r) ⊎ (by_name p r ≡ Less) → IsSome (path_under p log.threads) → IsSome (path_under p ts))
@@ -276,20 +276,18 @@ module _ (code : Code) (log : Log) where
       → (o : Option Name) → IfSome o (IsMissing code log ts) → ((r : Name) → IsMissing code log ts r → IsAtLeast o r)
       → IsFault code log (first_fault o n m)
   first_by ts n m at clears None missing least =
-      is_fault code log n m (record { there = at; least = λ r less. clears r (less_true _ less) (λ is. least r is) })
+      record { there = at; least = λ r less. clears r (less_true _ less) (λ is. least r is) }
   first_by ts n m at clears (Some q) missing least = by (is_lt (by_name q n)) refl
     where
-      by : (b : Bool) → is_lt (by_name q n) ≡ b → IsFault code log (cond b (fault.Missing q) (fault_of n m))
-      by true e =
-          is_fault code log q misfit.Missing (record {
-            there = missing_fault ts q missing;
-            least = λ r less. clears r (between r q n (less_true _ less) (less_true _ e)) (λ is. true≢false (sym less ∙ least r is));
-          })
-      by false e =
-          is_fault code log n m (record {
-            there = at;
-            least = λ r less. clears r (less_true _ less) (λ is. true≢false (sym (ap is_lt (up_to r n q (less_true _ less) e)) ∙ least r is));
-          })
+      by : (b : Bool) → is_lt (by_name q n) ≡ b → IsFault code log (cond b (Unfit q misfit.Missing) (Unfit n m))
+      by true e = record {
+        there = missing_fault ts q missing;
+        least = λ r less. clears r (between r q n (less_true _ less) (less_true _ e)) (λ is. true≢false (sym less ∙ least r is));
+      }
+      by false e = record {
+        there = at;
+        least = λ r less. clears r (less_true _ less) (λ is. true≢false (sym (ap is_lt (up_to r n q (less_true _ less) e)) ∙ least r is));
+      }
 
   module _ (d : Draft) (t : ThreadPath) (draft : IsDraft code log d) (next : IsNext log (length d.threads) t) where
     abbrev done : List ThreadPath
@@ -335,7 +333,8 @@ module _ (code : Code) (log : Log) where
         by_walk found =
             let x = found.0 in
             let name : p ≡ x.name = same_true p w.name same ∙ ap (λ (v : Walk). v.name) (sym found.2) in
-            let at : slice_get d.started i ≡ Some (started (steps_in code log x)) = ap (λ fs. slice_get fs i) draft.started ∙ get_map (λ (y : ThreadPath). started (steps_in code log y)) done i x found.1 in
+            let at : slice_get d.started i ≡ Some (started (steps_in code log x)) =
+            ap (λ fs. slice_get fs i) draft.started ∙ get_map (λ (y : ThreadPath). started (steps_in code log y)) done i x found.1 in
             let fits = draft.fit x.name (under_own done i x found.1) in
             by_path_of x name at fits
             (subst IsSome (sym (ap (path_under x.name) split)) (under_more x.name done (t ∷ later) (under_own done i x found.1)))
@@ -367,7 +366,8 @@ module _ (code : Code) (log : Log) where
     none_named p [] h = refl
     none_named p (o ∷ ts) h = by (bytes_eq p o.name) (λ g. none_named p ts g) h
       where
-        by : (b : Bool) → (list_any (λ (w : Walk). bytes_eq p w.name) (map (walk_of code log) ts) ≡ false → path_under p ts ≡ None) → b || list_any (λ (w : Walk). bytes_eq p w.name) (map (walk_of code log) ts) ≡ false → cond b (Some o.path) (path_under p ts) ≡ None
+        by : (b : Bool) → (list_any (λ (w : Walk). bytes_eq p w.name) (map (walk_of code log) ts) ≡ false → path_under p ts ≡ None)
+            → b || list_any (λ (w : Walk). bytes_eq p w.name) (map (walk_of code log) ts) ≡ false → cond b (Some o.path) (path_under p ts) ≡ None
         by true rest h = absurd (true≢false h)
         by false rest h = rest h
 
@@ -397,11 +397,11 @@ module _ (code : Code) (log : Log) where
           ap (λ g. steps_at code g (places_in code log t.name g)) function_is
           ∙ ap (steps_at code f) (walked_is f refl)
 
-      course_is : course_by code (fails_in log t.name) t (function_in code log t) (places_in code log t.name (function_in code log t))
-          ≡ course_by code (fails_in log t.name) t f ps
-      course_is =
-          ap (λ g. course_by code (fails_in log t.name) t g (places_in code log t.name g)) function_is
-          ∙ ap (course_by code (fails_in log t.name) t f) (walked_is f refl)
+      account_is : account_by code (fails_in log t.name) t (function_in code log t) (places_in code log t.name (function_in code log t))
+          ≡ account_by code (fails_in log t.name) t f ps
+      account_is =
+          ap (λ g. account_by code (fails_in log t.name) t g (places_in code log t.name g)) function_is
+          ∙ ap (account_by code (fails_in log t.name) t f) (walked_is f refl)
 
       own_fits : misfit_of code log t.name ≡ None
       own_fits = by_path code log t.name f t.path e next_path ∙ ap result_err fits
@@ -424,7 +424,7 @@ module _ (code : Code) (log : Log) where
         with_it = done ++ t ∷ []
 
         missing_more : (n : Name) → IsMissing code log done n → IsMissing code log with_it n
-        missing_more n is = record { parent = is.parent; number = is.number; name = is.name; within = under_more is.parent done (t ∷ []) is.within; created = is.created; absent = is.absent }
+        missing_more n is = missing_among done with_it n is (under_more is.parent done (t ∷ []) is.within)
 
         missing_own : (n : Name) → IsAbsentChild log t.name (length children) n → IsMissing code log with_it n
         missing_own n is =
@@ -451,7 +451,7 @@ module _ (code : Code) (log : Log) where
         least_more : (n : Name) → IsMissing code log with_it n → IsAtLeast (least d.missing found) n
         least_more n is =
             elim (under_both is.parent done t is.within) [
-              | inl old ↦ least_left d.missing found n (draft.least n (record { parent = is.parent; number = is.number; name = is.name; within = old; created = is.created; absent = is.absent }))
+              | inl old ↦ least_left d.missing found n (draft.least n (missing_among with_it done n is old))
               | inr own ↦ least_right d.missing found n
                   (own_least is.number n (is.name ∙ ap (λ p. child p is.number) own) is.created is.absent)
             ]
@@ -467,47 +467,48 @@ module _ (code : Code) (log : Log) where
         missing_both =
             least_is (IsMissing code log with_it) d.missing found (if_some d.missing missing_more draft.missing) (if_some found missing_own absent.absent)
 
-        abbrev course : Course
-        course = course_by code (fails_in log t.name) t f ps
+        abbrev account : Account
+        account = account_by code (fails_in log t.name) t f ps
 
-        longer : length (d.threads ++ course.walk ∷ []) ≡ suc (length d.threads)
-        longer = omega (arith, length-append d.threads (course.walk ∷ []))
+        longer : length (d.threads ++ account.walk ∷ []) ≡ suc (length d.threads)
+        longer = omega (arith, length-append d.threads (account.walk ∷ []))
 
-        with_next : take (length (d.threads ++ course.walk ∷ [])) log.threads ≡ with_it
+        with_next : take (length (d.threads ++ account.walk ∷ [])) log.threads ≡ with_it
         with_next = ap (λ n. take n log.threads) longer ∙ take_next log.threads (length d.threads) t next.within next.there
 
         pushed : {Y : Type 0} (g : ThreadPath → Y) (ys : List Y) (y : Y) → ys ≡ map g done → g t ≡ y → ys ++ y ∷ [] ≡ map g with_it
         pushed g ys y is own = ap (λ zs. zs ++ y ∷ []) is ∙ ap (λ z. map g done ++ z ∷ []) (sym own) ∙ sym (map-append g done (t ∷ []))
 
         -- the draft with the thread is one
-        pub is_added : length course.walk.events ≤ 65536 → IsDraft code log (added d course found)
+        pub is_added : length account.walk.events ≤ 65536 → IsDraft code log (added d account found)
         is_added few =
-            let events : length (walk_of code log t).events ≡ length course.walk.events = ap (λ (c : Course). length c.walk.events) course_is in
-            let operators : counted (operators_in code log t) ≡ course.operators = ap (λ (c : Course). c.operators) course_is in
+            let events : length (walk_of code log t).events ≡ length account.walk.events = ap (λ (c : Account). length c.walk.events) account_is in
+            let operators : counted (operators_in code log t) ≡ account.operators = ap (λ (c : Account). c.operators) account_is in
             record {
               rises = draft.rises;
               main = draft.main;
               threads =
-                  pushed (walk_of code log) d.threads course.walk draft.threads (ap (λ (c : Course). c.walk) course_is)
+                  pushed (walk_of code log) d.threads account.walk draft.threads (ap (λ (c : Account). c.walk) account_is)
                   ∙ ap (map (walk_of code log)) (sym with_next);
               started =
-                  pushed (λ (x : ThreadPath). started (steps_in code log x)) d.started course.started draft.started (ap (λ (c : Course). c.started) course_is)
+                  pushed (λ (x : ThreadPath). started (steps_in code log x)) d.started account.started draft.started
+                  (ap (λ (c : Account). c.started) account_is)
                   ∙ ap (map (λ (x : ThreadPath). started (steps_in code log x))) (sym with_next);
               events =
-                  ap (λ n. n + length course.walk.events) draft.events
+                  ap (λ n. n + length account.walk.events) draft.events
                   ∙ ap (λ n. sum (map (λ (x : ThreadPath). length (walk_of code log x).events) done) + n) (sym events)
                   ∙ sym (sum_push (λ (x : ThreadPath). length (walk_of code log x).events) done t)
                   ∙ ap (λ ts. sum (map (λ (x : ThreadPath). length (walk_of code log x).events) ts)) (sym with_next);
               few = let before = draft.few in omega (arith, before, few, longer);
               operators =
-                  ap (λ n. counted (n + course.operators)) draft.operators
+                  ap (λ n. counted (n + account.operators)) draft.operators
                   ∙ ap (λ n. counted (counted (sum (map (operators_in code log) done)) + n)) (sym operators)
                   ∙ counted_sum (sum (map (operators_in code log) done)) (operators_in code log t)
                   ∙ ap counted (sym (sum_push (operators_in code log) done t))
                   ∙ ap (λ ts. counted (sum (map (operators_in code log) ts))) (sym with_next);
               dead =
-                  ap (λ b. b || course.dead) draft.dead
-                  ∙ ap (λ b. list_any (is_dead code log) done || b) (sym (ap (λ (c : Course). c.dead) course_is))
+                  ap (λ b. b || account.dead) draft.dead
+                  ∙ ap (λ b. list_any (is_dead code log) done || b) (sym (ap (λ (c : Account). c.dead) account_is))
                   ∙ sym (any_push (is_dead code log) done t)
                   ∙ ap (list_any (is_dead code log)) (sym with_next);
               fit = λ n h. fit_more n (subst (λ ts. IsSome (path_under n ts)) with_next h);
@@ -531,16 +532,16 @@ module _ (code : Code) (log : Log) where
         own_name m e is (path_fault d t draft next f m (ap (function_of code log) (sym name) ∙ function)
         (ap (λ b. places_of code f b t.path) (ap (fails_in log) (sym name) ∙ sym fail) ∙ err))
 
-    pub follows : (f : ℕ) (fails : Bool) (ps : List ℕ) (c : Course) (found : Option Name) (u : Draft) → function_of code log n ≡ Some f
-        → fails ≡ fails_in log n → places_of code f fails t.path ≡ Ok ps → course_by code fails t f ps ≡ c → length c.walk.events ≤ 65536
+    pub follows : (f : ℕ) (fails : Bool) (ps : List ℕ) (c : Account) (found : Option Name) (u : Draft) → function_of code log n ≡ Some f
+        → fails ≡ fails_in log n → places_of code f fails t.path ≡ Ok ps → account_by code fails t f ps ≡ c → length c.walk.events ≤ 65536
         → IsFirstAbsent log c.walk.name (length c.started) found → u ≡ added d c found → IsDraft code log u × (length u.threads ≡ length d.threads + 1)
     follows f fails ps c found u function fail fits is few absent now =
         let same : fails ≡ fails_in log t.name = fail ∙ ap (fails_in log) name in
-        let course : c ≡ course_by code (fails_in log t.name) t f ps = sym is ∙ ap (λ b. course_by code b t f ps) same in
+        let account : c ≡ account_by code (fails_in log t.name) t f ps = sym is ∙ ap (λ b. account_by code b t f ps) same in
         let fits' : places_of code f (fails_in log t.name) t.path ≡ Ok ps = ap (λ b. places_of code f b t.path) (sym same) ∙ fits in
-        let absent' = subst (λ (x : Course). IsFirstAbsent log x.walk.name (length x.started) found) course absent in
-        let few' = subst (λ (x : Course). length x.walk.events ≤ 65536) course few in
-        let new = now ∙ ap (λ (x : Course). added d x found) course in (
+        let absent' = subst (λ (x : Account). IsFirstAbsent log x.walk.name (length x.started) found) account absent in
+        let few' = subst (λ (x : Account). length x.walk.events ≤ 65536) account few in
+        let new = now ∙ ap (λ (x : Account). added d x found) account in (
           subst (IsDraft code log) (sym new) (is_added d t draft next f ps (ap (function_of code log) (sym name) ∙ function) fits' found absent' few'),
           ap (λ (x : Draft). length x.threads) now ∙ length-append d.threads (c.walk ∷ []),
         )
@@ -558,7 +559,7 @@ module _ (code : Code) (log : Log) where
 
   module _ (d : Draft) (draft : IsDraft code log d) (all : length d.threads ≡ length log.threads) where
     whole : take (length d.threads) log.threads ≡ log.threads
-    whole = ap (λ n. take n log.threads) all ∙ take_whole log.threads
+    whole = ap (λ n. take n log.threads) all ∙ take-length log.threads
 
     clear_whole : (r : Name) → (IsMissing code log (take (length d.threads) log.threads) r → ⊥) → misfit_of code log r ≡ None
     clear_whole r unmissed =
@@ -585,11 +586,11 @@ module _ (code : Code) (log : Log) where
         → finished_by o d failing ≡ Err e → IsFault code log e
     fault_by None missing least failing e h = absurd cc
     fault_by (Some q) missing least failing e h =
-        let is : fault.Missing q ≡ e = cc in
-        subst (IsFault code log) is (is_fault code log q misfit.Missing (record {
+        let is : Unfit q misfit.Missing ≡ e = cc in
+        subst (IsFault code log) is (record {
           there = missing_fault (take (length d.threads) log.threads) q missing;
           least = λ r less. clear_whole r (λ m. true≢false (sym less ∙ least r m));
-        }))
+        })
 
     -- the paths of a whole draft are those of the log, which fits
     pub whole_fits : (r : Paths) → finished d log.failing ≡ Ok r → Fits code log
@@ -616,7 +617,8 @@ module _ (code : Code) (log : Log) where
   -- Main.
 
   -- main isn't in a log whose first name is another
-  no_main : (ts : List ThreadPath) → rises_from None ts ≡ true → (t : ThreadPath) → t ≡ get_or ts 0 t → 0 < length ts → 0 < length t.name → path_under [] ts ≡ None
+  no_main : (ts : List ThreadPath) → rises_from None ts ≡ true → (t : ThreadPath) → t ≡ get_or ts 0 t → 0 < length ts → 0 < length t.name
+      → path_under [] ts ≡ None
   no_main [] h t e some long = absurd (omega arith)
   no_main (o ∷ ts) h t e some long = by o.name refl (ap (λ (x : ThreadPath). x.name) e)
     where
@@ -631,16 +633,11 @@ module _ (code : Code) (log : Log) where
   none_less (x ∷ q) h = true≢false (sym h)
 
   pub main_missing : rises_from None log.threads ≡ true → (t : ThreadPath) → t ≡ get_or log.threads 0 t → 0 < length log.threads → 0 < length t.name
-      → IsFault code log (fault.Missing [])
-  main_missing h t e some long = (
-    [],
-    misfit.Missing,
-    record {
-      there = missing code log [] (length code.functions - 1) refl (no_main log.threads h t e some long);
-      least = λ q less. absurd (none_less q less);
-    },
-    refl,
-  )
+      → IsFault code log (Unfit [] misfit.Missing)
+  main_missing h t e some long = record {
+    there = missing code log [] (length code.functions - 1) refl (no_main log.threads h t e some long);
+    least = λ q less. absurd (none_less q less);
+  }
 
   -- main is in a log whose first name is its
   has_main : (ts : List ThreadPath) (t : ThreadPath) → t ≡ get_or ts 0 t → 0 < length ts → length t.name ≡ 0 → IsSome (path_under [] ts)

@@ -1,24 +1,26 @@
 -- The places of a path, step by step.
-use Rattle.std.proofs.Common.{◌≡◌, ◌∙◌, ℕ, zero, suc, ◌+◌, ◌<◌, ◌≤◌, Bool, true, false, cond, List, [], ◌∷◌, ◌++◌, length, drop, Option, Some, None, Result, Ok, Err}
+use Rattle.std.proofs.Common.{◌≡◌, ◌∙◌, ℕ, zero, suc, ◌+◌, ◌<◌, ◌≤◌, Bool, true, false, cond, List, [], ◌∷◌, ◌++◌, length, drop}
+use Rattle.std.proofs.Common.{Option, Some, None, Result, Ok, Err}
 use Rattle.std.proofs.Common.{IsSome, refl, sym, ap, subst, arith, append_assoc, append-nil, slice_index_or}
 use Rattle.std.specs.List.{filter_map, cons_option}
 use Rattle.std.specs.Option.{option_map_or}
 use Rattle.std.proofs.lemmas.List.{length-drop, length-map}
 use Rattle.tc_code.specs.Code.{Code, instr_at}
-use Rattle.tc_code.specs.Instr.{Instr}
+use Rattle.tc_code.specs.declared.instr.Instr.{Instr}
 use Rattle.path_walk.specs.Steps.{Onward, onward, before, places_from, Step, step_at, steps_at, ends_at_site, at_site}
 use Rattle.path_walk.specs.Fits.{starts, started}
 use Rattle.path_walk.specs.Marks.{Marks, unmarked, marked, marked_from, marked_steps}
 use Rattle.path_walk.specs.Events.{event_of, events_of}
 use Rattle.path_walk.specs.declared.event.Event.{Event}
-use Rattle.path_walk.specs.Helpers.{prefixed}
+use Rattle.path_walk.specs.helpers.Accounts.{prefixed}
 use Rattle.path_walk.specs.declared.fault.Misfit.{Misfit}
 use Rattle.path_walk.specs.declared.fault.Misfit.TheVariants.{OutcomesShort, OutcomesLeft, PastExit, NotASite}
 
 -- the places from an instruction on, if there is one
 abbrev from_instr : Code → ℕ → ℕ → ℕ → List Bool → Option Instr → Result (List ℕ) Misfit
 from_instr code f n k os o =
-    option_map_or (λ i. option_map_or (λ (on : Onward). before k (places_from code f n on.place on.outcomes)) (onward k i os) (Err OutcomesShort)) o (Err PastExit)
+    option_map_or (λ i. option_map_or (λ (on : Onward). before k (places_from code f n on.place on.outcomes)) (onward k i os) (Err OutcomesShort)) o
+    (Err PastExit)
 
 -- those from where it leads
 abbrev from_onward : Code → ℕ → ℕ → ℕ → Option Onward → Result (List ℕ) Misfit
@@ -79,7 +81,8 @@ unrolled code f n k os ps h = by_instr (instr_at code f k) refl h
     by_rest i at on leads (Ok rest) told h = record { instr = i; at = at; next = on; leads = leads; rest = rest; told = told; all = cc }
     by_rest i at on leads (Err e) told h = absurd cc
 
-    by_onward : (i : Instr) → instr_at code f k ≡ Some i → (o : Option Onward) → onward k i os ≡ o → from_onward code f n k o ≡ Ok ps → Unrolled code f n k os ps
+    by_onward : (i : Instr) → instr_at code f k ≡ Some i → (o : Option Onward) → onward k i os ≡ o → from_onward code f n k o ≡ Ok ps
+        → Unrolled code f n k os ps
     by_onward i at (Some on) leads h = by_rest i at on leads (places_from code f n on.place on.outcomes) refl h
     by_onward i at None leads h = absurd cc
 

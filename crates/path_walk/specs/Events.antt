@@ -6,8 +6,9 @@ use Rattle.std.specs.Option.{option_map_or}
 use Rattle.std.specs.Bool.{beq}
 use Rattle.tc_code.specs.Expr.{Expr, Number, Slot, Unary, Binary}
 use Rattle.tc_code.specs.Code.{Code, line_at}
-use Rattle.tc_code.specs.Instr.{Instr, Set, Load, Load_at, Store, Store_at, Inside, Branch, Holds, Lock, Unlock, Sleep, Wake}
-use Rattle.tc_code.specs.Instr.{Signal, Broadcast, Create, Ready, Join, Assert, Nonzero, In_range, Swap, Cas, Fence, Exit}
+use Rattle.tc_code.specs.declared.instr.Instr.{Instr}
+use Rattle.tc_code.specs.declared.instr.Instr.TheVariants.{Set, Load, LoadAt, Store, StoreAt, Inside, Branch, Holds, Lock, Unlock, Sleep, Wake}
+use Rattle.tc_code.specs.declared.instr.Instr.TheVariants.{Signal, Broadcast, Create, Ready, Join, Assert, Nonzero, InRange, Swap, Cas, Fence, Exit}
 use Rattle.tc_code.specs.Step.{child_number, can_be_joined}
 use Rattle.path_walk.specs.Marks.{Marks, Marked, has_mutex, handle_in}
 use Rattle.path_walk.specs.declared.event.Event.{Event}
@@ -20,9 +21,9 @@ use Rattle.path_walk.specs.declared.event.Link.{Link}
 -- what an instruction that doesn't fail asks, if it asks anything but a bar
 abbrev pub asks : Marks → Instr → Option EventKind
 asks t (Load k c) = Some kind.Load
-asks t (Load_at k first len i) = Some kind.Load
+asks t (LoadAt k first len i) = Some kind.Load
 asks t (Store c e) = Some kind.Store
-asks t (Store_at first len i e) = Some kind.Store
+asks t (StoreAt first len i e) = Some kind.Store
 asks t (Swap k c e) = Some kind.Exchange
 asks t (Cas k c e new) = Some kind.Exchange
 asks t (Lock m) = Some (kind.Lock m)
@@ -44,7 +45,8 @@ kind_with t i fails = if fails then Some kind.Fail else asks t i
 -- a step as an event, if it is one
 abbrev pub event_of : Code → ℕ → Marked → Option Event
 event_of code f s =
-    option_map (λ k. record { step = s.number; line = unwrap_or (line_at code f s.step.place) 0; kind = k; bars = s.marks.bars }) (kind_with s.marks s.step.instr s.fails)
+    option_map (λ k. record { step = s.number; line = unwrap_or (line_at code f s.step.place) 0; kind = k; bars = s.marks.bars })
+    (kind_with s.marks s.step.instr s.fails)
 
 -- the events of a thread that does a function
 abbrev pub events_of : Code → ℕ → List Marked → List Event
@@ -120,15 +122,15 @@ operators (Binary op a b) = 1 + (operators a + operators b)
 -- and those of all expressions of an instruction
 abbrev pub operators_of : Instr → ℕ
 operators_of (Set k e) = operators e
-operators_of (Load_at k first len i) = operators i
+operators_of (LoadAt k first len i) = operators i
 operators_of (Store c e) = operators e
-operators_of (Store_at first len i e) = operators i + operators e
+operators_of (StoreAt first len i e) = operators i + operators e
 operators_of (Inside len i) = operators i
 operators_of (Branch e to) = operators e
 operators_of (Create h f es) = sum (map operators es)
 operators_of (Assert e) = operators e
 operators_of (Nonzero e) = operators e
-operators_of (In_range e) = operators e
+operators_of (InRange e) = operators e
 operators_of (Swap k c e) = operators e
 operators_of (Cas k c e new) = operators e + operators new
 operators_of _ = 0

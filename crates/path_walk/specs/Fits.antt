@@ -4,17 +4,17 @@ use Rattle.std.specs.Prelude.{if◌then◌else◌, bytes_eq, Result, Err}
 use Rattle.std.specs.List.{filter_map}
 use Rattle.std.specs.Option.{option_map_or}
 use Rattle.std.specs.Result.{result_err, result_unwrap_or}
-use Rattle.std.specs.Ordering.{is_lt, nat_cmp}
-use Rattle.std.specs.Cmp.Lexicographic.{slice_cmp}
-use Rattle.tc_base.specs.Names.{Name, main, child}
+use Rattle.std.specs.Ordering.{is_lt}
+use Rattle.tc_base.specs.Names.{Name, main, child, by_name}
 use Rattle.tc_base.specs.Logs.{Log, failing_of, path_under}
 use Rattle.tc_code.specs.Code.{Code}
-use Rattle.tc_code.specs.Instr.{Instr, Create}
+use Rattle.tc_code.specs.declared.instr.Instr.{Instr}
+use Rattle.tc_code.specs.declared.instr.Instr.TheVariants.{Create}
 use Rattle.path_walk.specs.Steps.{Step, steps_at, places_of}
 use Rattle.path_walk.specs.declared.fault.Misfit.{Misfit}
 use Rattle.path_walk.specs.declared.fault.Misfit.TheVariants as misfit
 use Rattle.path_walk.specs.declared.fault.WalkFault.{WalkFault}
-use Rattle.path_walk.specs.declared.fault.WalkFault.TheVariants as fault
+use Rattle.path_walk.specs.declared.fault.WalkFault.TheVariants.{Unfit, Memory}
 
 -- the function of the child that an instruction creates
 abbrev pub starts : Instr → Option ℕ
@@ -68,18 +68,9 @@ module _ (code : Code) (log : Log) where
   -- a fault of the thread of a name, and nothing is wrong with lesser names
   pub record IsFirst (n : Name) (m : Misfit) : Type 0 where
     pub there : misfit_of n ≡ Some m
-    pub least : (q : Name) → is_lt (slice_cmp nat_cmp q n) ≡ true → misfit_of q ≡ None
-
--- a fault with its name
-abbrev pub fault_of : Name → Misfit → WalkFault
-fault_of n misfit.Missing = fault.Missing n
-fault_of n misfit.Stranger = fault.Stranger n
-fault_of n misfit.OutcomesShort = fault.OutcomesShort n
-fault_of n misfit.OutcomesLeft = fault.OutcomesLeft n
-fault_of n misfit.PastExit = fault.PastExit n
-fault_of n misfit.NotASite = fault.NotASite n
+    pub least : (q : Name) → is_lt (by_name q n) ≡ true → misfit_of q ≡ None
 
 -- the first fault of a log, if it isn't want of memory
 abbrev pub IsFault : Code → Log → WalkFault → Type 0
-IsFault code log fault.Memory = Unit {0}
-IsFault code log e = (n : Name) × (m : Misfit) × IsFirst code log n m × (e ≡ fault_of n m)
+IsFault code log (Unfit n m) = IsFirst code log n m
+IsFault code log Memory = Unit {0}

@@ -3,8 +3,9 @@ use Rattle.std.specs.Prelude.{ℕ, ◌+◌, List, [], ◌∷◌, length, Bool, t
 use Rattle.tc_base.specs.declared.handle.Handle.{Handle}
 use Rattle.tc_base.specs.declared.handle.Handle.TheVariants.{Unset, Child, Joined}
 use Rattle.tc_code.specs.Code.{Code}
-use Rattle.tc_code.specs.Instr.{Instr, Lock, Unlock, Sleep, Wake, Create, Join, Stbar}
-use Rattle.tc_code.specs.Step.{tids_of, child_number}
+use Rattle.tc_code.specs.declared.instr.Instr.{Instr}
+use Rattle.tc_code.specs.declared.instr.Instr.TheVariants.{Lock, Unlock, Sleep, Wake, Create, Join, Stbar}
+use Rattle.tc_code.specs.Step.{handles_of, child_number}
 use Rattle.path_walk.specs.Steps.{Step}
 
 pub record Marks : Type 0 where
@@ -18,7 +19,7 @@ pub record Marks : Type 0 where
 
 -- at the start of a function nothing is held or set
 abbrev pub unmarked : Code → ℕ → Marks
-unmarked code f = record { held = replicate code.mutexes false; handles = replicate (tids_of code f) Unset; children = 0; bars = 0 }
+unmarked code f = record { held = replicate code.mutexes false; handles = replicate (handles_of code f) Unset; children = 0; bars = 0 }
 
 abbrev pub has_mutex : Marks → ℕ → Bool
 has_mutex t m = slice_index_or t.held m false

@@ -1,9 +1,11 @@
 -- The steps of one thread, by its path alone.
-use Rattle.std.specs.Prelude.{ℕ, zero, suc, ◌+◌, ◌-◌, List, [], ◌∷◌, Bool, true, false, map, Option, Some, None, unwrap_or, slice_get, length, if◌then◌else◌, Result, Ok, Err}
+use Rattle.std.specs.Prelude.{ℕ, zero, suc, ◌+◌, ◌-◌, List, [], ◌∷◌, Bool, true, false, map, Option, Some, None, unwrap_or, slice_get, length}
+use Rattle.std.specs.Prelude.{if◌then◌else◌, Result, Ok, Err}
 use Rattle.std.specs.Option.{option_map_or}
 use Rattle.tc_base.specs.Logs.{Path}
 use Rattle.tc_code.specs.Code.{Code, instr_at}
-use Rattle.tc_code.specs.Instr.{Instr, Branch, Goto, Inside, Holds, Ready, Assert, Nonzero, In_range, Exit}
+use Rattle.tc_code.specs.declared.instr.Instr.{Instr}
+use Rattle.tc_code.specs.declared.instr.Instr.TheVariants.{Branch, Goto, Inside, Holds, Ready, Assert, Nonzero, InRange, Exit}
 use Rattle.path_walk.specs.declared.fault.Misfit.{Misfit}
 use Rattle.path_walk.specs.declared.fault.Misfit.TheVariants.{OutcomesShort, OutcomesLeft, PastExit, NotASite}
 
@@ -58,7 +60,7 @@ is_site (Holds m) = true
 is_site (Ready h) = true
 is_site (Assert e) = true
 is_site (Nonzero e) = true
-is_site (In_range e) = true
+is_site (InRange e) = true
 is_site _ = false
 
 -- whether there is a step, and the last is at a site

@@ -1,14 +1,16 @@
 //! What is told of the first threads of a log.
-ghost use Rattle.std.specs.Prelude.{◌≡◌, ℕ, ◌+◌, ◌<◌, ◌≤◌, ◌^◌, length, Option, Some, IfOk, OnOk, IfErr, IsSome, IfSome, IfNone, is_some, slice_get, true, false, bytes_eq};
+ghost use Rattle.std.specs.Prelude.{◌≡◌, ℕ, ◌+◌, ◌<◌, ◌≤◌, ◌^◌, length, Option, Some, IfOk, OnOk, IfErr};
+ghost use Rattle.std.specs.Prelude.{IfSome, IfNone, is_some, slice_get, true, false, bytes_eq};
 ghost use Rattle.std.specs.List.{list_any};
 ghost use Rattle.tc_base.specs.Names.{Name as PlainName};
 ghost use Rattle.tc_base.specs.Logs.{Log as PlainLog, ThreadPath as PlainPath, path_under};
-ghost use Rattle.path_walk.specs.Fits.{function_of, fault_of, IsFault, Fits};
+ghost use Rattle.tc_base.specs.declared.limits.TheConstants.{THREADS};
+ghost use Rattle.path_walk.specs.Fits.{function_of, IsFault, Fits};
 ghost use Rattle.path_walk.specs.Paths.{paths_of};
-ghost use Rattle.path_walk.specs.Helpers as helper;
-ghost use Rattle.path_walk.specs.Helpers.{IsDraft, IsNext, IsFirstAbsent, first_fault, added, no_draft};
+ghost use Rattle.path_walk.specs.helpers.Drafts as helper;
+ghost use Rattle.path_walk.specs.helpers.Drafts.{IsDraft, IsNext, IsFirstAbsent, first_fault, added, no_draft};
 
-use crate::course::{Course, Started, tell_course};
+use crate::account::{Account, Started, account_of};
 use crate::follow::FollowFault;
 use crate::{Misfit, Paths, Walk, WalkFault};
 use path_log::{Log, ThreadPath};
@@ -29,7 +31,7 @@ pub struct Draft {
 }
 
 impl Model for Draft {
-    ghost use Rattle.path_walk.specs.Helpers as spec;
+    ghost use Rattle.path_walk.specs.helpers.Drafts as spec;
 
     ghost Value = { spec.Draft };
 
@@ -41,20 +43,6 @@ impl Model for Draft {
       dead = d.dead;
       missing = d.missing;
     } };
-}
-
-/// A fault with a name.
-fn fault(name: ThreadName, misfit: Misfit) -> WalkFault
-    ensures { result ≡ fault_of name misfit }
-{
-    match misfit {
-        Misfit::Missing => WalkFault::Missing(name),
-        Misfit::Stranger => WalkFault::Stranger(name),
-        Misfit::OutcomesShort => WalkFault::OutcomesShort(name),
-        Misfit::OutcomesLeft => WalkFault::OutcomesLeft(name),
-        Misfit::PastExit => WalkFault::PastExit(name),
-        Misfit::NotASite => WalkFault::NotASite(name),
-    }
 }
 
 /// Whether a log has the thread of a name.
@@ -161,28 +149,33 @@ impl Draft {
     {
         if let Some(missing) = &self.missing {
             if missing < name {
-                return Ok(WalkFault::Missing(missing.clone()?));
+                return Ok(WalkFault::Unfit(missing.clone()?, Misfit::Missing));
             }
         }
-        Ok(fault(name.clone()?, misfit))
+        Ok(WalkFault::Unfit(name.clone()?, misfit))
     }
 
     /// Adds a thread.
-    fn add(&mut self, alloc: Global, log: &Log, course: Course) -> Result<(), AllocError>
-        requires started { length course.started < 2 ^ 31 }
-        requires events { self.old.events + length course.walk.events < 2 ^ 64 }
+    fn add(&mut self, alloc: Global, log: &Log, account: Account) -> Result<(), AllocError>
+        requires started { length account.started < 2 ^ 31 }
+        requires events { self.old.events + length account.walk.events < 2 ^ 64 }
         ensures { OnOk result ((found : Option PlainName)
-            × IsFirstAbsent log.now.log course.walk.name (length course.started) found
-            × (self.new ≡ added self.old (record { walk = course.walk; started = course.started; operators = course.operators; dead = course.dead }) found)) }
+            × IsFirstAbsent log.now.log account.walk.name (length account.started) found
+            × (self.new ≡ added self.old (record {
+              walk = account.walk;
+              started = account.started;
+              operators = account.operators;
+              dead = account.dead;
+            }) found)) }
     {
-        let count = course.started.as_slice().len() as u32;
-        let absent = first_absent(alloc, log, course.walk.name(), count)?;
+        let count = account.started.as_slice().len() as u32;
+        let absent = first_absent(alloc, log, account.walk.name(), count)?;
         self.missing = least(self.missing.take(), absent);
-        self.events += course.walk.events().len();
-        self.operators = self.operators.saturating_add(course.operators);
-        self.dead = self.dead || course.dead;
-        self.threads.push(course.walk)?;
-        self.started.push(course.started)?;
+        self.events += account.walk.events().len();
+        self.operators = self.operators.saturating_add(account.operators);
+        self.dead = self.dead || account.dead;
+        self.threads.push(account.walk)?;
+        self.started.push(account.started)?;
         Ok(())
     }
 
@@ -194,7 +187,7 @@ impl Draft {
         log: &Log,
         thread: &ThreadPath,
     ) -> Result<(), WalkFault>
-        requires few { length log.now.log.threads ≤ 16 }
+        requires few { length log.now.log.threads ≤ THREADS }
         requires draft { IsDraft code.now log.now.log self.old }
         requires next { IsNext log.now.log (length self.old.threads) thread.now }
         ensures ok { OnOk result (IsDraft code.now log.now.log self.new × (length self.new.threads ≡ length self.old.threads + 1)) }
@@ -205,8 +198,8 @@ impl Draft {
             return Err(self.first_fault(name, Misfit::Stranger)?);
         };
         let fails = name.children() == log.failing_name().children();
-        match tell_course(alloc, code, function, fails, thread) {
-            Ok(course) => Ok(self.add(alloc, log, course)?),
+        match account_of(alloc, code, function, fails, thread) {
+            Ok(account) => Ok(self.add(alloc, log, account)?),
             Err(FollowFault::Unfit(misfit)) => Err(self.first_fault(name, misfit)?),
             Err(FollowFault::Memory) => Err(WalkFault::Memory),
         }
@@ -225,7 +218,7 @@ impl Draft {
             missing,
         } = self;
         match missing {
-            Some(name) => Err(WalkFault::Missing(name)),
+            Some(name) => Err(WalkFault::Unfit(name, Misfit::Missing)),
             None => Ok(Paths {
                 failing,
                 threads,

@@ -1,8 +1,10 @@
 //! Why a log doesn't fit a program's code.
 ghost use Rattle.std.specs.Prelude.{◌≡◌};
+ghost use Rattle.path_walk.specs.Misfits.{misfit_text};
 ghost use Rattle.path_walk.specs.declared.fault.WalkFault.TheVariants.{Memory};
 
 use std::alloc::{AllocError, AllocFailed};
+use std::fmt;
 use tc_base::ThreadName;
 use thiserror::Error;
 
@@ -23,27 +25,39 @@ pub enum Misfit {
     NotASite,
 }
 
-/// Why a log doesn't fit: the fault of a thread, by its name.
+impl Misfit {
+    /// Its name.
+    fn name(self) -> &'static str
+        ensures { result.now ≡ misfit_text self }
+    {
+        match self {
+            Misfit::Missing => "Missing",
+            Misfit::Stranger => "Stranger",
+            Misfit::OutcomesShort => "OutcomesShort",
+            Misfit::OutcomesLeft => "OutcomesLeft",
+            Misfit::PastExit => "PastExit",
+            Misfit::NotASite => "NotASite",
+        }
+    }
+}
+
+impl fmt::Display for Misfit {
+    ghost use Rattle.std.specs.Prelude.{Some};
+    ghost use Rattle.path_walk.specs.Misfits.{misfit_text};
+
+    ghost output = { λ m. Some (misfit_text m) };
+
+    fn fmt<W: fmt::Write>(&self, f: &mut fmt::Formatter<W>) -> fmt::Result {
+        f.write_str(self.name())
+    }
+}
+
+/// Why a log doesn't fit.
 #[derive(Debug, Drop, Error)]
 pub enum WalkFault {
-    /// A child that some path creates, or main, isn't in the log.
-    #[error("Missing {0}")]
-    Missing(ThreadName),
-    /// The thread is in the log, and neither main nor a child that some path creates.
-    #[error("Stranger {0}")]
-    Stranger(ThreadName),
-    /// A branch on the path has no outcome left.
-    #[error("OutcomesShort {0}")]
-    OutcomesShort(ThreadName),
-    /// Outcomes are left after the last step.
-    #[error("OutcomesLeft {0}")]
-    OutcomesLeft(ThreadName),
-    /// The thread does a step after its exit.
-    #[error("PastExit {0}")]
-    PastExit(ThreadName),
-    /// The thread failed, and its last step is at no site, or it has none.
-    #[error("NotASite {0}")]
-    NotASite(ThreadName),
+    /// Something is wrong with the thread of that name.
+    #[error("{1} {0}")]
+    Unfit(ThreadName, Misfit),
     /// There is no memory.
     #[error("no memory")]
     Memory,

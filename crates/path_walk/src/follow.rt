@@ -1,8 +1,7 @@
 //! The places of the steps of one thread, by its path.
 ghost use Rattle.std.specs.Prelude.{◌≡◌, ◌+◌, ◌<◌, ◌≤◌, ◌^◌, length, drop, option_map, OnSome, IfOk};
-ghost use Rattle.tc_code.specs.Seen.{plain_instr};
 ghost use Rattle.path_walk.specs.Steps.{onward, branched, is_site, step_at, ends_at_site, places_from, places_of};
-ghost use Rattle.path_walk.specs.Helpers.{Gives, position_of};
+ghost use Rattle.path_walk.specs.helpers.Accounts.{Gives, position_of};
 ghost use Rattle.path_walk.specs.declared.follow.FollowFault.TheVariants.{Memory};
 
 use crate::Misfit;
@@ -45,7 +44,7 @@ pub struct Position {
 /// Where a thread goes on after an instruction.
 fn onward(instr: &Instr, at: Position, outcomes: &[bool]) -> Option<Position>
     requires { at.place + 1 < 2 ^ 64 }
-    ensures { option_map (position_of outcomes.now) result ≡ onward at.place (plain_instr instr.now) (drop at.used outcomes.now) }
+    ensures { option_map (position_of outcomes.now) result ≡ onward at.place instr.now (drop at.used outcomes.now) }
 {
     let next = Position {
         place: at.place + 1,
@@ -75,7 +74,7 @@ fn branched(next: Position, target: u32, outcomes: &[bool]) -> Option<Position>
 
 /// Whether an instruction only tests something, and fails where that is false.
 fn is_site(instr: &Instr) -> bool
-    ensures { result ≡ is_site (plain_instr instr.now) }
+    ensures { result ≡ is_site instr.now }
 {
     matches!(
         instr,

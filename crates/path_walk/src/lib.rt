@@ -1,7 +1,7 @@
 //! What each thread of a log does, from the code and the log alone.
 #![tactic(auto)]
 
-mod course;
+mod account;
 mod draft;
 mod event;
 mod fault;

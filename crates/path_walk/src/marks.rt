@@ -1,7 +1,6 @@
 //! What a thread's own steps make of its mutexes and thread variables.
 ghost use Rattle.std.specs.Prelude.{◌≡◌, ◌+◌, ◌<◌, ◌^◌, IfOk, slice_set};
 ghost use Rattle.tc_base.specs.declared.handle.Handle.{Handle};
-ghost use Rattle.tc_code.specs.Seen.{plain_instr};
 ghost use Rattle.tc_code.specs.Step as step;
 ghost use Rattle.path_walk.specs.Marks.{unmarked, has_mutex, handle_in, marked};
 ghost use Rattle.path_walk.specs.Events.{asks, kind_with, excludes};
@@ -39,13 +38,13 @@ impl Marks {
     pub fn at_start(alloc: Global, code: &Code, function: usize) -> Result<Marks, AllocError>
         ensures { IfOk result (λ t. t ≡ unmarked code.now function) }
     {
-        let tids = match code.functions().get(function) {
-            Some(func) => func.tids,
+        let handles = match code.functions().get(function) {
+            Some(func) => func.handles,
             None => 0,
         };
         Ok(Marks {
             held: vec![in alloc; false; code.mutexes() as usize]?,
-            handles: vec![in alloc; Handle::Unset; tids as usize]?,
+            handles: vec![in alloc; Handle::Unset; handles as usize]?,
             children: 0,
             bars: 0,
         })
@@ -61,7 +60,7 @@ impl Marks {
     /// What a step asks, which fails or doesn't.
     pub fn kind(&self, instr: &Instr, fails: bool) -> Option<EventKind>
         requires { self.now.children + 1 < 2 ^ 32 }
-        ensures { result ≡ kind_with self.now (plain_instr instr.now) fails }
+        ensures { result ≡ kind_with self.now instr.now fails }
     {
         if fails {
             return Some(EventKind::Fail);
@@ -71,7 +70,7 @@ impl Marks {
 
     fn asks(&self, instr: &Instr) -> Option<EventKind>
         requires { self.now.children + 1 < 2 ^ 32 }
-        ensures { result ≡ asks self.now (plain_instr instr.now) }
+        ensures { result ≡ asks self.now instr.now }
     {
         match instr {
             Instr::Load { .. } | Instr::LoadAt { .. } => Some(EventKind::Load),
@@ -99,7 +98,7 @@ impl Marks {
 
     /// Whether the path alone tells that no run does a step, which fails or doesn't.
     pub fn excludes(&self, instr: &Instr, fails: bool) -> bool
-        ensures { result ≡ excludes self.now (plain_instr instr.now) fails }
+        ensures { result ≡ excludes self.now instr.now fails }
     {
         match instr {
             Instr::Lock { mutex } => self.has_mutex(*mutex),
@@ -113,7 +112,7 @@ impl Marks {
     pub fn apply(&mut self, instr: &Instr)
         requires children { self.old.children + 1 < 2 ^ 32 }
         requires bars { self.old.bars + 1 < 2 ^ 64 }
-        ensures { self.new ≡ marked self.old (plain_instr instr.now) }
+        ensures { self.new ≡ marked self.old instr.now }
     {
         match instr {
             Instr::Lock { mutex } | Instr::Wake { mutex, .. } => self.hold(*mutex, true),

@@ -1,23 +1,21 @@
 //! How many operators stand in instructions.
 ghost use Rattle.std.specs.Prelude.{◌≡◌, ℕ, map, sum, IfOk, slice_get, slice_index_or};
 ghost use Rattle.tc_code.specs.Code.{instr_at};
-ghost use Rattle.tc_code.specs.Seen.{plain_instr, plain_instrs};
-ghost use Rattle.tc_code.specs.SeenExpr.{plain_expr, plain_exprs};
 ghost use Rattle.path_walk.specs.Steps.{step_at, steps_at};
 ghost use Rattle.path_walk.specs.Events.{operators, operators_of};
 ghost use Rattle.path_walk.specs.Paths.{counted};
 
 use std::alloc::{AllocError, Global};
-use tc_code::{Code, Expr, Instr};
+use tc_code::{Code, Expr, Instr, Node};
 
 /// The operators of an expression.
 fn in_expr(e: &Expr) -> u64
-    ensures { result ≡ counted (operators (plain_expr e.now)) }
+    ensures { result ≡ counted (operators e.now) }
 {
-    match e {
-        Expr::Number(_) | Expr::Slot(_) => 0,
-        Expr::Unary(_, operand) => in_expr(operand).saturating_add(1),
-        Expr::Binary(_, left, right) => in_expr(left)
+    match &e.node {
+        Node::Number(_) | Node::Slot(_) => 0,
+        Node::Unary(_, operand) => in_expr(operand).saturating_add(1),
+        Node::Binary(_, left, right) => in_expr(left)
             .saturating_add(in_expr(right))
             .saturating_add(1),
     }
@@ -25,7 +23,7 @@ fn in_expr(e: &Expr) -> u64
 
 /// The operators of expressions.
 fn in_exprs(exprs: &[Expr]) -> u64
-    ensures { result ≡ counted (sum (map operators (plain_exprs exprs.now))) }
+    ensures { result ≡ counted (sum (map operators exprs.now)) }
 {
     let mut count: u64 = 0;
     for e in exprs {
@@ -36,7 +34,7 @@ fn in_exprs(exprs: &[Expr]) -> u64
 
 /// The operators of the expressions of an instruction.
 fn in_instr(instr: &Instr) -> u64
-    ensures { result ≡ counted (operators_of (plain_instr instr.now)) }
+    ensures { result ≡ counted (operators_of instr.now) }
 {
     match instr {
         Instr::Set { value, .. } | Instr::Store { value, .. } | Instr::Swap { value, .. } => {
@@ -58,7 +56,7 @@ fn in_instr(instr: &Instr) -> u64
 
 /// The instructions of a function; none where there is no such function.
 fn instrs_of(code: &Code, function: usize) -> &[Instr]
-    ensures { (k : ℕ) → slice_get (plain_instrs result.now) k ≡ instr_at code.now function k }
+    ensures { (k : ℕ) → slice_get result.now k ≡ instr_at code.now function k }
 {
     match code.functions().get(function) {
         Some(f) => f.instrs.as_slice(),

@@ -1,19 +1,20 @@
 //! The ways of all threads of a log.
 ghost use Rattle.std.specs.Prelude.{◌≡◌, ◌≤◌, length, IfOk, OnOk, IfErr};
+ghost use Rattle.tc_base.specs.declared.limits.TheConstants.{THREADS};
 ghost use Rattle.path_walk.specs.Fits.{Fits, IsFault};
 ghost use Rattle.path_walk.specs.Paths.{paths_of};
 
 use crate::draft::Draft;
-use crate::{Paths, WalkFault};
+use crate::{Misfit, Paths, WalkFault};
 use path_log::Log;
 use std::alloc::Global;
 use tc_base::ThreadName;
 use tc_code::Code;
 
-/// The ways of all threads of a log, of at most 16 threads, in the code; or the fault of the least name, where the log
+/// The ways of all threads of a log, of at most `THREADS` threads, in the code; or the fault of the least name, where the log
 /// doesn't fit.
 pub fn walk(alloc: Global, code: &Code, log: &Log) -> Result<Paths, WalkFault>
-    requires { length log.now.log.threads ≤ 16 }
+    requires { length log.now.log.threads ≤ THREADS }
     // The ways are told where the log fits.
     ensures fits { OnOk result (Fits code.now log.now.log) }
     // They are what code and log say.
@@ -22,7 +23,7 @@ pub fn walk(alloc: Global, code: &Code, log: &Log) -> Result<Paths, WalkFault>
     ensures err { IfErr result (IsFault code.now log.now.log) }
 {
     if !log.threads()[0].name().children().is_empty() {
-        return Err(WalkFault::Missing(ThreadName::main(alloc)));
+        return Err(WalkFault::Unfit(ThreadName::main(alloc), Misfit::Missing));
     }
     let mut draft = Draft::new(alloc);
     for thread in log.threads() {

@@ -1,7 +1,7 @@
 use Rattle.std.proofs.Common.{◌∙◌, ◌+◌, ◌-◌, ap, sym, arith, drop}
 use Rattle.std.proofs.lemmas.Grind.{common_steps}
 use Rattle.path_walk.specs.Steps.{places_from}
-use Rattle.path_walk.specs.Helpers.{prefixed}
+use Rattle.path_walk.specs.helpers.Accounts.{prefixed}
 use Rattle.path_walk.proofs.Places.{past_exit, short, step_more, prefixed_before, left_over, all_done}
 use Rattle.path_walk.proofs.follow.places.Goals as goal
 

@@ -1,6 +1,6 @@
 use Rattle.std.proofs.Common.{◌≡◌, ◌-◌, drop, length}
 use Rattle.path_walk.specs.Steps.{places_from}
-use Rattle.path_walk.specs.Helpers.{prefixed}
+use Rattle.path_walk.specs.helpers.Accounts.{prefixed}
 use Rattle.path_walk.proofs.follow.places.Given as goal
 
 abbrev pub invariant-loop-step : goal.invariant-loop-step

@@ -1,8 +1,9 @@
 use Rattle.std.proofs.Common.{◌≡◌, ◌∙◌, ◌<◌, ap, sym, subst, arith, length, get_or}
 use Rattle.std.proofs.lemmas.Bool.{and_parts, ltb-true}
 use Rattle.path_walk.specs.Fits.{IsFault}
-use Rattle.path_walk.specs.Helpers.{finished}
-use Rattle.path_walk.specs.declared.fault.WalkFault.TheVariants as fault
+use Rattle.path_walk.specs.helpers.Drafts.{finished}
+use Rattle.path_walk.specs.declared.fault.WalkFault.TheVariants.{Unfit}
+use Rattle.path_walk.specs.declared.fault.Misfit.TheVariants.{Missing}
 use Rattle.path_walk.proofs.Drafts.{main_missing, is_nonempty, whole_ok, whole_err}
 use Rattle.path_walk.proofs.whole.walk.Goals as goal
 
@@ -14,7 +15,7 @@ returns-then-not-is_empty-clause-err c =
     let first : t ≡ get_or c.args.log.now.log.threads 0 t = c.index-threads-0.is ∙ ap (λ ts. get_or ts 0 t) c.threads.ensures.threads in
     let name = is_nonempty c.children.result.now (sym c.is_empty.ensures ∙ c.if-not-is_empty.true) in
     let long : 0 < length t.name = omega (arith, name, ap length c.children.ensures, ap length c.name.ensures) in
-    subst (λ n. IsFault c.args.code.now c.args.log.now.log (fault.Missing n)) (sym c.main.ensures)
+    subst (λ n. IsFault c.args.code.now c.args.log.now.log (Unfit n Missing)) (sym c.main.ensures)
     (main_missing c.args.code.now c.args.log.now.log is_log.0 t first (omega (arith, some)) long)
 
 pub returns-clause-fits : goal.returns-clause-fits

@@ -1,5 +1,5 @@
 use Rattle.std.proofs.Common.{◌≡◌, length}
-use Rattle.path_walk.specs.Helpers.{IsDraft}
+use Rattle.path_walk.specs.helpers.Drafts.{IsDraft}
 use Rattle.path_walk.proofs.whole.walk.Given as goal
 
 abbrev pub invariant-loop-thread : goal.invariant-loop-thread

@@ -1,6 +1,7 @@
 use Rattle.std.proofs.Common.{◌≡◌, ◌∙◌, ◌≤◌, ap, sym, arith, length, Err}
 use Rattle.path_walk.specs.Steps.{places_of}
-use Rattle.path_walk.specs.Helpers.{course_by, first_fault}
+use Rattle.path_walk.specs.helpers.Accounts.{account_by}
+use Rattle.path_walk.specs.helpers.Drafts.{first_fault}
 use Rattle.path_walk.proofs.Drafts.{stranger_fault, unfit_fault, follows, fails_is, mapped_ok, mapped_err}
 use Rattle.path_walk.proofs.draft.Draft.follow.Goals as goal
 
@@ -15,8 +16,8 @@ add-requires-clause-started c = let few = c.in-Ok.ensures.few.0 in omega (arith,
 
 pub returns-in_ok-add-in-Ok-clause-ok : goal.returns-in_ok-add-in-Ok-clause-ok
 returns-in_ok-add-in-Ok-clause-ok c =
-    let told = mapped_ok (course_by c.args.code.now c.eq-fails.result c.args.thread.now c.in-Some.function) _ _ c.in-Ok.ensures.told in
-    let few : length c.in-Ok.course.walk.events ≤ 65536 = let h = c.in-Ok.ensures.few.1 in omega (arith, h) in
+    let told = mapped_ok (account_by c.args.code.now c.eq-fails.result c.args.thread.now c.in-Some.function) _ _ c.in-Ok.ensures.told in
+    let few : length c.in-Ok.account.walk.events ≤ 65536 = let h = c.in-Ok.ensures.few.1 in omega (arith, h) in
     let done = c.in_ok-add-in-Ok.ensures in
     follows c.args.code.now c.args.log.now.log c.args.self.now c.args.thread.now c.requires.draft c.requires.next c.name-name.result.now
     c.name-name.ensures c.in-Some.function c.eq-fails.result told.0 _ done.0 c.add.new.self

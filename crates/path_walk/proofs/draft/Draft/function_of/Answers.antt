@@ -3,7 +3,7 @@ use Rattle.std.specs.Prelude.{bytes_eq, false, true, slice_get, IfSome}
 use Rattle.std.specs.List.{list_any}
 use Rattle.path_walk.specs.Fits.{function_of}
 use Rattle.path_walk.specs.Paths.{Walk}
-use Rattle.path_walk.specs.Helpers.{Draft}
+use Rattle.path_walk.specs.helpers.Drafts.{Draft}
 use Rattle.path_walk.proofs.Drafts.{take_last, is_nonempty, untold_child, told_at}
 use Rattle.path_walk.proofs.draft.Draft.function_of.Goals as goal
 

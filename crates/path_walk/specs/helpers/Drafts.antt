@@ -1,64 +1,19 @@
--- Words of the contracts of private functions; no promise speaks of these.
-use Rattle.std.specs.Prelude.{◌≡◌, ℕ, ◌+◌, ◌<◌, ◌≤◌, ◌*◌, zero, suc, List, [], ◌∷◌, ◌++◌, drop, take, map, sum, length, get_or, slice_get}
+-- What is told of the first threads of a log.
+use Rattle.std.specs.Prelude.{◌≡◌, ℕ, ◌+◌, ◌<◌, ◌≤◌, ◌*◌, zero, suc, List, [], ◌∷◌, ◌++◌, take, map, sum, length, get_or, slice_get}
 use Rattle.std.specs.Prelude.{Bool, true, false, ◌||◌, if◌then◌else◌, Result, Ok, Err, Option, Some, None, IfSome, IsSome, option_and_then}
 use Rattle.std.specs.List.{list_any}
-use Rattle.std.specs.Ordering.{nat_cmp, is_lt}
-use Rattle.std.specs.Cmp.Lexicographic.{slice_cmp}
-use Rattle.std.specs.declared.cmp.Ordering.{Ordering}
-use Rattle.tc_base.specs.Names.{Name, child}
+use Rattle.std.specs.Ordering.{is_lt}
+use Rattle.tc_base.specs.Names.{Name, child, by_name}
 use Rattle.tc_base.specs.Logs.{Log, ThreadPath, path_under}
 use Rattle.tc_code.specs.Code.{Code}
 use Rattle.path_log.specs.Texts.{rises_from}
-use Rattle.path_walk.specs.Steps.{Onward, steps_at}
-use Rattle.path_walk.specs.Fits.{started, function_of, misfit_of, fault_of}
-use Rattle.path_walk.specs.Marks.{marked_steps}
-use Rattle.path_walk.specs.Events.{operators_of, is_impossible}
-use Rattle.path_walk.specs.Paths.{Walk, Paths, counted, walk_by, walk_of, steps_in, operators_in, is_dead}
+use Rattle.path_walk.specs.Fits.{started, function_of, misfit_of}
+use Rattle.path_walk.specs.Paths.{Walk, Paths, counted, walk_of, steps_in, operators_in, is_dead}
 use Rattle.path_walk.specs.declared.fault.Misfit.{Misfit}
+use Rattle.path_walk.specs.declared.fault.Misfit.TheVariants.{Missing}
 use Rattle.path_walk.specs.declared.fault.WalkFault.{WalkFault}
-use Rattle.path_walk.specs.declared.fault.WalkFault.TheVariants as fault
-use Rattle.path_walk.specs.declared.follow.FollowFault.{FollowFault}
-use Rattle.path_walk.specs.declared.follow.FollowFault.TheVariants.{Unfit, Memory}
-use Rattle.path_walk.specs.declared.follow.Position.{Position}
-
--- a function failed as a definition does, unless memory ran out
-abbrev pub Fails : {Y : Type 0} → FollowFault → Result Y Misfit → Type 0
-Fails (Unfit m) given = given ≡ Err m
-Fails Memory given = Unit {0}
-
--- what a function gave is what a definition gives, unless memory ran out
-abbrev pub Gives : {X Y : Type 0} → (X → Y) → Result X FollowFault → Result Y Misfit → Type 0
-Gives view (Ok x) given = given ≡ Ok (view x)
-Gives view (Err e) given = Fails e given
-
--- places before those that are given
-abbrev pub prefixed : List ℕ → Result (List ℕ) Misfit → Result (List ℕ) Misfit
-prefixed front (Ok places) = Ok (front ++ places)
-prefixed front (Err e) = Err e
-
--- a position, with the outcomes that are left
-abbrev pub position_of : List Bool → Position → Onward
-position_of outcomes at = record { place = at.place; outcomes = drop at.used outcomes }
-
--- what is told of one thread
-pub record Course : Type 0 where
-  pub walk : Walk
-  -- the functions of the children that it creates
-  pub started : List ℕ
-  pub operators : ℕ
-  pub dead : Bool
-
-abbrev pub course_by : Code → Bool → ThreadPath → ℕ → List ℕ → Course
-course_by code fails t f places = record {
-  walk = walk_by code fails t f places;
-  started = started (steps_at code f places);
-  operators = counted (sum (map (λ s. operators_of s.instr) (steps_at code f places)));
-  dead = list_any is_impossible (marked_steps code f fails (steps_at code f places));
-}
-
-abbrev pub mapped : {X Y : Type 0} → (X → Y) → Result X Misfit → Result Y Misfit
-mapped f (Ok x) = Ok (f x)
-mapped f (Err e) = Err e
+use Rattle.path_walk.specs.declared.fault.WalkFault.TheVariants.{Unfit}
+use Rattle.path_walk.specs.helpers.Accounts.{Account}
 
 -- what is told of the first threads of a log
 pub record Draft : Type 0 where
@@ -71,9 +26,6 @@ pub record Draft : Type 0 where
   -- the least name of a child that they create and that isn't in the log, if there is one
   pub missing : Option Name
 
-abbrev pub by_name : Name → Name → Ordering
-by_name = slice_cmp nat_cmp
-
 -- the lesser of two names, if there are any
 abbrev pub least : Option Name → Option Name → Option Name
 least None b = b
@@ -81,7 +33,7 @@ least (Some a) None = Some a
 least (Some a) (Some b) = if is_lt (by_name b a) then Some b else Some a
 
 -- a draft with one more thread, and the least of its children that aren't in the log
-abbrev pub added : Draft → Course → Option Name → Draft
+abbrev pub added : Draft → Account → Option Name → Draft
 added d c found = record {
   threads = d.threads ++ c.walk ∷ [];
   started = d.started ++ c.started ∷ [];
@@ -113,8 +65,8 @@ pub record IsFirstAbsent (log : Log) (parent : Name) (count : ℕ) (found : Opti
 
 -- the fault of a thread, or that of a lesser child that isn't in the log
 abbrev pub first_fault : Option Name → Name → Misfit → WalkFault
-first_fault None n m = fault_of n m
-first_fault (Some q) n m = if is_lt (by_name q n) then fault.Missing q else fault_of n m
+first_fault None n m = Unfit n m
+first_fault (Some q) n m = if is_lt (by_name q n) then Unfit q Missing else Unfit n m
 
 -- the thread at a place of the log
 pub record IsNext (log : Log) (k : ℕ) (t : ThreadPath) : Type 0 where
@@ -156,7 +108,7 @@ paths_by d failing = record { failing = failing; threads = d.threads; events = d
 -- they, or the fault of the least child that isn't in the log
 abbrev pub finished_by : Option Name → Draft → ℕ → Result Paths WalkFault
 finished_by None d failing = Ok (paths_by d failing)
-finished_by (Some n) d failing = Err (fault.Missing n)
+finished_by (Some n) d failing = Err (Unfit n Missing)
 
 abbrev pub finished : Draft → ℕ → Result Paths WalkFault
 finished d failing = finished_by d.missing d failing

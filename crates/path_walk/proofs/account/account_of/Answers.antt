@@ -1,12 +1,13 @@
 use Rattle.std.proofs.Common.{ℕ, ◌<◌, ap, sym, subst, arith, length, slice_index_or, IsSome}
 use Rattle.tc_code.specs.Code.{instr_at}
 use Rattle.path_walk.proofs.Places.{all_there, fits_from, started_few, events_few}
-use Rattle.path_walk.proofs.course.tell_course.Goals as goal
+use Rattle.path_walk.proofs.account.account_of.Goals as goal
 
 pub tell-requires-clause-there : goal.tell-requires-clause-there
 tell-requires-clause-there c =
     subst (λ xs. (k d : ℕ) → k < length xs → IsSome (instr_at c.args.code.now c.args.function (slice_index_or xs k d))) (sym c.deref.ensures.value)
-    (all_there c.args.code.now c.args.function _ _ _ c.in_ok-places.places.items (fits_from c.args.code.now c.args.function c.args.fails _ _ c.in_ok-places.ensures.told))
+    (all_there c.args.code.now c.args.function _ _ _ c.in_ok-places.places.items
+    (fits_from c.args.code.now c.args.function c.args.fails _ _ c.in_ok-places.ensures.told))
 
 pub tell-requires-clause-few : goal.tell-requires-clause-few
 tell-requires-clause-few c = omega (arith, c.in_ok-places.ensures.few, ap length c.deref.ensures.value)

@@ -1,9 +1,8 @@
 //! All that is told of one thread.
 ghost use Rattle.std.specs.Prelude.{◌≡◌, ◌<◌, ◌^◌, length, IfOk};
-ghost use Rattle.tc_code.specs.Seen.{plain_instr};
 ghost use Rattle.path_walk.specs.Fits.{starts, started};
 ghost use Rattle.path_walk.specs.Steps.{steps_at, places_of};
-ghost use Rattle.path_walk.specs.Helpers.{Gives, mapped, course_by};
+ghost use Rattle.path_walk.specs.helpers.Accounts.{Gives, mapped, account_by};
 
 use crate::Walk;
 use crate::follow::{FollowFault, follow};
@@ -40,7 +39,7 @@ impl Started {
 
 /// All that is told of one thread.
 #[derive(Drop)]
-pub struct Course {
+pub struct Account {
     /// Its way.
     pub walk: Walk,
     /// The functions of the children that it creates.
@@ -53,7 +52,7 @@ pub struct Course {
 
 /// The function of the child that an instruction creates.
 fn child_function(instr: &Instr) -> Option<u32>
-    ensures { result ≡ starts (plain_instr instr.now) }
+    ensures { result ≡ starts instr.now }
 {
     match instr {
         Instr::Create { function, .. } => Some(*function),
@@ -82,15 +81,15 @@ fn started_by(
 }
 
 /// All that is told of a thread that does a function, by its path and whether it failed.
-pub fn tell_course(
+pub fn account_of(
     alloc: Global,
     code: &Code,
     function: usize,
     fails: bool,
     path: &ThreadPath,
-) -> Result<Course, FollowFault>
+) -> Result<Account, FollowFault>
     ensures told { Gives (λ c. record { walk = c.walk; started = c.started; operators = c.operators; dead = c.dead }) result
-        (mapped (course_by code.now fails path.now function) (places_of code.now function fails path.now.path)) }
+        (mapped (account_by code.now fails path.now function) (places_of code.now function fails path.now.path)) }
     ensures few { IfOk result (λ c. (length c.started < 2 ^ 16) × (length c.walk.events < 2 ^ 16)) }
 {
     let places = follow(alloc, code, function, fails, path)?;
@@ -109,7 +108,7 @@ pub fn tell_course(
         joins: joins(alloc, &events)?,
         events,
     };
-    Ok(Course {
+    Ok(Account {
         walk,
         started,
         operators,
