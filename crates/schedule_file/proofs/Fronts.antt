@@ -39,15 +39,17 @@ use Rattle.std.proofs.Common.{
 use Rattle.std.specs.Prelude.{MatchOption, option_map, codes}
 use Rattle.std.specs.List.{list_all, flat_map}
 use Rattle.std.specs.Fmt.{decimal}
-use Rattle.std.proofs.lemmas.Bool.{and_parts, and_from, le-leb, leb-true, lt-ltb, ltb-true, cases_Bool, cond-true, cond-false, eqb-true, eq-eqb, ne_eqb}
+use Rattle.std.proofs.lemmas.Bool.{and_parts, and_from, le-leb, leb-true, lt-leb, ltb-true, cases_Bool, cond-true, cond-false, eqb-true, eq-eqb, ne_eqb}
 use Rattle.std.proofs.lemmas.List.{length-append, append-nil}
 use Rattle.std.proofs.lemmas.List.Concat.{flat_map-cons}
 use Rattle.std.proofs.lemmas.Option.{same_Some, none-some}
 use Rattle.tc_base.specs.Names.{Name, name_text}
+use Rattle.tc_base.specs.declared.limits.TheConstants.{DEPTH}
 use Rattle.schedule_file.specs.Schedules.{is_child, is_name}
-use Rattle.schedule_file.specs.helpers.Reading.{◌>>=◌, behind, number_at, where_dot, with_child, children_at, name_at}
+use Rattle.schedule_file.specs.helpers.Reading.{◌>>=◌, behind, where_dot, with_child, children_at, name_at}
 use Rattle.schedule_file.proofs.Lists.{bind_some}
-use Rattle.schedule_file.proofs.Numbers.{ends_number, number_again, number_takes, TakesNumber}
+use Rattle.tc_decimal.specs.Decimals.{number_at}
+use Rattle.tc_decimal.proofs.Decimals.{ends_number, front_again, front_is, IsFront}
 
 behind_both : (f b : ℕ) (o : Option (List ℕ)) (rest : List ℕ) → cond (eqb f b) o None ≡ Some rest → (f ≡ b) × (o ≡ Some rest)
 behind_both f b o rest e =
@@ -95,7 +97,7 @@ children_text_more k ks rest =
     ∙ ap (λ (x : List ℕ). 46 ∷ x) (append_assoc (decimal k) (children_text ks) rest)
 
 ends_child : (ks : Name) (rest : List ℕ) → ends_name rest ≡ true → ends_number (children_text ks ++ rest) ≡ true
-ends_child [] (b ∷ bs) e = lt-ltb b 48 (let h = ltb-true b 46 e in omega arith)
+ends_child [] (b ∷ bs) e = rw (lt-leb 48 b (let h = ltb-true b 46 e in omega arith)) refl
 ends_child [] [] e = refl
 ends_child (k ∷ ks) rest e = ap ends_number (children_text_more k ks rest)
 
@@ -112,7 +114,7 @@ children_again zero (k ∷ ks) rest l all e = absurd (omega arith)
 children_again (suc room) (k ∷ ks) rest l all e =
     let a = and_parts (is_child k) (list_all is_child ks) all in
     let w = and_parts (leb 1 k) (leb k 255) a.0 in
-    let number = number_again 1 255 k (children_text ks ++ rest) (leb-true _ _ w.0) (leb-true _ _ w.1) (omega arith) (ends_child ks rest e) in
+    let number = front_again 1 255 k (children_text ks ++ rest) (leb-true _ _ w.0) (leb-true _ _ w.1) (omega arith) (ends_child ks rest e) in
     ap (children_at (suc room)) (children_text_more k ks rest)
     ∙ rw (number, children_again room ks rest (omega arith) a.1 e) refl
 
@@ -132,7 +134,7 @@ at_dot None bytes read x e = inl e
 at_dot (Some number) bytes read x e = inr (number, refl, e)
 
 with_taken : (room : ℕ) (bytes number : List ℕ) (ks : Name) (rest : List ℕ) (k : ℕ) (after : List ℕ) (others : Name) (last : List ℕ)
-    → bytes ≡ 46 ∷ number → TakesNumber 1 255 number k after → TakesChildren room after others last
+    → bytes ≡ 46 ∷ number → IsFront 1 255 number k after → TakesChildren room after others last
     → ◌≡◌ {A = Option (Name × List ℕ)} (Some (k ∷ others, last)) (Some (ks, rest)) → TakesChildren (suc room) bytes ks rest
 with_taken room bytes number ks rest k after others last dot one more e =
     let few = more.few in
@@ -155,7 +157,7 @@ children_takes (suc room) bytes ks rest e =
       | inr h ↦
           let a = bind_some (number_at 1 255 h.0) (λ k. with_child k.0 (children_at room k.1)) (ks, rest) h.2 in
           let b = bind_some (children_at room a.0.1) (λ x. Some (a.0.0 ∷ x.0, x.1)) (ks, rest) a.2 in
-          with_taken room bytes h.0 ks rest a.0.0 a.0.1 b.0.0 b.0.1 (behind_takes (codes ".") bytes h.0 h.1) (number_takes 1 255 h.0 a.0.0 a.0.1 a.1)
+          with_taken room bytes h.0 ks rest a.0.0 a.0.1 b.0.0 b.0.1 (behind_takes (codes ".") bytes h.0 h.1) (front_is 1 255 h.0 a.0.0 a.0.1 (omega arith) a.1)
           (children_takes room a.0.1 b.0.0 b.0.1 b.1) b.2
     ]
 
@@ -163,15 +165,15 @@ children_takes (suc room) bytes ks rest e =
 pub name_again : (n : Name) (rest : List ℕ) → is_name n ≡ true → ends_name rest ≡ true → name_at (name_text n ++ rest) ≡ Some (n, rest)
 unfolding name_at
 name_again n rest h e =
-    let a = and_parts (leb (length n) 8) (list_all is_child n) h in
-    children_again 8 n rest (leb-true _ _ a.0) a.1 e
+    let a = and_parts (leb (length n) DEPTH) (list_all is_child n) h in
+    children_again DEPTH n rest (leb-true _ _ a.0) a.1 e
 
 pub name_takes : (bytes : List ℕ) (n : Name) (rest : List ℕ) → name_at bytes ≡ Some (n, rest) → (bytes ≡ name_text n ++ rest) × (is_name n ≡ true)
 unfolding name_at
 name_takes bytes n rest e =
-    let a = bind_some (behind (codes "0") bytes) (children_at 8) (n, rest) e in
-    let t = children_takes 8 a.0 n rest a.2 in
-    (behind_takes (codes "0") bytes a.0 a.1 ∙ ap (λ (x : List ℕ). 48 ∷ x) t.parts, and_from (leb (length n) 8) (list_all is_child n) (le-leb _ _ t.few) t.each)
+    let a = bind_some (behind (codes "0") bytes) (children_at DEPTH) (n, rest) e in
+    let t = children_takes DEPTH a.0 n rest a.2 in
+    (behind_takes (codes "0") bytes a.0 a.1 ∙ ap (λ (x : List ℕ). 48 ∷ x) t.parts, and_from (leb (length n) DEPTH) (list_all is_child n) (le-leb _ _ t.few) t.each)
 
 -- Children read one after the other.
 
@@ -188,47 +190,47 @@ front_none front others e = ap (with_front front) e
 
 -- what is known while children are read one after the other
 pub record ChildrenSoFar (front : Name) (bytes : List ℕ) (total : Option (Name × List ℕ)) : Type 0 where
-  pub few : length front ≤ 8
-  pub read : with_front front (children_at (8 - length front) bytes) ≡ total
+  pub few : length front ≤ DEPTH
+  pub read : with_front front (children_at (DEPTH - length front) bytes) ≡ total
 
 -- one more child was read
-pub goes_on : (front : Name) (bytes number : List ℕ) (k : ℕ) (after : List ℕ) (total : Option (Name × List ℕ)) → length front ≤ 8 → length front ≢ 8
+pub goes_on : (front : Name) (bytes number : List ℕ) (k : ℕ) (after : List ℕ) (total : Option (Name × List ℕ)) → length front ≤ DEPTH → length front ≢ DEPTH
     → behind (codes ".") bytes ≡ Some number → number_at 1 255 number ≡ Some (k, after)
-    → with_front front (children_at (8 - length front) bytes) ≡ total → (longer : Name) → longer ≡ front ++ k ∷ [] → ChildrenSoFar longer after total
+    → with_front front (children_at (DEPTH - length front) bytes) ≡ total → (longer : Name) → longer ≡ front ++ k ∷ [] → ChildrenSoFar longer after total
 unfolding children_at
 goes_on front bytes number k after total few room dot one so_far longer e =
     let len : length longer ≡ length front + 1 = ap length e ∙ length-append front (k ∷ []) in
-    let n : 8 - length front ≡ suc (8 - length longer) = omega arith in
-    let step : children_at (8 - length front) bytes ≡ with_child k (children_at (8 - length longer) after) = rw (n, dot, one) refl in
+    let n : DEPTH - length front ≡ suc (DEPTH - length longer) = omega arith in
+    let step : children_at (DEPTH - length front) bytes ≡ with_child k (children_at (DEPTH - length longer) after) = rw (n, dot, one) refl in
     record {
       few = omega arith;
-      read = ap (λ (n : Name). with_front n (children_at (8 - length longer) after)) e
-          ∙ (sym (regroup front k (children_at (8 - length longer) after)) ∙ (ap (with_front front) (sym step) ∙ so_far));
+      read = ap (λ (n : Name). with_front n (children_at (DEPTH - length longer) after)) e
+          ∙ (sym (regroup front k (children_at (DEPTH - length longer) after)) ∙ (ap (with_front front) (sym step) ∙ so_far));
     }
 
 pub shorter : (bytes number : List ℕ) (k : ℕ) (after : List ℕ) → behind (codes ".") bytes ≡ Some number → number_at 1 255 number ≡ Some (k, after)
     → length after < length bytes
 shorter bytes number k after dot one =
     let a = ap length (behind_takes (codes ".") bytes number dot) in
-    let b = ap length (number_takes 1 255 number k after one).parts in
+    let b = ap length (front_is 1 255 number k after (omega arith) one).parts in
     omega (arith, length-append (decimal k) after)
 
 -- a ninth child, or no child behind the dot
-pub too_many : (front : Name) (bytes number : List ℕ) (total : Option (Name × List ℕ)) → length front ≡ 8 → behind (codes ".") bytes ≡ Some number
-    → with_front front (children_at (8 - length front) bytes) ≡ total → None ≡ total
+pub too_many : (front : Name) (bytes number : List ℕ) (total : Option (Name × List ℕ)) → length front ≡ DEPTH → behind (codes ".") bytes ≡ Some number
+    → with_front front (children_at (DEPTH - length front) bytes) ≡ total → None ≡ total
 unfolding children_at
 too_many front bytes number total full dot so_far =
-    let n : 8 - length front ≡ 0 = omega arith in
-    let step : children_at (8 - length front) bytes ≡ None = rw (n, dot) refl in
+    let n : DEPTH - length front ≡ 0 = omega arith in
+    let step : children_at (DEPTH - length front) bytes ≡ None = rw (n, dot) refl in
     sym (ap (with_front front) step) ∙ so_far
 
-pub no_child : (front : Name) (bytes number : List ℕ) (total : Option (Name × List ℕ)) → length front ≤ 8 → length front ≢ 8
+pub no_child : (front : Name) (bytes number : List ℕ) (total : Option (Name × List ℕ)) → length front ≤ DEPTH → length front ≢ DEPTH
     → behind (codes ".") bytes ≡ Some number → number_at 1 255 number ≡ None
-    → with_front front (children_at (8 - length front) bytes) ≡ total → None ≡ total
+    → with_front front (children_at (DEPTH - length front) bytes) ≡ total → None ≡ total
 unfolding children_at
 no_child front bytes number total few room dot none so_far =
-    let n : 8 - length front ≡ suc (7 - length front) = omega arith in
-    let step : children_at (8 - length front) bytes ≡ None = rw (n, dot, none) refl in
+    let n : DEPTH - length front ≡ suc (DEPTH - 1 - length front) = omega arith in
+    let step : children_at (DEPTH - length front) bytes ≡ None = rw (n, dot, none) refl in
     sym (ap (with_front front) step) ∙ so_far
 
 -- no dot comes
@@ -238,6 +240,6 @@ no_more zero bytes e = rw e refl
 no_more (suc room) bytes e = rw e refl
 
 pub is_done : (front : Name) (bytes : List ℕ) (total : Option (Name × List ℕ)) → behind (codes ".") bytes ≡ None
-    → with_front front (children_at (8 - length front) bytes) ≡ total → Some (front, bytes) ≡ total
+    → with_front front (children_at (DEPTH - length front) bytes) ≡ total → Some (front, bytes) ≡ total
 is_done front bytes total e so_far =
-    ap (λ (n : Name). Some (n, bytes)) (sym (append-nil front)) ∙ (sym (ap (with_front front) (no_more (8 - length front) bytes e)) ∙ so_far)
+    ap (λ (n : Name). Some (n, bytes)) (sym (append-nil front)) ∙ (sym (ap (with_front front) (no_more (DEPTH - length front) bytes e)) ∙ so_far)

@@ -1,20 +1,21 @@
 -- The line at the front of a text: what is read there is what was written, and what was written is read again.
-use Rattle.std.proofs.Common.{◌≡◌, ◌<◌, ℕ, true, ltb, List, [], ◌∷◌, ◌++◌, Option, Some, None, refl, sym, ap, ◌∙◌, subst, arith, append_assoc, inl, inr, ◌⊎◌}
+use Rattle.std.proofs.Common.{◌≡◌, ◌<◌, ◌-◌, ℕ, true, ltb, List, [], ◌∷◌, ◌++◌, Option, Some, None, refl, sym, ap, ◌∙◌, subst, arith, append_assoc, inl, inr, ◌⊎◌}
 use Rattle.std.specs.Prelude.{codes}
 use Rattle.std.specs.Fmt.{decimal}
 use Rattle.std.proofs.lemmas.Bool.{and_parts, and_from, lt-ltb, ltb-true}
 use Rattle.std.proofs.lemmas.Option.{same_Some, none-some}
 use Rattle.tc_base.specs.Names.{Name, name_text}
+use Rattle.tc_base.specs.Models.{model_name}
+use Rattle.tc_base.specs.declared.limits.TheConstants.{CELLS}
 use Rattle.tc_base.specs.declared.model.Model.{Model}
 use Rattle.tc_base.specs.declared.model.Model.TheVariants.{Sc, Tso, Pso}
 use Rattle.tc_base.specs.declared.moves.Move.{Move}
 use Rattle.tc_base.specs.declared.moves.Move.TheVariants.{Run, Wake, Drain}
-use Rattle.schedule_file.specs.Schedules.{header, model_text, line, is_name, is_move}
+use Rattle.schedule_file.specs.Schedules.{header, line, is_name, is_move}
 use Rattle.schedule_file.specs.helpers.Reading.{
   ◌>>=◌,
   or_else,
   behind,
-  number_at,
   name_at,
   cell_at,
   ended,
@@ -27,7 +28,8 @@ use Rattle.schedule_file.specs.helpers.Reading.{
   header_at,
 }
 use Rattle.schedule_file.proofs.Lists.{bind_some}
-use Rattle.schedule_file.proofs.Numbers.{number_again, number_takes}
+use Rattle.tc_decimal.specs.Decimals.{number_at}
+use Rattle.tc_decimal.proofs.Decimals.{front_again, front_is}
 use Rattle.schedule_file.proofs.Fronts.{behind_takes, name_again, name_takes}
 
 -- What was written is read again.
@@ -51,7 +53,7 @@ pub tso_again : (n : Name) (rest : List ℕ) → is_name n ≡ true → drain_at
 unfolding drain_at cell_at
 tso_again n rest h = rw (append_assoc (name_text n) (codes "\n") rest, name_again n (10 ∷ rest) h refl) refl
 
-pub pso_again : (n : Name) (cell : ℕ) (rest : List ℕ) → is_name n ≡ true → cell < 1024
+pub pso_again : (n : Name) (cell : ℕ) (rest : List ℕ) → is_name n ≡ true → cell < CELLS
     → drain_at Pso (line (Drain n (Some cell)) ++ rest) ≡ Some (Drain n (Some cell), rest)
 unfolding drain_at cell_at
 pso_again n cell rest h k =
@@ -59,7 +61,7 @@ pso_again n cell rest h k =
       append_assoc (name_text n) (32 ∷ (decimal cell ++ codes "\n")) rest,
       name_again n (32 ∷ ((decimal cell ++ codes "\n") ++ rest)) h refl,
       append_assoc (decimal cell) (codes "\n") rest,
-      number_again 0 1023 cell (10 ∷ rest) (omega arith) (omega arith) (omega arith) refl,
+      front_again 0 (CELLS - 1) cell (10 ∷ rest) (omega arith) (omega arith) (omega arith) refl,
     ) refl
 
 run_first : (model : Model) (bytes : List ℕ) (x : Move × List ℕ) → run_at bytes ≡ Some x → move_at model bytes ≡ Some x
@@ -95,8 +97,8 @@ move_again model (Wake n waiter) rest h =
     wake_first model _ _ (no_run 119 _ refl) (wake_again n waiter rest p.0 p.1)
 move_again Tso (Drain n None) rest h = drain_first Tso _ _ (no_run_drain _) (no_wake_drain _) (tso_again n rest h)
 move_again Pso (Drain n (Some cell)) rest h =
-    let p = and_parts (is_name n) (ltb cell 1024) h in
-    drain_first Pso _ _ (no_run_drain _) (no_wake_drain _) (pso_again n cell rest p.0 (ltb-true cell 1024 p.1))
+    let p = and_parts (is_name n) (ltb cell CELLS) h in
+    drain_first Pso _ _ (no_run_drain _) (no_wake_drain _) (pso_again n cell rest p.0 (ltb-true cell CELLS p.1))
 move_again Sc (Drain n None) rest h = absurd cc
 move_again Sc (Drain n (Some cell)) rest h = absurd cc
 move_again Tso (Drain n (Some cell)) rest h = absurd cc
@@ -181,13 +183,13 @@ cell_takes Sc bytes x e = absurd (none-some x e)
 cell_takes Tso bytes x e =
     subst (λ (y : Option ℕ × List ℕ). TakesCell Tso bytes y.0 y.1) (same_Some _ _ e) (record { parts = refl; is = λ n h. h })
 cell_takes Pso bytes x e =
-    let a = bind_some (behind (codes " ") bytes) (λ b. number_at 0 1023 b >>= λ k. Some (Some k.0, k.1)) x e in
-    let b = bind_some (number_at 0 1023 a.0) (λ k. Some (Some k.0, k.1)) x a.2 in
-    let k = number_takes 0 1023 a.0 b.0.0 b.0.1 b.1 in
+    let a = bind_some (behind (codes " ") bytes) (λ b. number_at 0 (CELLS - 1) b >>= λ k. Some (Some k.0, k.1)) x e in
+    let b = bind_some (number_at 0 (CELLS - 1) a.0) (λ k. Some (Some k.0, k.1)) x a.2 in
+    let k = front_is 0 (CELLS - 1) a.0 b.0.0 b.0.1 (omega arith) b.1 in
     let small = k.below in
     let made : TakesCell Pso bytes (Some b.0.0) b.0.1 = record {
       parts = behind_takes (codes " ") bytes a.0 a.1 ∙ ap (λ (y : List ℕ). 32 ∷ y) k.parts;
-      is = λ n h. and_from (is_name n) (ltb b.0.0 1024) h (lt-ltb b.0.0 1024 (omega arith));
+      is = λ n h. and_from (is_name n) (ltb b.0.0 CELLS) h (lt-ltb b.0.0 CELLS (omega arith));
     } in
     subst (λ (y : Option ℕ × List ℕ). TakesCell Pso bytes y.0 y.1) (same_Some _ _ b.2) made
 
@@ -229,7 +231,7 @@ named_takes made name bytes model rest e =
     (behind_takes name bytes a.0 a.1 ∙ ap (λ (x : Model × List ℕ). name ++ x.1) pair, ap (λ (x : Model × List ℕ). x.0) pair)
 
 abbrev name_line : Model → List ℕ
-name_line model = model_text model ++ codes "\n"
+name_line model = model_name model ++ codes "\n"
 
 model_takes : (bytes : List ℕ) (model : Model) (rest : List ℕ) → model_at bytes ≡ Some (model, rest) → bytes ≡ name_line model ++ rest
 unfolding model_at

@@ -1,27 +1,8 @@
--- Runs of bytes at the front of a list, and steps that may fail.
-use Rattle.std.proofs.Common.{◌≡◌, ◌+◌, ℕ, suc, Bool, true, List, [], ◌∷◌, ◌++◌, length, take, Option, Some, None, refl, ap, inl, inr, ◌∙◌, arith}
-use Rattle.std.specs.List.{list_all, prefix_len}
-use Rattle.std.proofs.lemmas.Bool.{cases_Bool, and_parts, and_from, cond-true, cond-false}
+-- Steps that may fail.
+use Rattle.std.proofs.Common.{◌≡◌, Option, Some, None, refl}
 use Rattle.schedule_file.specs.helpers.Reading.{◌>>=◌}
 
 -- the value of a step that didn't fail
 pub bind_some : {A B : Type 0} (o : Option A) (f : A → Option B) (y : B) → (o >>= f) ≡ Some y → (x : A) × (o ≡ Some x) × (f x ≡ Some y)
 bind_some (Some x) f y e = (x, refl, e)
 bind_some None f y e = absurd cc
-
--- a run of bytes that pass, and then none that does
-pub prefix_len_run : (p : ℕ → Bool) (run rest : List ℕ) → list_all p run ≡ true → prefix_len p rest ≡ 0 → prefix_len p (run ++ rest) ≡ length run
-prefix_len_run p [] rest h e = e
-prefix_len_run p (b ∷ bs) rest h e =
-    let q = and_parts (p b) (list_all p bs) h in
-    let r = prefix_len_run p bs rest q.1 e in
-    cond-true (p b) _ _ q.0 ∙ (omega arith)
-
--- each byte of the run at the front passes
-pub run_passes : (p : ℕ → Bool) (bytes : List ℕ) → list_all p (take (prefix_len p bytes) bytes) ≡ true
-run_passes p [] = refl
-run_passes p (b ∷ bs) = elim (cases_Bool (p b)) [
-  | inl h ↦ let one : prefix_len p (b ∷ bs) ≡ suc (prefix_len p bs) = cond-true (p b) (1 + prefix_len p bs) 0 h ∙ (omega arith) in
-      ap (λ (n : ℕ). list_all p (take n (b ∷ bs))) one ∙ and_from (p b) _ h (run_passes p bs)
-  | inr h ↦ ap (λ (n : ℕ). list_all p (take n (b ∷ bs))) (cond-false (p b) (1 + prefix_len p bs) 0 h)
-]

@@ -1,22 +1,18 @@
 -- Schedules, and the text of each.
-use Rattle.std.specs.Prelude.{ℕ, ◌^◌, ◌<◌, Bool, false, ◌&&◌, nat_le, nat_lt, IsTrue, List, ◌++◌, length, Some, None, codes}
+use Rattle.std.specs.Prelude.{ℕ, ◌<◌, Bool, false, ◌&&◌, nat_le, nat_lt, IsTrue, List, ◌++◌, length, Some, None, codes}
 use Rattle.std.specs.List.{flat_map, list_all}
 use Rattle.std.specs.Fmt.{decimal}
 use Rattle.tc_base.specs.Names.{Name, name_text}
+use Rattle.tc_base.specs.Models.{model_name}
+use Rattle.tc_base.specs.declared.limits.TheConstants.{CELLS, DEPTH, SCHEDULE_BYTES}
 use Rattle.tc_base.specs.declared.model.Model.{Model}
-use Rattle.tc_base.specs.declared.model.Model.TheVariants.{Sc, Tso, Pso}
+use Rattle.tc_base.specs.declared.model.Model.TheVariants.{Tso, Pso}
 use Rattle.tc_base.specs.declared.moves.Move.{Move}
 use Rattle.tc_base.specs.declared.moves.Move.TheVariants.{Run, Wake, Drain}
 
--- how a schedule names the model
-abbrev pub model_text : Model → List ℕ
-model_text Sc = codes "sc"
-model_text Tso = codes "tso"
-model_text Pso = codes "pso"
-
 -- the first line
 abbrev pub header : Model → List ℕ
-header model = codes "clap-schedule 1 " ++ (model_text model ++ codes "\n")
+header model = codes "clap-schedule 1 " ++ (model_name model ++ codes "\n")
 
 -- a move's line
 abbrev pub line : Move → List ℕ
@@ -33,21 +29,21 @@ schedule_text model moves = header model ++ flat_map line moves
 abbrev pub is_child : ℕ → Bool
 is_child child = nat_le 1 child && nat_le child 255
 
--- a name that a schedule may name: at most 8 children
+-- a name that a schedule may name
 abbrev pub is_name : Name → Bool
-is_name n = nat_le (length n) 8 && list_all is_child n
+is_name n = nat_le (length n) DEPTH && list_all is_child n
 
--- a move that a schedule may have: under TSO a drain names no cell, under PSO one of the 1,024
+-- a move that a schedule may have: under TSO a drain names no cell, under PSO one
 abbrev pub is_move : Model → Move → Bool
 is_move model (Run n) = is_name n
 is_move model (Wake n waiter) = is_name n && is_name waiter
 is_move Tso (Drain n None) = is_name n
-is_move Pso (Drain n (Some cell)) = is_name n && nat_lt cell 1024
+is_move Pso (Drain n (Some cell)) = is_name n && nat_lt cell CELLS
 is_move _ (Drain n cell) = false
 
--- a schedule has this many lines at most, the header among them
+-- a schedule has this many lines at most, the header among them: as many as its bytes may be
 abbrev pub most_lines : ℕ
-most_lines = 2 ^ 26
+most_lines = SCHEDULE_BYTES
 
 -- the moves have a text under this model
 abbrev pub HaveText : Model → List Move → Type 0

@@ -2,9 +2,11 @@
 ghost use Rattle.std.specs.Prelude.{◌≡◌, option_map, IfOk};
 ghost use Rattle.schedule_file.specs.helpers.Reading as reading;
 
-use crate::front::{behind, name_at, number_at};
+use crate::front::{behind, name_at};
 use std::alloc::{AllocError, Global};
+use tc_base::limits::CELLS;
 use tc_base::{Model, Move};
+use tc_decimal::number_at;
 
 /// The model that the header at the front names, and what stands behind the header.
 #[tactic(auto, unfolding(crate::specs::helpers::Reading::header_at, crate::specs::helpers::Reading::model_at))]
@@ -107,8 +109,8 @@ fn cell_at(model: Model, text: &[u8]) -> Option<(Option<u32>, &[u8])>
         Model::Tso => Some((None, text)),
         Model::Pso => {
             let number = behind(b" ", text)?;
-            let (cell, rest) = number_at(0, 1023, number)?;
-            Some((Some(cell as u32), rest))
+            let (cell, rest) = number_at(0, CELLS as u32 - 1, number)?;
+            Some((Some(cell), rest))
         }
     }
 }

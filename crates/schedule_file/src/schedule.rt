@@ -5,9 +5,9 @@ use tc_base::{Model, Move};
 
 /// The moves of a run, and the model under which they are made.
 ///
-/// A schedule has a text: it has fewer than 2^26 moves, its names have at most 8 children with numbers from 1
-/// to 255, its cells are below 1,024, and a drain names a cell under PSO, none under TSO, and stands under no
-/// other model.
+/// A schedule has a text: it has no more lines than a schedule may have bytes, its names have at most `DEPTH` children
+/// with numbers from 1 to 255, its cells are below `CELLS`, and a drain names a cell under PSO, none under TSO, and
+/// stands under no other model.
 #[derive(Debug, Drop)]
 pub struct Schedule {
     pub model: Model,

@@ -1,6 +1,6 @@
 //! From a schedule to its text.
 ghost use Rattle.std.specs.Prelude.{◌≡◌, ◌++◌, IfOk, string_bytes};
-ghost use Rattle.schedule_file.specs.Schedules.{model_text, header, line, schedule_text};
+ghost use Rattle.schedule_file.specs.Schedules.{header, line, schedule_text};
 
 use crate::schedule::Schedule;
 use std::alloc::{AllocError, Global};
@@ -20,12 +20,7 @@ pub fn write_schedule(alloc: Global, schedule: &Schedule) -> Result<Vec<u8>, All
 fn header_text(alloc: Global, model: Model) -> Result<String, AllocError>
     ensures { IfOk result (λ text. string_bytes text ≡ header model) }
 {
-    let name = match model {
-        Model::Sc => "sc",
-        Model::Tso => "tso",
-        Model::Pso => "pso",
-    };
-    format!(in alloc; "clap-schedule 1 {name}\n")
+    format!(in alloc; "clap-schedule 1 {model}\n")
 }
 
 fn line_text(alloc: Global, next: &Move) -> Result<String, AllocError>

@@ -1,13 +1,12 @@
 -- How a reader takes the front of a text: a value and what stands behind it.
-use Rattle.std.specs.Prelude.{ℕ, zero, suc, Bool, false, ◌&&◌, not, nat_le, nat_lt, ◌==◌, if◌then◌else◌, List, [], ◌∷◌, length}
-use Rattle.std.specs.Prelude.{Option, Some, None, codes, take, drop}
-use Rattle.std.specs.List.{prefix_len}
-use Rattle.std.specs.Str.Parse.{digits_value}
+use Rattle.std.specs.Prelude.{ℕ, zero, suc, ◌-◌, ◌==◌, if◌then◌else◌, List, [], ◌∷◌, Option, Some, None, codes}
 use Rattle.tc_base.specs.Names.{Name}
+use Rattle.tc_base.specs.declared.limits.TheConstants.{CELLS, DEPTH}
 use Rattle.tc_base.specs.declared.model.Model.{Model}
 use Rattle.tc_base.specs.declared.model.Model.TheVariants.{Sc, Tso, Pso}
 use Rattle.tc_base.specs.declared.moves.Move.{Move}
 use Rattle.tc_base.specs.declared.moves.Move.TheVariants.{Run, Wake, Drain}
+use Rattle.tc_decimal.specs.Decimals.{number_at}
 
 infixl 10 ◌>>=◌
 abbrev pub ◌>>=◌ : {A B : Type 0} → Option A → (A → Option B) → Option B
@@ -25,25 +24,6 @@ behind [] bytes = Some bytes
 behind (f ∷ front) [] = None
 behind (f ∷ front) (b ∷ bytes) = if f == b then behind front bytes else None
 
-abbrev pub is_digit : ℕ → Bool
-is_digit b = nat_le 48 b && nat_le b 57
-
--- a `0` stands before other bytes
-abbrev pub leads_with_zero : List ℕ → Bool
-leads_with_zero (b ∷ _ ∷ _) = b == 48
-leads_with_zero _ = false
-
--- the number that these digits write
-abbrev pub number_of : List ℕ → Option ℕ
-number_of digits = if not (leads_with_zero digits) && nat_lt 0 (length digits) && nat_lt (digits_value 10 digits) 65536
-    then Some (digits_value 10 digits) else None
-
--- the number from low to high at the front
-unfoldable pub number_at : ℕ → ℕ → List ℕ → Option (ℕ × List ℕ)
-number_at low high bytes = do
-  n ← number_of (take (prefix_len is_digit bytes) bytes)
-  if nat_le low n && nat_le n high then Some (n, drop (prefix_len is_digit bytes) bytes) else None
-
 -- one child, and those that the rest gives
 abbrev pub with_child : ℕ → Option (Name × List ℕ) → Option (Name × List ℕ)
 with_child child others = others >>= λ x. Some (child ∷ x.0, x.1)
@@ -60,7 +40,7 @@ children_at (suc room) bytes =
     where_dot (behind (codes ".") bytes) bytes (λ number. number_at 1 255 number >>= λ k. with_child k.0 (children_at room k.1))
 
 unfoldable pub name_at : List ℕ → Option (Name × List ℕ)
-name_at bytes = behind (codes "0") bytes >>= children_at 8
+name_at bytes = behind (codes "0") bytes >>= children_at DEPTH
 
 -- what a drain's line names behind the thread
 unfoldable pub cell_at : Model → List ℕ → Option (Option ℕ × List ℕ)
@@ -68,7 +48,7 @@ cell_at Sc bytes = None
 cell_at Tso bytes = Some (None, bytes)
 cell_at Pso bytes = do
   number ← behind (codes " ") bytes
-  cell ← number_at 0 1023 number
+  cell ← number_at 0 (CELLS - 1) number
   Some (Some cell.0, cell.1)
 
 -- the end of a move's line
