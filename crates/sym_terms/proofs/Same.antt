@@ -4,7 +4,7 @@ use Rattle.std.proofs.lemmas.Bool.{false≢true}
 use Rattle.std.proofs.lemmas.Bool.Decides.{Decides-int_eq, Decides-eqb}
 use Rattle.std.specs.Bool.{Decides, one_answer}
 use Rattle.std.specs.Cmp.{IsEquivalence}
-use Rattle.std.proofs.lemmas.Bool.{eq-eqb}
+use Rattle.std.proofs.lemmas.Bool.{and_parts, and_from, eq-eqb}
 use denote.Enum.Bare.{sameb, same_true, true_same}
 use Rattle.tc_base.specs.Arith.{same_unary, same_binary}
 use Rattle.tc_base.specs.declared.arith.UnOp.{UnOp}
@@ -71,38 +71,26 @@ unary_one a b h = same_true unary_type (search rules) a b (unary_eq a b ∙ h)
 binary_one : (a b : BinOp) → same_binary a b ≡ true → a ≡ b
 binary_one a b h = same_true binary_type (search rules) a b (binary_eq a b ∙ h)
 
-first : (p q : Bool) → (p && q) ≡ true → p ≡ true
-first true q h = refl
-first false q h = absurd (false≢true h)
-
-second : (p q : Bool) → (p && q) ≡ true → q ≡ true
-second true q h = h
-second false q h = absurd (false≢true h)
-
-both : (p q : Bool) → p ≡ true → q ≡ true → (p && q) ≡ true
-both p q g h = rw (g, h) refl
-
 -- two nodes that are the same are one
 pub same_one : (a b : Node) → same_node a b ≡ true → a ≡ b
 same_one (Constant m) (Constant n) h = ap Constant ((Decides-int_eq m n).0 h)
 same_one (Symbol j) (Symbol k) h = ap Symbol ((Decides-eqb j k).0 h)
 same_one (Unary op a) (Unary oq c) h =
-    ap (λ o. Unary o a) (unary_one op oq (first (same_unary op oq) (a == c) h))
-    ∙ ap (Unary oq) ((Decides-eqb a c).0 (second (same_unary op oq) (a == c) h))
+    let parts = and_parts (same_unary op oq) (a == c) h in
+    ap (λ o. Unary o a) (unary_one op oq parts.0) ∙ ap (Unary oq) ((Decides-eqb a c).0 parts.1)
 same_one (Binary op a b) (Binary oq c d) h =
-    let parts = second (same_binary op oq) (a == c && b == d) h in
-    ap (λ o. Binary o a b) (binary_one op oq (first (same_binary op oq) (a == c && b == d) h))
-    ∙ ap (λ x. Binary oq x b) ((Decides-eqb a c).0 (first (a == c) (b == d) parts))
-    ∙ ap (Binary oq c) ((Decides-eqb b d).0 (second (a == c) (b == d) parts))
+    let parts = and_parts (same_binary op oq) (a == c && b == d) h in
+    let names = and_parts (a == c) (b == d) parts.1 in
+    ap (λ o. Binary o a b) (binary_one op oq parts.0) ∙ ap (λ x. Binary oq x b) ((Decides-eqb a c).0 names.0) ∙ ap (Binary oq c) ((Decides-eqb b d).0 names.1)
 same_one _ _ h = absurd (false≢true h)
 
 same_self : (a : Node) → same_node a a ≡ true
 same_self (Constant m) = (Decides-int_eq m m).1 refl
 same_self (Symbol k) = eq-eqb k k refl
-same_self (Unary op a) = both (same_unary op op) (a == a) (sym (unary_eq op op) ∙ true_same unary_type op op refl) (eq-eqb a a refl)
+same_self (Unary op a) = and_from (same_unary op op) (a == a) (sym (unary_eq op op) ∙ true_same unary_type op op refl) (eq-eqb a a refl)
 same_self (Binary op a b) =
-    both (same_binary op op) (a == a && b == b) (sym (binary_eq op op) ∙ true_same binary_type op op refl)
-    (both (a == a) (b == b) (eq-eqb a a refl) (eq-eqb b b refl))
+    and_from (same_binary op op) (a == a && b == b) (sym (binary_eq op op) ∙ true_same binary_type op op refl)
+    (and_from (a == a) (b == b) (eq-eqb a a refl) (eq-eqb b b refl))
 
 -- the test tells whether two nodes are one
 pub same_decides : (a b : Node) → Decides (same_node a b) (a ≡ b)
