@@ -3,7 +3,9 @@ use Rattle.std.specs.Prelude.{◌≡◌, ◌+◌, ◌<◌, ◌≤◌, ◌^◌, l
 use Rattle.std.specs.FinMap as fin
 use Rattle.tc_base.specs.Names.{Name, ByName}
 use Rattle.tc_base.specs.States.{Local, Thread}
-use Rattle.tc_code.specs.Instr.{Instr, Branch}
+use Rattle.tc_code.specs.declared.instr.Instr.{Instr}
+use Rattle.tc_code.specs.declared.instr.Instr.TheVariants.{Branch}
+use Rattle.tc_base.specs.declared.limits.TheConstants.{CELLS}
 use Rattle.tc_code.specs.Code.{Code}
 use Rattle.tc_code.specs.Lawful.{names_what_is}
 use Rattle.tc_code.specs.declared.code.Func.{Func}
@@ -13,16 +15,16 @@ use Rattle.tc_code.specs.Step.{ints_of, arguments_of}
 use Rattle.run_laws.specs.Counters.{IsBelowLast}
 use Rattle.run_laws.specs.Whole.{IndexIsWithin}
 
--- a function with as many slots and thread variables as the thread has
+-- a function with as many slots and handles as the thread has
 abbrev pub sized : Func → Local → Func
-sized f t = record f { ints = length t.slots; tids = length t.handles }
+sized f t = record f { ints = length t.slots; handles = length t.handles }
 
 -- what the instruction names is there, and the index of its access is inside the array
 pub record CanAsk (code : Code) (t : Local) (i : Instr) : Type 0 where
   pub function : Func
   pub names : IsTrue (names_what_is code (sized function t) i)
   pub held : length t.held ≡ code.mutexes
-  pub cells : length code.memory ≤ 1024
+  pub cells : length code.memory ≤ CELLS
   pub index : IndexIsWithin t i
 
 -- there is room for its next place, its next count, and one more child

@@ -4,7 +4,7 @@ use Rattle.std.specs.FinMap as fin
 use Rattle.tc_base.specs.Names.{Name, ByName}
 use Rattle.tc_base.specs.Buffers.{BufferOps}
 use Rattle.tc_base.specs.States.{Thread}
-use Rattle.tc_code.specs.Instr.{Instr}
+use Rattle.tc_code.specs.declared.instr.Instr.{Instr}
 use Rattle.tc_code.specs.Step.{local_after}
 use Rattle.tc_threads.specs.declared.effect.Effect.{Effect}
 use Rattle.tc_threads.specs.declared.effect.Effect.TheVariants.{Takes, Issues, Bars}

@@ -6,8 +6,6 @@ ghost use Rattle.tc_base.specs.declared.handle.Handle.{Handle};
 ghost use Rattle.tc_code.specs.Code as flat;
 ghost use Rattle.tc_code.specs.Lawful.{IsLawful};
 ghost use Rattle.tc_code.specs.Expr.{value_of, names_slots};
-ghost use Rattle.tc_code.specs.Seen.{plain_instr};
-ghost use Rattle.tc_code.specs.SeenExpr.{plain_expr};
 ghost use Rattle.tc_code.specs.Step as plain;
 ghost use Rattle.tc_threads.specs.CanDo.{CanAsk, CanDo, HasRoom, is_branch};
 
@@ -72,7 +70,7 @@ impl Local {
             function,
             instruction: 0,
             slots,
-            handles: vec![in alloc; Handle::Unset; func.tids as usize]?,
+            handles: vec![in alloc; Handle::Unset; func.handles as usize]?,
             held: vec![in alloc; false; code.mutexes() as usize]?,
             children: 0,
             has_exited: false,
@@ -118,7 +116,7 @@ impl Local {
 
     /// The instruction that it does next, and none once it has exited.
     pub fn instr<'a>(&self, code: &'a Code) -> Option<&'a Instr>
-        ensures next { option_map (λ i. plain_instr i.now) result ≡ plain.instr_of code.now self.now }
+        ensures next { option_map (λ i. i.now) result ≡ plain.instr_of code.now self.now }
         ensures lawful { OnSome result (IsLawful code.now) }
         ensures room { OnSome result (self.now.instruction + 1 < 2 ^ 64) }
     {
@@ -130,8 +128,8 @@ impl Local {
 
     /// What an instruction asks.
     pub fn request(&self, instr: &Instr) -> Request
-        requires { (code : flat.Code) × CanAsk code self.now (plain_instr instr.now) }
-        ensures { result ≡ plain.request self.now (plain_instr instr.now) }
+        requires { (code : flat.Code) × CanAsk code self.now instr.now }
+        ensures { result ≡ plain.request self.now instr.now }
     {
         match instr {
             Instr::Set { .. } | Instr::Branch { .. } | Instr::Goto { .. } => Request::Silent,
@@ -184,8 +182,8 @@ impl Local {
 
     /// The values that a create hands to the child.
     pub fn arguments(&self, alloc: Global, instr: &Instr) -> Result<Vec<i32>, AllocError>
-        requires { (code : flat.Code) × CanAsk code self.now (plain_instr instr.now) }
-        ensures { IfOk result (λ v. v.items ≡ plain.arguments_of self.now (plain_instr instr.now)) }
+        requires { (code : flat.Code) × CanAsk code self.now instr.now }
+        ensures { IfOk result (λ v. v.items ≡ plain.arguments_of self.now instr.now) }
     {
         match instr {
             Instr::Create { arguments, .. } => values(alloc, arguments.as_slice(), &self.slots),
@@ -196,10 +194,10 @@ impl Local {
     /// Does an instruction that doesn't fail, `taken` being what it takes from memory, if it takes anything. Only the outcome of a branch takes
     /// memory, before anything changes.
     pub fn advance(&mut self, instr: &Instr, taken: i32) -> Result<(), AllocError>
-        requires { (code : flat.Code) × CanDo code self.old (plain_instr instr.now) }
-        ensures ok { OnOk result (self.new ≡ plain.local_after self.old (plain_instr instr.now) taken) }
+        requires { (code : flat.Code) × CanDo code self.old instr.now }
+        ensures ok { OnOk result (self.new ≡ plain.local_after self.old instr.now taken) }
         ensures err { OnErr result (self.new ≡ self.old) }
-        ensures only { OnErr result (IsTrue (is_branch (plain_instr instr.now))) }
+        ensures only { OnErr result (IsTrue (is_branch instr.now)) }
     {
         match instr {
             Instr::Set { slot, value: e } => {
@@ -289,7 +287,7 @@ impl Local {
         self.go_on();
     }
 
-    /// A thread variable takes a new child.
+    /// A handle takes a new child.
     fn create(&mut self, handle: u32)
         requires room { HasRoom self.old }
         requires there { handle < length self.old.handles }
@@ -303,7 +301,7 @@ impl Local {
         self.handles[handle as usize] = Handle::Child(self.children);
     }
 
-    /// The child of a thread variable is joined.
+    /// The child of a handle is joined.
     fn join(&mut self, handle: u32)
         requires room { HasRoom self.old }
         requires there { handle < length self.old.handles }
@@ -336,8 +334,8 @@ impl Local {
 
 /// The values of expressions, over these slots.
 fn values(alloc: Global, arguments: &[Expr], slots: &[i32]) -> Result<Vec<i32>, AllocError>
-    requires { IsTrue (list_all (names_slots (length slots.now)) (map plain_expr arguments.now)) }
-    ensures { IfOk result (λ v. v.items ≡ map (λ e. value_of e slots.now) (map plain_expr arguments.now)) }
+    requires { IsTrue (list_all (names_slots (length slots.now)) arguments.now) }
+    ensures { IfOk result (λ v. v.items ≡ map (λ e. value_of e slots.now) arguments.now) }
 {
     let mut found = Vec::new(alloc);
     for e in arguments {

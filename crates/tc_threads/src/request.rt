@@ -38,7 +38,7 @@ pub fn cell_at(first: u32, index: i32) -> u32
     first + index.unsigned_abs()
 }
 
-/// Whether a thread variable holds a child that hasn't been joined.
+/// Whether a handle is a child that hasn't been joined.
 pub fn can_be_joined(handle: Handle) -> bool
     ensures { result ≡ plain.can_be_joined handle }
 {

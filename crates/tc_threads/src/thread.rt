@@ -3,7 +3,6 @@ ghost use Rattle.std.specs.Prelude.{◌≡◌, ◌+◌, ◌<◌, ◌≤◌, ◌^
 ghost use Rattle.store_buffers.specs.Laws.{AreForms};
 ghost use Rattle.tc_code.specs.Code as flat;
 ghost use Rattle.tc_code.specs.Lawful.{IsLawful};
-ghost use Rattle.tc_code.specs.Seen.{plain_instr};
 ghost use Rattle.tc_code.specs.Step as plain;
 ghost use Rattle.tc_threads.specs.CanDo.{CanAsk, CanDo};
 ghost use Rattle.tc_threads.specs.Effects.{MayHave, MayRefuse, affected};
@@ -61,7 +60,7 @@ impl<M: MemoryModel> Thread<M> {
 
     /// The instruction that it does next, and none once it has exited.
     pub fn instr<'a>(&self, code: &'a Code) -> Option<&'a Instr>
-        ensures next { option_map (λ i. plain_instr i.now) result ≡ plain.instr_of code.now self.now.local }
+        ensures next { option_map (λ i. i.now) result ≡ plain.instr_of code.now self.now.local }
         ensures lawful { OnSome result (IsLawful code.now) }
         ensures room { OnSome result (self.now.local.instruction + 1 < 2 ^ 64) }
     {
@@ -70,8 +69,8 @@ impl<M: MemoryModel> Thread<M> {
 
     /// What an instruction asks.
     pub fn request(&self, instr: &Instr) -> Request
-        requires { (code : flat.Code) × CanAsk code self.now.local (plain_instr instr.now) }
-        ensures { result ≡ plain.request self.now.local (plain_instr instr.now) }
+        requires { (code : flat.Code) × CanAsk code self.now.local instr.now }
+        ensures { result ≡ plain.request self.now.local instr.now }
     {
         self.local.request(instr)
     }
@@ -106,11 +105,11 @@ impl<M: MemoryModel> Thread<M> {
 
     /// Does an instruction that doesn't fail, with this effect. Memory is taken before anything changes.
     pub fn advance(&mut self, instr: &Instr, effect: Effect) -> Result<(), AllocError>
-        requires can { (code : flat.Code) × CanDo code self.old.local (plain_instr instr.now) }
-        requires may { MayHave M.ops (plain_instr instr.now) effect }
-        ensures ok { OnOk result (self.new ≡ affected M.ops self.old (plain_instr instr.now) effect) }
+        requires can { (code : flat.Code) × CanDo code self.old.local instr.now }
+        requires may { MayHave M.ops instr.now effect }
+        ensures ok { OnOk result (self.new ≡ affected M.ops self.old instr.now effect) }
         ensures err { OnErr result (self.new ≡ self.old) }
-        ensures only { OnErr result (MayRefuse (plain_instr instr.now) effect) }
+        ensures only { OnErr result (MayRefuse instr.now effect) }
     {
         match effect {
             Effect::Takes(value) => self.local.advance(instr, value),

@@ -4,7 +4,6 @@ ghost use Rattle.std.specs.FinMap as map;
 ghost use Rattle.std.specs.Option.{option_map_or};
 ghost use Rattle.tc_base.specs.Names.{main, child};
 ghost use Rattle.tc_code.specs.Code as flat;
-ghost use Rattle.tc_code.specs.Seen.{plain_instr};
 ghost use Rattle.tc_code.specs.Step.{local_after, stepped};
 ghost use Rattle.tc_threads.specs.CanDo.{CanAdvance, CanDo, is_branch};
 ghost use Rattle.tc_threads.specs.Effects.{DrainsTo, MayHave, MayRefuse, affected};
@@ -78,12 +77,12 @@ impl<M: MemoryModel> Threads<M> {
         instr: &Instr,
         effect: Effect,
     ) -> Result<(), AllocError>
-        requires can { CanAdvance self.old name.now (plain_instr instr.now) }
-        requires may { MayHave M.ops (plain_instr instr.now) effect }
+        requires can { CanAdvance self.old name.now instr.now }
+        requires may { MayHave M.ops instr.now effect }
         ensures ok { OnOk result (IfSome (map.get self.old name.now)
-            (λ t. self.new ≡ map.insert self.old name.now (affected M.ops t (plain_instr instr.now) effect))) }
+            (λ t. self.new ≡ map.insert self.old name.now (affected M.ops t instr.now effect))) }
         ensures err { OnErr result (self.new ≡ self.old) }
-        ensures only { OnErr result (MayRefuse (plain_instr instr.now) effect) }
+        ensures only { OnErr result (MayRefuse instr.now effect) }
     {
         match self.by_name.get_mut(name) {
             Some(thread) => thread.advance(instr, effect),
@@ -116,12 +115,12 @@ impl<M: MemoryModel> Threads<M> {
         thread: Thread<M>,
     ) -> Result<(), AllocError>
         requires can { IsSomeAnd (map.get self.old name.now)
-            (λ t. (code : flat.Code) × CanDo code t.local (plain_instr instr.now)) }
+            (λ t. (code : flat.Code) × CanDo code t.local instr.now) }
         requires is_new { map.get self.old child ≡ None }
-        requires no_branch { is_branch (plain_instr instr.now) ≡ false }
+        requires no_branch { is_branch instr.now ≡ false }
         ensures ok { OnOk result (IfSome (map.get self.old name.now)
             (λ t. self.new
-            ≡ map.insert (map.insert self.old name.now (record t { local = local_after t.local (plain_instr instr.now) (pos 0) })) child thread)) }
+            ≡ map.insert (map.insert self.old name.now (record t { local = local_after t.local instr.now (pos 0) })) child thread)) }
         ensures err { OnErr result (self.new ≡ self.old) }
     {
         self.add(child, thread)?;

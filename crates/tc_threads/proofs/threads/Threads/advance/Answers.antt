@@ -6,7 +6,6 @@ use Rattle.std.specs.Cmp.Lexicographic.{slice_cmp}
 use Rattle.std.specs.Option.{option_copied_mut, IsSome}
 use Rattle.std.specs.BTreeMap.{get_by}
 use Rattle.tc_code.specs.Code.{Code}
-use Rattle.tc_code.specs.Seen.{plain_instr}
 use Rattle.tc_threads.specs.CanDo.{CanDo}
 use Rattle.tc_threads.proofs.ByName.{get_of_entries, map_of_update, insert_same}
 use Rattle.tc_threads.proofs.threads.Threads.advance.Goals as goal
@@ -15,7 +14,7 @@ use Rattle.tc_threads.proofs.threads.Threads.advance.Goals.{in-Some, in-None}
 pub advance-requires-clause-can : goal.advance-requires-clause-can
 advance-requires-clause-can g c =
     let there = get_of_entries _ _ c.args.name.now c.self.view_is ∙ sym c.get_mut.ensures.value ∙ ap option_copied_mut c.in-Some.is in
-    subst (λ o. IfSome o (λ t. (code : Code) × CanDo code t.local (plain_instr c.args.instr.now))) there c.requires.can
+    subst (λ o. IfSome o (λ t. (code : Code) × CanDo code t.local c.args.instr.now)) there c.requires.can
 
 pub returns : goal.returns
 returns g c = elim c.match-get_mut.branch [
