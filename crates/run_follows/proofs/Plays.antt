@@ -1,5 +1,5 @@
 -- A list of deeds of which each may come after those before it is the history of a run.
-use Rattle.std.proofs.Common.{◌≡◌, ◌∙◌, ℕ, ◌+◌, ℤ, pos, Bool, true, false, ◌&&◌, List, [], ◌∷◌, ◌++◌, append_assoc, append-nil}
+use Rattle.std.proofs.Common.{◌<◌, ◌≡◌, ◌∙◌, ℕ, ◌+◌, ℤ, pos, Bool, true, false, ◌&&◌, List, [], ◌∷◌, ◌++◌, append_assoc, append-nil}
 use Rattle.std.proofs.Common.{Option, Some, None, refl, sym, ap, ap₂, subst, arith}
 use Rattle.std.specs.Prelude.{option_map, option_and_then}
 use Rattle.std.specs.Option.{option_map_or}
@@ -31,7 +31,8 @@ use Rattle.run_history.specs.Locals.{asks_next}
 use Rattle.run_history.specs.Told.{steps_in, failed_in, waiting_in}
 use Rattle.run_follows.specs.Follow.{may_do_in, is_allowed_in, taken_in, OtherIs, IsNextDrain, MayFollow}
 use Rattle.run_follows.specs.Follow.{AllFollow, move_for, moves_for}
-use Rattle.run_pending.proofs.Issues.{Rises, AllBelow, below_at, whats, SplitAt}
+use Rattle.run_pending.proofs.Issues.{Rises, whats, SplitAt}
+use Rattle.run_pending.proofs.In.{In, all_in, in_at}
 use Rattle.run_pending.proofs.Turns.{split_by_steps}
 use Rattle.run_pending.proofs.Buffers.{deed_is}
 use Rattle.run_laws.proofs.Asks.{AsksOf, next_asks_within}
@@ -187,7 +188,8 @@ module _ {B : Type 0} (ops : BufferOps B) (model : Model) (bound : Binding) (law
         → pending_issues ops.buffered h n ≡ older ++ x ∷ newer → (t : Thread B) × (fin.get s.threads n ≡ Some t)
     pending_of_thread n (Some t) here older newer x there = (t, here)
     pending_of_thread n None here older newer x there =
-        let below = below_at (steps_in h n) older x newer (subst (AllBelow (steps_in h n)) there (a.deeds.buffers.numbers n).below) in
+        let below = all_in (λ i. i.number < steps_in h n) (pending_issues ops.buffered h n) x (a.deeds.buffers.numbers n).below
+        (subst (In x) (sym there) (in_at older x newer)) in
         absurd (omega (arith, below, none_done ops code s h n a.deeds.buffers.threads here))
 
     -- so each deed that may follow is done by a move

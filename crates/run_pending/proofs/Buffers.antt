@@ -6,7 +6,7 @@ use Rattle.std.specs.FinMap as fin
 use Rattle.std.proofs.lemmas.Bool.{false≢true, cases_Bool, and_parts, or_cases, eqb-true, false_from_ne_true}
 use Rattle.std.proofs.Math.Bool.{or-false}
 use Rattle.std.proofs.lemmas.List.{map-append}
-use Rattle.std.proofs.lemmas.List.Elements.{filter-append, filter_agree}
+use Rattle.std.proofs.lemmas.List.Elements.{filter-append, filter_agree, All-nil, All-push, All-filter}
 use Rattle.std.proofs.lemmas.List.Folds.{list_any-append}
 use Rattle.std.proofs.lemmas.Option.{none-some, same_Some}
 use Rattle.tc_base.specs.Names.{Name, main, by_name}
@@ -28,8 +28,9 @@ use Rattle.store_buffers.specs.helpers.Lists.{store_last, bar_last}
 use Rattle.run_history.specs.History.{Deed, Did, Drained, Issue, same, issue_of, drains, has_drained, pending_issues, pending, oldest_to}
 use Rattle.run_history.specs.History.{drained, taken, created_by}
 use Rattle.run_history.specs.Told.{is_step_of, steps_in}
-use Rattle.run_pending.proofs.Issues.{AllBelow, Rises, below_more, below_push, none_below_zero, rises_push, below_filter, rises_filter}
-use Rattle.run_pending.proofs.Issues.{filter-twice, isnt, taken_out, below_at, whats, SplitAt, split_at, oldest_is}
+use Rattle.run_pending.proofs.Issues.{AllBelow, Rises, below_more, none_below_zero, rises_push, rises_filter}
+use Rattle.run_pending.proofs.Issues.{filter-twice, isnt, taken_out, whats, SplitAt, split_at, oldest_is}
+use Rattle.run_pending.proofs.In.{In, all_in, in_at}
 use Rattle.run_history.proofs.Lists.{filter_map-push, count-push}
 use Rattle.run_history.proofs.Threads.{own, buffer_by, with_born, Found, Its_own, Its_child, Another, find, performed_threads}
 use Rattle.run_history.proofs.Threads.{ThreadsAre, number_is, none_done, threads_by, threads_flushed, makes_what, opening_threads}
@@ -202,8 +203,9 @@ module _ {B : Type 0} (ops : BufferOps B) (model : Model) (bound : Binding) (law
             numbers = record {
               rises = subst Rises (sym e) (rises_push (pending_issues ops.buffered h n) x ns.rises below);
               below = subst (AllBelow (steps_in new n)) (sym e)
-                  (below_push (steps_in new n) (pending_issues ops.buffered h n) x (omega (arith, one_more_step, its_steps))
-                  (below_more (steps_in h n) (steps_in new n) (pending_issues ops.buffered h n) (more_steps n) ns.below));
+                  (All-push (λ j. j.number < steps_in new n) (pending_issues ops.buffered h n) x
+                  (below_more (steps_in h n) (steps_in new n) (pending_issues ops.buffered h n) (more_steps n) ns.below)
+                  (omega (arith, one_more_step, its_steps)));
               drained = λ k d. let l = ns.drained k (sym (same_drains n k) ∙ d) in omega (arith, l, one_more_step);
             };
           }
@@ -270,7 +272,9 @@ module _ {B : Type 0} (ops : BufferOps B) (model : Model) (bound : Binding) (law
     same_steps q = count-push (is_step_of q) h (Drained n k e.cell e.value) ∙ omega arith
 
     k_below : k < steps_in h n
-    k_below = below_at (steps_in h n) split.older split.at split.newer (subst (AllBelow (steps_in h n)) split.there (a.numbers n).below)
+    k_below =
+        all_in (λ i. i.number < steps_in h n) (pending_issues ops.buffered h n) split.at (a.numbers n).below
+        (subst (In split.at) (sym split.there) (in_at split.older split.at split.newer))
 
     drained_below : (q : Name) (j : ℕ) → has_drained left q j ≡ true → j < steps_in left q
     drained_below q j e' =
@@ -294,7 +298,7 @@ module _ {B : Type 0} (ops : BufferOps B) (model : Model) (bound : Binding) (law
           (elim (same_or_apart q n) [
             | inl e' ↦
                 subst (AllBelow (steps_in h q)) (sym (pending-drained ops.buffered h n q k e.cell e.value e'))
-                (below_filter (isnt k) (steps_in h q) _ (a.numbers q).below)
+                (All-filter (isnt k) (λ i. i.number < steps_in h q) _ (a.numbers q).below)
             | inr other ↦ subst (AllBelow (steps_in h q)) (sym (pending-drained_other ops.buffered h n q k e.cell e.value other)) (a.numbers q).below
           ]);
       drained = drained_below q;
@@ -356,5 +360,5 @@ module _ {B : Type 0} (ops : BufferOps B) (model : Model) (bound : Binding) (law
           | inl own ↦ subst (λ (y : Thread B). Stands ops y.buffer []) own.1 (record { made = refl; issued = λ _. refl })
           | inr other ↦ absurd (none-some x (sym (fin.get-empty by_name q) ∙ other.1))
         ];
-    numbers = λ q. record { rises = tt; below = tt; drained = λ k e. absurd (false≢true e) };
+    numbers = λ q. record { rises = tt; below = All-nil (λ (i : Issue). i.number < 0); drained = λ k e. absurd (false≢true e) };
   }

@@ -1,7 +1,8 @@
 -- What is in a list.
 use Rattle.std.proofs.Common.{◌≡◌, ◌∙◌, ◌⊎◌, inl, inr, Bool, true, false, ◌||◌, cond, List, [], ◌∷◌, ◌++◌, Option, Some, None, refl, sym, ap, subst}
-use Rattle.std.specs.List.{filter, filter_map, cons_option, list_any}
+use Rattle.std.specs.List.{All, filter, filter_map, cons_option, list_any}
 use Rattle.std.proofs.Math.Bool.{or-true}
+use Rattle.std.proofs.lemmas.List.Elements.{All-head, All-tail}
 use Rattle.std.proofs.lemmas.Bool.{false≢true}
 use Rattle.run_history.specs.History.{Deed}
 use Rattle.run_pending.specs.Deeds.{name_of, AllApart}
@@ -38,6 +39,12 @@ in_split y [] i = absurd i
 in_split y (x ∷ xs) (inl e) = record { older = []; newer = xs; there = ap (λ z. z ∷ xs) e }
 in_split y (x ∷ xs) (inr i) =
     let s = in_split y xs i in record { older = x ∷ s.older; newer = s.newer; there = ap (λ zs. x ∷ zs) s.there }
+
+-- what all of a list are, one that is in it is
+pub all_in : {A : Type 0} (P : A → Type 0) (xs : List A) (y : A) → All P xs → In y xs → P y
+all_in P [] y all i = absurd i
+all_in P (x ∷ xs) y all (inl e) = subst P e (All-head P x xs all)
+all_in P (x ∷ xs) y all (inr i) = all_in P xs y (All-tail P x xs all) i
 
 in_kept : {A : Type 0} (y x : A) (ys : List A) (b : Bool) → In y ys → In y (cond b (x ∷ ys) ys)
 in_kept y x ys true i = inr i

@@ -2,62 +2,43 @@
 use Rattle.std.proofs.Common.{◌≡◌, ◌≢◌, ◌∙◌, ℕ, ◌<◌, ◌≤◌, ◌==◌, Bool, true, false, not, ◌&&◌, cond, List, [], ◌∷◌, ◌++◌}
 use Rattle.std.proofs.Common.{refl, sym, ap, ap₂, arith, if◌then◌else◌}
 use Rattle.std.specs.Prelude.{map}
-use Rattle.std.specs.List.{filter}
+use Rattle.std.specs.List.{All, filter}
 use Rattle.std.proofs.lemmas.Bool.{false≢true, or_parts, eq-eqb, ne_eqb}
+use Rattle.std.proofs.lemmas.List.Elements.{All-nil, All-head, All-tail, All-push, All-weaker, All-filter}
 use Rattle.tc_base.specs.Buffers.{Entry}
 use Rattle.store_buffers.specs.Pending.{Pending, Store, Bar, Binding, waits, has_bar}
 use Rattle.store_buffers.specs.helpers.Lists.{not_nil}
 use Rattle.run_history.specs.History.{Issue, is_to, oldest_to}
 use Rattle.run_laws.proofs.Basics.{by_bool}
-
-abbrev pub AllAbove : ℕ → List Issue → Type 0
-AllAbove k [] = Unit {0}
-AllAbove k (i ∷ is) = (k < i.number) × AllAbove k is
+use Rattle.run_pending.proofs.In.{all_in, in_at}
 
 abbrev pub AllBelow : ℕ → List Issue → Type 0
-AllBelow k [] = Unit {0}
-AllBelow k (i ∷ is) = (i.number < k) × AllBelow k is
+AllBelow k is = All (λ i. i.number < k) is
 
 -- the numbers rise
 abbrev pub Rises : List Issue → Type 0
 Rises [] = Unit {0}
-Rises (i ∷ is) = AllAbove i.number is × Rises is
+Rises (i ∷ is) = All (λ j. i.number < j.number) is × Rises is
 
 pub below_more : (k j : ℕ) (is : List Issue) → k ≤ j → AllBelow k is → AllBelow j is
-below_more k j [] more b = tt
-below_more k j (i ∷ is) more b = (omega (arith, b.0), below_more k j is more b.1)
-
-pub below_push : (k : ℕ) (is : List Issue) (i : Issue) → i.number < k → AllBelow k is → AllBelow k (is ++ i ∷ [])
-below_push k [] i last b = (last, tt)
-below_push k (x ∷ is) i last b = (b.0, below_push k is i last b.1)
+below_more k j is more b = All-weaker (λ i. i.number < k) (λ i. i.number < j) (λ i l. omega (arith, l, more)) is b
 
 pub none_below_zero : (is : List Issue) → AllBelow 0 is → is ≡ []
 none_below_zero [] b = refl
-none_below_zero (i ∷ is) b = absurd (omega (arith, b.0))
-
-above_push : (k : ℕ) (is : List Issue) (i : Issue) → k < i.number → AllAbove k is → AllAbove k (is ++ i ∷ [])
-above_push k [] i last a = (last, tt)
-above_push k (x ∷ is) i last a = (a.0, above_push k is i last a.1)
+none_below_zero (i ∷ is) b = absurd (let l = All-head (λ i. i.number < 0) i is b in omega (arith, l))
 
 pub rises_push : (is : List Issue) (i : Issue) → Rises is → AllBelow i.number is → Rises (is ++ i ∷ [])
-rises_push [] i r b = (tt, tt)
-rises_push (x ∷ is) i r b = (above_push x.number is i b.0 r.0, rises_push is i r.1 b.1)
-
-pub below_filter : (p : Issue → Bool) (k : ℕ) (is : List Issue) → AllBelow k is → AllBelow k (filter p is)
-below_filter p k [] b = tt
-below_filter p k (i ∷ is) b =
-    by_bool (λ c. AllBelow k (cond c (i ∷ filter p is) (filter p is))) (p i) (b.0, below_filter p k is b.1) (below_filter p k is b.1)
-
-above_filter : (p : Issue → Bool) (k : ℕ) (is : List Issue) → AllAbove k is → AllAbove k (filter p is)
-above_filter p k [] a = tt
-above_filter p k (i ∷ is) a =
-    by_bool (λ c. AllAbove k (cond c (i ∷ filter p is) (filter p is))) (p i) (a.0, above_filter p k is a.1) (above_filter p k is a.1)
+rises_push [] i r b = (All-nil (λ (j : Issue). i.number < j.number), tt)
+rises_push (x ∷ is) i r b = (
+  All-push (λ j. x.number < j.number) is i r.0 (All-head (λ j. j.number < i.number) x is b),
+  rises_push is i r.1 (All-tail (λ j. j.number < i.number) x is b),
+)
 
 pub rises_filter : (p : Issue → Bool) (is : List Issue) → Rises is → Rises (filter p is)
 rises_filter p [] r = tt
 rises_filter p (i ∷ is) r =
     by_bool (λ c. Rises (cond c (i ∷ filter p is) (filter p is))) (p i)
-    (above_filter p i.number is r.0, rises_filter p is r.1) (rises_filter p is r.1)
+    (All-filter p (λ j. i.number < j.number) is r.0, rises_filter p is r.1) (rises_filter p is r.1)
 
 -- two tests, one after the other
 filter-twice_by : {X : Type 0} (p q : X → Bool) (x : X) (xs : List X) (b c : Bool) → p x ≡ b → q x ≡ c
@@ -76,16 +57,13 @@ filter-twice p q r (x ∷ xs) is =
 abbrev pub isnt : ℕ → Issue → Bool
 isnt k i = not (i.number == k)
 
-others_stay : (k : ℕ) (is : List Issue) → AllAbove k is → filter (isnt k) is ≡ is
+others_stay : (k : ℕ) (is : List Issue) → All (λ j. k < j.number) is → filter (isnt k) is ≡ is
 others_stay k [] a = refl
 others_stay k (i ∷ is) a =
-    let other : i.number ≢ k = λ e. omega (arith, a.0, e) in
+    let above = All-head (λ j. k < j.number) i is a in
+    let other : i.number ≢ k = λ e. omega (arith, above, e) in
     ap (λ b. cond (not b) (i ∷ filter (isnt k) is) (filter (isnt k) is)) (ne_eqb i.number k other)
-    ∙ ap (λ ys. i ∷ ys) (others_stay k is a.1)
-
-pub above_at : (k : ℕ) (older : List Issue) (x : Issue) (newer : List Issue) → AllAbove k (older ++ x ∷ newer) → k < x.number
-above_at k [] x newer a = a.0
-above_at k (i ∷ older) x newer a = above_at k older x newer a.1
+    ∙ ap (λ ys. i ∷ ys) (others_stay k is (All-tail (λ j. k < j.number) i is a))
 
 -- where numbers rise, one of them is there once
 pub taken_out : (older : List Issue) (x : Issue) (newer : List Issue) → Rises (older ++ x ∷ newer)
@@ -94,14 +72,10 @@ taken_out [] x newer r =
     ap (λ b. cond (not b) (x ∷ filter (isnt x.number) newer) (filter (isnt x.number) newer)) (eq-eqb x.number x.number refl)
     ∙ others_stay x.number newer r.0
 taken_out (i ∷ older) x newer r =
-    let above = above_at i.number older x newer r.0 in
+    let above = all_in (λ j. i.number < j.number) (older ++ x ∷ newer) x r.0 (in_at older x newer) in
     let other : i.number ≢ x.number = λ e. omega (arith, above, e) in
     ap (λ b. cond (not b) (i ∷ filter (isnt x.number) (older ++ x ∷ newer)) (filter (isnt x.number) (older ++ x ∷ newer))) (ne_eqb _ _ other)
     ∙ ap (λ ys. i ∷ ys) (taken_out older x newer r.1)
-
-pub below_at : (k : ℕ) (older : List Issue) (x : Issue) (newer : List Issue) → AllBelow k (older ++ x ∷ newer) → x.number < k
-below_at k [] x newer b = b.0
-below_at k (i ∷ older) x newer b = below_at k older x newer b.1
 
 abbrev pub whats : List Issue → List Pending
 whats is = map (λ i. i.what) is

@@ -1,10 +1,12 @@
 -- Whose turn it is to drain, by what was issued and has drained.
 use Rattle.std.proofs.Common.{◌≡◌, ◌∙◌, ◌⊎◌, inl, inr, ℕ, ◌<◌, ◌==◌, ℤ, true, false, not, ◌||◌, ◌&&◌, nat_lt, List, [], ◌∷◌, ◌++◌}
-use Rattle.std.proofs.Common.{Option, Some, None, refl, sym, ap, ap₂, subst, arith, if◌then◌else◌}
-use Rattle.std.specs.List.{filter_map}
+use Rattle.std.proofs.Common.{length, Option, Some, None, refl, sym, ap, ap₂, subst, arith, if◌then◌else◌}
+use Rattle.std.specs.List.{All, filter_map}
 use Rattle.std.specs.Cmp.{both_ways}
 use Rattle.std.proofs.lemmas.Bool.{false≢true, and_parts, or_parts, not_from_false, false_from_ne_true, eqb-true}
 use Rattle.std.proofs.lemmas.Bool.Decides.{nat_tests}
+use Rattle.std.proofs.Math.Seq.{take-append_seam}
+use Rattle.std.proofs.lemmas.List.Elements.{All-take}
 use Rattle.std.proofs.lemmas.Option.{none-some, cond_some}
 use Rattle.tc_base.specs.Names.{Name}
 use Rattle.tc_base.specs.Buffers.{Entry}
@@ -13,28 +15,24 @@ use Rattle.store_buffers.specs.Pending.{Pending, Store, Bar as barred, has_bar, 
 use Rattle.run_laws.proofs.Names.{same_self, is_same}
 use Rattle.run_history.specs.History.{Deed, Did, Drained, Issue, same, issue_of, drains, has_drained, pending_issues}
 use Rattle.run_pending.specs.Deeds.{IsIssuedIn, is_bar_between, has_bar_between, MayDrainNext}
-use Rattle.run_pending.proofs.Issues.{AllAbove, Rises, above_at, whats}
+use Rattle.run_pending.proofs.Issues.{Rises, whats}
 use Rattle.run_pending.proofs.Apart.{a_store, is_issued, Named}
-use Rattle.run_pending.proofs.In.{StoodAt, Passes, In, in_append, in_left, in_right, in_at, in_split, in_filter, from_filter}
+use Rattle.run_pending.proofs.In.{StoodAt, Passes, In, all_in, in_append, in_left, in_right, in_at, in_split, in_filter, from_filter}
 use Rattle.run_pending.proofs.In.{in_mapped, from_mapped, any_in, in_any, one_of_name}
 
 -- numbers that rise tell which is before
-above_in : (k : ℕ) (is : List Issue) (y : Issue) → AllAbove k is → In y is → k < y.number
-above_in k [] y a i = absurd i
-above_in k (x ∷ is) y a (inl e) = subst (λ z. k < z.number) e a.0
-above_in k (x ∷ is) y a (inr i) = above_in k is y a.1 i
-
-rises_at : (older : List Issue) (x : Issue) (newer : List Issue) → Rises (older ++ x ∷ newer) → AllAbove x.number newer
+rises_at : (older : List Issue) (x : Issue) (newer : List Issue) → Rises (older ++ x ∷ newer) → All (λ j. x.number < j.number) newer
 rises_at [] x newer r = r.0
 rises_at (i ∷ older) x newer r = rises_at older x newer r.1
 
 older_less : (older : List Issue) (x : Issue) (newer : List Issue) (y : Issue) → Rises (older ++ x ∷ newer) → In y older → y.number < x.number
 older_less [] x newer y r i = absurd i
-older_less (z ∷ older) x newer y r (inl e) = subst (λ w. w.number < x.number) e (above_at z.number older x newer r.0)
+older_less (z ∷ older) x newer y r (inl e) =
+    subst (λ w. w.number < x.number) e (all_in (λ j. z.number < j.number) (older ++ x ∷ newer) x r.0 (in_at older x newer))
 older_less (z ∷ older) x newer y r (inr i) = older_less older x newer y r.1 i
 
 newer_more : (older : List Issue) (x : Issue) (newer : List Issue) (y : Issue) → Rises (older ++ x ∷ newer) → In y newer → x.number < y.number
-newer_more older x newer y r i = above_in x.number newer y (rises_at older x newer r) i
+newer_more older x newer y r i = all_in (λ j. x.number < j.number) newer y (rises_at older x newer r) i
 
 before_at : (older : List Issue) (x : Issue) (newer : List Issue) (y : Issue) → Rises (older ++ x ∷ newer) → In y (older ++ x ∷ newer) → y.number < x.number
     → In y older
@@ -60,11 +58,9 @@ after_at older x newer y r i more =
 
 rises_older : (older rest : List Issue) → Rises (older ++ rest) → Rises older
 rises_older [] rest r = tt
-rises_older (x ∷ older) rest r = (above_older x.number older rest r.0, rises_older older rest r.1)
-  where
-    above_older : (k : ℕ) (xs ys : List Issue) → AllAbove k (xs ++ ys) → AllAbove k xs
-    above_older k [] ys a = tt
-    above_older k (x ∷ xs) ys a = (a.0, above_older k xs ys a.1)
+rises_older (x ∷ older) rest r =
+    let above = All-take (λ j. x.number < j.number) (length older) (older ++ rest) r.0 in
+    (subst (All (λ j. x.number < j.number)) (take-append_seam older rest) above, rises_older older rest r.1)
 
 -- bars
 bar_by : (p : Pending) (is : List Issue) → has_bar (p ∷ whats is) ≡ true → (p ≡ barred) ⊎ (has_bar (whats is) ≡ true)
