@@ -2,6 +2,8 @@
 use Rattle.std.proofs.Common.{◌≡◌, ◌<◌, ℕ, zero, suc, Bool, true, false, ◌&&◌, not, List, [], ◌∷◌, refl, ap, ◌∙◌, arith, inl, inr}
 use Rattle.std.specs.Prelude.{bit_and, ◌==◌}
 use Rattle.std.specs.Bool.{beq}
+use Rattle.std.specs.Cmp.{booleans_Decides}
+use Rattle.std.specs.Cmp.Lexicographic.{pointwise, pointwise_decides}
 use Rattle.std.proofs.lemmas.Bool.{and_parts, cases_lt}
 use Rattle.path_log.specs.Fields.{bits_of}
 
@@ -9,19 +11,14 @@ all_below : (ℕ → Bool) → ℕ → Bool
 all_below p zero = true
 all_below p (suc n) = p n && all_below p n
 
-same_bits : List Bool → List Bool → Bool
-same_bits [] [] = true
-same_bits (b ∷ bs) (c ∷ cs) = beq b c && same_bits bs cs
-same_bits _ _ = false
-
 -- what the masks of a byte's bits give
 abbrev masked : ℕ → List Bool
 masked b =
     not (bit_and b 128 == 0) ∷ not (bit_and b 64 == 0) ∷ not (bit_and b 32 == 0) ∷ not (bit_and b 16 == 0)
     ∷ not (bit_and b 8 == 0) ∷ not (bit_and b 4 == 0) ∷ not (bit_and b 2 == 0) ∷ not (bit_and b 1 == 0) ∷ []
 
-each_byte : all_below (λ b. same_bits (masked b) (bits_of 8 b)) 256 ≡ true
-unfolding all_below same_bits
+each_byte : all_below (λ b. pointwise beq (masked b) (bits_of 8 b)) 256 ≡ true
+unfolding all_below
 each_byte = refl
 
 at_each : (p : ℕ → Bool) (n k : ℕ) → all_below p n ≡ true → k < n → p k ≡ true
@@ -34,22 +31,5 @@ at_each p (suc n) k h lt =
       | inr least ↦ let same : k ≡ n = omega arith in ap p same ∙ parts.0
     ]
 
-bit_is : (b c : Bool) → beq b c ≡ true → b ≡ c
-bit_is true true h = refl
-bit_is true false h = absurd cc
-bit_is false true h = absurd cc
-bit_is false false h = refl
-
-same_lists : (bs cs : List Bool) → same_bits bs cs ≡ true → bs ≡ cs
-unfolding same_bits
-same_lists [] [] h = refl
-same_lists [] (c ∷ cs) h = absurd cc
-same_lists (b ∷ bs) [] h = absurd cc
-same_lists (b ∷ bs) (c ∷ cs) h =
-    let parts = and_parts (beq b c) (same_bits bs cs) h in
-    let one = bit_is b c parts.0 in
-    let others = same_lists bs cs parts.1 in
-    cc
-
 pub masks_are_bits : (b : ℕ) → b < 256 → masked b ≡ bits_of 8 b
-masks_are_bits b lt = same_lists (masked b) (bits_of 8 b) (at_each (λ b. same_bits (masked b) (bits_of 8 b)) 256 b each_byte lt)
+masks_are_bits b lt = (pointwise_decides booleans_Decides (masked b) (bits_of 8 b)).0 (at_each (λ b. pointwise beq (masked b) (bits_of 8 b)) 256 b each_byte lt)

@@ -51,8 +51,8 @@ use Rattle.path_log.specs.Faults.{BreaksAt}
 use Rattle.path_log.specs.declared.fault.LogFault.{LogFault}
 use Rattle.path_log.specs.declared.fault.LogFault.TheVariants.{Form, Memory}
 use Rattle.path_log.specs.helpers.Reading.{Fails}
-use Rattle.path_log.proofs.Loops.{Read, whole_read, read_is, such_passes, within}
-use Rattle.path_log.proofs.Texts.{Takes, Takes-then, Takes-nothing, Gives, behind_ok, field_takes, field_again, byte_takes, byte_again, two_takes, two_again}
+use Rattle.path_log.proofs.Loops.{Read, whole_read, read_is, guard_ok, such_passes, within}
+use Rattle.path_log.proofs.Texts.{Takes, Takes-then, Takes-nothing, ReadsAs, behind_ok, field_takes, field_again, byte_takes, byte_again, two_takes, two_again}
 use Rattle.path_log.proofs.Texts.{such_again, within_again, threads_rise, threads_take, threads_again}
 
 -- The head.
@@ -137,7 +137,7 @@ digest_takes format place x low high h e = elim (cases_lt format 2) [
 ]
 
 digest_again : (digest : Option (List ℕ)) (rest : List ℕ) (offset : ℕ) → IsDigest digest
-    → Gives (digest_in (format_of digest) (offset, digest_text digest ++ rest)) digest rest
+    → ReadsAs (digest_in (format_of digest) (offset, digest_text digest ++ rest)) digest rest
 digest_again None rest offset h = record { end = offset; read_is = refl }
 digest_again (Some digest) rest offset h =
     let len = eqb-true (length digest) 32 (and_parts (eqb (length digest) 32) (list_all (λ byte. ltb byte 256) digest) h).0 in
@@ -180,7 +180,7 @@ format_small None = lit< tt
 format_small (Some digest) = lit< tt
 
 head_again : (digest : Option (List ℕ)) (m : Model) (rest : List ℕ) (offset : ℕ) → IsDigest digest
-    → Gives (head (offset, head_text digest m ++ rest)) (digest, m) rest
+    → ReadsAs (head (offset, head_text digest m ++ rest)) (digest, m) rest
 unfolding head
 head_again digest m rest offset h =
     let format = big_bytes 2 (format_of digest) in
@@ -253,7 +253,7 @@ body_takes place x h e =
       },
     )
 
-body_again : (s : StoredLog) (rest : List ℕ) (offset : ℕ) → HasText s → Gives (body (offset, log_text s ++ rest)) s rest
+body_again : (s : StoredLog) (rest : List ℕ) (offset : ℕ) → HasText s → ReadsAs (body (offset, log_text s ++ rest)) s rest
 unfolding body
 body_again s rest offset h =
     let ts = s.log.threads in
@@ -288,22 +288,18 @@ body_again s rest offset h =
 
 -- Whole texts.
 
-end_ok : {X : Type 0} (b : Bool) (offset : ℕ) (y x : X × Place) → cond b (Ok y) (Err offset) ≡ Ok x → (b ≡ true) × (y ≡ x)
-end_ok true offset y x e = (refl, cc)
-end_ok false offset y x e = absurd cc
-
 pub whole_takes : (text : List ℕ) (x : StoredLog × Place) → AreBytes text → whole (0, text) ≡ Ok x → HasText x.0 × (text ≡ log_text x.0)
 unfolding whole
 whole_takes text x h e =
     let a = behind_ok (body (0, text)) (λ s. ended >>= λ _. done s) x e in
     let b = behind_ok (ended a.0.1) (λ _. done a.0.0) x a.2 in
-    let g = end_ok (eqb (length a.0.1.1) 0) a.0.1.0 (tt, a.0.1) b.0 b.1 in
+    let g = guard_ok (eqb (length a.0.1.1) 0) a.0.1.0 (tt, a.0.1) b.0 b.1 in
     let t = body_takes (0, text) a.0 h a.1 in
     let nothing : a.0.1.1 ≡ [] = nil_from_length a.0.1.1 (eqb-true _ _ g.0) in
     let all : text ≡ log_text a.0.0 = t.0.parts ∙ (ap (λ (r : List ℕ). log_text a.0.0 ++ r) nothing ∙ append-nil (log_text a.0.0)) in
     subst (λ (y : StoredLog × Place). HasText y.0 × (text ≡ log_text y.0)) (read_is (a.0.0, b.0.1) x b.2) (t.1, all)
 
-pub whole_again : (s : StoredLog) → HasText s → Gives (whole (0, log_text s)) s []
+pub whole_again : (s : StoredLog) → HasText s → ReadsAs (whole (0, log_text s)) s []
 unfolding whole
 whole_again s h =
     let first = body_again s [] 0 h in

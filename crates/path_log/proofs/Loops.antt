@@ -35,6 +35,7 @@ use Rattle.std.proofs.Common.{
 use Rattle.std.specs.Prelude.{slice_get, option_map, replicate}
 use Rattle.std.proofs.lemmas.Bool.{and_parts, leb-true, ne_eqb}
 use Rattle.std.proofs.lemmas.List.{append-nil, length-append}
+use Rattle.path_log.proofs.Lists.{get_seam}
 use Rattle.tc_base.specs.Names.{Name}
 use Rattle.tc_base.specs.Logs.{ThreadPath}
 use Rattle.path_log.specs.declared.fault.LogFault.{LogFault}
@@ -86,19 +87,6 @@ regroup : {X : Type 0} (front : List X) (x : X) (read : Read (List X)) →
 regroup {X} front x (Ok y) = ap (λ (xs : List X). whole_read (xs, y.1)) (sym (append_assoc front (x ∷ []) y.0))
 regroup front x (Err offset) = refl
 
--- Fields of one kind.
-
-pub times_on : {X : Type 0} (fields : Fields X) (front : List X) (count i : ℕ) (place : Place) (x : X) (after : Place) (total : Read (List X)) → i < count
-    → fields place ≡ Ok (x, after) → with_front front (times fields (count - i) place) ≡ total
-    → with_front (front ++ x ∷ []) (times fields (count - (i + 1)) after) ≡ total
-times_on {X} fields front count i place x after total lt h so_far =
-    let k : count - i ≡ suc (count - (i + 1)) = omega arith in
-    let one : with_front front (times fields (count - i) place) ≡ with_front (front ++ x ∷ []) (times fields (count - (i + 1)) after) =
-    ap (λ (n : ℕ). with_front front (times fields n place)) k
-    ∙ (ap (λ (r : Read X). with_front front (behind r (λ first. times fields (count - (i + 1)) >>= λ others. done (first ∷ others)))) h
-    ∙ regroup front x (times fields (count - (i + 1)) after)) in
-    sym one ∙ so_far
-
 fails_through : {X Y : Type 0} (fault : LogFault) (read : Read X) (more : X → Fields Y) → Fails fault read → Fails fault (behind read more)
 fails_through Memory read more h = tt
 fails_through {X} (Form offset) read more h = ap (λ (r : Read X). behind r more) h
@@ -106,65 +94,86 @@ fails_through {X} (Form offset) read more h = ap (λ (r : Read X). behind r more
 same_fails : {X : Type 0} (fault : LogFault) (this that : Read X) → this ≡ that → Fails fault this → Fails fault that
 same_fails {X} fault this that e h = subst (λ (r : Read X). Fails fault r) e h
 
+-- a value, and those behind it
+abbrev and_others : {X : Type 0} → (X → Fields (List X)) → X → Fields (List X)
+and_others later x = later x >>= λ others. done (x ∷ others)
+
+-- One turn of a loop: all that is left to read begins with one more value.
+module _ {X : Type 0} (front : List X) (first : Read X) (later : X → Fields (List X)) (all total : Read (List X))
+    (begins : all ≡ behind first (and_others later)) (so_far : with_front front all ≡ total) where
+  one_on : (x : X) (after : Place) → first ≡ Ok (x, after) → with_front (front ++ x ∷ []) (later x after) ≡ total
+  one_on x after h =
+      sym (regroup front x (later x after)) ∙ (sym (ap (λ (r : Read X). with_front front (behind r (and_others later))) h)
+      ∙ (ap (with_front front) (sym begins) ∙ so_far))
+
+  one_fails : (fault : LogFault) → Fails fault first → Fails fault total
+  one_fails fault h =
+      same_fails fault _ total (ap (with_front front) (sym begins) ∙ so_far)
+      (fails_through fault _ (λ others. done (front ++ others)) (fails_through fault first (and_others later) h))
+
+-- nothing is left to read
+all_read : {X : Type 0} (front : List X) (place : Place) (all total : Read (List X)) → all ≡ Ok ([], place) → with_front front all ≡ total → total ≡ Ok (front, place)
+all_read {X} front place all total none so_far =
+    sym so_far ∙ (ap (with_front front) none ∙ ap (λ (xs : List X). whole_read (xs, place)) (append-nil front))
+
+-- so many are left, and so many after the next
+next_left : (count i : ℕ) → i < count → count - i ≡ suc (count - (i + 1))
+next_left count i lt = omega arith
+
+none_left : (count i : ℕ) → count ≤ i → count - i ≡ 0
+none_left count i le = omega arith
+
+-- Fields of one kind.
+
+pub times_on : {X : Type 0} (fields : Fields X) (front : List X) (count i : ℕ) (place : Place) (x : X) (after : Place) (total : Read (List X)) → i < count
+    → fields place ≡ Ok (x, after) → with_front front (times fields (count - i) place) ≡ total
+    → with_front (front ++ x ∷ []) (times fields (count - (i + 1)) after) ≡ total
+times_on fields front count i place x after total lt h so_far =
+    one_on front (fields place) (λ _. times fields (count - (i + 1))) _ total (ap (λ n. times fields n place) (next_left count i lt)) so_far x after h
+
 pub times_fails : {X : Type 0} (fault : LogFault) (fields : Fields X) (front : List X) (count i : ℕ) (place : Place) (total : Read (List X)) → i < count
     → Fails fault (fields place) → with_front front (times fields (count - i) place) ≡ total → Fails fault total
 times_fails fault fields front count i place total lt h so_far =
-    let k : count - i ≡ suc (count - (i + 1)) = omega arith in
-    same_fails fault _ total (ap (λ (n : ℕ). with_front front (times fields n place)) (sym k) ∙ so_far)
-    (fails_through fault _ (λ others. done (front ++ others))
-    (fails_through fault (fields place) (λ first. times fields (count - (i + 1)) >>= λ others. done (first ∷ others)) h))
+    one_fails front (fields place) (λ _. times fields (count - (i + 1))) _ total (ap (λ n. times fields n place) (next_left count i lt)) so_far fault h
 
 pub times_done : {X : Type 0} (fields : Fields X) (front : List X) (count i : ℕ) (place : Place) (total : Read (List X)) → count ≤ i
     → with_front front (times fields (count - i) place) ≡ total → total ≡ Ok (front, place)
-times_done {X} fields front count i place total le so_far =
-    let k : count - i ≡ 0 = omega arith in
-    sym so_far ∙ (ap (λ (n : ℕ). with_front front (times fields n place)) k
-    ∙ ap (λ (xs : List X). whole_read (xs, place)) (append-nil front))
+times_done fields front count i place total le so_far =
+    all_read front place _ total (ap (λ n. times fields n place) (none_left count i le)) so_far
 
 -- Threads.
-
-get_end : {X : Type 0} (xs : List X) (x : X) → slice_get (xs ++ x ∷ []) (length xs) ≡ Some x
-get_end [] x = refl
-get_end (y ∷ ys) x = get_end ys x
 
 last_push : (ts : List ThreadPath) (t : ThreadPath) → last_name (ts ++ t ∷ []) ≡ Some t.name
 last_push ts t =
     let len : length (ts ++ t ∷ []) - 1 ≡ length ts = omega (arith, length-append ts (t ∷ [])) in
     ap (λ (n : ℕ). option_map (λ (t : ThreadPath). t.name) (slice_get (ts ++ t ∷ []) n)) len
-    ∙ ap (option_map (λ (t : ThreadPath). t.name)) (get_end ts t)
+    ∙ ap (option_map (λ (t : ThreadPath). t.name)) (get_seam ts t [])
 
-pub threads_on : (as_runs : Bool) (front : List ThreadPath) (count i : ℕ) (place : Place) (t : ThreadPath) (after : Place) (total : Read (List ThreadPath))
-    → i < count → thread as_runs (last_name front) place ≡ Ok (t, after)
-    → with_front front (threads as_runs (count - i) (last_name front) place) ≡ total
-    → with_front (front ++ t ∷ []) (threads as_runs (count - (i + 1)) (last_name (front ++ t ∷ [])) after) ≡ total
-unfolding threads
-threads_on as_runs front count i place t after total lt h so_far =
-    let k : count - i ≡ suc (count - (i + 1)) = omega arith in
-    let one : with_front front (threads as_runs (count - i) (last_name front) place)
-    ≡ with_front (front ++ t ∷ []) (threads as_runs (count - (i + 1)) (last_name (front ++ t ∷ [])) after) =
-    ap (λ (n : ℕ). with_front front (threads as_runs n (last_name front) place)) k
-    ∙ (ap (λ (r : Read ThreadPath). with_front front (behind r (λ t. threads as_runs (count - (i + 1)) (Some t.name) >>= λ others. done (t ∷ others)))) h
-    ∙ (regroup front t (threads as_runs (count - (i + 1)) (Some t.name) after)
-    ∙ ap (λ (last : Option Name). with_front (front ++ t ∷ []) (threads as_runs (count - (i + 1)) last after)) (sym (last_push front t)))) in
-    sym one ∙ so_far
+module _ (as_runs : Bool) (front : List ThreadPath) (count i : ℕ) (place : Place) where
+  abbrev all_left : Read (List ThreadPath)
+  all_left = threads as_runs (count - i) (last_name front) place
 
-pub threads_fail : (fault : LogFault) (as_runs : Bool) (front : List ThreadPath) (count i : ℕ) (place : Place) (total : Read (List ThreadPath)) → i < count
-    → Fails fault (thread as_runs (last_name front) place) → with_front front (threads as_runs (count - i) (last_name front) place) ≡ total → Fails fault total
-unfolding threads
-threads_fail fault as_runs front count i place total lt h so_far =
-    let k : count - i ≡ suc (count - (i + 1)) = omega arith in
-    same_fails fault _ total (ap (λ (n : ℕ). with_front front (threads as_runs n (last_name front) place)) (sym k) ∙ so_far)
-    (fails_through fault _ (λ others. done (front ++ others))
-    (fails_through fault (thread as_runs (last_name front) place)
-    (λ t. threads as_runs (count - (i + 1)) (Some t.name) >>= λ others. done (t ∷ others)) h))
+  abbrev later_left : ThreadPath → Fields (List ThreadPath)
+  later_left t = threads as_runs (count - (i + 1)) (Some t.name)
 
-pub threads_done : (as_runs : Bool) (front : List ThreadPath) (count i : ℕ) (place : Place) (total : Read (List ThreadPath)) → count ≤ i
-    → with_front front (threads as_runs (count - i) (last_name front) place) ≡ total → total ≡ Ok (front, place)
-unfolding threads
-threads_done as_runs front count i place total le so_far =
-    let k : count - i ≡ 0 = omega arith in
-    sym so_far ∙ (ap (λ (n : ℕ). with_front front (threads as_runs n (last_name front) place)) k
-    ∙ ap (λ (ts : List ThreadPath). whole_read (ts, place)) (append-nil front))
+  begins_with : i < count → all_left ≡ behind (thread as_runs (last_name front) place) (and_others later_left)
+  unfolding threads
+  begins_with lt = ap (λ (n : ℕ). threads as_runs n (last_name front) place) (next_left count i lt)
+
+  pub threads_on : (t : ThreadPath) (after : Place) (total : Read (List ThreadPath)) → i < count → thread as_runs (last_name front) place ≡ Ok (t, after)
+      → with_front front all_left ≡ total → with_front (front ++ t ∷ []) (threads as_runs (count - (i + 1)) (last_name (front ++ t ∷ [])) after) ≡ total
+  threads_on t after total lt h so_far =
+      ap (λ (last : Option Name). with_front (front ++ t ∷ []) (threads as_runs (count - (i + 1)) last after)) (last_push front t)
+      ∙ one_on front _ later_left all_left total (begins_with lt) so_far t after h
+
+  pub threads_fail : (fault : LogFault) (total : Read (List ThreadPath)) → i < count → Fails fault (thread as_runs (last_name front) place)
+      → with_front front all_left ≡ total → Fails fault total
+  threads_fail fault total lt h so_far = one_fails front _ later_left all_left total (begins_with lt) so_far fault h
+
+  pub threads_done : (total : Read (List ThreadPath)) → count ≤ i → with_front front all_left ≡ total → total ≡ Ok (front, place)
+  unfolding threads
+  threads_done total le so_far =
+      all_read front place all_left total (ap (λ (n : ℕ). threads as_runs n (last_name front) place) (none_left count i le)) so_far
 
 -- Runs.
 
@@ -234,6 +243,5 @@ nothing_left (suc most) place = refl
 pub runs_done : (front : List Bool) (outcome : Bool) (left : ℕ) (place : Place) (total : Read (List Bool)) → RunsSoFar front outcome left place total
     → left ≡ 0 → total ≡ Ok (front, place)
 runs_done front outcome left place total so_far e =
-    sym so_far.read ∙ (ap (λ (n : ℕ). with_front front (behind (lengths so_far.most n place) (λ found. done (alternating outcome found)))) e
-    ∙ (ap (λ (r : Read (List ℕ)). with_front front (behind r (λ found. done (alternating outcome found)))) (nothing_left so_far.most place)
-    ∙ ap (λ (xs : List Bool). whole_read (xs, place)) (append-nil front)))
+    all_read front place _ total (ap (λ (n : ℕ). behind (lengths so_far.most n place) (λ found. done (alternating outcome found))) e
+    ∙ ap (λ (r : Read (List ℕ)). behind r (λ found. done (alternating outcome found))) (nothing_left so_far.most place)) so_far.read

@@ -28,8 +28,9 @@ use Rattle.std.proofs.Common.{
   ◌⊎◌,
 }
 use Rattle.std.specs.Bool.{beq}
+use Rattle.std.specs.Cmp.{booleans_Decides}
 use Rattle.std.specs.List.{list_all}
-use Rattle.std.proofs.lemmas.Bool.{and_parts, and_from, le-leb}
+use Rattle.std.proofs.lemmas.Bool.{and_parts, and_from, cases_Bool, le-leb}
 use Rattle.std.proofs.lemmas.List.{length-append, length-replicate}
 use Rattle.std.proofs.lemmas.Grind.{replicate_next}
 use Rattle.path_log.specs.Texts.{runs_behind}
@@ -44,10 +45,6 @@ abbrev pub total : List ℕ → ℕ
 total [] = 0
 total (n ∷ ns) = n + total ns
 
-same : (b : Bool) → beq b b ≡ true
-same true = refl
-same false = refl
-
 other : (b : Bool) → beq b (not b) ≡ false
 other true = refl
 other false = refl
@@ -55,7 +52,7 @@ other false = refl
 run_goes_on : (b : Bool) (n m : ℕ) (rest : List Bool) → runs_behind b n (replicate m b ++ rest) ≡ runs_behind b (n + m) rest
 run_goes_on b n zero rest = ap (λ (k : ℕ). runs_behind b k rest) (omega arith)
 run_goes_on b n (suc m) rest =
-    rw (same b) (run_goes_on b (n + 1) m rest ∙ ap (λ (k : ℕ). runs_behind b k rest) (omega arith))
+    rw ((booleans_Decides b b).1 refl) (run_goes_on b (n + 1) m rest ∙ ap (λ (k : ℕ). runs_behind b k rest) (omega arith))
 
 runs_again : (b : Bool) (n : ℕ) (ns : List ℕ) → are_runs ns ≡ true → runs_behind b n (alternating (not b) ns) ≡ n ∷ ns
 runs_again b n [] h = refl
@@ -77,25 +74,13 @@ not_same true false h = refl
 not_same false true h = refl
 not_same false false h = absurd cc
 
-is_same : (b c : Bool) → beq b c ≡ true → b ≡ c
-is_same true true h = refl
-is_same true false h = absurd cc
-is_same false true h = absurd cc
-is_same false false h = refl
-
-cases_beq : (b c : Bool) → (beq b c ≡ true) ⊎ (beq b c ≡ false)
-cases_beq true true = inl refl
-cases_beq true false = inr refl
-cases_beq false true = inr refl
-cases_beq false false = inl refl
-
 -- runs alternate
 pub alternating_of_runs : (b : Bool) (n : ℕ) (bs : List Bool) → alternating b (runs_behind b n bs) ≡ replicate n b ++ bs
 alternating_of_runs b n [] = refl
-alternating_of_runs b n (c ∷ bs) = elim (cases_beq b c) [
+alternating_of_runs b n (c ∷ bs) = elim (cases_Bool (beq b c)) [
   | inl h ↦
       rw h (alternating_of_runs b (n + 1) bs ∙ (ap (λ (xs : List Bool). xs ++ bs) (replicate_next n b)
-      ∙ (append_assoc (replicate n b) (b ∷ []) bs ∙ ap (λ (x : Bool). replicate n b ++ x ∷ bs) (is_same b c h))))
+      ∙ (append_assoc (replicate n b) (b ∷ []) bs ∙ ap (λ (x : Bool). replicate n b ++ x ∷ bs) ((booleans_Decides b c).0 h))))
   | inr h ↦
       rw h (ap (λ (x : Bool). replicate n b ++ alternating x (runs_behind c 1 bs)) (sym (not_same b c h))
       ∙ ap (λ (xs : List Bool). replicate n b ++ xs) (alternating_of_runs c 1 bs))
@@ -103,14 +88,14 @@ alternating_of_runs b n (c ∷ bs) = elim (cases_beq b c) [
 
 pub runs_are_runs : (b : Bool) (n : ℕ) (bs : List Bool) → 1 ≤ n → are_runs (runs_behind b n bs) ≡ true
 runs_are_runs b n [] le = and_from (leb 1 n) true (le-leb 1 n le) refl
-runs_are_runs b n (c ∷ bs) le = elim (cases_beq b c) [
+runs_are_runs b n (c ∷ bs) le = elim (cases_Bool (beq b c)) [
   | inl h ↦ rw h (runs_are_runs b (n + 1) bs (omega arith))
   | inr h ↦ rw h (and_from (leb 1 n) _ (le-leb 1 n le) (runs_are_runs c 1 bs (omega arith)))
 ]
 
 pub total-runs : (b : Bool) (n : ℕ) (bs : List Bool) → total (runs_behind b n bs) ≡ n + length bs
 total-runs b n [] = omega arith
-total-runs b n (c ∷ bs) = elim (cases_beq b c) [
+total-runs b n (c ∷ bs) = elim (cases_Bool (beq b c)) [
   | inl h ↦ rw h (total-runs b (n + 1) bs ∙ (omega arith))
   | inr h ↦ rw h (ap (λ (k : ℕ). n + k) (total-runs c 1 bs) ∙ (omega arith))
 ]

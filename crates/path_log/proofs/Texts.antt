@@ -73,7 +73,7 @@ pub Takes-nothing : (bytes : List ℕ) → AreBytes bytes → Takes bytes [] byt
 Takes-nothing bytes h = record { parts = refl; are = h }
 
 -- the fields give this value of a text, whatever follows
-pub record Gives {X : Type 0} (read : Read X) (x : X) (rest : List ℕ) : Type 0 where
+pub record ReadsAs {X : Type 0} (read : Read X) (x : X) (rest : List ℕ) : Type 0 where
   pub end : ℕ
   pub read_is : read ≡ Ok (x, (end, rest))
 
@@ -169,7 +169,7 @@ children_take (suc n) place x h e =
       and_from (is_within 1 255 a.0.0) (list_all (is_within 1 255) b.0.0) passes.1 others.2,
     )
 
-children_again : (ks : Name) (rest : List ℕ) (offset : ℕ) → list_all (is_within 1 255) ks ≡ true → Gives (times child (length ks) (offset, ks ++ rest)) ks rest
+children_again : (ks : Name) (rest : List ℕ) (offset : ℕ) → list_all (is_within 1 255) ks ≡ true → ReadsAs (times child (length ks) (offset, ks ++ rest)) ks rest
 children_again [] rest offset h = record { end = offset; read_is = refl }
 children_again (k ∷ ks) rest offset h =
     let parts = and_parts (is_within 1 255 k) (list_all (is_within 1 255) ks) h in
@@ -193,7 +193,7 @@ name_takes place x h e =
     let both = Takes-then place.1 (a.0.0 ∷ []) a.0.1.1 x.0 x.1.1 depth.0 ks.0 in
     (subst (λ (n : ℕ). Takes place.1 (n ∷ x.0) x.1.1) (sym count) both, omega arith, ks.2)
 
-name_again : (n : Name) (rest : List ℕ) (offset : ℕ) → list_all (is_within 1 255) n ≡ true → Gives (name (offset, name_text n ++ rest)) n rest
+name_again : (n : Name) (rest : List ℕ) (offset : ℕ) → list_all (is_within 1 255) n ≡ true → ReadsAs (name (offset, name_text n ++ rest)) n rest
 unfolding name
 name_again n rest offset h =
     let others = children_again n rest (offset + 1) h in
@@ -215,7 +215,7 @@ packed_takes n place x h e =
     subst (λ (y : List Bool × Place). Takes place.1 (packed (bytes_for (length y.0)) y.0) y.1.1 × (length y.0 ≡ n)) (read_is (bits, a.0.1) x a.2) (made, len)
 
 packed_outcomes_again : (bs : List Bool) (rest : List ℕ) (offset : ℕ)
-    → Gives (packed_outcomes (length bs) (offset, packed (bytes_for (length bs)) bs ++ rest)) bs rest
+    → ReadsAs (packed_outcomes (length bs) (offset, packed (bytes_for (length bs)) bs ++ rest)) bs rest
 unfolding packed_outcomes
 packed_outcomes_again bs rest offset =
     let n = length bs in
@@ -263,7 +263,7 @@ lengths_take (suc most) left place x h enough e = elim (cases_lt 0 left) [
 ]
 
 lengths_again : (ns : List ℕ) (rest : List ℕ) (offset most left : ℕ) → are_runs ns ≡ true → total ns ≡ left → left ≤ most → left < 2 ^ 16
-    → Gives (lengths most left (offset, flat_map (big_bytes 2) ns ++ rest)) ns rest
+    → ReadsAs (lengths most left (offset, flat_map (big_bytes 2) ns ++ rest)) ns rest
 lengths_again [] rest offset most left h sums enough small = record {
   end = offset;
   read_is = ap (λ (l : ℕ). lengths most l (offset, rest)) (sym sums) ∙ nothing_left most (offset, rest);
@@ -348,7 +348,7 @@ first_is : (b : Bool) → eqb (first_byte b) 1 ≡ b
 first_is true = refl
 first_is false = refl
 
-runs_again : (bs : List Bool) (rest : List ℕ) (offset : ℕ) → length bs < 2 ^ 16 → Gives (run_outcomes (length bs) (offset, runs_text bs ++ rest)) bs rest
+runs_again : (bs : List Bool) (rest : List ℕ) (offset : ℕ) → length bs < 2 ^ 16 → ReadsAs (run_outcomes (length bs) (offset, runs_text bs ++ rest)) bs rest
 runs_again [] rest offset small = record { end = offset; read_is = no_runs (offset, rest) }
 runs_again (b ∷ bs) rest offset small =
     let n = length (b ∷ bs) in
@@ -374,7 +374,7 @@ outcomes_take true n place x h e = runs_take n place x h e
 outcomes_take false n place x h e = packed_takes n place x h e
 
 outcomes_again : (as_runs : Bool) (bs : List Bool) (rest : List ℕ) (offset : ℕ) → length bs < 2 ^ 16
-    → Gives (outcomes as_runs (length bs) (offset, outcomes_text as_runs bs ++ rest)) bs rest
+    → ReadsAs (outcomes as_runs (length bs) (offset, outcomes_text as_runs bs ++ rest)) bs rest
 outcomes_again true bs rest offset small = runs_again bs rest offset small
 outcomes_again false bs rest offset small = packed_outcomes_again bs rest offset
 
@@ -442,7 +442,7 @@ thread_takes as_runs last place x h e =
     )
 
 thread_again : (as_runs : Bool) (last : Option Name) (t : ThreadPath) (rest : List ℕ) (offset : ℕ) → is_above last t.name ≡ true → is_thread t ≡ true
-    → Gives (thread as_runs last (offset, thread_text as_runs t ++ rest)) t rest
+    → ReadsAs (thread as_runs last (offset, thread_text as_runs t ++ rest)) t rest
 unfolding thread
 thread_again as_runs last t rest offset above h =
     let parts = and_parts (leb (length t.name) 255 && list_all (is_within 1 255) t.name) (ltb t.path.steps (2 ^ 16) && ltb (length t.path.outcomes) (2 ^ 16))
@@ -506,7 +506,7 @@ threads_take as_runs (suc n) last place x h e =
     )
 
 pub threads_again : (as_runs : Bool) (ts : List ThreadPath) (last : Option Name) (rest : List ℕ) (offset : ℕ) → rises_from last ts ≡ true
-    → list_all is_thread ts ≡ true → Gives (threads as_runs (length ts) last (offset, flat_map (thread_text as_runs) ts ++ rest)) ts rest
+    → list_all is_thread ts ≡ true → ReadsAs (threads as_runs (length ts) last (offset, flat_map (thread_text as_runs) ts ++ rest)) ts rest
 unfolding threads
 threads_again as_runs [] last rest offset rises h = record { end = offset; read_is = refl }
 threads_again as_runs (t ∷ ts) last rest offset rises h =

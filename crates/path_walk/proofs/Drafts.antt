@@ -8,11 +8,12 @@ use Rattle.std.specs.Option.{option_map_or}
 use Rattle.std.specs.Ordering.{is_lt}
 use Rattle.std.specs.Result.{result_err, result_unwrap_or}
 use Rattle.std.specs.declared.cmp.Ordering.TheVariants.{Less}
+use Rattle.std.proofs.Math.Bool.{or-false}
 use Rattle.std.proofs.Math.Seq.{take-length}
-use Rattle.std.proofs.lemmas.List.{map-append, length-append, length-take, take-append-drop, drop_more, get_or_default}
+use Rattle.std.proofs.lemmas.List.{map-append, length-append, length-take, take_more}
 use Rattle.std.proofs.lemmas.Bool.{cases_lt, eqb-true}
 use Rattle.std.proofs.lemmas.List.Sums.{fold-append}
-use Rattle.std.proofs.lemmas.Option.{none-some}
+use Rattle.std.proofs.lemmas.Option.{none-some, slice_get_read}
 use Rattle.tc_base.specs.Names.{Name, child, by_name}
 use Rattle.tc_base.specs.Logs.{Log, Path, ThreadPath, failing_of, path_under}
 use Rattle.tc_code.specs.Code.{Code}
@@ -28,6 +29,7 @@ use Rattle.path_walk.specs.declared.fault.Misfit.TheVariants as misfit
 use Rattle.path_walk.specs.declared.fault.WalkFault.{WalkFault}
 use Rattle.path_walk.specs.declared.fault.WalkFault.TheVariants.{Unfit}
 use Rattle.tc_base.proofs.Names.{between, less_true, up_to, child_is_above, later_child, same_true, same_refl}
+use Rattle.path_log.proofs.Lists.{split_at}
 use Rattle.path_log.proofs.Rising.{own_path, lesser_is_older, none_under}
 use Rattle.path_walk.proofs.Faults.{option_is, there, not_there, HasParent, parent_of, function_of_child, walked_there, no_child, missing, nobody}
 use Rattle.path_walk.proofs.Faults.{stranger, by_path, fitting}
@@ -45,25 +47,11 @@ pub mapped_err : {X Y : Type 0} (f : X → Y) (r : Result X Misfit) (e : Misfit)
 mapped_err f (Ok x) e h = absurd cc
 mapped_err f (Err d) e h = cc
 
--- a list up to a place, the element there, and the rest
-pub split_at : {X : Type 0} (xs : List X) (k : ℕ) (x : X) → k < length xs → x ≡ get_or xs k x → (newer : List X) × (xs ≡ take k xs ++ x ∷ newer)
-split_at xs k x lt e = (
-  drop (k + 1) xs,
-  sym (take-append-drop k xs) ∙ ap (λ ys. take k xs ++ ys) (drop_more xs k x lt) ∙ ap (λ y. take k xs ++ y ∷ drop (k + 1) xs) (sym e),
-)
-
 -- the last number of a name, and those before it
 pub take_last : (xs : List ℕ) → 0 < length xs → xs ≡ take (length xs - 1) xs ++ slice_index xs (length xs - 1) ∷ []
 take_last xs some =
-    let parts = split_at xs (length xs - 1) (slice_index xs (length xs - 1)) (omega arith)
-    (get_or_default xs (length xs - 1) 0 (slice_index xs (length xs - 1)) (omega arith)) in
-    let last : length (take (length xs - 1) xs) ≡ length xs - 1 = length-take (length xs - 1) xs ∙ omega arith in
-    let long = length-append (take (length xs - 1) xs) (slice_index xs (length xs - 1) ∷ parts.0) in
-    parts.1 ∙ ap (λ ys. take (length xs - 1) xs ++ slice_index xs (length xs - 1) ∷ ys) (none_left parts.0 (omega (arith, ap length parts.1, last, long)))
-  where
-    none_left : (ys : List ℕ) → length ys ≡ 0 → ys ≡ []
-    none_left [] h = refl
-    none_left (y ∷ ys) h = absurd (omega arith)
+    let long : length xs ≡ (length xs - 1) + 1 = omega arith in
+    sym (take-length xs) ∙ ap (λ n. take n xs) long ∙ take_more xs (length xs - 1) 0 (omega arith)
 
 pub is_nonempty : (xs : List ℕ) → (length xs == 0) ≡ false → 0 < length xs
 is_nonempty [] h = absurd cc
@@ -73,9 +61,9 @@ pub is_empty : (xs : List ℕ) → (length xs == 0) ≡ true → length xs ≡ 0
 is_empty xs h = eqb-true (length xs) 0 h
 
 pub take_next : {X : Type 0} (xs : List X) (k : ℕ) (x : X) → k < length xs → x ≡ get_or xs k x → take (suc k) xs ≡ take k xs ++ x ∷ []
-take_next [] k x lt e = absurd (omega arith)
-take_next (y ∷ xs) zero x lt e = ap (λ z. z ∷ []) (sym e)
-take_next (y ∷ xs) (suc k) x lt e = ap (λ ys. y ∷ ys) (take_next xs k x (omega arith) e)
+take_next xs k x lt e =
+    let next : suc k ≡ k + 1 = omega arith in
+    ap (λ n. take n xs) next ∙ take_more xs k x lt ∙ ap (λ y. take k xs ++ y ∷ []) (sym e)
 
 -- what is under a name in front of one more thread, or is that thread
 under_both : (n : Name) (ts : List ThreadPath) (t : ThreadPath) → IsSome (path_under n (ts ++ t ∷ [])) → IsSome (path_under n ts) ⊎ (n ≡ t.name)
@@ -188,11 +176,7 @@ sum_push : (g : ThreadPath → ℕ) (ts : List ThreadPath) (t : ThreadPath) → 
 sum_push g ts t = ap sum (map-append g ts (t ∷ [])) ∙ fold-append ◌+◌ 0 (map g ts) (g t ∷ [])
 
 any_push : (p : ThreadPath → Bool) (ts : List ThreadPath) (t : ThreadPath) → list_any p (ts ++ t ∷ []) ≡ (list_any p ts || p t)
-any_push p [] t = or_false (p t)
-  where
-    or_false : (b : Bool) → (b || false) ≡ b
-    or_false true = refl
-    or_false false = refl
+any_push p [] t = or-false (p t)
 any_push p (o ∷ ts) t = by (p o) (any_push p ts t)
   where
     by : (b : Bool) → list_any p (ts ++ t ∷ []) ≡ (list_any p ts || p t) → (b || list_any p (ts ++ t ∷ [])) ≡ ((b || list_any p ts) || p t)
@@ -294,10 +278,10 @@ module _ (code : Code) (log : Log) where
     done = take (length d.threads) log.threads
 
     abbrev later : List ThreadPath
-    later = (split_at log.threads (length d.threads) t next.within next.there).0
+    later = drop (suc (length d.threads)) log.threads
 
     split : log.threads ≡ done ++ t ∷ later
-    split = (split_at log.threads (length d.threads) t next.within next.there).1
+    split = split_at log.threads (length d.threads) t (slice_get_read log.threads (length log.threads) (length d.threads) t refl next.within next.there)
 
     rising : rises_from None (done ++ t ∷ later) ≡ true
     rising = subst (λ ts. rises_from None ts ≡ true) split draft.rises

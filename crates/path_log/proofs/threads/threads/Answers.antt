@@ -9,7 +9,7 @@ pub returns-in_err-path : goal.returns-in_err-path
 returns-in_err-path c =
     let p = err_from_is_err_and c.from_residual.result c.from_residual.ensures.1 in
     let last = c.last_name.ensures ∙ ap last_name c.as_slice.ensures.value in
-    rw (p.1, p.2) (threads_fail c.in_err-path.field-0.0 c.args.as_runs c.loop.threads.items c.args.count c.loop.counter (place c.loop.rest)
+    rw (p.1, p.2) (threads_fail c.args.as_runs c.loop.threads.items c.args.count c.loop.counter (place c.loop.rest) c.in_err-path.field-0.0
     (fields.threads c.args.as_runs c.args.count None (place c.args.cursor)) c.loop-test.true (rw last at c.in_err-path.ensures) c.loop.invariant)
 
 pub loop-preserved : goal.loop-preserved
