@@ -1,43 +1,10 @@
 -- What a parse that passes holds: each argument that was used has values, and they passed.
-use Rattle.std.proofs.Common.{
-  ◌≡◌,
-  ◌∙◌,
-  ap,
-  ap₂,
-  sym,
-  refl,
-  subst,
-  ℕ,
-  zero,
-  suc,
-  Bool,
-  true,
-  false,
-  not,
-  ◌&&◌,
-  ◌||◌,
-  cond,
-  List,
-  [],
-  ◌∷◌,
-  ◌++◌,
-  Option,
-  Some,
-  None,
-  is_some,
-  length,
-  find,
-  arith,
-  drop,
-  fold,
-  unwrap_or,
-  ne_eqb,
-  option_and_then,
-}
+use Rattle.std.proofs.Common.{◌≡◌, ◌∙◌, ap, sym, refl, subst, ℕ, zero, suc, Bool, true, false, not, ◌&&◌, ◌||◌, cond, List, [], ◌∷◌, ◌++◌, Option, Some, None, is_some, length, find, arith, drop, fold, unwrap_or, ne_eqb, option_and_then}
 use Rattle.std.specs.Prelude.{encode_utf8, slice_get, nat_le, ⊤}
 use Rattle.std.specs.List.{list_all}
 use Rattle.std.specs.Option.{option_map_or}
 use Rattle.std.specs.Str.{bytes_eq, chars}
+use Rattle.std.proofs.lemmas.Bool.{and_from}
 use Rattle.std.proofs.lemmas.List.Folds.{list_all-append}
 use Rattle.std.proofs.lemmas.Slice.Eq.{bytes_eq-Decides}
 use Rattle.clap.specs.Lexer.{long_of, short_of}
@@ -189,11 +156,8 @@ found_sets t p (x ∷ xs) a all e = go (p x) e (λ f. found_sets t p xs a all.1 
         subst (IsSetter t) same all.0
     go false e rec = rec e
 
-and_true : (a b : Bool) → a ≡ true → b ≡ true → (a && b) ≡ true
-and_true a b p q = ap₂ (λ (x y : Bool). x && y) p q
-
 append_true : {X : Type 0} (p : X → Bool) (xs ys : List X) → list_all p xs ≡ true → list_all p ys ≡ true → list_all p (xs ++ ys) ≡ true
-append_true p xs ys e f = list_all-append p xs ys ∙ and_true _ _ e f
+append_true p xs ys e f = list_all-append p xs ys ∙ and_from _ _ e f
 
 at_row_fit : (t : Fitness) (id : Text) (change : Row → List Row) (missing rows : List Row)
     → ((r : Row) → is_fit t r ≡ true → bytes_eq r.id id ≡ true → all_fit t (change r) ≡ true) → all_fit t missing ≡ true → all_fit t rows ≡ true
@@ -206,7 +170,7 @@ at_row_fit t id change missing (r ∷ rs) ch ms e =
     go : (b : Bool) → bytes_eq r.id id ≡ b → is_fit t r ≡ true → all_fit t rs ≡ true → all_fit t (at_row id change missing rs) ≡ true
         → all_fit t (cond b (change r ++ rs) (r ∷ at_row id change missing rs)) ≡ true
     go true at f g rec = append_true (is_fit t) (change r) rs (ch r f at) g
-    go false at f g rec = and_true _ _ f rec
+    go false at f g rec = and_from _ _ f rec
 
 still_some : (xs ys : List Text) → has_some xs ≡ true → has_some (xs ++ ys) ≡ true
 still_some [] ys e = cc
@@ -221,8 +185,8 @@ with_values_fit t id how s v vs rows reads pass e =
     let p = both (has_some r.values) _ w.1 in
     let same : r.id ≡ id = (bytes_eq-Decides r.id id).0 at in
     let more : list_all (t r.id) (v ∷ vs) ≡ true = ap (λ k. list_all (t k) (v ∷ vs)) same ∙ pass in
-    and_true _ _ (and_true _ _ w.0 (and_true _ _ (still_some r.values (v ∷ vs) p.0) (append_true (t r.id) r.values (v ∷ vs) p.1 more))) refl)
-    (and_true _ _ (and_true _ _ reads pass) refl) e
+    and_from _ _ (and_from _ _ w.0 (and_from _ _ (still_some r.values (v ∷ vs) p.0) (append_true (t r.id) r.values (v ∷ vs) p.1 more))) refl)
+    (and_from _ _ (and_from _ _ reads pass) refl) e
 
 without_fit : (t : Fitness) (id : Text) (rows : List Row) → all_fit t rows ≡ true → all_fit t (without id rows) ≡ true
 without_fit t id rows e = at_row_fit t id (λ _. []) [] rows (λ r f at. refl) refl e
@@ -463,7 +427,7 @@ all_given : (t : Fitness) (rows : List Row) (c : List Rule) → all_fit t rows �
 all_given t rows [] fit e = refl
 all_given t rows (a ∷ rest) fit e =
     let p = both (not a.required || is_given a.id rows) _ e in
-    and_true _ _ (go a.required p.0) (all_given t rows rest fit p.1)
+    and_from _ _ (go a.required p.0) (all_given t rows rest fit p.1)
   where
     go : (b : Bool) → (not b || is_given a.id rows) ≡ true → (not b || is_some (first_of a.id rows)) ≡ true
     go true e = given_some t a.id rows fit e

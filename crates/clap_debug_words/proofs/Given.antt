@@ -36,7 +36,8 @@ use Rattle.clap.specs.Walk.{answers_to, nothing_held, rows_after, stop_after, wa
 use Rattle.clap.proofs.WalkLemmas.{both}
 use Rattle.clap.specs.ValueTests.{accepts, is_unsigned_in}
 use Rattle.clap.specs.declared.builder.value_parser.ValueParser.TheVariants as parser
-use Rattle.clap_debug_words.specs.CommandLine.{command_line, words_taken, last_seed, most_moves, lent_texts, model_names}
+use Rattle.tc_base.specs.declared.limits.TheConstants.{MOVES}
+use Rattle.clap_debug_words.specs.CommandLine.{command_line, words_taken, last_seed, lent_texts, model_names}
 use Rattle.clap_debug_words.specs.Given.{HasFiles, HasValues}
 use Rattle.clap_debug_words.proofs.Fits.{AreSetters, Fitness, all_fit, level_fit, level_given, read_fit}
 
@@ -44,7 +45,7 @@ use Rattle.clap_debug_words.proofs.Fits.{AreSetters, Fitness, all_fit, level_fit
 abbrev fitness : Fitness
 fitness id v = if bytes_eq id (codes "model") then accepts false (parser.Names (lent_texts model_names)) v
     else if bytes_eq id (codes "seed") then is_unsigned_in 0 last_seed v
-    else if bytes_eq id (codes "steps") then is_unsigned_in 1 most_moves v
+    else if bytes_eq id (codes "steps") then is_unsigned_in 1 MOVES v
     else true
 
 -- the files and the values that stand there

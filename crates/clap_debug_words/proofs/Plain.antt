@@ -5,7 +5,7 @@ use Rattle.std.specs.Prelude.{◌^◌, ◌++◌, IfSome}
 use Rattle.std.specs.Option.{option_map_or}
 use Rattle.std.specs.Fmt.{decimal}
 use Rattle.std.specs.Str.Parse.{IsNumeral, digits_value, without_leading_plus}
-use Rattle.std.proofs.lemmas.Bool.{leb-true}
+use Rattle.std.proofs.lemmas.Bool.{and_from, leb-true}
 use Rattle.std.proofs.lemmas.Fmt.{decimal_is_IsNumeral}
 use Rattle.std.proofs.lemmas.Str.Parse.{digit_from_value}
 use Rattle.clap.specs.Words.{Row, Text, subcommand_of}
@@ -15,13 +15,15 @@ use Rattle.clap.specs.declared.builder.value_parser.ValueParser.TheVariants as p
 use Rattle.clap.proofs.OnLiterals.{clap_on_literals}
 use Rattle.clap.proofs.ValueTestLemmas.{Accepts-accepts}
 use Rattle.clap.proofs.WalkLemmas.{both}
+use Rattle.tc_base.specs.Models.{model_name}
+use Rattle.tc_base.specs.declared.limits.TheConstants.{MOVES}
 use Rattle.tc_base.specs.declared.model.Model.{Model}
 use Rattle.tc_base.specs.declared.model.Model.TheVariants.{Sc, Tso, Pso}
 use Rattle.clap_debug_words.specs.CommandLine.{command_line, lent_texts, model_names, words_taken}
 use Rattle.clap_debug_words.specs.Calls.{Called, call_of, called, model_in, number_in}
 use Rattle.clap_debug_words.specs.Calls as calls
 use Rattle.clap_debug_words.specs.PlainWords.{Written, Lists, Replays, Records, Migrates}
-use Rattle.clap_debug_words.specs.PlainWords.{asked, is_between, is_name, is_plain, model_name, option_words, words_of}
+use Rattle.clap_debug_words.specs.PlainWords.{asked, is_between, is_name, is_plain, option_words, words_of}
 use Rattle.clap_debug_words.proofs.PlainWords.{ArePlain, IsPlainWord, Marked, level-marked, rows-marked}
 
 name_plain : (p : Text) → is_name p ≡ true → IsPlainWord p
@@ -97,7 +99,7 @@ Passes test t = IfSome t (λ v. IsPlainWord v × (test v ≡ true))
 
 abbrev record_call : Text → Text → Option Text → Option Text → Option Text → Called
 record_call p l m n k = calls.Records p l (option_map_or model_in m Sc) (option_map_or (number_in 0 18446744073709551615 0) n 0)
-    (option_map_or (number_in 1 1000000 1000000) k 1000000)
+    (option_map_or (number_in 1 MOVES MOVES) k MOVES)
 
 settled_true : (t : Bool) → t ≡ true → ((t && true) && true) ≡ true
 settled_true t e = ap (λ b. (b && true) && true) e
@@ -106,7 +108,7 @@ ended_true : (t : Bool) → t ≡ true → (t && true) ≡ true
 ended_true t e = ap (λ b. b && true) e
 
 both_true : (a b : Bool) → a ≡ true → b ≡ true → (a && (b && true)) ≡ true
-both_true a b e f = ap₂ (λ x y. x && (y && true)) e f
+both_true a b e f = and_from a (b && true) e (ended_true b f)
 
 level_true : (passed ended defaults : Bool) → passed ≡ true → ended ≡ true → defaults ≡ true → ((passed && (ended && (defaults && true))) && true) ≡ true
 level_true passed ended defaults e f g = ap₂ (λ x y. (passed && (x && (y && true))) && true) f g ∙ ap (λ x. (x && true) && true) e
@@ -116,7 +118,7 @@ abbrev accepts_model : Text → Bool
 accepts_model = accepts false (parser.Names (lent_texts model_names))
 
 record_says : (w p l : Text) (m n k : Option Text) → IsPlainWord p → IsPlainWord l → accepts_model (codes "sc") ≡ true
-    → Passes accepts_model m → Passes (is_unsigned_in 0 18446744073709551615) n → Passes (is_unsigned_in 1 1000000) k
+    → Passes accepts_model m → Passes (is_unsigned_in 0 18446744073709551615) n → Passes (is_unsigned_in 1 MOVES) k
     → Says (w ∷ codes "record" ∷ p ∷ l ∷ (option_words (codes "--model") m ++ (option_words (codes "--seed") n ++ option_words (codes "--steps") k)))
     (record_call p l m n k)
 unfolding clap_on_literals
@@ -207,7 +209,7 @@ plain_says first (Records p l model seed steps) e =
     let numbers = both (option_map_or (is_between 0 18446744073709551615) seed true) _ a.1 in
     let m = model_written model in
     let n = number_written 0 18446744073709551615 0 (omega arith) seed numbers.0 in
-    let k = number_written 1 1000000 1000000 (omega arith) steps numbers.1 in
+    let k = number_written 1 MOVES MOVES (omega arith) steps numbers.1 in
     as_call (words_of first (Records p l model seed steps)) _ _ (λ i. calls.Records p l (m.1 i) (n.1 i) (k.1 i))
     (record_says first p l (option_map model_name model) (option_map decimal seed) (option_map decimal steps) (name_plain p names.0) (name_plain l names.1)
     refl m.0 n.0 k.0)

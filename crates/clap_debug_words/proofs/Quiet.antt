@@ -1,40 +1,10 @@
 -- Where no kind of error may come, the words are taken.
-use Rattle.std.proofs.Common.{
-  ◌≡◌,
-  ◌∙◌,
-  ap,
-  ap₂,
-  sym,
-  refl,
-  ℕ,
-  zero,
-  suc,
-  Bool,
-  true,
-  false,
-  not,
-  ◌&&◌,
-  ◌||◌,
-  cond,
-  List,
-  [],
-  ◌∷◌,
-  Option,
-  Some,
-  None,
-  is_some,
-  length,
-  find,
-  codes,
-  arith,
-  drop,
-  unwrap_or,
-}
+use Rattle.std.proofs.Common.{◌≡◌, ◌∙◌, ap, sym, refl, ℕ, zero, suc, Bool, true, false, not, ◌&&◌, ◌||◌, cond, List, [], ◌∷◌, Option, Some, None, is_some, length, find, codes, arith, drop, unwrap_or}
 use Rattle.std.specs.Prelude.{◌==◌, nat_le, nat_lt, encode_utf8, slice_get}
 use Rattle.std.specs.List.{list_all, list_any}
 use Rattle.std.specs.Option.{option_map_or}
 use Rattle.std.specs.Str.{bytes_eq, chars}
-use Rattle.std.proofs.lemmas.Bool.{le-leb, eqb-true}
+use Rattle.std.proofs.lemmas.Bool.{and_from, le-leb, eqb-true}
 use Rattle.clap.specs.Lexer.{long_of, short_of}
 use Rattle.clap.specs.Facts.{explicit_source, parser_of_value, unwrap_or_range}
 use Rattle.clap.specs.ValueTests.{accepts}
@@ -160,14 +130,11 @@ unless_nil true true k ks e = refl
 unless_nil true false k ks e = cc
 unless_nil false b k ks e = refl
 
-and_true : (a b : Bool) → a ≡ true → b ≡ true → (a && b) ≡ true
-and_true a b p q = ap₂ (λ (x y : Bool). x && y) p q
-
 values_quiet : (ic : Bool) (p : ValueParser) (vs : List Text) → values_kinds ic p vs ≡ [] → list_all (accepts ic p) vs ≡ true
 values_quiet ic p [] e = refl
 values_quiet ic p (v ∷ vs) e =
     let h = nil_or (value_kinds ic p v) (values_kinds ic p vs) e in
-    and_true _ _ (if_nil (accepts ic p v) (refused_kind p) h.0) (values_quiet ic p vs h.1)
+    and_from _ _ (if_nil (accepts ic p v) (refused_kind p) h.0) (values_quiet ic p vs h.1)
 
 range_quiet : (least most n : ℕ) → range_kinds least most n ≡ [] → (nat_le least n ≡ true) × (nat_le n most ≡ true)
 range_quiet least most n e = go (nat_lt 0 least && n == 0) (least == most) (least == n) (nat_lt n least) (nat_lt most n) refl refl refl refl e
@@ -188,7 +155,7 @@ range_quiet least most n e = go (nat_lt 0 least && n == 0) (least == most) (leas
 set_quiet : (again : Bool) (a : Rule) (values : List Text) (rows : List Row) → set_fault again a values rows ≡ [] → set_passes again a values rows ≡ true
 set_quiet again a values rows e =
     let h = nil_or _ _ e in
-    and_true _ _ (unless_nil (has_row a.id rows) again _ _ h.0) (values_quiet a.ignore_case (parser_of_value a.parser) values h.1)
+    and_from _ _ (unless_nil (has_row a.id rows) again _ _ h.0) (values_quiet a.ignore_case (parser_of_value a.parser) values h.1)
 
 count_quiet : (a : Rule) (values : List Text) (rows : List Row) → count_fault a values rows ≡ [] → count_passes a values rows ≡ true
 count_quiet a [] rows e = if_nil _ _ e
@@ -210,7 +177,7 @@ use_quiet : (again : Bool) (a : Rule) (values : List Text) (rows : List Row) →
 use_quiet again a values rows e =
     let h = nil_or (range_kinds (unwrap_or_range a.range).start_inclusive (most_values a) (length values)) _ e in
     let r = range_quiet (unwrap_or_range a.range).start_inclusive (most_values a) (length values) h.0 in
-    and_true _ _ r.0 (and_true _ _ r.1 (action_quiet (action_of a) again a (values_or_missing a values) rows h.1))
+    and_from _ _ r.0 (and_from _ _ r.1 (action_quiet (action_of a) again a (values_or_missing a values) rows h.1))
 
 settle_in : (c : List Rule) (again : Bool) (p : Option (Text × List Text)) (rows : List Row)
     → option_map_or (λ p. option_map_or (λ a. use_fault again a p.1 rows) (arg_by_id c p.0) []) p [] ≡ []
@@ -229,7 +196,7 @@ react_quiet : (c : List Rule) (again : Bool) (a : Rule) (values : List Text) (h 
     react_passes c again a values h ≡ true
 react_quiet c again a values h e =
     let p = nil_or (settle_fault c again h) _ e in
-    and_true _ _ (settle_quiet c again h p.0) (use_quiet again a values (settled c h).rows p.1)
+    and_from _ _ (settle_quiet c again h p.0) (use_quiet again a values (settled c h).rows p.1)
 
 option_quiet : (c : List Rule) (again : Bool) (a : Rule) (v : Option Text) (h : Held) → option_fault c again a v h ≡ [] → option_passes c again a v h ≡ true
 option_quiet c again a (Some v) h e = react_quiet c again a (v ∷ []) h e
@@ -255,7 +222,7 @@ short_quiet c again (Some a) rest h n p on e = go (takes_values a) e
     go true e = option_quiet c again a (attached_value rest) h e
     go false e =
         let q = nil_or (react_fault c again a [] h) _ e in
-        and_true _ _ (react_quiet c again a [] h q.0) (on (reacted c a [] h) q.1)
+        and_from _ _ (react_quiet c again a [] h q.0) (on (reacted c a [] h) q.1)
 
 step_in_bundle : (c : List Rule) (again : Bool) (o : Option ℕ) (flags : Text) (skip : ℕ) (h : Held) (n : Text → ℕ → Held → Kinds) (p : Text → ℕ → Held → Bool)
     → ((t : Text) (k : ℕ) (h : Held) → n t k h ≡ [] → p t k h ≡ true)
@@ -329,14 +296,14 @@ turn_quiet s names w word e = go (is_some w.stopped) e
     go false e =
         let p = nil_or (word_fault s names w.is_trailing w.waiting word w.held) _ e in
         let met = word_met s.rules names w.is_trailing w.waiting w.position word w.held in
-        and_true _ _ (word_quiet s names w.is_trailing w.waiting word w.held p.0) (step_quiet s w.position met.0 met.1 p.1)
+        and_from _ _ (word_quiet s names w.is_trailing w.waiting word w.held p.0) (step_quiet s w.position met.0 met.1 p.1)
 
 walk_quiet : (s : Shape) (names : Names) (w : Walk) (words : List Text) → walk_fault s names w words ≡ [] → walk_passes s names w words ≡ true
 unfolding walk_passes walk_fault
 walk_quiet s names w [] e = refl
 walk_quiet s names w (word ∷ rest) e =
     let p = nil_or (turn_fault s names w word) _ e in
-    and_true _ _ (turn_quiet s names w word p.0) (walk_quiet s names (walked s.rules names w word) rest p.1)
+    and_from _ _ (turn_quiet s names w word p.0) (walk_quiet s names (walked s.rules names w word) rest p.1)
 
 none_missing : {X : Type 0} (p q : X → Bool) (xs : List X) → list_any (λ x. p x && not (q x)) xs ≡ false → list_all (λ x. not (p x) || q x) xs ≡ true
 none_missing p q [] e = refl
@@ -375,9 +342,9 @@ lift_bits false any all on e = on e
 check_quiet : (s : Shape) (rows : List Row) (has : Bool) → has_free_rules s ≡ true → check_fault s rows has ≡ [] → is_valid s rows has ≡ true
 check_quiet s rows has free e =
     let p = check_nil _ _ _ e in
-    and_true _ _ (help_bits has s.arg_required_else_help (list_any (λ r. explicit_source r.source) rows) p.0)
-    (and_true _ _ (want_bits has s.subcommand_required p.1)
-    (and_true _ _ free
+    and_from _ _ (help_bits has s.arg_required_else_help (list_any (λ r. explicit_source r.source) rows) p.0)
+    (and_from _ _ (want_bits has s.subcommand_required p.1)
+    (and_from _ _ free
     (lift_bits (s.subcommand_negates_reqs && has) _ _ (none_missing (λ (a : Rule). a.required) (λ (a : Rule). is_given a.id rows) s.rules) p.2)))
 
 -- no argument has a rule on another, and the defaults pass
@@ -394,9 +361,9 @@ level_quiet s names h words has below quiet e =
     let d = nil_or (settle_fault s.rules s.args_override_self end) _ b.1 in
     let f = nil_or (defaults_fault (settled s.rules end).rows s.rules) _ d.1 in (
       b.0,
-      and_true _ _ (walk_quiet s names (walk_from h) words a.0)
-          (and_true _ _ (settle_quiet s.rules s.args_override_self end d.0)
-          (and_true _ _ q.1 (check_quiet s (finished s.rules end) has q.0 f.1))),
+      and_from _ _ (walk_quiet s names (walk_from h) words a.0)
+          (and_from _ _ (settle_quiet s.rules s.args_override_self end d.0)
+          (and_from _ _ q.1 (check_quiet s (finished s.rules end) has q.0 f.1))),
     )
 
 found_passes : {X : Type 0} (p q : X → Bool) (xs : List X) (x : X) → list_all p xs ≡ true → find q xs ≡ Some x → p x ≡ true
@@ -423,10 +390,10 @@ built_quiet : (a : App) (h : Held) (words : List Text) → has_quiet_rules a.top
 built_quiet a h words top subs e =
     let stop = (walk a.top.rules (names_of a) h words).stopped in
     let p = level_quiet a.top (names_of a) h words (is_some (entered a stop)) (entered_fault a stop) top e in
-    and_true _ _ (entered_quiet a stop subs p.0) p.1
+    and_from _ _ (entered_quiet a stop subs p.0) p.1
 
 -- a simple command, in which no argument has a rule on another and the defaults pass, takes the words at which it has no fault
 pub quiet_takes : (a : App) (words : List Text) → is_simple a ≡ true → has_quiet_rules (built a).top ≡ true → list_all has_quiet_rules (built a).subs ≡ true
     → fault_of a words ≡ [] → takes a words ≡ true
 quiet_takes a words simple top subs e =
-    and_true _ _ simple (built_quiet (built a) nothing_held (argument_words a words) top subs e)
+    and_from _ _ simple (built_quiet (built a) nothing_held (argument_words a words) top subs e)

@@ -4,9 +4,11 @@ use Rattle.std.specs.Option.{option_map_or}
 use Rattle.std.specs.Str.Parse.{digits_value, without_leading_plus}
 use Rattle.clap.specs.Words.{Row, Text, first_of, one_of, subcommand_of}
 use Rattle.clap.specs.ValueTests.{is_unsigned_in}
+use Rattle.tc_base.specs.Models.{model_name}
+use Rattle.tc_base.specs.declared.limits.TheConstants.{MOVES}
 use Rattle.tc_base.specs.declared.model.Model.{Model}
 use Rattle.tc_base.specs.declared.model.Model.TheVariants.{Sc, Tso, Pso}
-use Rattle.clap_debug_words.specs.CommandLine.{command_line, words_taken, last_seed, most_moves}
+use Rattle.clap_debug_words.specs.CommandLine.{command_line, words_taken, last_seed}
 use Rattle.clap_debug_words.specs.declared.Call.{Call}
 use Rattle.clap_debug_words.specs.declared.Call.TheVariants as call
 
@@ -36,7 +38,7 @@ within low high default (Some n) = if nat_le low n && nat_le n high then n else 
 
 -- the memory model of a name
 abbrev pub model_in : Text → Model
-model_in name = if bytes_eq name (codes "tso") then Tso else if bytes_eq name (codes "pso") then Pso else Sc
+model_in name = if bytes_eq name (model_name Tso) then Tso else if bytes_eq name (model_name Pso) then Pso else Sc
 
 abbrev pub model_of : List Row → Model
 model_of rows = model_in (text_of (codes "model") rows)
@@ -45,7 +47,7 @@ abbrev pub seed_of : List Row → ℕ
 seed_of rows = number_of 0 last_seed 0 (codes "seed") rows
 
 abbrev pub steps_of : List Row → ℕ
-steps_of rows = number_of 1 most_moves most_moves (codes "steps") rows
+steps_of rows = number_of 1 MOVES MOVES (codes "steps") rows
 
 -- the call of a subcommand's name and matches
 abbrev pub called : Text × List Row → Called

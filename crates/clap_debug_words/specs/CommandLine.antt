@@ -5,6 +5,9 @@ use Rattle.clap.specs.Words.{App, Rule, Shape, Text, new_app, new_rule, takes}
 use Rattle.clap.specs.Simple.{new_shape}
 use Rattle.clap.specs.declared.builder.value_parser.ValueParser.{ValueParser}
 use Rattle.clap.specs.declared.builder.value_parser.ValueParser.TheVariants as parser
+use Rattle.tc_base.specs.Models.{model_name}
+use Rattle.tc_base.specs.declared.limits.TheConstants.{MOVES}
+use Rattle.tc_base.specs.declared.model.Model.TheVariants.{Sc, Tso, Pso}
 
 -- a required positional
 abbrev pub positional : Text → Rule
@@ -19,7 +22,7 @@ abbrev pub ModelNames : Type 0
 ModelNames = Bor (List (Bor Text))
 
 abbrev pub model_names : List Text
-model_names = codes "sc" ∷ codes "tso" ∷ codes "pso" ∷ []
+model_names = map model_name (Sc ∷ Tso ∷ Pso ∷ [])
 
 abbrev pub AreModelNames : ModelNames → Type 0
 AreModelNames names = map (λ n. n.now) names.now ≡ model_names
@@ -34,10 +37,6 @@ lent_texts texts = record { ref_ptr = (0, 0); now = map lent texts }
 -- the greatest seed
 abbrev pub last_seed : ℕ
 last_seed = 18446744073709551615
-
--- the most moves of a recorded run
-abbrev pub most_moves : ℕ
-most_moves = 1000000
 
 -- `list PROGRAM`
 abbrev pub list : Shape
@@ -54,9 +53,9 @@ abbrev pub recording : ModelNames → Shape
 recording names = record (new_shape (codes "record")) {
   rules = positional (codes "program")
       ∷ positional (codes "log")
-      ∷ option (codes "model") (codes "sc") (parser.Names names)
+      ∷ option (codes "model") (model_name Sc) (parser.Names names)
       ∷ option (codes "seed") (codes "0") (parser.Unsigned 0 last_seed)
-      ∷ option (codes "steps") (codes "1000000") (parser.Unsigned 1 most_moves)
+      ∷ option (codes "steps") (codes "1000000") (parser.Unsigned 1 MOVES)
       ∷ [];
 }
 

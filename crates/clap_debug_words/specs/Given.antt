@@ -3,7 +3,8 @@ use Rattle.std.specs.Prelude.{◌≡◌, ◌⊎◌, true, false, List, codes, is
 use Rattle.clap.specs.Words.{Row, Text, first_of, one_of}
 use Rattle.clap.specs.ValueTests.{accepts, is_unsigned_in}
 use Rattle.clap.specs.declared.builder.value_parser.ValueParser.TheVariants as parser
-use Rattle.clap_debug_words.specs.CommandLine.{last_seed, most_moves, lent_texts, model_names}
+use Rattle.tc_base.specs.declared.limits.TheConstants.{MOVES}
+use Rattle.clap_debug_words.specs.CommandLine.{last_seed, lent_texts, model_names}
 
 -- a text stands for this positional
 abbrev pub IsNamed : List Row → Text → Type 0
@@ -21,4 +22,4 @@ HasFiles p =
 pub record HasValues (p : Text × List Row) : Type 0 where
   pub model : IfSome (one_of (codes "model") p.1) (λ v. accepts false (parser.Names (lent_texts model_names)) v ≡ true)
   pub seed : IfSome (one_of (codes "seed") p.1) (λ v. is_unsigned_in 0 last_seed v ≡ true)
-  pub steps : IfSome (one_of (codes "steps") p.1) (λ v. is_unsigned_in 1 most_moves v ≡ true)
+  pub steps : IfSome (one_of (codes "steps") p.1) (λ v. is_unsigned_in 1 MOVES v ≡ true)

@@ -4,8 +4,10 @@ use Rattle.std.specs.Option.{option_map_or}
 use Rattle.std.specs.Fmt.{decimal}
 use Rattle.clap.specs.Words.{Text}
 use Rattle.tc_base.specs.declared.model.Model.{Model}
-use Rattle.tc_base.specs.declared.model.Model.TheVariants.{Sc, Tso, Pso}
-use Rattle.clap_debug_words.specs.CommandLine.{last_seed, most_moves}
+use Rattle.tc_base.specs.Models.{model_name}
+use Rattle.tc_base.specs.declared.limits.TheConstants.{MOVES}
+use Rattle.tc_base.specs.declared.model.Model.TheVariants.{Sc}
+use Rattle.clap_debug_words.specs.CommandLine.{last_seed}
 use Rattle.clap_debug_words.specs.Calls.{Called}
 use Rattle.clap_debug_words.specs.Calls as calls
 
@@ -15,11 +17,6 @@ pub data Written : Type 0 where
   Replays : (program log schedule : Text) → Written
   Records : (program log : Text) (model : Option Model) (seed steps : Option ℕ) → Written
   Migrates : (program log out : Text) → Written
-
-abbrev pub model_name : Model → Text
-model_name Sc = codes "sc"
-model_name Tso = codes "tso"
-model_name Pso = codes "pso"
 
 -- an option and its value, where it is written
 abbrev pub option_words : Text → Option Text → List Text
@@ -48,12 +45,12 @@ abbrev pub is_plain : Written → Bool
 is_plain (Lists program) = is_name program
 is_plain (Replays program log schedule) = is_name program && (is_name log && is_name schedule)
 is_plain (Records program log model seed steps) = (is_name program && is_name log)
-    && (option_map_or (is_between 0 last_seed) seed true && option_map_or (is_between 1 most_moves) steps true)
+    && (option_map_or (is_between 0 last_seed) seed true && option_map_or (is_between 1 MOVES) steps true)
 is_plain (Migrates program log out) = is_name program && (is_name log && is_name out)
 
 -- what they ask for: what isn't written is sequential consistency, seed 0 and a million moves
 abbrev pub asked : Written → Called
 asked (Lists program) = calls.Lists program
 asked (Replays program log schedule) = calls.Replays program log schedule
-asked (Records program log model seed steps) = calls.Records program log (unwrap_or model Sc) (unwrap_or seed 0) (unwrap_or steps most_moves)
+asked (Records program log model seed steps) = calls.Records program log (unwrap_or model Sc) (unwrap_or seed 0) (unwrap_or steps MOVES)
 asked (Migrates program log out) = calls.Migrates program log out

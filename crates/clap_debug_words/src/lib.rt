@@ -14,11 +14,12 @@ use clap::error::ErrorKind;
 use clap::{Arg, ArgMatches, Command};
 use std::alloc::{AllocError, Global};
 use tc_base::Model;
+use tc_base::limits::MOVES;
 
 static MODEL_NAMES: [&str; 3] = ["sc", "tso", "pso"];
 
 /// The most moves of a recorded run.
-const MOST_MOVES: u64 = 1_000_000;
+const MOST_MOVES: u64 = MOVES as u64;
 
 /// What the words ask for.
 #[derive(Clone, Copy, Debug)]
@@ -123,9 +124,9 @@ fn model_in(matches: &ArgMatches<'_>) -> Model
     ensures { result ≡ model_of (rows_of (found_of matches.now)) }
 {
     let name = text(matches, "model");
-    if name == "tso" {
+    if name == Model::Tso.name() {
         Model::Tso
-    } else if name == "pso" {
+    } else if name == Model::Pso.name() {
         Model::Pso
     } else {
         Model::Sc

@@ -2,6 +2,7 @@ use Rattle.std.proofs.Common.{◌≡◌, ◌∙◌, ap, ap₂, codes}
 use Rattle.std.proofs.lemmas.Result.{IfOk-weaker}
 use Rattle.clap.specs.Words.{App, rule_of, with_rule}
 use Rattle.clap.specs.declared.builder.value_parser.ValueParser.TheVariants as parser
+use Rattle.tc_base.specs.declared.limits.TheConstants.{MOVES}
 use Rattle.clap_debug_words.specs.CommandLine as spec
 use Rattle.clap_debug_words.proofs.recording.Goals as goal
 
@@ -11,7 +12,7 @@ returns c =
     c.option-model.ensures.rule ∙ ap (spec.option (codes "model") (codes "sc")) c.from.ensures in
     let seed_is : rule_of c.option-seed.result ≡ spec.option (codes "seed") (codes "0") (parser.Unsigned 0 18446744073709551615) =
     c.option-seed.ensures.rule ∙ ap (spec.option (codes "seed") (codes "0")) c.unsigned.ensures in
-    let steps_is : rule_of c.option-steps.result ≡ spec.option (codes "steps") (codes "1000000") (parser.Unsigned 1 1000000) =
+    let steps_is : rule_of c.option-steps.result ≡ spec.option (codes "steps") (codes "1000000") (parser.Unsigned 1 MOVES) =
     c.option-steps.ensures.rule ∙ ap (spec.option (codes "steps") (codes "1000000")) c.unsigned-2.ensures in
     let program_is : rule_of c.positional.result ≡ spec.positional (codes "program") = c.positional.ensures.rule in
     let log_is : rule_of c.positional-2.result ≡ spec.positional (codes "log") = c.positional-2.ensures.rule in
