@@ -31,14 +31,17 @@ use Rattle.std.proofs.Common.{
   ◌&&◌,
 }
 use Rattle.std.specs.List.{slice_range, list_all}
-use Rattle.std.proofs.lemmas.List.{take-append-le, drop-append-le, take-append-drop}
+use Rattle.std.proofs.lemmas.Bool.{and_parts}
+use Rattle.std.proofs.lemmas.List.{take_all, length-take, length-take-le, take-append-le, drop-append-le, take-append-drop}
+use Rattle.std.proofs.lemmas.Option.{slice_get-get_or}
 use Rattle.std.proofs.lemmas.List.Folds.{list_all-append}
 use Rattle.std.proofs.Common.{length-append, length-drop}
 use Rattle.std.proofs.Math.Seq.{drop-append_seam}
 use Rattle.std.specs.Prelude.{slice_get, Some}
-use Rattle.cnf_core.specs.Clauses.{are_clauses, limit, is_clause, is_within, Formula, Valuation, satisfies, clause_true}
+use Rattle.cnf_core.specs.Clauses.{are_clauses, is_clause, is_within, Formula, Valuation, satisfies, clause_true}
+use Rattle.cnf_core.specs.declared.cnf.TheConstants.{LIMIT}
 use Rattle.std.specs.Borrow.{Bor}
-use Rattle.cnf_core.specs.Helpers.{pieces, EndAt, all_now, formula_of, IsLaidOut}
+use Rattle.cnf_core.specs.helpers.Layout.{pieces, EndAt, all_now, formula_of, IsLaidOut}
 use Rattle.cnf_core.specs.declared.cnf.Cnf.TheInside.{Inside}
 
 pub length-pieces : (from : ℕ) (es : List ℕ) (xs : List ℤ) → length (pieces from es xs) ≡ length es
@@ -73,18 +76,12 @@ slice_range-append xs ys from to h b =
     take-append-le (to - from) (drop from xs) ys (omega (arith, length-drop from xs)) in
     ap (take (to - from)) e ∙ f
 
-take-all : (xs : List ℤ) (n : ℕ) → n ≡ length xs → take n xs ≡ xs
-take-all [] zero h = refl
-take-all [] (suc n) h = refl
-take-all (x ∷ xs) zero h = absurd (omega arith)
-take-all (x ∷ xs) (suc n) h = ap (λ ys. x ∷ ys) (take-all xs n (omega arith))
-
 pub pieces-push : (from : ℕ) (es : List ℕ) (xs ys : List ℤ) → EndAt from es (length xs)
     → pieces from (es ++ (length xs + length ys) ∷ []) (xs ++ ys) ≡ pieces from es xs ++ ys ∷ []
 pieces-push from [] xs ys h =
     let e : drop from (xs ++ ys) ≡ ys = ap (λ n. drop n (xs ++ ys)) h ∙ drop-append_seam xs ys in
     let f : take (length xs + length ys - from) (drop from (xs ++ ys)) ≡ ys = ap (take (length xs + length ys - from)) e
-    ∙ take-all ys (length xs + length ys - from) (omega (arith, h)) in
+    ∙ take_all (length xs + length ys - from) ys (omega (arith, h)) in
     ap (λ c. c ∷ []) f
 pieces-push from (e ∷ es) xs ys h =
     let p : slice_range (xs ++ ys) from e ≡ slice_range xs from e = slice_range-append xs ys from e h.0 (from-le-total e es (length xs) h.1) in
@@ -97,13 +94,13 @@ list_all-at p [] k d h b = absurd (omega arith)
 list_all-at p (x ∷ xs) zero d h b = grind arith
 list_all-at p (x ∷ xs) (suc k) d h b = list_all-at p xs k d (grind arith) (omega arith)
 
-is_within-more : (vars : ℕ) (c : List ℤ) → IsTrue (is_within vars c) → IsTrue (is_within (vars + 1) c)
-is_within-more vars [] h = refl
-is_within-more vars (l ∷ c) h = grind (arith, is_within-more vars c)
+pub is_within-upto : (vars n : ℕ) (c : List ℤ) → vars ≤ n → IsTrue (is_within vars c) → IsTrue (is_within n c)
+is_within-upto vars n [] b h = refl
+is_within-upto vars n (l ∷ c) b h = grind (arith, is_within-upto vars n c)
 
 pub are_clauses-more : (vars : ℕ) (cs : List (List ℤ)) → IsTrue (are_clauses vars cs) → IsTrue (are_clauses (vars + 1) cs)
 are_clauses-more vars [] h = refl
-are_clauses-more vars (c ∷ cs) h = grind (arith, are_clauses-more vars cs, is_within-more vars c)
+are_clauses-more vars (c ∷ cs) h = grind (arith, are_clauses-more vars cs, is_within-upto vars (vars + 1) c (omega arith))
 
 -- where the clause at a place lies, and what it is
 pub record LiesAt (i : Inside) (f : Formula) (place : ℕ) : Type 0 where
@@ -113,19 +110,6 @@ pub record LiesAt (i : Inside) (f : Formula) (place : ℕ) : Type 0 where
   pub clause : slice_get f.clauses place ≡ Some (slice_range i.literals.items (get_or (0 ∷ i.ends.items) place 0) (get_or i.ends.items place 0))
   pub rises : IsTrue (is_clause (slice_range i.literals.items (get_or (0 ∷ i.ends.items) place 0) (get_or i.ends.items place 0)))
   pub within : IsTrue (is_within f.vars (slice_range i.literals.items (get_or (0 ∷ i.ends.items) place 0) (get_or i.ends.items place 0)))
-
-slice_get-at : (xs : List (List ℤ)) (k : ℕ) (d : List ℤ) → k < length xs → slice_get xs k ≡ Some (get_or xs k d)
-slice_get-at [] k d h = absurd (omega arith)
-slice_get-at (x ∷ xs) zero d h = refl
-slice_get-at (x ∷ xs) (suc k) d h = slice_get-at xs k d (omega arith)
-
-and-left : (a b : Bool) → IsTrue (a && b) → IsTrue a
-and-left true b h = refl
-and-left false b h = h
-
-and-right : (a b : Bool) → IsTrue (a && b) → IsTrue b
-and-right true b h = h
-and-right false b h = cc
 
 pub lies_at : (i : Inside) (f : Formula) (place : ℕ) → formula_of i ≡ f → IsLaidOut i → place < length f.clauses → LiesAt i f place
 lies_at i f place is laid h =
@@ -146,9 +130,9 @@ lies_at i f place is laid h =
       there = there;
       ordered = lie.0;
       ends = lie.1;
-      clause = ap (λ xs. slice_get xs place) (sym same) ∙ slice_get-at cs place [] inside ∙ ap (λ c. Some c) at;
-      rises = subst P at (and-left _ _ ok);
-      within = subst Q at (subst V vars (and-right (is_clause (get_or cs place [])) _ ok));
+      clause = ap (λ xs. slice_get xs place) (sym same) ∙ slice_get-get_or cs place [] inside ∙ ap (λ c. Some c) at;
+      rises = subst P at (and_parts _ _ ok).0;
+      within = subst Q at (subst V vars (and_parts (is_clause (get_or cs place [])) _ ok).1);
     }
 
 one-more : (a b c : Bool) → a ≡ true → b ≡ true → c ≡ true → (a && (b && c && true)) ≡ true
@@ -157,8 +141,8 @@ one-more a b c p q r = grind arith
 -- what is laid out after one clause more at the end
 pub IsLaidOut-push : (i : Inside) (f : Formula) (es : List ℕ) (xs ys : List ℤ) → formula_of i ≡ f → IsLaidOut i
     → es ≡ i.ends.items ++ (length i.literals.items + length ys) ∷ [] → xs ≡ i.literals.items ++ ys → IsTrue (is_clause ys)
-    → IsTrue (is_within f.vars ys) → length f.clauses + 1 < limit → (EndAt 0 es (length xs)) × (IsTrue (are_clauses i.vars (pieces 0 es xs)))
-    × (length es < limit) × (pieces 0 es xs ≡ f.clauses ++ ys ∷ [])
+    → IsTrue (is_within f.vars ys) → length f.clauses + 1 < LIMIT → (EndAt 0 es (length xs)) × (IsTrue (are_clauses i.vars (pieces 0 es xs)))
+    × (length es < LIMIT) × (pieces 0 es xs ≡ f.clauses ++ ys ∷ [])
 IsLaidOut-push i f es xs ys is laid e x rises within room =
     let old : List (List ℤ) = pieces 0 i.ends.items i.literals.items in
     let same : old ≡ f.clauses = ap (λ (g : Formula). g.clauses) is in
@@ -197,10 +181,6 @@ satisfies-not v [] k c h f = absurd (cc)
 satisfies-not v (d ∷ cs) zero c h f = grind arith
 satisfies-not v (d ∷ cs) (suc k) c h f = grind (arith, satisfies-not v cs k c)
 
-pub is_within-upto : (vars n : ℕ) (c : List ℤ) → vars ≤ n → IsTrue (is_within vars c) → IsTrue (is_within n c)
-is_within-upto vars n [] b h = refl
-is_within-upto vars n (l ∷ c) b h = grind (arith, is_within-upto vars n c)
-
 -- the first pieces
 pieces-take : (from : ℕ) (es : List ℕ) (xs : List ℤ) (n : ℕ) → pieces from (take n es) xs ≡ take n (pieces from es xs)
 pieces-take from es xs zero = refl
@@ -224,27 +204,16 @@ pieces-append from (e ∷ es) xs ys h =
     let q : pieces e es (xs ++ ys) ≡ pieces e es xs = pieces-append e es xs ys h.1 in
     cc
 
-length-taken : (xs : List ℤ) (n : ℕ) → n ≤ length xs → length (take n xs) ≡ n
-length-taken [] zero h = refl
-length-taken [] (suc n) h = absurd (omega arith)
-length-taken (x ∷ xs) zero h = refl
-length-taken (x ∷ xs) (suc n) h = ap suc (length-taken xs n (omega arith))
-
-length-take-le : (xs : List ℕ) (n : ℕ) → length (take n xs) ≤ length xs
-length-take-le xs zero = omega arith
-length-take-le [] (suc n) = omega arith
-length-take-le (x ∷ xs) (suc n) = omega (arith, length-take-le xs n)
-
 -- what is laid out once the last clauses are cut off
 pub IsLaidOut-take : (i : Inside) (f : Formula) (n vars : ℕ) (es : List ℕ) (xs : List ℤ) → formula_of i ≡ f → IsLaidOut i → n ≤ length f.clauses
     → es ≡ take n i.ends.items → xs ≡ take (get_or (0 ∷ i.ends.items) n 0) i.literals.items → IsTrue (are_clauses vars (take n f.clauses))
-    → (EndAt 0 es (length xs)) × (IsTrue (are_clauses vars (pieces 0 es xs))) × (length es < limit) × (pieces 0 es xs ≡ take n f.clauses)
+    → (EndAt 0 es (length xs)) × (IsTrue (are_clauses vars (pieces 0 es xs))) × (length es < LIMIT) × (pieces 0 es xs ≡ take n f.clauses)
 IsLaidOut-take i f n vars es xs is laid b e x good =
     let old : List (List ℤ) = pieces 0 i.ends.items i.literals.items in
     let cut : ℕ = get_or (0 ∷ i.ends.items) n 0 in
     let same : old ≡ f.clauses = ap (λ (g : Formula). g.clauses) is in
     let few : n ≤ length i.ends.items = omega (arith, ap length same, length-pieces 0 i.ends.items i.literals.items) in
-    let total : length xs ≡ cut = ap length x ∙ length-taken i.literals.items cut (ends-le-total 0 i.ends.items (length i.literals.items) n few laid.ends) in
+    let total : length xs ≡ cut = ap length x ∙ length-take-le cut i.literals.items (ends-le-total 0 i.ends.items (length i.literals.items) n few laid.ends) in
     let E : List ℕ → Type 0 = λ zs. EndAt 0 zs (length xs) in
     let T : ℕ → Type 0 = λ k. EndAt 0 (take n i.ends.items) k in
     let ends : EndAt 0 (take n i.ends.items) (length xs) = subst T (sym total) (EndAt-take 0 i.ends.items (length i.literals.items) n few laid.ends) in
@@ -256,15 +225,7 @@ IsLaidOut-take i f n vars es xs is laid b e x good =
     ∙ pieces-take 0 i.ends.items i.literals.items n
     ∙ ap (take n) same
     in
-    (subst E (sym e) ends, ap (are_clauses vars) now ∙ good, omega (arith, ap length e, length-take-le i.ends.items n, laid.few_clauses), now)
-
--- for a list that begins with another
-pub take-first : (xs ys : List (List ℤ)) → take (length xs) (xs ++ ys) ≡ xs
-take-first [] ys = refl
-take-first (x ∷ xs) ys = ap (λ zs. x ∷ zs) (take-first xs ys)
-
-pub list_all-left : (p : List ℤ → Bool) (xs ys : List (List ℤ)) → list_all p (xs ++ ys) ≡ true → list_all p xs ≡ true
-list_all-left p xs ys h = and-left (list_all p xs) _ (sym (list_all-append p xs ys) ∙ h)
+    (subst E (sym e) ends, ap (are_clauses vars) now ∙ good, omega (arith, ap length e, length-take n i.ends.items, laid.few_clauses), now)
 
 -- a formula's clauses are clauses over its variables
 pub clauses_of_laid : (i : Inside) (f : Formula) → formula_of i ≡ f → IsLaidOut i → IsTrue (are_clauses f.vars f.clauses)
@@ -274,9 +235,9 @@ clauses_of_laid i f is laid = let P : Formula → Type 0 = λ g. IsTrue (are_cla
 pub good-at : (n : ℕ) (cs : List (Bor (List ℤ))) (k : ℕ) (d : Bor (List ℤ)) → IsTrue (are_clauses n (all_now cs)) → k < length cs
     → (IsTrue (is_clause (get_or cs k d).now)) × IsTrue (is_within n (get_or cs k d).now)
 good-at n [] k d h b = absurd (omega arith)
-good-at n (c ∷ cs) zero d h b = let g : IsTrue (is_clause c.now && is_within n c.now) = and-left _ _ h
-    in (and-left (is_clause c.now) _ g, and-right (is_clause c.now) _ g)
-good-at n (c ∷ cs) (suc k) d h b = good-at n cs k d (and-right (is_clause c.now && is_within n c.now) _ h) (omega arith)
+good-at n (c ∷ cs) zero d h b = let g : IsTrue (is_clause c.now && is_within n c.now) = (and_parts _ _ h).0
+    in ((and_parts (is_clause c.now) _ g).0, (and_parts (is_clause c.now) _ g).1)
+good-at n (c ∷ cs) (suc k) d h b = good-at n cs k d (and_parts (is_clause c.now && is_within n c.now) _ h).1 (omega arith)
 
 -- what is kept of a list of clauses that was added to
 pub clauses-kept : (n m k : ℕ) (old new : List (List ℤ)) → IsTrue (are_clauses n old) → take (length old) new ≡ old → m ≡ n → k ≡ length old

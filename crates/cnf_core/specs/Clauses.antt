@@ -2,10 +2,6 @@
 use Rattle.std.specs.Prelude.{ℕ, zero, suc, ◌-◌, Bool, true, false, not, ◌&&◌, nat_lt, nat_le, IsTrue, List, [], ◌∷◌, ℤ, pos, negsuc, slice_index_or}
 use Rattle.std.specs.List.{list_any, list_all}
 
--- there are fewer variables than this, and fewer clauses
-abbrev pub limit : ℕ
-limit = 2000000000
-
 -- the variable of a literal
 abbrev pub var_of : ℤ → ℕ
 var_of (pos n) = n

@@ -25,7 +25,8 @@ ghost use Rattle.std.specs.Prelude.{
   suc,
   ◌-◌,
 };
-ghost use Rattle.cnf_core.specs.Clauses.{limit, is_clause, is_within, are_clauses};
+ghost use Rattle.cnf_core.specs.Clauses.{is_clause, is_within, are_clauses};
+ghost use Rattle.cnf_core.specs.declared.cnf.TheConstants.{LIMIT};
 
 use crate::Lit;
 use std::alloc::{AllocError, Global};
@@ -49,7 +50,7 @@ impl Model for Cnf {
 
     ghost Value = { Formula };
 
-    ghost use Rattle.cnf_core.specs.Helpers.{formula_of, IsLaidOut};
+    ghost use Rattle.cnf_core.specs.helpers.Layout.{formula_of, IsLaidOut};
 
     ghost view = { formula_of };
 
@@ -74,11 +75,11 @@ fn piece(literals: &[Lit], from: usize, to: usize) -> &[Lit]
 }
 
 impl Cnf {
-    ghost use Rattle.cnf_core.specs.Helpers.{all_now};
+    ghost use Rattle.cnf_core.specs.helpers.Layout.{all_now};
 
     /// No clauses over these variables.
     pub fn new(alloc: Global, vars: u32) -> Cnf
-        requires { vars < limit }
+        requires { vars < LIMIT }
         ensures vars { result.vars ≡ vars }
         ensures clauses { result.clauses ≡ [] }
     {
@@ -92,7 +93,7 @@ impl Cnf {
     /// The number of variables.
     pub fn vars(&self) -> u32
         ensures vars { result ≡ self.now.vars }
-        ensures limit { result < limit }
+        ensures limit { result < LIMIT }
     {
         self.vars
     }
@@ -101,7 +102,7 @@ impl Cnf {
     pub fn len(&self) -> usize
         ensures len { result ≡ length self.now.clauses }
         ensures clauses { IsTrue (are_clauses self.now.vars self.now.clauses) }
-        ensures limit { result < limit }
+        ensures limit { result < LIMIT }
     {
         self.ends.len()
     }
@@ -125,7 +126,7 @@ impl Cnf {
 
     /// One variable more, which no clause names yet: its literal.
     pub fn add_variable(&mut self) -> Lit
-        requires { self.old.vars + 1 < limit }
+        requires { self.old.vars + 1 < LIMIT }
         ensures literal { result ≡ pos (self.old.vars + 1) }
         ensures vars { self.new.vars ≡ self.old.vars + 1 }
         ensures clauses { self.new.clauses ≡ self.old.clauses }
@@ -138,7 +139,7 @@ impl Cnf {
     pub fn push(&mut self, clause: &[Lit]) -> Result<(), AllocError>
         requires rises { IsTrue (is_clause clause.now) }
         requires within { IsTrue (is_within self.old.vars clause.now) }
-        requires room { length self.old.clauses + 1 < limit }
+        requires room { length self.old.clauses + 1 < LIMIT }
         ensures vars { self.new.vars ≡ self.old.vars }
         ensures ok { OnOk result (self.new.clauses ≡ self.old.clauses ++ clause.now ∷ []) }
         ensures err { OnErr result (self.new ≡ self.old) }
@@ -152,7 +153,7 @@ impl Cnf {
     /// Clauses at the end; where there is no memory, maybe some of them.
     fn push_all(&mut self, clauses: &[&[Lit]]) -> Result<(), AllocError>
         requires clauses { IsTrue (are_clauses self.old.vars (all_now clauses.now)) }
-        requires room { length self.old.clauses + length clauses.now < limit }
+        requires room { length self.old.clauses + length clauses.now < LIMIT }
         ensures vars { self.new.vars ≡ self.old.vars }
         ensures ok { OnOk result (self.new.clauses ≡ self.old.clauses ++ all_now clauses.now) }
         ensures older { length self.old.clauses ≤ length self.new.clauses }
@@ -179,9 +180,9 @@ impl Cnf {
 
     /// One variable more, and the clauses that define it: its literal.
     pub(crate) fn define(&mut self, clauses: &[&[Lit]]) -> Result<Lit, AllocError>
-        requires vars { self.old.vars + 1 < limit }
+        requires vars { self.old.vars + 1 < LIMIT }
         requires clauses { IsTrue (are_clauses (suc self.old.vars) (all_now clauses.now)) }
-        requires room { length self.old.clauses + length clauses.now < limit }
+        requires room { length self.old.clauses + length clauses.now < LIMIT }
         ensures literal { IfOk result (λ lit. lit ≡ pos (suc self.old.vars)) }
         ensures vars { OnOk result (self.new.vars ≡ suc self.old.vars) }
         ensures clauses { OnOk result (self.new.clauses ≡ self.old.clauses ++ all_now clauses.now) }

@@ -1,6 +1,7 @@
 //! The gates of a circuit.
 ghost use Rattle.std.specs.Prelude.{◌≡◌, ◌≤◌, ◌<◌, ◌+◌, ◌++◌, suc, pos, neg_ℤ, length, IfOk, OnOk, OnErr};
-ghost use Rattle.cnf_core.specs.Clauses.{limit, var_of};
+ghost use Rattle.cnf_core.specs.Clauses.{var_of};
+ghost use Rattle.cnf_core.specs.declared.cnf.TheConstants.{LIMIT};
 ghost use Rattle.cnf_core.specs.Gates.{BlockKeeps, BlockDecides, and_clauses, xor_clauses, is_one};
 
 use crate::{Cnf, Lit};
@@ -34,8 +35,8 @@ impl Cnf {
     pub fn and_gate(&mut self, a: Lit, b: Lit) -> Result<Lit, AllocError>
         requires first { var_of a ≤ self.old.vars }
         requires second { var_of b ≤ self.old.vars }
-        requires vars { self.old.vars + 1 < limit }
-        requires clauses { length self.old.clauses + 3 < limit }
+        requires vars { self.old.vars + 1 < LIMIT }
+        requires clauses { length self.old.clauses + 3 < LIMIT }
         ensures literal { IfOk result (λ lit. lit ≡ pos (suc self.old.vars)) }
         ensures ok { OnOk result (self.new ≡ after_gate self.old (record { gate = Gate.And; first = a; second = b })) }
         ensures err { OnErr result (self.new ≡ self.old) }
@@ -47,8 +48,8 @@ impl Cnf {
     pub fn or_gate(&mut self, a: Lit, b: Lit) -> Result<Lit, AllocError>
         requires first { var_of a ≤ self.old.vars }
         requires second { var_of b ≤ self.old.vars }
-        requires vars { self.old.vars + 1 < limit }
-        requires clauses { length self.old.clauses + 3 < limit }
+        requires vars { self.old.vars + 1 < LIMIT }
+        requires clauses { length self.old.clauses + 3 < LIMIT }
         ensures literal { IfOk result (λ lit. lit ≡ pos (suc self.old.vars)) }
         ensures ok { OnOk result (self.new ≡ after_gate self.old (record { gate = Gate.Or; first = a; second = b })) }
         ensures err { OnErr result (self.new ≡ self.old) }
@@ -60,8 +61,8 @@ impl Cnf {
     pub fn xor_gate(&mut self, a: Lit, b: Lit) -> Result<Lit, AllocError>
         requires first { var_of a ≤ self.old.vars }
         requires second { var_of b ≤ self.old.vars }
-        requires vars { self.old.vars + 1 < limit }
-        requires clauses { length self.old.clauses + 4 < limit }
+        requires vars { self.old.vars + 1 < LIMIT }
+        requires clauses { length self.old.clauses + 4 < LIMIT }
         ensures literal { IfOk result (λ lit. lit ≡ pos (suc self.old.vars)) }
         ensures ok { OnOk result (self.new ≡ after_gate self.old (record { gate = Gate.Xor; first = a; second = b })) }
         ensures err { OnErr result (self.new ≡ self.old) }
@@ -74,8 +75,8 @@ impl Cnf {
         requires first { var_of a ≤ self.old.vars }
         requires second { var_of b ≤ self.old.vars }
         requires out { var_of out ≡ suc self.old.vars }
-        requires vars { self.old.vars + 1 < limit }
-        requires clauses { length self.old.clauses + 3 < limit }
+        requires vars { self.old.vars + 1 < LIMIT }
+        requires clauses { length self.old.clauses + 3 < LIMIT }
         ensures literal { IfOk result (λ lit. lit ≡ pos (suc self.old.vars)) }
         ensures vars { OnOk result (self.new.vars ≡ suc self.old.vars) }
         ensures clauses { OnOk result (self.new.clauses ≡ self.old.clauses ++ and_clauses a b out) }
@@ -98,8 +99,8 @@ impl Cnf {
         requires first { var_of a ≤ self.old.vars }
         requires second { var_of b ≤ self.old.vars }
         requires out { var_of out ≡ suc self.old.vars }
-        requires vars { self.old.vars + 1 < limit }
-        requires clauses { length self.old.clauses + 4 < limit }
+        requires vars { self.old.vars + 1 < LIMIT }
+        requires clauses { length self.old.clauses + 4 < LIMIT }
         ensures literal { IfOk result (λ lit. lit ≡ pos (suc self.old.vars)) }
         ensures vars { OnOk result (self.new.vars ≡ suc self.old.vars) }
         ensures clauses { OnOk result (self.new.clauses ≡ self.old.clauses ++ xor_clauses a b out) }
@@ -122,8 +123,8 @@ impl Cnf {
         requires rising { var_of a < var_of b }
         requires second { var_of b ≤ self.old.vars }
         requires out { var_of out ≡ suc self.old.vars }
-        requires vars { self.old.vars + 1 < limit }
-        requires clauses { length self.old.clauses + 4 < limit }
+        requires vars { self.old.vars + 1 < LIMIT }
+        requires clauses { length self.old.clauses + 4 < LIMIT }
         ensures literal { IfOk result (λ lit. lit ≡ pos (suc self.old.vars)) }
         ensures vars { OnOk result (self.new.vars ≡ suc self.old.vars) }
         ensures clauses { OnOk result (self.new.clauses ≡ self.old.clauses ++ is_one a b out) }

@@ -1,36 +1,5 @@
 -- What a checker's states keep.
-use Rattle.std.proofs.Common.{
-  ◌≡◌,
-  ◌≢◌,
-  ℕ,
-  suc,
-  zero,
-  ◌+◌,
-  ◌≤◌,
-  List,
-  [],
-  ◌∷◌,
-  ◌++◌,
-  ℤ,
-  refl,
-  ap,
-  sym,
-  ◌∙◌,
-  subst,
-  arith,
-  Bool,
-  true,
-  false,
-  cond,
-  Option,
-  Some,
-  None,
-  length,
-  take,
-  drop,
-  add-one,
-  Err,
-}
+use Rattle.std.proofs.Common.{◌≡◌, ◌≢◌, ℕ, suc, zero, ◌+◌, List, [], ◌∷◌, ◌++◌, ℤ, refl, ap, sym, ◌∙◌, subst, arith, Bool, true, false, cond, Option, Some, None, length, take, drop, add-one, Err}
 use Rattle.std.specs.Prelude.{is_some, IfSome, IsTrue, slice_get, if◌then◌else◌}
 use Rattle.std.specs.List.{fold}
 use Rattle.std.specs.Option.{option_map_or}
@@ -40,22 +9,8 @@ use Rattle.std.specs.FinMap.{get, insert, remove, empty, get-insert, get-remove,
 use Rattle.cnf_core.specs.Clauses.{is_within}
 use Rattle.refute_check.specs.Kept.{KeptClauses}
 use Rattle.refute_check.specs.Left.{by_left, what_is_left}
-use Rattle.refute_check.specs.Refutations.{
-  AreWithin,
-  Checking,
-  keep,
-  without,
-  hints_fault,
-  clause_fault,
-  is_nil,
-  after,
-  judged,
-  refused,
-  passed_clause,
-  line_fault,
-  verdict,
-  verdict_of,
-}
+use Rattle.refute_check.specs.Refutations.{AreWithin, Checking, keep, without, hints_fault, clause_fault, after, judged, refused, passed_clause, line_fault, verdict, verdict_of}
+use Rattle.tc_base.specs.Buffers.{is_nil}
 use Rattle.refute_check.specs.declared.line.Line.TheVariants.{Add, Delete}
 use Rattle.refute_check.specs.declared.line.Line.{Line}
 use Rattle.refute_check.specs.declared.given.Left.{Left}
@@ -99,12 +54,6 @@ fold-suc s (d ∷ cs) (suc k) c h = fold-suc (keep s d) cs k c h
 pub fold-keep-more : (s : Checking) (cs : List (List ℤ)) (k : ℕ) (c : List ℤ) → slice_get cs k ≡ Some c
     → fold keep s (take (k + 1) cs) ≡ keep (fold keep s (take k cs)) c
 fold-keep-more s cs k c h = ap (λ j. fold keep s (take j cs)) (add-one k) ∙ fold-suc s cs k c h
-
-pub length-taken : {X : Type 0} (xs : List X) (k : ℕ) → k ≤ length xs → length (take k xs) ≡ k
-length-taken [] zero h = refl
-length-taken [] (suc k) h = absurd (omega arith)
-length-taken (x ∷ xs) zero h = refl
-length-taken (x ∷ xs) (suc k) h = ap suc (length-taken xs k (omega arith))
 
 -- a fault of a line isn't want of memory
 map-not-memory : (f : List ℤ → Option CheckFault) (o : Option (List ℤ)) (d : Option CheckFault) → ((c : List ℤ) → f c ≢ Some Memory) → d ≢ Some Memory

@@ -1,4 +1,5 @@
 -- Reading a text in pieces.
+use Rattle.std.proofs.lemmas.List.{take_all}
 use Rattle.std.proofs.Common.{
   ◌≡◌,
   ◌<◌,
@@ -30,6 +31,7 @@ use Rattle.std.specs.Prelude.{nat_eq, is_some, if◌then◌else◌}
 use Rattle.std.specs.Bool.{MatchBool}
 use borrow.Author.Tests.{ne_eqb}
 use Rattle.std.specs.List.{position_or_len}
+use Rattle.std.specs.Io.BufRead.{take_through}
 use Rattle.refute_check.specs.Reading.{Reading, Reads, IsTakenAs, after_taken, CutsAgree, pushed, lines_of}
 use Rattle.refute_check.specs.declared.text.Taken.{Taken}
 use Rattle.refute_check.specs.declared.text.Taken.TheVariants.{More, Header, Line as Body, Form}
@@ -113,11 +115,14 @@ lines-one n bytes (Header y) h = refl
 lines-one n bytes (Body y) h = refl
 lines-one n bytes (Form y) h = refl
 
-pub take-all : (xs : List ℕ) (n : ℕ) → n ≡ length xs → take n xs ≡ xs
-take-all [] zero h = refl
-take-all [] (suc n) h = refl
-take-all (x ∷ xs) zero h = absurd (omega arith)
-take-all (x ∷ xs) (suc n) h = ap (λ ys. x ∷ ys) (take-all xs n (omega arith))
+-- the bytes up to the first line's end, or all of them
+pub through-all : (bytes : List ℕ) (e : ℕ) → e ≡ position_or_len (λ b. nat_eq b 10) bytes → e ≡ length bytes → e ≡ length (take_through 10 bytes)
+through-all [] e p l = l
+through-all (b ∷ bytes) e p l = grind (arith, through-all bytes (position_or_len (λ b. nat_eq b 10) bytes) refl)
+
+pub through-line : (bytes : List ℕ) (e : ℕ) → e ≡ position_or_len (λ b. nat_eq b 10) bytes → e < length bytes → e + 1 ≡ length (take_through 10 bytes)
+through-line [] e p l = absurd (omega arith)
+through-line (b ∷ bytes) e p l = grind (arith, through-line bytes (position_or_len (λ b. nat_eq b 10) bytes) refl)
 
 either-nil : (b : Bool) → ◌≡◌ {A = List Taken} (if b then [] else []) []
 either-nil true = refl
@@ -127,7 +132,7 @@ pub take-more : (bytes : List ℕ) (s t : Reading) (e : ℕ) → s.fault ≡ Non
     → t ≡ pushed s bytes → Reads s (take e bytes) (if nat_eq e 0 then [] else []) t
 take-more bytes s t e f p l h =
     subst (λ ts. Reads s (take e bytes) ts t) (sym (either-nil (nat_eq e 0)))
-    (subst (λ bs. Reads s bs [] t) (sym (take-all bytes e l)) (subst (λ z. Reads s bytes [] z) (sym h) (no-end bytes s f (sym p ∙ l))))
+    (subst (λ bs. Reads s bs [] t) (sym (take_all e bytes (omega (arith, l)))) (subst (λ z. Reads s bytes [] z) (sym h) (no-end bytes s f (sym p ∙ l))))
 
 pub take-line : (bytes : List ℕ) (s t : Reading) (e : ℕ) (x : Taken) → s.fault ≡ None → e ≡ position_or_len (λ b. nat_eq b 10) bytes
     → e < length bytes → IsTakenAs s.line (s.unfinished ++ take e bytes) x → t ≡ after_taken (pushed s (take e bytes)) x

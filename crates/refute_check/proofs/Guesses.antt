@@ -1,4 +1,5 @@
 -- The numbers of a line's text are read back.
+use Rattle.std.proofs.lemmas.Bool.{and_parts, and_from}
 use Rattle.std.proofs.Common.{
   ◌≡◌,
   ℕ,
@@ -35,9 +36,9 @@ use borrow.Author.Tests.{ne_eqb, ltb-true, lt-ltb}
 use Rattle.std.proofs.lemmas.List.Folds.{list_all-append}
 use Rattle.std.specs.Option.{option_map_or}
 use Rattle.std.specs.Prelude.{MatchOption, ⊤, not, drop, length, Option, Some, None}
-use Rattle.refute_check.specs.Refutations.{is_nil}
+use Rattle.tc_base.specs.Buffers.{is_nil}
 use Rattle.cnf_core.specs.Clauses.{var_of, is_clause, rises_above}
-use Rattle.refute_check.specs.Guess.{
+use Rattle.refute_check.specs.helpers.Guess.{
   Reader,
   no_number,
   numbers_of,
@@ -54,10 +55,7 @@ use Rattle.refute_check.specs.Guess.{
 use Rattle.refute_check.specs.Texts.{numbers_text, line_text, is_readable, IsNoLine}
 use Rattle.refute_check.specs.declared.line.Line.{Line}
 use Rattle.refute_check.specs.declared.line.Line.TheVariants.{Add, Delete}
-
-fold-append : (r : Reader) (xs ys : List ℕ) → fold read_byte r (xs ++ ys) ≡ fold read_byte (fold read_byte r xs) ys
-fold-append r [] ys = refl
-fold-append r (x ∷ xs) ys = fold-append (read_byte r x) xs ys
+use Rattle.std.proofs.lemmas.List.Sums.{fold-append}
 
 read-digit : (r : Reader) (d n : ℕ) → d < 10 → r.size * 10 + d ≡ n → n < 4294967296 → read_byte r (48 + d) ≡ record r { size = n }
 read-digit r d n h e b =
@@ -76,7 +74,7 @@ read-one n h b done sign = read-digit (record { done = done; size = 0; negative 
 
 read-more : (n : ℕ) (ds : List ℕ) → 10 ≤ n → IsReadBack (n / 10) ds → IsReadBack n (ds ++ ((48 + n % 10) ∷ []))
 read-more n ds h before b done sign =
-    fold-append (record { done = done; size = 0; negative = sign }) ds ((48 + n % 10) ∷ [])
+    fold-append read_byte (record { done = done; size = 0; negative = sign }) ds ((48 + n % 10) ∷ [])
     ∙ ap (λ r. read_byte r (48 + n % 10)) (before (omega arith) done sign)
     ∙ read-digit (record { done = done; size = n / 10; negative = sign }) (n % 10) n (omega arith) (omega arith) b
 
@@ -92,20 +90,12 @@ read-signed : (z : ℤ) (done : List ℤ) → is_small z ≡ true
 read-signed (pos n) done h = ap numbers_of (read-decimal n (ltb-true n 4294967296 h) done false)
 read-signed (negsuc n) done h = ap numbers_of (read-decimal (suc n) (ltb-true (suc n) 4294967296 h) done true)
 
-pub and-left : (a b : Bool) → (a && b) ≡ true → a ≡ true
-and-left true b h = refl
-and-left false b h = h
-
-pub and-right : (a b : Bool) → (a && b) ≡ true → b ≡ true
-and-right true b h = h
-and-right false b h = absurd (cc)
-
 read-numbers : (r : Reader) (zs : List ℤ) → list_all is_small zs ≡ true → numbers_of (fold read_byte r (numbers_text zs)) ≡ numbers_of r ++ zs
 read-numbers r [] h = sym (append-nil (numbers_of r))
 read-numbers r (z ∷ zs) h =
-    ap numbers_of (fold-append (record { done = numbers_of r; size = 0; negative = false }) (signed_decimal z) (numbers_text zs))
-    ∙ read-numbers (fold read_byte (record { done = numbers_of r; size = 0; negative = false }) (signed_decimal z)) zs (and-right (is_small z) _ h)
-    ∙ ap (λ ys. ys ++ zs) (read-signed z (numbers_of r) (and-left (is_small z) _ h))
+    ap numbers_of (fold-append read_byte (record { done = numbers_of r; size = 0; negative = false }) (signed_decimal z) (numbers_text zs))
+    ∙ read-numbers (fold read_byte (record { done = numbers_of r; size = 0; negative = false }) (signed_decimal z)) zs (and_parts (is_small z) _ h).1
+    ∙ ap (λ ys. ys ++ zs) (read-signed z (numbers_of r) (and_parts (is_small z) _ h).0)
     ∙ append_assoc (numbers_of r) (z ∷ []) zs
 
 -- the numbers of a text are those that were written, after the one that stands before any space
@@ -125,22 +115,18 @@ numbers_text-append (x ∷ xs) ys = ap (λ t. codes " " ++ signed_decimal x ++ t
 zero-text : numbers_text (pos 0 ∷ []) ≡ codes " 0"
 zero-text = ap (λ t. codes " " ++ t ++ []) (decimal_digit 0 (omega arith))
 
-pub and-true : (a b : Bool) → a ≡ true → b ≡ true → (a && b) ≡ true
-and-true a b p q = cc
-
 -- the literals of a clause are literals
 literals : (low : ℕ) (c : List ℤ) → rises_above low c ≡ true → list_all (λ l. nat_lt (var_of l) 2147483648) c ≡ true → list_all is_literal c ≡ true
 literals low [] r b = refl
 literals low (l ∷ c) r b =
-    let here : low < var_of l = ltb-true low (var_of l) (and-left (nat_lt low (var_of l)) _ r) in
-    and-true _ _ (and-true _ _ (lt-ltb 0 (var_of l) (omega arith)) (and-left (nat_lt (var_of l) 2147483648) _ b))
-    (literals (var_of l) c (and-right (nat_lt low (var_of l)) _ r) (and-right (nat_lt (var_of l) 2147483648) _ b))
+    let here : low < var_of l = ltb-true low (var_of l) (and_parts (nat_lt low (var_of l)) _ r).0 in
+    and_from _ _ (and_from _ _ (lt-ltb 0 (var_of l) (omega arith)) (and_parts (nat_lt (var_of l) 2147483648) _ b).0) (literals (var_of l) c (and_parts (nat_lt low (var_of l)) _ r).1 (and_parts (nat_lt (var_of l) 2147483648) _ b).1)
 
 literals-front : (c rest : List ℤ) → list_all is_literal c ≡ true → literals_in (c ++ pos 0 ∷ rest) ≡ c
 literals-front [] rest h = refl
 literals-front (l ∷ c) rest h =
-    ap (λ b. option_map_or (λ x. x ∷ literals_in (c ++ pos 0 ∷ rest)) (if b then Some l else None) []) (and-left (is_literal l) _ h)
-    ∙ ap (λ ls. l ∷ ls) (literals-front c rest (and-right (is_literal l) _ h))
+    ap (λ b. option_map_or (λ x. x ∷ literals_in (c ++ pos 0 ∷ rest)) (if b then Some l else None) []) (and_parts (is_literal l) _ h).0
+    ∙ ap (λ ls. l ∷ ls) (literals-front c rest (and_parts (is_literal l) _ h).1)
 
 -- the numbers of clauses that the format writes
 abbrev is_numbered : ℕ → Bool
@@ -149,8 +135,8 @@ is_numbered n = nat_lt 0 n && nat_lt n 4294967296
 numbers-front : (ns : List ℕ) (rest : List ℤ) → list_all is_numbered ns ≡ true → clause_numbers_in (map pos ns ++ pos 0 ∷ rest) ≡ ns
 numbers-front [] rest h = refl
 numbers-front (n ∷ ns) rest h =
-    ap (λ b. option_map_or (λ x. x ∷ clause_numbers_in (map pos ns ++ pos 0 ∷ rest)) (if b then Some n else None) []) (and-left (is_numbered n) _ h)
-    ∙ ap (λ ls. n ∷ ls) (numbers-front ns rest (and-right (is_numbered n) _ h))
+    ap (λ b. option_map_or (λ x. x ∷ clause_numbers_in (map pos ns ++ pos 0 ∷ rest)) (if b then Some n else None) []) (and_parts (is_numbered n) _ h).0
+    ∙ ap (λ ls. n ∷ ls) (numbers-front ns rest (and_parts (is_numbered n) _ h).1)
 
 drop-past : (xs : List ℤ) (y : ℤ) (ys : List ℤ) → drop (length xs + 1) (xs ++ y ∷ ys) ≡ ys
 drop-past [] y ys = refl
@@ -159,13 +145,12 @@ drop-past (x ∷ xs) y ys = let e : length (x ∷ xs) + 1 ≡ suc (length xs + 1
 small-literals : (c : List ℤ) → list_all (λ l. nat_lt (var_of l) 2147483648) c ≡ true → list_all is_small c ≡ true
 small-literals [] h = refl
 small-literals (l ∷ c) h =
-    and-true _ _ (lt-ltb (var_of l) 4294967296 (let b : var_of l < 2147483648 =
-    ltb-true (var_of l) 2147483648 (and-left (nat_lt (var_of l) 2147483648) _ h) in omega arith))
-    (small-literals c (and-right (nat_lt (var_of l) 2147483648) _ h))
+    and_from _ _ (lt-ltb (var_of l) 4294967296 (let b : var_of l < 2147483648 =
+    ltb-true (var_of l) 2147483648 (and_parts (nat_lt (var_of l) 2147483648) _ h).0 in omega arith)) (small-literals c (and_parts (nat_lt (var_of l) 2147483648) _ h).1)
 
 small-numbers : (ns : List ℕ) → list_all is_numbered ns ≡ true → list_all is_small (map pos ns) ≡ true
 small-numbers [] h = refl
-small-numbers (n ∷ ns) h = and-true _ _ (and-right (nat_lt 0 n) _ (and-left (is_numbered n) _ h)) (small-numbers ns (and-right (is_numbered n) _ h))
+small-numbers (n ∷ ns) h = and_from _ _ (and_parts (nat_lt 0 n) _ (and_parts (is_numbered n) _ h).0).1 (small-numbers ns (and_parts (is_numbered n) _ h).1)
 
 text-add : (lits : List ℤ) (hints : List ℕ) → line_text (Add lits hints) ≡ 97 ∷ numbers_text (numbers_after (Add lits hints))
 text-add lits hints =
@@ -200,22 +185,22 @@ text-of-numbers (Delete ns) = text-delete ns
 
 pub small-of-line : (l : Line) → is_readable l ≡ true → list_all is_small (numbers_after l) ≡ true
 small-of-line (Add lits hints) h =
-    let front : (is_clause lits && list_all (λ l. nat_lt (var_of l) 2147483648) lits) ≡ true = and-left _ (list_all is_numbered hints) h in
-    let ns : list_all is_numbered hints ≡ true = and-right (is_clause lits && list_all (λ l. nat_lt (var_of l) 2147483648) lits) _ h in
-    let bound : list_all (λ l. nat_lt (var_of l) 2147483648) lits ≡ true = and-right (is_clause lits) _ front in
+    let front : (is_clause lits && list_all (λ l. nat_lt (var_of l) 2147483648) lits) ≡ true = (and_parts _ (list_all is_numbered hints) h).0 in
+    let ns : list_all is_numbered hints ≡ true = (and_parts (is_clause lits && list_all (λ l. nat_lt (var_of l) 2147483648) lits) _ h).1 in
+    let bound : list_all (λ l. nat_lt (var_of l) 2147483648) lits ≡ true = (and_parts (is_clause lits) _ front).1 in
     list_all-append is_small lits (pos 0 ∷ (map pos hints ++ pos 0 ∷ []))
-    ∙ and-true _ _ (small-literals lits bound) (list_all-append is_small (map pos hints) (pos 0 ∷ []) ∙ and-true _ true (small-numbers hints ns) refl)
+    ∙ and_from _ _ (small-literals lits bound) (list_all-append is_small (map pos hints) (pos 0 ∷ []) ∙ and_from _ true (small-numbers hints ns) refl)
 small-of-line (Delete ns) h =
-    let all : list_all is_numbered ns ≡ true = and-right (not (is_nil ns)) _ h in
-    list_all-append is_small (map pos ns) (pos 0 ∷ []) ∙ and-true _ true (small-numbers ns all) refl
+    let all : list_all is_numbered ns ≡ true = (and_parts (not (is_nil ns)) _ h).1 in
+    list_all-append is_small (map pos ns) (pos 0 ∷ []) ∙ and_from _ true (small-numbers ns all) refl
 
 -- the text of a line is taken for that line
 pub line_guess-line_text : (l : Line) → is_readable l ≡ true → line_guess (line_text l) ≡ Some l
 line_guess-line_text (Add lits hints) h =
-    let front : (is_clause lits && list_all (λ l. nat_lt (var_of l) 2147483648) lits) ≡ true = and-left _ (list_all is_numbered hints) h in
-    let ns : list_all is_numbered hints ≡ true = and-right (is_clause lits && list_all (λ l. nat_lt (var_of l) 2147483648) lits) _ h in
-    let clause : is_clause lits ≡ true = and-left _ _ front in
-    let bound : list_all (λ l. nat_lt (var_of l) 2147483648) lits ≡ true = and-right (is_clause lits) _ front in
+    let front : (is_clause lits && list_all (λ l. nat_lt (var_of l) 2147483648) lits) ≡ true = (and_parts _ (list_all is_numbered hints) h).0 in
+    let ns : list_all is_numbered hints ≡ true = (and_parts (is_clause lits && list_all (λ l. nat_lt (var_of l) 2147483648) lits) _ h).1 in
+    let clause : is_clause lits ≡ true = (and_parts _ _ front).0 in
+    let bound : list_all (λ l. nat_lt (var_of l) 2147483648) lits ≡ true = (and_parts (is_clause lits) _ front).1 in
     let zs : List ℤ = lits ++ pos 0 ∷ (map pos hints ++ pos 0 ∷ []) in
     let small : list_all is_small zs ≡ true = small-of-line (Add lits hints) h in
     let read : drop 1 (guessed (numbers_text zs)) ≡ zs = ap (drop 1) (guessed-numbers_text zs small) in
@@ -228,8 +213,8 @@ line_guess-line_text (Add lits hints) h =
     ∙ ap (λ b. if b then Some (Add lits (clause_numbers_in (drop (length lits + 1) zs))) else None) clause
     ∙ ap (λ ms. Some (Add lits ms)) after
 line_guess-line_text (Delete ns) h =
-    let some : is_nil ns ≡ false = not-nil ns (and-left (not (is_nil ns)) _ h) in
-    let all : list_all is_numbered ns ≡ true = and-right (not (is_nil ns)) _ h in
+    let some : is_nil ns ≡ false = not-nil ns (and_parts (not (is_nil ns)) _ h).0 in
+    let all : list_all is_numbered ns ≡ true = (and_parts (not (is_nil ns)) _ h).1 in
     let zs : List ℤ = map pos ns ++ pos 0 ∷ [] in
     let small : list_all is_small zs ≡ true = small-of-line (Delete ns) h in
     let read : drop 1 (guessed (numbers_text zs)) ≡ zs = ap (drop 1) (guessed-numbers_text zs small) in
@@ -241,12 +226,12 @@ line_guess-line_text (Delete ns) h =
 -- what is taken for a line is one that the format allows
 literal-bound : (z : ℤ) (zs : List ℤ) (b : Bool) → is_literal z ≡ b → list_all (λ l. nat_lt (var_of l) 2147483648) (literals_in zs) ≡ true
     → list_all (λ l. nat_lt (var_of l) 2147483648) (option_map_or (λ x. x ∷ literals_in zs) (if b then Some z else None) []) ≡ true
-literal-bound z zs true e h = and-true _ _ (and-right (nat_lt 0 (var_of z)) _ e) h
+literal-bound z zs true e h = and_from _ _ (and_parts (nat_lt 0 (var_of z)) _ e).1 h
 literal-bound z zs false e h = refl
 
 number-bound : (z : ℤ) (zs : List ℤ) (b : Bool) → is_clause_number z ≡ b → list_all is_numbered (clause_numbers_in zs) ≡ true
     → list_all is_numbered (option_map_or (λ x. x ∷ clause_numbers_in zs) (if b then Some (var_of z) else None) []) ≡ true
-number-bound (pos n) zs true e h = and-true _ _ e h
+number-bound (pos n) zs true e h = and_from _ _ e h
 number-bound (negsuc n) zs true e h = absurd (cc)
 number-bound z zs false e h = refl
 
@@ -262,7 +247,7 @@ add-readable : (zs : List ℤ) (l : Line) (b : Bool) → is_clause (literals_in 
     → (if b then Some (Add (literals_in zs) (clause_numbers_in (drop (length (literals_in zs) + 1) zs))) else None) ≡ Some l → is_readable l ≡ true
 add-readable zs l true e h =
     let same : Add (literals_in zs) (clause_numbers_in (drop (length (literals_in zs) + 1) zs)) ≡ l = cc in
-    ap is_readable (sym same) ∙ and-true _ _ (and-true _ _ e (literals-bound zs)) (numbers-bound (drop (length (literals_in zs) + 1) zs))
+    ap is_readable (sym same) ∙ and_from _ _ (and_from _ _ e (literals-bound zs)) (numbers-bound (drop (length (literals_in zs) + 1) zs))
 add-readable zs l false e h = absurd (cc)
 
 delete-readable : (zs : List ℤ) (l : Line) (b : Bool) → is_nil (clause_numbers_in zs) ≡ b
@@ -270,7 +255,7 @@ delete-readable : (zs : List ℤ) (l : Line) (b : Bool) → is_nil (clause_numbe
 delete-readable zs l true e h = absurd (cc)
 delete-readable zs l false e h =
     let same : Delete (clause_numbers_in zs) ≡ l = cc in
-    ap is_readable (sym same) ∙ and-true _ _ (ap not e) (numbers-bound zs)
+    ap is_readable (sym same) ∙ and_from _ _ (ap not e) (numbers-bound zs)
 
 by-readable : (zs : List ℤ) (l : Line) (a d : Bool) → (if a then add_of zs else (if d then delete_of zs else None)) ≡ Some l → is_readable l ≡ true
 by-readable zs l true d h = add-readable zs l (is_clause (literals_in zs)) refl h

@@ -7,15 +7,13 @@ use Rattle.std.specs.Prelude.{nat_lt}
 use Rattle.std.specs.Fmt.{decimal}
 use Rattle.std.proofs.lemmas.Fmt.{decimal_by_steps}
 use borrow.Author.Tests.{ltb-true}
+use Rattle.tc_base.specs.Models.{model_name}
 use Rattle.tc_base.specs.declared.model.Model.{Model}
 use Rattle.tc_base.specs.declared.model.Model.TheVariants.{Sc, Tso, Pso}
 use Rattle.refute_check.specs.declared.head.Head.{Head}
-use Rattle.refute_check.specs.Guess.{with_digit, small_number, head_guess}
-use Rattle.refute_check.specs.Texts.{model_text, switches_text, head_text, is_head, IsNoHead}
-
-read-append : (n : ℕ) (xs ys : List ℕ) → fold with_digit n (xs ++ ys) ≡ fold with_digit (fold with_digit n xs) ys
-read-append n [] ys = refl
-read-append n (x ∷ xs) ys = read-append (with_digit n x) xs ys
+use Rattle.refute_check.specs.helpers.Guess.{with_digit, small_number, head_guess}
+use Rattle.refute_check.specs.Texts.{switches_text, head_text, is_head, IsNoHead}
+use Rattle.std.proofs.lemmas.List.Sums.{fold-append}
 
 abbrev IsReadBack : ℕ → List ℕ → Type 0
 IsReadBack n ds = n < 256 → fold with_digit 0 ds ≡ n
@@ -26,13 +24,13 @@ read-one n h b = omega (arith, h, b)
 read-more : (n : ℕ) (ds : List ℕ) → 10 ≤ n → IsReadBack (n / 10) ds → IsReadBack n (ds ++ ((48 + n % 10) ∷ []))
 read-more n ds h before b =
     let last : (n / 10 * 10 + (48 + n % 10) % 16) % 256 ≡ n = omega (arith, b) in
-    read-append 0 ds ((48 + n % 10) ∷ []) ∙ ap (λ k. with_digit k (48 + n % 10)) (before (omega (arith, b))) ∙ last
+    fold-append with_digit 0 ds ((48 + n % 10) ∷ []) ∙ ap (λ k. with_digit k (48 + n % 10)) (before (omega (arith, b))) ∙ last
 
 small-decimal : (n : ℕ) → n < 256 → small_number (decimal n) ≡ n
 small-decimal n b = decimal_by_steps IsReadBack read-one read-more n (omega (arith, b)) b
 
 by-parts : (m : Model) (s : Option ℕ) → option_map_or (λ k. nat_lt k 256) s true ≡ true
-    → head_guess (codes "clap-refutation 2 " ++ model_text m ++ switches_text s) ≡ Some (let h : Head = record { model = m; switches = s } in h)
+    → head_guess (codes "clap-refutation 2 " ++ model_name m ++ switches_text s) ≡ Some (let h : Head = record { model = m; switches = s } in h)
 by-parts Sc None h = refl
 by-parts Tso None h = refl
 by-parts Pso None h = refl

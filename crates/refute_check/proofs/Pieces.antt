@@ -1,4 +1,6 @@
 -- A refutation that is read piece by piece.
+use Rattle.std.proofs.lemmas.List.{take_all}
+use Rattle.std.proofs.lemmas.Bool.{and_parts}
 use Rattle.std.proofs.Common.{
   ◌≡◌,
   ◌≢◌,
@@ -49,11 +51,12 @@ use Rattle.refute_check.specs.Reading.{
   fault_of,
   bodies,
 }
-use Rattle.refute_check.specs.Refutations.{line_limit, is_nil, is_line}
+use Rattle.refute_check.specs.Refutations.{is_line}
+use Rattle.tc_base.specs.Buffers.{is_nil}
+use Rattle.refute_check.specs.declared.line.TheConstants.{LINES}
 use Rattle.refute_check.specs.Laws.{whole_lines, IsWhole, BrokenIsNoText}
 use Rattle.refute_check.specs.Broken.{BreaksFrom, BreaksAt, IsFaultFrom}
-use Rattle.refute_check.proofs.Guesses.{and-left}
-use Rattle.refute_check.proofs.Cuts.{Step, take-all, cuts-agree}
+use Rattle.refute_check.proofs.Cuts.{Step, cuts-agree}
 use Rattle.refute_check.proofs.ReadTexts.{fault-stays, read-is-text}
 use Rattle.refute_check.proofs.Wholes.{reads-agree, text-is-read, whole-one, between}
 use Rattle.refute_check.specs.declared.head.Head.{Head}
@@ -142,9 +145,9 @@ moved (Form k) n bytes all m h = m (λ e. cc)
 -- a line that was read may be added
 readable-line : (l : Line) → is_readable l ≡ true → is_line l ≡ true
 readable-line (Add lits hints) h = refl
-readable-line (Delete ns) h = and-left (not (is_nil ns)) _ h
+readable-line (Delete ns) h = (and_parts (not (is_nil ns)) _ h).0
 
-pub line-fits : (bytes : List ℕ) (s t : Reading) (l : Line) → Reads s bytes (Body l ∷ []) t → (is_line l ≡ true) × (s.line ≤ line_limit + 1)
+pub line-fits : (bytes : List ℕ) (s t : Reading) (l : Line) → Reads s bytes (Body l ∷ []) t → (is_line l ≡ true) × (s.line ≤ LINES + 1)
 line-fits bytes s t l r = let q = first-taken bytes s t (Body l) [] r in (readable-line l q.1.2, q.1.1)
 
 bodies-push : (ls : List Line) (l : Line) → bodies (ls ++ l ∷ []) ≡ bodies ls ++ Body l ∷ []
@@ -201,7 +204,7 @@ fault-on n bytes s t xs (Broken k) a r = (xs ++ r.0, joined-to n bytes s t xs r.
 fault-on n bytes s t xs Memory a r = tt
 
 take-whole : (n : ℕ) (bytes : List ℕ) → n ≤ length bytes → length bytes ≤ n → take n bytes ≡ bytes
-take-whole n bytes h k = take-all bytes n (omega arith)
+take-whole n bytes h k = take_all n bytes (omega arith)
 
 pub read-whole : (s : Reading) (bytes : List ℕ) (n : ℕ) (ls : List Line) (t : Reading) (o : Option ℕ) → AreRead s bytes n ls t → length bytes ≤ n
     → first_breach t ≡ o → ReadsTo s bytes (bodies ls) o

@@ -1,4 +1,5 @@
 -- Bytes in which nothing breaks the form are a text.
+use Rattle.std.proofs.lemmas.Bool.{and_from}
 use Rattle.std.proofs.Common.{
   ◌≡◌,
   ◌≢◌,
@@ -32,9 +33,9 @@ use Rattle.std.specs.Option.{option_map_or}
 use borrow.Author.Tests.{eqb-true}
 use Rattle.refute_check.specs.Texts.{head_text, line_text, is_readable, ended, refutation_text}
 use Rattle.refute_check.specs.Reading.{Reading, Reads, IsTakenAs, after_taken, pushed, beginning}
-use Rattle.refute_check.specs.Refutations.{line_limit, is_nil}
+use Rattle.tc_base.specs.Buffers.{is_nil}
+use Rattle.refute_check.specs.declared.line.TheConstants.{LINES}
 use Rattle.refute_check.specs.Laws.{whole_lines, IsWhole, ReadIsText}
-use Rattle.refute_check.proofs.Guesses.{and-true}
 use Rattle.refute_check.proofs.Cuts.{Step, stuck}
 use Rattle.refute_check.specs.declared.head.Head.{Head}
 use Rattle.refute_check.specs.declared.line.Line.{Line}
@@ -51,7 +52,7 @@ record AreBodies (s : Reading) (bytes : List ℕ) (ts : List Taken) (t : Reading
   are : ts ≡ map (λ l. Body l) lines
   readable : list_all is_readable lines ≡ true
   count : t.line ≡ length lines + s.line
-  few : s.line ≤ line_limit + 2 → t.line ≤ line_limit + 2
+  few : s.line ≤ LINES + 2 → t.line ≤ LINES + 2
   text : s.unfinished ++ bytes ≡ lines_text lines ++ t.unfinished
 
 -- what is said of some bytes, for all states before them
@@ -79,7 +80,7 @@ ended-body (Body l) bs s ts xs t ih h i a r e =
     record {
       lines = l ∷ q.lines;
       are = i ∙ ap (λ zs. Body l ∷ zs) q.are;
-      readable = and-true _ _ a.2 q.readable;
+      readable = and_from _ _ a.2 q.readable;
       count = omega (arith, q.count);
       few = λ b. q.few (omega (arith, a.1));
       text = ap (λ z. z ++ 10 ∷ bs) (sym a.3) ∙ line-ends l bs t.unfinished (lines_text q.lines) q.text;
@@ -137,7 +138,7 @@ ended-head (Body l) bs s ts xs t h i a r e = absurd (omega (arith, h, a.0))
 ended-head (Form k) bs s ts xs t h i a r e = absurd (fault-stays bs (after_taken s (Form k)) xs t refl r e)
 ended-head (Header k) bs s ts xs t h i a r e =
     let q = bodies bs (after_taken s (Header k)) xs t (omega (arith, h)) r e in
-    let few : t.line ≤ line_limit + 2 = q.few (omega (arith, h)) in
+    let few : t.line ≤ LINES + 2 = q.few (omega (arith, h)) in
     record {
       head = k;
       lines = q.lines;

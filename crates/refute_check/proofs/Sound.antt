@@ -1,39 +1,8 @@
 -- A clause that a line adds is true wherever the kept clauses are.
-use Rattle.std.proofs.Common.{
-  ◌≡◌,
-  ◌≢◌,
-  ℕ,
-  suc,
-  zero,
-  ◌+◌,
-  List,
-  [],
-  ◌∷◌,
-  ◌++◌,
-  map,
-  ℤ,
-  pos,
-  negsuc,
-  neg_ℤ,
-  refl,
-  ap,
-  sym,
-  ◌∙◌,
-  subst,
-  Bool,
-  true,
-  false,
-  not,
-  cond,
-  Option,
-  Some,
-  None,
-  Ok,
-  inl,
-  inr,
-  ◌⊎◌,
-}
-use Rattle.std.specs.Prelude.{◌||◌, ◌&&◌, is_some, IfSome, if◌then◌else◌}
+use Rattle.std.proofs.Common.{◌≡◌, ◌≢◌, ℕ, suc, zero, ◌+◌, List, [], ◌∷◌, ◌++◌, map, ℤ, pos, negsuc, neg_ℤ, refl, ap, sym, ◌∙◌, subst, Bool, true, false, not, cond, Option, Some, None, Ok, inl, inr}
+use Rattle.std.proofs.Math.IntN.{neg_ℤ-neg_ℤ}
+use Rattle.std.proofs.lemmas.Bool.{and_parts, or_cases, or_parts, or_right, not-true}
+use Rattle.std.specs.Prelude.{◌||◌, is_some, IfSome, if◌then◌else◌}
 use Rattle.std.specs.List.{fold}
 use Rattle.std.specs.Option.{option_map_or}
 use Rattle.std.specs.Ordering.{nat_cmp, int_eq, eq_by_cmp}
@@ -44,7 +13,8 @@ use Rattle.cnf_core.specs.Clauses.{Valuation, literal_true, clause_true, satisfi
 use Rattle.refute_check.specs.Kept.{KeptClauses}
 use Rattle.refute_check.specs.Literals.{is_among, left}
 use Rattle.refute_check.specs.Left.{by_left, what_is_left, counted}
-use Rattle.refute_check.specs.Refutations.{Checking, keep, opening, start, without, hints_fault, clause_fault, line_fault, is_nil, after, judged, verdict_of}
+use Rattle.refute_check.specs.Refutations.{Checking, keep, opening, start, without, hints_fault, clause_fault, line_fault, after, judged, verdict_of}
+use Rattle.tc_base.specs.Buffers.{is_nil}
 use Rattle.refute_check.specs.Laws.{ClosedMeansUnsatisfiable}
 use Rattle.refute_check.specs.declared.line.Line.{Line}
 use Rattle.refute_check.specs.declared.line.Line.TheVariants.{Add, Delete}
@@ -78,67 +48,39 @@ AreTrue-without v kept (n ∷ ns) h =
 abbrev AreFalse : Valuation → List ℤ → Type 0
 AreFalse v given = (l : ℤ) → is_among given (neg_ℤ l) ≡ true → literal_true v l ≡ false
 
-or-cases : (a b : Bool) → (a || b) ≡ true → (a ≡ true) ⊎ (b ≡ true)
-or-cases true b h = inl refl
-or-cases false b h = inr h
-
-not-true : (b : Bool) → not b ≡ true → b ≡ false
-not-true true h = sym h
-not-true false h = refl
-
 neg-true : (v : Valuation) (l : ℤ) → literal_true v (neg_ℤ l) ≡ true → literal_true v l ≡ false
 neg-true v (pos zero) h = refl
 neg-true v (pos (suc n)) h = not-true (v (suc n)) h
 neg-true v (negsuc n) h = ap not h
 
-neg-neg : (l : ℤ) → neg_ℤ (neg_ℤ l) ≡ l
-neg-neg (pos zero) = refl
-neg-neg (pos (suc n)) = refl
-neg-neg (negsuc n) = refl
-
-int_eq-true : (a b : ℤ) → int_eq a b ≡ true → a ≡ b
-int_eq-true a b e = (signed_Decides a b).0 e
-
 AreFalse-more : (v : Valuation) (given : List ℤ) (l : ℤ) → AreFalse v given → literal_true v l ≡ true → AreFalse v (given ++ l ∷ [])
 AreFalse-more v given l h t m e =
-    elim (or-cases (is_among given (neg_ℤ m)) (int_eq (neg_ℤ m) l || false) (sym (list_any-append (int_eq (neg_ℤ m)) given (l ∷ [])) ∙ e)) [
+    elim (or_cases (is_among given (neg_ℤ m)) (int_eq (neg_ℤ m) l || false) (sym (list_any-append (int_eq (neg_ℤ m)) given (l ∷ [])) ∙ e)) [
       | inl old ↦ h m old
-      | inr new ↦ elim (or-cases (int_eq (neg_ℤ m) l) false new) [
-        | inl same ↦ neg-true v m (ap (literal_true v) (int_eq-true (neg_ℤ m) l same) ∙ t)
+      | inr new ↦ elim (or_cases (int_eq (neg_ℤ m) l) false new) [
+        | inl same ↦ neg-true v m (ap (literal_true v) ((signed_Decides (neg_ℤ m) l).0 same) ∙ t)
         | inr never ↦ absurd (cc)
       ]
     ]
 
-or-left : (a b : Bool) → (a || b) ≡ false → a ≡ false
-or-left true b h = h
-or-left false b h = refl
-
-or-right : (a b : Bool) → (a || b) ≡ false → b ≡ false
-or-right true b h = absurd (cc)
-or-right false b h = h
-
 AreFalse-line : (v : Valuation) (lits : List ℤ) → clause_true v lits ≡ false → AreFalse v (map neg_ℤ lits)
 AreFalse-line v [] f m e = absurd (cc)
 AreFalse-line v (l ∷ lits) f m e =
-    elim (or-cases (int_eq (neg_ℤ m) (neg_ℤ l)) (is_among (map neg_ℤ lits) (neg_ℤ m)) e) [
-      | inl same ↦ ap (literal_true v) (sym (neg-neg m) ∙ ap neg_ℤ (int_eq-true (neg_ℤ m) (neg_ℤ l) same) ∙ neg-neg l)
-          ∙ or-left (literal_true v l) (clause_true v lits) f
-      | inr rest ↦ AreFalse-line v lits (or-right (literal_true v l) (clause_true v lits) f) m rest
+    elim (or_cases (int_eq (neg_ℤ m) (neg_ℤ l)) (is_among (map neg_ℤ lits) (neg_ℤ m)) e) [
+      | inl same ↦ ap (literal_true v) (sym (neg_ℤ-neg_ℤ m) ∙ ap neg_ℤ ((signed_Decides (neg_ℤ m) (neg_ℤ l)).0 same) ∙ neg_ℤ-neg_ℤ l)
+          ∙ (or_parts (literal_true v l) (clause_true v lits) f).0
+      | inr rest ↦ AreFalse-line v lits (or_parts (literal_true v l) (clause_true v lits) f).1 m rest
     ]
-
-or-true : (a b : Bool) → b ≡ true → (a || b) ≡ true
-or-true true b h = refl
-or-true false b h = h
 
 left-step : (v : Valuation) (given : List ℤ) (l : ℤ) (c : List ℤ) (b : Bool) → is_among given (neg_ℤ l) ≡ b → AreFalse v given
     → (clause_true v c ≡ true → clause_true v (left given c) ≡ true) → (literal_true v l || clause_true v c) ≡ true
     → clause_true v (cond (not b) (l ∷ left given c) (left given c)) ≡ true
 left-step v given l c true e h rest t =
-    elim (or-cases (literal_true v l) (clause_true v c) t) [ inl here ↦ absurd (let f : literal_true v l ≡ false = h l e in cc) | inr there ↦ rest there ]
+    elim (or_cases (literal_true v l) (clause_true v c) t) [ inl here ↦ absurd (let f : literal_true v l ≡ false = h l e in cc) | inr there ↦ rest there ]
 left-step v given l c false e h rest t =
-    elim (or-cases (literal_true v l) (clause_true v c) t) [
+    elim (or_cases (literal_true v l) (clause_true v c) t) [
       | inl here ↦ ap (λ x. x || clause_true v (left given c)) here
-      | inr there ↦ or-true (literal_true v l) (clause_true v (left given c)) (rest there)
+      | inr there ↦ or_right (literal_true v l) (clause_true v (left given c)) (rest there)
     ]
 
 left-true : (v : Valuation) (given c : List ℤ) → AreFalse v given → clause_true v c ≡ true → clause_true v (left given c) ≡ true
@@ -149,7 +91,7 @@ left-true v given (l ∷ c) h t = left-step v given l c (is_among given (neg_ℤ
 by-counted : (v : Valuation) (ls : List ℤ) (nothing more : Option CheckFault) (one : ℤ → Option CheckFault) → clause_true v ls ≡ true → more ≢ None
     → ((l : ℤ) → literal_true v l ≡ true → one l ≢ None) → by_left (counted ls) nothing one more ≢ None
 by-counted v [] nothing more one t h k = λ e. absurd (cc)
-by-counted v (l ∷ []) nothing more one t h k = k l (elim (or-cases (literal_true v l) false t) [ inl x ↦ x | inr x ↦ absurd (cc) ])
+by-counted v (l ∷ []) nothing more one t h k = k l (elim (or_cases (literal_true v l) false t) [ inl x ↦ x | inr x ↦ absurd (cc) ])
 by-counted v (l ∷ m ∷ ls) nothing more one t h k = h
 
 by-kept : (v : Valuation) (o : Option (List ℤ)) (f : List ℤ → Option CheckFault) (d : Option CheckFault) → IfSome o (λ c. clause_true v c ≡ true)
@@ -197,7 +139,7 @@ judged-sound v s (Add lits hints) None e h =
     let f : is_nil lits ≡ false = not-nil v lits t in
     record {
       kept = AreTrue-insert v s.kept s.next lits h.kept t;
-      open' = λ c. elim (or-cases s.closed (is_nil lits) c) [ inl x ↦ h.open' x | inr x ↦ cc ];
+      open' = λ c. elim (or_cases s.closed (is_nil lits) c) [ inl x ↦ h.open' x | inr x ↦ cc ];
     }
 judged-sound v s (Delete ns) None e h = record { kept = AreTrue-without v s.kept ns h.kept; open' = h.open' }
 judged-sound v s l (Some f) e h = record { kept = AreTrue-empty v; open' = h.open' }
@@ -211,19 +153,11 @@ lines-sound : (v : Valuation) (s : Checking) (lines : List Line) → IsSound v s
 lines-sound v s [] h = h
 lines-sound v s (l ∷ lines) h = lines-sound v (after s l) lines (after-step v s l (is_some s.fault) h)
 
-and-left : (a b : Bool) → (a && b) ≡ true → a ≡ true
-and-left true b h = refl
-and-left false b h = h
-
-and-right : (a b : Bool) → (a && b) ≡ true → b ≡ true
-and-right true b h = h
-and-right false b h = absurd (cc)
-
 start-sound : (v : Valuation) (s : Checking) (cs : List (List ℤ)) → satisfies v cs ≡ true → IsSound v s → IsSound v (fold keep s cs)
 start-sound v s [] t h = h
 start-sound v s (c ∷ cs) t h =
-    start-sound v (keep s c) cs (and-right (clause_true v c) _ t)
-    (record { kept = AreTrue-insert v s.kept s.next c h.kept (and-left (clause_true v c) _ t); open' = h.open' })
+    start-sound v (keep s c) cs (and_parts (clause_true v c) _ t).1
+    (record { kept = AreTrue-insert v s.kept s.next c h.kept (and_parts (clause_true v c) _ t).0; open' = h.open' })
 
 closed-true : (o : Option CheckFault) (b : Bool) → verdict_of o b ≡ Ok Closed → b ≡ true
 closed-true (Some f) b e = absurd (cc)

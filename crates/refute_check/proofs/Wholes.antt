@@ -1,4 +1,5 @@
 -- A whole text is read in one way, as what it is the text of.
+use Rattle.std.proofs.lemmas.Bool.{and_parts, and_from, not-true}
 use Rattle.std.proofs.Common.{
   ◌≡◌,
   ◌<◌,
@@ -37,10 +38,10 @@ use Rattle.std.specs.Fmt.{decimal, signed_decimal}
 use Rattle.std.proofs.lemmas.Fmt.{decimal_by_steps}
 use Rattle.std.proofs.lemmas.List.Folds.{list_all-append}
 use borrow.Author.Tests.{ne_eqb, ltb-true}
+use Rattle.tc_base.specs.Models.{model_name}
 use Rattle.tc_base.specs.declared.model.Model.{Model}
 use Rattle.tc_base.specs.declared.model.Model.TheVariants.{Sc, Tso, Pso}
 use Rattle.refute_check.specs.Texts.{
-  model_text,
   switches_text,
   head_text,
   line_text,
@@ -51,11 +52,11 @@ use Rattle.refute_check.specs.Texts.{
   refutation_text,
 }
 use Rattle.refute_check.specs.Reading.{Reading, Reads, IsTakenAs, after_taken, pushed, beginning}
-use Rattle.refute_check.specs.Refutations.{line_limit}
-use Rattle.refute_check.specs.Guess.{head_guess, line_guess}
+use Rattle.refute_check.specs.declared.line.TheConstants.{LINES}
+use Rattle.refute_check.specs.helpers.Guess.{head_guess, line_guess}
 use Rattle.refute_check.specs.Laws.{whole_lines, ReadsAgree, TextIsRead, TextHasOneValue}
 use Rattle.refute_check.proofs.Heads.{head_guess-head_text}
-use Rattle.refute_check.proofs.Guesses.{line_guess-line_text, is_small, numbers_after, letter_of, text-of-numbers, small-of-line, and-left, and-right, and-true}
+use Rattle.refute_check.proofs.Guesses.{line_guess-line_text, is_small, numbers_after, letter_of, text-of-numbers, small-of-line}
 use Rattle.refute_check.proofs.Cuts.{Step, step-push, step-end, pushed-nil, pushed-cons}
 use Rattle.refute_check.specs.declared.head.Head.{Head}
 use Rattle.refute_check.specs.declared.line.Line.{Line}
@@ -108,14 +109,14 @@ not-end : (b : ℕ) → 10 < b → not (nat_eq b 10) ≡ true
 not-end b h = ap not (ne_eqb b 10 (λ i. omega arith))
 
 plain-both : (xs ys : List ℕ) → is_plain xs ≡ true → is_plain ys ≡ true → is_plain (xs ++ ys) ≡ true
-plain-both xs ys p q = list_all-append (λ b. not (nat_eq b 10)) xs ys ∙ and-true _ _ p q
+plain-both xs ys p q = list_all-append (λ b. not (nat_eq b 10)) xs ys ∙ and_from _ _ p q
 
 abbrev IsPlain : ℕ → List ℕ → Type 0
 IsPlain n ds = is_plain ds ≡ true
 
 plain-decimal : (n : ℕ) → n < 4294967296 → is_plain (decimal n) ≡ true
-plain-decimal n b = decimal_by_steps IsPlain (λ n h. and-true _ true (not-end (48 + n) (omega arith)) refl)
-    (λ n ds h p. plain-both ds ((48 + n % 10) ∷ []) p (and-true _ true (not-end (48 + n % 10) (omega arith)) refl)) n (omega (arith, b))
+plain-decimal n b = decimal_by_steps IsPlain (λ n h. and_from _ true (not-end (48 + n) (omega arith)) refl)
+    (λ n ds h p. plain-both ds ((48 + n % 10) ∷ []) p (and_from _ true (not-end (48 + n % 10) (omega arith)) refl)) n (omega (arith, b))
 
 plain-signed : (z : ℤ) → is_small z ≡ true → is_plain (signed_decimal z) ≡ true
 plain-signed (pos n) h = plain-decimal n (ltb-true n 4294967296 h)
@@ -123,8 +124,8 @@ plain-signed (negsuc n) h = plain-decimal (suc n) (ltb-true (suc n) 4294967296 h
 
 plain-numbers : (zs : List ℤ) → list_all is_small zs ≡ true → is_plain (numbers_text zs) ≡ true
 plain-numbers [] h = refl
-plain-numbers (z ∷ zs) h = plain-both (signed_decimal z) (numbers_text zs) (plain-signed z (and-left (is_small z) _ h))
-    (plain-numbers zs (and-right (is_small z) _ h))
+plain-numbers (z ∷ zs) h = plain-both (signed_decimal z) (numbers_text zs) (plain-signed z (and_parts (is_small z) _ h).0)
+    (plain-numbers zs (and_parts (is_small z) _ h).1)
 
 plain-letter : (l : Line) → not (nat_eq (letter_of l) 10) ≡ true
 plain-letter (Add lits hints) = refl
@@ -132,20 +133,16 @@ plain-letter (Delete ns) = refl
 
 plain-line : (l : Line) → is_readable l ≡ true → is_plain (line_text l) ≡ true
 plain-line l h =
-    ap is_plain (text-of-numbers l) ∙ and-true _ _ (plain-letter l) (plain-numbers (numbers_after l) (small-of-line l h))
+    ap is_plain (text-of-numbers l) ∙ and_from _ _ (plain-letter l) (plain-numbers (numbers_after l) (small-of-line l h))
 
 plain-parts : (m : Model) (s : Option ℕ) → option_map_or (λ k. nat_lt k 256) s true ≡ true
-    → is_plain (codes "clap-refutation 2 " ++ model_text m ++ switches_text s) ≡ true
+    → is_plain (codes "clap-refutation 2 " ++ model_name m ++ switches_text s) ≡ true
 plain-parts Sc None h = refl
 plain-parts Tso None h = refl
 plain-parts Pso None h = refl
 plain-parts Sc (Some k) h = plain-decimal k (omega (arith, ltb-true k 256 h))
 plain-parts Tso (Some k) h = plain-decimal k (omega (arith, ltb-true k 256 h))
 plain-parts Pso (Some k) h = plain-decimal k (omega (arith, ltb-true k 256 h))
-
-unequal : (b : Bool) → not b ≡ true → b ≡ false
-unequal true h = absurd (cc)
-unequal false h = refl
 
 -- a line, its end and the rest
 reads-line : (bytes : List ℕ) (s : Reading) (rest : List ℕ) (x : Taken) (xs : List Taken) (t : Reading) → s.fault ≡ None → is_plain bytes ≡ true
@@ -154,9 +151,9 @@ reads-line [] s rest x xs t e p h r =
     step-end s 10 rest (x ∷ xs) t e refl
     (x, xs, refl, subst (λ z. IsTakenAs s.line z x) (append-nil s.unfinished) h, subst (λ z. Reads (after_taken z x) rest xs t) (pushed-nil s) r)
 reads-line (b ∷ bytes) s rest x xs t e p h r =
-    let n : nat_eq b 10 ≡ false = unequal (nat_eq b 10) (and-left (not (nat_eq b 10)) _ p) in
+    let n : nat_eq b 10 ≡ false = not-true (nat_eq b 10) (and_parts (not (nat_eq b 10)) _ p).0 in
     step-push s b (bytes ++ 10 ∷ rest) (x ∷ xs) t e n
-    (reads-line bytes (pushed s (b ∷ [])) rest x xs t e (and-right (not (nat_eq b 10)) _ p)
+    (reads-line bytes (pushed s (b ∷ [])) rest x xs t e (and_parts (not (nat_eq b 10)) _ p).1
     (subst (λ z. IsTakenAs s.line z x) (sym (append_assoc s.unfinished (b ∷ []) bytes)) h)
     (subst (λ z. Reads (after_taken z x) rest xs t) (sym (pushed-cons s b bytes)) r))
 
@@ -165,16 +162,16 @@ abbrev pub between : ℕ → Reading
 between n = record { unfinished = []; line = n; fault = None }
 
 -- the lines of a derivation
-reads-lines : (ls : List Line) (n k : ℕ) → 1 < n → k ≡ length ls + n → k ≤ line_limit + 2 → list_all is_readable ls ≡ true
+reads-lines : (ls : List Line) (n k : ℕ) → 1 < n → k ≡ length ls + n → k ≤ LINES + 2 → list_all is_readable ls ≡ true
     → Reads (between n) (flat_map (λ l. ended (line_text l)) ls) (map (λ l. Body l) ls) (between k)
 reads-lines [] n k h e b r = (refl, ap between (let same : k ≡ n = omega (arith, e) in same))
 reads-lines (l ∷ ls) n k h e b r =
-    let here : is_readable l ≡ true = and-left (is_readable l) _ r in
+    let here : is_readable l ≡ true = (and_parts (is_readable l) _ r).0 in
     subst (λ bs. Reads (between n) bs (map (λ l. Body l) (l ∷ ls)) (between k))
     (sym (append_assoc (line_text l) (10 ∷ []) (flat_map (λ l. ended (line_text l)) ls)))
     (reads-line (line_text l) (between n) (flat_map (λ l. ended (line_text l)) ls) (Body l) (map (λ l. Body l) ls) (between k) refl
     (plain-line l here) (h, omega (arith, e, b), here, refl)
-    (reads-lines ls (n + 1) k (omega (arith, h)) (omega (arith, e)) b (and-right (is_readable l) _ r)))
+    (reads-lines ls (n + 1) k (omega (arith, h)) (omega (arith, e)) b (and_parts (is_readable l) _ r).1))
 
 pub text-is-read : TextIsRead
 text-is-read h ls w =

@@ -2,7 +2,8 @@
 use Rattle.std.specs.Prelude.{◌≡◌, ℕ, ◌+◌, ◌≤◌, List, [], ◌∷◌, length, None, IsTrue}
 use Rattle.std.specs.List.{list_all}
 use Rattle.cnf_core.specs.Clauses.{Formula, IsUnsatisfiable}
-use Rattle.refute_check.specs.Refutations.{IsClosed, line_limit}
+use Rattle.refute_check.specs.Refutations.{IsClosed}
+use Rattle.refute_check.specs.declared.line.TheConstants.{LINES}
 use Rattle.refute_check.specs.Texts.{is_head, is_readable, refutation_text}
 use Rattle.refute_check.specs.Reading.{Reading, Reads, beginning, bodies, first_breach}
 use Rattle.refute_check.specs.Broken.{BreaksAt}
@@ -21,7 +22,7 @@ whole_lines h ls = Header h ∷ bodies ls
 
 -- a first line and a derivation as the format allows them
 abbrev pub IsWhole : Head → List Line → Type 0
-IsWhole h ls = IsTrue (is_head h) × IsTrue (list_all is_readable ls) × (length ls ≤ line_limit)
+IsWhole h ls = IsTrue (is_head h) × IsTrue (list_all is_readable ls) × (length ls ≤ LINES)
 
 -- bytes are read in one way
 abbrev pub ReadsAgree : Type 0

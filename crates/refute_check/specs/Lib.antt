@@ -1,8 +1,4 @@
-pub mod Blocks
 pub mod Broken
-pub mod Checkers
-pub mod Given
-pub mod Guess
 pub mod Kept
 pub mod Laws
 pub mod Left
@@ -11,3 +7,4 @@ pub mod Numbers
 pub mod Reading
 pub mod Refutations
 pub mod Texts
+pub mod helpers

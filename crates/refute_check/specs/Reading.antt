@@ -2,7 +2,8 @@
 use Rattle.std.specs.Prelude.{◌≡◌, ℕ, ◌+◌, ◌<◌, ◌≤◌, ◌==◌, List, [], ◌∷◌, ◌++◌, map, Option, None, Some, is_some, IsTrue, if◌then◌else◌, ◌||◌, not}
 use Rattle.std.specs.Option.{option_map_or}
 use Rattle.std.specs.Bool.{MatchBool}
-use Rattle.refute_check.specs.Refutations.{line_limit, is_nil}
+use Rattle.tc_base.specs.Buffers.{is_nil}
+use Rattle.refute_check.specs.declared.line.TheConstants.{LINES}
 use Rattle.refute_check.specs.Texts.{head_text, line_text, is_head, is_readable, IsNoHead, IsNoLine}
 use Rattle.refute_check.specs.declared.line.Line.{Line}
 use Rattle.refute_check.specs.declared.text.Taken.{Taken}
@@ -24,8 +25,8 @@ beginning = record { unfinished = []; line = 1; fault = None }
 abbrev pub IsTakenAs : ℕ → List ℕ → Taken → Type 0
 IsTakenAs n bytes More = ⊥
 IsTakenAs n bytes (Header h) = (n ≡ 1) × IsTrue (is_head h) × (head_text h ≡ bytes)
-IsTakenAs n bytes (Body l) = (1 < n) × (n ≤ line_limit + 1) × IsTrue (is_readable l) × (line_text l ≡ bytes)
-IsTakenAs n bytes (Form k) = (k ≡ n) × (n ≡ 1 → IsNoHead bytes) × (1 < n → n ≤ line_limit + 1 → IsNoLine bytes)
+IsTakenAs n bytes (Body l) = (1 < n) × (n ≤ LINES + 1) × IsTrue (is_readable l) × (line_text l ≡ bytes)
+IsTakenAs n bytes (Form k) = (k ≡ n) × (n ≡ 1 → IsNoHead bytes) × (1 < n → n ≤ LINES + 1 → IsNoLine bytes)
 
 -- what a line leaves
 abbrev pub after_taken : Reading → Taken → Reading

@@ -34,22 +34,15 @@ use Rattle.std.specs.Option.{option_map_or}
 use Rattle.std.specs.FinMap.{empty, get, insert, remove}
 use Rattle.cnf_core.specs.Clauses.{Formula, is_within}
 use Rattle.refute_check.specs.Left.{by_left, what_is_left}
+use Rattle.tc_base.specs.Buffers.{is_nil}
 use Rattle.refute_check.specs.Kept.{KeptClauses}
+use Rattle.refute_check.specs.declared.line.TheConstants.{LINES}
 use Rattle.refute_check.specs.declared.line.Line.{Line}
 use Rattle.refute_check.specs.declared.line.Line.TheVariants.{Add, Delete}
 use Rattle.refute_check.specs.declared.verdict.CheckFault.{CheckFault}
 use Rattle.refute_check.specs.declared.verdict.CheckFault.TheVariants.{NoVariable, NoClause, Hint, NoConflict}
 use Rattle.refute_check.specs.declared.verdict.Checked.{Checked}
 use Rattle.refute_check.specs.declared.verdict.Checked.TheVariants.{Closed, Open}
-
--- a derivation has at most so many lines
-abbrev pub line_limit : ℕ
-line_limit = 2000000000
-
--- the list has no element
-abbrev pub is_nil : {A : Type 0} → List A → Bool
-is_nil [] = true
-is_nil (x ∷ xs) = false
 
 -- a line of a derivation names a clause if it deletes
 abbrev pub is_line : Line → Bool
@@ -58,7 +51,7 @@ is_line (Delete ns) = not (is_nil ns)
 
 -- a derivation: not too many lines
 abbrev pub IsDerivation : List Line → Type 0
-IsDerivation lines = (length lines ≤ line_limit) × IsTrue (list_all is_line lines)
+IsDerivation lines = (length lines ≤ LINES) × IsTrue (list_all is_line lines)
 
 -- the first fault of hints in turn, for the line of that number, where the given literals are true
 abbrev pub hints_fault : ℕ → KeptClauses → List ℤ → List ℕ → Option CheckFault

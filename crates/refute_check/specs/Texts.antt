@@ -3,19 +3,12 @@ use Rattle.std.specs.Prelude.{◌≡◌, ℕ, List, [], ◌∷◌, ◌++◌, map
 use Rattle.std.specs.List.{flat_map, list_all}
 use Rattle.std.specs.Option.{option_map_or}
 use Rattle.cnf_core.specs.Clauses.{var_of, is_clause}
-use Rattle.refute_check.specs.Refutations.{is_nil}
+use Rattle.tc_base.specs.Buffers.{is_nil}
 use Rattle.std.specs.Fmt.{decimal, signed_decimal}
-use Rattle.tc_base.specs.declared.model.Model.{Model}
-use Rattle.tc_base.specs.declared.model.Model.TheVariants.{Sc, Tso, Pso}
+use Rattle.tc_base.specs.Models.{model_name}
 use Rattle.refute_check.specs.declared.head.Head.{Head}
 use Rattle.refute_check.specs.declared.line.Line.{Line}
 use Rattle.refute_check.specs.declared.line.Line.TheVariants.{Add, Delete}
-
--- the word of a memory model
-abbrev pub model_text : Model → List ℕ
-model_text Sc = codes "sc"
-model_text Tso = codes "tso"
-model_text Pso = codes "pso"
 
 -- the number of switches, where there is one
 abbrev pub switches_text : Option ℕ → List ℕ
@@ -24,7 +17,7 @@ switches_text (Some k) = codes " switches " ++ decimal k
 
 -- the first line, without its end
 abbrev pub head_text : Head → List ℕ
-head_text h = codes "clap-refutation 2 " ++ model_text h.model ++ switches_text h.switches
+head_text h = codes "clap-refutation 2 " ++ model_name h.model ++ switches_text h.switches
 
 -- the number of switches has 8 bits
 abbrev pub is_head : Head → Bool

@@ -1,7 +1,7 @@
 //! Where a clause is found by its number: 64 numbers in a row have places in a row, and rows are scattered.
 ghost use Rattle.std.specs.Prelude.{◌≡◌};
 ghost use Rattle.std.specs.List.{fold};
-ghost use Rattle.refute_check.specs.Blocks.{next_number, place_of_number};
+ghost use Rattle.refute_check.specs.helpers.Blocks.{next_number, place_of_number};
 
 use std::hash::{BuildHasher, Hasher};
 

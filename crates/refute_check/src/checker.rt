@@ -1,7 +1,8 @@
 //! A checker that takes a derivation line by line.
 ghost use Rattle.std.specs.Prelude.{◌≡◌, ◌+◌, ◌<◌, ◌≤◌, None, Some, IfOk, IfErr, OnOk, OnErr, IsTrue, List, ◌∷◌, [], ⊤, ◌≢◌, IsErrOf};
 ghost use Rattle.std.specs.List.{fold};
-ghost use Rattle.cnf_core.specs.Clauses.{limit, is_within, is_clause};
+ghost use Rattle.cnf_core.specs.Clauses.{is_within, is_clause};
+ghost use Rattle.cnf_core.specs.declared.cnf.TheConstants.{LIMIT};
 
 use crate::{CheckFault, Checked, Derivation, Given, Kept, LINES, Line, Numbers, hints};
 use cnf_core::{Clause, Cnf, Lit, is_within};
@@ -33,7 +34,7 @@ impl Model for Checker {
 
     ghost coded = { Prim.hlevel (codes, kept_code) };
 
-    ghost use Rattle.refute_check.specs.Checkers.{checking_of, IsReady};
+    ghost use Rattle.refute_check.specs.helpers.Checkers.{checking_of, IsReady};
 
     ghost view = { checking_of };
 
@@ -41,7 +42,8 @@ impl Model for Checker {
 }
 
 impl Checker {
-    ghost use Rattle.refute_check.specs.Refutations.{AreWithin, start, keep, after, verdict, line_limit, clause_fault, passed_clause, refused};
+    ghost use Rattle.refute_check.specs.Refutations.{AreWithin, start, keep, after, verdict, clause_fault, passed_clause, refused};
+    ghost use Rattle.refute_check.specs.declared.line.TheConstants.{LINES};
 
     /// A checker over a formula's clauses, before any line.
     pub fn new(alloc: Global, cnf: &Cnf) -> Result<Checker, AllocError>
@@ -67,7 +69,7 @@ impl Checker {
     fn keep(&mut self, clause: &[Lit]) -> Result<(), AllocError>
         requires rises { IsTrue (is_clause clause.now) }
         requires within { IsTrue (is_within self.old.vars clause.now) }
-        requires room { self.old.next ≤ limit }
+        requires room { self.old.next ≤ LIMIT }
         ensures ok { OnOk result (self.new ≡ keep self.old clause.now) }
     {
         let literals = Vec::from_slice(self.alloc, clause)?;
@@ -78,7 +80,7 @@ impl Checker {
 
     /// Takes the next line. After a fault of a line each later call answers that fault, and nothing changes.
     pub fn add(&mut self, line: &Line) -> Result<(), CheckFault>
-        requires { self.old.line ≤ line_limit }
+        requires { self.old.line ≤ LINES }
         ensures ok { OnOk result ((self.new ≡ after self.old line.now) × (self.new.fault ≡ None)) }
         ensures fault { IfErr result (λ fault. fault ≢ CheckFault.Memory → (self.new ≡ after self.old line.now) × (self.new.fault ≡ Some fault)) }
         ensures memory { IsErrOf result CheckFault.Memory → self.new ≡ self.old }
@@ -113,7 +115,7 @@ impl Checker {
     /// A line that adds a clause.
     fn add_clause(&mut self, clause: &Clause, hints: &Numbers) -> Result<(), CheckFault>
         requires none { self.old.fault ≡ None }
-        requires lines { self.old.line ≤ line_limit }
+        requires lines { self.old.line ≤ LINES }
         ensures ok { OnOk result ((self.new ≡ after self.old (Line.Add clause.now hints.now)) × (self.new.fault ≡ None)) }
         ensures fault { IfErr result (λ fault. fault ≢ CheckFault.Memory → (self.new ≡ after self.old (Line.Add clause.now hints.now))
             × (self.new.fault ≡ Some fault)) }
@@ -138,7 +140,7 @@ impl Checker {
         clause: &[Lit],
         hints: &[u32],
     ) -> Result<Option<CheckFault>, AllocError>
-        requires { self.old.line ≤ line_limit }
+        requires { self.old.line ≤ LINES }
         ensures same { self.new ≡ self.old }
         ensures fault { IfOk result (λ fault. fault ≡ clause_fault (self.old.line + 1) self.old.vars self.old.kept clause.now hints.now) }
     {
@@ -152,7 +154,7 @@ impl Checker {
     fn pass(&mut self, clause: &[Lit]) -> Result<(), AllocError>
         requires rises { IsTrue (is_clause clause.now) }
         requires within { IsTrue (is_within self.old.vars clause.now) }
-        requires lines { self.old.line ≤ line_limit }
+        requires lines { self.old.line ≤ LINES }
         ensures ok { OnOk result (self.new ≡ passed_clause self.old clause.now) }
         ensures err { OnErr result (self.new ≡ self.old) }
     {
@@ -166,7 +168,7 @@ impl Checker {
 
     /// A line has a fault, after which nothing is kept.
     fn refuse(&mut self, fault: CheckFault)
-        requires lines { self.old.line ≤ line_limit }
+        requires lines { self.old.line ≤ LINES }
         requires fault { fault ≢ CheckFault.Memory }
         ensures { self.new ≡ refused fault self.old }
     {
@@ -178,7 +180,7 @@ impl Checker {
     /// A line that deletes clauses.
     fn delete(&mut self, numbers: &Numbers) -> Result<(), CheckFault>
         requires none { self.old.fault ≡ None }
-        requires lines { self.old.line ≤ line_limit }
+        requires lines { self.old.line ≤ LINES }
         ensures ok { OnOk result ((self.new ≡ after self.old (Line.Delete numbers.now)) × (self.new.fault ≡ None)) }
         ensures fault { IfErr result (λ fault. fault ≢ CheckFault.Memory → (self.new ≡ after self.old (Line.Delete numbers.now))
             × (self.new.fault ≡ Some fault)) }

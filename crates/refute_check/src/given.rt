@@ -1,8 +1,9 @@
 //! The literals that the check of a line takes as true.
 ghost use Rattle.std.specs.Prelude.{◌≡◌, ◌<◌, ◌≤◌, ◌++◌, ◌∷◌, [], neg_ℤ, OnOk, OnErr, IfOk, IsTrue, map};
-ghost use Rattle.cnf_core.specs.Clauses.{limit, var_of, is_within};
+ghost use Rattle.cnf_core.specs.Clauses.{var_of, is_within};
+ghost use Rattle.cnf_core.specs.declared.cnf.TheConstants.{LIMIT};
 ghost use Rattle.refute_check.specs.Literals.{is_among, left};
-ghost use Rattle.refute_check.specs.Given.{place_of};
+ghost use Rattle.refute_check.specs.helpers.Given.{place_of};
 
 use cnf_core::Lit;
 use std::alloc::{AllocError, Global};
@@ -19,7 +20,7 @@ pub struct Given {
 }
 
 impl Model for Given {
-    ghost use Rattle.refute_check.specs.Given.{Assumed, assumed_of, AreMarked};
+    ghost use Rattle.refute_check.specs.helpers.Given.{Assumed, assumed_of, AreMarked};
 
     ghost Value = { Assumed };
 
@@ -53,7 +54,7 @@ impl Given {
 
     /// No literals.
     pub fn new(alloc: Global, vars: u32) -> Result<Given, AllocError>
-        requires { vars < limit }
+        requires { vars < LIMIT }
         ensures vars { IfOk result (λ given. given.vars ≡ vars) }
         ensures literals { IfOk result (λ given. given.literals ≡ []) }
     {

@@ -1,6 +1,6 @@
 //! What a first line says.
 ghost use Rattle.std.specs.Prelude.{◌≡◌, ◌<◌, IfSome, IsTrue, drop};
-ghost use Rattle.refute_check.specs.Guess.{small_number, switches_in, head_by, head_guess};
+ghost use Rattle.refute_check.specs.helpers.Guess.{small_number, switches_in, head_by, head_guess};
 ghost use Rattle.refute_check.specs.Texts.{is_head};
 
 use crate::Head;

@@ -20,11 +20,10 @@ mod write;
 
 pub use checker::Checker;
 pub use fault::RefutationFault;
-pub use given::{Given, Left};
+use given::{Given, Left};
 pub use head::Head;
-pub use kept::Kept;
+use kept::Kept;
 pub use line::{Derivation, LINES, Line, Numbers};
-pub use read::{read_head, read_line};
 pub use refutation::read_refutation;
 pub use text::{RefutationText, Taken, cuts_agree};
 pub use verdict::{CheckFault, Checked};

@@ -72,7 +72,8 @@ impl Model for Derivation {
 }
 
 impl Derivation {
-    ghost use Rattle.refute_check.specs.Refutations.{IsDerivation, is_line, line_limit};
+    ghost use Rattle.refute_check.specs.Refutations.{IsDerivation, is_line};
+    ghost use Rattle.refute_check.specs.declared.line.TheConstants.{LINES};
 
     /// No lines.
     pub fn new(alloc: Global) -> Derivation
@@ -94,7 +95,7 @@ impl Derivation {
     /// One line more, at the end. It comes back where there is no memory.
     pub fn push(&mut self, line: Line) -> Result<(), AllocFailed<Line>>
         requires line { IsTrue (is_line line) }
-        requires room { length self.old < line_limit }
+        requires room { length self.old < LINES }
         ensures ok { OnOk result (self.new ≡ self.old ++ line ∷ []) }
         ensures err { OnErr result (self.new ≡ self.old) }
         ensures returned { IfErr result (λ failed. failed.value ≡ line) }

@@ -22,8 +22,9 @@ ghost use Rattle.std.specs.Prelude.{
   IfErr,
   ◌↔◌,
 };
-ghost use Rattle.refute_check.specs.Refutations.{line_limit};
+ghost use Rattle.refute_check.specs.declared.line.TheConstants.{LINES};
 ghost use Rattle.std.specs.List.{position_or_len};
+ghost use Rattle.std.specs.Io.BufRead.{take_through};
 ghost use Rattle.refute_check.specs.Reading.{IsTakenAs, CutsAgree};
 
 use crate::read::{read_head, read_line};
@@ -55,14 +56,14 @@ pub struct RefutationText {
 
 impl Model for RefutationText {
     ghost use Rattle.std.specs.Prelude.{◌≤◌, ◌+◌, ◌<◌};
-    ghost use Rattle.refute_check.specs.Refutations.{line_limit};
+    ghost use Rattle.refute_check.specs.declared.line.TheConstants.{LINES};
     ghost use Rattle.refute_check.specs.Reading.{Reading};
 
     ghost Value = { Reading };
 
     ghost view = { λ t. record { unfinished = t.unfinished.items; line = t.line; fault = t.fault } };
 
-    ghost invariant = { λ t. (0 < t.line) × (t.line ≤ line_limit + 2) };
+    ghost invariant = { λ t. (0 < t.line) × (t.line ≤ LINES + 2) };
 }
 
 /// However a text is cut into pieces, its lines are the same.
@@ -88,6 +89,7 @@ impl RefutationText {
     /// Takes bytes up to the first line's end, and says how many. After `Form` it answers that `Form` and takes none.
     pub fn take(&mut self, bytes: &[u8]) -> Result<(usize, Taken), AllocError>
         ensures count { IfOk result (λ r. r.0 ≤ length bytes.now) }
+        ensures through { self.old.fault ≡ None → IfOk result (λ r. r.0 ≡ length (take_through 10 bytes.now)) }
         ensures more { IfOk result (λ r. r.1 ≡ Taken.More → r.0 ≡ length bytes.now) }
         ensures reads { IfOk result (λ r. Reads self.old (take r.0 bytes.now) (if r.0 == 0 then [] else lines_of r.1) self.new) }
         ensures fault { IfSome self.old.fault (λ line. result ≡ Ok (0, Taken.Form line)) }

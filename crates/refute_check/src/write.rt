@@ -2,13 +2,12 @@
 ghost use Rattle.std.specs.Prelude.{◌≡◌, ◌++◌, ℤ, pos, List, map, codes, OnOk, IfOk};
 ghost use Rattle.std.specs.String.{string_bytes};
 ghost use Rattle.std.specs.Fmt.{signed_decimal};
-ghost use Rattle.refute_check.specs.Texts.{head_text, model_text, switches_text, numbers_text, line_text, ended, refutation_text};
+ghost use Rattle.refute_check.specs.Texts.{head_text, switches_text, numbers_text, line_text, ended, refutation_text};
 
 use crate::{Derivation, Head, Line};
 use cnf_core::Lit;
 use std::alloc::{AllocError, Global};
 use std::fmt::Write;
-use tc_base::Model;
 
 /// The text of a refutation. It is the one text that is read as this head and derivation.
 pub fn write_refutation(
@@ -32,7 +31,7 @@ pub fn write_head(text: &mut String, head: Head) -> Result<(), AllocError>
     ensures { OnOk result (string_bytes text.new ≡ string_bytes text.old ++ head_text head) }
 {
     text.push_str("clap-refutation 2 ")?;
-    text.push_str(word_of(head.model))?;
+    text.push_str(head.model.name())?;
     write_switches(text, head.switches)
 }
 
@@ -42,16 +41,6 @@ fn write_switches(text: &mut String, switches: Option<u8>) -> Result<(), AllocEr
     match switches {
         Some(switches) => write!(text, " switches {switches}"),
         None => Ok(()),
-    }
-}
-
-fn word_of(model: Model) -> &'static str
-    ensures { result.now ≡ model_text model }
-{
-    match model {
-        Model::Sc => "sc",
-        Model::Tso => "tso",
-        Model::Pso => "pso",
     }
 }
 

@@ -1,6 +1,6 @@
 use Rattle.std.proofs.Common.{◌≡◌, drop}
 use Rattle.std.specs.List.{fold}
-use Rattle.refute_check.specs.Blocks.{next_number}
+use Rattle.refute_check.specs.helpers.Blocks.{next_number}
 use Rattle.refute_check.proofs.blocks.number_after.Given as goal
 
 abbrev pub invariant-loop-byte : goal.invariant-loop-byte

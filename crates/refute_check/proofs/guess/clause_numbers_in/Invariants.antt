@@ -1,6 +1,6 @@
 use Rattle.std.proofs.Common.{◌≡◌, ◌++◌, drop, true}
 use Rattle.refute_check.specs.Numbers.{are_numbers}
-use Rattle.refute_check.specs.Guess.{clause_numbers_in}
+use Rattle.refute_check.specs.helpers.Guess.{clause_numbers_in}
 use Rattle.refute_check.proofs.guess.clause_numbers_in.Given as goal
 
 abbrev pub invariant-loop-number : goal.invariant-loop-number

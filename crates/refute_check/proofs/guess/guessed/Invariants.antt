@@ -1,6 +1,6 @@
 use Rattle.std.proofs.Common.{◌≡◌, ◌<◌, drop}
 use Rattle.std.specs.List.{fold}
-use Rattle.refute_check.specs.Guess.{no_number, read_byte, Reader}
+use Rattle.refute_check.specs.helpers.Guess.{no_number, read_byte, Reader}
 use Rattle.refute_check.proofs.guess.guessed.Given as goal
 
 abbrev pub invariant-loop-byte : goal.invariant-loop-byte

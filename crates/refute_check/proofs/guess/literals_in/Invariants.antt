@@ -1,5 +1,5 @@
 use Rattle.std.proofs.Common.{◌≡◌, ◌++◌, drop}
-use Rattle.refute_check.specs.Guess.{literals_in}
+use Rattle.refute_check.specs.helpers.Guess.{literals_in}
 use Rattle.refute_check.proofs.guess.literals_in.Given as goal
 
 abbrev pub invariant-loop-number : goal.invariant-loop-number

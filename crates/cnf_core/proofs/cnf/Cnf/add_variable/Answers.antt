@@ -1,6 +1,6 @@
 use Rattle.std.proofs.Common.{arith, ap}
 use Rattle.cnf_core.specs.Clauses.{Formula}
-use Rattle.cnf_core.specs.Helpers.{formula_of}
+use Rattle.cnf_core.specs.helpers.Layout.{formula_of}
 use Rattle.cnf_core.proofs.Pieces.{are_clauses-more}
 use Rattle.cnf_core.proofs.cnf.Cnf.add_variable.Goals as goal
 

@@ -1,5 +1,5 @@
 use Rattle.std.proofs.Common.{◌≡◌, ◌++◌, take}
-use Rattle.cnf_core.specs.Helpers.{all_now}
+use Rattle.cnf_core.specs.helpers.Layout.{all_now}
 use Rattle.cnf_core.proofs.cnf.Cnf.push_all.Given as goal
 
 abbrev pub invariant-loop-clause : goal.invariant-loop-clause

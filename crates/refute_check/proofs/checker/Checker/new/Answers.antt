@@ -1,8 +1,9 @@
+use Rattle.std.proofs.lemmas.List.{length-take-le}
 use Rattle.std.proofs.Common.{sym, subst, ap, arith, ◌∙◌, ◌≡◌, take, IsTrue}
 use Rattle.std.specs.List.{fold}
 use Rattle.cnf_core.specs.Clauses.{is_within}
 use Rattle.refute_check.specs.Refutations.{AreWithin, Checking, keep, opening}
-use Rattle.refute_check.proofs.Checkings.{AreWithin-empty, keep-vars, keep-next, fold-keep-more, length-taken}
+use Rattle.refute_check.proofs.Checkings.{AreWithin-empty, keep-vars, keep-next, fold-keep-more}
 use Rattle.refute_check.proofs.checker.Checker.new.Goals as goal
 
 pub invariant_of-checker : goal.invariant_of-checker
@@ -32,7 +33,7 @@ keep-requires-clause-room c =
       arith,
       next,
       keep-next (opening c.args.cnf.now.vars) (take c.loop-place.place c.args.cnf.now.clauses),
-      length-taken c.args.cnf.now.clauses c.loop-place.place (omega (arith, c.len-place-end.ensures.len)),
+      length-take-le c.loop-place.place c.args.cnf.now.clauses (omega (arith, c.len-place-end.ensures.len)),
       c.len-place-end.ensures.len,
       c.len-place-end.ensures.limit,
     )

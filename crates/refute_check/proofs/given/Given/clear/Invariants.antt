@@ -2,7 +2,7 @@ use Rattle.std.proofs.Common.{◌≡◌, ◌+◌, ◌*◌, ◌<◌, ◌≤◌, l
 use Rattle.std.specs.Prelude.{IsTrue}
 use Rattle.cnf_core.specs.Clauses.{var_of, is_within}
 use Rattle.refute_check.specs.Literals.{is_among}
-use Rattle.refute_check.specs.Given.{place_of}
+use Rattle.refute_check.specs.helpers.Given.{place_of}
 use Rattle.refute_check.proofs.given.Given.clear.Given as goal
 
 abbrev pub invariant-loop-lit : goal.invariant-loop-lit

@@ -1,6 +1,6 @@
 use Rattle.std.proofs.Common.{◌≡◌, ◌<◌, ◌++◌, ◌∙◌, ap, sym, subst, arith, length, take, None}
 use Rattle.refute_check.specs.Reading.{Reading, pushed, IsTakenAs, after_taken}
-use Rattle.refute_check.proofs.Cuts.{take-more, take-line}
+use Rattle.refute_check.proofs.Cuts.{take-more, take-line, through-all, through-line}
 use Rattle.refute_check.proofs.text.RefutationText.take.Goals as goal
 
 pub returns-then-end-bytes-clause-reads : goal.returns-then-end-bytes-clause-reads
@@ -19,3 +19,10 @@ returns-clause-reads c =
     let s : c.end_line.new.self ≡ after_taken (pushed c.args.self.now (take c.line_end-end.result c.args.bytes.now)) c.in_ok-taken.taken =
     c.in_ok-taken.ensures.state ∙ ap (λ z. after_taken (pushed c.args.self.now z) c.in_ok-taken.taken) c.first.ensures in
     take-line c.args.bytes.now c.args.self.now c.end_line.new.self c.line_end-end.result c.in_ok-taken.taken fault c.line_end-end.ensures.place inside t s
+
+pub returns-then-end-bytes-clause-through : goal.returns-then-end-bytes-clause-through
+returns-then-end-bytes-clause-through c = λ _. through-all c.args.bytes.now c.line_end-end.result c.line_end-end.ensures.place (omega (arith, c.if-end-bytes.true))
+
+pub returns-clause-through : goal.returns-clause-through
+returns-clause-through c = λ _. through-line c.args.bytes.now c.line_end-end.result c.line_end-end.ensures.place
+    (omega (arith, c.line_end-end.ensures.bound, c.if-end-bytes.false))

@@ -1,7 +1,8 @@
--- How a formula lies in memory; no promise speaks of these.
+-- How a formula lies in memory.
 use Rattle.std.specs.Prelude.{map, ◌≡◌, ℕ, ◌≤◌, ◌<◌, IsTrue, List, [], ◌∷◌, ℤ, slice_range, length}
 use Rattle.std.specs.Borrow.{Bor}
-use Rattle.cnf_core.specs.Clauses.{limit, are_clauses, Formula}
+use Rattle.cnf_core.specs.Clauses.{are_clauses, Formula}
+use Rattle.cnf_core.specs.declared.cnf.TheConstants.{LIMIT}
 use Rattle.cnf_core.specs.declared.cnf.Cnf.TheInside.{Inside}
 
 -- the pieces of a list that end at these places, the first of them from `from` on
@@ -25,5 +26,5 @@ all_now cs = map (λ c. c.now) cs
 pub record IsLaidOut (c : Inside) : Type 0 where
   pub ends : EndAt 0 c.ends.items (length c.literals.items)
   pub clauses : IsTrue (are_clauses c.vars (formula_of c).clauses)
-  pub few_vars : c.vars < limit
-  pub few_clauses : length c.ends.items < limit
+  pub few_vars : c.vars < LIMIT
+  pub few_clauses : length c.ends.items < LIMIT

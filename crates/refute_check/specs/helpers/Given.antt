@@ -1,4 +1,4 @@
--- The literals that a line's check takes as true, as the checker's memory holds them; no promise speaks of these.
+-- The literals that a line's check takes as true, as the checker's memory holds them.
 use Rattle.std.specs.Prelude.{◌≡◌, ℕ, suc, ◌+◌, ◌*◌, ◌<◌, ◌≤◌, false, IsTrue, List, ℤ, pos, negsuc, slice_index_or, length}
 use Rattle.cnf_core.specs.Clauses.{var_of, is_within}
 use Rattle.refute_check.specs.Literals.{is_among}

@@ -1,4 +1,4 @@
--- Where a clause is found by its number; no promise speaks of these.
+-- Where a clause is found by its number.
 use Rattle.std.specs.Prelude.{ℕ, ◌+◌, ◌*◌, ◌/◌, ◌%◌}
 
 -- a number of which one byte more is known, the lowest byte first

@@ -1,4 +1,4 @@
--- What a reader takes the bytes of a line for, before it compares them with the text; no promise speaks of these.
+-- What a reader takes the bytes of a line for, before it compares them with the text.
 use Rattle.std.specs.Prelude.{
   ℕ,
   ◌+◌,
@@ -28,7 +28,7 @@ use Rattle.std.specs.Prelude.{
 use Rattle.std.specs.List.{fold}
 use Rattle.std.specs.Option.{option_map_or}
 use Rattle.cnf_core.specs.Clauses.{var_of, is_clause}
-use Rattle.refute_check.specs.Refutations.{is_nil}
+use Rattle.tc_base.specs.Buffers.{is_nil}
 use Rattle.tc_base.specs.declared.model.Model.TheVariants.{Sc, Tso, Pso}
 use Rattle.refute_check.specs.declared.head.Head.{Head}
 use Rattle.refute_check.specs.declared.line.Line.{Line}

@@ -1,0 +1,5 @@
+-- No promise speaks of what stands in this folder.
+pub mod Blocks
+pub mod Checkers
+pub mod Given
+pub mod Guess
