@@ -1,1 +1,1 @@
-pub mod Helpers
+pub mod helpers

@@ -1,8 +1,8 @@
-//! The order in which a search decides: variables by activity, values as they were last, and when to start again.
+//! Which variable a search decides: the most active one first, with the value that it had last; and when it starts again.
 #![tactic(auto)]
 
+mod activity;
 mod luby;
-mod order;
 
+pub use activity::Activity;
 pub use luby::Luby;
-pub use order::Order;

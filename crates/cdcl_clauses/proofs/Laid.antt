@@ -28,7 +28,7 @@ use Rattle.std.proofs.Math.Seq.{map-set_same}
 use Rattle.std.proofs.lemmas.List.{length-map, map-append, map-set, get_or-map, drop-append-le, take-append-le, drop_at, take_all}
 use Rattle.std.proofs.lemmas.List.Elements.{All-head, All-tail}
 use Rattle.cdcl_clauses.specs.Clauses.{Clause, at, no_clause}
-use Rattle.cdcl_clauses.specs.Helpers.{clause_of, clauses_of, IsThere, IsLaidOut}
+use Rattle.cdcl_clauses.specs.helpers.Layout.{clause_of, clauses_of, IsThere, IsLaidOut}
 use Rattle.cdcl_clauses.specs.declared.clauses.Entry.{Entry}
 use Rattle.cdcl_clauses.specs.declared.clauses.Clauses.TheInside.{Inside}
 

@@ -1,5 +1,5 @@
 -- Clauses as a search keeps them, and the lists of who watches a literal.
-use Rattle.std.specs.Prelude.{ℕ, Bool, false, ◌&&◌, ◌||◌, ◌==◌, List, [], if◌then◌else◌, slice_index_or}
+use Rattle.std.specs.Prelude.{ℕ, Bool, true, false, ◌&&◌, ◌||◌, ◌==◌, List, [], if◌then◌else◌, slice_index_or, slice_set}
 use Rattle.std.specs.List.{swap_remove}
 use Rattle.cdcl_clauses.specs.declared.watches.Watch.{Watch}
 
@@ -17,6 +17,14 @@ no_clause = record { literals = []; first = 0; second = 0; kept = false }
 -- the clause of a number
 abbrev pub at : List Clause → ℕ → Clause
 at cs k = slice_index_or cs k no_clause
+
+-- a clause that is kept, and what it watches
+abbrev pub kept_clause : List ℕ → ℕ → ℕ → Clause
+kept_clause literals first second = record { literals = literals; first = first; second = second; kept = true }
+
+-- the clause of an index isn't kept any more
+abbrev pub dropped : List Clause → ℕ → List Clause
+dropped cs k = slice_set cs k (record (at cs k) { kept = false })
 
 -- whether a clause is kept and watches the literal
 abbrev pub watches : Clause → ℕ → Bool

@@ -66,7 +66,7 @@ AreReasoned t cs = (p : ℕ) → p < length t.literals
     → MatchOption (slice_index_or t.reasons p None) (BeginsAt t p) (IsReason cs (take p t.literals) (slice_index t.literals p))
 
 -- what a search keeps
-pub record IsSound (t : Trail) (cs : List Clause) (ws : List (List Watch)) : Type 0 where
+pub record AreConsistent (t : Trail) (cs : List Clause) (ws : List (List Watch)) : Type 0 where
   pub lawful : IsTrail t
   pub linked : AreLinked t.variables cs ws
   pub guarded : AreGuarded t cs

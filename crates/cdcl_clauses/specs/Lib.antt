@@ -1,3 +1,3 @@
 pub mod Clauses
 pub mod Invariants
-pub mod Helpers
+pub mod helpers

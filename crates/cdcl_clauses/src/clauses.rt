@@ -28,7 +28,7 @@ impl Model for Clauses {
 
     ghost Value = { List Clause };
 
-    ghost use Rattle.cdcl_clauses.specs.Helpers.{clauses_of, IsLaidOut};
+    ghost use Rattle.cdcl_clauses.specs.helpers.Layout.{clauses_of, IsLaidOut};
 
     ghost view = { clauses_of };
 
@@ -36,7 +36,7 @@ impl Model for Clauses {
 }
 
 impl Clauses {
-    ghost use Rattle.cdcl_clauses.specs.Clauses.{at, watches, beside};
+    ghost use Rattle.cdcl_clauses.specs.Clauses.{at, kept_clause, dropped, watches, beside};
 
     /// No clause.
     pub fn new(alloc: Global) -> Clauses
@@ -106,7 +106,7 @@ impl Clauses {
 
     /// One more clause, and the two literals that it watches.
     pub fn push(&mut self, literals: &[u32], first: u32, second: u32) -> Result<(), AllocError>
-        ensures ok { OnOk result (self.new ≡ self.old ++ record { literals = literals.now; first = first; second = second; kept = true } ∷ []) }
+        ensures ok { OnOk result (self.new ≡ self.old ++ kept_clause literals.now first second ∷ []) }
         ensures err { OnErr result (self.new ≡ self.old) }
     {
         let start = self.literals.len();
@@ -133,7 +133,7 @@ impl Clauses {
     /// A clause isn't kept any more.
     pub fn remove(&mut self, clause: u32)
         requires { clause < length self.old }
-        ensures { self.new ≡ slice_set self.old clause (record (at self.old clause) { kept = false }) }
+        ensures { self.new ≡ dropped self.old clause }
     {
         self.entries[clause as usize].kept = false;
     }

@@ -3,26 +3,29 @@ use Rattle.std.proofs.Common.{◌≡◌, ℕ, ◌+◌, ◌*◌, ◌<◌, Bool, t
 use Rattle.std.specs.Prelude.{Contains, All, ◌||◌}
 use Rattle.std.proofs.lemmas.List.{length_push}
 use Rattle.cnf_core.specs.Clauses.{Formula}
-use Rattle.refute_check.specs.Refutations.{Checking, passed, is_nil}
+use Rattle.refute_check.specs.Refutations.{Checking, passed}
+use Rattle.tc_base.specs.Buffers.{is_nil}
 use Rattle.refute_check.specs.declared.line.Line.{Line}
 use Rattle.cdcl_clauses.specs.Clauses.{Clause}
 use Rattle.cdcl_clauses.specs.Invariants.{AreSame}
 use Rattle.cdcl_learn.specs.Shown.{Shows}
 use Rattle.cdcl_lines.specs.Literals.{clause_of, Rise}
 use Rattle.cdcl_lines.specs.Lines.{added}
-use Rattle.cdcl_lines.specs.Keeping.{Represents, kept_clause}
+use Rattle.cdcl_lines.specs.Keeping.{Represents}
+use Rattle.cdcl_clauses.specs.Clauses.{kept_clause}
 use Rattle.cdcl_lines.specs.Fresh.{IsFresh, IsFreshLine}
 use Rattle.cdcl_lines.proofs.Representing.{same-represented, shown-passes}
 use Rattle.cdcl_lines.proofs.Formulas.{keeps-on}
 use Rattle.cdcl_lines.proofs.Freshness.{fresh-goes_on}
-use Rattle.cdcl_core.specs.Searches.{IsRoomy, checked, teaches, most_added}
-use Rattle.cdcl_core.specs.Helpers.{Agree, Ended, HasBound}
+use Rattle.cdcl_core.specs.Searches.{IsRoomy, checked, teaches}
+use Rattle.tc_base.specs.declared.limits.TheConstants.{BUDGET}
+use Rattle.cdcl_core.specs.helpers.States.{BelongTogether, Ended, HasBound}
 use Rattle.cdcl_core.proofs.Tallying.{kept-same, kept-push}
 use Rattle.cdcl_core.proofs.Counts.{checked-push, added-push, added-same, adds-push, deleted-added, few-added}
 
 -- what the clauses watch doesn't matter
-pub agree-same : (f : Formula) (cs : List Clause) (lines : List Line) (n d : ℕ) → Agree f cs lines n d → (ds : List Clause) → AreSame cs ds
-    → Agree f ds lines n d
+pub agree-same : (f : Formula) (cs : List Clause) (lines : List Line) (n d : ℕ) → BelongTogether f cs lines n d → (ds : List Clause) → AreSame cs ds
+    → BelongTogether f ds lines n d
 agree-same f cs lines n d a ds e = record {
   few = a.few;
   given = a.given;
@@ -57,7 +60,7 @@ not-nil : (ls : List ℕ) (a : ℕ) → Contains ls a → is_nil (clause_of ls) 
 not-nil ls a c = let (x, xs, e) = some-literal ls a c in ap (λ (ys : List ℕ). is_nil (clause_of ys)) e
 
 -- what the checker knows after a line that passes
-pub checked-added : (f : Formula) (cs : List Clause) (lines : List Line) (n d : ℕ) → Agree f cs lines n d → (ls hs : List ℕ)
+pub checked-added : (f : Formula) (cs : List Clause) (lines : List Line) (n d : ℕ) → BelongTogether f cs lines n d → (ls hs : List ℕ)
     → All (λ l. l < 2 * f.vars) ls → Rise ls → Shows cs ls hs → checked f (lines ++ added ls hs ∷ []) ≡ passed (checked f lines) (added ls hs)
 checked-added f cs lines n d a ls hs w r s =
     let w' : All (λ l. l < 2 * (checked f lines).vars) ls = subst (λ (v : ℕ). All (λ l. l < 2 * v) ls) (sym a.vars) w in
@@ -69,14 +72,14 @@ fresh-line : (f : Formula) (lines : List Line) (ls hs : List ℕ) (a : ℕ) → 
 fresh-line f lines [] hs a c h = absurd (omega (arith, c.1))
 fresh-line f lines (x ∷ xs) hs a c h = h
 
-is-roomy : (f : Formula) (cs : List Clause) (lines : List Line) (n d : ℕ) → Agree f cs lines n d → HasBound f.vars n d → IsRoomy f.vars lines
+is-roomy : (f : Formula) (cs : List Clause) (lines : List Line) (n d : ℕ) → BelongTogether f cs lines n d → HasBound f.vars n d → IsRoomy f.vars lines
 is-roomy f cs lines n d a bound = omega (arith, a.not_empty, a.deleted, bound)
 
 -- a clause that is learnt is one more, and its line one more
-pub agree-learnt : (f : Formula) (cs : List Clause) (lines : List Line) (n d : ℕ) → Agree f cs lines n d → n < most_added → HasBound f.vars n d
+pub agree-learnt : (f : Formula) (cs : List Clause) (lines : List Line) (n d : ℕ) → BelongTogether f cs lines n d → n < BUDGET → HasBound f.vars n d
     → (ls hs : List ℕ) (a b : ℕ)
     → All (λ l. l < 2 * f.vars) ls → Rise ls → Shows cs ls hs → Contains ls a → IsFresh (checked f lines).kept (clause_of ls)
-    → Agree f (cs ++ kept_clause ls a b ∷ []) (lines ++ added ls hs ∷ []) (n + 1) d
+    → BelongTogether f (cs ++ kept_clause ls a b ∷ []) (lines ++ added ls hs ∷ []) (n + 1) d
 agree-learnt f cs lines n d a room bound ls hs x y w r s c new =
     let w' : All (λ l. l < 2 * (checked f lines).vars) ls = subst (λ (v : ℕ). All (λ l. l < 2 * v) ls) (sym a.vars) w in
     let p = shown-passes cs (checked f lines) ls hs a.represents w' r s in
@@ -102,7 +105,7 @@ agree-learnt f cs lines n d a room bound ls hs x y w r s c new =
     }
 
 -- a line that adds the empty clause ends the derivation
-pub ended : (f : Formula) (cs : List Clause) (lines : List Line) (n d : ℕ) → Agree f cs lines n d → HasBound f.vars n d
+pub ended : (f : Formula) (cs : List Clause) (lines : List Line) (n d : ℕ) → BelongTogether f cs lines n d → HasBound f.vars n d
     → (ls hs : List ℕ) → ls ≡ [] → Rise ls → Shows cs ls hs
     → Ended f (lines ++ added ls hs ∷ []) n
 ended f cs lines n d a bound ls hs e r s =

@@ -3,7 +3,8 @@ use Rattle.cdcl_core.proofs.Tallying.{kept-dropped, kept-le, marked-more, none-m
 use Rattle.std.proofs.Common.{◌≡◌, ℕ, suc, ◌+◌, ◌*◌, ◌<◌, ◌≤◌, Bool, true, false, Option, Some, None, List, [], ◌∷◌, ◌++◌, map, length, take, get_or}
 use Rattle.std.proofs.Common.{set, inl, inr, refl, sym, ◌∙◌, ap, subst, arith, length-set, replicate}
 use Rattle.std.specs.Prelude.{All, MatchOption, fold, not, count_by, ◌&&◌}
-use Rattle.std.proofs.lemmas.Bool.{cases_lt, cases_eq}
+use Rattle.std.proofs.lemmas.Bool.{cases_lt, cases_eq, both_ways, not-false}
+use Rattle.std.proofs.lemmas.Option.{none-some, same_Some}
 use Rattle.std.proofs.lemmas.List.{length_push, length-map, get_or-map, take_more, get_or-set_same, get_or-set_other, length-replicate}
 use Rattle.std.proofs.lemmas.List.Elements.{All-push}
 use Rattle.std.proofs.lemmas.List.Quantifiers.{all_pairs_push}
@@ -16,12 +17,13 @@ use Rattle.cdcl_clauses.specs.Clauses.{Clause, at}
 use Rattle.cdcl_clauses.specs.Invariants.{AreReasoned, BeginsAt, IsReason}
 use Rattle.cdcl_lines.specs.Literals.{numbers_of}
 use Rattle.cdcl_lines.specs.Lines.{deleted}
-use Rattle.cdcl_lines.specs.Keeping.{Represents, CanDrop, dropped}
+use Rattle.cdcl_lines.specs.Keeping.{Represents, CanDrop}
+use Rattle.cdcl_clauses.specs.Clauses.{dropped}
 use Rattle.cdcl_lines.proofs.Representing.{drop-passes, kept-within}
 use Rattle.cdcl_lines.proofs.Formulas.{keeps-on}
 use Rattle.cdcl_lines.proofs.Freshness.{fresh-goes_on}
 use Rattle.cdcl_core.specs.Searches.{checked, adds, IsRoomy}
-use Rattle.cdcl_core.specs.Helpers.{Agree, MayGo, MayAllGo, Marks, IsLive, NoneMayGo}
+use Rattle.cdcl_core.specs.helpers.States.{BelongTogether, MayGo, MayAllGo, MarksReasons, IsLive, NoneMayGo}
 use Rattle.cdcl_core.specs.declared.state.State.{State}
 use Rattle.cdcl_core.proofs.Counts.{checked-push, added-same, adds-same, deleted-push, few-push}
 
@@ -41,9 +43,9 @@ spares n ks a k d h =
     let e : get_or (map suc ks) k d ≡ suc (get_or ks k 0) = get_or-map suc ks k 0 d kl in
     omega (arith, e, a k 0 kl)
 
-pub agree-dropped : (f : Formula) (cs : List Clause) (lines : List Line) (n d : ℕ) → Agree f cs lines n d → (ks : List ℕ) → CanDrop cs ks
+pub agree-dropped : (f : Formula) (cs : List Clause) (lines : List Line) (n d : ℕ) → BelongTogether f cs lines n d → (ks : List ℕ) → CanDrop cs ks
     → All (λ k. length f.clauses ≤ k) ks → 0 < length ks → 2 * (d + length ks) ≤ n
-    → Agree f (fold dropped cs ks) (lines ++ deleted ks ∷ []) n (d + length ks)
+    → BelongTogether f (fold dropped cs ks) (lines ++ deleted ks ∷ []) n (d + length ks)
 agree-dropped f cs lines n d a ks c b some half =
     let p = drop-passes cs (checked f lines) ks a.represents c in
     let e : checked f (lines ++ deleted ks ∷ []) ≡ passed (checked f lines) (deleted ks) = checked-push f lines (deleted ks) ∙ p.0.leaves in
@@ -81,18 +83,9 @@ pub reasons-there : (t : Trail) (cs : List Clause) → AreReasoned t cs → (p k
     → k < length cs
 reasons-there t cs r p k h e = reason-in cs (BeginsAt t p) (take p t.literals) (get_or t.literals p 0) (get_or t.reasons p None) k e (r p h)
 
-not-both : (b : Bool) → b ≡ true → not b ≡ true → ⊥
-not-both b e f = (let g : false ≡ true = sym (ap not e) ∙ f in cc)
-
-pub may-go : (s : State) (marks : List Bool) (k : ℕ) → Marks s.trail (length s.clauses) marks → length s.formula.clauses ≤ k → (at s.clauses k).kept ≡ true
+pub may-go : (s : State) (marks : List Bool) (k : ℕ) → MarksReasons s.trail (length s.clauses) marks → length s.formula.clauses ≤ k → (at s.clauses k).kept ≡ true
     → not (get_or marks k false) ≡ true → MayGo s k
-may-go s marks k m h e f = record { learnt = h; kept = e; no_reason = λ p pl g. not-both (get_or marks k false) (m.marked p k pl g) f }
-
-same-reason : (k r : ℕ) → Some k ≡ Some r → k ≡ r
-same-reason k r e = cc
-
-none-some : (k : ℕ) → None ≡ Some k → ⊥
-none-some k e = cc
+may-go s marks k m h e f = record { learnt = h; kept = e; no_reason = λ p pl g. both_ways (not (get_or marks k false)) (ap not (m.marked p k pl g)) f }
 
 -- the marks of the first places
 pub record MarksBelow (t : Trail) (n place : ℕ) (marks : List Bool) : Type 0 where
@@ -109,7 +102,7 @@ marks-more t n place marks r m e h = record {
     | inl f ↦ ap (λ (j : ℕ). get_or (set marks r true) j false) f ∙ get_or-set_same marks r true false (omega (arith, h, m.size))
     | inr f ↦ get_or-set_other marks r k true false f ∙ elim (cases_lt p place) [
       | inl d ↦ m.marked p k d g
-      | inr d ↦ absurd (f (same-reason k r (sym g ∙ ap (λ (q : ℕ). get_or t.reasons q None) (let z : p ≡ place = omega arith in z) ∙ e)))
+      | inr d ↦ absurd (f (same_Some k r (sym g ∙ ap (λ (q : ℕ). get_or t.reasons q None) (let z : p ≡ place = omega arith in z) ∙ e)))
     ]
   ];
 }
@@ -144,7 +137,7 @@ marks-start t n marks e = record {
 }
 
 -- where none may go, few are kept
-pub few-where_none : (s : State) → IsLive s → (marks : List Bool) → Marks s.trail (length s.clauses) marks → NoneMayGo s marks
+pub few-where_none : (s : State) → IsLive s → (marks : List Bool) → MarksReasons s.trail (length s.clauses) marks → NoneMayGo s marks
     → s.added ≤ s.deleted + s.formula.vars
 few-where_none s h marks m none =
     omega (
@@ -157,13 +150,9 @@ few-where_none s h marks m none =
       h.agree.count,
     )
 
-not-not : (b : Bool) → not b ≡ false → b ≡ true
-not-not true e = refl
-not-not false e = cc
-
 pub marked-by : (s : State) (marks : List Bool) (k : ℕ) (b : Bool) → b ≡ ((at s.clauses k).kept && not (get_or marks k false)) → b ≡ false
     → (at s.clauses k).kept ≡ true → get_or marks k false ≡ true
-marked-by s marks k b e f g = not-not (get_or marks k false) (sym (ap (λ (a : Bool). a && not (get_or marks k false)) g) ∙ sym e ∙ f)
+marked-by s marks k b e f g = not-false (get_or marks k false) (sym (ap (λ (a : Bool). a && not (get_or marks k false)) g) ∙ sym e ∙ f)
 
 pub alone : (s : State) (k : ℕ) → MayGo s k → MayAllGo s ([] ++ k ∷ [])
 alone s k h = may-all-push s [] k (record { each = λ i d g. absurd (omega (arith, g)); rise = λ i j d ij jl. absurd (omega (arith, jl)) })

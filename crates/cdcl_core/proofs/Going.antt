@@ -5,7 +5,7 @@ use Rattle.std.specs.Prelude.{Contains, All}
 use Rattle.std.proofs.lemmas.Bool.Decides.{nat_tests}
 use Rattle.std.proofs.lemmas.List.{get_or_default, length-take, length-take-le, take-take, take_all}
 use Rattle.cnf_core.specs.Clauses.{Formula}
-use Rattle.refute_check.specs.Refutations.{line_limit}
+use Rattle.refute_check.specs.declared.line.TheConstants.{LINES}
 use Rattle.cdcl_trail.specs.Literals.{opposite_of}
 use Rattle.cdcl_trail.specs.Trail.{Trail, IsTrail, cut_to}
 use Rattle.cdcl_clauses.specs.Clauses.{Clause, listed}
@@ -16,8 +16,8 @@ use Rattle.cdcl_learn.specs.Shown.{Leads, Shows}
 use Rattle.cdcl_learn.specs.Lessons.{TurnsBack}
 use Rattle.cdcl_steps.specs.Attached.{CanAssert, both_listed}
 use Rattle.cdcl_lines.proofs.Members.{all-from_contains, contains-cases}
-use Rattle.cdcl_lines.proofs.Freshness.{not-both}
-use Rattle.cdcl_core.specs.Helpers.{IsAsFar, IsFurther, IsShort, IsLive, HasBound, ComesTo}
+use Rattle.cdcl_trail.proofs.Opposites.{not-both}
+use Rattle.cdcl_core.specs.helpers.States.{IsAsFar, IsFurther, IsShort, IsLive, HasBound, ComesTo}
 use Rattle.cdcl_core.specs.declared.state.State.{State}
 use Rattle.cdcl_core.specs.declared.turns.Step.{Step}
 use Rattle.cdcl_core.specs.declared.turns.Step.TheVariants as steps
@@ -131,19 +131,19 @@ comes-far s t u n steps.Closed a h = (h.0, short-far s t u n a h.1)
 comes-far s t u n (steps.Full values) a h = (h.0, short-far s t u n a h.1, h.2)
 
 -- the parts are the same, but for when it starts again
-pub live-with : (s : State) → IsLive s → (t : State) → t.trail ≡ s.trail → t.clauses ≡ s.clauses → t.watches ≡ s.watches → t.order ≡ s.order
+pub live-with : (s : State) → IsLive s → (t : State) → t.trail ≡ s.trail → t.clauses ≡ s.clauses → t.watches ≡ s.watches → t.activity ≡ s.activity
     → t.formula ≡ s.formula → t.derivation ≡ s.derivation → t.added ≡ s.added → t.deleted ≡ s.deleted → IsLive t
 live-with s h t a b c d e f g i = record {
   sound = rw (a, b, c) h.sound;
   rooted = rw (a, b) h.rooted;
   variables = ap (λ (x : Trail). x.variables) a ∙ h.variables ∙ sym (ap (λ (x : Formula). x.vars) e);
-  order = d ∙ h.order ∙ sym (ap (λ (x : Formula). x.vars) e);
+  activity = d ∙ h.activity ∙ sym (ap (λ (x : Formula). x.vars) e);
   agree = rw (e, b, f, g, i) h.agree;
 }
 
 -- the limits leave room for one more
 pub record HasRoom (s : State) : Type 0 where
-  pub lines : length s.derivation < line_limit
+  pub lines : length s.derivation < LINES
   pub clauses : length s.clauses + 1 < 2 ^ 32
 
 pub has-room : (s : State) → IsLive s → HasRoom s

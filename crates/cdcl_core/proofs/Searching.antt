@@ -1,21 +1,22 @@
 -- What is kept of a search says what is promised of it.
 use Rattle.std.proofs.Common.{◌≡◌, ℕ, ◌<◌, ◌≤◌, ◌+◌, Bool, true, false, List, Option, Some, None, Ok, length, refl, sym, ◌∙◌, ap, subst, arith}
-use Rattle.std.specs.Prelude.{count_by, IsTrue}
+use Rattle.std.specs.Prelude.{count_by}
+use Rattle.std.proofs.lemmas.Option.{none-some, same_Some}
 use Rattle.std.proofs.lemmas.List.{take_all}
-use Rattle.cnf_core.specs.Clauses.{Formula, satisfies, value_in}
+use Rattle.cnf_core.specs.Clauses.{Formula}
 use Rattle.refute_check.specs.Refutations.{verdict_of, check}
 use Rattle.refute_check.specs.declared.line.Line.{Line}
 use Rattle.refute_check.specs.declared.verdict.Checked.TheVariants as checks
 use Rattle.refute_check.specs.declared.verdict.CheckFault.{CheckFault}
-use Rattle.cdcl_core.specs.Searches.{Searched, IsSearched, GoesOn, Answers, checked, adds, added_in}
-use Rattle.cdcl_core.specs.Helpers.{IsLive, IsFurther, IsShort}
-use Rattle.cdcl_core.specs.Stages.{answer_at, IsAt, IsCourse, searched_of}
+use Rattle.cdcl_core.specs.Searches.{Searched, IsSearched, IsSolution, GoesOn, Answers, checked, adds, added_in}
+use Rattle.cdcl_core.specs.helpers.States.{IsLive, IsFurther, IsShort}
+use Rattle.cdcl_core.specs.helpers.Stages.{answer_at, IsAt, IsStaged, searched_of}
 use Rattle.cdcl_core.specs.declared.progress.Progress.{Progress}
 use Rattle.cdcl_core.specs.declared.progress.Progress.TheVariants as answers
 use Rattle.cdcl_core.specs.declared.state.State.{State}
-use Rattle.cdcl_core.specs.declared.course.Course.{Course}
-use Rattle.cdcl_core.specs.declared.course.Stage.{Stage}
-use Rattle.cdcl_core.specs.declared.course.Stage.TheVariants.{Going, Satisfied, Closed}
+use Rattle.cdcl_core.specs.declared.stages.StagedSearch.{StagedSearch}
+use Rattle.cdcl_core.specs.declared.stages.Stage.{Stage}
+use Rattle.cdcl_core.specs.declared.stages.Stage.TheVariants.{Going, Satisfied, Closed}
 
 pub is-open : (f : Formula) (lines : List Line) → (checked f lines).fault ≡ None → (checked f lines).closed ≡ false → check f lines ≡ Ok checks.Open
 is-open f lines a b =
@@ -28,8 +29,11 @@ is-closed f lines a b =
 not-closed : (f : Formula) (lines : List Line) → (checked f lines).fault ≡ None → (checked f lines).closed ≡ false → check f lines ≡ Ok checks.Closed → ⊥
 not-closed f lines a b e = (let g = sym (is-open f lines a b) ∙ e in cc)
 
+none-answers : (answer : Option Progress) (p : Progress) → answer ≡ None → answer ≡ Some p → ⊥
+none-answers answer p a b = none-some p (sym a ∙ b)
+
 searched-live : (s : State) → IsLive s → (answer : Option Progress) → (answer ≡ Some answers.Closed → ⊥)
-    → ((values : List Bool) → answer ≡ Some (answers.Sat values) → IsTrue (satisfies (value_in values) s.formula.clauses))
+    → ((values : List Bool) → answer ≡ Some (answers.Sat values) → IsSolution s.formula values)
     → IsSearched (record { formula = s.formula; lines = s.derivation; answer = answer })
 searched-live s h answer n sat = record {
   passes = h.agree.represents.fault;
@@ -39,12 +43,6 @@ searched-live s h answer n sat = record {
   not_empty = λ m. sym h.agree.not_empty ∙ h.agree.counted;
   satisfied = sat;
 }
-
-none-closed : (answer : Option Progress) → answer ≡ None → answer ≡ Some answers.Closed → ⊥
-none-closed answer a b = cc
-
-none-sat : (answer : Option Progress) (values : List Bool) → answer ≡ None → answer ≡ Some (answers.Sat values) → ⊥
-none-sat answer values a b = cc
 
 sat-closed : (values : List Bool) → Some (answers.Sat values) ≡ Some answers.Closed → ⊥
 sat-closed values e = cc
@@ -57,10 +55,10 @@ same-values v w e = cc
 
 pub searched-at : (stage : Stage) (values : List Bool) (s : State) → IsAt stage values s
     → IsSearched (record { formula = s.formula; lines = s.derivation; answer = answer_at stage values })
-searched-at Going v s h = searched-live s h None (none-closed None refl) (λ w e. absurd (none-sat None w refl e))
+searched-at Going v s h = searched-live s h None (none-answers None answers.Closed refl) (λ w e. absurd (none-answers None (answers.Sat w) refl e))
 searched-at Satisfied v s h =
     searched-live s h.0 (Some (answers.Sat v)) (sat-closed v)
-    (λ w e. subst (λ (u : List Bool). IsTrue (satisfies (value_in u) s.formula.clauses)) (same-values v w e) h.1)
+    (λ w e. subst (IsSolution s.formula) (same-values v w e) h.1)
 searched-at Closed v s h = record {
   passes = h.passes;
   fresh = h.fresh;
@@ -70,7 +68,7 @@ searched-at Closed v s h = record {
   satisfied = λ w e. absurd (closed-sat w e);
 }
 
-pub searched : (c : Course) → IsCourse c → IsSearched (searched_of c)
+pub searched : (c : StagedSearch) → IsStaged c → IsSearched (searched_of c)
 searched c h = searched-at c.stage c.values.items c.state h
 
 counted-at : (stage : Stage) (values : List Bool) (s : State) → IsAt stage values s → s.added ≡ added_in s.derivation
@@ -78,25 +76,22 @@ counted-at Going v s h = h.agree.counted
 counted-at Satisfied v s h = h.0.agree.counted
 counted-at Closed v s h = h.counted
 
-pub counted : (c : Course) → IsCourse c → c.state.added ≡ added_in c.state.derivation
+pub counted : (c : StagedSearch) → IsStaged c → c.state.added ≡ added_in c.state.derivation
 counted c h = counted-at c.stage c.values.items c.state h
 
 live-at : (stage : Stage) (values : List Bool) (s : State) → IsAt stage values s → answer_at stage values ≡ None → IsLive s
 live-at Going v s h e = h
-live-at Satisfied v s h e = absurd (none-sat (Some (answers.Sat v)) v e refl)
-live-at Closed v s h e = absurd (none-closed (Some answers.Closed) e refl)
+live-at Satisfied v s h e = absurd (none-answers (Some (answers.Sat v)) (answers.Sat v) e refl)
+live-at Closed v s h e = absurd (none-answers (Some answers.Closed) answers.Closed e refl)
 
-pub live : (c : Course) → IsCourse c → answer_at c.stage c.values.items ≡ None → IsLive c.state
+pub live : (c : StagedSearch) → IsStaged c → answer_at c.stage c.values.items ≡ None → IsLive c.state
 live c h e = live-at c.stage c.values.items c.state h e
-
-at-live : (stage : Stage) (values : List Bool) (s : State) → answer_at stage values ≡ None → IsLive s → IsAt stage values s
-at-live Going v s e h = h
-at-live Satisfied v s e h = absurd (none-sat (Some (answers.Sat v)) v e refl)
-at-live Closed v s e h = absurd (none-closed (Some answers.Closed) e refl)
 
 -- a search without an answer stays one
 pub still : (stage : Stage) (values : List Bool) (s : State) → answer_at stage values ≡ None → IsLive s → IsAt stage values s
-still stage values s e h = at-live stage values s e h
+still Going v s e h = h
+still Satisfied v s e h = absurd (none-answers (Some (answers.Sat v)) (answers.Sat v) e refl)
+still Closed v s e h = absurd (none-answers (Some answers.Closed) answers.Closed e refl)
 
 never-paused : (stage : Stage) (values : List Bool) → answer_at stage values ≡ Some answers.Paused → ⊥
 never-paused Going values e = cc
@@ -104,7 +99,7 @@ never-paused Satisfied values e = cc
 never-paused Closed values e = cc
 
 -- an answer that stands is an answer again
-pub answered-already : (c : Course) (n : ℕ) (p : Progress) → 1 ≤ n → answer_at c.stage c.values.items ≡ Some p → Answers (searched_of c) (searched_of c) n p
+pub answered-already : (c : StagedSearch) (n : ℕ) (p : Progress) → 1 ≤ n → answer_at c.stage c.values.items ≡ Some p → Answers (searched_of c) (searched_of c) n p
 answered-already c n (answers.Sat values) h e = (e, omega (arith, h))
 answered-already c n answers.Closed h e = (e, omega (arith, h))
 answered-already c n answers.Paused h e = absurd (never-paused c.stage c.values.items e)
@@ -124,11 +119,8 @@ pub short-added : (s t : State) (n : ℕ) → IsShort s t n → s.added ≡ adde
     → added_in t.derivation < added_in s.derivation + n
 short-added s t n h a b = omega (arith, further-added s t h.count h.further a b, h.few)
 
-same-some : (p q : Progress) → Some p ≡ Some q → p ≡ q
-same-some p q e = cc
-
 pub answer-same : (o : Option Progress) (p q : Progress) → o ≡ Some p → o ≡ Some q → p ≡ q
-answer-same o p q a b = same-some p q (sym a ∙ b)
+answer-same o p q a b = same_Some p q (sym a ∙ b)
 
 -- without an answer the derivation is open
 open-by : (f : Formula) (lines : List Line) → (checked f lines).fault ≡ None → (check f lines ≡ Ok checks.Closed → ⊥) → (b : Bool)
@@ -137,7 +129,7 @@ open-by f lines a n true e = absurd (n (is-closed f lines a e))
 open-by f lines a n false e = is-open f lines a e
 
 pub open-searched : (s : Searched) → IsSearched s → s.answer ≡ None → check s.formula s.lines ≡ Ok checks.Open
-open-searched s h e = open-by s.formula s.lines h.passes (λ c. none-closed s.answer e (h.closed.0 c)) (checked s.formula s.lines).closed refl
+open-searched s h e = open-by s.formula s.lines h.passes (λ c. none-answers s.answer answers.Closed e (h.closed.0 c)) (checked s.formula s.lines).closed refl
 
 pub not-empty-searched : (s : Searched) → IsSearched s → s.answer ≡ None → count_by adds s.lines ≡ added_in s.lines
-not-empty-searched s h e = h.not_empty (none-closed s.answer e)
+not-empty-searched s h e = h.not_empty (none-answers s.answer answers.Closed e)

@@ -7,15 +7,16 @@ use Rattle.std.proofs.lemmas.List.{length_push, length-map, length-replicate, ge
 use Rattle.std.proofs.lemmas.List.{take_all, take-append-le, length-take-le, get_or_at}
 use Rattle.std.proofs.lemmas.List.Sums.{fold-append}
 use Rattle.std.proofs.lemmas.Option.{slice_get_past}
-use Rattle.cnf_core.specs.Clauses.{Formula, limit, is_clause, are_clauses, rises_above, var_of}
+use Rattle.cnf_core.specs.Clauses.{Formula, is_clause, are_clauses, rises_above, var_of}
+use Rattle.cnf_core.specs.declared.cnf.TheConstants.{LIMIT}
 use Rattle.refute_check.specs.Refutations.{Checking, opening, keep, start, after}
 use Rattle.cdcl_trail.specs.Literals.{opposite_of}
 use Rattle.cdcl_trail.specs.Trail.{Trail, IsTrail, empty}
 use Rattle.cdcl_clauses.specs.Clauses.{Clause, at, no_clause, listed}
 use Rattle.cdcl_clauses.specs.declared.watches.Watch.{Watch}
-use Rattle.cdcl_clauses.specs.Invariants.{IsSound, IsWatch, AreRooted}
+use Rattle.cdcl_clauses.specs.Invariants.{AreConsistent, IsWatch, AreRooted}
 use Rattle.cdcl_learn.specs.Shown.{Refutes, Shows}
-use Rattle.cdcl_learn.specs.Lessons.{Fits, IsLesson}
+use Rattle.cdcl_learn.specs.Lessons.{TurnFits, IsLesson}
 use Rattle.cdcl_learn.specs.declared.lesson.Lesson.{Lesson}
 use Rattle.cdcl_learn.specs.declared.lesson.Turn.{Turn}
 use Rattle.cdcl_learn.specs.declared.lesson.Turn.TheVariants.{Closed, Back}
@@ -24,12 +25,13 @@ use Rattle.cdcl_steps.specs.Loads.{IsAtStart, MayBeLoaded, WasLoaded, Loads}
 use Rattle.cdcl_steps.specs.declared.loading.Loaded.{Loaded}
 use Rattle.cdcl_steps.specs.declared.loading.Loaded.TheVariants.{Taken, Refuted}
 use Rattle.cdcl_lines.specs.Literals.{literal_of, code_of, clause_of, Rise}
-use Rattle.cdcl_lines.specs.Keeping.{Represents, KeepsAll, kept_clause, as_kept}
+use Rattle.cdcl_lines.specs.Keeping.{Represents, KeepsAll, as_kept}
+use Rattle.cdcl_clauses.specs.Clauses.{kept_clause}
 use Rattle.cdcl_lines.specs.Fresh.{AreFresh, IsFreshLine}
 use Rattle.cdcl_lines.proofs.Numbers.{above-contains, literal-code}
 use Rattle.cdcl_lines.proofs.Representing.{opening-represented, keep-represented}
 use Rattle.cdcl_lines.proofs.Formulas.{keeps-one_more}
-use Rattle.cdcl_core.specs.Helpers.{Agree, IsLive, IsLoaded, IsEmptyAt, CanConclude, LoadsOne}
+use Rattle.cdcl_core.specs.helpers.States.{BelongTogether, IsLive, IsLoaded, IsEmptyAt, CanConclude, LoadsOne}
 use Rattle.cdcl_core.proofs.Counts.{few-none}
 use Rattle.cdcl_core.proofs.Tallying.{kept-all}
 use Rattle.cdcl_core.specs.declared.state.State.{State}
@@ -47,8 +49,8 @@ fresh-none : (f : Formula) → AreFresh f []
 fresh-none f k = subst (λ o. IfSome o (λ l. IsFreshLine (fold after (start f) (take k [])).kept l))
     (sym (slice_get_past [] k (omega arith))) tt
 
-pub agree-start : (f : Formula) (cs : List Clause) → f.vars < limit → length f.clauses < limit → length cs ≡ length f.clauses → KeepsAll f.clauses cs
-    → Represents cs (start f) → Agree f cs [] 0 0
+pub agree-start : (f : Formula) (cs : List Clause) → f.vars < LIMIT → length f.clauses < LIMIT → length cs ≡ length f.clauses → KeepsAll f.clauses cs
+    → Represents cs (start f) → BelongTogether f cs [] 0 0
 agree-start f cs few given count keeps r =
     let u = untouched f.clauses (opening f.vars) in
     record {
@@ -71,7 +73,7 @@ agree-start f cs few given count keeps r =
       few_deleted = few-none f;
     }
 
-pub agree-loaded : (s : State) → IsLoaded s (length s.formula.clauses) → Agree s.formula s.clauses s.derivation s.added s.deleted
+pub agree-loaded : (s : State) → IsLoaded s (length s.formula.clauses) → BelongTogether s.formula s.clauses s.derivation s.added s.deleted
 agree-loaded s h =
     let n : ℕ = length s.formula.clauses in
     let all : take n s.formula.clauses ≡ s.formula.clauses = take_all n s.formula.clauses (omega arith) in
@@ -80,7 +82,7 @@ agree-loaded s h =
     (subst (λ (zs : List (List ℤ)). Represents s.clauses (fold keep (opening s.formula.vars) zs)) all h.represents))
 
 pub live-loaded : (s : State) → IsLoaded s (length s.formula.clauses) → AreRooted s.trail s.clauses → IsLive s
-live-loaded s h r = record { sound = h.sound; rooted = r; variables = h.variables; order = h.order; agree = agree-loaded s h }
+live-loaded s h r = record { sound = h.sound; rooted = r; variables = h.variables; activity = h.activity; agree = agree-loaded s h }
 
 -- a clause of a formula may be loaded
 some-in : (ls : List ℕ) (z : List ℤ) → clause_of ls ≡ z → z ≢ [] → 0 < length ls
@@ -109,8 +111,8 @@ at-get (x ∷ zs) zero z h e = cc
 at-get (x ∷ zs) (suc k) z h e = at-get zs k z (omega (arith, h)) e
 
 pub loaded-more : (s t : State) (n : ℕ) (ls : List ℕ) (z : List ℤ) → IsLoaded s n → n < length s.formula.clauses → slice_get s.formula.clauses n ≡ Some z
-    → clause_of ls ≡ z → Rise ls → t.formula ≡ s.formula → t.derivation ≡ s.derivation → t.added ≡ s.added → t.deleted ≡ s.deleted → t.order ≡ s.order
-    → t.trail.variables ≡ s.trail.variables → IsSound t.trail t.clauses t.watches → IsAtStart t.trail → WasLoaded s.clauses t.clauses ls
+    → clause_of ls ≡ z → Rise ls → t.formula ≡ s.formula → t.derivation ≡ s.derivation → t.added ≡ s.added → t.deleted ≡ s.deleted → t.activity ≡ s.activity
+    → t.trail.variables ≡ s.trail.variables → AreConsistent t.trail t.clauses t.watches → IsAtStart t.trail → WasLoaded s.clauses t.clauses ls
     → IsLoaded t (n + 1)
 loaded-more s t n ls z h nl g e r ef ed ea ex eo ev sound begun w =
     let f : Formula = s.formula in
@@ -124,7 +126,7 @@ loaded-more s t n ls z h nl g e r ef ed ea ex eo ev sound begun w =
       sound = sound;
       start = begun;
       variables = ev ∙ h.variables ∙ sym (ap (λ (x : Formula). x.vars) ef);
-      order = eo ∙ h.order ∙ sym (ap (λ (x : Formula). x.vars) ef);
+      activity = eo ∙ h.activity ∙ sym (ap (λ (x : Formula). x.vars) ef);
       few = rw ef h.few;
       given = rw ef h.given;
       count = omega (arith, ap length w.clauses, length_push s.clauses c, h.count);
@@ -164,7 +166,7 @@ loads-clauses cs ds ls w =
     ∙ take_all (length cs) cs (omega arith)
 
 -- where no level has begun, only the empty clause is learnt
-fits-closed : (t : Trail) (ls : List ℕ) (turn : Turn) → t.starts ≡ [] → Fits t ls turn → ls ≡ []
+fits-closed : (t : Trail) (ls : List ℕ) (turn : Turn) → t.starts ≡ [] → TurnFits t ls turn → ls ≡ []
 fits-closed t ls Closed e h = h
 fits-closed t ls (Back level asserted beside) e h = absurd (omega (arith, h.level_within, ap length e))
 
@@ -236,7 +238,7 @@ listed-none n l = elim (cases_lt l n) [
 ]
 
 -- before any clause
-pub sound-start : (t : Trail) (v : ℕ) → IsTrail t → t ≡ empty v → (ws : List (List Watch)) → ws ≡ replicate (2 * v) [] → IsSound t [] ws
+pub sound-start : (t : Trail) (v : ℕ) → IsTrail t → t ≡ empty v → (ws : List (List Watch)) → ws ≡ replicate (2 * v) [] → AreConsistent t [] ws
 sound-start t v u e ws f =
     let size : length ws ≡ 2 * v = ap length f ∙ length-replicate (2 * v) [] in
     let none : (l : ℕ) → listed ws l ≡ [] = λ l. ap (λ (us : List (List Watch)). listed us l) f ∙ listed-none (2 * v) l in
@@ -253,12 +255,12 @@ sound-start t v u e ws f =
     }
 
 pub start-loaded : (s : State) (f : Formula) → IsTrail s.trail → s.trail ≡ empty f.vars → s.clauses ≡ [] → s.watches ≡ replicate (2 * f.vars) []
-    → s.order ≡ f.vars → s.formula ≡ f → f.vars < limit → length f.clauses < limit → s.derivation ≡ [] → s.added ≡ 0 → s.deleted ≡ 0 → IsLoaded s 0
+    → s.activity ≡ f.vars → s.formula ≡ f → f.vars < LIMIT → length f.clauses < LIMIT → s.derivation ≡ [] → s.added ≡ 0 → s.deleted ≡ 0 → IsLoaded s 0
 start-loaded s f u et ec ew eo ef few given ed ea ex = record {
   sound = rw ec (sound-start s.trail f.vars u et s.watches ew);
   start = record { starts = ap (λ (x : Trail). x.starts) et; propagated = ap (λ (x : Trail). x.propagated) et };
   variables = ap (λ (x : Trail). x.variables) et ∙ sym (ap (λ (x : Formula). x.vars) ef);
-  order = eo ∙ sym (ap (λ (x : Formula). x.vars) ef);
+  activity = eo ∙ sym (ap (λ (x : Formula). x.vars) ef);
   few = rw ef few;
   given = rw ef given;
   count = ap length ec;

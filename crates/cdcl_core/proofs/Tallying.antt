@@ -7,9 +7,10 @@ use Rattle.std.proofs.lemmas.List.Sums.{sum_by-cons, sum_by-append, sum_by_push,
 use Rattle.cdcl_clauses.specs.Clauses.{Clause, at, no_clause}
 use Rattle.cdcl_clauses.specs.Invariants.{AreSame}
 use Rattle.cdcl_lines.specs.Literals.{clause_of}
-use Rattle.cdcl_lines.specs.Keeping.{KeepsAll, as_kept, CanDrop, dropped}
-use Rattle.cdcl_lines.proofs.Representing.{kept-within}
-use Rattle.cdcl_core.specs.Helpers.{kept_in}
+use Rattle.cdcl_lines.specs.Keeping.{KeepsAll, as_kept, CanDrop}
+use Rattle.cdcl_clauses.specs.Clauses.{dropped}
+use Rattle.cdcl_lines.proofs.Representing.{kept-within, can_drop-tail}
+use Rattle.cdcl_core.specs.helpers.States.{kept_in}
 
 -- as a number
 abbrev one : Bool → ℕ
@@ -46,20 +47,11 @@ kept-dropped_one cs k e =
     let f : one (at cs k).kept ≡ 1 = ap one e in
     omega (arith, sum_by-set (λ (x : Clause). one x.kept) cs k c no_clause (kept-within cs k e), f)
 
-can-drop-tail : (cs : List Clause) (k : ℕ) (ks : List ℕ) → CanDrop cs (k ∷ ks) → CanDrop (dropped cs k) ks
-can-drop-tail cs k ks c = record {
-  kept = λ i d h. (
-      let ne : get_or ks i d ≢ k = λ e. c.once 0 (suc i) d (omega arith) (omega (arith, h)) (sym e) in
-      ap (λ (x : Clause). x.kept) (get_or-set_other cs k (get_or ks i d) (record (at cs k) { kept = false }) no_clause ne)
-      ∙ c.kept (suc i) d (omega (arith, h)));
-  once = λ i j d ij jl. c.once (suc i) (suc j) d (omega (arith, ij)) (omega (arith, jl));
-}
-
 pub kept-dropped : (ks : List ℕ) (cs : List Clause) → CanDrop cs ks → kept_in (fold dropped cs ks) + length ks ≡ kept_in cs
 kept-dropped [] cs c = omega arith
 kept-dropped (k ∷ ks) cs c =
     let e : (at cs k).kept ≡ true = c.kept 0 0 (omega arith) in
-    omega (arith, kept-dropped ks (dropped cs k) (can-drop-tail cs k ks c), kept-dropped_one cs k e)
+    omega (arith, kept-dropped ks (dropped cs k) (can_drop-tail cs k ks c), kept-dropped_one cs k e)
 
 -- all are kept
 count-all : {X : Type 0} (p : X → Bool) (xs : List X) (d : X) → ((k : ℕ) → k < length xs → p (get_or xs k d) ≡ true) → count_by p xs ≡ length xs

@@ -1,4 +1,3 @@
 pub mod Searches
-pub mod Helpers
-pub mod Stages
 pub mod Solving
+pub mod helpers

@@ -10,10 +10,6 @@ use Rattle.cdcl_lines.specs.Fresh.{AreFresh}
 use Rattle.cdcl_core.specs.declared.progress.Progress.{Progress}
 use Rattle.cdcl_core.specs.declared.progress.Progress.TheVariants.{Sat, Closed, Paused}
 
--- a search adds at most so many lines
-abbrev pub most_added : ℕ
-most_added = 10000000
-
 -- whether a line adds a clause
 abbrev pub adds : Line → Bool
 adds (Add literals hints) = true
@@ -54,6 +50,11 @@ pub record DeletesFew (f : Formula) (lines : List Line) : Type 0 where
   pub few : (k : ℕ) → 2 * deleted_in (take k lines) ≤ count_by adds (take k lines)
   pub roomy : (k : ℕ) → IfSome (slice_get lines k) (λ l. adds l ≡ true → IsRoomy f.vars (take k lines))
 
+-- there is a value for each variable, and by them each clause is true
+pub record IsSolution (f : Formula) (values : List Bool) : Type 0 where
+  pub all : length values ≡ f.vars
+  pub satisfies : IsTrue (satisfies (value_in values) f.clauses)
+
 -- the clauses that a search began with, its lines so far, and its answer once it has one
 pub record Searched : Type 0 where
   pub formula : Formula
@@ -65,14 +66,14 @@ abbrev pub checked : Formula → List Line → Checking
 checked f lines = fold after (start f) lines
 
 -- each line passes and is fresh, and few clauses are deleted; the answer is that the search is closed exactly where the derivation is,
--- and until then no line is empty; and values are the answer only if they satisfy the clauses
+-- and until then no line is empty; and values are the answer only if there is one for each variable, and they satisfy the clauses
 pub record IsSearched (s : Searched) : Type 0 where
   pub passes : (checked s.formula s.lines).fault ≡ None
   pub fresh : AreFresh s.formula s.lines
   pub few : DeletesFew s.formula s.lines
   pub closed : IsClosed s.formula s.lines ↔ (s.answer ≡ Some Closed)
   pub not_empty : (s.answer ≡ Some Closed → ⊥) → count_by adds s.lines ≡ added_in s.lines
-  pub satisfied : (values : List Bool) → s.answer ≡ Some (Sat values) → IsTrue (satisfies (value_in values) s.formula.clauses)
+  pub satisfied : (values : List Bool) → s.answer ≡ Some (Sat values) → IsSolution s.formula values
 
 -- the same clauses, and maybe more lines
 pub record GoesOn (s t : Searched) : Type 0 where

@@ -1,15 +1,15 @@
 -- What a search comes to that isn't to go on.
-use Rattle.std.specs.Prelude.{◌≡◌, ℕ, IsTrue, count_by}
-use Rattle.cnf_core.specs.Clauses.{Formula, satisfies, value_in}
+use Rattle.std.specs.Prelude.{◌≡◌, ℕ, count_by}
+use Rattle.cnf_core.specs.Clauses.{Formula}
 use Rattle.refute_check.specs.Refutations.{IsClosed, IsOpen}
 use Rattle.cdcl_lines.specs.Fresh.{AreFresh}
-use Rattle.cdcl_core.specs.Searches.{adds, added_in}
+use Rattle.cdcl_core.specs.Searches.{adds, added_in, DeletesFew, IsSolution}
 use Rattle.cdcl_core.specs.declared.progress.Solved.{Solved}
 use Rattle.cdcl_core.specs.declared.progress.Solved.TheVariants.{Sat, Unsat, Spent}
 
--- an assignment satisfies the clauses; a derivation is closed and fresh; or it is open and fresh, and has as many added lines as the budget
--- says, none of them empty
+-- an assignment has a value for each variable and satisfies the clauses; a derivation is closed, fresh and deletes few clauses; or it is
+-- open, fresh and deletes few, and has as many added lines as the budget says, none of them empty
 abbrev pub Solves : Formula → ℕ → Solved → Type 0
-Solves f budget (Sat values) = IsTrue (satisfies (value_in values) f.clauses)
-Solves f budget (Unsat lines) = IsClosed f lines × AreFresh f lines
-Solves f budget (Spent lines) = IsOpen f lines × AreFresh f lines × (added_in lines ≡ budget) × (count_by adds lines ≡ budget)
+Solves f budget (Sat values) = IsSolution f values
+Solves f budget (Unsat lines) = IsClosed f lines × AreFresh f lines × DeletesFew f lines
+Solves f budget (Spent lines) = IsOpen f lines × AreFresh f lines × DeletesFew f lines × (added_in lines ≡ budget) × (count_by adds lines ≡ budget)

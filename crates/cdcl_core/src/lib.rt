@@ -1,13 +1,13 @@
 //! A search for an assignment that satisfies clauses, which learns from its conflicts, and can be paused.
 #![tactic(auto)]
 
-mod course;
 mod loading;
 mod progress;
 mod reducing;
 mod running;
 mod search;
 mod solve;
+mod stages;
 mod state;
 mod turns;
 

@@ -1,15 +1,15 @@
 //! The clauses that a search begins with.
 ghost use Rattle.std.specs.Prelude.{◌≡◌, ℕ, ◌+◌, ◌<◌, ◌≤◌, [], List, IfOk, OnOk, OnErr, IfSome, MatchOption, length, slice_get, slice_index_or, Some, Contains};
-ghost use Rattle.cnf_core.specs.Clauses.{limit};
+ghost use Rattle.cnf_core.specs.declared.cnf.TheConstants.{LIMIT};
 ghost use Rattle.cdcl_clauses.specs.Invariants.{AreRooted};
 ghost use Rattle.cdcl_learn.specs.Shown.{Refutes};
-ghost use Rattle.cdcl_core.specs.Helpers.{HaveLiterals, IsEmptyAt, IsOver};
+ghost use Rattle.cdcl_core.specs.helpers.States.{HaveLiterals, IsEmptyAt, HasEnded};
 
 use crate::state::{Restarts, State};
+use cdcl_activity::Activity;
 use cdcl_clauses::{Clauses, Watches};
 use cdcl_learn::close;
 use cdcl_lines::codes;
-use cdcl_activity::Order;
 use cdcl_steps::{Loaded, load_clause};
 use cdcl_trail::Trail;
 use cnf_core::Cnf;
@@ -24,7 +24,7 @@ pub(crate) struct Begun {
 }
 
 impl State {
-    ghost use Rattle.cdcl_core.specs.Helpers.{IsLoaded, HaveLiterals, IsEmptyAt, IsBegun, LoadsOne};
+    ghost use Rattle.cdcl_core.specs.helpers.States.{IsLoaded, HaveLiterals, IsEmptyAt, IsBegun, LoadsOne};
 
     /// A search over the clauses.
     pub(crate) fn begin(alloc: Global, cnf: &Cnf) -> Result<Begun, AllocError>
@@ -59,7 +59,7 @@ impl State {
     fn close_by_empty(&mut self, alloc: Global, place: usize) -> Result<(), AllocError>
         requires loaded { IsLoaded self.old 0 }
         requires empty { IsEmptyAt self.old.formula.clauses place }
-        ensures over { OnOk result (IsOver self.new) }
+        ensures over { OnOk result (HasEnded self.new) }
         ensures formula { self.new.formula ≡ self.old.formula }
         ensures none { self.new.added ≡ self.old.added }
     {
@@ -71,11 +71,17 @@ impl State {
     fn close_by_unit(&mut self, alloc: Global, conflict: u32) -> Result<(), AllocError>
         requires loaded { IsLoaded self.old (length self.old.formula.clauses) }
         requires refutes { Refutes self.old.clauses self.old.trail.literals conflict }
-        ensures over { OnOk result (IsOver self.new) }
+        ensures over { OnOk result (HasEnded self.new) }
         ensures formula { self.new.formula ≡ self.old.formula }
         ensures none { self.new.added ≡ self.old.added }
     {
-        let lesson = close(alloc, &self.trail, &self.clauses, &mut self.order, conflict)?;
+        let lesson = close(
+            alloc,
+            &self.trail,
+            &self.clauses,
+            &mut self.activity,
+            conflict,
+        )?;
         self.conclude(alloc, lesson.hints.as_slice())
     }
 
@@ -89,13 +95,13 @@ impl State {
         let _len = formula.len();
         let trail = Trail::new(alloc, variables)?;
         let watches = Watches::new(alloc, 2 * variables as usize)?;
-        let order = Order::new(alloc, variables)?;
+        let activity = Activity::new(alloc, variables)?;
         Ok(State {
             formula,
             trail,
             clauses: Clauses::new(alloc),
             watches,
-            order,
+            activity,
             derivation: Derivation::new(alloc),
             added: 0,
             deleted: 0,

@@ -2,10 +2,11 @@
 ghost use Rattle.std.specs.Prelude.{◌≡◌, ◌&&◌, true, false, ℕ, ◌*◌, ◌+◌, ◌<◌, ◌≤◌, List, All, IfOk, IsTrue, OnOk, MatchOption, not, length};
 ghost use Rattle.std.specs.Prelude.{slice_index_or, None, Some, fold};
 ghost use Rattle.cdcl_clauses.specs.Clauses.{at};
-ghost use Rattle.cdcl_clauses.specs.Invariants.{IsSound, AreRooted};
+ghost use Rattle.cdcl_clauses.specs.Invariants.{AreConsistent, AreRooted};
 ghost use Rattle.cdcl_clauses.specs.declared.watches.Watch.{Watch};
-ghost use Rattle.cdcl_lines.specs.Keeping.{dropped};
-ghost use Rattle.cdcl_core.specs.Helpers.{Marks, IsNoReason, HasBound, NoneMayGo};
+ghost use Rattle.cdcl_clauses.specs.Clauses.{dropped};
+ghost use Rattle.cdcl_core.specs.helpers.States.{MarksReasons, HasBound, NoneMayGo};
+ghost use Rattle.cdcl_trail.specs.Trail.{IsNoReason};
 
 use crate::state::State;
 use cdcl_clauses::Clauses;
@@ -18,7 +19,7 @@ use std::alloc::{AllocError, Global};
 const MANY: u32 = 4000;
 
 impl State {
-    ghost use Rattle.cdcl_core.specs.Helpers.{IsLive, IsFurther, MayGo, MayAllGo};
+    ghost use Rattle.cdcl_core.specs.helpers.States.{IsLive, IsFurther, MayGo, MayAllGo};
 
     /// Where many clauses may be deleted, half of those that were learnt and are no reason go: those that were used longest ago first, those of
     /// two literals or one last.
@@ -70,7 +71,7 @@ impl State {
         most: usize,
     ) -> Result<Vec<u32>, AllocError>
         requires live { IsLive self.now }
-        requires reasons { Marks self.now.trail (length self.now.clauses) reasons.now.items }
+        requires reasons { MarksReasons self.now.trail (length self.now.clauses) reasons.now.items }
         ensures may { IfOk result (λ chosen. MayAllGo self.now chosen.items) }
         ensures few { IfOk result (λ chosen. length chosen.items ≤ most) }
     {
@@ -90,7 +91,7 @@ impl State {
     /// The first clause that may go.
     fn first_to_go(&self, reasons: &Vec<bool>) -> Option<u32>
         requires live { IsLive self.now }
-        requires reasons { Marks self.now.trail (length self.now.clauses) reasons.now.items }
+        requires reasons { MarksReasons self.now.trail (length self.now.clauses) reasons.now.items }
         ensures { MatchOption result (NoneMayGo self.now reasons.now.items) (MayGo self.now) }
     {
         for clause in self.formula.len() as u32..self.clauses.len() as u32 {
@@ -104,7 +105,7 @@ impl State {
     /// Half of the clauses that may go are worth less than this, but no more than so many.
     fn threshold(&self, alloc: Global, reasons: &Vec<bool>, most: usize) -> Result<u64, AllocError>
         requires live { IsLive self.now }
-        requires reasons { Marks self.now.trail (length self.now.clauses) reasons.now.items }
+        requires reasons { MarksReasons self.now.trail (length self.now.clauses) reasons.now.items }
     {
         let mut worths = Vec::new(alloc);
         for clause in self.formula.len() as u32..self.clauses.len() as u32 {
@@ -120,7 +121,7 @@ impl State {
     /// Whether a learnt clause is kept and is no reason.
     fn may_go(&self, reasons: &Vec<bool>, clause: u32) -> bool
         requires live { IsLive self.now }
-        requires reasons { Marks self.now.trail (length self.now.clauses) reasons.now.items }
+        requires reasons { MarksReasons self.now.trail (length self.now.clauses) reasons.now.items }
         requires learnt { length self.now.formula.clauses ≤ clause }
         requires there { clause < length self.now.clauses }
         ensures may { IsTrue result → MayGo self.now clause }
@@ -162,7 +163,7 @@ impl State {
 /// For each of so many clauses, whether it is a reason.
 fn reasons_of(alloc: Global, trail: &Trail, clauses: usize) -> Result<Vec<bool>, AllocError>
     requires { (p k : ℕ) → p < length trail.now.literals → slice_index_or trail.now.reasons p None ≡ Some k → k < clauses }
-    ensures { IfOk result (λ marks. Marks trail.now clauses marks.items) }
+    ensures { IfOk result (λ marks. MarksReasons trail.now clauses marks.items) }
 {
     let mut marks = vec![in alloc; false; clauses]?;
     for place in 0..trail.len() {
@@ -178,7 +179,7 @@ fn forget_all(trail: &Trail, clauses: &mut Clauses, chosen: &[u32])
     requires there { All (λ k. k < length clauses.old) chosen.now }
     requires no_reasons { All (IsNoReason trail.now) chosen.now }
     ensures after { clauses.new ≡ fold dropped clauses.old chosen.now }
-    ensures sound { (ws : List (List Watch)) → IsSound trail.now clauses.old ws → IsSound trail.now clauses.new ws }
+    ensures sound { (ws : List (List Watch)) → AreConsistent trail.now clauses.old ws → AreConsistent trail.now clauses.new ws }
     ensures rooted { AreRooted trail.now clauses.old → AreRooted trail.now clauses.new }
 {
     for clause in chosen {

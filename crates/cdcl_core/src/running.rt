@@ -1,35 +1,36 @@
 //! How a search comes to its answer.
 ghost use Rattle.std.specs.Prelude.{◌≡◌, ◌≢◌, ◌+◌, ◌<◌, ◌≤◌, Some, None, IfOk, OnErr};
-ghost use Rattle.cdcl_core.specs.Searches.{most_added, added_in, GoesOn, Answers};
+ghost use Rattle.cdcl_core.specs.Searches.{added_in, GoesOn, Answers};
+ghost use Rattle.tc_base.specs.declared.limits.TheConstants.{BUDGET};
 
-use crate::course::{Course, Stage};
 use crate::loading::Begun;
 use crate::progress::Progress;
+use crate::stages::{Stage, StagedSearch};
 use crate::state::State;
 use crate::turns::Step;
 use cnf_core::{Assignment, Cnf};
 use std::alloc::{AllocError, Global};
 
-impl Course {
-    ghost use Rattle.cdcl_core.specs.Helpers.{IsLive};
-    ghost use Rattle.cdcl_core.specs.Stages.{IsCourse, answer_at, answer_of, searched_of};
+impl StagedSearch {
+    ghost use Rattle.cdcl_core.specs.helpers.States.{IsLive};
+    ghost use Rattle.cdcl_core.specs.helpers.Stages.{IsStaged, answer_at, answer_of, searched_of};
 
     /// A search over the clauses.
-    pub(crate) fn begin(alloc: Global, cnf: &Cnf) -> Result<Course, AllocError>
-        ensures lawful { IfOk result IsCourse }
+    pub(crate) fn begin(alloc: Global, cnf: &Cnf) -> Result<StagedSearch, AllocError>
+        ensures lawful { IfOk result IsStaged }
         ensures formula { IfOk result (λ s. s.state.formula ≡ cnf.now) }
         ensures none { IfOk result (λ s. s.state.added ≡ 0) }
     {
         let Begun { state, is_closed } = State::begin(alloc, cnf)?;
         let values = Vec::new(alloc);
         if is_closed {
-            Ok(Course {
+            Ok(StagedSearch {
                 state,
                 stage: Stage::Closed,
                 values,
             })
         } else {
-            Ok(Course {
+            Ok(StagedSearch {
                 state,
                 stage: Stage::Going,
                 values,
@@ -39,10 +40,10 @@ impl Course {
 
     /// Goes on until there is an answer, or so many clauses more are learnt.
     pub(crate) fn run(&mut self, alloc: Global, conflicts: u32) -> Result<Progress, AllocError>
-        requires lawful { IsCourse self.old }
+        requires lawful { IsStaged self.old }
         requires some { 1 ≤ conflicts }
-        requires room { self.old.state.added + conflicts ≤ most_added }
-        ensures lawful { IsCourse self.new }
+        requires room { self.old.state.added + conflicts ≤ BUDGET }
+        ensures lawful { IsStaged self.new }
         ensures goes_on { GoesOn (searched_of self.old) (searched_of self.new) }
         ensures answers { IfOk result (Answers (searched_of self.old) (searched_of self.new) conflicts) }
         ensures answered { (p : Progress) → answer_of self.old ≡ Some p → (self.new ≡ self.old) × IfOk result (λ q. q ≡ p) }
@@ -68,11 +69,11 @@ impl Course {
 
     /// Goes on where there is no answer yet.
     fn go(&mut self, alloc: Global, conflicts: u32) -> Result<Progress, AllocError>
-        requires lawful { IsCourse self.old }
+        requires lawful { IsStaged self.old }
         requires going { answer_of self.old ≡ None }
         requires some { 1 ≤ conflicts }
-        requires room { self.old.state.added + conflicts ≤ most_added }
-        ensures lawful { IsCourse self.new }
+        requires room { self.old.state.added + conflicts ≤ BUDGET }
+        ensures lawful { IsStaged self.new }
         ensures goes_on { GoesOn (searched_of self.old) (searched_of self.new) }
         ensures answers { IfOk result (Answers (searched_of self.old) (searched_of self.new) conflicts) }
         ensures err { OnErr result (added_in self.new.state.derivation < added_in self.old.state.derivation + conflicts) }

@@ -1,9 +1,10 @@
 //! A search that can be paused.
 ghost use Rattle.std.specs.Prelude.{◌≡◌, ◌+◌, ◌<◌, ◌≤◌, Some, None, IfOk, OnErr};
-ghost use Rattle.cdcl_core.specs.Searches.{most_added, added_in, IsSearched};
+ghost use Rattle.cdcl_core.specs.Searches.{added_in, IsSearched};
+ghost use Rattle.tc_base.specs.declared.limits.TheConstants.{BUDGET};
 
-use crate::course::Course;
 use crate::progress::Progress;
+use crate::stages::StagedSearch;
 use crate::state::State;
 use cnf_core::Cnf;
 use refute_check::Derivation;
@@ -15,7 +16,7 @@ use std::marker::Model;
 /// Contracts see its clauses, the lines that it has so far, and its answer.
 #[derive(Debug, Drop)]
 pub struct Search {
-    course: Course,
+    staged: StagedSearch,
 }
 
 impl Model for Search {
@@ -23,11 +24,11 @@ impl Model for Search {
 
     ghost Value = { Searched };
 
-    ghost use Rattle.cdcl_core.specs.Stages.{searched_of, IsCourse};
+    ghost use Rattle.cdcl_core.specs.helpers.Stages.{searched_of, IsStaged};
 
-    ghost view = { λ a. searched_of a.course };
+    ghost view = { λ a. searched_of a.staged };
 
-    ghost invariant = { λ a. IsCourse a.course };
+    ghost invariant = { λ a. IsStaged a.staged };
 }
 
 impl Search {
@@ -39,15 +40,15 @@ impl Search {
         ensures none { IfOk result (λ s. added_in s.lines ≡ 0) }
         ensures lawful { IfOk result IsSearched }
     {
-        let course = Course::begin(alloc, cnf)?;
-        Ok(Search { course })
+        let staged = StagedSearch::begin(alloc, cnf)?;
+        Ok(Search { staged })
     }
 
     /// Goes on until there is an answer, or so many clauses more are learnt: then it is paused. Once there is an answer, it answers the same.
     /// Where there is no memory, it may be called again.
     pub fn run(&mut self, alloc: Global, conflicts: u32) -> Result<Progress, AllocError>
         requires some { 1 ≤ conflicts }
-        requires room { added_in self.old.lines + conflicts ≤ most_added }
+        requires room { added_in self.old.lines + conflicts ≤ BUDGET }
         ensures goes_on { GoesOn self.old self.new }
         ensures lawful { IsSearched self.new }
         ensures answers { IfOk result (Answers self.old self.new conflicts) }
@@ -55,7 +56,7 @@ impl Search {
         ensures err { OnErr result (added_in self.new.lines < added_in self.old.lines + conflicts) }
         ensures err_open { OnErr result (self.old.answer ≡ None → self.new.answer ≡ None) }
     {
-        self.course.run(alloc, conflicts)
+        self.staged.run(alloc, conflicts)
     }
 
     /// The lines that it has so far.
@@ -63,7 +64,7 @@ impl Search {
         ensures lines { result.now ≡ self.now.lines }
         ensures lawful { IsSearched self.now }
     {
-        &self.course.state.derivation
+        &self.staged.state.derivation
     }
 
     /// The lines that it has so far.
@@ -71,8 +72,8 @@ impl Search {
         ensures lines { result ≡ self.lines }
         ensures lawful { IsSearched self }
     {
-        let Search { course } = self;
-        let Course { state, .. } = course;
+        let Search { staged } = self;
+        let StagedSearch { state, .. } = staged;
         let State { derivation, .. } = state;
         derivation
     }
@@ -80,8 +81,8 @@ impl Search {
     /// How many of its lines add a clause that isn't empty.
     pub fn added(&self) -> u32
         ensures added { result ≡ added_in self.now.lines }
-        ensures few { result ≤ most_added }
+        ensures few { result ≤ BUDGET }
     {
-        self.course.state.added
+        self.staged.state.added
     }
 }

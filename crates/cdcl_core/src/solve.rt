@@ -1,6 +1,6 @@
 //! A search that isn't to go on.
 ghost use Rattle.std.specs.Prelude.{◌≡◌, ◌≤◌, IfOk, IsTrue};
-ghost use Rattle.cdcl_core.specs.Searches.{most_added};
+ghost use Rattle.tc_base.specs.declared.limits.TheConstants.{BUDGET};
 ghost use Rattle.cdcl_core.specs.Solving.{Solves};
 
 use crate::{Progress, Search, Solved};
@@ -10,7 +10,7 @@ use std::alloc::{AllocError, Global};
 /// Searches until there is an answer, or so many clauses are learnt.
 pub fn solve_cnf(alloc: Global, cnf: &Cnf, budget: u32) -> Result<Solved, AllocError>
     requires some { 1 ≤ budget }
-    requires room { budget ≤ most_added }
+    requires room { budget ≤ BUDGET }
     ensures { IfOk result (Solves cnf.now budget) }
 {
     let mut search = Search::new(alloc, cnf)?;

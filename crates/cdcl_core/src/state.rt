@@ -1,7 +1,7 @@
 //! A search that goes on.
 
+use cdcl_activity::{Activity, Luby};
 use cdcl_clauses::{Clauses, Watches};
-use cdcl_activity::{Luby, Order};
 use cdcl_trail::Trail;
 use cnf_core::Cnf;
 use refute_check::Derivation;
@@ -14,7 +14,7 @@ pub(crate) struct State {
     pub(crate) trail: Trail,
     pub(crate) clauses: Clauses,
     pub(crate) watches: Watches,
-    pub(crate) order: Order,
+    pub(crate) activity: Activity,
     pub(crate) derivation: Derivation,
     /// How many lines were added.
     pub(crate) added: u32,

@@ -1,7 +1,7 @@
 //! One conflict after the other.
 ghost use Rattle.std.specs.Prelude.{◌≡◌, ℕ, ◌+◌, ◌*◌, ◌^◌, ◌<◌, ◌≤◌, [], ◌∷◌, ◌++◌, All, IfOk, IfSome, IsNone, OnOk, OnErr, length};
-ghost use Rattle.cnf_core.specs.Clauses.{limit};
-ghost use Rattle.refute_check.specs.Refutations.{line_limit};
+ghost use Rattle.cnf_core.specs.declared.cnf.TheConstants.{LIMIT};
+ghost use Rattle.refute_check.specs.declared.line.TheConstants.{LINES};
 ghost use Rattle.cdcl_trail.specs.Trail.{cut_to};
 ghost use Rattle.cdcl_clauses.specs.Invariants.{IsConflict};
 ghost use Rattle.cdcl_learn.specs.Lessons.{IsLesson};
@@ -9,8 +9,9 @@ ghost use Rattle.cdcl_learn.specs.Shown.{Shows};
 ghost use Rattle.cdcl_steps.specs.Attached.{CanAssert};
 ghost use Rattle.cdcl_lines.specs.Literals.{Rise};
 ghost use Rattle.cdcl_lines.specs.Lines.{added};
-ghost use Rattle.cdcl_core.specs.Searches.{most_added};
-ghost use Rattle.cdcl_core.specs.Helpers.{HasBound};
+ghost use Rattle.cdcl_core.specs.Searches.{IsSolution};
+ghost use Rattle.tc_base.specs.declared.limits.TheConstants.{BUDGET};
+ghost use Rattle.cdcl_core.specs.helpers.States.{HasBound};
 
 use crate::reducing::touch_all;
 use crate::state::State;
@@ -32,13 +33,13 @@ pub(crate) enum Step {
 }
 
 impl State {
-    ghost use Rattle.cdcl_core.specs.Helpers.{IsLive, IsAsFar, IsFurther, IsShort, IsSatisfied, IsComplete, ComesTo, CanConclude, IsOver};
+    ghost use Rattle.cdcl_core.specs.helpers.States.{IsLive, IsAsFar, IsFurther, IsShort, IsComplete, ComesTo, CanConclude, HasEnded};
 
     /// So many turns, unless one is the last.
     pub(crate) fn go(&mut self, alloc: Global, conflicts: u32) -> Result<Step, AllocError>
         requires live { IsLive self.old }
         requires some { 0 < conflicts }
-        requires room { self.old.added + conflicts ≤ most_added }
+        requires room { self.old.added + conflicts ≤ BUDGET }
         ensures ok { IfOk result (ComesTo self.old self.new conflicts) }
         ensures err_live { OnErr result (IsLive self.new) }
         ensures err_short { OnErr result (IsShort self.old self.new conflicts) }
@@ -57,7 +58,7 @@ impl State {
     /// From one conflict to what it teaches, once clauses went where there are many.
     fn turn(&mut self, alloc: Global) -> Result<Step, AllocError>
         requires live { IsLive self.old }
-        requires room { self.old.added < most_added }
+        requires room { self.old.added < BUDGET }
         ensures ok { IfOk result (ComesTo self.old self.new 1) }
         ensures err_live { OnErr result (IsLive self.new) }
         ensures err_further { OnErr result (IsFurther self.old self.new 0) }
@@ -69,7 +70,7 @@ impl State {
     /// From one conflict to what it teaches.
     fn step(&mut self, alloc: Global) -> Result<Step, AllocError>
         requires live { IsLive self.old }
-        requires room { self.old.added < most_added }
+        requires room { self.old.added < BUDGET }
         requires bound { HasBound self.old.formula.vars self.old.added self.old.deleted }
         ensures ok { IfOk result (ComesTo self.old self.new 1) }
         ensures err_live { OnErr result (IsLive self.new) }
@@ -97,7 +98,7 @@ impl State {
             &mut self.trail,
             &mut self.clauses,
             &mut self.watches,
-            &mut self.order,
+            &mut self.activity,
             variables,
         )
     }
@@ -106,7 +107,7 @@ impl State {
     fn values(&self, alloc: Global) -> Result<Vec<bool>, AllocError>
         requires live { IsLive self.now }
         requires complete { IsComplete self.now.trail }
-        ensures { IfOk result (λ values. IsSatisfied self.now values.items) }
+        ensures { IfOk result (λ values. IsSolution self.now.formula values.items) }
     {
         let assignment = assignment_of(alloc, &self.trail, self.formula.vars())?;
         Ok(assignment.into_values())
@@ -122,7 +123,7 @@ impl State {
     {
         let mut lesson = self.study(alloc, conflict)?;
         sort_lesson(&mut lesson);
-        self.order.decay();
+        self.activity.decay();
         Ok(lesson)
     }
 
@@ -134,16 +135,28 @@ impl State {
         ensures lesson { IfOk result (IsLesson self.old.trail self.old.clauses) }
     {
         if self.trail.levels() == 0 {
-            close(alloc, &self.trail, &self.clauses, &mut self.order, conflict)
+            close(
+                alloc,
+                &self.trail,
+                &self.clauses,
+                &mut self.activity,
+                conflict,
+            )
         } else {
-            analyze(alloc, &self.trail, &self.clauses, &mut self.order, conflict)
+            analyze(
+                alloc,
+                &self.trail,
+                &self.clauses,
+                &mut self.activity,
+                conflict,
+            )
         }
     }
 
     /// A lesson becomes a line, and its clause is kept.
     fn take(&mut self, alloc: Global, lesson: Lesson) -> Result<Step, AllocError>
         requires live { IsLive self.old }
-        requires room { self.old.added < most_added }
+        requires room { self.old.added < BUDGET }
         requires lesson { IsLesson self.old.trail self.old.clauses lesson }
         requires rise { Rise lesson.literals.items }
         requires bound { HasBound self.old.formula.vars self.old.added self.old.deleted }
@@ -178,7 +191,7 @@ impl State {
     /// The line that closes the derivation.
     pub(crate) fn conclude(&mut self, alloc: Global, hints: &[u32]) -> Result<(), AllocError>
         requires { CanConclude self.old hints.now }
-        ensures over { OnOk result (IsOver self.new) }
+        ensures over { OnOk result (HasEnded self.new) }
         ensures further { OnOk result (IsFurther self.old self.new 0) }
         ensures err { OnErr result (self.new ≡ self.old) }
     {
@@ -194,7 +207,7 @@ impl State {
         ensures clauses { self.new.clauses ≡ self.old.clauses }
         ensures trail { self.new.trail ≡ cut_to self.old.trail level }
     {
-        go_back(&mut self.trail, &mut self.order, level);
+        go_back(&mut self.trail, &mut self.activity, level);
     }
 
     /// A clause is learnt, and its one open literal comes true.
@@ -207,7 +220,7 @@ impl State {
         beside: u32,
     ) -> Result<(), AllocError>
         requires live { IsLive self.old }
-        requires room { self.old.added < most_added }
+        requires room { self.old.added < BUDGET }
         requires can { CanAssert self.old.trail literals.now asserted beside }
         requires shown { Shows self.old.clauses literals.now hints.now }
         requires rise { Rise literals.now }
@@ -264,9 +277,9 @@ pub(crate) fn write_line(
     hints: &[u32],
 ) -> Result<(), AllocError>
     requires rise { Rise literals.now }
-    requires within { All (λ l. l < 2 * limit) literals.now }
+    requires within { All (λ l. l < 2 * LIMIT) literals.now }
     requires hints { All (λ h. h + 1 < 2 ^ 32) hints.now }
-    requires room { length derivation.old < line_limit }
+    requires room { length derivation.old < LINES }
     ensures ok { OnOk result (derivation.new ≡ derivation.old ++ added literals.now hints.now ∷ []) }
     ensures err { OnErr result (derivation.new ≡ derivation.old) }
 {

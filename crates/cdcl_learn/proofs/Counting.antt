@@ -34,14 +34,14 @@ use Rattle.std.proofs.Common.{
   get_or-set_other,
   suc,
 }
-use Rattle.std.proofs.lemmas.Bool.{cases_eq}
+use Rattle.std.proofs.lemmas.Bool.{cases_eq, false_from_ne_true}
 use Rattle.std.proofs.lemmas.List.{drop-set-lt, drop-set-add, get_or-drop}
 use Rattle.std.proofs.lemmas.List.Sums.{sum_by-set}
 use Rattle.std.specs.Prelude.{Contains, count_by}
 use Rattle.std.proofs.lemmas.List.Elements.{Contains-push, Contains-append_left, Contains-push_cases}
 use Rattle.cdcl_trail.specs.Literals.{opposite_of}
 use Rattle.cdcl_trail.specs.Trail.{Trail}
-use Rattle.cdcl_learn.specs.Helpers.{IsMet, open_from, Marks, Tallies}
+use Rattle.cdcl_learn.specs.helpers.Analyses.{IsMet, open_from, Marks, Tallies}
 
 pub open_from-set : (met : List Bool) (base p : ℕ) (b : Bool) → p < length met → base ≤ p
     → open_from (set met p b) base + cond (get_or met p false) 1 0 ≡ open_from met base + cond b 1 0
@@ -111,10 +111,6 @@ tallies_between t met n root base ls s p x h b r e =
       from_places = λ y c. elim (Contains-push_cases ls x y c) [ inl d ↦ s.from_places y d | inr d ↦ (p, r, b, sym d ∙ e) ];
     }
 
-is_false : (b : Bool) → (b ≡ true → ⊥) → b ≡ false
-is_false true h = absurd (h refl)
-is_false false h = refl
-
 pub open_some : (met : List Bool) (base p : ℕ) → p < length met → base ≤ p → IsMet met p → 1 ≤ open_from met base
 open_some met base p h l m =
     let g : open_from (set met p false) base + cond (get_or met p false) 1 0 ≡ open_from met base + cond false 1 0 = open_from-set met base p false h l in
@@ -155,7 +151,7 @@ open_other met base p pl bp mp ne =
     ]
 
 pub open_none : (met : List Bool) (base : ℕ) → ((q : ℕ) → base ≤ q → IsMet met q → ⊥) → open_from met base ≡ 0
-open_none met base h = count_none (drop base met) (λ i il. is_false (get_or (drop base met) i false)
+open_none met base h = count_none (drop base met) (λ i il. false_from_ne_true (get_or (drop base met) i false)
     (λ m. h (base + i) (omega arith) (sym (get_or-drop base met i false) ∙ m)))
 
 pub open_one : (met : List Bool) (base p q : ℕ) → p < length met → q < length met → base ≤ p → base ≤ q → IsMet met p → IsMet met q

@@ -33,12 +33,12 @@ use Rattle.cdcl_trail.specs.Literals.{opposite_of}
 use Rattle.cdcl_trail.specs.Trail.{Trail, IsTrail}
 use Rattle.cdcl_clauses.specs.Clauses.{Clause}
 use Rattle.cdcl_learn.specs.Shown.{Shows}
-use Rattle.cdcl_learn.specs.Lessons.{TurnsBack, Fits}
-use Rattle.cdcl_learn.specs.Helpers.{Suffices, Tallies, IsCleared, IsLast}
-use Rattle.cdcl_learn.specs.Starts.{AreLower, IsTurn, Turns}
+use Rattle.cdcl_learn.specs.Lessons.{TurnsBack, TurnFits}
+use Rattle.cdcl_learn.specs.helpers.Analyses.{Suffices, Tallies, IsCleared, IsLast}
+use Rattle.cdcl_learn.specs.helpers.Starts.{AreLower, IsTurn, Turns}
 use Rattle.cdcl_learn.specs.declared.lesson.Turn.{Turn}
 use Rattle.cdcl_learn.specs.declared.lesson.Turn.TheVariants.{Closed, Back}
-use Rattle.cdcl_learn.proofs.Turning.{opposite_of-opposite_of}
+use Rattle.cdcl_trail.proofs.Opposites.{opposite_of-opposite_of}
 
 contains_map : (f : ℕ → ℕ) (xs : List ℕ) (y : ℕ) → Contains (map f xs) y → (x : ℕ) × Contains xs x × (f x ≡ y)
 contains_map f xs y (k, kl, e) =
@@ -143,7 +143,7 @@ turned t u met before n root base place a ls e level b s =
     }
 
 pub fits : (t : Trail) → IsTrail t → (met before : List Bool) (n root base place a : ℕ) (ls : List ℕ) → IsEnded t met before n root base place a ls
-    → (turn : Turn) → Turns t ls a turn → Fits t (ls ++ a ∷ []) turn
+    → (turn : Turn) → Turns t ls a turn → TurnFits t (ls ++ a ∷ []) turn
 fits t u met before n root base place a ls e Closed s = absurd s
 fits t u met before n root base place a ls e (Back level asserted b) s =
     let f : IsTurn t ls a level a b = subst (λ (x : ℕ). IsTurn t ls a level x b) s.same s in

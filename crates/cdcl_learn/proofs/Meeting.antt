@@ -38,26 +38,19 @@ use Rattle.std.proofs.Common.{
   get_or-set_same,
 }
 use Rattle.std.specs.Prelude.{Contains, MatchOption, IsSome}
-use Rattle.std.proofs.lemmas.Bool.{cases_eq, cases_lt}
+use Rattle.std.proofs.lemmas.Bool.{cases_eq, cases_lt, some_since}
 use Rattle.std.proofs.lemmas.Bool.Decides.{nat_tests}
 use Rattle.std.proofs.lemmas.List.{take_more, reverse-append, length-take, get_or_default, get_or_past}
 use Rattle.std.proofs.lemmas.List.Elements.{Contains-push, Contains-push_cases, Contains-append_left, Contains-get_or}
+use Rattle.std.proofs.lemmas.Option.{MatchOption-at_some}
 use Rattle.cdcl_trail.specs.Literals.{opposite_of}
+use Rattle.cdcl_trail.proofs.Opposites.{opposite_of-half, not-both}
 use Rattle.cdcl_trail.specs.Trail.{Trail, IsTrail}
 use Rattle.cdcl_clauses.specs.Clauses.{Clause, at}
 use Rattle.cdcl_clauses.specs.Invariants.{IsReason, BeginsAt, AreReasoned}
 use Rattle.cdcl_learn.specs.Shown.{Forces, Leads}
-use Rattle.cdcl_learn.specs.Helpers.{IsMet, Marks, Meets, Suffices, Resolves, Tallies, open_from}
+use Rattle.cdcl_learn.specs.helpers.Analyses.{IsMet, Marks, Meets, Suffices, Resolves, Tallies, open_from}
 use Rattle.cdcl_learn.proofs.Counting.{met-set, open_from-set, open_from-set_below}
-
-opposite_of-cases : (l : ℕ) → ((l % 2 ≡ 0) × (opposite_of l ≡ l + 1)) ⊎ ((l % 2 ≡ 1) × (opposite_of l + 1 ≡ l))
-opposite_of-cases l = grind (arith, nat_tests)
-
-pub opposite_of-half : (l : ℕ) → opposite_of l / 2 ≡ l / 2
-opposite_of-half l = elim (opposite_of-cases l) [ inl e ↦ omega (arith, e.0, e.1) | inr e ↦ omega (arith, e.0, e.1) ]
-
-pub opposite_of-apart : (l : ℕ) → opposite_of l ≢ l
-opposite_of-apart l = elim (opposite_of-cases l) [ inl e ↦ omega (arith, e.0, e.1) | inr e ↦ omega (arith, e.0, e.1) ]
 
 pub meets_none : (t : Trail) (met : List Bool) (ls : List ℕ) → Meets t met met (take 0 ls)
 meets_none t met ls = record { all = λ x p c h e. absurd (omega (arith, c.1)); kept = λ p m. m; only = λ p m. inl m }
@@ -86,14 +79,6 @@ leads-cons cs given h l (g ∷ hs) f r = (l, f, r)
 pub reverse-push : (hs : List ℕ) (h : ℕ) → reverse (hs ++ h ∷ []) ≡ h ∷ reverse hs
 reverse-push hs h = reverse-append hs (h ∷ [])
 
--- a literal and its opposite aren't both on a trail
-pub not_both : (t : Trail) → IsTrail t → (p : ℕ) → p < length t.literals → Contains t.literals (opposite_of (get_or t.literals p 0)) → ⊥
-not_both t u p pl (k, kl, e) =
-    let l : ℕ = get_or t.literals p 0 in
-    let f : get_or t.literals k 0 ≡ opposite_of l = get_or_default t.literals k 0 (opposite_of l) kl ∙ e in
-    let z : k ≡ p = u.apart k p kl pl (ap (λ (x : ℕ). x / 2) f ∙ opposite_of-half l) in
-    opposite_of-apart l (sym f ∙ ap (λ (n : ℕ). get_or t.literals n 0) z)
-
 -- a place that gives way to its reason: the hints still suffice
 pub suffices-resolve : (t : Trail) → IsTrail t → (cs : List Clause) (a b c : List Bool) (hs : List ℕ) (p k : ℕ) → p < length t.literals → IsMet a p
     → IsReason cs (take p t.literals) (get_or t.literals p 0) k → Meets t a b (at cs k).literals → ((q : ℕ) → q ≢ p → IsMet b q → IsMet c q)
@@ -115,7 +100,7 @@ suffices-resolve t u cs a b c hs p k pl mp r m kept s given on all =
       has = r.has;
       others = need;
       not_false =
-          λ g. not_both t u p pl (on (opposite_of l) g);
+          λ g. not-both t u l (Contains-get_or t.literals p 0 pl) (on (opposite_of l) g);
     } in
     let more : Leads cs (given ++ l ∷ []) (reverse hs) = s (given ++ l ∷ [])
     (λ x cx. elim (Contains-push_cases given l x cx) [
@@ -166,12 +151,9 @@ tallies-resolve t met n root base ls s p h mp side m up down =
       from_places = s.from_places;
     }
 
-match-some : (P : Type 0) (Q : ℕ → Type 0) (o : Option ℕ) (k : ℕ) → o ≡ Some k → MatchOption o P Q → Q k
-match-some P Q o k e h = let f : MatchOption (Some k) P Q = subst (λ (o : Option ℕ). MatchOption o P Q) e h in f
-
 pub reason_of : (t : Trail) (cs : List Clause) → AreReasoned t cs → (p k : ℕ) → p < length t.literals → get_or t.reasons p None ≡ Some k
     → IsReason cs (take p t.literals) (get_or t.literals p 0) k
-reason_of t cs s p k h e = match-some (BeginsAt t p) (IsReason cs (take p t.literals) (get_or t.literals p 0)) (get_or t.reasons p None) k e (s p h)
+reason_of t cs s p k h e = MatchOption-at_some (BeginsAt t p) (IsReason cs (take p t.literals) (get_or t.literals p 0)) k e (s p h)
 
 pub reason_there : (t : Trail) (cs : List Clause) (p k : ℕ) → p < length t.literals → IsReason cs (take p t.literals) (get_or t.literals p 0) k
     → (x : ℕ) → Contains (at cs k).literals x → Contains t.literals x ⊎ Contains t.literals (opposite_of x)
@@ -182,13 +164,6 @@ reason_there t cs p k h r x c =
           let qp : q < p = omega (arith, length-take p t.literals) in
           (q, omega (arith, length-take p t.literals), sym (get_or-take p t.literals q (opposite_of x) qp) ∙ f))
     ]
-
-pub open_positive : (met : List Bool) (base p : ℕ) → p < length met → base ≤ p → IsMet met p → 1 ≤ open_from met base
-open_positive met base p h l m =
-    let g : open_from (set met p false) base + cond (get_or met p false) 1 0 ≡ open_from met base + cond false 1 0 = open_from-set met base p false h l in
-    let one_more : ℕ = 1 in
-    let i : cond (get_or met p false) 1 0 ≡ one_more = ap (λ (b : Bool). let n : ℕ = cond b 1 0 in n) m in
-    omega (arith, g, i)
 
 pub met_within : (b : List Bool) (q : ℕ) → IsMet b q → {n : ℕ} → length b ≡ n → q < n
 met_within b q h {n} e = elim (cases_lt q n) [ inl d ↦ d | inr d ↦ absurd (let g : false ≡ true = sym (get_or_past b q false (omega (arith, e))) ∙ h in cc) ]
@@ -224,9 +199,5 @@ resolves-set t u cs a b p k pl pb r size m =
       kept = λ q ne h. elim (met-set b p q false pb) [ inl d ↦ absurd (ne d.0) | inr d ↦ d.1 ∙ m.kept q h ];
     }
 
-some-from : (P : Type 0) (Q : ℕ → Type 0) (o : Option ℕ) → (P → ⊥) → MatchOption o P Q → IsSome o
-some-from P Q None f h = absurd (f h)
-some-from P Q (Some k) f h = refl
-
 pub reason_some : (t : Trail) (cs : List Clause) → AreReasoned t cs → (p : ℕ) → p < length t.literals → (BeginsAt t p → ⊥) → IsSome (get_or t.reasons p None)
-reason_some t cs s p h f = some-from (BeginsAt t p) (IsReason cs (take p t.literals) (get_or t.literals p 0)) (get_or t.reasons p None) f (s p h)
+reason_some t cs s p h f = some_since (get_or t.reasons p None) (BeginsAt t p) (IsReason cs (take p t.literals) (get_or t.literals p 0)) (s p h) f

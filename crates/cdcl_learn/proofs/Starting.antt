@@ -8,9 +8,10 @@ use Rattle.cdcl_trail.specs.Trail.{Trail}
 use Rattle.cdcl_clauses.specs.Clauses.{Clause, at}
 use Rattle.cdcl_clauses.specs.Invariants.{IsConflict}
 use Rattle.cdcl_learn.specs.Shown.{Leads}
-use Rattle.cdcl_learn.specs.Helpers.{IsMet, Meets, Suffices, Tallies, IsCleared}
+use Rattle.cdcl_learn.specs.helpers.Analyses.{IsMet, Meets, Suffices, Tallies, IsCleared}
 use Rattle.cdcl_learn.proofs.Counting.{open_none, open_some}
-use Rattle.cdcl_learn.proofs.Meeting.{met_within, opposite_of-half}
+use Rattle.cdcl_trail.proofs.Opposites.{opposite_of-half}
+use Rattle.cdcl_learn.proofs.Meeting.{met_within}
 
 unmet : (n : ℕ) (met : List Bool) → met ≡ replicate n false → (q : ℕ) → IsMet met q → ⊥
 unmet n met e q m =

@@ -33,14 +33,8 @@ use Rattle.std.proofs.lemmas.List.{take_more, take_all, nil_from_length, get_or_
 use Rattle.std.proofs.lemmas.List.Elements.{Contains-push, Contains-push_cases, Contains-append_left}
 use Rattle.cdcl_trail.specs.Literals.{opposite_of}
 use Rattle.cdcl_trail.specs.Trail.{Trail, IsTrail}
-use Rattle.cdcl_learn.specs.Starts.{AreLower, IsHighest, IsLevelAfter, IsTurn}
-use Rattle.cdcl_learn.proofs.Meeting.{opposite_of-half}
-
-pub opposite_of-opposite_of : (l : ℕ) → opposite_of (opposite_of l) ≡ l
-opposite_of-opposite_of l = grind (arith, nat_tests)
-
-within : (l v f : ℕ) → l < 2 * v → f ≡ opposite_of l → f < 2 * v
-within l v f h e = grind (arith, nat_tests)
+use Rattle.cdcl_learn.specs.helpers.Starts.{AreLower, IsHighest, IsLevelAfter, IsTurn}
+use Rattle.cdcl_trail.proofs.Opposites.{opposite_of-half, opposite_of-opposite_of, opposite_of-within}
 
 -- where the variable of a lower literal stands
 pub record StandsLow (t : Trail) (x : ℕ) : Type 0 where
@@ -60,7 +54,7 @@ stands_low t u h ls s x c =
       high = pn;
       there = sym (opposite_of-opposite_of (get_or t.literals p 0))
           ∙ ap opposite_of (sym e);
-      in_range = within (get_or t.literals p 0) t.variables x (u.within p pn) e;
+      in_range = omega (arith, e, opposite_of-within (get_or t.literals p 0) t.variables (u.within p pn));
     }
 
 pub false_there : (t : Trail) (x : ℕ) → StandsLow t x → Contains t.literals (opposite_of x)

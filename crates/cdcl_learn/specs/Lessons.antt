@@ -22,12 +22,12 @@ pub record TurnsBack (t : Trail) (literals : List ℕ) (level asserted beside : 
   pub high : (i : ℕ) → i < level → beside ≢ asserted → Contains (take (slice_index t.starts i) t.literals) (opposite_of beside) → ⊥
 
 -- what to do fits the clause
-abbrev pub Fits : Trail → List ℕ → Turn → Type 0
-Fits t literals Closed = literals ≡ []
-Fits t literals (Back level asserted beside) = TurnsBack t literals level asserted beside
+abbrev pub TurnFits : Trail → List ℕ → Turn → Type 0
+TurnFits t literals Closed = literals ≡ []
+TurnFits t literals (Back level asserted beside) = TurnsBack t literals level asserted beside
 
 -- a clause all of whose literals are false; its hints show it
 pub record IsLesson (t : Trail) (cs : List Clause) (l : Lesson) : Type 0 where
   pub all_false : All (λ x. Contains t.literals (opposite_of x)) l.literals.items
   pub shown : Shows cs l.literals.items l.hints.items
-  pub turn : Fits t l.literals.items l.turn
+  pub turn : TurnFits t l.literals.items l.turn

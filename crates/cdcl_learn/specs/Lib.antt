@@ -1,4 +1,3 @@
 pub mod Shown
 pub mod Lessons
-pub mod Helpers
-pub mod Starts
+pub mod helpers

@@ -5,8 +5,8 @@ ghost use Rattle.cdcl_trail.specs.Trail.{IsTrail};
 ghost use Rattle.cdcl_clauses.specs.Clauses.{at};
 ghost use Rattle.cdcl_clauses.specs.Invariants.{IsClause, AreReasoned, BeginsAt};
 
+use cdcl_activity::Activity;
 use cdcl_clauses::Clauses;
-use cdcl_activity::Order;
 use cdcl_trail::{Trail, opposite, variable};
 use std::alloc::AllocError;
 
@@ -28,7 +28,7 @@ pub(crate) struct Bounds {
 }
 
 impl Analysis {
-    ghost use Rattle.cdcl_learn.specs.Helpers.{IsMet, Tallies, Marks, Meets, Suffices, Resolves, IsLast, IsCleared};
+    ghost use Rattle.cdcl_learn.specs.helpers.Analyses.{IsMet, Tallies, Marks, Meets, Suffices, Resolves, IsLast, IsCleared};
 
     /// A place is met.
     fn mark(&mut self, trail: &Trail, place: usize, bounds: Bounds) -> Result<(), AllocError>
@@ -55,7 +55,7 @@ impl Analysis {
         &mut self,
         trail: &Trail,
         clauses: &Clauses,
-        order: &mut Order,
+        activity: &mut Activity,
         clause: u32,
         bounds: Bounds,
     ) -> Result<(), AllocError>
@@ -63,16 +63,16 @@ impl Analysis {
         requires clause { clause < length clauses.now }
         requires within { All (λ l. l < 2 * trail.now.variables) (at clauses.now clause).literals }
         requires there { (x : ℕ) → Contains (at clauses.now clause).literals x → Contains trail.now.literals x ⊎ Contains trail.now.literals (opposite_of x) }
-        requires order { order.old ≡ trail.now.variables }
+        requires activity { activity.old ≡ trail.now.variables }
         requires tallies { Tallies trail.now self.old.met.items self.old.pending bounds.root bounds.base self.old.literals.items }
-        ensures order { order.new ≡ order.old }
+        ensures activity { activity.new ≡ activity.old }
         ensures tallies { Tallies trail.now self.new.met.items self.new.pending bounds.root bounds.base self.new.literals.items }
         ensures meets { OnOk result (Meets trail.now self.old.met.items self.new.met.items (at clauses.now clause).literals) }
         ensures hints { OnOk result (self.new.hints.items ≡ self.old.hints.items ++ clause ∷ []) }
     {
         for literal in clauses.literals(clause) {
             let place = trail.place(*literal);
-            order.bump(variable(*literal));
+            activity.bump(variable(*literal));
             self.mark(trail, place, bounds)?;
         }
         self.hints.push(clause)?;
@@ -84,7 +84,7 @@ impl Analysis {
         &mut self,
         trail: &Trail,
         clauses: &Clauses,
-        order: &mut Order,
+        activity: &mut Activity,
         place: usize,
         bounds: Bounds,
     ) -> Result<(), AllocError>
@@ -94,17 +94,17 @@ impl Analysis {
         requires place { place < length trail.now.literals }
         requires reason { IsSome (slice_index_or trail.now.reasons place None) }
         requires met { IsMet self.old.met.items place }
-        requires order { order.old ≡ trail.now.variables }
+        requires activity { activity.old ≡ trail.now.variables }
         requires tallies { Tallies trail.now self.old.met.items self.old.pending bounds.root bounds.base self.old.literals.items }
         requires not_between { (place < bounds.root) ⊎ (bounds.base ≤ place) }
         requires suffices { Suffices trail.now clauses.now self.old.met.items self.old.hints.items }
-        ensures order { order.new ≡ order.old }
+        ensures activity { activity.new ≡ activity.old }
         ensures tallies { OnOk result (Tallies trail.now self.new.met.items self.new.pending bounds.root bounds.base self.new.literals.items) }
         ensures suffices { OnOk result (Suffices trail.now clauses.now self.new.met.items self.new.hints.items) }
         ensures resolves { OnOk result (Resolves self.old.met.items self.new.met.items place) }
     {
         let reason = trail.reason(place).unwrap();
-        self.meet(trail, clauses, order, reason, bounds)?;
+        self.meet(trail, clauses, activity, reason, bounds)?;
         if place >= bounds.base {
             self.pending -= 1;
         }
@@ -117,18 +117,18 @@ impl Analysis {
         &mut self,
         trail: &Trail,
         clauses: &Clauses,
-        order: &mut Order,
+        activity: &mut Activity,
         bounds: Bounds,
     ) -> Result<usize, AllocError>
         requires lawful { IsTrail trail.now }
         requires clauses { (k : ℕ) → k < length clauses.now → (at clauses.now k).kept ≡ true → IsClause trail.now.variables (at clauses.now k) }
         requires reasoned { AreReasoned trail.now clauses.now }
         requires begins { (p : ℕ) → BeginsAt trail.now p → p ≤ bounds.base }
-        requires order { order.old ≡ trail.now.variables }
+        requires activity { activity.old ≡ trail.now.variables }
         requires tallies { Tallies trail.now self.old.met.items self.old.pending bounds.root bounds.base self.old.literals.items }
         requires some { 0 < self.old.pending }
         requires suffices { Suffices trail.now clauses.now self.old.met.items self.old.hints.items }
-        ensures order { order.new ≡ order.old }
+        ensures activity { activity.new ≡ activity.old }
         ensures tallies { OnOk result (Tallies trail.now self.new.met.items self.new.pending bounds.root bounds.base self.new.literals.items) }
         ensures suffices { OnOk result (Suffices trail.now clauses.now self.new.met.items self.new.hints.items) }
         ensures last { IfOk result (IsLast trail.now self.new.met.items bounds.base) }
@@ -138,7 +138,7 @@ impl Analysis {
                 if self.pending == 1 {
                     return Ok(place);
                 }
-                self.resolve(trail, clauses, order, place, bounds)?;
+                self.resolve(trail, clauses, activity, place, bounds)?;
             }
         }
         unreachable!()
@@ -149,7 +149,7 @@ impl Analysis {
         &mut self,
         trail: &Trail,
         clauses: &Clauses,
-        order: &mut Order,
+        activity: &mut Activity,
         bounds: Bounds,
     ) -> Result<(), AllocError>
         requires lawful { IsTrail trail.now }
@@ -157,17 +157,17 @@ impl Analysis {
         requires reasoned { AreReasoned trail.now clauses.now }
         requires root { bounds.root ≤ length trail.now.literals }
         requires begins { (p : ℕ) → BeginsAt trail.now p → bounds.root ≤ p }
-        requires order { order.old ≡ trail.now.variables }
+        requires activity { activity.old ≡ trail.now.variables }
         requires tallies { Tallies trail.now self.old.met.items self.old.pending bounds.root bounds.base self.old.literals.items }
         requires suffices { Suffices trail.now clauses.now self.old.met.items self.old.hints.items }
-        ensures order { order.new ≡ order.old }
+        ensures activity { activity.new ≡ activity.old }
         ensures tallies { OnOk result (Tallies trail.now self.new.met.items self.new.pending bounds.root bounds.base self.new.literals.items) }
         ensures suffices { OnOk result (Suffices trail.now clauses.now self.new.met.items self.new.hints.items) }
         ensures cleared { OnOk result (IsCleared self.old.met.items self.new.met.items bounds.root) }
     {
         for place in (0..bounds.root).rev() {
             if self.met[place] {
-                self.resolve(trail, clauses, order, place, bounds)?;
+                self.resolve(trail, clauses, activity, place, bounds)?;
             }
         }
         Ok(())

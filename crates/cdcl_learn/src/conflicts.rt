@@ -3,14 +3,14 @@ ghost use Rattle.std.specs.Prelude.{◌≡◌, ℕ, ◌-◌, ◌<◌, ◌≤◌,
 ghost use Rattle.cdcl_trail.specs.Trail.{IsTrail};
 ghost use Rattle.cdcl_clauses.specs.Clauses.{at};
 ghost use Rattle.cdcl_clauses.specs.Invariants.{IsClause, AreReasoned, IsConflict};
-ghost use Rattle.cdcl_learn.specs.Starts.{IsStarted, AreLower, IsHighest, IsLevelAfter, Turns};
+ghost use Rattle.cdcl_learn.specs.helpers.Starts.{IsStarted, AreLower, IsHighest, IsLevelAfter, Turns};
 ghost use Rattle.cdcl_learn.specs.Shown.{Refutes};
 ghost use Rattle.cdcl_learn.specs.Lessons.{IsLesson};
 
 use crate::analysis::{Analysis, Bounds};
 use crate::lesson::{Lesson, Turn};
+use cdcl_activity::Activity;
 use cdcl_clauses::Clauses;
-use cdcl_activity::Order;
 use cdcl_trail::{Trail, opposite};
 use std::alloc::{AllocError, Global};
 
@@ -19,15 +19,15 @@ fn start(
     alloc: Global,
     trail: &Trail,
     clauses: &Clauses,
-    order: &mut Order,
+    activity: &mut Activity,
     conflict: u32,
     bounds: Bounds,
 ) -> Result<Analysis, AllocError>
     requires lawful { IsTrail trail.now }
     requires clauses { (k : ℕ) → k < length clauses.now → (at clauses.now k).kept ≡ true → IsClause trail.now.variables (at clauses.now k) }
     requires conflict { Refutes clauses.now trail.now.literals conflict }
-    requires order { order.old ≡ trail.now.variables }
-    ensures order { order.new ≡ order.old }
+    requires activity { activity.old ≡ trail.now.variables }
+    ensures activity { activity.new ≡ activity.old }
     ensures started { IfOk result (IsStarted trail.now clauses.now conflict bounds.root bounds.base) }
 {
     let met = vec![in alloc; false; trail.len()]?;
@@ -37,7 +37,7 @@ fn start(
         literals: Vec::new(alloc),
         hints: Vec::new(alloc),
     };
-    analysis.meet(trail, clauses, order, conflict, bounds)?;
+    analysis.meet(trail, clauses, activity, conflict, bounds)?;
     Ok(analysis)
 }
 
@@ -46,7 +46,7 @@ pub fn close(
     alloc: Global,
     trail: &Trail,
     clauses: &Clauses,
-    order: &mut Order,
+    activity: &mut Activity,
     conflict: u32,
 ) -> Result<Lesson, AllocError>
     requires lawful { IsTrail trail.now }
@@ -54,8 +54,8 @@ pub fn close(
     requires reasoned { AreReasoned trail.now clauses.now }
     requires conflict { Refutes clauses.now trail.now.literals conflict }
     requires levels { trail.now.starts ≡ [] }
-    requires order { order.old ≡ trail.now.variables }
-    ensures order { order.new ≡ order.old }
+    requires activity { activity.old ≡ trail.now.variables }
+    ensures activity { activity.new ≡ activity.old }
     ensures lesson { IfOk result (IsLesson trail.now clauses.now) }
 {
     let len = trail.len();
@@ -63,8 +63,8 @@ pub fn close(
         root: len,
         base: len,
     };
-    let mut analysis = start(alloc, trail, clauses, order, conflict, bounds)?;
-    analysis.clear_root(trail, clauses, order, bounds)?;
+    let mut analysis = start(alloc, trail, clauses, activity, conflict, bounds)?;
+    analysis.clear_root(trail, clauses, activity, bounds)?;
     let Analysis { mut hints, .. } = analysis;
     hints.reverse();
     Ok(Lesson {
@@ -80,7 +80,7 @@ pub fn analyze(
     alloc: Global,
     trail: &Trail,
     clauses: &Clauses,
-    order: &mut Order,
+    activity: &mut Activity,
     conflict: u32,
 ) -> Result<Lesson, AllocError>
     requires lawful { IsTrail trail.now }
@@ -88,17 +88,17 @@ pub fn analyze(
     requires reasoned { AreReasoned trail.now clauses.now }
     requires conflict { IsConflict trail.now clauses.now conflict }
     requires levels { 0 < length trail.now.starts }
-    requires order { order.old ≡ trail.now.variables }
-    ensures order { order.new ≡ order.old }
+    requires activity { activity.old ≡ trail.now.variables }
+    ensures activity { activity.new ≡ activity.old }
     ensures lesson { IfOk result (IsLesson trail.now clauses.now) }
 {
     let bounds = Bounds {
         root: trail.start(0),
         base: trail.start(trail.levels() - 1),
     };
-    let mut analysis = start(alloc, trail, clauses, order, conflict, bounds)?;
-    let uip = analysis.uip(trail, clauses, order, bounds)?;
-    analysis.clear_root(trail, clauses, order, bounds)?;
+    let mut analysis = start(alloc, trail, clauses, activity, conflict, bounds)?;
+    let uip = analysis.uip(trail, clauses, activity, bounds)?;
+    analysis.clear_root(trail, clauses, activity, bounds)?;
     let asserted = opposite(trail.literal(uip));
     let Analysis {
         mut literals,

@@ -7,7 +7,9 @@ use Rattle.std.proofs.lemmas.List.Elements.{All-head, All-tail}
 use Rattle.std.proofs.lemmas.Option.{slice_get_past, slice_get_within, none-some}
 use Rattle.cdcl_clauses.specs.Clauses.{Clause, at, no_clause}
 use Rattle.cdcl_lines.specs.Literals.{clause_of}
-use Rattle.cdcl_lines.specs.Keeping.{as_kept, kept_clause, dropped, KeepsAll, KeepsOneMore, KeepsOn}
+use Rattle.cdcl_lines.specs.Keeping.{as_kept, KeepsAll, KeepsOneMore, KeepsOn}
+use Rattle.cdcl_clauses.specs.Clauses.{dropped}
+use Rattle.cdcl_clauses.specs.Clauses.{kept_clause}
 use Rattle.cdcl_lines.proofs.Representing.{at-more, as_kept-same}
 use Rattle.cdcl_lines.proofs.Members.{slice_get-left, slice_get-last}
 

@@ -51,9 +51,9 @@ use Rattle.refute_check.specs.Refutations.{Checking, start, after}
 use Rattle.refute_check.specs.declared.line.Line.{Line}
 use Rattle.cdcl_trail.specs.Literals.{opposite_of}
 use Rattle.cdcl_trail.specs.Trail.{Trail, IsTrail}
-use Rattle.cdcl_trail.proofs.Opposites.{opposite_of-half, opposite_of-apart}
+use Rattle.cdcl_trail.proofs.Opposites.{not-both}
 use Rattle.cdcl_clauses.specs.Clauses.{Clause, at, watches}
-use Rattle.cdcl_clauses.specs.Invariants.{HasTrue, IsClause, IsSound, AreRooted}
+use Rattle.cdcl_clauses.specs.Invariants.{HasTrue, IsClause, AreConsistent, AreRooted}
 use Rattle.cdcl_clauses.specs.declared.watches.Watch.{Watch}
 use Rattle.cdcl_propagate.proofs.Guarding.{contains-take}
 use Rattle.cdcl_lines.specs.Literals.{literal_of, clause_of}
@@ -74,6 +74,7 @@ use Rattle.cdcl_lines.proofs.Members.{
 }
 use Rattle.cdcl_lines.proofs.Numbers.{neg-literal, same-literal}
 use Rattle.cdcl_lines.proofs.Representing.{kept-within}
+use Rattle.cdcl_propagate.proofs.Links.{watches-first, watches-second}
 
 -- a set of literals that units don't leave, and in which no kept clause has all its literals false
 pub record IsClosed (kept : KeptClauses) (set : ℤ → Type 0) : Type 0 where
@@ -117,13 +118,6 @@ filter-contains p (x ∷ xs) z h =
     ]
 
 -- a literal of a lawful trail isn't false
-pub not-both : (t : Trail) → IsTrail t → (l : ℕ) → Contains t.literals l → Contains t.literals (opposite_of l) → ⊥
-not-both t u l (i, h, e) (j, k, f) =
-    let a : get_or t.literals i 0 ≡ l = get_or_default t.literals i 0 l h ∙ e in
-    let b : get_or t.literals j 0 ≡ opposite_of l = get_or_default t.literals j 0 (opposite_of l) k ∙ f in
-    let s : i ≡ j = u.apart i j h k (ap (λ (n : ℕ). n / 2) a ∙ sym (opposite_of-half l) ∙ sym (ap (λ (n : ℕ). n / 2) b)) in
-    opposite_of-apart l (sym b ∙ ap (λ (n : ℕ). get_or t.literals n 0) (sym s) ∙ a)
-
 pub trail-within : (t : Trail) → IsTrail t → (l : ℕ) → Contains t.literals l → l < 2 * t.variables
 trail-within t u l (k, h, e) = omega (arith, u.within k h, get_or_default t.literals k 0 l h, e)
 
@@ -132,21 +126,13 @@ abbrev OnTrail : Trail → ℤ → Type 0
 OnTrail t z = Contains (map literal_of t.literals) z
 
 -- a kept clause that watches a false literal has a true one
-pub watched-true : (t : Trail) (cs : List Clause) (ws : List (List Watch)) → IsSound t cs ws → t.propagated ≡ length t.literals → (k l : ℕ) → k < length cs
+pub watched-true : (t : Trail) (cs : List Clause) (ws : List (List Watch)) → AreConsistent t cs ws → t.propagated ≡ length t.literals → (k l : ℕ) → k < length cs
     → watches (at cs k) l ≡ true → Contains t.literals (opposite_of l) → HasTrue t.literals (at cs k)
 watched-true t cs ws s p k l kl w f =
     s.guarded.last k kl l w (subst (λ (xs : List ℕ). Contains xs (opposite_of l)) (sym (take_all t.propagated t.literals (omega (arith, p)))) f)
 
-pub first-watched : (c : Clause) → c.kept ≡ true → watches c c.first ≡ true
-first-watched c h = and_from c.kept (eqb c.first c.first || eqb c.second c.first) h
-    (or_left (eqb c.first c.first) (eqb c.second c.first) (eq-eqb c.first c.first refl))
-
-pub second-watched : (c : Clause) → c.kept ≡ true → watches c c.second ≡ true
-second-watched c h = and_from c.kept (eqb c.first c.second || eqb c.second c.second) h
-    (or_right (eqb c.first c.second) (eqb c.second c.second) (eq-eqb c.second c.second refl))
-
 -- where all literals of a kept clause but one are false, it has a true one
-unit-true : (t : Trail) (cs : List Clause) (ws : List (List Watch)) → IsSound t cs ws → AreRooted t cs → t.propagated ≡ length t.literals → (k l : ℕ)
+unit-true : (t : Trail) (cs : List Clause) (ws : List (List Watch)) → AreConsistent t cs ws → AreRooted t cs → t.propagated ≡ length t.literals → (k l : ℕ)
     → (at cs k).kept ≡ true → ((x : ℕ) → Contains (at cs k).literals x → x ≢ l → Contains t.literals (opposite_of x)) → HasTrue t.literals (at cs k)
 unit-true t cs ws s r p k l h o =
     let c : Clause = at cs k in
@@ -160,9 +146,9 @@ unit-true t cs ws s r p k l h o =
           is_true =
               contains-take t.literals (get_or t.starts 0 (length t.literals)) c.first (r k kl h f);
         }
-        | inr f ↦ watched-true t cs ws s p k c.second kl (second-watched c h) (o c.second i.second_in (λ g. f (e ∙ sym g)))
+        | inr f ↦ watched-true t cs ws s p k c.second kl (watches-second c h) (o c.second i.second_in (λ g. f (e ∙ sym g)))
       ]
-      | inr e ↦ watched-true t cs ws s p k c.first kl (first-watched c h) (o c.first i.first_in e)
+      | inr e ↦ watched-true t cs ws s p k c.first kl (watches-first c h) (o c.first i.first_in e)
     ]
 
 -- a clause under a number of the checker is one of the search
@@ -186,7 +172,7 @@ from-trail t x h =
     let s = contains-from_map literal_of t.literals (neg_ℤ (literal_of x)) h in
     subst (λ (y : ℕ). Contains t.literals y) (same-literal s.0 (opposite_of x) (s.2 ∙ neg-literal x)) s.1
 
-trail-closed : (t : Trail) (cs : List Clause) (ws : List (List Watch)) (s : Checking) → IsSound t cs ws → AreRooted t cs → Represents cs s
+trail-closed : (t : Trail) (cs : List Clause) (ws : List (List Watch)) (s : Checking) → AreConsistent t cs ws → AreRooted t cs → Represents cs s
     → t.propagated ≡ length t.literals → IsClosed s.kept (OnTrail t)
 trail-closed t cs ws s w r p q = record {
   units = λ n c h z m o.
@@ -205,7 +191,7 @@ trail-closed t cs ws s w r p q = record {
       let all : (x : ℕ) → Contains (at cs d.index).literals x → Contains t.literals (opposite_of x) = λ x k.
       from-trail t x (o (literal_of x) (subst (λ (xs : List ℤ). Contains xs (literal_of x)) d.same (contains-map literal_of (at cs d.index).literals x k))) in
       let i = w.linked.clauses d.index (kept-within cs d.index d.kept) d.kept in
-      let v = watched-true t cs ws w q d.index (at cs d.index).first (kept-within cs d.index d.kept) (first-watched (at cs d.index) d.kept)
+      let v = watched-true t cs ws w q d.index (at cs d.index).first (kept-within cs d.index d.kept) (watches-first (at cs d.index) d.kept)
       (all (at cs d.index).first i.first_in) in
       not-both t w.lawful v.literal v.is_true (all v.literal v.in_clause);
 }

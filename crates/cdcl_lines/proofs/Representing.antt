@@ -46,23 +46,14 @@ use Rattle.cdcl_clauses.specs.Invariants.{AreSame}
 use Rattle.cdcl_learn.specs.Shown.{Shows}
 use Rattle.cdcl_lines.specs.Literals.{clause_of, numbers_of, Rise}
 use Rattle.cdcl_lines.specs.Lines.{added, deleted}
-use Rattle.cdcl_lines.specs.Keeping.{
-  as_kept,
-  Represents,
-  kept_clause,
-  Passes,
-  OpeningIsRepresented,
-  KeepIsRepresented,
-  SameAreRepresented,
-  ShownPasses,
-  dropped,
-  CanDrop,
-  DropPasses,
-}
+use Rattle.cdcl_lines.specs.Keeping.{as_kept, Represents, Passes, OpeningIsRepresented, KeepIsRepresented, SameAreRepresented, ShownPasses, CanDrop, DropPasses}
+use Rattle.cdcl_clauses.specs.Clauses.{dropped}
+use Rattle.cdcl_clauses.specs.Clauses.{kept_clause}
 use Rattle.cdcl_lines.proofs.Members.{contains-there, all-pairs-tail, all-pairs-head, all-from_contains}
 use Rattle.cdcl_lines.proofs.Numbers.{within-there}
 use Rattle.cdcl_lines.proofs.Maps.{get-new, get-old, get-gone, get-left}
 use Rattle.cdcl_lines.proofs.Showing.{leads-pass, opposites}
+use Rattle.cdcl_propagate.proofs.Links.{at-set}
 
 pub opening-represented : OpeningIsRepresented
 opening-represented vars = record {
@@ -146,11 +137,7 @@ shown-passes cs s literals hints r w rise h = (
 -- the clause at a place, once one is dropped
 pub at-dropped : (cs : List Clause) (k j : ℕ) → k < length cs → ((j ≡ k) × (at (dropped cs k) j ≡ record (at cs k) { kept = false }))
     ⊎ ((j ≢ k) × (at (dropped cs k) j ≡ at cs j))
-at-dropped cs k j h =
-    elim (cases_eq j k) [
-      | inl e ↦ inl (e, ap (λ (i : ℕ). at (dropped cs k) i) e ∙ get_or-set_same cs k (record (at cs k) { kept = false }) no_clause h)
-      | inr e ↦ inr (e, get_or-set_other cs k j (record (at cs k) { kept = false }) no_clause e)
-    ]
+at-dropped cs k j h = at-set cs k j (record (at cs k) { kept = false }) h
 
 -- a clause that is kept is there
 pub kept-within : (cs : List Clause) (k : ℕ) → (at cs k).kept ≡ true → k < length cs
@@ -176,7 +163,7 @@ drop-represented cs s k r h = record {
   ];
 }
 
-can_drop-tail : (cs : List Clause) (k : ℕ) (ks : List ℕ) → CanDrop cs (k ∷ ks) → CanDrop (dropped cs k) ks
+pub can_drop-tail : (cs : List Clause) (k : ℕ) (ks : List ℕ) → CanDrop cs (k ∷ ks) → CanDrop (dropped cs k) ks
 can_drop-tail cs k ks c =
     let kept : (at cs k).kept ≡ true = All-head (λ j. (at cs j).kept ≡ true) k ks c.kept in
     record {

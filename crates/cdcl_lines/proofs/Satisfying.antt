@@ -13,7 +13,8 @@ use Rattle.cdcl_lines.specs.Literals.{literal_of}
 use Rattle.cdcl_lines.specs.Keeping.{as_kept}
 use Rattle.cdcl_lines.specs.Models.{FullSatisfies}
 use Rattle.cdcl_lines.proofs.Members.{contains-here, contains-there, contains-cases, contains-none, contains-map}
-use Rattle.cdcl_lines.proofs.Freshness.{watched-true, first-watched, some-kept}
+use Rattle.cdcl_lines.proofs.Freshness.{watched-true, some-kept}
+use Rattle.cdcl_propagate.proofs.Links.{watches-first}
 use Rattle.cdcl_lines.proofs.Representing.{kept-within}
 
 clause-true : (v : Valuation) (c : List ℤ) (z : ℤ) → Contains c z → literal_true v z ≡ true → clause_true v c ≡ true
@@ -72,7 +73,7 @@ full-satisfies t cs ws clauses values s full p keeps agrees =
     elim (there-or-not t.literals x) [
       | inl m ↦ finish x i.first_in m
       | inr m ↦ elim (there-or-not t.literals (opposite_of x)) [
-        | inl f ↦ (let v = watched-true t cs ws s p d.index x kl (first-watched (at cs d.index) d.kept) f in finish v.literal v.in_clause v.is_true)
+        | inl f ↦ (let v = watched-true t cs ws s p d.index x kl (watches-first (at cs d.index) d.kept) f in finish v.literal v.in_clause v.is_true)
         | inr f ↦
             let b : x < 2 * t.variables = All-contains (λ l. l < 2 * t.variables) (at cs d.index).literals x i.within i.first_in in
             absurd (full (x / 2) (omega arith) (even-open t x (record { not_true = m; not_false = f })))

@@ -38,7 +38,8 @@ use Rattle.cdcl_trail.specs.declared.trail.Value.TheVariants.{Open, True, False}
 use Rattle.cdcl_trail.proofs.Opposites.{opposite_of-cases}
 use Rattle.cdcl_lines.specs.Models.{Agrees}
 use Rattle.cdcl_lines.proofs.Numbers.{even-literal, odd-literal}
-use Rattle.cdcl_lines.proofs.Freshness.{not-both, trail-within}
+use Rattle.cdcl_lines.proofs.Freshness.{trail-within}
+use Rattle.cdcl_trail.proofs.Opposites.{not-both}
 
 -- the value of a variable is that on the trail
 pub record IsValue (t : Trail) (v : ℕ) (b : Bool) : Type 0 where

@@ -9,7 +9,7 @@ use Rattle.refute_check.specs.declared.line.Line.{Line}
 use Rattle.refute_check.specs.declared.line.Line.TheVariants.{Add, Delete}
 use Rattle.cdcl_trail.specs.Trail.{Trail}
 use Rattle.cdcl_clauses.specs.Clauses.{Clause}
-use Rattle.cdcl_clauses.specs.Invariants.{IsSound, AreRooted}
+use Rattle.cdcl_clauses.specs.Invariants.{AreConsistent, AreRooted}
 use Rattle.cdcl_clauses.specs.declared.watches.Watch.{Watch}
 use Rattle.cdcl_steps.specs.Attached.{CanAssert}
 use Rattle.cdcl_lines.specs.Literals.{clause_of}
@@ -67,7 +67,7 @@ FreshGoesOn =
 -- a clause that is to be asserted is fresh
 abbrev pub AssertedIsFresh : Type 0
 AssertedIsFresh =
-    (t : Trail) (cs : List Clause) (ws : List (List Watch)) (s : Checking) (literals : List ℕ) (asserted beside : ℕ) → IsSound t cs ws → AreRooted t cs
+    (t : Trail) (cs : List Clause) (ws : List (List Watch)) (s : Checking) (literals : List ℕ) (asserted beside : ℕ) → AreConsistent t cs ws → AreRooted t cs
     → Represents cs s → CanAssert t literals asserted beside → IsFresh s.kept (clause_of literals)
 
 -- no kept clause has all its literals in a fresh one

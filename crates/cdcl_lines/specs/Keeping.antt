@@ -30,7 +30,7 @@ use Rattle.std.specs.Prelude.{
 use Rattle.std.specs.FinMap.{get}
 use Rattle.refute_check.specs.Refutations.{Checking, keep, opening, after, passed, line_fault}
 use Rattle.refute_check.specs.declared.line.Line.{Line}
-use Rattle.cdcl_clauses.specs.Clauses.{Clause, at}
+use Rattle.cdcl_clauses.specs.Clauses.{Clause, at, kept_clause, dropped}
 use Rattle.cdcl_clauses.specs.Invariants.{AreSame}
 use Rattle.cdcl_learn.specs.Shown.{Shows}
 use Rattle.cdcl_lines.specs.Literals.{clause_of, Rise}
@@ -47,10 +47,6 @@ pub record Represents (cs : List Clause) (s : Checking) : Type 0 where
   pub next : s.next ≡ suc (length cs)
   pub fault : s.fault ≡ None
   pub rise : (k : ℕ) → (at cs k).kept ≡ true → Rise (at cs k).literals
-
--- a clause that is kept, and what it watches
-abbrev pub kept_clause : List ℕ → ℕ → ℕ → Clause
-kept_clause literals first second = record { literals = literals; first = first; second = second; kept = true }
 
 -- the line has no fault there
 pub record Passes (s : Checking) (l : Line) : Type 0 where
@@ -86,10 +82,6 @@ HintsAreThere = (cs : List Clause) (literals hints : List ℕ) → Shows cs lite
 -- a line that adds an empty clause closes
 abbrev pub EmptyCloses : Type 0
 EmptyCloses = (s : Checking) (hints : List ℕ) → (passed s (added [] hints)).closed ≡ true
-
--- the clause of an index isn't kept any more
-abbrev pub dropped : List Clause → ℕ → List Clause
-dropped cs k = slice_set cs k (record (at cs k) { kept = false })
 
 -- these clauses are kept, and none is named twice
 pub record CanDrop (cs : List Clause) (ks : List ℕ) : Type 0 where

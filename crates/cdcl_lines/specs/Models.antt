@@ -3,7 +3,7 @@ use Rattle.std.specs.Prelude.{◌≡◌, ℕ, Bool, true, List, length, Contains
 use Rattle.cnf_core.specs.Clauses.{literal_true, value_in, satisfies}
 use Rattle.cdcl_trail.specs.Trail.{Trail}
 use Rattle.cdcl_clauses.specs.Clauses.{Clause}
-use Rattle.cdcl_clauses.specs.Invariants.{IsSound}
+use Rattle.cdcl_clauses.specs.Invariants.{AreConsistent}
 use Rattle.cdcl_clauses.specs.declared.watches.Watch.{Watch}
 use Rattle.cdcl_steps.specs.Descents.{IsFull}
 use Rattle.cdcl_lines.specs.Literals.{literal_of}
@@ -17,5 +17,5 @@ pub record Agrees (t : Trail) (values : List Bool) : Type 0 where
 -- where no variable is open and all is propagated without conflict, the clauses are satisfied
 abbrev pub FullSatisfies : Type 0
 FullSatisfies =
-    (t : Trail) (cs : List Clause) (ws : List (List Watch)) (clauses : List (List ℤ)) (values : List Bool) → IsSound t cs ws → IsFull t
+    (t : Trail) (cs : List Clause) (ws : List (List Watch)) (clauses : List (List ℤ)) (values : List Bool) → AreConsistent t cs ws → IsFull t
     → t.propagated ≡ length t.literals → KeepsAll clauses cs → Agrees t values → IsTrue (satisfies (value_in values) clauses)

@@ -1,6 +1,6 @@
 //! Lines about a search's clauses.
 ghost use Rattle.std.specs.Prelude.{◌≡◌, ◌≢◌, ◌+◌, ◌*◌, ◌-◌, ◌^◌, ◌<◌, [], All, IfOk, IsTrue};
-ghost use Rattle.cnf_core.specs.Clauses.{limit};
+ghost use Rattle.cnf_core.specs.declared.cnf.TheConstants.{LIMIT};
 ghost use Rattle.refute_check.specs.Refutations.{is_line};
 ghost use Rattle.cdcl_lines.specs.Literals.{clause_of, numbers_of, Rise};
 ghost use Rattle.cdcl_lines.specs.Lines.{added, deleted};
@@ -13,7 +13,7 @@ use std::alloc::{AllocError, Global};
 /// The line that adds a clause, shown by the clauses of these indexes in order.
 pub fn add_line(alloc: Global, literals: &[u32], hints: &[u32]) -> Result<Line, AllocError>
     requires rise { Rise literals.now }
-    requires within { All (λ l. l < 2 * limit) literals.now }
+    requires within { All (λ l. l < 2 * LIMIT) literals.now }
     requires hints { All (λ h. h + 1 < 2 ^ 32) hints.now }
     ensures line { IfOk result (λ line. line ≡ added literals.now hints.now) }
     ensures lawful { IfOk result (λ line. IsTrue (is_line line)) }
@@ -35,7 +35,7 @@ pub fn delete_line(alloc: Global, clauses: &[u32]) -> Result<Line, AllocError>
 
 /// The literals of numbers.
 fn lits(alloc: Global, literals: &[u32]) -> Result<Vec<Lit>, AllocError>
-    requires { All (λ l. l < 2 * limit) literals.now }
+    requires { All (λ l. l < 2 * LIMIT) literals.now }
     ensures { IfOk result (λ lits. lits.items ≡ clause_of literals.now) }
 {
     let mut lits = Vec::with_capacity(alloc, literals.len())?;

@@ -109,19 +109,15 @@ reason-same cs ds e xs l k r =
       others = λ x h n. r.others x (subst (λ (ls : List ℕ). Contains ls x) (e.literals k) h) n;
     }
 
-match-same : (P : Type 0) (Q R : ℕ → Type 0) (o : Option ℕ) → ((k : ℕ) → Q k → R k) → MatchOption o P Q → MatchOption o P R
-match-same P Q R None f h = h
-match-same P Q R (Some k) f h = f k h
+pub match-map : (P P' : Type 0) (Q Q' : ℕ → Type 0) (o : Option ℕ) → (P → P') → ((k : ℕ) → Q k → Q' k) → MatchOption o P Q → MatchOption o P' Q'
+match-map P P' Q Q' None f g h = f h
+match-map P P' Q Q' (Some k) f g h = g k h
 
 pub reasoned-same : (t : Trail) (cs ds : List Clause) → AreSame cs ds → AreReasoned t cs → AreReasoned t ds
 reasoned-same t cs ds e s p h =
-    match-same (BeginsAt t p) (IsReason cs (take p t.literals) (get_or t.literals p 0)) (IsReason ds (take p t.literals) (get_or t.literals p 0))
-    (get_or t.reasons p None)
+    match-map (BeginsAt t p) (BeginsAt t p) (IsReason cs (take p t.literals) (get_or t.literals p 0)) (IsReason ds (take p t.literals) (get_or t.literals p 0))
+    (get_or t.reasons p None) (λ b. b)
     (λ k r. reason-same cs ds e (take p t.literals) (get_or t.literals p 0) k r) (s p h)
-
-match-begins : (P P' : Type 0) (Q Q' : ℕ → Type 0) (o : Option ℕ) → (P → P') → ((k : ℕ) → Q k → Q' k) → MatchOption o P Q → MatchOption o P' Q'
-match-begins P P' Q Q' None f g h = f h
-match-begins P P' Q Q' (Some k) f g h = g k h
 
 -- one more literal, by a reason
 pub reasoned-pushed : (t : Trail) (cs : List Clause) → IsTrail t → AreReasoned t cs → (l k : ℕ) → IsReason cs t.literals l k
@@ -136,7 +132,7 @@ reasoned-pushed t cs u s l k r p h =
           let e2 : get_or (t.literals ++ l ∷ []) p 0 ≡ get_or t.literals p 0 = get_or_append_left t.literals (l ∷ []) 0 p f in
           subst (λ (o : Option ℕ). MatchOption o (BeginsAt (pushed t l (Some k)) p)
           (IsReason cs (take p (t.literals ++ l ∷ [])) (get_or (t.literals ++ l ∷ []) p 0))) (sym e0)
-          (match-begins (BeginsAt t p) (BeginsAt (pushed t l (Some k)) p) (IsReason cs (take p t.literals) (get_or t.literals p 0))
+          (match-map (BeginsAt t p) (BeginsAt (pushed t l (Some k)) p) (IsReason cs (take p t.literals) (get_or t.literals p 0))
           (IsReason cs (take p (t.literals ++ l ∷ [])) (get_or (t.literals ++ l ∷ []) p 0)) (get_or t.reasons p None)
           (λ b. record { level = b.level; within = b.within; there = b.there })
           (λ k r. subst (λ (xs : List ℕ). IsReason cs xs (get_or (t.literals ++ l ∷ []) p 0) k) (sym e1)
@@ -198,6 +194,6 @@ extends-advanced t u e = record { variables = e.variables; starts = e.starts; li
 
 pub reasoned-advanced : (t : Trail) (cs : List Clause) → AreReasoned t cs → AreReasoned (record t { propagated = t.propagated + 1 }) cs
 reasoned-advanced t cs s p h =
-    match-begins (BeginsAt t p) (BeginsAt (record t { propagated = t.propagated + 1 }) p) (IsReason cs (take p t.literals) (get_or t.literals p 0))
+    match-map (BeginsAt t p) (BeginsAt (record t { propagated = t.propagated + 1 }) p) (IsReason cs (take p t.literals) (get_or t.literals p 0))
     (IsReason cs (take p t.literals) (get_or t.literals p 0)) (get_or t.reasons p None)
     (λ b. record { level = b.level; within = b.within; there = b.there }) (λ k r. r) (s p h)

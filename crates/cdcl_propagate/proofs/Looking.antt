@@ -4,7 +4,7 @@ use Rattle.std.specs.Prelude.{Contains}
 use Rattle.std.proofs.lemmas.Bool.{cases_eq}
 use Rattle.cdcl_trail.specs.Literals.{opposite_of}
 use Rattle.cdcl_trail.specs.Trail.{Trail}
-use Rattle.cdcl_propagate.specs.Looks.{AllFalseBut}
+use Rattle.cdcl_propagate.specs.helpers.Looks.{AllFalseBut}
 
 -- all are false, where all but one are and that one is
 pub all_false : (t : Trail) (ls : List ℕ) (other : ℕ) → AllFalseBut t ls other → Contains t.literals (opposite_of other) → (x : ℕ) → Contains ls x

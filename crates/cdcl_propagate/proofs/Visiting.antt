@@ -41,11 +41,12 @@ use Rattle.std.proofs.lemmas.Bool.Decides.{nat_tests}
 use Rattle.std.proofs.lemmas.List.{get_or_default, get_or_read}
 use Rattle.std.proofs.lemmas.List.Elements.{Contains-push, All-contains}
 use Rattle.cdcl_trail.specs.Literals.{opposite_of}
+use Rattle.cdcl_trail.proofs.Opposites.{opposite_of-opposite_of, opposite_of-within}
 use Rattle.cdcl_trail.specs.Trail.{Trail, IsTrail, pushed}
 use Rattle.cdcl_clauses.specs.Clauses.{Clause, at, no_clause, watches, beside, listed, without_place}
-use Rattle.cdcl_clauses.specs.Invariants.{IsSound, IsClause, IsWatch, IsListed, IsConflict, HasTrue, AreLinked, AreSame, Extends}
+use Rattle.cdcl_clauses.specs.Invariants.{AreConsistent, IsClause, IsWatch, IsListed, IsConflict, HasTrue, AreLinked, AreSame, Extends}
 use Rattle.cdcl_clauses.specs.declared.watches.Watch.{Watch}
-use Rattle.cdcl_propagate.specs.Looks.{IsVisited, IsVisitedBelow, Watching, AllFalseBut, IsFound}
+use Rattle.cdcl_propagate.specs.helpers.Looks.{IsVisited, IsVisitedBelow, Watching, AllFalseBut, IsFound}
 use Rattle.cdcl_propagate.proofs.Links.{
   at-set,
   linked-push,
@@ -59,12 +60,6 @@ use Rattle.cdcl_propagate.proofs.Links.{
   rewatched,
 }
 use Rattle.cdcl_propagate.proofs.Guarding.{has_true-push, guarded-rewatched, guarded-pushed, reasoned-same, reasoned-pushed, same-rewatched}
-
-pub opposite_of-opposite_of : (l : ℕ) → opposite_of (opposite_of l) ≡ l
-opposite_of-opposite_of l = grind (arith, nat_tests)
-
-within : (l v f n : ℕ) → l < 2 * v → f ≡ opposite_of l → n ≡ 2 * v → f < n
-within l v f n h e g = grind (arith, nat_tests)
 
 -- the entry at a place
 pub entry-at : (us : List Watch) (p : ℕ) (w d : Watch) → p < length us → w ≡ get_or us p w → get_or us p d ≡ w
@@ -155,7 +150,7 @@ beside-in v c i f = elim (beside-cases c f) [
   | inr e ↦ subst (λ (x : ℕ). Contains c.literals x) (sym e.1) i.first_in
 ]
 
-contains-one : (x y : ℕ) → Contains (x ∷ []) y → y ≡ x
+pub contains-one : (x y : ℕ) → Contains (x ∷ []) y → y ≡ x
 contains-one x y (zero, h, e) = sym e
 contains-one x y (suc k, h, e) = absurd (omega arith)
 
@@ -175,8 +170,8 @@ beside-watched c f h = elim (beside-cases c f) [ inl e ↦ ap (watches c) e.1 �
 pub watches-neither : (c : Clause) (f : ℕ) → c.first ≢ f → c.second ≢ f → watches c f ≡ false
 watches-neither c f h g = grind (arith, nat_tests)
 
-pub sound-removed : (t : Trail) (cs : List Clause) (ws : List (List Watch)) → IsSound t cs ws → (f p : ℕ) (w : Watch) → f < length ws
-    → p < length (listed ws f) → w ≡ get_or (listed ws f) p w → watches (at cs w.clause) f ≡ false → IsSound t cs (set ws f (without_place (listed ws f) p))
+pub sound-removed : (t : Trail) (cs : List Clause) (ws : List (List Watch)) → AreConsistent t cs ws → (f p : ℕ) (w : Watch) → f < length ws
+    → p < length (listed ws f) → w ≡ get_or (listed ws f) p w → watches (at cs w.clause) f ≡ false → AreConsistent t cs (set ws f (without_place (listed ws f) p))
 sound-removed t cs ws s f p w h pl r gone = record {
   lawful = s.lawful;
   linked = linked-remove t.variables cs ws s.linked f p w h pl r gone;
@@ -185,8 +180,8 @@ sound-removed t cs ws s f p w h pl r gone = record {
   reasoned = s.reasoned;
 }
 
-pub sound-forced : (t : Trail) (cs : List Clause) (ws : List (List Watch)) → IsSound t cs ws → (f k other : ℕ) → k < length cs → Watching cs f k other
-    → AllFalseBut t (at cs k).literals other → IsTrail (pushed t other (Some k)) → IsSound (pushed t other (Some k)) cs ws
+pub sound-forced : (t : Trail) (cs : List Clause) (ws : List (List Watch)) → AreConsistent t cs ws → (f k other : ℕ) → k < length cs → Watching cs f k other
+    → AllFalseBut t (at cs k).literals other → IsTrail (pushed t other (Some k)) → AreConsistent (pushed t other (Some k)) cs ws
 sound-forced t cs ws s f k other h w o u =
     let kept : (at cs k).kept ≡ true = (watches-cases (at cs k) f w.watching).0 in
     let i : IsClause t.variables (at cs k) = s.linked.clauses k h kept in
@@ -199,7 +194,7 @@ sound-forced t cs ws s f k other h w o u =
     }
 
 -- the clause that was a unit has a true literal then
-pub has_true-forced : (t : Trail) (cs : List Clause) (ws : List (List Watch)) → IsSound t cs ws → (f k other : ℕ) → k < length cs
+pub has_true-forced : (t : Trail) (cs : List Clause) (ws : List (List Watch)) → AreConsistent t cs ws → (f k other : ℕ) → k < length cs
     → Watching cs f k other → HasTrue (t.literals ++ other ∷ []) (at cs k)
 has_true-forced t cs ws s f k other h w =
     let kept : (at cs k).kept ≡ true = (watches-cases (at cs k) f w.watching).0 in
@@ -210,9 +205,9 @@ has_true-forced t cs ws s f k other h w =
       is_true = Contains-push t.literals other;
     }
 
-pub sound-moved : (t : Trail) (cs : List Clause) (ws : List (List Watch)) → IsSound t cs ws → (f k other next : ℕ) → k < length cs → next < length ws
+pub sound-moved : (t : Trail) (cs : List Clause) (ws : List (List Watch)) → AreConsistent t cs ws → (f k other next : ℕ) → k < length cs → next < length ws
     → Watching cs f k other → IsFound t (at cs k).literals other next
-    → IsSound t (rewatched cs k other next) (set ws next (listed ws next ++ record { clause = k; blocker = other } ∷ []))
+    → AreConsistent t (rewatched cs k other next) (set ws next (listed ws next ++ record { clause = k; blocker = other } ∷ []))
 sound-moved t cs ws s f k other next h nl w n =
     let kept : (at cs k).kept ≡ true = (watches-cases (at cs k) f w.watching).0 in
     let i : IsClause t.variables (at cs k) = s.linked.clauses k h kept in
@@ -237,7 +232,7 @@ sound-moved t cs ws s f k other next h nl w n =
     }
 
 -- the literal that has become false is watched no more
-pub moved-gone : (t : Trail) (cs : List Clause) (ws : List (List Watch)) → IsSound t cs ws → (f k other next : ℕ) → k < length cs
+pub moved-gone : (t : Trail) (cs : List Clause) (ws : List (List Watch)) → AreConsistent t cs ws → (f k other next : ℕ) → k < length cs
     → Watching cs f k other → IsFound t (at cs k).literals other next → next ≢ f → watches (at (rewatched cs k other next) k) f ≡ false
 moved-gone t cs ws s f k other next h w n nf =
     let kept : (at cs k).kept ≡ true = (watches-cases (at cs k) f w.watching).0 in
@@ -257,7 +252,7 @@ found-apart t f next h e n g =
           ∙ sym (ap opposite_of (g ∙ e) ∙ opposite_of-opposite_of (get_or t.literals t.propagated 0)),
     )
 
-pub conflict-found : (t : Trail) (cs : List Clause) (ws : List (List Watch)) → IsSound t cs ws → (f k : ℕ) → k < length cs
+pub conflict-found : (t : Trail) (cs : List Clause) (ws : List (List Watch)) → AreConsistent t cs ws → (f k : ℕ) → k < length cs
     → watches (at cs k) f ≡ true → ((x : ℕ) → Contains (at cs k).literals x → Contains t.literals (opposite_of x)) → t.propagated < length t.literals
     → f ≡ opposite_of (get_or t.literals t.propagated 0) → IsConflict t cs k
 conflict-found t cs ws s f k h w a p e =
@@ -272,13 +267,14 @@ conflict-found t cs ws s f k h w a p e =
           (watched-in t.variables (at cs k) i f w);
     }
 
-pub fallen-within : (t : Trail) (cs : List Clause) (ws : List (List Watch)) → IsSound t cs ws → (f : ℕ) → t.propagated < length t.literals
+pub fallen-within : (t : Trail) (cs : List Clause) (ws : List (List Watch)) → AreConsistent t cs ws → (f : ℕ) → t.propagated < length t.literals
     → f ≡ opposite_of (get_or t.literals t.propagated 0) → f < length ws
-fallen-within t cs ws s f h e = within (get_or t.literals t.propagated 0) t.variables f (length ws) (s.lawful.within t.propagated h) e s.linked.lists
+fallen-within t cs ws s f h e =
+    omega (arith, e, s.linked.lists, opposite_of-within (get_or t.literals t.propagated 0) t.variables (s.lawful.within t.propagated h))
 
 -- what a move leaves, once its watch is taken from the literal that has become false
 pub record Moved (t : Trail) (cs : List Clause) (ws : List (List Watch)) (f place k other next : ℕ) (ds : List Clause) (vs : List (List Watch)) : Type 0 where
-  pub sound : IsSound t ds vs
+  pub sound : AreConsistent t ds vs
   pub same : AreSame cs ds
   pub visited : IsVisitedBelow t ds vs f place
   pub size : length (listed vs f) + 1 ≡ length (listed ws f)
@@ -288,7 +284,7 @@ moved_lists ws f place k other next =
     let vs : List (List Watch) = set ws next (listed ws next ++ record { clause = k; blocker = other } ∷ []) in
     set vs f (without_place (listed vs f) place)
 
-pub moved : (t : Trail) (cs : List Clause) (ws : List (List Watch)) → IsSound t cs ws → (f place : ℕ) (w : Watch) (k other next : ℕ)
+pub moved : (t : Trail) (cs : List Clause) (ws : List (List Watch)) → AreConsistent t cs ws → (f place : ℕ) (w : Watch) (k other next : ℕ)
     → place < length (listed ws f) → w ≡ get_or (listed ws f) place w → k ≡ w.clause → k < length cs → next < length ws → Watching cs f k other
     → IsFound t (at cs k).literals other next → t.propagated < length t.literals → f ≡ opposite_of (get_or t.literals t.propagated 0)
     → IsVisitedBelow t cs ws f place → Moved t cs ws f place k other next (rewatched cs k other next) (moved_lists ws f place k other next)
@@ -317,7 +313,7 @@ entry-clause v cs ws s f place w pl r k e =
     let i : IsWatch v cs w = subst (λ (x : Watch). IsWatch v cs x) (sym r) (s.entries f place w pl) in
     omega (arith, i.clause_there, e)
 
-pub found-within : (t : Trail) (cs : List Clause) (ws : List (List Watch)) → IsSound t cs ws → (f k other next : ℕ) → k < length cs
+pub found-within : (t : Trail) (cs : List Clause) (ws : List (List Watch)) → AreConsistent t cs ws → (f k other next : ℕ) → k < length cs
     → Watching cs f k other → IsFound t (at cs k).literals other next → next < length ws
 found-within t cs ws s f k other next h w n =
     let kept : (at cs k).kept ≡ true = (watches-cases (at cs k) f w.watching).0 in

@@ -2,7 +2,7 @@
 ghost use Rattle.std.specs.Prelude.{◌≡◌, ℕ, ◌*◌, ◌<◌, All, true, MatchOption};
 ghost use Rattle.cdcl_clauses.specs.Clauses.{at};
 ghost use Rattle.cdcl_clauses.specs.Invariants.{IsWatch, IsClause};
-ghost use Rattle.cdcl_propagate.specs.Looks.{Finds, AllFalseBut, IsFound};
+ghost use Rattle.cdcl_propagate.specs.helpers.Looks.{Finds, AllFalseBut, IsFound};
 
 use cdcl_clauses::{Clauses, Watch, Watches};
 use cdcl_trail::{Trail, Value};

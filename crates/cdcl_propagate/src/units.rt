@@ -3,8 +3,9 @@ ghost use Rattle.std.specs.Prelude.{◌≡◌, ℕ, ◌<◌, IfOk, IfSome, IsNon
 ghost use Rattle.cdcl_trail.specs.Literals.{opposite_of};
 ghost use Rattle.cdcl_trail.specs.Trail.{IsOpen};
 ghost use Rattle.cdcl_clauses.specs.Clauses.{at, watches, listed};
-ghost use Rattle.cdcl_clauses.specs.Invariants.{IsSound, IsConflict, AreLinked};
-ghost use Rattle.cdcl_propagate.specs.Looks.{Propagates, IsVisited, Watching, AllFalseBut, IsFound, WasMoved};
+ghost use Rattle.cdcl_clauses.specs.Invariants.{AreConsistent, IsConflict, AreLinked};
+ghost use Rattle.cdcl_propagate.specs.helpers.Looks.{IsVisited, Watching, AllFalseBut, IsFound, WasMoved};
+ghost use Rattle.cdcl_propagate.specs.Propagation.{Propagates};
 
 use crate::inspect::{Look, look_at};
 use cdcl_clauses::{Clauses, Watch, Watches};
@@ -17,7 +18,7 @@ pub fn propagate(
     clauses: &mut Clauses,
     watches: &mut Watches,
 ) -> Result<Option<u32>, AllocError>
-    requires { IsSound trail.old clauses.old watches.old }
+    requires { AreConsistent trail.old clauses.old watches.old }
     ensures keeps { Propagates trail.old clauses.old trail.new clauses.new watches.new }
     ensures none { IfOk result (λ found. IsNone found → trail.new.propagated ≡ length trail.new.literals) }
     ensures conflict { IfOk result (λ found. IfSome found (IsConflict trail.new clauses.new)) }
@@ -38,7 +39,7 @@ fn visit(
     watches: &mut Watches,
     fallen: u32,
 ) -> Result<Option<u32>, AllocError>
-    requires sound { IsSound trail.old clauses.old watches.old }
+    requires sound { AreConsistent trail.old clauses.old watches.old }
     requires pending { trail.old.propagated < length trail.old.literals }
     requires fallen { fallen ≡ opposite_of (slice_index trail.old.literals trail.old.propagated) }
     ensures keeps { Propagates trail.old clauses.old trail.new clauses.new watches.new }

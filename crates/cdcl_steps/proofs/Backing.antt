@@ -5,8 +5,9 @@ use Rattle.std.proofs.lemmas.Bool.{cases_lt, cases_eq}
 use Rattle.std.proofs.lemmas.List.{take-take, length-take}
 use Rattle.cdcl_trail.specs.Trail.{Trail, IsTrail, cut_to}
 use Rattle.cdcl_clauses.specs.Clauses.{Clause, at}
-use Rattle.cdcl_clauses.specs.Invariants.{Guards, AreGuarded, IsReason, BeginsAt, AreReasoned, IsSound}
+use Rattle.cdcl_clauses.specs.Invariants.{Guards, AreGuarded, IsReason, BeginsAt, AreReasoned, AreConsistent}
 use Rattle.cdcl_clauses.specs.declared.watches.Watch.{Watch}
+use Rattle.cdcl_propagate.proofs.Guarding.{match-map}
 
 pub guarded-cut : (t : Trail) (cs : List Clause) → IsTrail t → AreGuarded t cs → (level : ℕ) → level < length t.starts → AreGuarded (cut_to t level) cs
 guarded-cut t cs u s level h =
@@ -21,10 +22,6 @@ guarded-cut t cs u s level h =
           subst (λ (xs : List ℕ). Guards xs xs (at cs k)) (sym f) (s.below k i kl (omega (arith, il', h)));
       last = λ k kl. subst (λ (xs : List ℕ). Guards xs (take n t.literals) (at cs k)) (sym (take-take n n t.literals (omega arith))) (s.below k level kl h);
     }
-
-match-map : (P P' : Type 0) (Q Q' : ℕ → Type 0) (o : Option ℕ) → (P → P') → ((k : ℕ) → Q k → Q' k) → MatchOption o P Q → MatchOption o P' Q'
-match-map P P' Q Q' None f g h = f h
-match-map P P' Q Q' (Some k) f g h = g k h
 
 -- a level that begins before another is still there
 begins : (t : Trail) → IsTrail t → (level p : ℕ) → level < length t.starts → p < get_or t.starts level 0 → BeginsAt t p → BeginsAt (cut_to t level) p
@@ -53,8 +50,8 @@ reasoned-cut t cs u s level h p pl =
     (subst (λ (x : ℕ). IsReason cs (take p t.literals) x k) (sym e2) r))
     (s p pt))
 
-pub sound-cut : (t : Trail) (cs : List Clause) (ws : List (List Watch)) → IsSound t cs ws → (level : ℕ) → level < length t.starts
-    → IsTrail (cut_to t level) → IsSound (cut_to t level) cs ws
+pub sound-cut : (t : Trail) (cs : List Clause) (ws : List (List Watch)) → AreConsistent t cs ws → (level : ℕ) → level < length t.starts
+    → IsTrail (cut_to t level) → AreConsistent (cut_to t level) cs ws
 sound-cut t cs ws s level h u = record {
   lawful = u;
   linked = record { lists = s.linked.lists; clauses = s.linked.clauses; entries = s.linked.entries; watching = s.linked.watching };

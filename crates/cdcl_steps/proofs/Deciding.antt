@@ -36,11 +36,12 @@ use Rattle.std.proofs.lemmas.List.Elements.{Contains-append_left}
 use Rattle.cdcl_trail.specs.Literals.{opposite_of}
 use Rattle.cdcl_trail.specs.Trail.{Trail, IsTrail, IsOpen, decided}
 use Rattle.cdcl_clauses.specs.Clauses.{Clause, at}
-use Rattle.cdcl_clauses.specs.Invariants.{HasTrue, Guards, AreGuarded, IsReason, BeginsAt, AreReasoned, IsSound}
+use Rattle.cdcl_clauses.specs.Invariants.{HasTrue, Guards, AreGuarded, IsReason, BeginsAt, AreReasoned, AreConsistent}
 use Rattle.cdcl_clauses.specs.declared.watches.Watch.{Watch}
-use Rattle.cdcl_propagate.specs.Looks.{Propagates}
+use Rattle.cdcl_propagate.specs.Propagation.{Propagates}
 use Rattle.cdcl_steps.specs.Descents.{Descends}
 use Rattle.cdcl_steps.proofs.Rooting.{root-extends, root-decided, rooted-same}
+use Rattle.cdcl_propagate.proofs.Guarding.{match-map, has_true-push}
 
 open-cases : (l v : ℕ) → l / 2 ≡ v → (l ≡ 2 * v) ⊎ (l ≡ 2 * v + 1)
 open-cases l v e = elim (cases_eq (l % 2) 0) [ inl h ↦ inl (omega (arith, h, e)) | inr h ↦ inr (omega (arith, h, e)) ]
@@ -61,9 +62,6 @@ open-literal t l v e o =
         not_false = λ c. o.not_true (subst (λ (x : ℕ). Contains t.literals x) (opposite-odd v) c);
       })
     ]
-
-has_true-push : (xs : List ℕ) (x : ℕ) (c : Clause) → HasTrue xs c → HasTrue (xs ++ x ∷ []) c
-has_true-push xs x c h = record { literal = h.literal; in_clause = h.in_clause; is_true = Contains-append_left xs (x ∷ []) h.literal h.is_true }
 
 pub guarded-decided : (t : Trail) (cs : List Clause) → IsTrail t → AreGuarded t cs → t.propagated ≡ length t.literals → (l : ℕ) → AreGuarded (decided t l) cs
 guarded-decided t cs u s e l =
@@ -89,10 +87,6 @@ guarded-decided t cs u s e l =
       last = λ k kl x wx fx. has_true-push t.literals l (at cs k)
           (s.last k kl x wx (subst (λ (xs : List ℕ). Contains xs (opposite_of x)) (early t.propagated (omega (arith, e))) fx));
     }
-
-match-map : (P P' : Type 0) (Q Q' : ℕ → Type 0) (o : Option ℕ) → (P → P') → ((k : ℕ) → Q k → Q' k) → MatchOption o P Q → MatchOption o P' Q'
-match-map P P' Q Q' None f g h = f h
-match-map P P' Q Q' (Some k) f g h = g k h
 
 pub reasoned-decided : (t : Trail) (cs : List Clause) → IsTrail t → AreReasoned t cs → (l : ℕ) → AreReasoned (decided t l) cs
 reasoned-decided t cs u s l p h =
@@ -124,8 +118,8 @@ reasoned-decided t cs u s l p h =
           (record { level = length t.starts; within = omega (arith, length_push t.starts n); there = get_or_at t.starts n [] 0 (length t.starts) refl ∙ sym e })
     ]
 
-pub sound-decided : (t : Trail) (cs : List Clause) (ws : List (List Watch)) → IsSound t cs ws → t.propagated ≡ length t.literals → (l : ℕ)
-    → IsTrail (decided t l) → IsSound (decided t l) cs ws
+pub sound-decided : (t : Trail) (cs : List Clause) (ws : List (List Watch)) → AreConsistent t cs ws → t.propagated ≡ length t.literals → (l : ℕ)
+    → IsTrail (decided t l) → AreConsistent (decided t l) cs ws
 sound-decided t cs ws s e l u = record {
   lawful = u;
   linked = record { lists = s.linked.lists; clauses = s.linked.clauses; entries = s.linked.entries; watching = s.linked.watching };
@@ -133,7 +127,7 @@ sound-decided t cs ws s e l u = record {
   reasoned = reasoned-decided t cs s.lawful s.reasoned l;
 }
 
-pub descends-refl : (t : Trail) (cs : List Clause) (ws : List (List Watch)) → IsSound t cs ws → Descends t cs t cs ws
+pub descends-refl : (t : Trail) (cs : List Clause) (ws : List (List Watch)) → AreConsistent t cs ws → Descends t cs t cs ws
 descends-refl t cs ws s = record {
   sound = s;
   same = record { count = refl; literals = λ k. refl; kept = λ k. refl };

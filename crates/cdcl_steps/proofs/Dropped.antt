@@ -26,17 +26,14 @@ use Rattle.std.proofs.Common.{
   length-set,
 }
 use Rattle.std.specs.Prelude.{Contains, All, MatchOption}
-use Rattle.cdcl_trail.specs.Trail.{Trail}
-use Rattle.cdcl_clauses.specs.Clauses.{Clause, at, watches, listed}
-use Rattle.cdcl_clauses.specs.Invariants.{Guards, IsClause, IsWatch, AreLinked, AreGuarded, IsReason, AreReasoned, IsSound, BeginsAt, AreRooted}
+use Rattle.cdcl_trail.specs.Trail.{Trail, IsNoReason}
+use Rattle.cdcl_clauses.specs.Clauses.{Clause, at, watches, listed, dropped}
+use Rattle.cdcl_clauses.specs.Invariants.{Guards, IsClause, IsWatch, AreLinked, AreGuarded, IsReason, AreReasoned, AreConsistent, BeginsAt, AreRooted}
 use Rattle.cdcl_clauses.specs.declared.watches.Watch.{Watch}
 use Rattle.cdcl_propagate.proofs.Links.{at-set}
 
-abbrev pub forgotten : List Clause → ℕ → List Clause
-forgotten cs k = set cs k (record (at cs k) { kept = false })
-
 -- the literals are the same
-same-literals : (cs : List Clause) (k m : ℕ) → k < length cs → (at (forgotten cs k) m).literals ≡ (at cs m).literals
+same-literals : (cs : List Clause) (k m : ℕ) → k < length cs → (at (dropped cs k) m).literals ≡ (at cs m).literals
 same-literals cs k m h =
     elim (at-set cs k m (record (at cs k) { kept = false }) h) [
       | inl e ↦ ap (λ (c : Clause). c.literals) e.1 ∙ ap (λ (i : ℕ). (at cs i).literals) (sym e.0)
@@ -44,23 +41,23 @@ same-literals cs k m h =
     ]
 
 -- what is still kept is another clause
-same-kept : (cs : List Clause) (k m : ℕ) → k < length cs → (at (forgotten cs k) m).kept ≡ true → at (forgotten cs k) m ≡ at cs m
+same-kept : (cs : List Clause) (k m : ℕ) → k < length cs → (at (dropped cs k) m).kept ≡ true → at (dropped cs k) m ≡ at cs m
 same-kept cs k m h f =
     elim (at-set cs k m (record (at cs k) { kept = false }) h) [
       | inl e ↦ absurd (let g : false ≡ true = sym (ap (λ (c : Clause). c.kept) e.1) ∙ f in cc)
       | inr e ↦ e.1
     ]
 
-same-watching : (cs : List Clause) (k m l : ℕ) → k < length cs → watches (at (forgotten cs k) m) l ≡ true → at (forgotten cs k) m ≡ at cs m
+same-watching : (cs : List Clause) (k m l : ℕ) → k < length cs → watches (at (dropped cs k) m) l ≡ true → at (dropped cs k) m ≡ at cs m
 same-watching cs k m l h f =
     elim (at-set cs k m (record (at cs k) { kept = false }) h) [
       | inl e ↦ absurd (let g : false ≡ true = sym (ap (λ (c : Clause). watches c l) e.1) ∙ f in cc)
       | inr e ↦ e.1
     ]
 
-linked-forgotten : (v : ℕ) (cs : List Clause) (ws : List (List Watch)) → AreLinked v cs ws → (k : ℕ) → k < length cs → AreLinked v (forgotten cs k) ws
+linked-forgotten : (v : ℕ) (cs : List Clause) (ws : List (List Watch)) → AreLinked v cs ws → (k : ℕ) → k < length cs → AreLinked v (dropped cs k) ws
 linked-forgotten v cs ws s k h =
-    let n : length (forgotten cs k) ≡ length cs = length-set cs k (record (at cs k) { kept = false }) in
+    let n : length (dropped cs k) ≡ length cs = length-set cs k (record (at cs k) { kept = false }) in
     record {
       lists = s.lists;
       clauses = λ m ml kept. (
@@ -78,22 +75,22 @@ linked-forgotten v cs ws s k h =
           let e = same-watching cs k m l h wl in s.watching m l (omega (arith, ml, n)) (sym (ap (λ (c : Clause). watches c l) e) ∙ wl));
     }
 
-guards-forgotten : (ys xs : List ℕ) (cs : List Clause) (k m : ℕ) → k < length cs → Guards ys xs (at cs m) → Guards ys xs (at (forgotten cs k) m)
+guards-forgotten : (ys xs : List ℕ) (cs : List Clause) (k m : ℕ) → k < length cs → Guards ys xs (at cs m) → Guards ys xs (at (dropped cs k) m)
 guards-forgotten ys xs cs k m h g l wl fl =
     let e = same-watching cs k m l h wl in
     let r = g l (sym (ap (λ (c : Clause). watches c l) e) ∙ wl) fl in
     record { literal = r.literal; in_clause = subst (λ (c : Clause). Contains c.literals r.literal) (sym e) r.in_clause; is_true = r.is_true }
 
-guarded-forgotten : (t : Trail) (cs : List Clause) → AreGuarded t cs → (k : ℕ) → k < length cs → AreGuarded t (forgotten cs k)
+guarded-forgotten : (t : Trail) (cs : List Clause) → AreGuarded t cs → (k : ℕ) → k < length cs → AreGuarded t (dropped cs k)
 guarded-forgotten t cs s k h =
-    let n : length (forgotten cs k) ≡ length cs = length-set cs k (record (at cs k) { kept = false }) in
+    let n : length (dropped cs k) ≡ length cs = length-set cs k (record (at cs k) { kept = false }) in
     record {
       below = λ m i ml il. guards-forgotten (take (get_or t.starts i 0) t.literals) (take (get_or t.starts i 0) t.literals) cs k m h
           (s.below m i (omega (arith, ml, n)) il);
       last = λ m ml. guards-forgotten (take t.propagated t.literals) t.literals cs k m h (s.last m (omega (arith, ml, n)));
     }
 
-reason-forgotten : (cs : List Clause) (xs : List ℕ) (l j k : ℕ) → k < length cs → j ≢ k → IsReason cs xs l j → IsReason (forgotten cs k) xs l j
+reason-forgotten : (cs : List Clause) (xs : List ℕ) (l j k : ℕ) → k < length cs → j ≢ k → IsReason cs xs l j → IsReason (dropped cs k) xs l j
 reason-forgotten cs xs l j k h ne r =
     elim (at-set cs k j (record (at cs k) { kept = false }) h) [
       | inl e ↦ absurd (ne e.0)
@@ -110,22 +107,18 @@ match-forgotten : (P : Type 0) (Q R : ℕ → Type 0) (o : Option ℕ) (k : ℕ)
 match-forgotten P Q R None k n f h = h
 match-forgotten P Q R (Some j) k n f h = f j (λ e. n (ap (λ (i : ℕ). Some i) e)) h
 
--- the clause is no reason of a literal that is true
-abbrev pub IsNoReason : Trail → ℕ → Type 0
-IsNoReason t k = (p : ℕ) → p < length t.literals → get_or t.reasons p None ≢ Some k
-
-pub sound-forgotten : (t : Trail) (cs : List Clause) (ws : List (List Watch)) → IsSound t cs ws → (k : ℕ) → k < length cs → IsNoReason t k
-    → IsSound t (forgotten cs k) ws
+pub sound-forgotten : (t : Trail) (cs : List Clause) (ws : List (List Watch)) → AreConsistent t cs ws → (k : ℕ) → k < length cs → IsNoReason t k
+    → AreConsistent t (dropped cs k) ws
 sound-forgotten t cs ws s k h none = record {
   lawful = s.lawful;
   linked = linked-forgotten t.variables cs ws s.linked k h;
   guarded = guarded-forgotten t cs s.guarded k h;
   reasoned = λ p pl. match-forgotten (BeginsAt t p) (IsReason cs (take p t.literals) (get_or t.literals p 0))
-      (IsReason (forgotten cs k) (take p t.literals) (get_or t.literals p 0)) (get_or t.reasons p None) k (none p pl)
+      (IsReason (dropped cs k) (take p t.literals) (get_or t.literals p 0)) (get_or t.reasons p None) k (none p pl)
       (λ j ne r. reason-forgotten cs (take p t.literals) (get_or t.literals p 0) j k h ne r) (s.reasoned p pl);
 }
 
-pub rooted-forgotten : (t : Trail) (cs : List Clause) (k : ℕ) → k < length cs → AreRooted t cs → AreRooted t (forgotten cs k)
+pub rooted-forgotten : (t : Trail) (cs : List Clause) (k : ℕ) → k < length cs → AreRooted t cs → AreRooted t (dropped cs k)
 rooted-forgotten t cs k h r m ml kept f =
     let e = same-kept cs k m h kept in
     subst (λ (c : Clause). Contains (take (get_or t.starts 0 (length t.literals)) t.literals) c.first) (sym e)

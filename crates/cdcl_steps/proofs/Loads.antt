@@ -30,13 +30,14 @@ use Rattle.std.proofs.lemmas.List.{get_or_at, length_push, take_all}
 use Rattle.std.proofs.lemmas.List.Elements.{Contains-push, Contains-get_or}
 use Rattle.cdcl_trail.specs.Literals.{opposite_of}
 use Rattle.cdcl_trail.specs.Trail.{Trail, IsTrail, pushed}
-use Rattle.cdcl_clauses.specs.Clauses.{Clause, at, no_clause}
-use Rattle.cdcl_clauses.specs.Invariants.{IsClause, AreGuarded, IsReason, IsSound, AreRooted, root_of}
+use Rattle.cdcl_clauses.specs.Clauses.{Clause, at, no_clause, kept_clause}
+use Rattle.cdcl_clauses.specs.Invariants.{IsClause, AreGuarded, IsReason, AreConsistent, AreRooted, root_of}
 use Rattle.cdcl_clauses.specs.declared.watches.Watch.{Watch}
 use Rattle.cdcl_propagate.proofs.Guarding.{reasoned-pushed}
-use Rattle.cdcl_steps.specs.Attached.{both_listed}
+use Rattle.cdcl_steps.specs.Attached.{both_listed, WasAttached}
 use Rattle.cdcl_steps.specs.Loads.{IsAtStart, MayBeLoaded}
-use Rattle.cdcl_steps.proofs.OneMore.{one_more, at-push, linked-attach, reasoned-push}
+use Rattle.cdcl_steps.specs.helpers.Watched.{AreWatched}
+use Rattle.cdcl_steps.proofs.OneMore.{at-push, linked-attach, reasoned-push}
 use Rattle.cdcl_steps.proofs.Rooting.{only, root-pushed, root-pushed_new}
 
 guarded-start : (t : Trail) (cs : List Clause) → IsAtStart t → AreGuarded t cs
@@ -46,18 +47,12 @@ guarded-start t cs s = record {
       subst (λ (n : ℕ). Contains (take n t.literals) (opposite_of l)) s.propagated fl in omega (arith, c.1));
 }
 
--- what a clause watches when it is loaded
-pub record WatchesFirst (ls : List ℕ) (a b : ℕ) : Type 0 where
-  pub first : a ≡ get_or ls 0 0
-  pub one : length ls ≡ 1 → b ≡ a
-  pub more : length ls ≢ 1 → b ≡ get_or ls 1 0
-
 single-list : (ls : List ℕ) → length ls ≡ 1 → ls ≡ get_or ls 0 0 ∷ []
 single-list [] e = absurd (omega arith)
 single-list (x ∷ []) e = refl
 single-list (x ∷ y ∷ ls) e = absurd (omega arith)
 
-pub loaded-clause : (v : ℕ) (ls : List ℕ) (a b : ℕ) → MayBeLoaded v ls → WatchesFirst ls a b → IsClause v (one_more ls a b)
+pub loaded-clause : (v : ℕ) (ls : List ℕ) (a b : ℕ) → MayBeLoaded v ls → AreWatched ls a b → IsClause v (kept_clause ls a b)
 loaded-clause v ls a b m w =
     let first : Contains ls a = subst (λ (x : ℕ). Contains ls x) (sym w.first) (Contains-get_or ls 0 0 m.some) in
     elim (cases_eq (length ls) 1) [
@@ -74,20 +69,25 @@ loaded-clause v ls a b m w =
           }
     ]
 
-pub sound-loaded : (t : Trail) (cs : List Clause) (ws : List (List Watch)) → IsSound t cs ws → IsAtStart t → (ls : List ℕ) (a b : ℕ)
-    → IsClause t.variables (one_more ls a b) → IsSound t (cs ++ one_more ls a b ∷ []) (both_listed ws (length cs) a b)
+pub sound-loaded : (t : Trail) (cs : List Clause) (ws : List (List Watch)) → AreConsistent t cs ws → IsAtStart t → (ls : List ℕ) (a b : ℕ)
+    → IsClause t.variables (kept_clause ls a b) → AreConsistent t (cs ++ kept_clause ls a b ∷ []) (both_listed ws (length cs) a b)
 sound-loaded t cs ws s start ls a b i = record {
   lawful = s.lawful;
   linked = linked-attach t.variables cs ws s.linked ls a b i;
-  guarded = guarded-start t (cs ++ one_more ls a b ∷ []) start;
-  reasoned = reasoned-push t cs (one_more ls a b) s.reasoned;
+  guarded = guarded-start t (cs ++ kept_clause ls a b ∷ []) start;
+  reasoned = reasoned-push t cs (kept_clause ls a b) s.reasoned;
 }
 
-pub sound-loaded_unit : (t : Trail) (cs : List Clause) (ws : List (List Watch)) → IsSound t cs ws → IsAtStart t → (ls : List ℕ) (a b : ℕ)
-    → IsClause t.variables (one_more ls a b) → ls ≡ a ∷ [] → IsTrail (pushed t a (Some (length cs)))
-    → IsSound (pushed t a (Some (length cs))) (cs ++ one_more ls a b ∷ []) (both_listed ws (length cs) a b)
+pub sound-attached : (t : Trail) (cs : List Clause) (ws : List (List Watch)) → AreConsistent t cs ws → IsAtStart t → (ls : List ℕ) (a b : ℕ)
+    → MayBeLoaded t.variables ls → AreWatched ls a b → (ds : List Clause) (vs : List (List Watch)) → WasAttached cs ws ds vs ls a b → AreConsistent t ds vs
+sound-attached t cs ws s start ls a b m w ds vs h =
+    rw (h.clauses, h.lists) (sound-loaded t cs ws s start ls a b (loaded-clause t.variables ls a b m w))
+
+pub sound-loaded_unit : (t : Trail) (cs : List Clause) (ws : List (List Watch)) → AreConsistent t cs ws → IsAtStart t → (ls : List ℕ) (a b : ℕ)
+    → IsClause t.variables (kept_clause ls a b) → ls ≡ a ∷ [] → IsTrail (pushed t a (Some (length cs)))
+    → AreConsistent (pushed t a (Some (length cs))) (cs ++ kept_clause ls a b ∷ []) (both_listed ws (length cs) a b)
 sound-loaded_unit t cs ws s start ls a b i one u =
-    let c : Clause = one_more ls a b in
+    let c : Clause = kept_clause ls a b in
     let e : at (cs ++ c ∷ []) (length cs) ≡ c = get_or_at cs c [] no_clause (length cs) refl in
     let r : IsReason (cs ++ c ∷ []) t.literals a (length cs) = record {
       there = omega (arith, length_push cs c);
@@ -111,36 +111,29 @@ root-start t s x c =
     subst (λ (xs : List ℕ). Contains xs x) (sym (ap (λ (m : ℕ). take m t.literals) e ∙ take_all n t.literals (omega arith))) c
 
 rooted-last : (t : Trail) (cs : List Clause) (ls : List ℕ) (a b : ℕ) → (a ≡ b → Contains (root_of t) a) → AreRooted t cs
-    → AreRooted t (cs ++ one_more ls a b ∷ [])
+    → AreRooted t (cs ++ kept_clause ls a b ∷ [])
 rooted-last t cs ls a b h old k kl kept f =
-    elim (at-push cs (one_more ls a b) k kl) [
+    elim (at-push cs (kept_clause ls a b) k kl) [
       | inl e ↦
-          let fa : (at (cs ++ one_more ls a b ∷ []) k).first ≡ a = ap (λ (c : Clause). c.first) e.1 in
-          let fb : (at (cs ++ one_more ls a b ∷ []) k).second ≡ b = ap (λ (c : Clause). c.second) e.1 in
+          let fa : (at (cs ++ kept_clause ls a b ∷ []) k).first ≡ a = ap (λ (c : Clause). c.first) e.1 in
+          let fb : (at (cs ++ kept_clause ls a b ∷ []) k).second ≡ b = ap (λ (c : Clause). c.second) e.1 in
           subst (λ (x : ℕ). Contains (root_of t) x) (sym fa) (h (sym fa ∙ f ∙ fb))
       | inr e ↦ subst (λ (c : Clause). Contains (root_of t) c.first) (sym e.1)
           (old k e.0 (sym (ap (λ (c : Clause). c.kept) e.1) ∙ kept) (subst (λ (c : Clause). c.first ≡ c.second) e.1 f))
     ]
 
-pub rooted-two : (t : Trail) (cs : List Clause) (ls : List ℕ) (a b : ℕ) → a ≢ b → AreRooted t cs → AreRooted t (cs ++ one_more ls a b ∷ [])
+pub rooted-two : (t : Trail) (cs : List Clause) (ls : List ℕ) (a b : ℕ) → a ≢ b → AreRooted t cs → AreRooted t (cs ++ kept_clause ls a b ∷ [])
 rooted-two t cs ls a b ne old = rooted-last t cs ls a b (λ e. absurd (ne e)) old
 
 pub rooted-true : (t : Trail) (cs : List Clause) (ls : List ℕ) (a b : ℕ) → IsAtStart t → Contains t.literals a → AreRooted t cs
-    → AreRooted t (cs ++ one_more ls a b ∷ [])
+    → AreRooted t (cs ++ kept_clause ls a b ∷ [])
 rooted-true t cs ls a b s c old = rooted-last t cs ls a b (λ e. root-start t s a c) old
 
 pub rooted-unit : (t : Trail) (cs : List Clause) (ls : List ℕ) (a b : ℕ) (r : Option ℕ) → IsAtStart t → AreRooted t cs
-    → AreRooted (pushed t a r) (cs ++ one_more ls a b ∷ [])
+    → AreRooted (pushed t a r) (cs ++ kept_clause ls a b ∷ [])
 rooted-unit t cs ls a b r s old =
     rooted-last (pushed t a r) cs ls a b (λ e. root-pushed_new t a r s.starts)
     (λ k kl kept f. root-pushed t a r (at cs k).first (old k kl kept f))
-
--- what a loaded clause watches
-pub watches-single : (ls : List ℕ) (n a : ℕ) → n ≡ length ls → a ≡ get_or ls 0 0 → n ≡ 1 → WatchesFirst ls a a
-watches-single ls n a e f g = record { first = f; one = λ h. refl; more = λ h. absurd (h (sym e ∙ g)) }
-
-pub watches-two : (ls : List ℕ) (n a b : ℕ) → n ≡ length ls → a ≡ get_or ls 0 0 → n ≢ 1 → b ≡ get_or ls 1 0 → WatchesFirst ls a b
-watches-two ls n a b e f g h = record { first = f; one = λ i. absurd (g (e ∙ i)); more = λ i. h }
 
 pub first-is : (ls : List ℕ) (a : ℕ) → length ls ≡ 1 → a ≡ get_or ls 0 0 → ls ≡ a ∷ []
 first-is ls a e f = single-list ls e ∙ ap (λ (x : ℕ). x ∷ []) (sym f)
@@ -149,5 +142,5 @@ pub refuted-all : (t : Trail) (ls : List ℕ) (a : ℕ) → ls ≡ a ∷ [] → 
     → Contains t.literals (opposite_of x)
 refuted-all t ls a e c x h = subst (λ (y : ℕ). Contains t.literals (opposite_of y)) (sym (only ls a x e h)) c
 
-pub one_apart : (ls : List ℕ) (a b v : ℕ) → MayBeLoaded v ls → WatchesFirst ls a b → length ls ≢ 1 → a ≢ b
-one_apart ls a b v m w h e = m.apart (omega (arith, m.some, h)) (sym w.first ∙ e ∙ w.more h)
+pub one_apart : (ls : List ℕ) (a b v : ℕ) → MayBeLoaded v ls → AreWatched ls a b → 1 < length ls → a ≢ b
+one_apart ls a b v m w h e = m.apart h (sym w.first ∙ e ∙ w.more (omega arith))

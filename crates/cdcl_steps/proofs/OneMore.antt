@@ -34,15 +34,12 @@ use Rattle.std.proofs.lemmas.List.{get_or_at, get_or_append_left, length_push, t
 use Rattle.std.proofs.lemmas.List.Elements.{All-push, All-contains, Contains-push}
 use Rattle.cdcl_trail.specs.Literals.{opposite_of}
 use Rattle.cdcl_trail.specs.Trail.{Trail, IsTrail, pushed}
-use Rattle.cdcl_clauses.specs.Clauses.{Clause, at, no_clause, watches, listed}
-use Rattle.cdcl_clauses.specs.Invariants.{Guards, IsClause, IsListed, IsWatch, AreLinked, AreGuarded, IsReason, AreReasoned, IsSound, BeginsAt}
+use Rattle.cdcl_clauses.specs.Clauses.{Clause, at, no_clause, watches, listed, kept_clause}
+use Rattle.cdcl_clauses.specs.Invariants.{Guards, IsClause, IsListed, IsWatch, AreLinked, AreGuarded, IsReason, AreReasoned, AreConsistent, BeginsAt}
 use Rattle.cdcl_clauses.specs.declared.watches.Watch.{Watch}
 use Rattle.cdcl_propagate.proofs.Links.{listed-set, listed-push, listed-last, watches-cases}
-use Rattle.cdcl_propagate.proofs.Guarding.{contains-take, reasoned-pushed, guarded-pushed}
+use Rattle.cdcl_propagate.proofs.Guarding.{contains-take, reasoned-pushed, guarded-pushed, match-map}
 use Rattle.cdcl_steps.specs.Attached.{both_listed, CanAssert}
-
-abbrev pub one_more : List ℕ → ℕ → ℕ → Clause
-one_more ls a b = record { literals = ls; first = a; second = b; kept = true }
 
 pub at-push : (cs : List Clause) (c : Clause) (k : ℕ) → k < length (cs ++ c ∷ []) → ((k ≡ length cs) × (at (cs ++ c ∷ []) k ≡ c))
     ⊎ ((k < length cs) × (at (cs ++ c ∷ []) k ≡ at cs k))
@@ -75,10 +72,10 @@ entries-push v ds ws l w h iw s m =
       | inr e ↦ subst (λ (us : List Watch). All (IsWatch v ds) us) (sym e.1) (s m)
     ]
 
-pub linked-attach : (v : ℕ) (cs : List Clause) (ws : List (List Watch)) → AreLinked v cs ws → (ls : List ℕ) (a b : ℕ) → IsClause v (one_more ls a b)
-    → AreLinked v (cs ++ one_more ls a b ∷ []) (both_listed ws (length cs) a b)
+pub linked-attach : (v : ℕ) (cs : List Clause) (ws : List (List Watch)) → AreLinked v cs ws → (ls : List ℕ) (a b : ℕ) → IsClause v (kept_clause ls a b)
+    → AreLinked v (cs ++ kept_clause ls a b ∷ []) (both_listed ws (length cs) a b)
 linked-attach v cs ws s ls a b i =
-    let c : Clause = one_more ls a b in
+    let c : Clause = kept_clause ls a b in
     let k : ℕ = length cs in
     let wa : Watch = record { clause = k; blocker = b } in
     let wb : Watch = record { clause = k; blocker = a } in
@@ -116,9 +113,9 @@ guards-push ys xs cs c k h old new =
 
 -- the clause guards, since one of what it watches comes true and the other is false on no lower level
 pub guarded-attach : (t : Trail) (cs : List Clause) → IsTrail t → AreGuarded t cs → (ls : List ℕ) (a b : ℕ) → CanAssert t ls a b → (r : ℕ)
-    → AreGuarded (pushed t a (Some r)) (cs ++ one_more ls a b ∷ [])
+    → AreGuarded (pushed t a (Some r)) (cs ++ kept_clause ls a b ∷ [])
 guarded-attach t cs u s ls a b can r =
-    let c : Clause = one_more ls a b in
+    let c : Clause = kept_clause ls a b in
     let old = guarded-pushed t cs u s a (Some r) in
     record {
       below = λ k i kl il.
@@ -147,20 +144,16 @@ reason-push cs c xs l k r =
       others = λ x h n. r.others x (subst (λ (d : Clause). Contains d.literals x) e h) n;
     }
 
-match-map : (P P' : Type 0) (Q Q' : ℕ → Type 0) (o : Option ℕ) → (P → P') → ((k : ℕ) → Q k → Q' k) → MatchOption o P Q → MatchOption o P' Q'
-match-map P P' Q Q' None f g h = f h
-match-map P P' Q Q' (Some k) f g h = g k h
-
 pub reasoned-push : (t : Trail) (cs : List Clause) (c : Clause) → AreReasoned t cs → AreReasoned t (cs ++ c ∷ [])
 reasoned-push t cs c s p h =
     match-map (BeginsAt t p) (BeginsAt t p) (IsReason cs (take p t.literals) (get_or t.literals p 0))
     (IsReason (cs ++ c ∷ []) (take p t.literals) (get_or t.literals p 0)) (get_or t.reasons p None)
     (λ b. b) (λ k r. reason-push cs c (take p t.literals) (get_or t.literals p 0) k r) (s p h)
 
-pub sound-assert : (t : Trail) (cs : List Clause) (ws : List (List Watch)) → IsSound t cs ws → (ls : List ℕ) (a b : ℕ) → CanAssert t ls a b
-    → IsTrail (pushed t a (Some (length cs))) → IsSound (pushed t a (Some (length cs))) (cs ++ one_more ls a b ∷ []) (both_listed ws (length cs) a b)
+pub sound-assert : (t : Trail) (cs : List Clause) (ws : List (List Watch)) → AreConsistent t cs ws → (ls : List ℕ) (a b : ℕ) → CanAssert t ls a b
+    → IsTrail (pushed t a (Some (length cs))) → AreConsistent (pushed t a (Some (length cs))) (cs ++ kept_clause ls a b ∷ []) (both_listed ws (length cs) a b)
 sound-assert t cs ws s ls a b can u =
-    let c : Clause = one_more ls a b in
+    let c : Clause = kept_clause ls a b in
     let e : at (cs ++ c ∷ []) (length cs) ≡ c = get_or_at cs c [] no_clause (length cs) refl in
     let i : IsClause t.variables c = record { within = can.within; first_in = can.has; second_in = can.beside_in; two = λ f. can.single (sym f) } in
     let r : IsReason (cs ++ c ∷ []) t.literals a (length cs) = record {

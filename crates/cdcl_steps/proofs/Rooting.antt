@@ -29,15 +29,15 @@ use Rattle.std.proofs.lemmas.Bool.{cases_lt, cases_eq}
 use Rattle.std.proofs.lemmas.List.{get_or_default, length_push, length-take, length-take-le, take-append-le, take_all}
 use Rattle.std.proofs.lemmas.List.Elements.{Contains-push, Contains-push_cases}
 use Rattle.cdcl_trail.specs.Trail.{Trail, IsTrail, pushed, decided, cut_to}
-use Rattle.cdcl_clauses.specs.Clauses.{Clause, at}
-use Rattle.cdcl_clauses.specs.Invariants.{IsClause, IsSound, AreSame, AreRooted, Extends, root_of}
+use Rattle.cdcl_clauses.specs.Clauses.{Clause, at, kept_clause}
+use Rattle.cdcl_clauses.specs.Invariants.{IsClause, AreConsistent, AreSame, AreRooted, Extends, root_of}
 use Rattle.cdcl_clauses.specs.declared.watches.Watch.{Watch}
 use Rattle.cdcl_steps.specs.Attached.{CanAssert}
-use Rattle.cdcl_steps.proofs.OneMore.{one_more, at-push}
+use Rattle.cdcl_steps.proofs.OneMore.{at-push}
+use Rattle.cdcl_propagate.proofs.Visiting.{contains-one}
 
 pub only : (xs : List ℕ) (a x : ℕ) → xs ≡ a ∷ [] → Contains xs x → x ≡ a
-only xs a x e c =
-    elim (Contains-push_cases [] a x (subst (λ (ys : List ℕ). Contains ys x) e c)) [ inl d ↦ absurd (omega (arith, d.1)) | inr d ↦ sym d ]
+only xs a x e c = contains-one a x (subst (λ (ys : List ℕ). Contains ys x) e c)
 
 contains-prefix : (xs ys : List ℕ) (m n x : ℕ) → take (length xs) ys ≡ xs → m ≤ n → Contains (take m xs) x → Contains (take n ys) x
 contains-prefix xs ys m n x e mn (k, h, f) =
@@ -132,8 +132,8 @@ single-same v w c d e ic id f =
     let b : c.second ≡ d.first = only c.literals d.first c.second one ic.second_in in
     record { single = a ∙ sym b; first = a }
 
-pub rooted-same : (t : Trail) (cs : List Clause) (ws : List (List Watch)) (u : Trail) (ds : List Clause) (vs : List (List Watch)) → IsSound t cs ws
-    → IsSound u ds vs → AreSame cs ds → ((x : ℕ) → Contains (root_of t) x → Contains (root_of u) x) → AreRooted t cs → AreRooted u ds
+pub rooted-same : (t : Trail) (cs : List Clause) (ws : List (List Watch)) (u : Trail) (ds : List Clause) (vs : List (List Watch)) → AreConsistent t cs ws
+    → AreConsistent u ds vs → AreSame cs ds → ((x : ℕ) → Contains (root_of t) x → Contains (root_of u) x) → AreRooted t cs → AreRooted u ds
 rooted-same t cs ws u ds vs a b e m r k kl kept f =
     let kc : k < length cs = omega (arith, kl, e.count) in
     let keptc : (at cs k).kept ≡ true = sym (e.kept k) ∙ kept in
@@ -144,14 +144,14 @@ pub rooted-cut : (t : Trail) (cs : List Clause) → IsTrail t → (level : ℕ) 
 rooted-cut t cs u level h r k kl kept f = root-cut t u level h (at cs k).first (r k kl kept f)
 
 pub rooted-attach : (t : Trail) (cs : List Clause) (ls : List ℕ) (a b : ℕ) → CanAssert t ls a b → (r : Option ℕ) → AreRooted t cs
-    → AreRooted (pushed t a r) (cs ++ one_more ls a b ∷ [])
+    → AreRooted (pushed t a r) (cs ++ kept_clause ls a b ∷ [])
 rooted-attach t cs ls a b can r old k kl kept f =
-    elim (at-push cs (one_more ls a b) k kl) [
+    elim (at-push cs (kept_clause ls a b) k kl) [
       | inl e ↦
-          let fa : (at (cs ++ one_more ls a b ∷ []) k).first ≡ a = ap (λ (c : Clause). c.first) e.1 in
-          let fb : (at (cs ++ one_more ls a b ∷ []) k).second ≡ b = ap (λ (c : Clause). c.second) e.1 in
+          let fa : (at (cs ++ kept_clause ls a b ∷ []) k).first ≡ a = ap (λ (c : Clause). c.first) e.1 in
+          let fb : (at (cs ++ kept_clause ls a b ∷ []) k).second ≡ b = ap (λ (c : Clause). c.second) e.1 in
           subst (λ (x : ℕ). Contains (root_of (pushed t a r)) x) (sym fa) (root-pushed_new t a r (can.root (sym fb ∙ sym f ∙ fa)))
-      | inr e ↦ root-pushed t a r (at (cs ++ one_more ls a b ∷ []) k).first
+      | inr e ↦ root-pushed t a r (at (cs ++ kept_clause ls a b ∷ []) k).first
           (subst (λ (c : Clause). Contains (root_of t) c.first) (sym e.1)
           (old k e.0 (sym (ap (λ (c : Clause). c.kept) e.1) ∙ kept) (subst (λ (c : Clause). c.first ≡ c.second) e.1 f)))
     ]

@@ -2,7 +2,7 @@
 use Rattle.std.specs.Prelude.{◌≡◌, ◌≢◌, ℕ, ◌*◌, ◌<◌, true, List, [], ◌∷◌, ◌++◌, length, take, slice_index, slice_set, Contains, All}
 use Rattle.cdcl_trail.specs.Literals.{opposite_of}
 use Rattle.cdcl_trail.specs.Trail.{Trail, IsOpen}
-use Rattle.cdcl_clauses.specs.Clauses.{Clause, listed}
+use Rattle.cdcl_clauses.specs.Clauses.{Clause, kept_clause, listed}
 use Rattle.cdcl_clauses.specs.declared.watches.Watch.{Watch}
 
 -- the clause stands at both literals
@@ -14,7 +14,7 @@ both_listed ws k first second =
 -- one more clause is kept, which stands at the two literals that it watches
 pub record WasAttached (cs : List Clause) (ws : List (List Watch)) (ds : List Clause) (vs : List (List Watch)) (literals : List ℕ) (first second : ℕ)
     : Type 0 where
-  pub clauses : ds ≡ cs ++ record { literals = literals; first = first; second = second; kept = true } ∷ []
+  pub clauses : ds ≡ cs ++ kept_clause literals first second ∷ []
   pub lists : vs ≡ both_listed ws (length cs) first second
 
 -- all is propagated; all literals are false but the asserted one, which is open; the one beside is false on no lower level; and a literal

@@ -2,7 +2,7 @@
 use Rattle.std.specs.Prelude.{◌≡◌, ℕ, ◌*◌, ◌<◌, ◌≤◌, List, length, take}
 use Rattle.cdcl_trail.specs.Trail.{Trail, IsOpen}
 use Rattle.cdcl_clauses.specs.Clauses.{Clause}
-use Rattle.cdcl_clauses.specs.Invariants.{IsSound, AreSame, AreRooted}
+use Rattle.cdcl_clauses.specs.Invariants.{AreConsistent, AreSame, AreRooted}
 use Rattle.cdcl_clauses.specs.declared.watches.Watch.{Watch}
 
 -- no variable is open
@@ -11,7 +11,7 @@ IsFull t = (v : ℕ) → v < t.variables → IsOpen t (2 * v) → ⊥
 
 -- the trail is longer, the clauses are the same but for what they watch, and all is kept
 pub record Descends (t : Trail) (cs : List Clause) (u : Trail) (ds : List Clause) (vs : List (List Watch)) : Type 0 where
-  pub sound : IsSound u ds vs
+  pub sound : AreConsistent u ds vs
   pub same : AreSame cs ds
   pub variables : u.variables ≡ t.variables
   pub literals : take (length t.literals) u.literals ≡ t.literals

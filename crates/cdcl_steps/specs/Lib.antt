@@ -1,3 +1,4 @@
 pub mod Descents
 pub mod Attached
 pub mod Loads
+pub mod helpers

@@ -2,7 +2,7 @@
 use Rattle.std.specs.Prelude.{◌≡◌, ◌≢◌, ℕ, ◌+◌, ◌*◌, ◌<◌, true, List, [], ◌∷◌, ◌++◌, length, slice_index, Contains, All}
 use Rattle.cdcl_trail.specs.Literals.{opposite_of}
 use Rattle.cdcl_trail.specs.Trail.{Trail}
-use Rattle.cdcl_clauses.specs.Clauses.{Clause}
+use Rattle.cdcl_clauses.specs.Clauses.{Clause, kept_clause}
 use Rattle.cdcl_clauses.specs.Invariants.{AreRooted}
 use Rattle.cdcl_steps.specs.declared.loading.Loaded.{Loaded}
 use Rattle.cdcl_steps.specs.declared.loading.Loaded.TheVariants.{Taken, Refuted}
@@ -22,7 +22,7 @@ pub record MayBeLoaded (variables : ℕ) (literals : List ℕ) : Type 0 where
 pub record WasLoaded (cs ds : List Clause) (literals : List ℕ) : Type 0 where
   pub first : ℕ
   pub second : ℕ
-  pub clauses : ds ≡ cs ++ record { literals = literals; first = first; second = second; kept = true } ∷ []
+  pub clauses : ds ≡ cs ++ kept_clause literals first second ∷ []
 
 -- what became of it: it is true by its only literal where it has but one, or that is false
 abbrev pub Loads : Trail → List Clause → Trail → List Clause → List ℕ → Loaded → Type 0

@@ -1,6 +1,6 @@
 //! What was learnt comes true.
 ghost use Rattle.std.specs.Prelude.{◌≡◌, ◌<◌, ◌^◌, Some, OnOk, OnErr, length};
-ghost use Rattle.cdcl_clauses.specs.Invariants.{IsSound, AreRooted};
+ghost use Rattle.cdcl_clauses.specs.Invariants.{AreConsistent, AreRooted};
 ghost use Rattle.cdcl_trail.specs.Trail.{pushed};
 ghost use Rattle.cdcl_steps.specs.Attached.{WasAttached, CanAssert};
 
@@ -18,11 +18,11 @@ pub fn assert_clause(
     asserted: u32,
     beside: u32,
 ) -> Result<(), AllocError>
-    requires sound { IsSound trail.old clauses.old watches.old }
+    requires sound { AreConsistent trail.old clauses.old watches.old }
     requires few { length clauses.old < 2 ^ 32 }
     requires can { CanAssert trail.old literals.now asserted beside }
     ensures ok { OnOk result (WasAttached clauses.old watches.old clauses.new watches.new literals.now asserted beside) }
-    ensures sound { IsSound trail.new clauses.new watches.new }
+    ensures sound { AreConsistent trail.new clauses.new watches.new }
     ensures rooted { AreRooted trail.old clauses.old → AreRooted trail.new clauses.new }
     ensures trail { OnOk result (trail.new ≡ pushed trail.old asserted (Some (length clauses.old))) }
     ensures err_trail { OnErr result (trail.new ≡ trail.old) }

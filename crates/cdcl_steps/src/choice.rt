@@ -2,19 +2,19 @@
 ghost use Rattle.std.specs.Prelude.{◌≡◌, ◌^◌, ◌<◌, MatchOption};
 ghost use Rattle.cdcl_steps.specs.Descents.{IsFull, IsChosen};
 
-use cdcl_activity::Order;
+use cdcl_activity::Activity;
 use cdcl_trail::{Trail, Value};
 
-/// The first variable of the order that is open, or one that the order has lost; none where no variable is open.
-pub fn next_open(trail: &Trail, order: &mut Order, variables: u32) -> Option<u32>
+/// The most active variable that is open, or one that the heap has lost; none where no variable is open.
+pub fn next_open(trail: &Trail, activity: &mut Activity, variables: u32) -> Option<u32>
     requires variables { variables ≡ trail.now.variables }
-    requires order { order.old ≡ variables }
+    requires activity { activity.old ≡ variables }
     requires few { variables < 2 ^ 31 }
-    ensures order { order.new ≡ order.old }
+    ensures activity { activity.new ≡ activity.old }
     ensures found { MatchOption result (IsFull trail.now) (IsChosen trail.now) }
 {
     for _ in 0..variables {
-        match order.pop() {
+        match activity.pop() {
             None => break,
             Some(variable) => {
                 if trail.value(2 * variable) == Value::Open {

@@ -1,7 +1,8 @@
 //! One clause less.
 ghost use Rattle.std.specs.Prelude.{◌≡◌, ◌≢◌, ℕ, ◌<◌, Some, None, false, List, length, slice_index_or, slice_set};
-ghost use Rattle.cdcl_clauses.specs.Clauses.{at};
-ghost use Rattle.cdcl_clauses.specs.Invariants.{IsSound, AreRooted};
+ghost use Rattle.cdcl_clauses.specs.Clauses.{dropped};
+ghost use Rattle.cdcl_trail.specs.Trail.{IsNoReason};
+ghost use Rattle.cdcl_clauses.specs.Invariants.{AreConsistent, AreRooted};
 ghost use Rattle.cdcl_clauses.specs.declared.watches.Watch.{Watch};
 
 use cdcl_clauses::Clauses;
@@ -10,9 +11,9 @@ use cdcl_trail::Trail;
 /// A clause that is no reason isn't kept any more. Those who watch for it go as propagation meets them.
 pub fn forget(trail: &Trail, clauses: &mut Clauses, clause: u32)
     requires there { clause < length clauses.old }
-    requires no_reason { (p : ℕ) → p < length trail.now.literals → slice_index_or trail.now.reasons p None ≢ Some clause }
-    ensures after { clauses.new ≡ slice_set clauses.old clause (record (at clauses.old clause) { kept = false }) }
-    ensures sound { (ws : List (List Watch)) → IsSound trail.now clauses.old ws → IsSound trail.now clauses.new ws }
+    requires no_reason { IsNoReason trail.now clause }
+    ensures after { clauses.new ≡ dropped clauses.old clause }
+    ensures sound { (ws : List (List Watch)) → AreConsistent trail.now clauses.old ws → AreConsistent trail.now clauses.new ws }
     ensures rooted { AreRooted trail.now clauses.old → AreRooted trail.now clauses.new }
 {
     let _ = trail;

@@ -1,7 +1,8 @@
 //! The clauses that a search begins with.
 ghost use Rattle.std.specs.Prelude.{◌≡◌, ◌≢◌, ℕ, ◌*◌, ◌<◌, ◌^◌, [], All, IfOk, OnErr, OnOk, length, slice_index, Contains};
-ghost use Rattle.cdcl_clauses.specs.Invariants.{IsSound, AreRooted};
+ghost use Rattle.cdcl_clauses.specs.Invariants.{AreConsistent, AreRooted};
 ghost use Rattle.cdcl_steps.specs.Loads.{IsAtStart, WasLoaded, MayBeLoaded, Loads};
+ghost use Rattle.cdcl_steps.specs.helpers.Watched.{AreWatched};
 
 use crate::attaching::attach;
 use cdcl_clauses::{Clauses, Watches};
@@ -25,23 +26,21 @@ pub fn load_clause(
     watches: &mut Watches,
     literals: &[u32],
 ) -> Result<Loaded, AllocError>
-    requires sound { IsSound trail.old clauses.old watches.old }
+    requires sound { AreConsistent trail.old clauses.old watches.old }
     requires start { IsAtStart trail.old }
     requires few { length clauses.old < 2 ^ 32 }
     requires literals { MayBeLoaded trail.old.variables literals.now }
-    ensures sound { IsSound trail.new clauses.new watches.new }
+    ensures sound { AreConsistent trail.new clauses.new watches.new }
     ensures start { IsAtStart trail.new }
     ensures variables { trail.new.variables ≡ trail.old.variables }
     ensures longer { (x : ℕ) → Contains trail.old.literals x → Contains trail.new.literals x }
     ensures clauses { OnOk result (WasLoaded clauses.old clauses.new literals.now) }
     ensures loads { IfOk result (Loads trail.old clauses.old trail.new clauses.new literals.now) }
 {
-    let first = literals[0];
-    let single = literals.len() == 1;
-    let second = if single { first } else { literals[1] };
+    let (first, second) = watched(literals);
     let clause = clauses.len() as u32;
     attach(clauses, watches, literals, first, second)?;
-    if !single {
+    if literals.len() > 1 {
         return Ok(Loaded::Taken);
     }
     match trail.value(first) {
@@ -51,5 +50,18 @@ pub fn load_clause(
             trail.imply(first, clause);
             Ok(Loaded::Taken)
         }
+    }
+}
+
+/// What a clause watches: its first two literals, or its only one twice.
+fn watched(literals: &[u32]) -> (u32, u32)
+    requires { 0 < length literals.now }
+    ensures { AreWatched literals.now result.0 result.1 }
+{
+    let first = literals[0];
+    if literals.len() == 1 {
+        (first, first)
+    } else {
+        (first, literals[1])
     }
 }

@@ -37,7 +37,7 @@ use Rattle.std.proofs.lemmas.List.{length_push, take_more_set, get_or_past, take
 use Rattle.std.proofs.lemmas.Bool.{cases_eq, cases_lt}
 use Rattle.cdcl_trail.specs.Literals.{opposite_of}
 use Rattle.cdcl_trail.specs.Trail.{Trail, pushed, decided, cut_to}
-use Rattle.cdcl_trail.specs.Helpers.{trail_of, IsSound, StandsAt, IsPlaced, StartsWell}
+use Rattle.cdcl_trail.specs.helpers.Layout.{trail_of, IsLaidOut, StandsAt, IsPlaced, StartsWell}
 use Rattle.cdcl_trail.specs.declared.trail.Value.{Value}
 use Rattle.cdcl_trail.specs.declared.trail.Value.TheVariants.{Open}
 use Rattle.cdcl_trail.specs.declared.trail.Trail.TheInside.{Inside}
@@ -70,7 +70,7 @@ pub record Grew (a b : Inside) : Type 0 where
   pub propagated : b.propagated ≡ a.propagated
   pub starts : (i : ℕ) → i < a.levels → get_or b.starts.items i 0 ≡ get_or a.starts.items i 0
 
-pub grew : (a b : Inside) → IsSound a → IsSound b → (l : ℕ) (r : Option ℕ) → trail_of b ≡ pushed (trail_of a) l r → Grew a b
+pub grew : (a b : Inside) → IsLaidOut a → IsLaidOut b → (l : ℕ) (r : Option ℕ) → trail_of b ≡ pushed (trail_of a) l r → Grew a b
 grew a b s u l r e =
     let fa : a.len ≤ length a.literals.items = omega (arith, s.len_fits, s.literals_fit) in
     let fb : b.len ≤ length b.literals.items = omega (arith, u.len_fits, u.literals_fit) in
@@ -90,7 +90,7 @@ grew a b s u l r e =
           ∙ at_take a.starts.items a.levels i 0 0 ga h;
     }
 
-begun_starts : (a b : Inside) → IsSound a → IsSound b → Grew a b → a.propagated ≡ a.len → (k : ℕ) → k < b.levels + 1 → StartsWell (begun_inside b a.len) k
+begun_starts : (a b : Inside) → IsLaidOut a → IsLaidOut b → Grew a b → a.propagated ≡ a.len → (k : ℕ) → k < b.levels + 1 → StartsWell (begun_inside b a.len) k
 begun_starts a b s u g e k kl =
     let fits : b.levels < length b.starts.items = omega (arith, g.levels, s.levels_fit, g.len, u.len_fits, u.starts_fit) in
     let last : get_or (set b.starts.items b.levels a.len) b.levels 0 ≡ a.len = get_or-set_same b.starts.items b.levels a.len 0 fits in
@@ -120,8 +120,8 @@ begun_starts a b s u g e k kl =
           }
     ]
 
-pub sound_begun : (a b : Inside) → IsSound a → IsSound b → (l : ℕ) (r : Option ℕ) → trail_of b ≡ pushed (trail_of a) l r → a.propagated ≡ a.len
-    → IsSound (begun_inside b a.len)
+pub sound_begun : (a b : Inside) → IsLaidOut a → IsLaidOut b → (l : ℕ) (r : Option ℕ) → trail_of b ≡ pushed (trail_of a) l r → a.propagated ≡ a.len
+    → IsLaidOut (begun_inside b a.len)
 sound_begun a b s u l r v e =
     let g = grew a b s u l r v in
     record {
@@ -138,7 +138,7 @@ sound_begun a b s u l r v e =
       starts = begun_starts a b s u g e;
     }
 
-pub begun_view : (a b : Inside) → IsSound a → IsSound b → (l : ℕ) → trail_of b ≡ pushed (trail_of a) l None
+pub begun_view : (a b : Inside) → IsLaidOut a → IsLaidOut b → (l : ℕ) → trail_of b ≡ pushed (trail_of a) l None
     → trail_of (begun_inside b a.len) ≡ decided (trail_of a) l
 begun_view a b s u l v =
     let g = grew a b s u l None v in
@@ -214,8 +214,8 @@ cut_inside a vs n level = record {
   propagated = n;
 }
 
-pub sound_cut : (a : Inside) → IsSound a → (vs : Vec Value Global) (n level : ℕ) → level < a.levels → n ≡ get_or a.starts.items level 0
-    → Opens a.values.items vs.items a.literals.items n a.len → IsSound (cut_inside a vs n level)
+pub sound_cut : (a : Inside) → IsLaidOut a → (vs : Vec Value Global) (n level : ℕ) → level < a.levels → n ≡ get_or a.starts.items level 0
+    → Opens a.values.items vs.items a.literals.items n a.len → IsLaidOut (cut_inside a vs n level)
 sound_cut a s vs n level h e o =
     let t : StartsWell a level = s.starts level h in
     let far : (k : ℕ) → k < n → (x : ℕ) → x / 2 ≡ get_or a.literals.items k 0 / 2 → (j : ℕ) → n ≤ j → j < a.len → get_or a.literals.items j 0 / 2 ≢ x / 2 =
@@ -251,7 +251,7 @@ sound_cut a s vs n level h e o =
           record { high = u.high; early = omega (arith, z, e); proper = omega (arith, z, e); after_others = u.after_others };
     }
 
-pub cut_view : (a : Inside) → IsSound a → (vs : Vec Value Global) (n level : ℕ) → level < a.levels → n ≡ get_or a.starts.items level 0
+pub cut_view : (a : Inside) → IsLaidOut a → (vs : Vec Value Global) (n level : ℕ) → level < a.levels → n ≡ get_or a.starts.items level 0
     → trail_of (cut_inside a vs n level) ≡ cut_to (trail_of a) level
 cut_view a s vs n level h e =
     let t : StartsWell a level = s.starts level h in
@@ -266,7 +266,7 @@ cut_view a s vs n level h e =
     (sym e2 ∙ ap (λ (x : ℕ). take x (take a.len a.reasons.items)) (sym f))
     (sym e3) (sym f)
 
-pub level_within : (a : Inside) → IsSound a → (t : Trail) → trail_of a ≡ t → (k : ℕ) → k < length t.starts → k < a.levels
+pub level_within : (a : Inside) → IsLaidOut a → (t : Trail) → trail_of a ≡ t → (k : ℕ) → k < length t.starts → k < a.levels
 level_within a s t e k h =
     let f : length (take a.levels a.starts.items) ≡ length t.starts = ap (λ (t : Trail). length t.starts) e in
     omega (arith, f, h, length-take-le a.levels a.starts.items (omega (arith, s.levels_fit, s.len_fits, s.starts_fit)))

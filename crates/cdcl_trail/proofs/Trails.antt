@@ -48,7 +48,7 @@ use Rattle.std.proofs.lemmas.Map.Keys.{IsDistinct-from_apart}
 use Rattle.std.proofs.lemmas.Map.Steps.{length-le_from_distinct_below}
 use Rattle.cdcl_trail.specs.Literals.{opposite_of}
 use Rattle.cdcl_trail.specs.Trail.{Trail, Is, IsOpen, IsTrail, pushed}
-use Rattle.cdcl_trail.specs.Helpers.{trail_of, IsSound, StandsAt, IsPlaced}
+use Rattle.cdcl_trail.specs.helpers.Layout.{trail_of, IsLaidOut, StandsAt, IsPlaced}
 use Rattle.cdcl_trail.specs.declared.trail.Value.{Value}
 use Rattle.cdcl_trail.specs.declared.trail.Value.TheVariants.{Open, True, False}
 use Rattle.cdcl_trail.specs.declared.trail.Trail.TheInside.{Inside}
@@ -64,7 +64,7 @@ place_from_contains xs n x h (k, l, e) = let m : k < n = omega (arith, length-ta
 pub contains_from_place : (xs : List ℕ) (n k x : ℕ) → n ≤ length xs → k < n → get_or xs k 0 ≡ x → Contains (take n xs) x
 contains_from_place xs n k x h l e = (k, omega (arith, length-take-le n xs h), at_take xs n k x 0 h l ∙ e)
 
-pub tells : (a : Inside) → IsSound a → (l : ℕ) → l < 2 * length a.places.items → (v : Value) → get_or a.values.items l Open ≡ v → Is (trail_of a) l v
+pub tells : (a : Inside) → IsLaidOut a → (l : ℕ) → l < 2 * length a.places.items → (v : Value) → get_or a.values.items l Open ≡ v → Is (trail_of a) l v
 tells a s l w True e =
     let p : IsPlaced a l = s.placed l w (λ q. cc) in
     let k : ℕ = get_or a.places.items (l / 2) 0 in
@@ -100,7 +100,7 @@ tells a s l w Open e =
     }
 
 -- the place that a variable knows, where a literal of it is true
-pub known_place : (a : Inside) → IsSound a → (l : ℕ) → Contains (take a.len a.literals.items) l
+pub known_place : (a : Inside) → IsLaidOut a → (l : ℕ) → Contains (take a.len a.literals.items) l
     ⊎ Contains (take a.len a.literals.items) (opposite_of l) → (get_or a.places.items (l / 2) 0 < a.len)
     × (get_or a.literals.items (get_or a.places.items (l / 2) 0) 0 / 2 ≡ l / 2)
 known_place a s l (inl h) =
@@ -116,7 +116,7 @@ known_place a s l (inr h) =
     (omega arith, ap (λ (x : ℕ). get_or a.literals.items x 0 / 2) g ∙ i)
 
 -- places whose variables are one are one
-pub places_apart : (a : Inside) → IsSound a → (i k : ℕ) → i < a.len → k < a.len → get_or a.literals.items i 0 / 2 ≡ get_or a.literals.items k 0 / 2 → i ≡ k
+pub places_apart : (a : Inside) → IsLaidOut a → (i k : ℕ) → i < a.len → k < a.len → get_or a.literals.items i 0 / 2 ≡ get_or a.literals.items k 0 / 2 → i ≡ k
 places_apart a s i k il kl e = sym (s.stands i il).known ∙ ap (λ (x : ℕ). get_or a.places.items x 0) e ∙ (s.stands k kl).known
 
 equal_from : (a b : ℕ) → eqb a b ≡ true → a ≡ b
@@ -126,7 +126,7 @@ not_equal : (a b : ℕ) → a ≢ b → eqb a b ≡ false
 not_equal a b h = elim (eqb_tells a b) [ inl e ↦ absurd (h e.1) | inr e ↦ e.0 ]
 
 -- no two of these variables are one
-apart_at : (a : Inside) → IsSound a → (l : ℕ) (halves : List ℕ) → length halves ≡ a.len
+apart_at : (a : Inside) → IsLaidOut a → (l : ℕ) (halves : List ℕ) → length halves ≡ a.len
     → ((i : ℕ) (d : ℕ) → i < a.len → get_or halves i d ≡ get_or a.literals.items i 0 / 2)
     → ((i : ℕ) → i < a.len → get_or a.literals.items i 0 / 2 ≢ l / 2) → (i j : ℕ) (d : ℕ) → i < j → j < length (l / 2 ∷ halves)
     → eqb (get_or (l / 2 ∷ halves) i d) (get_or (l / 2 ∷ halves) j d) ≡ false
@@ -140,7 +140,7 @@ apart_at a s l halves size read fresh (suc i) (suc j) d ij jl =
     not_equal (get_or halves i d) (get_or halves j d) (λ e. let f : i ≡ j = places_apart a s i j il jl' (sym (read i d il) ∙ e ∙ read j d jl') in omega arith)
 
 -- each of these variables is one of all
-below_at : (a : Inside) → IsSound a → (l : ℕ) → l < 2 * length a.places.items → (halves : List ℕ) → length halves ≡ a.len
+below_at : (a : Inside) → IsLaidOut a → (l : ℕ) → l < 2 * length a.places.items → (halves : List ℕ) → length halves ≡ a.len
     → ((i : ℕ) (d : ℕ) → i < a.len → get_or halves i d ≡ get_or a.literals.items i 0 / 2) → (q : ℕ) → Contains (l / 2 ∷ halves) q → q < length a.places.items
 below_at a s l w halves size read q (zero, kl, e) = omega arith
 below_at a s l w halves size read q (suc k, kl, e) =
@@ -149,7 +149,7 @@ below_at a s l w halves size read q (suc k, kl, e) =
     omega (arith, (s.stands k il).within, f)
 
 -- no variable of a trail is an open literal's
-pub fresh_half : (a : Inside) → IsSound a → (l : ℕ) → IsOpen (trail_of a) l → (i : ℕ) → i < a.len → get_or a.literals.items i 0 / 2 ≢ l / 2
+pub fresh_half : (a : Inside) → IsLaidOut a → (l : ℕ) → IsOpen (trail_of a) l → (i : ℕ) → i < a.len → get_or a.literals.items i 0 / 2 ≢ l / 2
 fresh_half a s l o i il e =
     let fits : a.len ≤ length a.literals.items = omega (arith, s.len_fits, s.literals_fit) in
     elim (same_half (get_or a.literals.items i 0) l e) [
@@ -158,7 +158,7 @@ fresh_half a s l o i il e =
     ]
 
 -- the variables of a trail are fewer than all where one of them is open
-pub room : (a : Inside) → IsSound a → (l : ℕ) → l < 2 * length a.places.items → IsOpen (trail_of a) l → a.len < length a.places.items
+pub room : (a : Inside) → IsLaidOut a → (l : ℕ) → l < 2 * length a.places.items → IsOpen (trail_of a) l → a.len < length a.places.items
 room a s l w o =
     let fits : a.len ≤ length a.literals.items = omega (arith, s.len_fits, s.literals_fit) in
     let n : ℕ = length a.places.items in
@@ -174,7 +174,7 @@ room a s l w o =
     let bound : length all ≤ n = length-le_from_distinct_below all n (IsDistinct-from_apart eqb all apart) below in
     omega (arith, bound, size)
 
-known_here : (a : Inside) → IsSound a → (l v p : ℕ) → v ≡ l / 2 → p ≡ get_or a.places.items v p → l < 2 * length a.places.items
+known_here : (a : Inside) → IsLaidOut a → (l v p : ℕ) → v ≡ l / 2 → p ≡ get_or a.places.items v p → l < 2 * length a.places.items
     → Contains (take a.len a.literals.items) l ⊎ Contains (take a.len a.literals.items) (opposite_of l) → (p < length (take a.len a.literals.items))
     × (get_or (take a.len a.literals.items) p 0 / 2 ≡ l / 2)
 known_here a s l v p ve r w h =
@@ -188,7 +188,7 @@ known_here a s l v p ve r w h =
     )
 
 -- the place that a variable knows, as a trail tells it
-pub known_at : (a : Inside) → IsSound a → (t : Trail) → trail_of a ≡ t → (l v p : ℕ) → v ≡ l / 2 → l < 2 * t.variables
+pub known_at : (a : Inside) → IsLaidOut a → (t : Trail) → trail_of a ≡ t → (l v p : ℕ) → v ≡ l / 2 → l < 2 * t.variables
     → Contains t.literals l ⊎ Contains t.literals (opposite_of l) → p ≡ get_or a.places.items v p
     → (p < length t.literals) × (get_or t.literals p 0 / 2 ≡ l / 2)
 known_at a s t e l v p ve w h r =
@@ -227,7 +227,7 @@ pushed_inside a l m h reason = record {
   propagated = a.propagated;
 }
 
-pushed_stands : (a : Inside) → IsSound a → (l m h : ℕ) (reason : Option ℕ) → m ≡ opposite_of l → h ≡ l / 2 → l < 2 * length a.places.items
+pushed_stands : (a : Inside) → IsLaidOut a → (l m h : ℕ) (reason : Option ℕ) → m ≡ opposite_of l → h ≡ l / 2 → l < 2 * length a.places.items
     → IsOpen (trail_of a) l → a.len < length a.places.items → (k : ℕ) → k < a.len → StandsAt (pushed_inside a l m h reason) k
 pushed_stands a s l m h reason em eh w o r k kl =
     let t : StandsAt a k = s.stands k kl in
@@ -245,7 +245,7 @@ pushed_stands a s l m h reason em eh w o r k kl =
       known = ap (λ (x : ℕ). get_or (set a.places.items h a.len) (x / 2) 0) e ∙ get_or-set_other a.places.items h (y / 2) a.len 0 far'' ∙ t.known;
     }
 
-pushed_stands_last : (a : Inside) → IsSound a → (l m h : ℕ) (reason : Option ℕ) → m ≡ opposite_of l → h ≡ l / 2 → l < 2 * length a.places.items
+pushed_stands_last : (a : Inside) → IsLaidOut a → (l m h : ℕ) (reason : Option ℕ) → m ≡ opposite_of l → h ≡ l / 2 → l < 2 * length a.places.items
     → a.len < length a.places.items → StandsAt (pushed_inside a l m h reason) a.len
 pushed_stands_last a s l m h reason em eh w r =
     let vs : List Value = set (set a.values.items l True) m False in
@@ -260,7 +260,7 @@ pushed_stands_last a s l m h reason em eh w r =
           ∙ get_or-set_same a.places.items h a.len 0 (omega (arith, eh));
     }
 
-pushed_placed : (a : Inside) → IsSound a → (l m h : ℕ) (reason : Option ℕ) → m ≡ opposite_of l → h ≡ l / 2 → l < 2 * length a.places.items
+pushed_placed : (a : Inside) → IsLaidOut a → (l m h : ℕ) (reason : Option ℕ) → m ≡ opposite_of l → h ≡ l / 2 → l < 2 * length a.places.items
     → a.len < length a.places.items → (x : ℕ) → x < 2 * length a.places.items → get_or (set (set a.values.items l True) m False) x Open ≢ Open
     → IsPlaced (pushed_inside a l m h reason) x
 pushed_placed a s l m h reason em eh w r x xw ne =
@@ -284,8 +284,8 @@ pushed_placed a s l m h reason em eh w r x xw ne =
           }
     ]
 
-pub sound_pushed : (a : Inside) → IsSound a → (l m h : ℕ) (reason : Option ℕ) → m ≡ opposite_of l → h ≡ l / 2 → l < 2 * length a.places.items
-    → IsOpen (trail_of a) l → IsSound (pushed_inside a l m h reason)
+pub sound_pushed : (a : Inside) → IsLaidOut a → (l m h : ℕ) (reason : Option ℕ) → m ≡ opposite_of l → h ≡ l / 2 → l < 2 * length a.places.items
+    → IsOpen (trail_of a) l → IsLaidOut (pushed_inside a l m h reason)
 sound_pushed a s l m h reason em eh w o =
     let r : a.len < length a.places.items = room a s l w o in
     record {
@@ -305,7 +305,7 @@ sound_pushed a s l m h reason em eh w o =
       starts = λ k kl. let t = s.starts k kl in record { high = t.high; early = t.early; proper = omega (arith, t.proper); after_others = t.after_others };
     }
 
-pub pushed_view : (a : Inside) → IsSound a → (l m h : ℕ) (reason : Option ℕ) → l < 2 * length a.places.items → IsOpen (trail_of a) l
+pub pushed_view : (a : Inside) → IsLaidOut a → (l m h : ℕ) (reason : Option ℕ) → l < 2 * length a.places.items → IsOpen (trail_of a) l
     → trail_of (pushed_inside a l m h reason) ≡ pushed (trail_of a) l reason
 pushed_view a s l m h reason w o =
     let r : a.len < length a.places.items = room a s l w o in
@@ -315,7 +315,7 @@ pushed_view a s l m h reason w o =
     cc
 
 -- a trail that lies in memory is a trail
-pub lawful : (a : Inside) → IsSound a → IsTrail (trail_of a)
+pub lawful : (a : Inside) → IsLaidOut a → IsTrail (trail_of a)
 lawful a s =
     let f : a.len ≤ length a.literals.items = omega (arith, s.len_fits, s.literals_fit) in
     let g : a.levels ≤ length a.starts.items = omega (arith, s.levels_fit, s.len_fits, s.starts_fit) in

@@ -1,3 +1,3 @@
 pub mod Literals
 pub mod Trail
-pub mod Helpers
+pub mod helpers

@@ -1,5 +1,5 @@
 -- The trail of a search.
-use Rattle.std.specs.Prelude.{◌≡◌, ℕ, ◌*◌, ◌/◌, ◌<◌, ◌≤◌, Option, None, List, [], ◌∷◌, ◌++◌, length, take, slice_index, Contains}
+use Rattle.std.specs.Prelude.{◌≡◌, ◌≢◌, ℕ, ◌*◌, ◌/◌, ◌<◌, ◌≤◌, Option, None, Some, List, [], ◌∷◌, ◌++◌, length, take, slice_index, slice_index_or, Contains}
 use Rattle.cdcl_trail.specs.Literals.{opposite_of}
 use Rattle.cdcl_trail.specs.declared.trail.Value.{Value}
 use Rattle.cdcl_trail.specs.declared.trail.Value.TheVariants.{Open, True, False}
@@ -45,6 +45,10 @@ decided t l = record (pushed t l None) { starts = t.starts ++ length t.literals 
 abbrev pub cut_to : Trail → ℕ → Trail
 cut_to t level = let n = slice_index t.starts level in
     record t { literals = take n t.literals; reasons = take n t.reasons; starts = take level t.starts; propagated = n }
+
+-- the clause is no reason of a literal that is true
+abbrev pub IsNoReason : Trail → ℕ → Type 0
+IsNoReason t k = (p : ℕ) → p < length t.literals → slice_index_or t.reasons p None ≢ Some k
 
 -- what is true of every trail
 pub record IsTrail (t : Trail) : Type 0 where

@@ -59,11 +59,11 @@ impl Model for Trail {
 
     ghost Value = { plain.Trail };
 
-    ghost use Rattle.cdcl_trail.specs.Helpers.{trail_of, IsSound};
+    ghost use Rattle.cdcl_trail.specs.helpers.Layout.{trail_of, IsLaidOut};
 
     ghost view = { trail_of };
 
-    ghost invariant = { IsSound };
+    ghost invariant = { IsLaidOut };
 }
 
 impl Trail {

@@ -1,6 +1,6 @@
 use Rattle.std.proofs.Common.{◌∙◌, ℕ, List, false, length, get_or, ap, sym, arith, length-set}
 use Rattle.cdcl_clauses.specs.Clauses.{Clause, at}
-use Rattle.cdcl_lines.specs.Keeping.{dropped}
+use Rattle.cdcl_clauses.specs.Clauses.{dropped}
 use Rattle.cdcl_core.proofs.Dropping.{fold-step}
 use Rattle.cdcl_core.proofs.reducing.forget_all.Goals as goal
 

@@ -1,7 +1,6 @@
 use Rattle.std.proofs.Common.{◌≡◌, ◌∙◌, subst, arith}
-use Rattle.std.specs.Prelude.{IsTrue}
-use Rattle.cnf_core.specs.Clauses.{Formula, satisfies, value_in}
-use Rattle.cdcl_core.specs.Searches.{Answers, added_in}
+use Rattle.cnf_core.specs.Clauses.{Formula}
+use Rattle.cdcl_core.specs.Searches.{Answers, added_in, IsSolution}
 use Rattle.cdcl_core.specs.declared.progress.Progress.{Progress}
 use Rattle.cdcl_core.specs.declared.progress.Progress.TheVariants as answers
 use Rattle.cdcl_core.proofs.Searching.{open-searched, not-empty-searched}
@@ -13,7 +12,7 @@ returns-in-Sat c =
     let a : Answers c.in_ok-search.search s c.args.budget (answers.Sat c.in-Sat.assignment) =
     subst (λ (p : Progress). Answers c.in_ok-search.search s c.args.budget p) c.in-Sat.is c.in_ok-assignment.ensures.answers in
     let e : s.formula ≡ c.args.cnf.now = c.run.ensures.goes_on.formula ∙ c.in_ok-search.ensures.formula in
-    subst (λ (f : Formula). IsTrue (satisfies (value_in c.in-Sat.assignment) f.clauses)) e (c.run.ensures.lawful.satisfied c.in-Sat.assignment a.0)
+    subst (λ (f : Formula). IsSolution f c.in-Sat.assignment) e (c.run.ensures.lawful.satisfied c.in-Sat.assignment a.0)
 
 pub returns-in-Closed : goal.returns-in-Closed
 returns-in-Closed c =
@@ -21,7 +20,7 @@ returns-in-Closed c =
     let a : Answers c.in_ok-search.search s c.args.budget answers.Closed =
     subst (λ (p : Progress). Answers c.in_ok-search.search s c.args.budget p) c.in-Closed.is c.in_ok-assignment.ensures.answers in
     let e : s.formula ≡ c.args.cnf.now = c.run.ensures.goes_on.formula ∙ c.in_ok-search.ensures.formula in
-    rw (c.into_derivation.ensures.lines, ← e) (c.run.ensures.lawful.closed.1 a.0, c.run.ensures.lawful.fresh)
+    rw (c.into_derivation.ensures.lines, ← e) (c.run.ensures.lawful.closed.1 a.0, c.run.ensures.lawful.fresh, c.run.ensures.lawful.few)
 
 pub returns-in-Paused : goal.returns-in-Paused
 returns-in-Paused c =
@@ -33,6 +32,7 @@ returns-in-Paused c =
     rw (c.into_derivation-in-Paused.ensures.lines, ← e) (
       open-searched s c.run.ensures.lawful a.0,
       c.run.ensures.lawful.fresh,
+      c.run.ensures.lawful.few,
       n,
       not-empty-searched s c.run.ensures.lawful a.0 ∙ n,
     )

@@ -3,8 +3,8 @@ use Rattle.std.proofs.lemmas.List.Elements.{Contains-get_or}
 use Rattle.std.specs.Prelude.{Contains, All}
 use Rattle.cdcl_trail.specs.Literals.{opposite_of}
 use Rattle.cdcl_learn.specs.Shown.{Shows}
-use Rattle.cdcl_learn.specs.Lessons.{Fits}
-use Rattle.cdcl_learn.specs.Starts.{AreLower, Turns}
+use Rattle.cdcl_learn.specs.Lessons.{TurnFits}
+use Rattle.cdcl_learn.specs.helpers.Starts.{AreLower, Turns}
 use Rattle.cdcl_learn.proofs.Ending.{IsEnded, learnt_false, learnt_shown, fits, are_lower}
 use Rattle.cdcl_learn.proofs.conflicts.analyze.Goals as goal
 
@@ -41,7 +41,7 @@ returns-clause-lesson c =
           (subst (λ (hs : List ℕ). Shows c.args.clauses.now (ls ++ x ∷ []) hs) (sym r)
           (learnt_shown t c.args.clauses.now a.met.items c.uip.new.self.met.items a.pending c.start.result c.start-2.result c.in_ok-uip.uip x ls
           a.hints.items e c.in_ok-clear_root.ensures.suffices));
-      turn = subst (λ (xs : List ℕ). Fits t xs c.turn-turn.result) (sym p)
+      turn = subst (λ (xs : List ℕ). TurnFits t xs c.turn-turn.result) (sym p)
           (fits t c.requires.lawful a.met.items c.uip.new.self.met.items a.pending c.start.result c.start-2.result c.in_ok-uip.uip x ls e
           c.turn-turn.result turn);
     }

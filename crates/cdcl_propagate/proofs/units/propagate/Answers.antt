@@ -5,7 +5,8 @@ use Rattle.cdcl_trail.specs.Trail.{Trail, IsTrail}
 use Rattle.cdcl_clauses.specs.Clauses.{at, watches}
 use Rattle.cdcl_clauses.specs.Invariants.{AreGuarded}
 use Rattle.cdcl_propagate.proofs.Guarding.{same-trans, extends-trans, extends-advanced, guarded-advanced, reasoned-advanced}
-use Rattle.cdcl_propagate.proofs.Visiting.{opposite_of-opposite_of, fallen-now}
+use Rattle.cdcl_trail.proofs.Opposites.{opposite_of-opposite_of}
+use Rattle.cdcl_propagate.proofs.Visiting.{fallen-now}
 use Rattle.cdcl_propagate.proofs.units.propagate.Goals as goal
 
 pub returns-in-Some-2-clause-keeps : goal.returns-in-Some-2-clause-keeps

@@ -1,5 +1,5 @@
 use Rattle.std.proofs.Common.{◌-◌}
-use Rattle.cdcl_propagate.specs.Looks.{Propagates}
+use Rattle.cdcl_propagate.specs.Propagation.{Propagates}
 use Rattle.cdcl_propagate.proofs.units.propagate.Given as goal
 
 abbrev pub invariant-loop-literal : goal.invariant-loop-literal

@@ -1,6 +1,7 @@
 use Rattle.std.proofs.Common.{◌≡◌, ◌≤◌, ◌-◌, length}
 use Rattle.cdcl_clauses.specs.Clauses.{listed}
-use Rattle.cdcl_propagate.specs.Looks.{Propagates, IsVisitedBelow}
+use Rattle.cdcl_propagate.specs.helpers.Looks.{IsVisitedBelow}
+use Rattle.cdcl_propagate.specs.Propagation.{Propagates}
 use Rattle.cdcl_propagate.proofs.units.visit.Given as goal
 
 abbrev pub invariant-loop-place : goal.invariant-loop-place

@@ -2,4 +2,4 @@ use Rattle.std.proofs.Common.{◌≡◌}
 use Rattle.cdcl_steps.proofs.choice.next_open.Given as goal
 
 abbrev pub invariant-loop : goal.invariant-loop
-invariant-loop l = l.order ≡ l.initial.order
+invariant-loop l = l.activity ≡ l.initial.activity

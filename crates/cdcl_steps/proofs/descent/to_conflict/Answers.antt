@@ -15,7 +15,7 @@ loop-conflict-preserved c =
     record {
       keeps = rw c.decide.ensures.after (descends-decided c.args.trail.now c.args.clauses.now u c.propagate.new.clauses c.propagate.new.watches a e
           c.literal-literal.result w);
-      order_same = c.next_open.ensures.order ∙ inv.order_same;
+      activity_same = c.next_open.ensures.activity ∙ inv.activity_same;
     }
 
 pub returns-in_err-conflict-clause-keeps : goal.returns-in_err-conflict-clause-keeps

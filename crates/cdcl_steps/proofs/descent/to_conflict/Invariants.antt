@@ -5,7 +5,7 @@ use Rattle.cdcl_steps.proofs.descent.to_conflict.Given as goal
 abbrev pub invariant-loop-conflict : goal.invariant-loop-conflict
 invariant-loop-conflict l = record {
   keeps : Descends l.initial.trail l.initial.clauses l.trail l.clauses l.watches;
-  order_same : l.order ≡ l.initial.order;
+  activity_same : l.activity ≡ l.initial.activity;
 }
 
 abbrev pub decreases-loop-conflict : goal.decreases-loop-conflict

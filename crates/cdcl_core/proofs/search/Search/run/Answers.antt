@@ -1,6 +1,6 @@
 use Rattle.std.proofs.Common.{◌∙◌, ap}
 use Rattle.cdcl_core.specs.Searches.{Searched}
-use Rattle.cdcl_core.specs.Stages.{searched_of}
+use Rattle.cdcl_core.specs.helpers.Stages.{searched_of}
 use Rattle.cdcl_core.proofs.search.Search.run.Goals as goal
 
 pub returns-clause-answered : goal.returns-clause-answered

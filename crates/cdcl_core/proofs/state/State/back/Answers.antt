@@ -2,8 +2,8 @@ use Rattle.std.proofs.Common.{◌∙◌, ap, sym}
 use Rattle.cdcl_trail.specs.Trail.{Trail}
 use Rattle.cdcl_core.proofs.state.State.back.Goals as goal
 
-pub go_back-requires-clause-order : goal.go_back-requires-clause-order
-go_back-requires-clause-order c = c.requires.live.order ∙ sym c.requires.live.variables
+pub go_back-requires-clause-activity : goal.go_back-requires-clause-activity
+go_back-requires-clause-activity c = c.requires.live.activity ∙ sym c.requires.live.variables
 
 pub returns-clause-live : goal.returns-clause-live
 returns-clause-live c =
@@ -12,6 +12,6 @@ returns-clause-live c =
       sound = c.go_back.ensures.sound s.clauses s.watches c.requires.live.sound;
       rooted = c.go_back.ensures.rooted s.clauses c.requires.live.rooted;
       variables = ap (λ (t : Trail). t.variables) c.go_back.ensures.trail ∙ c.requires.live.variables;
-      order = c.go_back.ensures.order ∙ c.requires.live.order;
+      activity = c.go_back.ensures.activity ∙ c.requires.live.activity;
       agree = c.requires.live.agree;
     }

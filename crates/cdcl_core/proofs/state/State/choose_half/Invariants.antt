@@ -1,6 +1,6 @@
 use Rattle.std.proofs.Common.{◌<◌, ◌≤◌, length}
 use Rattle.std.specs.Prelude.{All}
-use Rattle.cdcl_core.specs.Helpers.{MayAllGo}
+use Rattle.cdcl_core.specs.helpers.States.{MayAllGo}
 use Rattle.cdcl_core.proofs.state.State.choose_half.Given as goal
 
 abbrev pub invariant-loop-clause : goal.invariant-loop-clause

@@ -1,7 +1,7 @@
 use Rattle.std.proofs.Common.{[], List, refl, sym, subst, arith}
 use Rattle.std.proofs.lemmas.Result.{on_ok_weaker}
 use Rattle.refute_check.specs.declared.line.Line.{Line}
-use Rattle.cdcl_core.specs.Helpers.{Ended}
+use Rattle.cdcl_core.specs.helpers.States.{Ended}
 use Rattle.cdcl_core.proofs.Agreeing.{ended}
 use Rattle.cdcl_core.proofs.Going.{hints-within}
 use Rattle.cdcl_core.proofs.state.State.conclude.Goals as goal

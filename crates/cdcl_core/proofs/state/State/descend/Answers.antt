@@ -10,6 +10,6 @@ returns-clause-live c =
       sound = e.keeps.sound;
       rooted = e.keeps.rooted c.requires.rooted;
       variables = e.keeps.variables ∙ c.requires.variables;
-      order = e.order ∙ c.requires.order;
+      activity = e.activity ∙ c.requires.activity;
       agree = agree-same s.formula s.clauses s.derivation s.added s.deleted c.requires.agree c.to_conflict.new.clauses e.keeps.same;
     }

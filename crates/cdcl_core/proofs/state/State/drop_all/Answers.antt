@@ -35,7 +35,7 @@ returns-clause-live c =
       sound = f.sound s.watches live.sound;
       rooted = f.rooted live.rooted;
       variables = live.variables;
-      order = live.order;
+      activity = live.activity;
       agree = rw (f.after, line) (agree-dropped s.formula s.clauses s.derivation s.added s.deleted live.agree ks (can-drop s ks c.requires.may)
           (λ k d h. (c.requires.may.each k d h).learnt) c.requires.some c.requires.few);
     }

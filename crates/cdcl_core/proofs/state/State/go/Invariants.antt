@@ -1,5 +1,5 @@
 use Rattle.std.proofs.Common.{◌-◌, ◌≤◌}
-use Rattle.cdcl_core.specs.Helpers.{IsLive, IsFurther}
+use Rattle.cdcl_core.specs.helpers.States.{IsLive, IsFurther}
 use Rattle.cdcl_core.proofs.state.State.go.Given as goal
 
 abbrev pub invariant-loop-done : goal.invariant-loop-done

@@ -4,8 +4,8 @@ use Rattle.std.proofs.lemmas.List.Elements.{All-contains}
 use Rattle.std.proofs.lemmas.List.{length_push}
 use Rattle.refute_check.specs.declared.line.Line.{Line}
 use Rattle.cdcl_trail.specs.Trail.{Trail, IsTrail, pushed}
-use Rattle.cdcl_clauses.specs.Clauses.{Clause}
-use Rattle.cdcl_steps.proofs.OneMore.{one_more, sound-assert}
+use Rattle.cdcl_clauses.specs.Clauses.{Clause, kept_clause}
+use Rattle.cdcl_steps.proofs.OneMore.{sound-assert}
 use Rattle.cdcl_steps.proofs.Rooting.{rooted-attach}
 use Rattle.cdcl_lines.specs.Lines.{added}
 use Rattle.cdcl_lines.specs.Literals.{clause_of}
@@ -79,7 +79,7 @@ returns-in-Ok-clause-live c =
     let u : IsTrail (pushed t a (Some (length cs))) = rw after at c.imply.ensures.lawful in
     let line : c.push.new.self ≡ s.derivation ++ added ls hs ∷ [] = c.in-Ok.ensures.ok
     ∙ ap (λ (l : Line). s.derivation ++ l ∷ []) c.in_ok-line.ensures.line in
-    let kept : c.touch_all.new.clauses ≡ cs ++ one_more ls a b ∷ [] = c.touch_all.ensures ∙ c.touch.ensures ∙ ok.clauses in
+    let kept : c.touch_all.new.clauses ≡ cs ++ kept_clause ls a b ∷ [] = c.touch_all.ensures ∙ c.touch.ensures ∙ ok.clauses in
     let w : All (λ l. l < 2 * s.formula.vars) ls = subst (λ (v : ℕ). All (λ l. l < 2 * v) ls) live.variables can.within in
     let fresh : IsFresh (checked s.formula s.derivation).kept (clause_of ls) =
     asserted-fresh t cs s.watches (checked s.formula s.derivation) ls a b live.sound live.rooted live.agree.represents can in
@@ -87,7 +87,7 @@ returns-in-Ok-clause-live c =
       sound = rw (after, kept, ok.lists) (sound-assert t cs s.watches live.sound ls a b can u);
       rooted = rw (after, kept) (rooted-attach t cs ls a b can (Some (length cs)) live.rooted);
       variables = ap (λ (x : Trail). x.variables) after ∙ live.variables;
-      order = live.order;
+      activity = live.activity;
       agree = rw (kept, line) (agree-learnt s.formula cs s.derivation s.added s.deleted live.agree c.requires.room c.requires.bound ls hs a b w c.requires.rise
           c.requires.shown can.has fresh);
     }
@@ -113,5 +113,5 @@ touch-requires c = omega (
   arith,
   c.len-clause.ensures,
   ap length c.in_ok-attach.ensures.ok.clauses,
-  length_push c.args.self.now.clauses (one_more c.args.literals.now c.args.asserted c.args.beside),
+  length_push c.args.self.now.clauses (kept_clause c.args.literals.now c.args.asserted c.args.beside),
 )

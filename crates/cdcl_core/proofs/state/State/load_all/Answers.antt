@@ -1,7 +1,7 @@
 use Rattle.std.proofs.Common.{◌≡◌, ◌∙◌, length, ap, sym, subst, arith}
 use Rattle.cnf_core.specs.Clauses.{Formula}
 use Rattle.cdcl_steps.specs.declared.loading.Loaded.{Loaded}
-use Rattle.cdcl_core.specs.Helpers.{HaveLiterals, LoadsOne}
+use Rattle.cdcl_core.specs.helpers.States.{HaveLiterals, LoadsOne}
 use Rattle.cdcl_core.proofs.Starting.{found-taken}
 use Rattle.cdcl_core.proofs.state.State.load_all.Goals as goal
 use Rattle.cdcl_core.proofs.state.State.load_all.Goals.{in-Taken, in-Refuted}

@@ -2,7 +2,7 @@ use Rattle.std.proofs.Common.{◌≡◌}
 use Rattle.std.specs.Prelude.{MatchOption}
 use Rattle.cdcl_clauses.specs.Invariants.{AreRooted}
 use Rattle.cdcl_learn.specs.Shown.{Refutes}
-use Rattle.cdcl_core.specs.Helpers.{IsLoaded}
+use Rattle.cdcl_core.specs.helpers.States.{IsLoaded}
 use Rattle.cdcl_core.proofs.state.State.load_all.Given as goal
 
 abbrev pub invariant-loop-place : goal.invariant-loop-place

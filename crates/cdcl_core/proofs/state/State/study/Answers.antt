@@ -8,8 +8,8 @@ close-requires-clause-conflict c = record { there = c.requires.conflict.there; k
 pub close-requires-clause-levels : goal.close-requires-clause-levels
 close-requires-clause-levels c = nil_from_length c.args.self.now.trail.starts (omega arith)
 
-pub close-requires-clause-order : goal.close-requires-clause-order
-close-requires-clause-order c = c.requires.live.order ∙ sym c.requires.live.variables
+pub close-requires-clause-activity : goal.close-requires-clause-activity
+close-requires-clause-activity c = c.requires.live.activity ∙ sym c.requires.live.variables
 
-pub analyze-requires-clause-order : goal.analyze-requires-clause-order
-analyze-requires-clause-order c = c.requires.live.order ∙ sym c.requires.live.variables
+pub analyze-requires-clause-activity : goal.analyze-requires-clause-activity
+analyze-requires-clause-activity c = c.requires.live.activity ∙ sym c.requires.live.variables

@@ -1,5 +1,5 @@
 use Rattle.std.proofs.lemmas.Result.{IfOk-weaker, on_err_weaker}
-use Rattle.cdcl_core.specs.Helpers.{ComesTo}
+use Rattle.cdcl_core.specs.helpers.States.{ComesTo}
 use Rattle.cdcl_core.proofs.Going.{comes-further, far-further}
 use Rattle.cdcl_core.proofs.state.State.turn.Goals as goal
 

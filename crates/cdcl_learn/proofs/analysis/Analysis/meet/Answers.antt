@@ -18,7 +18,7 @@ loop-literal-preserved c =
     let same : c.literals-literal-items.result.now ≡ (at c.args.clauses.now c.args.clause).literals = c.literals-literal-items.ensures in
     let il : i < length (at c.args.clauses.now c.args.clause).literals = subst (λ (ls : List ℕ). i < length ls) same c.loop-literal-test.true in
     record {
-      order_same = c.bump.ensures ∙ inv.order_same;
+      activity_same = c.bump.ensures ∙ inv.activity_same;
       tallies = c.mark.ensures.tallies;
       meets = meets_more c.args.trail.now c.requires.lawful c.args.self.now.met.items c.loop-literal.self.met.items c.mark.new.self.met.items
           (at c.args.clauses.now c.args.clause).literals i c.place-place.result il c.place-place.ensures.within

@@ -1,8 +1,9 @@
 use Rattle.std.proofs.Common.{◌≡◌, ◌<◌, ◌-◌, ◌∙◌, ℕ, Some, None, false, inl, inr, refl, length, take, get_or, set, sym, arith}
 use Rattle.cdcl_clauses.specs.Invariants.{IsReason}
-use Rattle.cdcl_learn.specs.Helpers.{IsMet, Suffices, Resolves}
+use Rattle.cdcl_learn.specs.helpers.Analyses.{IsMet, Suffices, Resolves}
 use Rattle.cdcl_learn.proofs.Counting.{met-set}
-use Rattle.cdcl_learn.proofs.Meeting.{reason_of, reason_there, open_positive, resolves-set, suffices-resolve, tallies-resolve}
+use Rattle.cdcl_learn.proofs.Meeting.{reason_of, reason_there, resolves-set, suffices-resolve, tallies-resolve}
+use Rattle.cdcl_learn.proofs.Counting.{open_some}
 use Rattle.cdcl_learn.proofs.analysis.Analysis.resolve.Goals as goal
 use Rattle.cdcl_learn.proofs.analysis.Analysis.resolve.Goals.{then-place-bounds, else-place-bounds}
 
@@ -17,7 +18,7 @@ pub overflow_sub-self : goal.overflow_sub-self
 overflow_sub-self c =
     let m : IsMet c.meet.new.self.met.items c.args.place = c.in_ok-meet.ensures.meets.kept c.args.place c.requires.met in
     let t = c.meet.ensures.tallies in
-    omega (arith, open_positive c.meet.new.self.met.items c.args.bounds.base c.args.place (omega (arith, t.size, c.requires.place)) (omega arith) m, t.count)
+    omega (arith, open_some c.meet.new.self.met.items c.args.bounds.base c.args.place (omega (arith, t.size, c.requires.place)) (omega arith) m, t.count)
 
 reason : (c : goal.After-self-2-1) → IsReason c.args.clauses.now (take c.args.place c.args.trail.now.literals)
     (get_or c.args.trail.now.literals c.args.place 0) c.unwrap-reason.result
@@ -33,7 +34,7 @@ returns-clause-tallies c =
     elim c.if-place-bounds.branch [
       | then-place-bounds w ↦ rw w.self-is (tallies-resolve c.args.trail.now c.meet.new.self.met.items c.meet.new.self.pending c.args.bounds.root
           c.args.bounds.base c.meet.new.self.literals.items t c.args.place h m c.requires.not_between (c.meet.new.self.pending - 1)
-          (λ g. omega (arith, open_positive c.meet.new.self.met.items c.args.bounds.base c.args.place h g m, t.count))
+          (λ g. omega (arith, open_some c.meet.new.self.met.items c.args.bounds.base c.args.place h g m, t.count))
           (λ g. absurd (omega (arith, g, w.if-place-bounds.true))))
       | else-place-bounds w ↦ rw w.self-is (tallies-resolve c.args.trail.now c.meet.new.self.met.items c.meet.new.self.pending c.args.bounds.root
           c.args.bounds.base c.meet.new.self.literals.items t c.args.place h m c.requires.not_between c.meet.new.self.pending

@@ -1,7 +1,7 @@
 use Rattle.std.proofs.Common.{◌≡◌, ◌<◌, ◌≤◌, ◌-◌, ◌∙◌, ℕ, true, false, length, get_or, refl, sym, ap, inl, inr, arith}
 use Rattle.std.proofs.lemmas.Bool.{cases_eq, cases_lt}
 use Rattle.std.proofs.lemmas.List.{get_or_read}
-use Rattle.cdcl_learn.specs.Helpers.{IsMet}
+use Rattle.cdcl_learn.specs.helpers.Analyses.{IsMet}
 use Rattle.cdcl_learn.proofs.Counting.{open_one, open_none, open_some, open_at_most, open_other}
 use Rattle.cdcl_learn.proofs.Meeting.{met_within, reason_some}
 use Rattle.cdcl_learn.proofs.analysis.Analysis.uip.Goals as goal
@@ -55,7 +55,7 @@ loop-place-preserved-in-Continue-1 c =
     let (q, bq, ne, mq) = open_other c.loop-place.self.met.items c.args.bounds.base p pm low m (λ e. c.if-self-eq1.false (s.count ∙ e)) in
     let mq' : IsMet c.resolve.new.self.met.items q = r.kept q ne mq in
     record {
-      order_same = c.in_ok-resolve.ensures.order ∙ c.loop-place.invariant.order_same;
+      activity_same = c.in_ok-resolve.ensures.activity ∙ c.loop-place.invariant.activity_same;
       tallies = t;
       suffices = c.in_ok-resolve.ensures.suffices;
       some = omega (arith, t.count, open_some c.resolve.new.self.met.items c.args.bounds.base q (met_within c.resolve.new.self.met.items q mq' refl) bq mq');

@@ -2,7 +2,7 @@ use Rattle.std.proofs.Common.{◌≡◌, ◌<◌, ℕ, get_or, length, sym, ap, 
 use Rattle.std.proofs.lemmas.List.{get_or_read}
 use Rattle.std.specs.Vec.{with_item}
 use Rattle.cdcl_trail.specs.Trail.{cut_to}
-use Rattle.cdcl_trail.specs.Helpers.{trail_of, IsSound}
+use Rattle.cdcl_trail.specs.helpers.Layout.{trail_of, IsLaidOut}
 use Rattle.cdcl_trail.specs.declared.trail.Value.TheVariants.{Open}
 use Rattle.cdcl_trail.specs.declared.trail.Trail.TheInside.{Inside}
 use Rattle.cdcl_trail.proofs.Cuts.{Opens, opens_more, sound_cut, cut_inside, cut_view, level_within}
@@ -41,7 +41,7 @@ invariant_of-self c =
     let end : c.loop-place.place ≡ c.self.inside.len = omega (arith, c.loop-place-test.false, c.loop-place.auto.place-end, proper, start c) in
     let o : Opens c.self.inside.values.items c.loop-place.self-inside.values.items c.self.inside.literals.items c.index.result.now c.self.inside.len =
     rw end at inv.opens in
-    subst (λ (b : Inside). IsSound (cut_inside b c.loop-place.self-inside.values c.index.result.now c.args.level)) (sym inv.others)
+    subst (λ (b : Inside). IsLaidOut (cut_inside b c.loop-place.self-inside.values c.index.result.now c.args.level)) (sym inv.others)
     (sound_cut c.self.inside c.self.invariant c.loop-place.self-inside.values c.index.result.now c.args.level (level c) (start c) o)
 
 pub returns-clause-after : goal.returns-clause-after

@@ -1,6 +1,6 @@
 use Rattle.std.proofs.Common.{◌≡◌, None, ◌∙◌, length, length-take-le, arith}
 use Rattle.cdcl_trail.specs.Trail.{pushed}
-use Rattle.cdcl_trail.specs.Helpers.{trail_of}
+use Rattle.cdcl_trail.specs.helpers.Layout.{trail_of}
 use Rattle.cdcl_trail.proofs.Cuts.{sound_begun, begun_view}
 use Rattle.cdcl_trail.proofs.Trails.{lawful}
 use Rattle.cdcl_trail.proofs.trail.Trail.decide.Goals as goal

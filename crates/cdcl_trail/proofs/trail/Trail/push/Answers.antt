@@ -1,6 +1,6 @@
 use Rattle.std.proofs.Common.{◌<◌, ◌*◌, length, arith}
 use Rattle.cdcl_trail.specs.Trail.{IsOpen}
-use Rattle.cdcl_trail.specs.Helpers.{trail_of}
+use Rattle.cdcl_trail.specs.helpers.Layout.{trail_of}
 use Rattle.cdcl_trail.proofs.Trails.{room, sound_pushed, pushed_view}
 use Rattle.cdcl_trail.proofs.Trails.{lawful}
 use Rattle.cdcl_trail.proofs.trail.Trail.push.Goals as goal

@@ -1,0 +1,47 @@
+-- The beginning and the end of an analysis.
+use Rattle.std.specs.Prelude.{◌≡◌, ℕ, ◌-◌, ◌/◌, ◌<◌, ◌≤◌, ◌⊎◌, List, [], length, take, slice_index, Contains}
+use Rattle.cdcl_trail.specs.Literals.{opposite_of}
+use Rattle.cdcl_learn.specs.declared.lesson.Turn.{Turn}
+use Rattle.cdcl_learn.specs.declared.lesson.Turn.TheVariants.{Closed, Back}
+use Rattle.cdcl_trail.specs.Trail.{Trail}
+use Rattle.cdcl_clauses.specs.Clauses.{Clause}
+use Rattle.cdcl_clauses.specs.Invariants.{IsConflict}
+use Rattle.cdcl_learn.specs.helpers.Analyses.{Tallies, Suffices}
+use Rattle.cdcl_learn.specs.declared.analysis.Analysis.{Analysis}
+
+-- the conflict was met, and where what isn't propagated belongs to the last level, some of that is to be resolved
+pub record IsStarted (t : Trail) (cs : List Clause) (conflict root base : ℕ) (a : Analysis) : Type 0 where
+  pub tallies : Tallies t a.met.items a.pending root base a.literals.items
+  pub suffices : Suffices t cs a.met.items a.hints.items
+  pub some : IsConflict t cs conflict → base ≤ t.propagated → 0 < a.pending
+
+-- the literals are false by places below the last level
+abbrev pub AreLower : Trail → List ℕ → Type 0
+AreLower t ls = (x : ℕ) → Contains ls x → (p : ℕ) × (p < slice_index t.starts (length t.starts - 1)) × (x ≡ opposite_of (slice_index t.literals p))
+
+-- none of the literals has a variable that stands higher
+pub record IsHighest (t : Trail) (ls : List ℕ) (b : ℕ) : Type 0 where
+  pub has : Contains ls b
+  pub highest : (x p q : ℕ) → Contains ls x → p < length t.literals → q < length t.literals → slice_index t.literals p / 2 ≡ x / 2
+      → slice_index t.literals q / 2 ≡ b / 2 → p ≤ q
+
+-- the first level that begins after a place
+pub record IsLevelAfter (t : Trail) (place level : ℕ) : Type 0 where
+  pub within : level < length t.starts
+  pub after : place < slice_index t.starts level
+  pub first : (i : ℕ) → i < level → slice_index t.starts i ≤ place
+
+-- going back to a level, where these are the other literals
+pub record IsTurn (t : Trail) (ls : List ℕ) (a level asserted beside : ℕ) : Type 0 where
+  pub same : asserted ≡ a
+  pub within : level < length t.starts
+  pub lower : (x : ℕ) → Contains ls x → Contains (take (slice_index t.starts level) t.literals) (opposite_of x)
+  pub alone : (ls ≡ []) ⊎ Contains ls beside
+  pub single : ls ≡ [] → beside ≡ a
+  pub root : ls ≡ [] → level ≡ 0
+  pub high : (i : ℕ) → i < level → Contains ls beside → Contains (take (slice_index t.starts i) t.literals) (opposite_of beside) → ⊥
+
+-- what to do fits, where these are the other literals
+abbrev pub Turns : Trail → List ℕ → ℕ → Turn → Type 0
+Turns t ls a Closed = ⊥
+Turns t ls a (Back level asserted beside) = IsTurn t ls a level asserted beside

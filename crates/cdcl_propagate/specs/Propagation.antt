@@ -1,0 +1,12 @@
+-- What propagation keeps.
+use Rattle.std.specs.Prelude.{List}
+use Rattle.cdcl_trail.specs.Trail.{Trail}
+use Rattle.cdcl_clauses.specs.Clauses.{Clause}
+use Rattle.cdcl_clauses.specs.Invariants.{AreConsistent, AreSame, Extends}
+use Rattle.cdcl_clauses.specs.declared.watches.Watch.{Watch}
+
+-- the trail is longer, the clauses are the same but for what they watch, and all is kept
+pub record Propagates (t : Trail) (cs : List Clause) (u : Trail) (ds : List Clause) (vs : List (List Watch)) : Type 0 where
+  pub sound : AreConsistent u ds vs
+  pub same : AreSame cs ds
+  pub extends : Extends t u

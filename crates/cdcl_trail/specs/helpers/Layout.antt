@@ -1,0 +1,49 @@
+-- How a trail lies in memory.
+use Rattle.std.specs.Prelude.{◌≡◌, ◌≢◌, ℕ, ◌*◌, ◌/◌, ◌^◌, ◌<◌, ◌≤◌, take, length, slice_index, slice_index_or}
+use Rattle.cdcl_trail.specs.Literals.{opposite_of}
+use Rattle.cdcl_trail.specs.Trail.{Trail}
+use Rattle.cdcl_trail.specs.declared.trail.Value.TheVariants.{Open, True, False}
+use Rattle.cdcl_trail.specs.declared.trail.Trail.TheInside.{Inside}
+
+-- the trail that lies there
+abbrev pub trail_of : Inside → Trail
+trail_of a = record {
+  variables = length a.places.items;
+  literals = take a.len a.literals.items;
+  reasons = take a.len a.reasons.items;
+  starts =
+      take a.levels a.starts.items;
+  propagated = a.propagated;
+}
+
+-- the literal at a place of the trail is true, its opposite is false, and its variable knows the place
+pub record StandsAt (a : Inside) (k : ℕ) : Type 0 where
+  pub within : slice_index a.literals.items k < 2 * length a.places.items
+  pub true_there : slice_index_or a.values.items (slice_index a.literals.items k) Open ≡ True
+  pub false_there : slice_index_or a.values.items (opposite_of (slice_index a.literals.items k)) Open ≡ False
+  pub known : slice_index a.places.items (slice_index a.literals.items k / 2) ≡ k
+
+-- the variable of a literal that isn't open stands where it says
+pub record IsPlaced (a : Inside) (l : ℕ) : Type 0 where
+  pub on_trail : slice_index a.places.items (l / 2) < a.len
+  pub there : slice_index a.literals.items (slice_index a.places.items (l / 2)) / 2 ≡ l / 2
+
+-- a level begins after the levels before it, and no later than what is propagated
+pub record StartsWell (a : Inside) (k : ℕ) : Type 0 where
+  pub high : k ≤ slice_index a.starts.items k
+  pub early : slice_index a.starts.items k ≤ a.propagated
+  pub proper : slice_index a.starts.items k < a.len
+  pub after_others : (i : ℕ) → i < k → slice_index a.starts.items i < slice_index a.starts.items k
+
+pub record IsLaidOut (a : Inside) : Type 0 where
+  pub few : length a.places.items < 2 ^ 31
+  pub values_fit : length a.values.items ≡ 2 * length a.places.items
+  pub literals_fit : length a.literals.items ≡ length a.places.items
+  pub reasons_fit : length a.reasons.items ≡ length a.places.items
+  pub starts_fit : length a.starts.items ≡ length a.places.items
+  pub len_fits : a.len ≤ length a.places.items
+  pub levels_fit : a.levels ≤ a.len
+  pub propagated_fits : a.propagated ≤ a.len
+  pub stands : (k : ℕ) → k < a.len → StandsAt a k
+  pub placed : (l : ℕ) → l < 2 * length a.places.items → slice_index_or a.values.items l Open ≢ Open → IsPlaced a l
+  pub starts : (k : ℕ) → k < a.levels → StartsWell a k
