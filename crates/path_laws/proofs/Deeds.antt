@@ -15,15 +15,16 @@ use Rattle.std.proofs.lemmas.Bool.{eqb-true, eq-eqb, lt-ltb, le-ltb}
 use Rattle.std.proofs.lemmas.List.{length-map, length-drop, length-take-le, map-append, take-append-drop}
 use Rattle.tc_base.specs.Buffers.{BufferOps}
 use Rattle.tc_base.specs.Logs.{Log, ThreadPath}
-use Rattle.tc_base.specs.Names.{Name}
+use Rattle.tc_base.specs.Names.{Name, by_name}
 use Rattle.tc_base.specs.States.{Local, Thread, State}
 use Rattle.tc_base.specs.declared.handle.Handle.TheVariants.{Unset}
 use Rattle.tc_base.specs.declared.moves.Move.{Move}
 use Rattle.tc_base.specs.declared.request.Request.{Request}
 use Rattle.tc_base.specs.declared.request.Request.TheVariants.{WakeOne}
 use Rattle.tc_code.specs.Code.{Code, instr_at, line_at}
-use Rattle.tc_code.specs.Facts.{at_its_place}
-use Rattle.tc_code.specs.Instr.{Instr, Inside, Holds, Signal, Create, Ready, Join, Assert, Nonzero, In_range}
+use Rattle.tc_code.proofs.Facts.{at_its_place}
+use Rattle.tc_code.specs.declared.instr.Instr.{Instr}
+use Rattle.tc_code.specs.declared.instr.Instr.TheVariants.{Inside, Holds, Signal, Create, Ready, Join, Assert, Nonzero, InRange}
 use Rattle.tc_code.specs.Lawful.{IsLawful}
 use Rattle.tc_code.specs.Run.{run, IsReached}
 use Rattle.tc_code.specs.Step.{request, site, child_number, instr_of, perform, woken, opening}
@@ -38,12 +39,12 @@ use Rattle.path_walk.specs.declared.event.EventKind.{EventKind}
 use Rattle.path_walk.specs.declared.event.EventKind.TheVariants as kind
 use Rattle.path_walk.proofs.Places.{count}
 use Rattle.run_laws.proofs.Changes.{is_fail}
-use Rattle.run_laws.proofs.Names.{same_or_apart, get_put, get_put_apart}
+use Rattle.run_laws.proofs.Names.{same_self, same_other, same_or_apart, get_put, get_put_apart}
 use Rattle.run_history.specs.History.{Deed, Did, Drained, taken, created_by, history}
 use Rattle.run_history.specs.Locals.{after_step}
 use Rattle.run_history.proofs.Frame.{Keeps, holds_after}
 use Rattle.run_history.proofs.Lists.{filter_map-push, last_or-push}
-use Rattle.run_history.proofs.Threads.{own, same_self, same_other, steps_by, find, Its_own, Its_child, Another}
+use Rattle.run_history.proofs.Threads.{own, steps_by, find, Its_own, Its_child, Another}
 use Rattle.path_laws.specs.Along.{HasMarks, IsAlong}
 use Rattle.path_laws.specs.Deeds.{number_by, kind_of, EventDone, done_as, event_by, events_before}
 use Rattle.path_laws.specs.Prefixes.{fails_by, AreOnPaths}
@@ -141,7 +142,7 @@ module _ {B : Type 0} (ops : BufferOps B) (code : Code) where
               ∙ laws.start false (length code.functions - 1) [])
           | inr other ↦
               sym (ap (told_at false) (get_put_apart fin.empty [] (machine.born ops code (length code.functions - 1) []) q other
-              ∙ fin.get-empty (slice_cmp nat_cmp) q))
+              ∙ fin.get-empty by_name q))
         ]
 
     -- so it is after each run
@@ -204,7 +205,7 @@ kind_asked ops code n t m (Holds k) marks = site_kind ops code n t _
 kind_asked ops code n t m (Ready h) marks = site_kind ops code n t _
 kind_asked ops code n t m (Assert e) marks = site_kind ops code n t _
 kind_asked ops code n t m (Nonzero e) marks = site_kind ops code n t _
-kind_asked ops code n t m (In_range e) marks = site_kind ops code n t _
+kind_asked ops code n t m (InRange e) marks = site_kind ops code n t _
 kind_asked ops code n t m (Create h f es) marks =
     ap (option_map kind.Create) (last_or-push None n (t.children + 1)) ∙ ap (λ k. Some (kind.Create (k + 1))) (sym marks.children)
 kind_asked ops code n t m (Join h) marks = ap (λ xs. Some (kind.Join (child_number (slice_index_or xs h Unset)))) (sym marks.handles)

@@ -12,17 +12,18 @@ use Rattle.tc_base.specs.declared.moves.Move.TheVariants as move
 use Rattle.tc_base.specs.declared.request.Request.{Request}
 use Rattle.tc_base.specs.declared.request.Request.TheVariants.{Write, WakeOne, Fail}
 use Rattle.tc_code.specs.Code.{Code}
-use Rattle.tc_code.specs.Instr.{Instr, Signal}
+use Rattle.tc_code.specs.declared.instr.Instr.{Instr}
+use Rattle.tc_code.specs.declared.instr.Instr.TheVariants.{Signal}
 use Rattle.tc_code.specs.Run.{IsReached}
 use Rattle.tc_code.specs.Step.{request, local_after, instr_of, perform, with_thread, woken, step}
 use Rattle.tc_code.specs.Step as machine
-use Rattle.path_walk.proofs.Names.{same_true, same_refl}
+use Rattle.tc_base.proofs.Names.{same_true, same_refl}
 use Rattle.run_laws.proofs.Changes.{is_fail}
 use Rattle.run_laws.proofs.Names.{same_or_apart, one_under, get_put, get_put_apart}
 use Rattle.run_laws.proofs.Steps.{Went, step_went, none_failed}
 use Rattle.run_history.specs.History.{taken}
 use Rattle.run_history.specs.Locals.{after_step}
-use Rattle.run_history.proofs.Lists.{by_bool}
+use Rattle.run_laws.proofs.Basics.{by_bool}
 use Rattle.run_history.proofs.Threads.{own, with_born, performed_threads, find, steps_by, Its_own, Its_child, Another}
 use Rattle.path_laws.specs.Prefixes.{fails_by}
 use Rattle.path_laws.proofs.Local.{moves}

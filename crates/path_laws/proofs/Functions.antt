@@ -12,7 +12,8 @@ use Rattle.path_walk.specs.Steps.{Step, step_at, steps_at}
 use Rattle.path_walk.specs.Fits.{starts, started, places_in, child_function, function_of}
 use Rattle.path_walk.proofs.Faults.{function_of_child}
 use Rattle.path_laws.specs.Prefixes.{fails_by}
-use Rattle.path_laws.proofs.States.{created, told_is, get_front, AllKnown}
+use Rattle.path_log.proofs.Lists.{get_front}
+use Rattle.path_laws.proofs.States.{created, told_is, AllKnown}
 
 module _ (code : Code) (log : Log) where
   -- places are the first of those on the path of the thread of a name

@@ -4,14 +4,16 @@ use Rattle.std.proofs.Common.{Some, Result, Ok, refl, sym, ap, ap₂, subst, ari
 use Rattle.std.specs.Prelude.{unwrap_or}
 use Rattle.std.specs.List.{list_any, cons_option}
 use Rattle.std.specs.Option.{option_map_or}
+use Rattle.std.proofs.Math.Bool.{and-true, and-false, or-false}
 use Rattle.std.proofs.lemmas.Bool.{eqb-true}
 use Rattle.std.proofs.lemmas.List.{map-append, length-append}
 use Rattle.std.proofs.lemmas.Option.{none-some, same_Some}
 use Rattle.tc_base.specs.States.{Local}
 use Rattle.tc_base.specs.declared.handle.Handle.TheVariants.{Unset, Child, Joined}
 use Rattle.tc_code.specs.Code.{Code, instr_at}
-use Rattle.tc_code.specs.Instr.{Instr, Branch, Goto, Lock, Unlock, Sleep, Wake}
-use Rattle.tc_code.specs.Instr.{Create, Join, Exit}
+use Rattle.tc_code.specs.declared.instr.Instr.{Instr}
+use Rattle.tc_code.specs.declared.instr.Instr.TheVariants.{Branch, Goto, Lock, Unlock, Sleep, Wake}
+use Rattle.tc_code.specs.declared.instr.Instr.TheVariants.{Create, Join, Exit}
 use Rattle.tc_code.specs.Step.{child_number, branched, local_after, is_nonzero, value_in}
 use Rattle.path_walk.specs.Steps.{Step, Onward, onward, places_from, step_at, steps_at, is_site}
 use Rattle.path_walk.specs.Steps as path
@@ -165,29 +167,17 @@ pub marked_push : (fails : Bool) (k : ℕ) (m : Marks) (ss : List Step) (s : Ste
     ≡ marked_from false k m ss ++ record { number = k + length ss; step = s; fails = fails; marks = marks_after m ss } ∷ []
 marked_push fails k m [] s =
     let number : k ≡ k + 0 = omega arith in
-    ap₂ (λ n b. the_marked (record { number = n; step = s; fails = b; marks = m } ∷ [])) number (and_true fails)
-  where
-    and_true : (b : Bool) → (b && true) ≡ b
-    and_true true = refl
-    and_true false = refl
+    ap₂ (λ n b. the_marked (record { number = n; step = s; fails = b; marks = m } ∷ [])) number (and-true fails)
 marked_push fails k m (x ∷ ss) s =
     let number : (k + 1) + length ss ≡ k + suc (length ss) = omega arith in
     ap₂ (λ b rest. the_marked (record { number = k; step = x; fails = b; marks = m } ∷ rest))
-    (ap (λ b. fails && b) (more_than_none ss s) ∙ and_false fails)
+    (ap (λ b. fails && b) (more_than_none ss s) ∙ and-false fails)
     (marked_push fails (k + 1) (marked m x.instr) ss s
     ∙ ap (λ n. the_marked (marked_from false (k + 1) (marked m x.instr) ss
     ++ record { number = n; step = s; fails = fails; marks = marks_after (marked m x.instr) ss } ∷ [])) number)
-  where
-    and_false : (b : Bool) → (b && false) ≡ false
-    and_false true = refl
-    and_false false = refl
 
 pub any_push : {X : Type 0} (p : X → Bool) (xs : List X) (x : X) → list_any p xs ≡ false → p x ≡ false → list_any p (xs ++ x ∷ []) ≡ false
-any_push p [] x h q = or_false (p x) q
-  where
-    or_false : (b : Bool) → b ≡ false → (b || false) ≡ false
-    or_false true q = q
-    or_false false q = refl
+any_push p [] x h q = or-false (p x) ∙ q
 any_push p (y ∷ xs) x h q = by (p y) h (λ g. any_push p xs x g q)
   where
     by : (b : Bool) → (b || list_any p xs) ≡ false → (list_any p xs ≡ false → list_any p (xs ++ x ∷ []) ≡ false) → (b || list_any p (xs ++ x ∷ [])) ≡ false

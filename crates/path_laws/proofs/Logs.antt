@@ -7,7 +7,7 @@ use Rattle.std.specs.List.{list_any, cons_option}
 use Rattle.std.specs.Option.{option_map_or}
 use Rattle.std.specs.Result.{result_unwrap_or, result_err}
 use Rattle.std.proofs.lemmas.List.{length-append}
-use Rattle.std.proofs.lemmas.Option.{none-some}
+use Rattle.std.proofs.lemmas.Option.{none-some, slice_get_within}
 use Rattle.tc_base.specs.Names.{Name, child}
 use Rattle.tc_base.specs.Buffers.{BufferOps}
 use Rattle.tc_base.specs.Logs.{Log, ThreadPath, path_under}
@@ -16,8 +16,9 @@ use Rattle.tc_base.specs.declared.moves.Move.{Move}
 use Rattle.tc_code.specs.Code.{Code, instr_at}
 use Rattle.tc_base.specs.declared.request.Request.TheVariants.{Fail}
 use Rattle.tc_code.specs.Step.{request}
-use Rattle.tc_code.specs.Facts.{at_its_place}
-use Rattle.tc_code.specs.Instr.{Instr, Create, Exit}
+use Rattle.tc_code.proofs.Facts.{at_its_place}
+use Rattle.tc_code.specs.declared.instr.Instr.{Instr}
+use Rattle.tc_code.specs.declared.instr.Instr.TheVariants.{Create, Exit}
 use Rattle.tc_code.specs.Lawful.{IsLawful}
 use Rattle.tc_code.specs.Run.{Reproduces, IsReached, path_of}
 use Rattle.path_walk.specs.Steps.{step_at, steps_at, is_site, ends_at_site, at_site, places_from, places_of}
@@ -32,20 +33,16 @@ use Rattle.run_laws.proofs.Main.{main_is_there}
 use Rattle.run_laws.proofs.Created.{reached_is_created}
 use Rattle.path_walk.proofs.Drafts.{under_own}
 use Rattle.path_laws.specs.Prefixes.{fails_by}
+use Rattle.path_log.proofs.Lists.{get_seam}
 use Rattle.path_laws.proofs.Functions as functions
 use Rattle.path_laws.proofs.Prefixes.{fails_as, thread_path}
 use Rattle.path_laws.proofs.Local.{still_possible, started_push, marks_here}
-use Rattle.path_laws.proofs.States.{Stands, stands_places, fail_is_site, fail_possible, get_last, AllKnown, reached_known}
+use Rattle.path_laws.proofs.States.{Stands, stands_places, fail_is_site, fail_possible, AllKnown, reached_known}
 
 get_end : {X : Type 0} (xs : List X) (x : X) → slice_get (xs ++ x ∷ []) (length (xs ++ x ∷ []) - 1) ≡ Some x
 get_end xs x =
     let last : length (xs ++ x ∷ []) - 1 ≡ length xs = omega (arith, length-append xs (x ∷ [])) in
-    ap (slice_get (xs ++ x ∷ [])) last ∙ get_last xs x
-
-within_get : {X : Type 0} (xs : List X) (j : ℕ) (x : X) → slice_get xs j ≡ Some x → j < length xs
-within_get [] j x h = absurd (none-some x h)
-within_get (y ∷ xs) zero x h = omega arith
-within_get (y ∷ xs) (suc j) x h = let rest = within_get xs j x h in omega (arith, rest)
+    ap (slice_get (xs ++ x ∷ [])) last ∙ get_seam xs x []
 
 any_none : {X : Type 0} (p : X → Bool) (xs : List X) → ((i : ℕ) (x : X) → slice_get xs i ≡ Some x → p x ≡ false) → list_any p xs ≡ false
 any_none p [] h = refl
@@ -137,7 +134,7 @@ module _ (code : Code) where
         elim (option_is (slice_get xs j)) [
           | inl e ↦ e
           | inr is ↦
-              let within = within_get xs j is.0 is.1 in
+              let within = slice_get_within xs j is.0 is.1 in
               absurd (not_there _ none ((reached_is_created ops code s reached).child_is_there p t (suc j) there
               (record { first = omega arith; last = omega (arith, count, within) })))
         ]

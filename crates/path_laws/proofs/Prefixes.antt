@@ -16,8 +16,8 @@ use Rattle.tc_base.specs.States.{Local, Thread, State}
 use Rattle.tc_base.specs.declared.moves.Move.{Move}
 use Rattle.tc_base.specs.declared.request.Request.{Request}
 use Rattle.tc_code.specs.Code.{Code, instr_at}
-use Rattle.tc_code.specs.Facts.{at_its_place, run_from-append, step_is_reached}
-use Rattle.tc_code.specs.Instr.{Instr}
+use Rattle.tc_code.proofs.Facts.{at_its_place, run_from-append, step_is_reached}
+use Rattle.tc_code.specs.declared.instr.Instr.{Instr}
 use Rattle.tc_code.specs.Lawful.{IsLawful}
 use Rattle.tc_code.specs.Run.{run, run_from, Reproduces, IsReached, path_of}
 use Rattle.tc_code.specs.Step.{step, opening}

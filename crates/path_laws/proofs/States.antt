@@ -8,29 +8,31 @@ use Rattle.std.specs.Cmp.Lexicographic.{slice_cmp}
 use Rattle.std.specs.List.{cons_option}
 use Rattle.std.specs.Bool.{beq}
 use Rattle.std.specs.Result.{result_unwrap_or}
+use Rattle.std.proofs.lemmas.Bool.{and_parts}
 use Rattle.std.proofs.lemmas.Option.{none-some}
-use Rattle.tc_base.specs.Names.{Name, ByName, child}
+use Rattle.tc_base.specs.Names.{Name, ByName, by_name, child}
 use Rattle.tc_base.specs.Buffers.{BufferOps}
 use Rattle.tc_base.specs.States.{Local, Thread, State}
 use Rattle.tc_base.specs.declared.handle.Handle.TheVariants.{Unset}
 use Rattle.tc_base.specs.declared.request.Request.{Request}
 use Rattle.tc_base.specs.declared.request.Request.TheVariants.{Acquire, Start, Fail}
 use Rattle.tc_code.specs.Code.{Code, instr_at}
-use Rattle.tc_code.specs.Facts.{at_its_place}
-use Rattle.tc_code.specs.Instr.{Instr, Inside, Branch, Goto, Holds, Lock}
-use Rattle.tc_code.specs.Instr.{Signal, Create, Ready, Assert, Nonzero, In_range}
+use Rattle.tc_code.proofs.Facts.{at_its_place}
+use Rattle.tc_code.specs.declared.instr.Instr.{Instr}
+use Rattle.tc_code.specs.declared.instr.Instr.TheVariants.{Inside, Branch, Goto, Holds, Lock}
+use Rattle.tc_code.specs.declared.instr.Instr.TheVariants.{Signal, Create, Ready, Assert, Nonzero, InRange}
 use Rattle.tc_code.specs.Lawful.{IsLawful}
 use Rattle.tc_code.specs.Run.{IsReached}
 use Rattle.tc_code.specs.Step.{request, site, holds, handle_of, can_be_joined, stepped, local_after, arguments_of, instr_of, allows}
 use Rattle.tc_code.specs.Step.{drains_first, perform, with_thread, born, woken, opening}
 use Rattle.tc_code.specs.Step as machine
+use Rattle.path_log.proofs.Lists.{get_front, get_seam}
 use Rattle.path_walk.specs.Steps.{onward, places_from, steps_at, is_site}
 use Rattle.path_walk.specs.Fits.{starts, started}
 use Rattle.path_walk.specs.Marks.{Marks}
 use Rattle.path_walk.specs.Events.{excludes}
-use Rattle.path_walk.proofs.Names.{same_refl}
+use Rattle.tc_base.proofs.Names.{same_refl}
 use Rattle.run_laws.specs.Laws.{owner_of}
-use Rattle.run_laws.proofs.Basics.{second}
 use Rattle.run_laws.proofs.Changes.{is_fail, site_is_true}
 use Rattle.run_laws.proofs.Created.{child_is_new}
 use Rattle.run_laws.proofs.Names.{same_or_apart, one_under, get_put, get_put_apart, get_put_cases, child_apart}
@@ -55,7 +57,7 @@ fail_is_site t (Holds m) h = refl
 fail_is_site t (Ready k) h = refl
 fail_is_site t (Assert e) h = refl
 fail_is_site t (Nonzero e) h = refl
-fail_is_site t (In_range e) h = refl
+fail_is_site t (InRange e) h = refl
 fail_is_site t i h = absurd cc
 
 -- it leads to the next place
@@ -113,15 +115,6 @@ step_told code t i r v ps along at asks =
     ap₂ (λ f n. places_from code f n 0 u.outcomes) (same_function t i r v) steps
     ∙ ap (places_from code t.function (suc t.steps) 0) led.outcomes
     ∙ more.places
-
-pub get_front : {X : Type 0} (xs more : List X) (k : ℕ) (x : X) → slice_get xs k ≡ Some x → slice_get (xs ++ more) k ≡ Some x
-get_front [] more k x e = absurd (none-some x e)
-get_front (y ∷ xs) more zero x e = e
-get_front (y ∷ xs) more (suc k) x e = get_front xs more k x e
-
-pub get_last : {X : Type 0} (xs : List X) (x : X) → slice_get (xs ++ x ∷ []) (length xs) ≡ Some x
-get_last [] x = refl
-get_last (y ∷ xs) x = get_last xs x
 
 module _ (code : Code) where
   -- a thread failed at a site that is false, and stayed there
@@ -299,7 +292,7 @@ module _ {B : Type 0} (ops : BufferOps B) (code : Code) (lawful : IsLawful code)
     run_possible : (i : Instr) → is_fail (request t.local i) ≡ false → IsTrue (allows ops s n t (request t.local i)) → excludes m i false ≡ false
     run_possible (Lock k) passes may =
         ap (λ xs. slice_index_or xs k false) marks.held
-        ∙ free_not_held k (holds t.local k) refl (second (not (drains_first (Acquire k)) || ops.is_empty t.buffer) _ may)
+        ∙ free_not_held k (holds t.local k) refl ((and_parts (not (drains_first (Acquire k)) || ops.is_empty t.buffer) _ may).1)
     run_possible (Holds k) passes may =
         ap (λ xs. beq (slice_index_or xs k false) false) marks.held ∙ passes_beq (holds t.local k) (site_is_true (holds t.local k) passes)
     run_possible (Ready k) passes may =
@@ -318,7 +311,7 @@ module _ {B : Type 0} (ops : BufferOps B) (code : Code) (lawful : IsLawful code)
   create_is t (Ready k) f e = absurd (site_starts_none _ f e)
   create_is t (Assert x) f e = absurd (site_starts_none _ f e)
   create_is t (Nonzero x) f e = absurd (site_starts_none _ f e)
-  create_is t (In_range x) f e = absurd (site_starts_none _ f e)
+  create_is t (InRange x) f e = absurd (site_starts_none _ f e)
   create_is t i f e = absurd cc
 
   -- One step of a thread that is known.
@@ -395,7 +388,7 @@ module _ {B : Type 0} (ops : BufferOps B) (code : Code) (lawful : IsLawful code)
         let creates : slice_get (created code own.local) k ≡ Some f =
         ap (λ xs. slice_get xs k) (more_created own.local function (told_is code false own.local (ps ++ t.local.instruction ∷ []) new)
         ∙ ap (λ o. created code t.local ++ cons_option o []) (create_is t.local i f asks))
-        ∙ get_last (created code t.local) f in
+        ∙ get_seam (created code t.local) f [] in
         let none : fin.get (fin.insert s.threads n own) (child n (suc k)) ≡ None =
         get_put_apart s.threads n own (child n (suc k)) (child_apart n (suc k))
         ∙ ap (λ j. fin.get s.threads (child n j)) number ∙ child_is_new ops code s n t reached there in
@@ -437,7 +430,7 @@ module _ {B : Type 0} (ops : BufferOps B) (code : Code) (lawful : IsLawful code)
         | inl own ↦
             subst (λ m. Known code (opening ops code).threads None m x.local) (sym own.0)
             (subst (λ (y : Thread B). Known code (opening ops code).threads None [] y.local) own.1 main_known)
-        | inr old ↦ absurd (none-some x (sym (fin.get-empty (slice_cmp nat_cmp) q) ∙ old.1))
+        | inr old ↦ absurd (none-some x (sym (fin.get-empty by_name q) ∙ old.1))
       ]
     where
       main_at_start : Thread B

@@ -96,7 +96,7 @@ module _ {B : Type 0} (ops : BufferOps B) where
     }
 
   module _ (code : Code) (passes : PassesInts ops) (lawful : IsLawful code) where
-    taken_int : (s : State B) (t : Thread B) (r : Request) → StateHasInts ops s → ThreadHasInts ops t → IsInt (taken ops code s t r)
+    pub taken_int : (s : State B) (t : Thread B) (r : Request) → StateHasInts ops s → ThreadHasInts ops t → IsInt (taken ops code s t r)
     taken_int s t (Read c) has ints = loaded_int ops code passes s has t c ints
     taken_int s t (Exchange c v) has ints = in_memory_int ops code passes s has c
     taken_int s t (CompareExchange c e v) has ints = in_memory_int ops code passes s has c

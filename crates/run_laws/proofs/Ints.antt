@@ -37,7 +37,7 @@ use Rattle.run_laws.proofs.After.{branch_is}
 use Rattle.run_laws.proofs.Steps.{Went, step_went, holds_in_reached}
 
 -- what the next instruction of a thread computes with are ints
-ints_next : (code : Code) (t : Local) (i : Instr) (lawful : IsLawful code) (at : instr_of code t ≡ Some i) → All HasInts (exprs_of i)
+pub ints_next : (code : Code) (t : Local) (i : Instr) (lawful : IsLawful code) (at : instr_of code t ≡ Some i) → All HasInts (exprs_of i)
 ints_next code t i lawful at = let placed = placed_next code t i lawful at in placed.lawful.ints t.instruction i placed.at
 
 -- 0 is an int
@@ -61,7 +61,7 @@ module _ (t : Local) (are : All IsInt t.slots) where
   site_asks_ints false = tt
 
   -- so an instruction of ints asks ints
-  asks_ints : (i : Instr) → All HasInts (exprs_of i) → AsksInts (request t i)
+  pub asks_ints : (i : Instr) → All HasInts (exprs_of i) → AsksInts (request t i)
   asks_ints (Store c e) is = first_int e [] is
   asks_ints (StoreAt a len i e) is = second_int i e is
   asks_ints (Swap k c e) is = first_int e [] is
@@ -80,7 +80,7 @@ module _ (t : Local) (are : All IsInt t.slots) where
   arguments_int i is = All-nil IsInt
 
   -- and leaves ints in the slots, where it takes one
-  after_int : (i : Instr) (v : ℤ) → All HasInts (exprs_of i) → IsInt v → All IsInt (local_after t i v).slots
+  pub after_int : (i : Instr) (v : ℤ) → All HasInts (exprs_of i) → IsInt v → All IsInt (local_after t i v).slots
   after_int (Set k e) v is int = All-set IsInt t.slots k _ (first_int e [] is) are
   after_int (Load k c) v is int = All-set IsInt t.slots k v int are
   after_int (LoadAt k a len i) v is int = All-set IsInt t.slots k v int are
