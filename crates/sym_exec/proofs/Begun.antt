@@ -11,7 +11,9 @@ use Rattle.tc_code.specs.Lawful.{IsLawful}
 use Rattle.tc_code.specs.Run.{run}
 use Rattle.tc_code.specs.Step.{ints_of}
 use Rattle.run_laws.specs.Alone.{Beginning, after_steps}
+use Rattle.run_laws.specs.Ints.{PassesInts}
 use Rattle.run_laws.proofs.Begun.{threads_live_alone}
+use Rattle.run_laws.proofs.Ints.{values_are_ints, taken_are_ints}
 use Rattle.sym_terms.specs.Terms.{AreTerms}
 use Rattle.sym_terms.specs.Values.{value_of}
 use Rattle.sym_terms.specs.declared.node.Node.{Node}
@@ -45,7 +47,7 @@ start_slots ints terms first nodes loads arguments are of is =
     ∙ ap (λ xs. map f terms ++ xs) (sym (map_replicate f (ints - length terms) zero.term))
     ∙ sym (map-append f terms (replicate (ints - length terms) zero.term))
 
-module _ {B : Type 0} (ops : BufferOps B) (code : Code) where
+module _ {B : Type 0} (ops : BufferOps B) (code : Code) (passes : PassesInts ops) (lawful : IsLawful code) where
   begun_stands : (n : Name) (moves : List Move) (b : Beginning ops code n moves) (outcomes : List Bool) (fails : Option ℕ) (loads : List ℤ)
       (arguments : List ℕ) (first : ℕ) (nodes : List Node) (places : List ℕ) → Suits ops code n moves b outcomes fails loads arguments first nodes places
       → StandsFor code b.function outcomes fails loads places (begun_with ops code n moves b arguments first nodes) (begun ops code n moves b)
@@ -56,11 +58,13 @@ module _ {B : Type 0} (ops : BufferOps B) (code : Code) where
     slots = start_slots (ints_of code b.function) arguments first nodes loads b.arguments s.terms s.of s.values;
     along = s.along;
     takes = s.takes;
+    slot_ints = ((values_are_ints ops code passes lawful b.state (record { moves = b.first; leads = b.leads })).threads n _ b.there).slots;
+    taken_ints = taken_are_ints ops code passes lawful b.state n b.rest (record { moves = b.first; leads = b.leads });
   }
 
-  pub thread_tells : (moves : List Move) (s : State B) (n : Name) (t : Thread B) → IsLawful code
+  pub thread_tells : (moves : List Move) (s : State B) (n : Name) (t : Thread B)
       → run ops code moves ≡ Some s → fin.get s.threads n ≡ Some t → ThreadTells ops code moves n t
-  thread_tells moves s n t lawful leads there =
+  thread_tells moves s n t leads there =
       let alone = threads_live_alone ops code moves s n t leads there in
       let b = alone.0 in (
         b,

@@ -4,7 +4,7 @@ use Rattle.std.proofs.Common.{append_assoc, length-append}
 use Rattle.std.specs.List.{list_all}
 use Rattle.std.specs.Prelude.{nat_lt}
 use Rattle.std.specs.Bool.{IsTrue}
-use Rattle.std.proofs.lemmas.Bool.{false≢true, lt-ltb, ltb-true}
+use Rattle.std.proofs.lemmas.Bool.{and_parts, and_from, lt-ltb, ltb-true}
 use Rattle.std.proofs.lemmas.List.{append-nil}
 use Rattle.std.proofs.lemmas.Option.{slice_get_within}
 use Rattle.tc_code.specs.Expr as expr
@@ -50,14 +50,6 @@ expr_grows nodes slots (expr.Binary op a b) =
     grows_both nodes x.nodes all (expr_grows nodes slots a)
     (grows_both x.nodes y.nodes all (expr_grows x.nodes slots b) (grows_made y.nodes (Binary op x.term y.term)))
 
--- two tests that pass together
-pub both_pass : (p q : Bool) → (p && q) ≡ true → (p ≡ true) × (q ≡ true)
-both_pass true q h = (refl, h)
-both_pass false q h = absurd (false≢true h)
-
-pub both_true : (p q : Bool) → p ≡ true → q ≡ true → (p && q) ≡ true
-both_true p q g h = rw (g, h) refl
-
 pub expr_within : (nodes : List Node) (slots : List ℕ) (e : Expr) → AreOf nodes slots → IsTrue (names_slots (length slots) e)
     → (expr_term nodes slots e).term < length (expr_term nodes slots e).nodes
 expr_within nodes slots (expr.Number n) are named = made_within nodes (Constant n)
@@ -77,11 +69,11 @@ names_more m n (expr.Number k) up h = refl
 names_more m n (expr.Slot k) up h = lt-ltb k n (omega (arith, up, ltb-true k m h))
 names_more m n (expr.Unary op a) up h = names_more m n a up h
 names_more m n (expr.Binary op a b) up h =
-    let h = both_pass (names_slots m a) (names_slots m b) h in
-    both_true (names_slots n a) (names_slots n b) (names_more m n a up h.0) (names_more m n b up h.1)
+    let h = and_parts (names_slots m a) (names_slots m b) h in
+    and_from (names_slots n a) (names_slots n b) (names_more m n a up h.0) (names_more m n b up h.1)
 
 pub all_names_more : (m n : ℕ) (es : List Expr) → m ≤ n → IsTrue (list_all (names_slots m) es) → IsTrue (list_all (names_slots n) es)
 all_names_more m n [] up h = refl
 all_names_more m n (e ∷ es) up h =
-    let h = both_pass (names_slots m e) (list_all (names_slots m) es) h in
-    both_true (names_slots n e) (list_all (names_slots n) es) (names_more m n e up h.0) (all_names_more m n es up h.1)
+    let h = and_parts (names_slots m e) (list_all (names_slots m) es) h in
+    and_from (names_slots n e) (list_all (names_slots n) es) (names_more m n e up h.0) (all_names_more m n es up h.1)

@@ -6,3 +6,4 @@ pub mod Values
 pub mod Tells
 pub mod Begun
 pub mod Ints
+pub mod Constants

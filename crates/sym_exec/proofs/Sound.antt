@@ -8,16 +8,18 @@ use Rattle.std.proofs.lemmas.List.{length-set, length-replicate}
 use Rattle.std.proofs.lemmas.Option.{slice_get_within, get_or_from_slice_get}
 use Rattle.std.proofs.lemmas.List.Elements.{All-set, All-push, All-weaker, All-append, All-replicate, All-nil, All-head, All-tail}
 use Rattle.std.specs.Option.{option_map_or}
+use Rattle.std.proofs.lemmas.Bool.{and_from, and_parts}
 use Rattle.tc_base.specs.Names.{Name}
 use Rattle.run_laws.proofs.Basics.{either}
 use Rattle.path_walk.specs.Paths.{Walk, Paths}
 use Rattle.tc_code.specs.Code.{Code, instr_at, line_at}
-use Rattle.tc_code.specs.Facts.{placed}
+use Rattle.tc_code.proofs.Facts.{placed}
 use Rattle.tc_code.specs.Lawful.{IsLawful, names_what_is, takes}
 use Rattle.tc_code.specs.Step.{ints_of}
 use Rattle.tc_code.specs.declared.code.Func.{Func}
 use Rattle.tc_code.specs.Expr.{Expr, names_slots}
-use Rattle.tc_code.specs.Instr.{Instr, Set, Load, Load_at, Store, Store_at, Inside, Branch, Create, Assert, Nonzero, In_range, Swap, Cas}
+use Rattle.tc_code.specs.declared.instr.Instr.{Instr}
+use Rattle.tc_code.specs.declared.instr.Instr.TheVariants.{Set, Load, LoadAt, Store, StoreAt, Inside, Branch, Create, Assert, Nonzero, InRange, Swap, Cas}
 use Rattle.sym_terms.specs.declared.node.Node.{Node}
 use Rattle.sym_terms.specs.declared.node.Node.TheVariants.{Constant, Symbol, Unary, Binary}
 use Rattle.tc_base.specs.declared.arith.UnOp.TheVariants.{Neg}
@@ -27,11 +29,11 @@ use Rattle.sym_exec.specs.declared.symbolic.Cell.TheVariants.{Fixed, Element}
 use Rattle.sym_exec.specs.Making.{Made, AllMade, Grows, made, expr_term, with_expr, expr_terms, range_test, last_index, replaced_term}
 use Rattle.sym_exec.specs.Thread.{Handed, Doing, term_in, making, setting, testing, storing, symbol_in, loading, reading, swapping, replacing}
 use Rattle.sym_exec.specs.Thread.{handing, after_instr, wanted_of, after_step, started, after_all}
-use Rattle.sym_exec.specs.Helpers.{AreSound, names_within}
-use Rattle.sym_exec.specs.Thread.{AreOf, HandsOf, IsSound}
+use Rattle.sym_exec.specs.helpers.Threads.{HaveTerms, names_within}
+use Rattle.sym_exec.specs.Thread.{AreOf, HandsOf, HasTerms}
 use Rattle.sym_exec.specs.Executed.{Course, Executed, handed_by, handed_to, arguments_for, fails_at, thread_started, thread_done, with_thread}
-use Rattle.sym_exec.proofs.Grown.{grows_none, grows_both, grows_made, made_within, stays_within, stay_of, expr_grows, expr_within, both_pass}
-use Rattle.sym_exec.proofs.Grown.{both_true, below_more, names_more, all_names_more}
+use Rattle.sym_exec.proofs.Grown.{grows_none, grows_both, grows_made, made_within, stays_within, stay_of, expr_grows, expr_within}
+use Rattle.sym_exec.proofs.Grown.{below_more, names_more, all_names_more}
 
 -- a test of range, and what a compare-and-exchange writes
 pub range_grows : (x : Made) (last : ℤ) → Grows x.nodes (range_test x last).nodes
@@ -80,7 +82,7 @@ exprs_from : (nodes : List Node) (slots : List ℕ) (es : List Expr) (xs : AllMa
     → IsTrue (list_all (names_slots (length slots)) es) → AreMade nodes (fold (with_expr slots) xs es)
 exprs_from nodes slots [] xs are so named = so
 exprs_from nodes slots (e ∷ es) xs are so named =
-    let named = both_pass (names_slots (length slots) e) (list_all (names_slots (length slots)) es) named in
+    let named = and_parts (names_slots (length slots) e) (list_all (names_slots (length slots)) es) named in
     let x = expr_term xs.nodes slots e in
     let up : Grows xs.nodes x.nodes = expr_grows xs.nodes slots e in
     exprs_from nodes slots es (with_expr slots xs e) are
@@ -98,7 +100,7 @@ exprs_made nodes slots es are named =
 -- one goes on as another, with as many slots
 pub record GoesOn (d e : Doing) : Type 0 where
   pub grows : Grows d.nodes e.nodes
-  pub sound : IsSound e
+  pub sound : HasTerms e
   pub size : length e.slots ≡ length d.slots
 
 both_go : (d e f : Doing) → GoesOn d e → GoesOn e f → GoesOn d f
@@ -107,14 +109,14 @@ both_go d e f g h = record { grows = grows_both d.nodes e.nodes f.nodes g.grows 
 handed_stay : (a b : List Node) (hs : List Handed) → Grows a b → All (HandsOf a) hs → All (HandsOf b) hs
 handed_stay a b hs g are = All-weaker (HandsOf a) (HandsOf b) (λ h of. stay_of a b h.terms g of) hs are
 
-making_goes : (d : Doing) (x : Made) → IsSound d → Grows d.nodes x.nodes → GoesOn d (making d x)
+making_goes : (d : Doing) (x : Made) → HasTerms d → Grows d.nodes x.nodes → GoesOn d (making d x)
 making_goes d x s g = record {
   grows = g;
   sound = record { slots = stay_of d.nodes x.nodes d.slots g s.slots; creates = handed_stay d.nodes x.nodes d.creates g s.creates };
   size = refl;
 }
 
-setting_goes : (d : Doing) (k : ℕ) (x : Made) → IsSound d → Grows d.nodes x.nodes → x.term < length x.nodes → GoesOn d (setting d k x)
+setting_goes : (d : Doing) (k : ℕ) (x : Made) → HasTerms d → Grows d.nodes x.nodes → x.term < length x.nodes → GoesOn d (setting d k x)
 setting_goes d k x s g within = record {
   grows = g;
   sound = record {
@@ -124,15 +126,15 @@ setting_goes d k x s g within = record {
   size = length-set d.slots k x.term;
 }
 
-testing_goes : (d : Doing) (line : ℕ) (wanted : Bool) (x : Made) → IsSound d → Grows d.nodes x.nodes → GoesOn d (testing d line wanted x)
+testing_goes : (d : Doing) (line : ℕ) (wanted : Bool) (x : Made) → HasTerms d → Grows d.nodes x.nodes → GoesOn d (testing d line wanted x)
 testing_goes d line wanted x s g = let m = making_goes d x s g in
     record { grows = g; sound = record { slots = m.sound.slots; creates = m.sound.creates }; size = refl }
 
-storing_goes : (d : Doing) (cell : Cell) (x : Made) → IsSound d → Grows d.nodes x.nodes → GoesOn d (storing d cell x)
+storing_goes : (d : Doing) (cell : Cell) (x : Made) → HasTerms d → Grows d.nodes x.nodes → GoesOn d (storing d cell x)
 storing_goes d cell x s g = let m = making_goes d x s g in
     record { grows = g; sound = record { slots = m.sound.slots; creates = m.sound.creates }; size = refl }
 
-loading_goes : (d : Doing) (k : ℕ) (cell : Cell) (symbol : ℕ) (writes : Option ℕ) → IsSound d → symbol < length d.nodes
+loading_goes : (d : Doing) (k : ℕ) (cell : Cell) (symbol : ℕ) (writes : Option ℕ) → HasTerms d → symbol < length d.nodes
     → GoesOn d (loading d k cell symbol writes)
 loading_goes d k cell symbol writes s within = record {
   grows = grows_none d.nodes;
@@ -140,14 +142,14 @@ loading_goes d k cell symbol writes s within = record {
   size = length-set d.slots k symbol;
 }
 
-reading_goes : (d : Doing) (k : ℕ) (cell : Cell) (writes : Option ℕ) → IsSound d → GoesOn d (let v = symbol_in d in loading (making d v) k cell v.term writes)
+reading_goes : (d : Doing) (k : ℕ) (cell : Cell) (writes : Option ℕ) → HasTerms d → GoesOn d (let v = symbol_in d in loading (making d v) k cell v.term writes)
 reading_goes d k cell writes s =
     let v = symbol_in d in
     let m = making_goes d v s (grows_made d.nodes (Symbol d.loads)) in
     both_go d (making d v) (loading (making d v) k cell v.term writes) m
     (loading_goes (making d v) k cell v.term writes m.sound (made_within d.nodes (Symbol d.loads)))
 
-replacing_goes : (d : Doing) (k : ℕ) (cell : Cell) (expected new : Expr) → IsSound d → GoesOn d (replacing d k cell expected new)
+replacing_goes : (d : Doing) (k : ℕ) (cell : Cell) (expected new : Expr) → HasTerms d → GoesOn d (replacing d k cell expected new)
 replacing_goes d k cell expected new s =
     let e = term_in d expected in
     let f = term_in (making d e) new in
@@ -160,7 +162,7 @@ replacing_goes d k cell expected new s =
     both_go d (making d w) (loading (making d w) k cell v.term (Some w.term)) m (loading_goes (making d w) k cell v.term (Some w.term) m.sound
     (stays_within v.nodes w.nodes v.term last (made_within f.nodes (Symbol d.loads))))
 
-handing_goes : (d : Doing) (es : List Expr) → IsSound d → IsTrue (list_all (names_slots (length d.slots)) es) → GoesOn d (handing d es)
+handing_goes : (d : Doing) (es : List Expr) → HasTerms d → IsTrue (list_all (names_slots (length d.slots)) es) → GoesOn d (handing d es)
 handing_goes d es s named =
     let xs = expr_terms d.nodes d.slots es in
     let m = exprs_made d.nodes d.slots es s.slots named in
@@ -175,18 +177,18 @@ handing_goes d es s named =
     }
 
 -- after each instruction
-pub instr_goes : (line : ℕ) (wanted : Bool) (d : Doing) (i : Instr) → IsSound d → IsTrue (names_within (length d.slots) i)
+pub instr_goes : (line : ℕ) (wanted : Bool) (d : Doing) (i : Instr) → HasTerms d → IsTrue (names_within (length d.slots) i)
     → GoesOn d (after_instr line wanted d i)
 instr_goes line wanted d (Set k e) s named =
-    let named = both_pass (nat_lt k (length d.slots)) (names_slots (length d.slots) e) named in
+    let named = and_parts (nat_lt k (length d.slots)) (names_slots (length d.slots) e) named in
     setting_goes d k (term_in d e) s (expr_grows d.nodes d.slots e) (expr_within d.nodes d.slots e s.slots named.1)
 instr_goes line wanted d (Load k c) s named = reading_goes d k (Fixed c) None s
-instr_goes line wanted d (Load_at k first len i) s named =
+instr_goes line wanted d (LoadAt k first len i) s named =
     let x = term_in d i in
     let m = making_goes d x s (expr_grows d.nodes d.slots i) in
     both_go d (making d x) (reading (making d x) k (Element first len x.term)) m (reading_goes (making d x) k (Element first len x.term) None m.sound)
 instr_goes line wanted d (Store c e) s named = storing_goes d (Fixed c) (term_in d e) s (expr_grows d.nodes d.slots e)
-instr_goes line wanted d (Store_at first len i e) s named =
+instr_goes line wanted d (StoreAt first len i e) s named =
     let x = term_in d i in
     storing_goes d (Element first len x.term) (term_in (making d x) e) s
     (grows_both d.nodes x.nodes (term_in (making d x) e).nodes (expr_grows d.nodes d.slots i) (expr_grows x.nodes d.slots e))
@@ -200,7 +202,7 @@ instr_goes line wanted d (Branch e to) s named =
 instr_goes line wanted d (Create h f es) s named = handing_goes d es s named
 instr_goes line wanted d (Assert e) s named = testing_goes d line wanted (term_in d e) s (expr_grows d.nodes d.slots e)
 instr_goes line wanted d (Nonzero e) s named = testing_goes d line wanted (term_in d e) s (expr_grows d.nodes d.slots e)
-instr_goes line wanted d (In_range e) s named =
+instr_goes line wanted d (InRange e) s named =
     let x = term_in d e in
     testing_goes d line wanted (range_test x (pos 31)) s
     (grows_both d.nodes x.nodes (range_test x (pos 31)).nodes (expr_grows d.nodes d.slots e) (range_grows x (pos 31)))
@@ -214,35 +216,35 @@ instr_goes line wanted d _ s named = record { grows = grows_none d.nodes; sound 
 -- what an instruction of lawful code names is there
 names_there : (code : Code) (g : Func) (n : ℕ) (i : Instr) → g.ints ≤ n → IsTrue (names_what_is code g i) → IsTrue (names_within n i)
 names_there code g n (Set k e) up h =
-    let h = both_pass (nat_lt k g.ints) (names_slots g.ints e) h in
-    both_true (nat_lt k n) (names_slots n e) (below_more k g.ints n up h.0) (names_more g.ints n e up h.1)
-names_there code g n (Load k c) up h = below_more k g.ints n up (both_pass (nat_lt k g.ints) (nat_lt c (length code.memory)) h).0
-names_there code g n (Load_at k a len i) up h =
-    let h = both_pass (nat_lt k g.ints && nat_le (a + len) (length code.memory)) (names_slots g.ints i) h in
-    let first = (both_pass (nat_lt k g.ints) (nat_le (a + len) (length code.memory)) h.0).0 in
-    both_true (nat_lt k n) (names_slots n i) (below_more k g.ints n up first) (names_more g.ints n i up h.1)
-names_there code g n (Store c e) up h = names_more g.ints n e up (both_pass (nat_lt c (length code.memory)) (names_slots g.ints e) h).1
-names_there code g n (Store_at a len i e) up h =
-    let h = both_pass (nat_le (a + len) (length code.memory) && names_slots g.ints i) (names_slots g.ints e) h in
-    let first = (both_pass (nat_le (a + len) (length code.memory)) (names_slots g.ints i) h.0).1 in
-    both_true (names_slots n i) (names_slots n e) (names_more g.ints n i up first) (names_more g.ints n e up h.1)
-names_there code g n (Inside len i) up h = names_more g.ints n i up (both_pass (nat_le len (length code.memory)) (names_slots g.ints i) h).1
+    let h = and_parts (nat_lt k g.ints) (names_slots g.ints e) h in
+    and_from (nat_lt k n) (names_slots n e) (below_more k g.ints n up h.0) (names_more g.ints n e up h.1)
+names_there code g n (Load k c) up h = below_more k g.ints n up (and_parts (nat_lt k g.ints) (nat_lt c (length code.memory)) h).0
+names_there code g n (LoadAt k a len i) up h =
+    let h = and_parts (nat_lt k g.ints && nat_le (a + len) (length code.memory)) (names_slots g.ints i) h in
+    let first = (and_parts (nat_lt k g.ints) (nat_le (a + len) (length code.memory)) h.0).0 in
+    and_from (nat_lt k n) (names_slots n i) (below_more k g.ints n up first) (names_more g.ints n i up h.1)
+names_there code g n (Store c e) up h = names_more g.ints n e up (and_parts (nat_lt c (length code.memory)) (names_slots g.ints e) h).1
+names_there code g n (StoreAt a len i e) up h =
+    let h = and_parts (nat_le (a + len) (length code.memory) && names_slots g.ints i) (names_slots g.ints e) h in
+    let first = (and_parts (nat_le (a + len) (length code.memory)) (names_slots g.ints i) h.0).1 in
+    and_from (names_slots n i) (names_slots n e) (names_more g.ints n i up first) (names_more g.ints n e up h.1)
+names_there code g n (Inside len i) up h = names_more g.ints n i up (and_parts (nat_le len (length code.memory)) (names_slots g.ints i) h).1
 names_there code g n (Branch e to) up h = names_more g.ints n e up h
 names_there code g n (Create v f es) up h =
-    all_names_more g.ints n es up (both_pass (nat_lt v g.tids && takes code f (length es)) (list_all (names_slots g.ints) es) h).1
+    all_names_more g.ints n es up (and_parts (nat_lt v g.handles && takes code f (length es)) (list_all (names_slots g.ints) es) h).1
 names_there code g n (Assert e) up h = names_more g.ints n e up h
 names_there code g n (Nonzero e) up h = names_more g.ints n e up h
-names_there code g n (In_range e) up h = names_more g.ints n e up h
+names_there code g n (InRange e) up h = names_more g.ints n e up h
 names_there code g n (Swap k c e) up h =
-    let h = both_pass (nat_lt k g.ints && nat_lt c (length code.memory)) (names_slots g.ints e) h in
-    let first = (both_pass (nat_lt k g.ints) (nat_lt c (length code.memory)) h.0).0 in
-    both_true (nat_lt k n) (names_slots n e) (below_more k g.ints n up first) (names_more g.ints n e up h.1)
+    let h = and_parts (nat_lt k g.ints && nat_lt c (length code.memory)) (names_slots g.ints e) h in
+    let first = (and_parts (nat_lt k g.ints) (nat_lt c (length code.memory)) h.0).0 in
+    and_from (nat_lt k n) (names_slots n e) (below_more k g.ints n up first) (names_more g.ints n e up h.1)
 names_there code g n (Cas k c e new) up h =
-    let h = both_pass (nat_lt k g.ints && nat_lt c (length code.memory) && names_slots g.ints e) (names_slots g.ints new) h in
-    let g2 = both_pass (nat_lt k g.ints && nat_lt c (length code.memory)) (names_slots g.ints e) h.0 in
-    let first = (both_pass (nat_lt k g.ints) (nat_lt c (length code.memory)) g2.0).0 in
-    both_true (nat_lt k n && names_slots n e) (names_slots n new)
-    (both_true (nat_lt k n) (names_slots n e) (below_more k g.ints n up first) (names_more g.ints n e up g2.1)) (names_more g.ints n new up h.1)
+    let h = and_parts (nat_lt k g.ints && nat_lt c (length code.memory) && names_slots g.ints e) (names_slots g.ints new) h in
+    let g2 = and_parts (nat_lt k g.ints && nat_lt c (length code.memory)) (names_slots g.ints e) h.0 in
+    let first = (and_parts (nat_lt k g.ints) (nat_lt c (length code.memory)) g2.0).0 in
+    and_from (nat_lt k n && names_slots n e) (names_slots n new)
+    (and_from (nat_lt k n) (names_slots n e) (below_more k g.ints n up first) (names_more g.ints n e up g2.1)) (names_more g.ints n new up h.1)
 names_there code g n _ up h = refl
 
 pub instr_named : (code : Code) (f place n : ℕ) (i : Instr) → IsLawful code → instr_at code f place ≡ Some i → ints_of code f ≤ n
@@ -267,11 +269,11 @@ pub record StepsOn (d e : Doing) : Type 0 where
   pub steps : e.steps ≤ d.steps + 1
   pub branches : e.branches ≤ d.branches + 1
 
-pub stays_on : (d : Doing) → IsSound d → StepsOn d d
+pub stays_on : (d : Doing) → HasTerms d → StepsOn d d
 stays_on d s = record { goes = record { grows = grows_none d.nodes; sound = s; size = refl }; steps = omega arith; branches = omega arith }
 
 -- a step that does an instruction
-pub does_on : (line : ℕ) (wanted : Bool) (d : Doing) (i : Instr) → IsSound d → IsTrue (names_within (length d.slots) i)
+pub does_on : (line : ℕ) (wanted : Bool) (d : Doing) (i : Instr) → HasTerms d → IsTrue (names_within (length d.slots) i)
     → StepsOn d (record (after_instr line wanted d i) { steps = d.steps + 1 })
 does_on line wanted d i s named =
     let g = instr_goes line wanted d i s named in
@@ -282,7 +284,7 @@ does_on line wanted d i s named =
     }
 
 step_by : (code : Code) (f : ℕ) (outcomes : List Bool) (fails : Option ℕ) (d : Doing) (place : ℕ) (o : Option Instr) → instr_at code f place ≡ o
-    → IsLawful code → ints_of code f ≤ length d.slots → IsSound d → StepsOn d (after_step code f outcomes fails d place)
+    → IsLawful code → ints_of code f ≤ length d.slots → HasTerms d → StepsOn d (after_step code f outcomes fails d place)
 step_by code f outcomes fails d place None at lawful up s =
     subst (λ o. StepsOn d (option_map_or (λ i.
     record (after_instr (unwrap_or (line_at code f place) 0) (wanted_of outcomes fails d i) d i) { steps = d.steps + 1 }) o d)) (sym at) (stays_on d s)
@@ -293,12 +295,12 @@ step_by code f outcomes fails d place (Some i) at lawful up s =
 
 -- each step goes on
 pub step_goes : (code : Code) (f : ℕ) (outcomes : List Bool) (fails : Option ℕ) (d : Doing) (place : ℕ)
-    → IsLawful code → ints_of code f ≤ length d.slots → IsSound d → StepsOn d (after_step code f outcomes fails d place)
+    → IsLawful code → ints_of code f ≤ length d.slots → HasTerms d → StepsOn d (after_step code f outcomes fails d place)
 step_goes code f outcomes fails d place = step_by code f outcomes fails d place (instr_at code f place) refl
 
 -- and so do all steps
 pub all_go : (code : Code) (f : ℕ) (outcomes : List Bool) (fails : Option ℕ) (d : Doing) (places : List ℕ)
-    → IsLawful code → ints_of code f ≤ length d.slots → IsSound d → GoesOn d (after_all code f outcomes fails d places)
+    → IsLawful code → ints_of code f ≤ length d.slots → HasTerms d → GoesOn d (after_all code f outcomes fails d places)
 all_go code f outcomes fails d [] lawful up s = (stays_on d s).goes
 all_go code f outcomes fails d (place ∷ places) lawful up s =
     let e = after_step code f outcomes fails d place in
@@ -307,7 +309,7 @@ all_go code f outcomes fails d (place ∷ places) lawful up s =
     (all_go code f outcomes fails e places lawful (omega (arith, up, g.size)) g.sound)
 
 -- a thread begins with terms of the nodes
-pub start_sound : (ints : ℕ) (arguments : List ℕ) (loads : ℕ) (nodes : List Node) → AreOf nodes arguments → IsSound (started ints arguments loads nodes)
+pub start_sound : (ints : ℕ) (arguments : List ℕ) (loads : ℕ) (nodes : List Node) → AreOf nodes arguments → HasTerms (started ints arguments loads nodes)
 start_sound ints arguments loads nodes are =
     let none : Node = Constant (pos 0) in
     let zero = made nodes none in
@@ -346,7 +348,7 @@ handed_to_sound nodes (c ∷ courses) parent number are =
     (handed_by_sound nodes number c (All-head (IsSoundCourse nodes) c courses are))
     (handed_to_sound nodes courses parent number (All-tail (IsSoundCourse nodes) c courses are))
 
-pub arguments_sound : (x : Executed) (n : Name) → AreSound x → AreOf x.nodes (arguments_for x.symbolic.threads n)
+pub arguments_sound : (x : Executed) (n : Name) → HaveTerms x → AreOf x.nodes (arguments_for x.symbolic.threads n)
 arguments_sound x n are = by (last_or None n)
   where
     by : (o : Option ℕ) → AreOf x.nodes (option_map_or (handed_to x.symbolic.threads (take (length n - 1) n)) o [])
@@ -354,7 +356,7 @@ arguments_sound x n are = by (last_or None n)
     by (Some k) = handed_to_sound x.nodes x.symbolic.threads (take (length n - 1) n) k are
 
 -- and with each thread it stays so
-pub thread_sound : (code : Code) (paths : Paths) (x : Executed) (w : Walk) → IsLawful code → AreSound x → AreSound (with_thread code paths x w)
+pub thread_sound : (code : Code) (paths : Paths) (x : Executed) (w : Walk) → IsLawful code → HaveTerms x → HaveTerms (with_thread code paths x w)
 thread_sound code paths x w lawful are =
     let nodes = x.nodes in
     let threads = x.symbolic.threads in

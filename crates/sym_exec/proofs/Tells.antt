@@ -3,38 +3,45 @@ use Rattle.std.proofs.Common.{◌≡◌, ◌∙◌, ℕ, zero, suc, ◌<◌, ◌
 use Rattle.std.proofs.Common.{Bool, true, false, cond, ◌&&◌, Option, Some, None, refl, ap, ap₂, sym, subst, arith, append_assoc}
 use Rattle.std.specs.Prelude.{option_and_then, unwrap_or, int_le, int_lt, nat_lt, nat_le, ◌-ℤ◌}
 use Rattle.std.specs.Bool.{IsTrue}
-use Rattle.std.specs.List.{list_all, cons_option}
+use Rattle.std.specs.List.{All, list_all, cons_option}
+use Rattle.std.specs.Ordering.{int_eq}
 use Rattle.std.specs.Option.{option_map_or}
 use Rattle.std.proofs.Math.Dec.{leb-suc-suc}
 use Rattle.std.proofs.Math.IntN.{pred_ℤ, -ℤ_one}
-use Rattle.std.proofs.lemmas.Bool.{le-ltb, le-leb, leb-true}
-use Rattle.std.proofs.lemmas.List.Elements.{All-push, All-nil}
+use Rattle.std.proofs.lemmas.Bool.{and_parts, le-ltb, le-leb, leb-true}
+use Rattle.std.proofs.lemmas.List.Elements.{All-push, All-nil, All-drop}
 use Rattle.std.proofs.lemmas.List.{map-set, map-append, append-nil}
-use Rattle.tc_base.specs.Arith.{is_distance, truth, bits_xor, bits_and, negated, equal}
+use Rattle.tc_base.specs.Arith.{IsInt, is_distance, truth, bits_xor, bits_and, negated, equal}
 use Rattle.tc_base.specs.States.{Local}
 use Rattle.tc_base.specs.declared.arith.UnOp.TheVariants.{Neg}
 use Rattle.tc_base.specs.declared.arith.BinOp.TheVariants.{Xor, Eq, And}
+use Rattle.tc_base.proofs.Ints.{by_sameness, there_int}
 use Rattle.tc_code.specs.Code.{Code, instr_at, line_at}
 use Rattle.tc_code.specs.Expr.{Expr, names_slots, value_of as expr_value_of}
-use Rattle.tc_code.specs.Instr.{Instr, Set, Load, Load_at, Store, Store_at, Inside, Branch, Holds, Ready, Create, Assert, Nonzero, In_range, Swap, Cas}
-use Rattle.tc_code.specs.Facts.{placed}
+use Rattle.tc_code.specs.declared.instr.Instr.{Instr}
+use Rattle.tc_code.specs.declared.instr.Instr.TheVariants.{Set, Load, LoadAt, Store, StoreAt, Inside, Branch, Holds, Ready, Create, Assert, Nonzero, InRange, Swap, Cas}
+use Rattle.tc_code.proofs.Facts.{placed}
 use Rattle.tc_code.specs.Lawful.{IsLawful}
-use Rattle.tc_code.specs.Step.{ints_of, instr_of, value_in, is_within, is_nonzero, cell_at, site, request, local_after, holds, can_be_joined, handle_of}
+use Rattle.tc_code.specs.Step.{ints_of, instr_of, value_in, is_within, is_nonzero, cell_at, site, request, replaced, local_after, holds, can_be_joined, handle_of}
 use Rattle.run_laws.specs.Alone.{Alone, after_request, goes_on}
+use Rattle.run_laws.specs.Ints.{AsksInts}
 use Rattle.run_laws.proofs.After.{branch_is}
+use Rattle.run_laws.proofs.Basics.{either}
+use Rattle.run_laws.proofs.Ints.{ints_next, asks_ints, after_int}
 use Rattle.sym_terms.specs.Terms.{AreTerms}
 use Rattle.sym_terms.specs.Values.{value_of}
 use Rattle.sym_terms.specs.declared.node.Node.{Node}
 use Rattle.sym_terms.specs.declared.node.Node.TheVariants.{Symbol, Unary, Binary}
 use Rattle.sym_exec.specs.Making.{Made, AllMade, Grows, made, expr_term, with_expr, expr_terms, range_test, last_index, replaced_term}
-use Rattle.sym_exec.specs.Thread.{Handed, Doing, AreOf, IsSound, term_in, making, symbol_in, after_instr, wanted_of, after_step, after_all}
-use Rattle.sym_exec.specs.Helpers.{names_within}
-use Rattle.sym_exec.specs.Alone.{slots_by, condition, outcomes_of, given_by, given_of, values_in, Asked, exchanged, asked_by, asked_of}
+use Rattle.sym_exec.specs.Thread.{Handed, Doing, AreOf, HasTerms, term_in, making, testing, symbol_in, after_instr, wanted_of, after_step, after_all}
+use Rattle.sym_exec.specs.helpers.Threads.{names_within}
+use Rattle.sym_exec.specs.Alone.{slots_by, condition, outcomes_of, given_by, given_of, values_in, Asked, asked_by, asked_of}
+use Rattle.sym_exec.specs.Ints.{exchanged}
 use Rattle.sym_exec.specs.Alone.{asked_in, outcome_by, TakesFrom, StandsFor, Tells}
 use Rattle.sym_exec.specs.declared.symbolic.Test.{Test}
 use Rattle.sym_exec.specs.declared.symbolic.Access.{Access}
 use Rattle.sym_exec.specs.declared.symbolic.Cell.TheVariants.{Fixed, Element}
-use Rattle.sym_exec.proofs.Grown.{grows_none, grows_both, grows_made, made_within, stays_within, stay_of, expr_grows, both_pass}
+use Rattle.sym_exec.proofs.Grown.{grows_none, grows_both, grows_made, made_within, stays_within, stay_of, expr_grows}
 use Rattle.sym_exec.proofs.Sound.{instr_goes, instr_named, step_goes, all_go, replaced_grows, exprs_made}
 use Rattle.sym_exec.proofs.Values.{HasValue, value_stays, values_stay, made_terms, symbol_value, unary_value, binary_value, expr_value, range_value}
 use Rattle.sym_exec.proofs.Values.{truth_nonzero}
@@ -42,14 +49,14 @@ use Rattle.sym_exec.proofs.Values.{truth_nonzero}
 -- whether an instruction takes a value from memory
 abbrev pub is_load : Instr → Bool
 is_load (Load k c) = true
-is_load (Load_at k first len i) = true
+is_load (LoadAt k first len i) = true
 is_load (Swap k c e) = true
 is_load (Cas k c e new) = true
 is_load _ = false
 
 pub loads_after : (line : ℕ) (wanted : Bool) (d : Doing) (i : Instr) → (after_instr line wanted d i).loads ≡ d.loads + cond (is_load i) 1 0
 loads_after line wanted d (Load k c) = refl
-loads_after line wanted d (Load_at k first len i) = refl
+loads_after line wanted d (LoadAt k first len i) = refl
 loads_after line wanted d (Swap k c e) = refl
 loads_after line wanted d (Cas k c e new) = refl
 loads_after line wanted d _ = omega arith
@@ -75,44 +82,48 @@ after_is t (Holds m) vs = after_site t (Holds m) vs (holds t m) refl refl refl
 after_is t (Ready h) vs = after_site t (Ready h) vs (can_be_joined (handle_of t h)) refl refl refl
 after_is t (Assert e) vs = after_site t (Assert e) vs (is_nonzero (value_in t e)) refl refl refl
 after_is t (Nonzero e) vs = after_site t (Nonzero e) vs (is_nonzero (value_in t e)) refl refl refl
-after_is t (In_range e) vs = after_site t (In_range e) vs (is_distance (value_in t e)) refl refl refl
+after_is t (InRange e) vs = after_site t (InRange e) vs (is_distance (value_in t e)) refl refl refl
 after_is t _ [] = record { slots = refl; values = refl }
 after_is t _ (v ∷ vs) = record { slots = refl; values = refl }
 
--- the terms of what a compare-and-exchange writes
-replaced_terms : (nodes : List Node) (v e f : ℕ) → AreTerms nodes → v < length nodes → e < length nodes → f < length nodes
-    → AreTerms (replaced_term nodes v e f).nodes
-replaced_terms nodes v e f are wv we wf =
+-- what a compare-and-exchange writes has its value by bits
+pub replaced_value : (nodes : List Node) (v e f : ℕ) (loads : List ℤ) (a b c : ℤ) → AreTerms nodes → v < length nodes → e < length nodes → f < length nodes
+    → value_of nodes loads v ≡ a → value_of nodes loads e ≡ b → value_of nodes loads f ≡ c → HasValue loads (replaced_term nodes v e f) (exchanged a b c)
+replaced_value nodes v e f loads a b c are wv we wf va vb vc =
     let first : Node = Binary Xor v f in
     let change = made nodes first in
-    let ac = made_terms nodes first are (wv, wf) in
-    let gc = grows_made nodes first in
+    let hc = binary_value Xor nodes v f a c loads are wv wf va vc in
+    let gc : Grows nodes change.nodes = grows_made nodes first in
     let second : Node = Binary Eq v e in
     let same = made change.nodes second in
-    let asame = made_terms change.nodes second ac (stays_within nodes change.nodes v gc wv, stays_within nodes change.nodes e gc we) in
-    let gs = grows_made change.nodes second in
+    let hs = binary_value Eq change.nodes v e a b loads hc.terms (stays_within nodes change.nodes v gc wv) (stays_within nodes change.nodes e gc we)
+    (value_stays nodes change.nodes loads v gc wv ∙ va) (value_stays nodes change.nodes loads e gc we ∙ vb) in
+    let gs : Grows change.nodes same.nodes = grows_made change.nodes second in
     let third : Node = Unary Neg same.term in
     let mask = made same.nodes third in
-    let am = made_terms same.nodes third asame (made_within change.nodes second) in
-    let gm = grows_made same.nodes third in
+    let hm = unary_value Neg same (equal a b) loads hs in
+    let gcm : Grows change.nodes mask.nodes = grows_both change.nodes same.nodes mask.nodes gs (grows_made same.nodes third) in
     let fourth : Node = Binary And change.term mask.term in
     let masked = made mask.nodes fourth in
-    let gcm = grows_both change.nodes same.nodes mask.nodes gs gm in
-    let ak = made_terms mask.nodes fourth am (stays_within change.nodes mask.nodes change.term gcm (made_within nodes first), made_within same.nodes third) in
-    let gk = grows_made mask.nodes fourth in
-    let all = grows_both nodes change.nodes masked.nodes gc (grows_both change.nodes mask.nodes masked.nodes gcm gk) in
-    made_terms masked.nodes (Binary Xor v masked.term) ak (stays_within nodes masked.nodes v all wv, made_within mask.nodes fourth)
+    let hk = binary_value And mask.nodes change.term mask.term (bits_xor a c) (negated (equal a b)) loads hm.terms
+    (stays_within change.nodes mask.nodes change.term gcm hc.within) hm.within (value_stays change.nodes mask.nodes loads change.term gcm hc.within ∙ hc.value)
+    hm.value in
+    let all : Grows nodes masked.nodes = grows_both nodes change.nodes masked.nodes gc
+    (grows_both change.nodes mask.nodes masked.nodes gcm (grows_made mask.nodes fourth)) in
+    binary_value Xor masked.nodes v masked.term a (bits_and (bits_xor a c) (negated (equal a b))) loads hk.terms
+    (stays_within nodes masked.nodes v all wv) hk.within
+    (value_stays nodes masked.nodes loads v all wv ∙ va) hk.value
 
 exprs_terms : (slots : List ℕ) (loads : List ℤ) (nodes : List Node) (es : List Expr) (xs : AllMade) → AreOf nodes slots → Grows nodes xs.nodes
     → AreTerms xs.nodes → IsTrue (list_all (names_slots (length slots)) es) → AreTerms (fold (with_expr slots) xs es).nodes
 exprs_terms slots loads nodes [] xs of g are named = are
 exprs_terms slots loads nodes (e ∷ es) xs of g are named =
-    let named = both_pass (names_slots (length slots) e) (list_all (names_slots (length slots)) es) named in
+    let named = and_parts (names_slots (length slots) e) (list_all (names_slots (length slots)) es) named in
     let next = with_expr slots xs e in
     let v = expr_value xs.nodes slots e loads are (stay_of nodes xs.nodes slots g of) named.0 in
     exprs_terms slots loads nodes es next of (grows_both nodes xs.nodes next.nodes g (expr_grows xs.nodes slots e)) v.terms named.1
 
-one_less : (n : ℕ) → pos (suc n) -ℤ pos 1 ≡ pred_ℤ (pos (suc n))
+pub one_less : (n : ℕ) → pos (suc n) -ℤ pos 1 ≡ pred_ℤ (pos (suc n))
 one_less n = -ℤ_one (pos (suc n))
 
 -- an index is before a length exactly where it is not after the last
@@ -158,11 +169,27 @@ abbrev pub IsShort : Instr → Type 0
 IsShort (Inside len i) = len ≤ 2 ^ 31
 IsShort _ = Unit {0}
 
-pub told : (loads : List ℤ) (line : ℕ) (wanted : Bool) (d : Doing) (i : Instr) (t : Local) (v : ℤ) → AreTerms d.nodes → IsSound d
+-- of an expression that is tested
+expr_told : (loads : List ℤ) (line : ℕ) (wanted : Bool) (d : Doing) (i : Instr) (t : Local) (v : ℤ) (e : Expr) (branches : ℕ) → AreTerms d.nodes → HasTerms d
+    → IsTrue (names_slots (length d.slots) e) → t.slots ≡ slots_by loads d → (local_after t i v).slots ≡ t.slots
+    → condition t i ≡ Some (is_nonzero (value_in t e)) → Told loads d (record (testing d line wanted (term_in d e)) { branches = branches }) t i v
+expr_told loads line wanted d i t v e branches are s named is kept tests =
+    let x = term_in d e in
+    let h = expr_value d.nodes d.slots e loads are s.slots named in
+    record {
+      terms = h.terms;
+      slots = kept ∙ kept_told loads d x.nodes t.slots (expr_grows d.nodes d.slots e) s.slots is;
+      test = record { step = d.steps; line = line; term = x.term; wanted = wanted } ∷ [];
+      tests = refl;
+      comes = λ later g. test_comes loads x (expr_value_of e (slots_by loads d)) (is_nonzero (value_in t e)) d.steps line wanted h
+          (ap (λ xs. is_nonzero (expr_value_of e xs)) (sym is)) later g ∙ ap (λ o. cons_option o []) (sym tests);
+    }
+
+pub told : (loads : List ℤ) (line : ℕ) (wanted : Bool) (d : Doing) (i : Instr) (t : Local) (v : ℤ) → AreTerms d.nodes → HasTerms d
     → IsTrue (names_within (length d.slots) i) → IsShort i → t.slots ≡ slots_by loads d → (is_load i ≡ true → get_or loads d.loads (pos 0) ≡ v)
     → Told loads d (after_instr line wanted d i) t i v
 told loads line wanted d (Set k e) t v are s named short is load =
-    let named = both_pass (nat_lt k (length d.slots)) (names_slots (length d.slots) e) named in
+    let named = and_parts (nat_lt k (length d.slots)) (names_slots (length d.slots) e) named in
     let x = term_in d e in
     let h = expr_value d.nodes d.slots e loads are s.slots named.1 in
     record {
@@ -183,8 +210,8 @@ told loads line wanted d (Load k c) t v are s named short is load =
       tests = sym (append-nil d.tests);
       comes = λ later g. refl;
     }
-told loads line wanted d (Load_at k first len i) t v are s named short is load =
-    let named = both_pass (nat_lt k (length d.slots)) (names_slots (length d.slots) i) named in
+told loads line wanted d (LoadAt k first len i) t v are s named short is load =
+    let named = and_parts (nat_lt k (length d.slots)) (names_slots (length d.slots) i) named in
     let x = term_in d i in
     let hx = expr_value d.nodes d.slots i loads are s.slots named.1 in
     let y = made x.nodes (Symbol d.loads) in
@@ -198,7 +225,7 @@ told loads line wanted d (Load_at k first len i) t v are s named short is load =
       comes = λ later g. refl;
     }
 told loads line wanted d (Swap k c e) t v are s named short is load =
-    let named = both_pass (nat_lt k (length d.slots)) (names_slots (length d.slots) e) named in
+    let named = and_parts (nat_lt k (length d.slots)) (names_slots (length d.slots) e) named in
     let x = term_in d e in
     let hx = expr_value d.nodes d.slots e loads are s.slots named.1 in
     let y = made x.nodes (Symbol d.loads) in
@@ -212,8 +239,8 @@ told loads line wanted d (Swap k c e) t v are s named short is load =
       comes = λ later g. refl;
     }
 told loads line wanted d (Cas k c e new) t v are s named short is load =
-    let named = both_pass (nat_lt k (length d.slots) && names_slots (length d.slots) e) (names_slots (length d.slots) new) named in
-    let first = both_pass (nat_lt k (length d.slots)) (names_slots (length d.slots) e) named.0 in
+    let named = and_parts (nat_lt k (length d.slots) && names_slots (length d.slots) e) (names_slots (length d.slots) new) named in
+    let first = and_parts (nat_lt k (length d.slots)) (names_slots (length d.slots) e) named.0 in
     let x = term_in d e in
     let hx = expr_value d.nodes d.slots e loads are s.slots first.1 in
     let gx : Grows d.nodes x.nodes = expr_grows d.nodes d.slots e in
@@ -227,8 +254,8 @@ told loads line wanted d (Cas k c e new) t v are s named short is load =
     let gw : Grows z.nodes w.nodes = replaced_grows z.nodes z.term x.term y.term in
     let gyz : Grows x.nodes z.nodes = grows_both x.nodes y.nodes z.nodes gy gz in
     record {
-      terms = replaced_terms z.nodes z.term x.term y.term hz.terms hz.within (stays_within x.nodes z.nodes x.term gyz hx.within)
-          (stays_within y.nodes z.nodes y.term gz hy.within);
+      terms = (replaced_value z.nodes z.term x.term y.term loads _ _ _ hz.terms hz.within (stays_within x.nodes z.nodes x.term gyz hx.within)
+          (stays_within y.nodes z.nodes y.term gz hy.within) refl refl refl).terms;
       slots = set_told loads d w.nodes z.term k t.slots v (grows_both d.nodes x.nodes w.nodes gx (grows_both x.nodes z.nodes w.nodes gyz gw)) s.slots
           (value_stays z.nodes w.nodes loads z.term gw hz.within ∙ hz.value ∙ load refl) is;
       test = [];
@@ -244,8 +271,8 @@ told loads line wanted d (Store c e) t v are s named short is load =
       tests = sym (append-nil d.tests);
       comes = λ later g. refl;
     }
-told loads line wanted d (Store_at first len i e) t v are s named short is load =
-    let named = both_pass (names_slots (length d.slots) i) (names_slots (length d.slots) e) named in
+told loads line wanted d (StoreAt first len i e) t v are s named short is load =
+    let named = and_parts (names_slots (length d.slots) i) (names_slots (length d.slots) e) named in
     let x = term_in d i in
     let hx = expr_value d.nodes d.slots i loads are s.slots named.0 in
     let gx : Grows d.nodes x.nodes = expr_grows d.nodes d.slots i in
@@ -271,53 +298,23 @@ told loads line wanted d (Inside len i) t v are s named short is load =
       comes = test_comes loads (range_test x last) (truth (int_le (pos 0) n && int_le n last)) (is_within len (value_in t i)) d.steps line wanted h
           (truth_nonzero (int_le (pos 0) n && int_le n last) ∙ within_is len n short ∙ ap (λ xs. is_within len (expr_value_of i xs)) (sym is));
     }
-told loads line wanted d (In_range i) t v are s named short is load =
+told loads line wanted d (InRange i) t v are s named short is load =
     let x = term_in d i in
     let n = expr_value_of i (slots_by loads d) in
     let h = range_value x n (pos 31) loads (expr_value d.nodes d.slots i loads are s.slots named) in
-    let e = after_instr line wanted d (In_range i) in
+    let e = after_instr line wanted d (InRange i) in
     record {
       terms = h.terms;
-      slots = kept_told loads d e.nodes t.slots (instr_goes line wanted d (In_range i) s named).grows s.slots is;
+      slots = kept_told loads d e.nodes t.slots (instr_goes line wanted d (InRange i) s named).grows s.slots is;
       test = record { step = d.steps; line = line; term = (range_test x (pos 31)).term; wanted = wanted } ∷ [];
       tests = refl;
       comes = test_comes loads (range_test x (pos 31)) (truth (is_distance n)) (is_distance (value_in t i)) d.steps line wanted h
           (truth_nonzero (is_distance n) ∙ ap (λ xs. is_distance (expr_value_of i xs)) (sym is));
     }
 told loads line wanted d (Branch e to) t v are s named short is load =
-    let x = term_in d e in
-    let h = expr_value d.nodes d.slots e loads are s.slots named in
-    record {
-      terms = h.terms;
-      slots = ap (λ (u : Local). u.slots) (branch_is t (is_nonzero (value_in t e)) to)
-          ∙ kept_told loads d x.nodes t.slots (expr_grows d.nodes d.slots e) s.slots is;
-      test = record { step = d.steps; line = line; term = x.term; wanted = wanted } ∷ [];
-      tests = refl;
-      comes = test_comes loads x (expr_value_of e (slots_by loads d)) (is_nonzero (value_in t e)) d.steps line wanted h
-          (ap (λ xs. is_nonzero (expr_value_of e xs)) (sym is));
-    }
-told loads line wanted d (Assert e) t v are s named short is load =
-    let x = term_in d e in
-    let h = expr_value d.nodes d.slots e loads are s.slots named in
-    record {
-      terms = h.terms;
-      slots = kept_told loads d x.nodes t.slots (expr_grows d.nodes d.slots e) s.slots is;
-      test = record { step = d.steps; line = line; term = x.term; wanted = wanted } ∷ [];
-      tests = refl;
-      comes = test_comes loads x (expr_value_of e (slots_by loads d)) (is_nonzero (value_in t e)) d.steps line wanted h
-          (ap (λ xs. is_nonzero (expr_value_of e xs)) (sym is));
-    }
-told loads line wanted d (Nonzero e) t v are s named short is load =
-    let x = term_in d e in
-    let h = expr_value d.nodes d.slots e loads are s.slots named in
-    record {
-      terms = h.terms;
-      slots = kept_told loads d x.nodes t.slots (expr_grows d.nodes d.slots e) s.slots is;
-      test = record { step = d.steps; line = line; term = x.term; wanted = wanted } ∷ [];
-      tests = refl;
-      comes = test_comes loads x (expr_value_of e (slots_by loads d)) (is_nonzero (value_in t e)) d.steps line wanted h
-          (ap (λ xs. is_nonzero (expr_value_of e xs)) (sym is));
-    }
+    expr_told loads line wanted d (Branch e to) t v e (d.branches + 1) are s named is (ap (λ (u : Local). u.slots) (branch_is t (is_nonzero (value_in t e)) to)) refl
+told loads line wanted d (Assert e) t v are s named short is load = expr_told loads line wanted d (Assert e) t v e d.branches are s named is refl refl
+told loads line wanted d (Nonzero e) t v are s named short is load = expr_told loads line wanted d (Nonzero e) t v e d.branches are s named is refl refl
 told loads line wanted d (Create h f es) t v are s named short is load =
     let e = after_instr line wanted d (Create h f es) in
     record {
@@ -337,7 +334,7 @@ exprs_values : (slots : List ℕ) (loads : List ℤ) (nodes : List Node) (es : L
     ≡ vs ++ map (λ e. expr_value_of e (map (value_of nodes loads) slots)) es
 exprs_values slots loads nodes [] xs vs of g are within named is = is ∙ sym (append-nil vs)
 exprs_values slots loads nodes (e ∷ es) xs vs of g are within named is =
-    let named = both_pass (names_slots (length slots) e) (list_all (names_slots (length slots)) es) named in
+    let named = and_parts (names_slots (length slots) e) (list_all (names_slots (length slots)) es) named in
     let next = with_expr slots xs e in
     let x = expr_term xs.nodes slots e in
     let up : Grows xs.nodes x.nodes = expr_grows xs.nodes slots e in
@@ -352,14 +349,14 @@ exprs_values slots loads nodes (e ∷ es) xs vs of g are within named is =
     ∙ append_assoc vs (v ∷ []) (map (λ e. expr_value_of e (map (value_of nodes loads) slots)) es)
 
 -- what an instruction hands over
-pub record Gives (loads : List ℤ) (d e : Doing) (t : Local) (i : Instr) : Type 0 where
+pub record Hands (loads : List ℤ) (d e : Doing) (t : Local) (i : Instr) : Type 0 where
   pub hands : List Handed
   pub creates : e.creates ≡ d.creates ++ hands
   pub given : (later : List Node) → Grows e.nodes later → map (values_in later loads) hands ≡ given_by t i
 
-pub gives : (loads : List ℤ) (line : ℕ) (wanted : Bool) (d : Doing) (i : Instr) (t : Local) → AreTerms d.nodes → IsSound d
-    → IsTrue (names_within (length d.slots) i) → t.slots ≡ slots_by loads d → Gives loads d (after_instr line wanted d i) t i
-gives loads line wanted d (Create h f es) t are s named is =
+pub hands_over : (loads : List ℤ) (line : ℕ) (wanted : Bool) (d : Doing) (i : Instr) (t : Local) → AreTerms d.nodes → HasTerms d
+    → IsTrue (names_within (length d.slots) i) → t.slots ≡ slots_by loads d → Hands loads d (after_instr line wanted d i) t i
+hands_over loads line wanted d (Create h f es) t are s named is =
     let none : AllMade = record { terms = []; nodes = d.nodes } in
     let xs = expr_terms d.nodes d.slots es in
     let m = exprs_made d.nodes d.slots es s.slots named in
@@ -370,35 +367,7 @@ gives loads line wanted d (Create h f es) t are s named is =
       given = λ later g. ap (λ vs. vs ∷ []) (values_stay xs.nodes later loads xs.terms g m.within ∙ v
           ∙ ap (λ slots. map (λ e. expr_value_of e slots) es) (sym is));
     }
-gives loads line wanted d _ t are s named is = record { hands = []; creates = sym (append-nil d.creates); given = λ later g. refl }
-
--- what a compare-and-exchange writes has its value by bits
-pub replaced_value : (nodes : List Node) (v e f : ℕ) (loads : List ℤ) (a b c : ℤ) → AreTerms nodes → v < length nodes → e < length nodes → f < length nodes
-    → value_of nodes loads v ≡ a → value_of nodes loads e ≡ b → value_of nodes loads f ≡ c → HasValue loads (replaced_term nodes v e f) (exchanged a b c)
-replaced_value nodes v e f loads a b c are wv we wf va vb vc =
-    let first : Node = Binary Xor v f in
-    let change = made nodes first in
-    let hc = binary_value Xor nodes v f a c loads are wv wf va vc in
-    let gc : Grows nodes change.nodes = grows_made nodes first in
-    let second : Node = Binary Eq v e in
-    let same = made change.nodes second in
-    let hs = binary_value Eq change.nodes v e a b loads hc.terms (stays_within nodes change.nodes v gc wv) (stays_within nodes change.nodes e gc we)
-    (value_stays nodes change.nodes loads v gc wv ∙ va) (value_stays nodes change.nodes loads e gc we ∙ vb) in
-    let gs : Grows change.nodes same.nodes = grows_made change.nodes second in
-    let third : Node = Unary Neg same.term in
-    let mask = made same.nodes third in
-    let hm = unary_value Neg same (equal a b) loads hs in
-    let gcm : Grows change.nodes mask.nodes = grows_both change.nodes same.nodes mask.nodes gs (grows_made same.nodes third) in
-    let fourth : Node = Binary And change.term mask.term in
-    let masked = made mask.nodes fourth in
-    let hk = binary_value And mask.nodes change.term mask.term (bits_xor a c) (negated (equal a b)) loads hm.terms
-    (stays_within change.nodes mask.nodes change.term gcm hc.within) hm.within (value_stays change.nodes mask.nodes loads change.term gcm hc.within ∙ hc.value)
-    hm.value in
-    let all : Grows nodes masked.nodes = grows_both nodes change.nodes masked.nodes gc
-    (grows_both change.nodes mask.nodes masked.nodes gcm (grows_made mask.nodes fourth)) in
-    binary_value Xor masked.nodes v masked.term a (bits_and (bits_xor a c) (negated (equal a b))) loads hk.terms
-    (stays_within nodes masked.nodes v all wv) hk.within
-    (value_stays nodes masked.nodes loads v all wv ∙ va) hk.value
+hands_over loads line wanted d _ t are s named is = record { hands = []; creates = sym (append-nil d.creates); given = λ later g. refl }
 
 -- what an instruction asks of a cell
 pub record Asks (loads : List ℤ) (d e : Doing) (t : Local) (i : Instr) (v : ℤ) : Type 0 where
@@ -423,19 +392,19 @@ in_later : (loads : List ℤ) (x : Made) (e : Expr) (t : Local) (d : Doing) (lat
     → t.slots ≡ slots_by loads d → Grows x.nodes later → value_of later loads x.term ≡ value_in t e
 in_later loads x e t d later h is g = value_stays x.nodes later loads x.term g h.within ∙ h.value ∙ ap (expr_value_of e) (sym is)
 
-pub asks : (loads : List ℤ) (line : ℕ) (wanted : Bool) (d : Doing) (i : Instr) (t : Local) (v : ℤ) → AreTerms d.nodes → IsSound d
+pub asks : (loads : List ℤ) (line : ℕ) (wanted : Bool) (d : Doing) (i : Instr) (t : Local) (v : ℤ) → AreTerms d.nodes → HasTerms d
     → IsTrue (names_within (length d.slots) i) → t.slots ≡ slots_by loads d → (is_load i ≡ true → get_or loads d.loads (pos 0) ≡ v)
-    → Asks loads d (after_instr line wanted d i) t i v
-asks loads line wanted d (Load k c) t v are s named is load = record {
+    → IsInt v → AsksInts (request t i) → Asks loads d (after_instr line wanted d i) t i v
+asks loads line wanted d (Load k c) t v are s named is load int ints = record {
   found = record { step = d.steps; cell = Fixed c; takes = Some d.loads; writes = None } ∷ [];
   accesses = refl;
   asked = λ later g. asked_is c c (Some (get_or loads d.loads (pos 0))) (Some v) None None refl (ap Some (load refl)) refl;
 }
-asks loads line wanted d (Load_at k first len i) t v are s named is load =
-    let named = both_pass (nat_lt k (length d.slots)) (names_slots (length d.slots) i) named in
+asks loads line wanted d (LoadAt k first len i) t v are s named is load int ints =
+    let named = and_parts (nat_lt k (length d.slots)) (names_slots (length d.slots) i) named in
     let x = term_in d i in
     let h = expr_value d.nodes d.slots i loads are s.slots named.1 in
-    let e = after_instr line wanted d (Load_at k first len i) in
+    let e = after_instr line wanted d (LoadAt k first len i) in
     let up : Grows x.nodes e.nodes = grows_made x.nodes (Symbol d.loads) in
     record {
       found = record { step = d.steps; cell = Element first len x.term; takes = Some d.loads; writes = None } ∷ [];
@@ -444,7 +413,7 @@ asks loads line wanted d (Load_at k first len i) t v are s named is load =
           None None
           (ap (cell_at first) (in_later loads x i t d later h is (grows_both x.nodes e.nodes later up g))) (ap Some (load refl)) refl;
     }
-asks loads line wanted d (Store c e) t v are s named is load =
+asks loads line wanted d (Store c e) t v are s named is load int ints =
     let x = term_in d e in
     let h = expr_value d.nodes d.slots e loads are s.slots named in
     record {
@@ -453,8 +422,8 @@ asks loads line wanted d (Store c e) t v are s named is load =
       asked = λ later g. asked_is c c None None (Some (value_of later loads x.term)) (Some (value_in t e)) refl refl
           (ap Some (in_later loads x e t d later h is g));
     }
-asks loads line wanted d (Store_at first len i e) t v are s named is load =
-    let named = both_pass (names_slots (length d.slots) i) (names_slots (length d.slots) e) named in
+asks loads line wanted d (StoreAt first len i e) t v are s named is load int ints =
+    let named = and_parts (names_slots (length d.slots) i) (names_slots (length d.slots) e) named in
     let x = term_in d i in
     let hx = expr_value d.nodes d.slots i loads are s.slots named.0 in
     let gx : Grows d.nodes x.nodes = expr_grows d.nodes d.slots i in
@@ -471,8 +440,8 @@ asks loads line wanted d (Store_at first len i e) t v are s named is load =
           (Some (value_in t e)) (ap (cell_at first) (in_later loads x i t d later hx is (grows_both x.nodes y.nodes later gy g))) refl
           (ap Some (value later g));
     }
-asks loads line wanted d (Swap k c e) t v are s named is load =
-    let named = both_pass (nat_lt k (length d.slots)) (names_slots (length d.slots) e) named in
+asks loads line wanted d (Swap k c e) t v are s named is load int ints =
+    let named = and_parts (nat_lt k (length d.slots)) (names_slots (length d.slots) e) named in
     let x = term_in d e in
     let h = expr_value d.nodes d.slots e loads are s.slots named.1 in
     let f = after_instr line wanted d (Swap k c e) in
@@ -483,9 +452,9 @@ asks loads line wanted d (Swap k c e) t v are s named is load =
       asked = λ later g. asked_is c c (Some (get_or loads d.loads (pos 0))) (Some v) (Some (value_of later loads x.term)) (Some (value_in t e)) refl
           (ap Some (load refl)) (ap Some (in_later loads x e t d later h is (grows_both x.nodes f.nodes later up g)));
     }
-asks loads line wanted d (Cas k c e new) t v are s named is load =
-    let named = both_pass (nat_lt k (length d.slots) && names_slots (length d.slots) e) (names_slots (length d.slots) new) named in
-    let first = both_pass (nat_lt k (length d.slots)) (names_slots (length d.slots) e) named.0 in
+asks loads line wanted d (Cas k c e new) t v are s named is load int ints =
+    let named = and_parts (nat_lt k (length d.slots) && names_slots (length d.slots) e) (names_slots (length d.slots) new) named in
+    let first = and_parts (nat_lt k (length d.slots)) (names_slots (length d.slots) e) named.0 in
     let x = term_in d e in
     let hx = expr_value d.nodes d.slots e loads are s.slots first.1 in
     let gx : Grows d.nodes x.nodes = expr_grows d.nodes d.slots e in
@@ -506,20 +475,20 @@ asks loads line wanted d (Cas k c e new) t v are s named is load =
       found = record { step = d.steps; cell = Fixed c; takes = Some d.loads; writes = Some w.term } ∷ [];
       accesses = refl;
       asked = λ later g. asked_is c c (Some (get_or loads d.loads (pos 0))) (Some v) (Some (value_of later loads w.term))
-          (Some (exchanged v (value_in t e) (value_in t new))) refl (ap Some (load refl))
-          (ap Some (value_stays w.nodes later loads w.term g hw.within ∙ hw.value));
+          (Some (replaced v (value_in t e) (value_in t new))) refl (ap Some (load refl))
+          (ap Some (value_stays w.nodes later loads w.term g hw.within ∙ hw.value ∙ by_sameness (int_eq v (value_in t e)) v (value_in t new) int ints.1));
     }
-asks loads line wanted d (Inside len i) t v are s named is load =
+asks loads line wanted d (Inside len i) t v are s named is load int ints =
     site_asks loads d (after_instr line wanted d (Inside len i)) t (Inside len i) v (is_within len (value_in t i)) refl refl
-asks loads line wanted d (Holds m) t v are s named is load = site_asks loads d d t (Holds m) v (holds t m) refl refl
-asks loads line wanted d (Ready h) t v are s named is load = site_asks loads d d t (Ready h) v (can_be_joined (handle_of t h)) refl refl
-asks loads line wanted d (Assert e) t v are s named is load =
+asks loads line wanted d (Holds m) t v are s named is load int ints = site_asks loads d d t (Holds m) v (holds t m) refl refl
+asks loads line wanted d (Ready h) t v are s named is load int ints = site_asks loads d d t (Ready h) v (can_be_joined (handle_of t h)) refl refl
+asks loads line wanted d (Assert e) t v are s named is load int ints =
     site_asks loads d (after_instr line wanted d (Assert e)) t (Assert e) v (is_nonzero (value_in t e)) refl refl
-asks loads line wanted d (Nonzero e) t v are s named is load =
+asks loads line wanted d (Nonzero e) t v are s named is load int ints =
     site_asks loads d (after_instr line wanted d (Nonzero e)) t (Nonzero e) v (is_nonzero (value_in t e)) refl refl
-asks loads line wanted d (In_range e) t v are s named is load =
-    site_asks loads d (after_instr line wanted d (In_range e)) t (In_range e) v (is_distance (value_in t e)) refl refl
-asks loads line wanted d _ t v are s named is load = record { found = []; accesses = sym (append-nil d.accesses); asked = λ later g. refl }
+asks loads line wanted d (InRange e) t v are s named is load int ints =
+    site_asks loads d (after_instr line wanted d (InRange e)) t (InRange e) v (is_distance (value_in t e)) refl refl
+asks loads line wanted d _ t v are s named is load int ints = record { found = []; accesses = sym (append-nil d.accesses); asked = λ later g. refl }
 
 -- the values that are left
 next_value : (vs : List ℤ) (k : ℕ) → get_or vs (suc k) (pos 0) ≡ get_or (drop 1 vs) k (pos 0)
@@ -562,7 +531,7 @@ pub short_is : (code : Code) (f place : ℕ) (i : Instr) → IsLawful code → i
 short_is code f place (Inside len i) lawful at =
     let p = placed code f place (Inside len i) lawful at in
     let named = p.lawful.names place (Inside len i) p.at in
-    let few = leb-true len (length code.memory) (both_pass (nat_le len (length code.memory)) (names_slots p.function.ints i) named).0 in
+    let few = leb-true len (length code.memory) (and_parts (nat_le len (length code.memory)) (names_slots p.function.ints i) named).0 in
     omega (arith, few, lawful.cells)
 short_is code f place _ lawful at = tt
 
@@ -606,12 +575,14 @@ module _ (code : Code) (f : ℕ) (outcomes : List Bool) (fails : Option ℕ) (lo
       record {
         stands = record {
           terms = subst (λ x. AreTerms x.nodes) (sym stays) s.terms;
-          sound = subst IsSound (sym stays) s.sound;
+          sound = subst HasTerms (sym stays) s.sound;
           ints = subst (λ x. ints_of code f ≤ length x.slots) (sym stays) s.ints;
           slots = ap (λ x. x.local.slots) waits ∙ s.slots ∙ sym (ap (slots_by loads) stays);
           along = s.along.1;
           takes = takes_next false loads d.loads (next d place).loads (after (next d place) places).loads a.values (goes_on code a).values
               (ap (λ x. x.loads) stays ∙ omega arith) (ap (λ x. x.values) waits) s.takes;
+          slot_ints = subst (λ x. All IsInt x.local.slots) (sym waits) s.slot_ints;
+          taken_ints = subst (λ x. All IsInt x.values) (sym waits) s.taken_ints;
         };
         test = [];
         tests = ap (λ x. x.tests) stays ∙ sym (append-nil d.tests);
@@ -647,8 +618,11 @@ module _ (code : Code) (f : ℕ) (outcomes : List Bool) (fails : Option ℕ) (lo
       let t = told loads line wanted d i a.local v s.terms s.sound
       (instr_named code f place (length d.slots) i lawful at s.ints) (short_is code f place i lawful at)
       s.slots takes in
-      let k = asks loads line wanted d i a.local v s.terms s.sound (instr_named code f place (length d.slots) i lawful at s.ints) s.slots takes in
-      let h = gives loads line wanted d i a.local s.terms s.sound (instr_named code f place (length d.slots) i lawful at s.ints) s.slots in
+      let numbers = ints_next code a.local i lawful some in
+      let int = there_int a.values 0 s.taken_ints in
+      let k = asks loads line wanted d i a.local v s.terms s.sound (instr_named code f place (length d.slots) i lawful at s.ints) s.slots takes int
+      (asks_ints a.local s.slot_ints i numbers) in
+      let h = hands_over loads line wanted d i a.local s.terms s.sound (instr_named code f place (length d.slots) i lawful at s.ints) s.slots in
       record {
         stands = record {
           terms = subst (λ x. AreTerms x.nodes) (sym does) t.terms;
@@ -658,6 +632,9 @@ module _ (code : Code) (f : ℕ) (outcomes : List Bool) (fails : Option ℕ) (lo
           along = s.along.1;
           takes = takes_next (is_load i) loads d.loads (next d place).loads (after (next d place) places).loads a.values (goes_on code a).values
               counted (ap (λ x. x.values) goes ∙ left.values) s.takes;
+          slot_ints = subst (All IsInt) (sym (ap (λ x. x.local.slots) goes ∙ left.slots)) (after_int a.local s.slot_ints i v numbers int);
+          taken_ints = subst (All IsInt) (sym (ap (λ x. x.values) goes ∙ left.values))
+              (either (All IsInt) (is_load i) (drop 1 a.values) a.values (All-drop IsInt 1 a.values s.taken_ints) s.taken_ints);
         };
         test = t.test;
         tests = ap (λ x. x.tests) does ∙ t.tests;

@@ -3,7 +3,7 @@ use Rattle.std.proofs.Common.{◌≡◌, ◌∙◌, ℕ, ◌<◌, ℤ, pos, List
 use Rattle.std.proofs.Common.{sym, rules}
 use Rattle.std.specs.Bool.{IsTrue}
 use Rattle.std.specs.Prelude.{int_le}
-use Rattle.std.proofs.lemmas.Bool.{ltb-true}
+use Rattle.std.proofs.lemmas.Bool.{and_parts, ltb-true}
 use Rattle.std.proofs.lemmas.List.{get_or-map}
 use Rattle.std.proofs.lemmas.List.Elements.{All-head, All-tail}
 use Rattle.tc_base.specs.Arith.{unary, binary, truth, bits_and, less_or_equal}
@@ -22,7 +22,7 @@ use Rattle.sym_terms.proofs.Growth as terms
 use Rattle.sym_terms.proofs.Folds as folds
 use Rattle.sym_exec.specs.Making.{Made, Grows, made, expr_term, range_test}
 use Rattle.sym_exec.specs.Thread.{AreOf}
-use Rattle.sym_exec.proofs.Grown.{grows_both, grows_made, made_within, stays_within, stay_of, expr_grows, both_pass}
+use Rattle.sym_exec.proofs.Grown.{grows_both, grows_made, made_within, stays_within, stay_of, expr_grows}
 
 -- a term's value stays while nodes are added
 pub value_stays : (a b : List Node) (loads : List ℤ) (term : ℕ) → Grows a b → term < length a → value_of b loads term ≡ value_of a loads term
@@ -87,7 +87,7 @@ expr_value nodes slots (expr.Slot k) loads are of named =
 expr_value nodes slots (expr.Unary op a) loads are of named =
     unary_value op (expr_term nodes slots a) (expr.value_of a (map (value_of nodes loads) slots)) loads (expr_value nodes slots a loads are of named)
 expr_value nodes slots (expr.Binary op a b) loads are of named =
-    let named = both_pass (names_slots (length slots) a) (names_slots (length slots) b) named in
+    let named = and_parts (names_slots (length slots) a) (names_slots (length slots) b) named in
     let x = expr_term nodes slots a in
     let y = expr_term x.nodes slots b in
     let up : Grows nodes x.nodes = expr_grows nodes slots a in

@@ -1,20 +1,21 @@
 -- What the execution of a path tells of a thread that goes along it by itself, under the values that the loads take.
 use Rattle.std.specs.Prelude.{◌≡◌, ℕ, zero, suc, ◌+◌, ◌<◌, ◌≤◌, ℤ, pos, List, [], ◌∷◌, ◌++◌, map, length, Bool, Option, Some, None, option_map}
 use Rattle.std.specs.Prelude.{option_and_then, slice_index_or}
-use Rattle.std.specs.List.{cons_option}
+use Rattle.std.specs.List.{All, cons_option}
 use Rattle.std.specs.Option.{option_map_or}
-use Rattle.tc_base.specs.Arith.{is_distance, bits_xor, bits_and, negated, equal}
+use Rattle.tc_base.specs.Arith.{IsInt, is_distance}
 use Rattle.tc_base.specs.declared.request.Request.{Request}
 use Rattle.tc_base.specs.declared.request.Request.TheVariants.{Read, Write, Exchange, CompareExchange}
 use Rattle.tc_base.specs.States.{Local}
 use Rattle.tc_code.specs.Code.{Code, instr_at}
-use Rattle.tc_code.specs.Instr.{Instr, Inside, Branch, Create, Assert, Nonzero, In_range}
-use Rattle.tc_code.specs.Step.{ints_of, instr_of, value_in, is_within, is_nonzero, cell_at, request}
+use Rattle.tc_code.specs.declared.instr.Instr.{Instr}
+use Rattle.tc_code.specs.declared.instr.Instr.TheVariants.{Inside, Branch, Create, Assert, Nonzero, InRange}
+use Rattle.tc_code.specs.Step.{ints_of, instr_of, value_in, is_within, is_nonzero, cell_at, request, replaced}
 use Rattle.run_laws.specs.Alone.{Alone, goes_on, after_steps}
 use Rattle.sym_terms.specs.Terms.{AreTerms}
 use Rattle.sym_terms.specs.Values.{value_of}
 use Rattle.sym_terms.specs.declared.node.Node.{Node}
-use Rattle.sym_exec.specs.Thread.{Handed, Doing, IsSound, after_all}
+use Rattle.sym_exec.specs.Thread.{Handed, Doing, HasTerms, after_all}
 use Rattle.sym_exec.specs.declared.symbolic.Access.{Access}
 use Rattle.sym_exec.specs.declared.symbolic.Cell.{Cell}
 use Rattle.sym_exec.specs.declared.symbolic.Cell.TheVariants.{Fixed, Element}
@@ -30,7 +31,7 @@ condition t (Inside len i) = Some (is_within len (value_in t i))
 condition t (Branch e to) = Some (is_nonzero (value_in t e))
 condition t (Assert e) = Some (is_nonzero (value_in t e))
 condition t (Nonzero e) = Some (is_nonzero (value_in t e))
-condition t (In_range e) = Some (is_distance (value_in t e))
+condition t (InRange e) = Some (is_distance (value_in t e))
 condition t _ = None
 
 -- how the tests of so many steps of a thread come out, in order
@@ -61,16 +62,12 @@ pub record Asked : Type 0 where
   pub takes : Option ℤ
   pub writes : Option ℤ
 
--- what a compare-and-exchange brings, by bits: v ^ ((v ^ f) & -(v == e))
-abbrev pub exchanged : (v e f : ℤ) → ℤ
-exchanged v e f = bits_xor v (bits_and (bits_xor v f) (negated (equal v e)))
-
 -- by a request that takes this value, if it takes one
 abbrev pub asked_by : ℤ → Request → List Asked
 asked_by v (Read c) = record { cell = c; takes = Some v; writes = None } ∷ []
 asked_by v (Write c w) = record { cell = c; takes = None; writes = Some w } ∷ []
 asked_by v (Exchange c w) = record { cell = c; takes = Some v; writes = Some w } ∷ []
-asked_by v (CompareExchange c e w) = record { cell = c; takes = Some v; writes = Some (exchanged v e w) } ∷ []
+asked_by v (CompareExchange c e w) = record { cell = c; takes = Some v; writes = Some (replaced v e w) } ∷ []
 asked_by v _ = []
 
 -- what so many steps of a thread ask of cells, in order
@@ -104,13 +101,16 @@ module _ (code : Code) (f : ℕ) (outcomes : List Bool) (fails : Option ℕ) (lo
   -- an execution that stands for a thread, which goes along the places
   pub record StandsFor (places : List ℕ) (d : Doing) (a : Alone) : Type 0 where
     pub terms : AreTerms d.nodes
-    pub sound : IsSound d
+    pub sound : HasTerms d
     pub ints : ints_of code f ≤ length d.slots
     -- each slot has the value of its term
     pub slots : a.local.slots ≡ slots_by loads d
     pub along : GoesAlong code f places a
     -- the loads of the execution take what the thread takes
     pub takes : TakesFrom loads d.loads (after_all code f outcomes fails d places).loads a.values
+    -- its slots, and what it takes, are ints
+    pub slot_ints : All IsInt a.local.slots
+    pub taken_ints : All IsInt a.values
 
   -- what the steps at the places lead to: each slot has the value of its term, each test comes out as its term tells, and each
   -- create and each access asks what its terms tell

@@ -1,13 +1,9 @@
--- Numbers in the range of `int`.
-use Rattle.std.specs.Prelude.{ℤ, List, FitsSigned}
+-- Numbers in the range of `int`, in terms.
+use Rattle.std.specs.Prelude.{ℤ, List}
 use Rattle.std.specs.List.{All}
-use Rattle.std.specs.Int.{w32}
+use Rattle.tc_base.specs.Arith.{IsInt, bits_xor, bits_and, negated, equal}
 use Rattle.sym_terms.specs.declared.node.Node.{Node}
 use Rattle.sym_terms.specs.declared.node.Node.TheVariants.{Constant}
-
--- 32 bits in two's complement
-abbrev pub IsInt : ℤ → Type 0
-IsInt n = FitsSigned w32 n
 
 -- the number of a node, if it has one
 abbrev pub HasInt : Node → Type 0
@@ -18,3 +14,7 @@ HasInt _ = Unit {0}
 pub record AreInts (nodes : List Node) (loads : List ℤ) : Type 0 where
   pub constants : All HasInt nodes
   pub taken : All IsInt loads
+
+-- what the term of a compare-and-exchange gives, by bits: v ^ ((v ^ f) & -(v == e))
+abbrev pub exchanged : (v e f : ℤ) → ℤ
+exchanged v e f = bits_xor v (bits_and (bits_xor v f) (negated (equal v e)))

@@ -1,7 +1,7 @@
 pub mod Making
 pub mod Thread
 pub mod Executed
-pub mod Helpers
+pub mod helpers
 pub mod Alone
 pub mod Runs
 pub mod Ints

@@ -5,7 +5,8 @@ use Rattle.std.specs.List.{All}
 use Rattle.std.specs.Option.{option_map_or}
 use Rattle.tc_code.specs.Code.{Code, instr_at, line_at}
 use Rattle.tc_code.specs.Expr.{Expr}
-use Rattle.tc_code.specs.Instr.{Instr, Set, Load, Load_at, Store, Store_at, Inside, Branch, Create, Assert, Nonzero, In_range, Swap, Cas}
+use Rattle.tc_code.specs.declared.instr.Instr.{Instr}
+use Rattle.tc_code.specs.declared.instr.Instr.TheVariants.{Set, Load, LoadAt, Store, StoreAt, Inside, Branch, Create, Assert, Nonzero, InRange, Swap, Cas}
 use Rattle.sym_terms.specs.declared.node.Node.{Node}
 use Rattle.sym_terms.specs.declared.node.Node.TheVariants.{Constant, Symbol}
 use Rattle.sym_exec.specs.Making.{Made, made, expr_term, expr_terms, range_test, last_index, replaced_term}
@@ -42,7 +43,7 @@ abbrev pub HandsOf : List Node → Handed → Type 0
 HandsOf nodes h = AreOf nodes h.terms
 
 -- all terms of a thread's execution are of its nodes
-pub record IsSound (d : Doing) : Type 0 where
+pub record HasTerms (d : Doing) : Type 0 where
   pub slots : AreOf d.nodes d.slots
   pub creates : All (HandsOf d.nodes) d.creates
 
@@ -118,15 +119,15 @@ handing d es = let xs = expr_terms d.nodes d.slots es in record d { nodes = xs.n
 abbrev pub after_instr : ℕ → Bool → Doing → Instr → Doing
 after_instr line wanted d (Set k e) = setting d k (term_in d e)
 after_instr line wanted d (Load k c) = reading d k (Fixed c)
-after_instr line wanted d (Load_at k first len i) = let x = term_in d i in reading (making d x) k (Element first len x.term)
+after_instr line wanted d (LoadAt k first len i) = let x = term_in d i in reading (making d x) k (Element first len x.term)
 after_instr line wanted d (Store c e) = storing d (Fixed c) (term_in d e)
-after_instr line wanted d (Store_at first len i e) = let x = term_in d i in storing d (Element first len x.term) (term_in (making d x) e)
+after_instr line wanted d (StoreAt first len i e) = let x = term_in d i in storing d (Element first len x.term) (term_in (making d x) e)
 after_instr line wanted d (Inside len i) = testing d line wanted (range_test (term_in d i) (last_index len))
 after_instr line wanted d (Branch e to) = record (testing d line wanted (term_in d e)) { branches = d.branches + 1 }
 after_instr line wanted d (Create h f es) = handing d es
 after_instr line wanted d (Assert e) = testing d line wanted (term_in d e)
 after_instr line wanted d (Nonzero e) = testing d line wanted (term_in d e)
-after_instr line wanted d (In_range e) = testing d line wanted (range_test (term_in d e) (pos 31))
+after_instr line wanted d (InRange e) = testing d line wanted (range_test (term_in d e) (pos 31))
 after_instr line wanted d (Swap k c e) = swapping d k (Fixed c) (term_in d e)
 after_instr line wanted d (Cas k c e new) = replacing d k (Fixed c) e new
 after_instr line wanted d _ = d

@@ -2,7 +2,6 @@
 ghost use Rattle.std.specs.Prelude.{◌≡◌, ◌<◌, ◌≤◌, ◌^◌, ℤ, pos, [], length, IfOk, OnOk, IsTrue};
 ghost use Rattle.std.specs.List.{list_all};
 ghost use Rattle.tc_code.specs.Expr.{names_slots};
-ghost use Rattle.tc_code.specs.SeenExpr.{plain_expr, plain_exprs};
 ghost use Rattle.sym_terms.specs.declared.node.Node.TheVariants.{Constant, Symbol, Unary, Binary};
 ghost use Rattle.sym_exec.specs.Thread.{AreOf};
 ghost use Rattle.sym_exec.specs.Making as spec;
@@ -11,7 +10,7 @@ ghost use Rattle.sym_exec.specs.Making.{Grows};
 use std::alloc::{AllocError, Global};
 use sym_terms::{Id, Terms};
 use tc_base::{BinOp, UnOp};
-use tc_code::Expr;
+use tc_code::{Expr, Node};
 
 /// The term of a number.
 pub(crate) fn constant(terms: &mut Terms, n: i32) -> Result<Id, AllocError>
@@ -55,19 +54,19 @@ fn binary(terms: &mut Terms, op: BinOp, a: Id, b: Id) -> Result<Id, AllocError>
 /// The term of an expression, where the slots have these terms.
 pub(crate) fn expr_term(terms: &mut Terms, slots: &[Id], e: &Expr) -> Result<Id, AllocError>
     requires slots { AreOf terms.old slots.now }
-    requires names { IsTrue (names_slots (length slots.now) (plain_expr e.now)) }
-    ensures term { IfOk result (λ term. record { term = term; nodes = terms.new } ≡ spec.expr_term terms.old slots.now (plain_expr e.now)) }
+    requires names { IsTrue (names_slots (length slots.now) e.now) }
+    ensures term { IfOk result (λ term. record { term = term; nodes = terms.new } ≡ spec.expr_term terms.old slots.now e.now) }
     ensures within { IfOk result (λ term. term < length terms.new) }
     ensures grown { Grows terms.old terms.new }
 {
-    match e {
-        Expr::Number(n) => terms.constant(*n),
-        Expr::Slot(k) => Ok(slots[*k as usize]),
-        Expr::Unary(op, operand) => {
+    match &e.node {
+        Node::Number(n) => terms.constant(*n),
+        Node::Slot(k) => Ok(slots[*k as usize]),
+        Node::Unary(op, operand) => {
             let operand = expr_term(terms, slots, operand)?;
             terms.op1(*op, operand)
         }
-        Expr::Binary(op, left, right) => {
+        Node::Binary(op, left, right) => {
             let left = expr_term(terms, slots, left)?;
             let right = expr_term(terms, slots, right)?;
             terms.op2(*op, left, right)
@@ -83,8 +82,8 @@ pub(crate) fn expr_terms(
     es: &[Expr],
 ) -> Result<Vec<Id>, AllocError>
     requires slots { AreOf terms.old slots.now }
-    requires names { IsTrue (list_all (names_slots (length slots.now)) (plain_exprs es.now)) }
-    ensures made { IfOk result (λ made. record { terms = made.items; nodes = terms.new } ≡ spec.expr_terms terms.old slots.now (plain_exprs es.now)) }
+    requires names { IsTrue (list_all (names_slots (length slots.now)) es.now) }
+    ensures made { IfOk result (λ made. record { terms = made.items; nodes = terms.new } ≡ spec.expr_terms terms.old slots.now es.now) }
     ensures grown { Grows terms.old terms.new }
 {
     let mut made = Vec::new(alloc);

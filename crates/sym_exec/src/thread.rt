@@ -3,12 +3,10 @@ ghost use Rattle.std.specs.Prelude.{◌≡◌, ◌+◌, ◌<◌, ◌≤◌, ◌^
 ghost use Rattle.std.specs.List.{list_all};
 ghost use Rattle.tc_code.specs.Expr.{names_slots};
 ghost use Rattle.tc_code.specs.Lawful.{IsLawful};
-ghost use Rattle.tc_code.specs.Seen.{plain_instr};
 ghost use Rattle.tc_code.specs.Step.{ints_of};
-ghost use Rattle.tc_code.specs.SeenExpr.{plain_expr};
 ghost use Rattle.sym_terms.specs.declared.node.Node.{Node};
-ghost use Rattle.sym_exec.specs.Helpers.{names_within, seen};
-ghost use Rattle.sym_exec.specs.Thread.{AreOf, IsSound};
+ghost use Rattle.sym_exec.specs.helpers.Threads.{names_within, seen};
+ghost use Rattle.sym_exec.specs.Thread.{AreOf, HasTerms};
 ghost use Rattle.sym_exec.specs.Making.{Grows};
 ghost use Rattle.sym_exec.specs.Thread as spec;
 ghost use Rattle.sym_exec.specs.Making.{range_test as range_of};
@@ -112,8 +110,8 @@ impl Thread {
     /// The term of an expression over the slots.
     fn term(&self, terms: &mut Terms, e: &Expr) -> Result<Id, AllocError>
         requires slots { AreOf terms.old self.now.slots.items }
-        requires names { IsTrue (names_slots (length self.now.slots.items) (plain_expr e.now)) }
-        ensures term { IfOk result (λ term. record { term = term; nodes = terms.new } ≡ spec.term_in (seen self.now terms.old) (plain_expr e.now)) }
+        requires names { IsTrue (names_slots (length self.now.slots.items) e.now) }
+        ensures term { IfOk result (λ term. record { term = term; nodes = terms.new } ≡ spec.term_in (seen self.now terms.old) e.now) }
         ensures within { IfOk result (λ term. term < length terms.new) }
         ensures grown { Grows terms.old terms.new }
     {
@@ -129,9 +127,9 @@ impl Thread {
         e: &Expr,
     ) -> Result<(), AllocError>
         requires slots { AreOf terms.old self.old.slots.items }
-        requires names { IsTrue (names_slots (length self.old.slots.items) (plain_expr e.now)) }
+        requires names { IsTrue (names_slots (length self.old.slots.items) e.now) }
         ensures tested { OnOk result (seen self.new terms.new
-            ≡ spec.testing (seen self.old terms.old) line wanted (spec.term_in (seen self.old terms.old) (plain_expr e.now))) }
+            ≡ spec.testing (seen self.old terms.old) line wanted (spec.term_in (seen self.old terms.old) e.now)) }
         ensures grown { Grows terms.old terms.new }
     {
         let term = self.term(terms, e)?;
@@ -148,9 +146,9 @@ impl Thread {
         last: i32,
     ) -> Result<(), AllocError>
         requires slots { AreOf terms.old self.old.slots.items }
-        requires names { IsTrue (names_slots (length self.old.slots.items) (plain_expr e.now)) }
+        requires names { IsTrue (names_slots (length self.old.slots.items) e.now) }
         ensures tested { OnOk result (seen self.new terms.new
-            ≡ spec.testing (seen self.old terms.old) line wanted (range_of (spec.term_in (seen self.old terms.old) (plain_expr e.now)) last)) }
+            ≡ spec.testing (seen self.old terms.old) line wanted (range_of (spec.term_in (seen self.old terms.old) e.now) last)) }
         ensures grown { Grows terms.old terms.new }
     {
         let term = self.term(terms, e)?;
@@ -162,9 +160,9 @@ impl Thread {
     fn set_value(&mut self, terms: &mut Terms, slot: u32, e: &Expr) -> Result<(), AllocError>
         requires slot { slot < length self.old.slots.items }
         requires slots { AreOf terms.old self.old.slots.items }
-        requires names { IsTrue (names_slots (length self.old.slots.items) (plain_expr e.now)) }
+        requires names { IsTrue (names_slots (length self.old.slots.items) e.now) }
         ensures set { OnOk result (seen self.new terms.new
-            ≡ spec.setting (seen self.old terms.old) slot (spec.term_in (seen self.old terms.old) (plain_expr e.now))) }
+            ≡ spec.setting (seen self.old terms.old) slot (spec.term_in (seen self.old terms.old) e.now)) }
         ensures grown { Grows terms.old terms.new }
     {
         let term = self.term(terms, e)?;
@@ -175,9 +173,9 @@ impl Thread {
     /// A cell takes the term of an expression.
     fn store_value(&mut self, terms: &mut Terms, cell: Cell, e: &Expr) -> Result<(), AllocError>
         requires slots { AreOf terms.old self.old.slots.items }
-        requires names { IsTrue (names_slots (length self.old.slots.items) (plain_expr e.now)) }
+        requires names { IsTrue (names_slots (length self.old.slots.items) e.now) }
         ensures stored { OnOk result (seen self.new terms.new
-            ≡ spec.storing (seen self.old terms.old) cell (spec.term_in (seen self.old terms.old) (plain_expr e.now))) }
+            ≡ spec.storing (seen self.old terms.old) cell (spec.term_in (seen self.old terms.old) e.now)) }
         ensures grown { Grows terms.old terms.new }
     {
         let term = self.term(terms, e)?;
@@ -193,9 +191,9 @@ impl Thread {
         index: &Expr,
     ) -> Result<Cell, AllocError>
         requires slots { AreOf terms.old self.now.slots.items }
-        requires names { IsTrue (names_slots (length self.now.slots.items) (plain_expr index.now)) }
-        ensures cell { IfOk result (λ cell. cell ≡ Element first len (spec.term_in (seen self.now terms.old) (plain_expr index.now)).term) }
-        ensures nodes { OnOk result (terms.new ≡ (spec.term_in (seen self.now terms.old) (plain_expr index.now)).nodes) }
+        requires names { IsTrue (names_slots (length self.now.slots.items) index.now) }
+        ensures cell { IfOk result (λ cell. cell ≡ Element first len (spec.term_in (seen self.now terms.old) index.now).term) }
+        ensures nodes { OnOk result (terms.new ≡ (spec.term_in (seen self.now terms.old) index.now).nodes) }
         ensures grown { Grows terms.old terms.new }
     {
         let index = self.term(terms, index)?;
@@ -210,9 +208,9 @@ impl Thread {
     fn swap(&mut self, terms: &mut Terms, slot: u32, cell: Cell, e: &Expr) -> Result<(), AllocError>
         requires slot { slot < length self.old.slots.items }
         requires slots { AreOf terms.old self.old.slots.items }
-        requires names { IsTrue (names_slots (length self.old.slots.items) (plain_expr e.now)) }
+        requires names { IsTrue (names_slots (length self.old.slots.items) e.now) }
         ensures swapped { OnOk result (seen self.new terms.new
-            ≡ spec.swapping (seen self.old terms.old) slot cell (spec.term_in (seen self.old terms.old) (plain_expr e.now))) }
+            ≡ spec.swapping (seen self.old terms.old) slot cell (spec.term_in (seen self.old terms.old) e.now)) }
         ensures grown { Grows terms.old terms.new }
     {
         let term = self.term(terms, e)?;
@@ -231,10 +229,10 @@ impl Thread {
     ) -> Result<(), AllocError>
         requires slot { slot < length self.old.slots.items }
         requires slots { AreOf terms.old self.old.slots.items }
-        requires expected { IsTrue (names_slots (length self.old.slots.items) (plain_expr expected.now)) }
-        requires new { IsTrue (names_slots (length self.old.slots.items) (plain_expr new.now)) }
+        requires expected { IsTrue (names_slots (length self.old.slots.items) expected.now) }
+        requires new { IsTrue (names_slots (length self.old.slots.items) new.now) }
         ensures replaced { OnOk result (seen self.new terms.new
-            ≡ spec.replacing (seen self.old terms.old) slot cell (plain_expr expected.now) (plain_expr new.now)) }
+            ≡ spec.replacing (seen self.old terms.old) slot cell expected.now new.now) }
         ensures grown { Grows terms.old terms.new }
     {
         let expected = self.term(terms, expected)?;
@@ -270,9 +268,9 @@ impl Thread {
         instr: &Instr,
     ) -> Result<(), AllocError>
         requires slots { AreOf terms.old self.old.slots.items }
-        requires names { IsTrue (names_within (length self.old.slots.items) (plain_instr instr.now)) }
+        requires names { IsTrue (names_within (length self.old.slots.items) instr.now) }
         requires room { self.old.branches + 1 < 2 ^ 64 }
-        ensures done { OnOk result (seen self.new terms.new ≡ spec.after_instr line wanted (seen self.old terms.old) (plain_instr instr.now)) }
+        ensures done { OnOk result (seen self.new terms.new ≡ spec.after_instr line wanted (seen self.old terms.old) instr.now) }
         ensures grown { Grows terms.old terms.new }
     {
         match instr {
@@ -324,7 +322,7 @@ impl Thread {
     /// What is wanted of the test of an instruction: the outcome of a branch, and that a site passes unless the thread
     /// fails in this step.
     fn wanted(&self, outcomes: &[bool], fails: Option<usize>, instr: &Instr) -> bool
-        ensures { (nodes : List Node) → result ≡ spec.wanted_of outcomes.now fails (seen self.now nodes) (plain_instr instr.now) }
+        ensures { (nodes : List Node) → result ≡ spec.wanted_of outcomes.now fails (seen self.now nodes) instr.now }
     {
         match instr {
             Instr::Branch { .. } => outcomes.get(self.branches).copied().unwrap_or(true),
@@ -342,13 +340,13 @@ impl Thread {
         fails: Option<usize>,
         place: usize,
     ) -> Result<(), AllocError>
-        requires sound { IsSound (seen self.old terms.old) }
+        requires sound { HasTerms (seen self.old terms.old) }
         requires ints { ints_of code.now walk.now.function ≤ length self.old.slots.items }
         requires steps { self.old.steps + 1 < 2 ^ 64 }
         requires branches { self.old.branches + 1 < 2 ^ 64 }
         ensures done { OnOk result (seen self.new terms.new
             ≡ spec.after_step code.now walk.now.function walk.now.outcomes fails (seen self.old terms.old) place) }
-        ensures sound { OnOk result (IsSound (seen self.new terms.new)) }
+        ensures sound { OnOk result (HasTerms (seen self.new terms.new)) }
         ensures ints { OnOk result (length self.new.slots.items ≡ length self.old.slots.items) }
         ensures steps { OnOk result (self.new.steps ≤ self.old.steps + 1) }
         ensures branches { OnOk result (self.new.branches ≤ self.old.branches + 1) }
@@ -373,7 +371,7 @@ impl Thread {
         walk: &Walk,
         fails: Option<usize>,
     ) -> Result<(), AllocError>
-        requires sound { IsSound (seen self.old terms.old) }
+        requires sound { HasTerms (seen self.old terms.old) }
         requires ints { ints_of code.now walk.now.function ≤ length self.old.slots.items }
         requires steps { self.old.steps ≡ 0 }
         requires branches { self.old.branches ≡ 0 }

@@ -2,7 +2,7 @@
 ghost use Rattle.std.specs.Prelude.{◌≡◌, ◌<◌, [], length, OnOk, IfOk};
 ghost use Rattle.tc_code.specs.Lawful.{IsLawful};
 ghost use Rattle.sym_exec.specs.Executed as spec;
-ghost use Rattle.sym_exec.specs.Helpers.{AreSound};
+ghost use Rattle.sym_exec.specs.helpers.Threads.{HaveTerms};
 ghost use Rattle.sym_exec.specs.Thread.{AreOf};
 ghost use Rattle.sym_exec.specs.Making.{Grows};
 
@@ -46,7 +46,7 @@ fn add_thread(
     terms: &mut Terms,
     walk: &Walk,
 ) -> Result<(), AllocError>
-    requires { AreSound (record { symbolic = symbolic.old; nodes = terms.old }) }
+    requires { HaveTerms (record { symbolic = symbolic.old; nodes = terms.old }) }
     ensures added { OnOk result (record { symbolic = symbolic.new; nodes = terms.new }
         ≡ spec.with_thread code.now paths.now (record { symbolic = symbolic.old; nodes = terms.old }) walk.now) }
     ensures lawful { IsLawful code.now }

@@ -1,9 +1,7 @@
 use Rattle.std.proofs.Common.{◌≡◌, ◌∙◌, OnOk, subst, sym, ℤ, w32, FitsSigned, rules}
 use Rattle.std.proofs.lemmas.Int.{to_z-of_z}
-use Rattle.tc_code.specs.Seen.{plain_instr}
-use Rattle.tc_code.specs.SeenExpr.{plain_expr}
 use Rattle.tc_code.specs.declared.instr.Instr.{Instr}
-use Rattle.sym_exec.specs.Helpers.{seen}
+use Rattle.sym_exec.specs.helpers.Threads.{seen}
 use Rattle.sym_exec.specs.Making.{range_test}
 use Rattle.sym_exec.specs.Thread.{term_in, testing, after_instr}
 use Rattle.sym_exec.proofs.thread.Thread.follow.Goals as goal
@@ -13,15 +11,15 @@ returns-in-Inside-clause-done c =
     let d = seen c.args.self.now c.args.terms.now in
     let e = seen c.test_range.new.self c.test_range.new.terms in
     let fits : FitsSigned w32 c.last_index.result = search rules in
-    subst (λ (i : Instr). OnOk c.test_range.result (e ≡ after_instr c.args.line c.args.wanted d (plain_instr i))) (sym c.in-Inside.is)
+    subst (λ (i : Instr). OnOk c.test_range.result (e ≡ after_instr c.args.line c.args.wanted d i)) (sym c.in-Inside.is)
     (subst (λ (n : ℤ). OnOk c.test_range.result
     (e ≡ testing d c.args.line c.args.wanted
-    (range_test (term_in d (plain_expr c.in-Inside.index)) n))) (to_z-of_z w32 c.last_index.result fits ∙ c.last_index.ensures)
+    (range_test (term_in d c.in-Inside.index) n))) (to_z-of_z w32 c.last_index.result fits ∙ c.last_index.ensures)
     c.test_range.ensures.tested)
 
 pub returns-in-Cas-clause-done : goal.returns-in-Cas-clause-done
 returns-in-Cas-clause-done c =
     let d = seen c.args.self.now c.args.terms.now in
     let e = seen c.replace.new.self c.replace.new.terms in
-    subst (λ (i : Instr). OnOk c.replace.result (e ≡ after_instr c.args.line c.args.wanted d (plain_instr i))) (sym c.in-Cas.is)
+    subst (λ (i : Instr). OnOk c.replace.result (e ≡ after_instr c.args.line c.args.wanted d i)) (sym c.in-Cas.is)
     c.replace.ensures.replaced

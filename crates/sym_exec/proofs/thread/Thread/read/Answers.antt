@@ -1,5 +1,5 @@
 use Rattle.std.proofs.Common.{◌≡◌, OnOk, subst, None}
-use Rattle.sym_exec.specs.Helpers.{seen}
+use Rattle.sym_exec.specs.helpers.Threads.{seen}
 use Rattle.sym_exec.specs.Thread.{making, loading}
 use Rattle.sym_exec.proofs.thread.Thread.read.Goals as goal
 

@@ -1,9 +1,8 @@
 use Rattle.std.proofs.Common.{◌≡◌, OnOk, subst, Some, refl, ℕ}
 use Rattle.tc_code.specs.Expr.{Expr}
-use Rattle.tc_code.specs.SeenExpr.{plain_expr}
 use Rattle.sym_terms.specs.declared.node.Node.TheVariants.{Symbol}
 use Rattle.sym_exec.specs.declared.symbolic.Cell.{Cell}
-use Rattle.sym_exec.specs.Helpers.{seen}
+use Rattle.sym_exec.specs.helpers.Threads.{seen}
 use Rattle.sym_exec.specs.Making.{Made, made, replaced_term}
 use Rattle.sym_exec.specs.Thread.{Doing, term_in, making, loading, replacing}
 use Rattle.sym_exec.proofs.Grown.{grows_both}
@@ -23,7 +22,7 @@ returns-clause-replaced c =
     let v : Made = record { term = c.in_ok-symbol.symbol; nodes = c.symbol.new.terms } in
     let w : Made = record { term = c.in_ok-written.written; nodes = c.replaced_term.new.terms } in
     subst (λ (x : Doing). OnOk c.load.result (seen c.load.new.self c.replaced_term.new.terms ≡ x))
-    (replace_is d c.args.slot c.args.cell (plain_expr c.args.expected.now) (plain_expr c.args.new.now) e f v w c.in_ok-expected.ensures.term
+    (replace_is d c.args.slot c.args.cell c.args.expected.now c.args.new.now e f v w c.in_ok-expected.ensures.term
     c.in_ok-new.ensures.term c.in_ok-symbol.ensures.made c.in_ok-written.ensures.term) (c.load.ensures c.replaced_term.new.terms)
 
 pub returns-clause-grown : goal.returns-clause-grown

@@ -1,7 +1,7 @@
 use Rattle.std.proofs.Common.{◌≡◌, ◌≤◌, length, drop}
 use Rattle.tc_code.specs.Step.{ints_of}
-use Rattle.sym_exec.specs.Helpers.{seen}
-use Rattle.sym_exec.specs.Thread.{IsSound}
+use Rattle.sym_exec.specs.helpers.Threads.{seen}
+use Rattle.sym_exec.specs.Thread.{HasTerms}
 use Rattle.sym_exec.specs.Making.{Grows}
 use Rattle.sym_exec.specs.Thread.{after_all}
 use Rattle.sym_exec.proofs.thread.Thread.run.Given as goal
@@ -13,7 +13,7 @@ invariant-loop-place l =
     record {
       all : after_all l.code w.function w.outcomes l.fails (seen l.self l.terms) (drop l.place-index l.walk.places)
           ≡ after_all l.code w.function w.outcomes l.fails (seen l.fn.self l.fn.terms) w.places;
-      sound : IsSound (seen l.self l.terms);
+      sound : HasTerms (seen l.self l.terms);
       ints : ints_of l.code w.function ≤ length l.self.slots.items;
       steps : l.self.steps ≤ l.place-index;
       branches : l.self.branches ≤ l.place-index;

@@ -1,5 +1,5 @@
 use Rattle.std.proofs.Common.{ap, ◌∙◌}
-use Rattle.sym_exec.specs.Helpers.{seen}
+use Rattle.sym_exec.specs.helpers.Threads.{seen}
 use Rattle.sym_exec.specs.Thread.{setting}
 use Rattle.sym_exec.proofs.thread.Thread.set_value.Goals as goal
 

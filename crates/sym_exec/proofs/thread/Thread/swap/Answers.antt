@@ -1,7 +1,7 @@
 use Rattle.std.proofs.Common.{◌≡◌, OnOk, subst, Some, ℕ, refl}
 use Rattle.sym_terms.specs.declared.node.Node.TheVariants.{Symbol}
 use Rattle.sym_exec.specs.declared.symbolic.Cell.{Cell}
-use Rattle.sym_exec.specs.Helpers.{seen}
+use Rattle.sym_exec.specs.helpers.Threads.{seen}
 use Rattle.sym_exec.specs.Making.{Made, made}
 use Rattle.sym_exec.specs.Thread.{Doing, making, loading, swapping}
 use Rattle.sym_exec.proofs.thread.Thread.swap.Goals as goal

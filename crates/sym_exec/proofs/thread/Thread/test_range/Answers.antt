@@ -1,8 +1,7 @@
 use Rattle.std.proofs.Common.{◌≡◌, OnOk, subst, ap, ◌∙◌, w32, FitsSigned, rules}
 use Rattle.std.proofs.lemmas.Int.{to_z-of_z}
 use mir.Val.{to_z, of_z}
-use Rattle.tc_code.specs.SeenExpr.{plain_expr}
-use Rattle.sym_exec.specs.Helpers.{seen}
+use Rattle.sym_exec.specs.helpers.Threads.{seen}
 use Rattle.sym_exec.specs.Making.{range_test}
 use Rattle.sym_exec.specs.Thread.{testing, term_in}
 use Rattle.sym_exec.proofs.thread.Thread.test_range.Goals as goal
@@ -13,5 +12,5 @@ returns-clause-tested c =
     subst (λ x. OnOk c.test.result (seen c.test.new.self c.range_test.new.terms
     ≡ testing (seen c.args.self.now c.args.terms.now) c.args.line c.args.wanted x))
     (c.in_ok-test.ensures.term ∙ ap (λ x. range_test x (to_z w32 (of_z w32 c.args.last))) c.in_ok-term.ensures.term
-    ∙ ap (range_test (term_in (seen c.args.self.now c.args.terms.now) (plain_expr c.args.e.now)))
+    ∙ ap (range_test (term_in (seen c.args.self.now c.args.terms.now) c.args.e.now))
     (to_z-of_z w32 c.args.last fits)) (c.test.ensures c.range_test.new.terms)

@@ -1,0 +1,134 @@
+-- The numbers in the terms of lawful code's paths are ints.
+use Rattle.std.proofs.Common.{◌≡◌, ◌≤◌, ℕ, zero, suc, ◌^◌, ℤ, pos, List, [], ◌∷◌, ◌++◌, fold, length, ◌+◌, ◌-◌, Bool, true, false, cond, Option, Some, None, refl, subst, sym, arith}
+use Rattle.std.specs.Prelude.{nat_lt, unwrap_or, ◌-ℤ◌}
+use Rattle.std.specs.List.{All, list_any}
+use Rattle.std.specs.Option.{option_map_or}
+use Rattle.std.proofs.lemmas.Bool.{ltb-false}
+use Rattle.std.proofs.lemmas.List.Elements.{All-head, All-tail, All-push}
+use Rattle.tc_base.specs.Arith.{IsInt}
+use Rattle.tc_base.proofs.Ints.{truth_int}
+use Rattle.tc_base.specs.declared.arith.UnOp.TheVariants.{Neg}
+use Rattle.tc_base.specs.declared.arith.BinOp.TheVariants.{Xor, Eq, And, Le}
+use Rattle.tc_code.specs.Code.{Code, instr_at, line_at}
+use Rattle.tc_code.specs.Expr as expr
+use Rattle.tc_code.specs.Expr.{Expr, HasInts}
+use Rattle.tc_code.specs.Lawful.{IsLawful, exprs_of}
+use Rattle.tc_code.specs.declared.instr.Instr.{Instr}
+use Rattle.tc_code.specs.declared.instr.Instr.TheVariants.{Set, Load, LoadAt, Store, StoreAt, Inside, Branch, Create, Assert, Nonzero, InRange, Swap, Cas}
+use Rattle.tc_code.proofs.Facts.{placed}
+use Rattle.run_laws.proofs.Basics.{either}
+use Rattle.path_walk.specs.Paths.{Walk, Paths}
+use Rattle.sym_terms.specs.Terms.{same_node, with_node}
+use Rattle.sym_terms.specs.declared.node.Node.{Node}
+use Rattle.sym_terms.specs.declared.node.Node.TheVariants.{Constant, Symbol, Unary, Binary}
+use Rattle.sym_exec.specs.Making.{Made, AllMade, made, expr_term, with_expr, range_test, last_index, replaced_term}
+use Rattle.sym_exec.specs.Thread.{Doing, term_in, making, symbol_in, after_instr, wanted_of, after_step, after_all}
+use Rattle.sym_exec.specs.Executed.{Executed, fails_at, thread_started, with_thread, nothing, executed}
+use Rattle.sym_exec.specs.Ints.{HasInt}
+use Rattle.sym_exec.proofs.Tells.{one_less}
+
+abbrev HaveInts : List Node → Type 0
+HaveInts nodes = All HasInt nodes
+
+-- what is made is a node more at most
+with_int : (nodes : List Node) (node : Node) → HaveInts nodes → HasInt node → HaveInts (with_node nodes node)
+with_int nodes node are is = either HaveInts (list_any (same_node node) nodes) nodes (nodes ++ node ∷ []) are (All-push HasInt nodes node are is)
+
+expr_ints : (nodes : List Node) (slots : List ℕ) (e : Expr) → HaveInts nodes → HasInts e → HaveInts (expr_term nodes slots e).nodes
+expr_ints nodes slots (expr.Number n) are is = with_int nodes (Constant n) are is
+expr_ints nodes slots (expr.Slot k) are is = are
+expr_ints nodes slots (expr.Unary op a) are is =
+    let x = expr_term nodes slots a in with_int x.nodes (Unary op x.term) (expr_ints nodes slots a are is) tt
+expr_ints nodes slots (expr.Binary op a b) are is =
+    let x = expr_term nodes slots a in
+    let y = expr_term x.nodes slots b in
+    with_int y.nodes (Binary op x.term y.term) (expr_ints x.nodes slots b (expr_ints nodes slots a are is.0) is.1) tt
+
+exprs_ints : (slots : List ℕ) (es : List Expr) (xs : AllMade) → HaveInts xs.nodes → All HasInts es → HaveInts (fold (with_expr slots) xs es).nodes
+exprs_ints slots [] xs are is = are
+exprs_ints slots (e ∷ es) xs are is =
+    exprs_ints slots es (with_expr slots xs e) (expr_ints xs.nodes slots e are (All-head HasInts e es is)) (All-tail HasInts e es is)
+
+range_ints : (x : Made) (last : ℤ) → HaveInts x.nodes → IsInt last → HaveInts (range_test x last).nodes
+range_ints x last are is =
+    let zero = made x.nodes (Constant (pos 0)) in
+    let low = made zero.nodes (Binary Le zero.term x.term) in
+    let top = made low.nodes (Constant last) in
+    let high = made top.nodes (Binary Le x.term top.term) in
+    with_int high.nodes (Binary And low.term high.term)
+    (with_int top.nodes (Binary Le x.term top.term)
+    (with_int low.nodes (Constant last)
+    (with_int zero.nodes (Binary Le zero.term x.term) (with_int x.nodes (Constant (pos 0)) are (truth_int false)) tt) is) tt) tt
+
+replaced_ints : (nodes : List Node) (v e f : ℕ) → HaveInts nodes → HaveInts (replaced_term nodes v e f).nodes
+replaced_ints nodes v e f are =
+    let change = made nodes (Binary Xor v f) in
+    let same = made change.nodes (Binary Eq v e) in
+    let mask = made same.nodes (Unary Neg same.term) in
+    let masked = made mask.nodes (Binary And change.term mask.term) in
+    with_int masked.nodes (Binary Xor v masked.term)
+    (with_int mask.nodes (Binary And change.term mask.term)
+    (with_int same.nodes (Unary Neg same.term) (with_int change.nodes (Binary Eq v e) (with_int nodes (Binary Xor v f) are tt) tt) tt) tt) tt
+
+-- the last index of an array is an int
+last_int : (len : ℕ) → IsInt (last_index len)
+last_int len = by (nat_lt (2 ^ 31) len) refl
+  where
+    one_before : (n : ℕ) → n ≤ 2 ^ 31 → IsInt (pos n -ℤ pos 1)
+    one_before zero few = omega arith
+    one_before (suc n) few = subst IsInt (sym (one_less n)) (omega (arith, few))
+
+    by : (b : Bool) → nat_lt (2 ^ 31) len ≡ b → IsInt (cond b (pos (2 ^ 31 - 1)) (pos len -ℤ pos 1))
+    by true e = omega arith
+    by false e = one_before len (ltb-false (2 ^ 31) len e)
+
+first_ints : (d : Doing) (e : Expr) (es : List Expr) → HaveInts d.nodes → All HasInts (e ∷ es) → HaveInts (term_in d e).nodes
+first_ints d e es are is = expr_ints d.nodes d.slots e are (All-head HasInts e es is)
+
+second_ints : (d : Doing) (a b : Expr) → HaveInts d.nodes → All HasInts (a ∷ b ∷ []) → HaveInts (term_in (making d (term_in d a)) b).nodes
+second_ints d a b are is = first_ints (making d (term_in d a)) b [] (first_ints d a (b ∷ []) are is) (All-tail HasInts a (b ∷ []) is)
+
+-- after an instruction of ints
+instr_ints : (line : ℕ) (wanted : Bool) (d : Doing) (i : Instr) → HaveInts d.nodes → All HasInts (exprs_of i) → HaveInts (after_instr line wanted d i).nodes
+instr_ints line wanted d (Set k e) are is = first_ints d e [] are is
+instr_ints line wanted d (Load k c) are is = with_int d.nodes (Symbol d.loads) are tt
+instr_ints line wanted d (LoadAt k first len i) are is = with_int (term_in d i).nodes (Symbol d.loads) (first_ints d i [] are is) tt
+instr_ints line wanted d (Store c e) are is = first_ints d e [] are is
+instr_ints line wanted d (StoreAt first len i e) are is = second_ints d i e are is
+instr_ints line wanted d (Inside len i) are is = range_ints (term_in d i) (last_index len) (first_ints d i [] are is) (last_int len)
+instr_ints line wanted d (Branch e to) are is = first_ints d e [] are is
+instr_ints line wanted d (Create h f es) are is = exprs_ints d.slots es (record { terms = []; nodes = d.nodes }) are is
+instr_ints line wanted d (Assert e) are is = first_ints d e [] are is
+instr_ints line wanted d (Nonzero e) are is = first_ints d e [] are is
+instr_ints line wanted d (InRange e) are is = range_ints (term_in d e) (pos 31) (first_ints d e [] are is) (omega arith)
+instr_ints line wanted d (Swap k c e) are is = with_int (term_in d e).nodes (Symbol d.loads) (first_ints d e [] are is) tt
+instr_ints line wanted d (Cas k c e new) are is =
+    let x = term_in d e in
+    let y = term_in (making d x) new in
+    let v = made y.nodes (Symbol d.loads) in
+    replaced_ints v.nodes v.term x.term y.term (with_int y.nodes (Symbol d.loads) (second_ints d e new are is) tt)
+instr_ints line wanted d _ are is = are
+
+module _ (code : Code) (lawful : IsLawful code) where
+  -- after the steps of a thread
+  steps_ints : (f : ℕ) (outcomes : List Bool) (fails : Option ℕ) (places : List ℕ) (d : Doing) → HaveInts d.nodes
+      → HaveInts (after_all code f outcomes fails d places).nodes
+  steps_ints f outcomes fails [] d are = are
+  steps_ints f outcomes fails (place ∷ places) d are =
+      steps_ints f outcomes fails places (after_step code f outcomes fails d place) (by (instr_at code f place) refl)
+    where
+      by : (o : Option Instr) → instr_at code f place ≡ o → HaveInts (option_map_or (λ i.
+          record (after_instr (unwrap_or (line_at code f place) 0) (wanted_of outcomes fails d i) d i) { steps = d.steps + 1 }) o d).nodes
+      by None at = are
+      by (Some i) at = let p = placed code f place i lawful at in instr_ints _ _ d i are (p.lawful.ints place i p.at)
+
+  -- and of all threads
+  threads_ints : (paths : Paths) (ws : List Walk) (x : Executed) → HaveInts x.nodes → HaveInts (fold (with_thread code paths) x ws).nodes
+  threads_ints paths [] x are = are
+  threads_ints paths (w ∷ ws) x are =
+      threads_ints paths ws (with_thread code paths x w)
+      (steps_ints w.function w.outcomes (fails_at paths (length x.symbolic.threads) w) w.places (thread_started code x w)
+      (with_int x.nodes (Constant (pos 0)) are (truth_int false)))
+
+  pub executed_ints : (paths : Paths) (nodes : List Node) → HaveInts nodes → HaveInts (executed code paths nodes).nodes
+  executed_ints paths nodes are = threads_ints paths paths.threads (nothing nodes) are
