@@ -16,7 +16,7 @@ use Rattle.tc_base.specs.declared.request.Request.{Request}
 use Rattle.tc_code.specs.Code.{Code}
 use Rattle.tc_code.specs.Run.{run}
 use Rattle.run_history.specs.History.{Deed, Did, Drained, same, history}
-use Rattle.run_history.proofs.Threads.{same_self}
+use Rattle.run_laws.proofs.Names.{same_self}
 use Rattle.path_laws.specs.Deeds.{number_by}
 use Rattle.path_laws.proofs.Deeds.{steps_are_numbered}
 use Rattle.sym_exec.specs.Executed.{Course, Symbolic}

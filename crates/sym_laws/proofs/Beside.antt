@@ -9,11 +9,14 @@ use Rattle.std.proofs.lemmas.Option.{same_Some}
 use Rattle.tc_base.specs.States.{Local}
 use Rattle.tc_base.specs.declared.request.Request.{Request}
 use Rattle.tc_base.specs.declared.request.Request.TheVariants.{Fail}
+use Rattle.tc_base.specs.Arith.{IsInt}
 use Rattle.tc_code.specs.Code.{Code, instr_at}
-use Rattle.tc_code.specs.Instr.{Instr, Inside, Branch, Create, Holds, Ready, Assert, Nonzero, In_range}
+use Rattle.tc_code.specs.declared.instr.Instr.{Instr}
+use Rattle.tc_code.specs.declared.instr.Instr.TheVariants.{Inside, Branch, Create, Holds, Ready, Assert, Nonzero, InRange}
 use Rattle.tc_code.specs.Lawful.{IsLawful}
 use Rattle.tc_code.specs.Step.{request, site, local_after, branched, is_nonzero, value_in}
 use Rattle.run_laws.proofs.Changes.{is_fail}
+use Rattle.run_laws.specs.Ints.{AsksInts}
 use Rattle.run_history.specs.Locals.{after_step as thread_after}
 use Rattle.path_walk.specs.Fits.{starts}
 use Rattle.path_walk.specs.Steps.{is_site}
@@ -27,7 +30,7 @@ use Rattle.sym_exec.specs.declared.symbolic.Access.{Access}
 use Rattle.sym_exec.specs.declared.symbolic.Test.{Test}
 use Rattle.sym_exec.proofs.Grown.{grows_none}
 use Rattle.sym_exec.proofs.Sound.{instr_named}
-use Rattle.sym_exec.proofs.Tells.{is_load, told, gives, asks, short_is}
+use Rattle.sym_exec.proofs.Tells.{is_load, told, hands_over, asks, short_is}
 use Rattle.sym_laws.specs.Valued.{IsOneOf}
 use Rattle.sym_laws.proofs.Lists.{giver, in_back, each_is}
 use Rattle.sym_laws.proofs.Steps.{Adds, adds, IsFine, line_of, uncounted, next, next_is}
@@ -76,7 +79,7 @@ module _ (t : Local) (outcomes : List Bool) (fails : Option ℕ) (d : Doing) (v 
   comes_as_wanted (Inside len i) b goes passes is = site_comes (Inside len i) b _ refl refl passes is
   comes_as_wanted (Assert e) b goes passes is = site_comes (Assert e) b _ refl refl passes is
   comes_as_wanted (Nonzero e) b goes passes is = site_comes (Nonzero e) b _ refl refl passes is
-  comes_as_wanted (In_range e) b goes passes is = site_comes (In_range e) b _ refl refl passes is
+  comes_as_wanted (InRange e) b goes passes is = site_comes (InRange e) b _ refl refl passes is
   comes_as_wanted i b goes passes is = absurd cc
 
 -- tests that come out so are as they are wanted
@@ -101,7 +104,7 @@ at_site t (Holds m) v w h = record { slots = refl; outcomes = refl; children = r
 at_site t (Ready k) v w h = record { slots = refl; outcomes = refl; children = refl }
 at_site t (Assert e) v w h = record { slots = refl; outcomes = refl; children = refl }
 at_site t (Nonzero e) v w h = record { slots = refl; outcomes = refl; children = refl }
-at_site t (In_range e) v w h = record { slots = refl; outcomes = refl; children = refl }
+at_site t (InRange e) v w h = record { slots = refl; outcomes = refl; children = refl }
 at_site t i v w h = absurd (false≢true h)
 
 pub is_after : (t : Local) (i : Instr) (v : ℤ) (r : Request) → request t i ≡ r → IsAfter (thread_after t i r v) (local_after t i v)
@@ -177,7 +180,8 @@ module _ (code : Code) (f : ℕ) (outcomes : List Bool) (fails : Option ℕ) (lo
     -- the step, where the thread goes by these outcomes and fails where it is to
     module _ (v : ℤ) (ahead : List Bool) (slots : t.slots ≡ slots_by loads d) (branches : d.branches ≡ length t.outcomes)
         (children : length d.creates ≡ t.children) (takes : is_load i ≡ true → get_or loads d.loads (pos 0) ≡ v)
-        (goes : outcomes ≡ (thread_after t i (request t i) v).outcomes ++ ahead) (passes : not (is_fail (request t i)) ≡ site_wanted fails d.steps) where
+        (goes : outcomes ≡ (thread_after t i (request t i) v).outcomes ++ ahead) (passes : not (is_fail (request t i)) ≡ site_wanted fails d.steps)
+        (took : IsInt v) (asked : AsksInts (request t i)) where
       pub is_done : IsDone d e t (thread_after t i (request t i) v) i v
       is_done =
           let line = line_of code f outcomes fails place in
@@ -187,8 +191,8 @@ module _ (code : Code) (f : ℕ) (outcomes : List Bool) (fails : Option ℕ) (lo
           let named = instr_named code f place (length d.slots) i lawful at fine.ints in
           let k = told loads line wanted d i t v fine.terms fine.sound named (short_is code f place i lawful at) slots takes in
           let a = step_adds in
-          let q = asks loads line wanted d i t v fine.terms fine.sound named slots takes in
-          let h = gives loads line wanted d i t fine.terms fine.sound named slots in
+          let q = asks loads line wanted d i t v fine.terms fine.sound named slots takes took asked in
+          let h = hands_over loads line wanted d i t fine.terms fine.sound named slots in
           let s = is_after t i v (request t i) refl in
           let same_test : k.test ≡ a.test = append_cancel_left d.tests k.test a.test (sym k.tests ∙ a.tests) in
           let same_found : q.found ≡ a.found = append_cancel_left d.accesses q.found a.found (sym q.accesses ∙ a.accesses) in

@@ -4,13 +4,15 @@ use Rattle.std.proofs.Common.{Option, Some, refl, ap, sym, subst, arith, bytes_e
 use Rattle.std.specs.Prelude.{slice_get, unwrap_or}
 use Rattle.std.specs.List.{flat_map, find}
 use Rattle.std.specs.Option.{option_map_or}
+use Rattle.std.proofs.lemmas.List.{take-take}
 use Rattle.std.proofs.lemmas.Option.{same_Some, slice_get-get_or, slice_get_within}
 use Rattle.tc_base.specs.Names.{Name, child}
 use Rattle.tc_base.specs.Logs.{Log, ThreadPath}
 use Rattle.tc_base.specs.States.{Local}
 use Rattle.tc_base.specs.declared.request.Request.TheVariants.{Start}
 use Rattle.tc_code.specs.Code.{Code}
-use Rattle.tc_code.specs.Instr.{Instr, Inside, Create, Holds, Ready, Assert, Nonzero, In_range}
+use Rattle.tc_code.specs.declared.instr.Instr.{Instr}
+use Rattle.tc_code.specs.declared.instr.Instr.TheVariants.{Inside, Create, Holds, Ready, Assert, Nonzero, InRange}
 use Rattle.tc_code.specs.Lawful.{IsLawful}
 use Rattle.tc_code.specs.Step.{request, site, ints_of, arguments_of}
 use Rattle.run_laws.proofs.Names.{child_apart}
@@ -19,7 +21,7 @@ use Rattle.run_history.specs.Locals.{after_step as thread_after, born_local}
 use Rattle.path_log.specs.Texts.{is_log}
 use Rattle.path_walk.specs.Fits.{function_of}
 use Rattle.path_walk.specs.Paths.{Walk, walk_of, paths_of}
-use Rattle.path_walk.proofs.Names.{same_refl}
+use Rattle.tc_base.proofs.Names.{same_refl}
 use Rattle.sym_terms.specs.Terms.{AreTerms}
 use Rattle.sym_terms.specs.Values.{value_of}
 use Rattle.sym_terms.specs.declared.node.Node.{Node}
@@ -31,9 +33,9 @@ use Rattle.sym_exec.proofs.Begun.{start_slots}
 use Rattle.sym_exec.proofs.Courses.{takes_from_parent}
 use Rattle.sym_exec.proofs.Grown.{grows_both}
 use Rattle.sym_exec.proofs.Sound.{arguments_sound}
-use Rattle.path_laws.proofs.States.{get_front}
+use Rattle.path_log.proofs.Lists.{get_front, get_seam}
 use Rattle.sym_laws.specs.Valued.{AgreesWith, asked_of, found, found_before, execution}
-use Rattle.sym_laws.proofs.Lists.{get_back, get_take, take_take, found_at}
+use Rattle.sym_laws.proofs.Lists.{get_take, found_at}
 use Rattle.sym_laws.proofs.Names.{parent_before, others_before}
 use Rattle.sym_laws.proofs.Steps.{Begins, next}
 use Rattle.sym_laws.proofs.Beside.{IsDone}
@@ -52,7 +54,7 @@ gives_arguments t (Holds k) f e = absurd (not_start _ f e)
 gives_arguments t (Ready k) f e = absurd (not_start _ f e)
 gives_arguments t (Assert x) f e = absurd (not_start _ f e)
 gives_arguments t (Nonzero x) f e = absurd (not_start _ f e)
-gives_arguments t (In_range x) f e = absurd (not_start _ f e)
+gives_arguments t (InRange x) f e = absurd (not_start _ f e)
 gives_arguments t i f e = absurd cc
 
 -- what gives one element is one
@@ -113,7 +115,7 @@ module _ (code : Code) (log : Log) (nodes : List Node) (lawful : IsLawful code) 
     is_before : (k : ℕ) → j < k → IsBefore k
     is_before k lt =
         let f = found_in k j p lt there in
-        let same : take j (take k ws) ≡ take j ws = take_take ws j k (omega (arith, lt)) in
+        let same : take j (take k ws) ≡ take j ws = take-take j k ws (omega (arith, lt)) in
         let done_in : Executed → Doing = λ x. thread_done code (paths_of code log) x (walk_of code log p) in
         record {
           course = f.course ∙ ap (λ vs. Some (course_of (walk_of code log p) (done_in (found_of vs)))) same;
@@ -192,7 +194,7 @@ module _ (code : Code) (log : Log) (nodes : List Node) (lawful : IsLawful code) 
           ∙ ap (λ (y : Doing). y.creates ++ begins.hands) goes_to
           ∙ ap (λ hs. hs ++ begins.hands) (step.creates ∙ ap (λ hs. d.creates ++ hs) one.1) in
           ap (slice_get whole.creates) number ∙ ap (λ hs. slice_get hs (length d.creates)) all
-          ∙ get_front (d.creates ++ hand ∷ []) begins.hands (length d.creates) hand (get_back d.creates hand [])
+          ∙ get_front (d.creates ++ hand ∷ []) begins.hands (length d.creates) hand (get_seam d.creates hand [])
 
       takes : arguments_for x.symbolic.threads q.name ≡ hand.terms
       takes =

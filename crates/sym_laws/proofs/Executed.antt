@@ -15,17 +15,18 @@ use Rattle.sym_terms.specs.declared.node.Node.TheVariants.{Constant}
 use Rattle.sym_exec.specs.Making.{Grows}
 use Rattle.sym_exec.specs.Thread.{Doing, HandsOf}
 use Rattle.sym_exec.specs.Executed.{Course, Executed, arguments_for, fails_at, thread_started, thread_done, with_thread, nothing}
-use Rattle.sym_exec.specs.Helpers.{AreSound}
+use Rattle.sym_exec.specs.helpers.Threads.{HaveTerms}
 use Rattle.sym_exec.proofs.Grown.{grows_none, grows_both, grows_made}
 use Rattle.sym_exec.proofs.Sound.{start_sound, start_has, arguments_sound, thread_sound}
 use Rattle.sym_exec.proofs.Values.{constant_value}
-use Rattle.sym_laws.proofs.Lists.{get_back, split_at, long_front}
+use Rattle.path_log.proofs.Lists.{get_seam, split_at}
+use Rattle.sym_laws.proofs.Lists.{long_front}
 use Rattle.sym_laws.proofs.Steps.{IsFine, IsNext, all_on}
 
 -- all terms of an execution are its nodes
 pub record IsWell (x : Executed) : Type 0 where
   pub terms : AreTerms x.nodes
-  pub sound : AreSound x
+  pub sound : HaveTerms x
 
 -- one goes on as another, by so many threads
 pub record GoesOn (x y : Executed) (number : ℕ) : Type 0 where
@@ -126,6 +127,6 @@ module _ (code : Code) (lawful : IsLawful code) (paths : Paths) where
           well = front.well;
           count = count;
           course = ap (λ xs. slice_get xs j) threads ∙ ap (slice_get (x.symbolic.threads ++ c ∷ rest.more)) (sym count)
-              ∙ get_back x.symbolic.threads c rest.more;
+              ∙ get_seam x.symbolic.threads c rest.more;
           grows = subst (λ (z : Executed). Grows y.nodes z.nodes) (sym is) rest.grows;
         }

@@ -7,18 +7,22 @@ use Rattle.std.proofs.lemmas.Grind.{flat_map-append}
 use Rattle.std.proofs.lemmas.List.{map-append, take-append-drop}
 use Rattle.std.proofs.lemmas.List.Sums.{fold-append}
 use Rattle.std.proofs.lemmas.Option.{slice_get-map}
+use Rattle.tc_base.specs.Arith.{IsInt}
 use Rattle.tc_base.specs.Names.{Name}
 use Rattle.tc_base.specs.Logs.{Log, ThreadPath}
 use Rattle.tc_base.specs.States.{Local}
 use Rattle.tc_base.specs.declared.request.Request.{Request}
 use Rattle.tc_code.specs.Code.{Code, instr_at}
-use Rattle.tc_code.specs.Instr.{Instr}
+use Rattle.tc_code.specs.declared.instr.Instr.{Instr}
 use Rattle.tc_code.specs.Lawful.{IsLawful}
 use Rattle.tc_code.specs.Step.{request}
 use Rattle.run_laws.proofs.Changes.{is_fail}
 use Rattle.run_history.specs.History.{Deed, Did, same}
 use Rattle.run_history.specs.Locals.{after_step as thread_after}
-use Rattle.run_history.proofs.Threads.{same_self, same_other, steps_by}
+use Rattle.run_laws.specs.Ints.{AsksInts}
+use Rattle.run_laws.proofs.Names.{same_self, same_other}
+use Rattle.run_history.proofs.Threads.{steps_by}
+use Rattle.path_log.proofs.Lists.{get_seam}
 use Rattle.path_log.specs.Texts.{is_log}
 use Rattle.path_walk.specs.Fits.{fails_in, places_in, function_of}
 use Rattle.path_walk.specs.Paths.{Walk, walk_of, paths_of}
@@ -32,7 +36,7 @@ use Rattle.sym_exec.specs.declared.symbolic.Access.{Access}
 use Rattle.sym_exec.proofs.Grown.{grows_both}
 use Rattle.sym_exec.proofs.Tells.{is_load}
 use Rattle.sym_laws.specs.Valued.{IsOneOf, AgreesWith, AskedAt, asked_of, asked_at, found, found_before, execution}
-use Rattle.sym_laws.proofs.Lists.{each_append, each_weaker, in_front, get_back}
+use Rattle.sym_laws.proofs.Lists.{each_append, each_weaker, in_front}
 use Rattle.sym_laws.proofs.Names.{failing_is}
 use Rattle.sym_laws.proofs.Steps.{IsFine, Begins, next, all_on}
 use Rattle.sym_laws.proofs.Beside.{site_wanted, IsDone, loads_by, is_done}
@@ -76,6 +80,9 @@ pub record GoesOnPath (code : Code) (log : Log) (p : ThreadPath) (t : Local) (i 
   pub fails : is_fail (request t i) ≡ (fails_in log p.name && t.steps + 1 == p.path.steps)
   pub later : List Bool
   pub outcomes : p.path.outcomes ≡ (thread_after t i (request t i) v).outcomes ++ later
+  -- what it takes and asks are ints
+  pub took : IsInt v
+  pub asks : AsksInts (request t i)
 
 -- where a thread fails
 fails_as_wanted : (b c : Bool) (k n m : ℕ) → n ≡ m → k + 1 ≤ m → c ≡ (b && k + 1 == m) → not c ≡ site_wanted (cond b (Some (n - 1)) None) k
@@ -194,13 +201,13 @@ module _ (code : Code) (log : Log) (nodes : List Node) (lawful : IsLawful code) 
           subst (IsOneOf l.access) (sym b.accesses)
           (in_front l.access (upto u.steps).accesses b.found (subst (λ (x : Doing). IsOneOf l.access x.accesses) (sym next_is) l.within)) in
           let last : slice_get (h ++ deed ∷ []) (length h) ≡ Some (Did p.name l.access.step (request t i) v o) =
-          get_back h deed [] ∙ ap (λ k. Some (Did p.name k (request t i) v o)) (sym (l.step ∙ follows.steps)) in
+          get_seam h deed [] ∙ ap (λ k. Some (Did p.name k (request t i) v o)) (sym (l.step ∙ follows.steps)) in
           agrees (course_of (walk p) whole) l.access d.loads (request t i) v o (j, here.course) within l.takes (length h, last)
 
       pub done : IsDone code (walk p).function (walk p).outcomes (fails_of j p) loads d e t u i v
       done =
           is_done code (walk p).function (walk p).outcomes (fails_of j p) loads lawful d t i t.instruction (fine_at t.steps) placed v goes.later follows.slots
-          follows.branches follows.children takes goes.outcomes passes
+          follows.branches follows.children takes goes.outcomes passes goes.took goes.asks
 
       grows_next : Grows e.nodes (found code log nodes).nodes
       grows_next = subst (λ (x : Doing). Grows x.nodes (found code log nodes).nodes) next_is (grows_at u.steps)

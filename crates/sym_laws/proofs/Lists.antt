@@ -3,13 +3,10 @@ use Rattle.std.proofs.Common.{◌≡◌, ◌∙◌, ℕ, zero, suc, ◌<◌, ◌
 use Rattle.std.proofs.Common.{Option, Some, None, refl, ap, subst, arith}
 use Rattle.std.specs.Prelude.{slice_get}
 use Rattle.std.specs.List.{AllByRecursion as Each, filter, filter_map, cons_option, find}
-use Rattle.std.proofs.lemmas.Option.{none-some, same_Some}
-use Rattle.path_laws.proofs.States.{get_front}
+use Rattle.std.proofs.lemmas.Option.{none-some, same_Some, slice_get_within}
+use Rattle.std.proofs.lemmas.List.{length-take-le}
+use Rattle.path_log.proofs.Lists.{get_front}
 use Rattle.sym_laws.specs.Valued.{IsOneOf}
-
-pub get_back : {X : Type 0} (xs : List X) (x : X) (more : List X) → slice_get (xs ++ x ∷ more) (length xs) ≡ Some x
-get_back [] x more = refl
-get_back (y ∷ xs) x more = get_back xs x more
 
 pub in_front : {X : Type 0} (x : X) (xs more : List X) → IsOneOf x xs → IsOneOf x (xs ++ more)
 in_front x xs more is = (is.0, get_front xs more is.0 x is.1)
@@ -54,16 +51,8 @@ giver {X} {Y} f (x ∷ xs) y e = by (f x) refl e (λ g. giver f xs y g)
     by None is e rest = let r = rest e in (r.0, (suc r.1.0, r.1.1), r.2)
     by (Some z) is e rest = let same : z ≡ y = cc in (x, (0, refl), is ∙ ap (λ w. Some w) same)
 
--- a list up to an element, it, and those after it
-pub split_at : {X : Type 0} (xs : List X) (k : ℕ) (x : X) → slice_get xs k ≡ Some x → xs ≡ take k xs ++ x ∷ drop (suc k) xs
-split_at [] k x e = absurd (none-some x e)
-split_at (y ∷ xs) zero x e = ap (λ z. z ∷ xs) (same_Some y x e)
-split_at (y ∷ xs) (suc k) x e = ap (λ zs. y ∷ zs) (split_at xs k x e)
-
 pub long_front : {X : Type 0} (xs : List X) (k : ℕ) (x : X) → slice_get xs k ≡ Some x → length (take k xs) ≡ k
-long_front [] k x e = absurd (none-some x e)
-long_front (y ∷ xs) zero x e = refl
-long_front (y ∷ xs) (suc k) x e = ap suc (long_front xs k x e)
+long_front xs k x e = length-take-le k xs (omega (arith, slice_get_within xs k x e))
 
 -- an element before a place is one of those before it
 pub get_take : {X : Type 0} (xs : List X) (k n : ℕ) → k < n → slice_get (take n xs) k ≡ slice_get xs k
@@ -81,10 +70,3 @@ found_at p (y ∷ xs) zero x e here others = ap (λ b. cond b (Some y) (find p x
 found_at p (y ∷ xs) (suc k) x e here others =
     ap (λ b. cond b (Some y) (find p xs)) (others 0 y (omega arith) refl)
     ∙ found_at p xs k x e here (λ j z lt at. others (suc j) z (omega (arith, lt)) at)
-
-pub take_take : {X : Type 0} (xs : List X) (j k : ℕ) → j ≤ k → take j (take k xs) ≡ take j xs
-take_take xs zero k le = refl
-take_take [] (suc j) zero le = absurd (omega (arith, le))
-take_take [] (suc j) (suc k) le = refl
-take_take (x ∷ xs) (suc j) zero le = absurd (omega (arith, le))
-take_take (x ∷ xs) (suc j) (suc k) le = ap (λ ys. x ∷ ys) (take_take xs j k (omega (arith, le)))

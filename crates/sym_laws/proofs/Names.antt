@@ -6,32 +6,12 @@ use Rattle.std.specs.Option.{option_map_or}
 use Rattle.std.specs.declared.cmp.Ordering.TheVariants.{Less}
 use Rattle.std.proofs.lemmas.Bool.{and_parts, ltb-true}
 use Rattle.std.proofs.lemmas.Option.{none-some, same_Some, slice_get-get_or}
-use Rattle.tc_base.specs.Names.{Name, child}
+use Rattle.tc_base.specs.Names.{Name, child, by_name}
 use Rattle.tc_base.specs.Logs.{Log, Path, ThreadPath, path_under}
-use Rattle.path_log.specs.Texts.{is_above, rises_from, is_log}
+use Rattle.path_log.specs.Texts.{rises_from, is_log}
+use Rattle.path_log.proofs.Rising.{rise as rise_in}
 use Rattle.path_walk.specs.Fits.{fails_in}
-use Rattle.path_walk.proofs.Names.{by_name, between, less_true, not_itself, child_is_above, apart_less, apart_above, same_true, same_refl}
-
--- the name of a place is above those before
-above_at : (last : Name) (ts : List ThreadPath) (k : ℕ) (b : ThreadPath) → rises_from (Some last) ts ≡ true → slice_get ts k ≡ Some b
-    → by_name last b.name ≡ Less
-above_at last [] k b h at = absurd (none-some b at)
-above_at last (t ∷ ts) zero b h at =
-    subst (λ x. by_name last x.name ≡ Less) (same_Some t b at)
-    (less_true (by_name last t.name) (and_parts (is_above (Some last) t.name) (rises_from (Some t.name) ts) h).0)
-above_at last (t ∷ ts) (suc k) b h at =
-    let parts = and_parts (is_above (Some last) t.name) (rises_from (Some t.name) ts) h in
-    between last t.name b.name (less_true (by_name last t.name) parts.0) (above_at t.name ts k b parts.1 at)
-
-rise_from : (last : Option Name) (ts : List ThreadPath) (j k : ℕ) (a b : ThreadPath) → rises_from last ts ≡ true → j < k → slice_get ts j ≡ Some a
-    → slice_get ts k ≡ Some b → by_name a.name b.name ≡ Less
-rise_from last [] j k a b h lt at bt = absurd (none-some a at)
-rise_from last (t ∷ ts) j zero a b h lt at bt = absurd (omega (arith, lt))
-rise_from last (t ∷ ts) zero (suc k) a b h lt at bt =
-    subst (λ x. by_name x.name b.name ≡ Less) (same_Some t a at)
-    (above_at t.name ts k b (and_parts (is_above last t.name) (rises_from (Some t.name) ts) h).1 bt)
-rise_from last (t ∷ ts) (suc j) (suc k) a b h lt at bt =
-    rise_from (Some t.name) ts j k a b (and_parts (is_above last t.name) (rises_from (Some t.name) ts) h).1 (omega (arith, lt)) at bt
+use Rattle.tc_base.proofs.Names.{between, not_itself, child_is_above, apart_less, apart_above, same_true, same_refl}
 
 -- the thread of a name, and its place
 pub record HasPlace (n : Name) (way : Path) (ts : List ThreadPath) : Type 0 where
@@ -62,11 +42,9 @@ order j k = by (nat_lt j k) refl (nat_lt k j) refl
 
 -- In a log the names are in order.
 module _ (log : Log) (is : is_log log ≡ true) where
-  rises : rises_from None log.threads ≡ true
-  rises = (and_parts (rises_from None log.threads) (nat_lt log.failing (length log.threads)) is).0
-
   pub rise : (j k : ℕ) (a b : ThreadPath) → j < k → slice_get log.threads j ≡ Some a → slice_get log.threads k ≡ Some b → by_name a.name b.name ≡ Less
-  rise j k a b lt at bt = rise_from None log.threads j k a b rises lt at bt
+  rise j k a b lt at bt =
+      rise_in None log.threads j k a b (and_parts (rises_from None log.threads) (nat_lt log.failing (length log.threads)) is).0 lt at bt
 
   -- a name has one place
   pub one_place : (j k : ℕ) (a b : ThreadPath) → slice_get log.threads j ≡ Some a → slice_get log.threads k ≡ Some b → a.name ≡ b.name → j ≡ k

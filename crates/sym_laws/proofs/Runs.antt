@@ -13,14 +13,18 @@ use Rattle.tc_base.specs.declared.moves.Move.{Move}
 use Rattle.tc_base.specs.declared.moves.Move.TheVariants as move
 use Rattle.tc_base.specs.declared.request.Request.TheVariants.{WakeOne}
 use Rattle.tc_code.specs.Code.{Code}
-use Rattle.tc_code.specs.Instr.{Instr, Signal}
+use Rattle.tc_code.specs.declared.instr.Instr.{Instr}
+use Rattle.tc_code.specs.declared.instr.Instr.TheVariants.{Signal}
 use Rattle.tc_code.specs.Lawful.{IsLawful}
 use Rattle.tc_code.specs.Run.{run_from, run, IsReached}
-use Rattle.tc_code.specs.Facts.{opening_is_reached, step_is_reached}
+use Rattle.tc_code.proofs.Facts.{opening_is_reached, step_is_reached, placed as placed_at}
 use Rattle.tc_code.specs.Step.{request, step, opening}
+use Rattle.run_laws.specs.Ints.{PassesInts}
+use Rattle.run_laws.proofs.Ints.{values_are_ints, asks_ints}
 use Rattle.run_laws.proofs.Steps.{Went, Ran, Woke, Drained, step_went, none_failed}
 use Rattle.run_history.specs.History.{Deed, Did, taken, created_by, did, woke, drained, by_instr, deed_of, history_from, history}
 use Rattle.run_history.proofs.Frame.{kept_by_step}
+use Rattle.run_history.proofs.Ints.{taken_int}
 use Rattle.run_history.proofs.Threads.{ThreadsAre, own, keeps_threads, opening_threads}
 use Rattle.path_log.specs.Texts.{is_log}
 use Rattle.path_laws.proofs.Does.{Does, Drains, ran_does, woke_does, flush_drains, own_there}
@@ -41,8 +45,8 @@ agrees_before : (x : Executed) (loads : List ℤ) (h more : List Deed) → Agree
 agrees_before x loads h more agrees c a m r took other ic ia takes is =
     agrees c a m r took other ic ia takes (in_front (Did c.name a.step r took other) h more is)
 
-module _ {B : Type 0} (ops : BufferOps B) (code : Code) (log : Log) (nodes : List Node) (loads : List ℤ) (lawful : IsLawful code) (is : is_log log ≡ true)
-    (fits : Fits code log) (terms : AreTerms nodes) where
+module _ {B : Type 0} (ops : BufferOps B) (code : Code) (log : Log) (nodes : List Node) (loads : List ℤ) (ints : PassesInts ops) (lawful : IsLawful code)
+    (is : is_log log ≡ true) (fits : Fits code log) (terms : AreTerms nodes) where
   abbrev Follow : State B → List Deed → Type 0
   Follow s h = AllFollow ops code log nodes loads lawful is terms s h
 
@@ -93,6 +97,8 @@ module _ {B : Type 0} (ops : BufferOps B) (code : Code) (log : Log) (nodes : Lis
         ap (λ (q : ThreadPath). q.path) (sym same) ∙ place.path in
         let before = path g.before.on.path g.before.on.there in
         let after = on p.name (own ops code s t i r) (own_there ops code s u p.name t i r reached does) in
+        let has = values_are_ints ops code ints lawful s reached in
+        let is_placed = placed_at code t.local.function t.local.instruction i lawful g.at in
         record {
           function = g.before.function;
           long = g.before.count ∙ ap (λ (x : Path). x.steps) (sym before);
@@ -102,6 +108,8 @@ module _ {B : Type 0} (ops : BufferOps B) (code : Code) (log : Log) (nodes : Lis
           fails = g.fails ∙ ap (λ (x : Path). fails_in log p.name && t.local.steps + 1 == x.steps) (sym before);
           later = after.later;
           outcomes = ap (λ (x : Path). x.outcomes) (path after.path after.there) ∙ after.outcomes;
+          took = taken_int ops code ints lawful s t r has (has.threads p.name t does.there);
+          asks = asks_ints t.local (has.threads p.name t does.there).slots i (is_placed.lawful.ints t.local.instruction i is_placed.at);
         }
 
     abbrev Placed : Name → Type 0

@@ -6,12 +6,13 @@ use Rattle.std.specs.List.{AllByRecursion as Each, filter_map, cons_option}
 use Rattle.std.specs.Option.{option_map_or}
 use Rattle.tc_base.specs.States.{Local}
 use Rattle.tc_code.specs.Code.{Code, instr_at, line_at}
-use Rattle.tc_code.specs.Instr.{Instr, Load, Load_at, Store, Store_at, Inside, Branch, Create, Assert, Nonzero, In_range, Swap, Cas}
+use Rattle.tc_code.specs.declared.instr.Instr.{Instr}
+use Rattle.tc_code.specs.declared.instr.Instr.TheVariants.{Load, LoadAt, Store, StoreAt, Inside, Branch, Create, Assert, Nonzero, InRange, Swap, Cas}
 use Rattle.tc_code.specs.Lawful.{IsLawful}
 use Rattle.tc_code.specs.Step.{ints_of}
 use Rattle.sym_terms.specs.Terms.{AreTerms}
 use Rattle.sym_exec.specs.Making.{Grows}
-use Rattle.sym_exec.specs.Thread.{Handed, Doing, IsSound, after_instr, wanted_of, after_step, after_all}
+use Rattle.sym_exec.specs.Thread.{Handed, Doing, HasTerms, after_instr, wanted_of, after_step, after_all}
 use Rattle.sym_exec.specs.Alone.{slots_by}
 use Rattle.sym_exec.specs.declared.symbolic.Access.{Access}
 use Rattle.sym_exec.specs.declared.symbolic.Cell.{Cell}
@@ -80,18 +81,18 @@ access_added i wanted d e cell takes writes taken accesses tests creates = recor
 
 pub adds : (line : ℕ) (wanted : Bool) (d : Doing) (i : Instr) → Adds i wanted d (after_instr line wanted d i)
 adds line wanted d (Load k c) = access_added (Load k c) wanted d (after_instr line wanted d (Load k c)) _ _ _ refl refl refl refl
-adds line wanted d (Load_at k first len i) =
-    access_added (Load_at k first len i) wanted d (after_instr line wanted d (Load_at k first len i)) _ _ _ refl refl refl refl
+adds line wanted d (LoadAt k first len i) =
+    access_added (LoadAt k first len i) wanted d (after_instr line wanted d (LoadAt k first len i)) _ _ _ refl refl refl refl
 adds line wanted d (Store c e) = access_added (Store c e) wanted d (after_instr line wanted d (Store c e)) _ _ _ refl refl refl refl
-adds line wanted d (Store_at first len i e) =
-    access_added (Store_at first len i e) wanted d (after_instr line wanted d (Store_at first len i e)) _ _ _ refl refl refl refl
+adds line wanted d (StoreAt first len i e) =
+    access_added (StoreAt first len i e) wanted d (after_instr line wanted d (StoreAt first len i e)) _ _ _ refl refl refl refl
 adds line wanted d (Swap k c e) = access_added (Swap k c e) wanted d (after_instr line wanted d (Swap k c e)) _ _ _ refl refl refl refl
 adds line wanted d (Cas k c e new) = access_added (Cas k c e new) wanted d (after_instr line wanted d (Cas k c e new)) _ _ _ refl refl refl refl
 adds line wanted d (Inside len i) = test_added (Inside len i) wanted d (after_instr line wanted d (Inside len i)) _ _ refl refl refl refl
 adds line wanted d (Branch e to) = test_added (Branch e to) wanted d (after_instr line wanted d (Branch e to)) _ _ refl refl refl refl
 adds line wanted d (Assert e) = test_added (Assert e) wanted d (after_instr line wanted d (Assert e)) _ _ refl refl refl refl
 adds line wanted d (Nonzero e) = test_added (Nonzero e) wanted d (after_instr line wanted d (Nonzero e)) _ _ refl refl refl refl
-adds line wanted d (In_range e) = test_added (In_range e) wanted d (after_instr line wanted d (In_range e)) _ _ refl refl refl refl
+adds line wanted d (InRange e) = test_added (InRange e) wanted d (after_instr line wanted d (InRange e)) _ _ refl refl refl refl
 adds line wanted d (Create h f es) = record {
   test = [];
   tests = sym (append-nil d.tests);
@@ -122,7 +123,7 @@ with_slots slots = record {
 -- an execution of a thread that does a function
 pub record IsFine (code : Code) (f : ℕ) (d : Doing) : Type 0 where
   pub terms : AreTerms d.nodes
-  pub sound : IsSound d
+  pub sound : HasTerms d
   pub ints : ints_of code f ≤ length d.slots
 
 -- one is a beginning of the other

@@ -13,6 +13,7 @@ use Rattle.tc_base.specs.declared.moves.Move.{Move}
 use Rattle.tc_code.specs.Code.{Code}
 use Rattle.tc_code.specs.Lawful.{IsLawful}
 use Rattle.tc_code.specs.Run.{run}
+use Rattle.run_laws.specs.Ints.{PassesInts}
 use Rattle.run_history.specs.History.{Deed, history}
 use Rattle.path_log.specs.Texts.{is_log}
 use Rattle.path_walk.specs.Fits.{Fits}
@@ -69,9 +70,9 @@ module _ {B : Type 0} (ops : BufferOps B) (code : Code) (log : Log) (nodes : Lis
           (values_at j p c t there ct (ap (λ (w : Walk). fin.get s.threads w.name) same ∙ tt))
 
 -- so it is after each run on the paths
-pub valued : {B : Type 0} (ops : BufferOps B) (code : Code) (log : Log) (nodes : List Node) (loads : List ℤ) → IsLawful code → is_log log ≡ true → Fits code log
-    → AreTerms nodes → (moves : List Move) (s : State B) → run ops code moves ≡ Some s → AreOnPaths log s
+pub valued : {B : Type 0} (ops : BufferOps B) (code : Code) (log : Log) (nodes : List Node) (loads : List ℤ) → PassesInts ops → IsLawful code → is_log log ≡ true
+    → Fits code log → AreTerms nodes → (moves : List Move) (s : State B) → run ops code moves ≡ Some s → AreOnPaths log s
     → AgreesWith (found code log nodes).symbolic loads (history ops code moves) → HaveValues code log nodes loads (history ops code moves) s
-valued ops code log nodes loads lawful is fits terms moves s leads on agrees =
+valued ops code log nodes loads ints lawful is fits terms moves s leads on agrees =
     have_values ops code log nodes loads lawful is terms s (history ops code moves)
-    (follow_after ops code log nodes loads lawful is fits terms moves s leads on agrees)
+    (follow_after ops code log nodes loads ints lawful is fits terms moves s leads on agrees)

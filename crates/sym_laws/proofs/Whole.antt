@@ -14,11 +14,12 @@ use Rattle.tc_base.specs.declared.moves.Move.{Move}
 use Rattle.tc_code.specs.Code.{Code}
 use Rattle.tc_code.specs.Lawful.{IsLawful}
 use Rattle.tc_code.specs.Run.{Reproduces, path_of}
+use Rattle.run_laws.specs.Ints.{PassesInts}
 use Rattle.run_history.specs.History.{Deed, history}
 use Rattle.path_log.specs.Texts.{is_log, rises_from}
 use Rattle.path_walk.specs.Fits.{Fits, places_in}
 use Rattle.path_walk.specs.Paths.{walk_of, paths_of}
-use Rattle.path_walk.proofs.Names.{own_path}
+use Rattle.path_log.proofs.Rising.{own_path}
 use Rattle.path_laws.specs.Prefixes.{AreOnPaths}
 use Rattle.path_laws.proofs.Logs.{reproduced_fits}
 use Rattle.path_laws.proofs.Prefixes.{beginnings_on, so_far}
@@ -28,7 +29,8 @@ use Rattle.sym_exec.specs.Thread.{Doing, after_all}
 use Rattle.sym_exec.specs.Executed.{Course, fails_at, thread_started, thread_done}
 use Rattle.sym_exec.specs.Alone.{outcome_by}
 use Rattle.sym_laws.specs.Valued.{IsOneOf, AgreesWith, IsMet, asked_of, found, found_before, execution}
-use Rattle.sym_laws.proofs.Lists.{each_is, split_at}
+use Rattle.path_log.proofs.Lists.{split_at}
+use Rattle.sym_laws.proofs.Lists.{each_is}
 use Rattle.sym_laws.proofs.Executed.{course_of, counted}
 use Rattle.sym_laws.proofs.Follows.{Follows, found_at_log, walks}
 use Rattle.sym_laws.proofs.Runs.{follow_after}
@@ -41,7 +43,7 @@ own_under log is j p at =
     ap (rises_from None) (sym split) ∙ (and_parts (rises_from None log.threads) (nat_lt log.failing (length log.threads)) is).0 in
     ap (path_under p.name) split ∙ own_path p (drop (suc j) log.threads) None (take j log.threads) rises
 
-module _ {B : Type 0} (ops : BufferOps B) (code : Code) (log : Log) (nodes : List Node) (loads : List ℤ) (lawful : IsLawful code) (is : is_log log ≡ true)
+module _ {B : Type 0} (ops : BufferOps B) (code : Code) (log : Log) (nodes : List Node) (loads : List ℤ) (ints : PassesInts ops) (lawful : IsLawful code) (is : is_log log ≡ true)
     (terms : AreTerms nodes) (moves : List Move) (r : Reproduces ops code log moves)
     (agrees : AgreesWith (found code log nodes).symbolic loads (history ops code moves)) where
   abbrev s : State B
@@ -82,7 +84,7 @@ module _ {B : Type 0} (ops : BufferOps B) (code : Code) (log : Log) (nodes : Lis
         by (Some t) there =
             let path : path_of t ≡ p.path = same_Some (path_of t) p.path (sym (ap (option_map path_of) there) ∙ r.paths p.name ∙ own_under log is j p at) in
             let all = all_done t there (ap (λ (x : Path). x.steps) path) in
-            let f = follow_after ops code log nodes loads lawful is fits terms moves s r.leads on agrees j p t at there in
+            let f = follow_after ops code log nodes loads ints lawful is fits terms moves s r.leads on agrees j p t at there in
             let later = (found code log nodes).nodes in
             let g = subst (λ (d : Doing). Follows later loads d t.local (flat_map (asked_of p.name) h)) all f in
             record { tests = λ x one. each_is (λ x. outcome_by later loads x ≡ x.wanted) x whole.tests g.tests one; accesses = g.accesses }

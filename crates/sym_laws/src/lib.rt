@@ -11,6 +11,7 @@ ghost use Rattle.tc_base.specs.declared.moves.Move.{Move};
 ghost use Rattle.tc_code.specs.Code.{Code};
 ghost use Rattle.tc_code.specs.Lawful.{IsLawful};
 ghost use Rattle.tc_code.specs.Run.{run, Reproduces};
+ghost use Rattle.run_laws.specs.Ints.{PassesInts};
 ghost use Rattle.run_history.specs.History.{history};
 ghost use Rattle.path_log.specs.Texts.{is_log};
 ghost use Rattle.path_walk.specs.Fits.{Fits};
@@ -21,12 +22,13 @@ ghost use Rattle.sym_laws.specs.Loads.{loads_in};
 ghost use Rattle.path_laws.specs.Prefixes.{AreOnPaths};
 ghost use Rattle.sym_laws.specs.Valued.{IsOneOf, AgreesWith, HaveValues, IsMet, found};
 
-/// In each run on a log's paths, under every memory model, and under loads that took what their symbols stand for: each
-/// thread has in its slots the values of the terms of its path so far, its tests came out as the path wants them, and its
-/// loads, stores and exchanges are those of the path, with the same cells and values.
+/// In each run on a log's paths, under every memory model that gives back ints where ints were put in, as all three do, and
+/// under loads that took what their symbols stand for: each thread has in its slots the values of the terms of its path so
+/// far, its tests came out as the path wants them, and its loads, stores and exchanges are those of the path, with the same
+/// cells and values. What a compare-and-exchange writes is what its step leaves in the cell.
 pub fn runs_have_values<B>()
     ensures { (ops : BufferOps B) (code : Code) (log : Log) (nodes : List Node) (loads : List ℤ) (moves : List Move) (s : State B)
-        → IsLawful code → is_log log ≡ true → Fits code log → AreTerms nodes → run ops code moves ≡ Some s → AreOnPaths log s
+        → PassesInts ops → IsLawful code → is_log log ≡ true → Fits code log → AreTerms nodes → run ops code moves ≡ Some s → AreOnPaths log s
         → AgreesWith (found code log nodes).symbolic loads (history ops code moves)
         → HaveValues code log nodes loads (history ops code moves) s }
 {}
@@ -35,7 +37,7 @@ pub fn runs_have_values<B>()
 /// cells what all of its accesses ask.
 pub fn reproduced_paths_are_met<B>()
     ensures { (ops : BufferOps B) (code : Code) (log : Log) (nodes : List Node) (loads : List ℤ) (moves : List Move) (c : Course)
-        → IsLawful code → is_log log ≡ true → AreTerms nodes → Reproduces ops code log moves
+        → PassesInts ops → IsLawful code → is_log log ≡ true → AreTerms nodes → Reproduces ops code log moves
         → AgreesWith (found code log nodes).symbolic loads (history ops code moves)
         → IsOneOf c (found code log nodes).symbolic.threads → IsMet (found code log nodes).nodes loads (history ops code moves) c }
 {}
