@@ -8,7 +8,7 @@ use Rattle.std.specs.Ordering.{nat_cmp}
 use Rattle.std.specs.Cmp.{ranked, nat_eq_equiv}
 use Rattle.std.specs.declared.cmp.Ordering.{Ordering}
 use Rattle.std.specs.declared.cmp.Ordering.TheVariants.{Less, Equal, Greater}
-use Rattle.std.proofs.lemmas.Bool.{false≢true}
+use Rattle.std.proofs.lemmas.Bool.{false≢true, or_right}
 use Rattle.std.proofs.lemmas.Bool.Decides.{Decides-eqb}
 use Rattle.std.proofs.lemmas.Map.Keys.{sorted_head, sorted_tail}
 
@@ -74,10 +74,6 @@ same_or_more a c le = ordered (nat_cmp a c) refl
     ordered Equal e = inl (ranked a c Equal e)
     ordered Greater e = let more : c < a = ranked a c Greater e in absurd (omega (arith, le, more))
 
-or_true : (a b : Bool) → b ≡ true → a || b ≡ true
-or_true true b e = refl
-or_true false b e = e
-
 has_first : (c : ℕ) (fs : List (Option ℕ)) → has (Some c ∷ fs) (Some c) ≡ true
 has_first c fs = ap (λ b. b || has fs (Some c)) (nat_eq_equiv.refl c)
 
@@ -116,7 +112,7 @@ module _ (p : Option ℕ → Bool) where
             ap (λ gs. cond (p (Some c)) (Some c ∷ gs) gs)
             (rising fs (a + 1) n (sorted_tail (option_cmp nat_cmp) (Some c) fs sorted) (weaker (a + 1) (c + 1) (omega (arith, same)) fs above)
             (λ d le e. sym (ap (λ b. b || has fs (Some d)) (unequal d c (λ is. omega (arith, le, same, is)))) ∙ passes d (omega (arith, le)) e)
-            (λ d h. let high : d < a + suc n = ends d (or_true (nat_eq d c) (has fs (Some d)) h) in omega (arith, high)))
+            (λ d h. let high : d < a + suc n = ends d (or_right (nat_eq d c) (has fs (Some d)) h) in omega (arith, high)))
             ∙ ap (λ d. cond (p (Some d)) (Some d ∷ filter p (cells_from (a + 1) n)) (filter p (cells_from (a + 1) n))) (sym same)
         | inr lt ↦
             rising (Some c ∷ fs) (a + 1) n sorted (omega (arith, lt), weaker (a + 1) (c + 1) (omega (arith, lt)) fs above)

@@ -18,12 +18,14 @@ use Rattle.store_buffers.specs.Laws.{Laws, AreForms}
 use Rattle.tc_base.specs.States.{Thread, State}
 use Rattle.tc_base.specs.declared.moves.Move.{Move}
 use Rattle.tc_base.specs.declared.moves.Move.TheVariants.{Run, Wake, Drain}
-use Rattle.tc_code.specs.Instr.{Instr, Signal}
+use Rattle.tc_code.specs.declared.instr.Instr.{Instr}
+use Rattle.tc_code.specs.declared.instr.Instr.TheVariants.{Signal}
 use Rattle.tc_code.specs.Code.{Code}
 use Rattle.tc_code.specs.Lawful.{IsLawful}
 use Rattle.tc_code.specs.Run.{IsReached}
 use Rattle.tc_code.specs.Step.{step, wake_of, woken, drain_of, drained, move_of, instr_of, waiting_on}
-use Rattle.run_laws.proofs.Basics.{second, unless}
+use Rattle.std.proofs.lemmas.Bool.{and_parts}
+use Rattle.run_laws.proofs.Basics.{unless, some_value}
 use Rattle.tc_machine.specs.Moves.{is_enabled, steps_of, drains_of, moves_of, enabled_moves}
 use Rattle.tc_threads.proofs.ByName.{tied}
 use Rattle.tc_machine.proofs.Drains.{same_or_more, passing_forms}
@@ -108,17 +110,13 @@ in_range f a (suc n) c low high = elim (same_or_more a c low) [
   | inr lt ↦ later_in (f a) (f c) _ (in_range f (a + 1) n c (omega (arith, lt)) (omega (arith, high)))
 ]
 
-some_of : {X : Type 0} (o : Option X) → IsSome o → (x : X) × (o ≡ Some x)
-some_of None h = absurd (false≢true h)
-some_of (Some x) h = (x, refl)
-
 module _ {B : Type 0} (ops : BufferOps B) (code : Code) (s : State B) (n : Name) where
   -- where a thread may drain by a form, its buffer says so
   drain_enabled : (t : Thread B) (form : Option ℕ) → fin.get s.threads n ≡ Some t → is_enabled ops code s (Drain n form) ≡ true
       → ops.may_drain t.buffer form ≡ true
   drain_enabled t form there enabled =
-      let after = some_of (step ops code s (Drain n form)) enabled in
-      option_and_then_some (λ u. drain_of ops s n u form) (fin.get s.threads n) after.0 (unless (is_some s.failed) _ after.0 after.1) (λ u here g.
+      let after = some_value (step ops code s (Drain n form)) enabled in
+      option_and_then_some (λ u. drain_of ops s n u form) (fin.get s.threads n) after.0 (unless (is_some s.failed) _ after.0 after.1).1 (λ u here g.
       subst (λ (v : Thread B). ops.may_drain v.buffer form ≡ true) (same_Some u t (sym here ∙ there))
       (cond_some (ops.may_drain u.buffer form) (drained ops s n u form) after.0 g).0)
 
@@ -188,8 +186,8 @@ module _ {B : Type 0} (ops : BufferOps B) (model : Model) (bound : Binding) (law
 
   woken_is_thread : (n u : Name) (t : Thread B) (i : Instr) (v : State B) → wake_of ops s n u t i ≡ Some v → IsSome (fin.get s.threads u)
   woken_is_thread n u t (Signal c) v h =
-      waiters_are_threads ops code s reached u c (second (ops.is_empty t.buffer) _
-      (cond_some (ops.is_empty t.buffer && set.contains (waiting_on s c) u) (woken ops s n u t c) v h).0)
+      waiters_are_threads ops code s reached u c (and_parts (ops.is_empty t.buffer) _
+      (cond_some (ops.is_empty t.buffer && set.contains (waiting_on s c) u) (woken ops s n u t c) v h).0).1
   woken_is_thread n u t i v h = absurd (none-some v h)
 
   listed_move : (m : Move) (v : State B) → move_of ops code s m ≡ Some v → is_enabled ops code s m ≡ true
@@ -209,5 +207,5 @@ module _ {B : Type 0} (ops : BufferOps B) (model : Model) (bound : Binding) (law
   -- every enabled move is listed
   pub every_enabled_move_is_listed : (m : Move) → IsSome (step ops code s m) → Contains (enabled_moves ops code s) m
   every_enabled_move_is_listed m h =
-      let after = some_of (step ops code s m) h in
-      listed_move m after.0 (unless (is_some s.failed) _ after.0 after.1) h
+      let after = some_value (step ops code s m) h in
+      listed_move m after.0 (unless (is_some s.failed) _ after.0 after.1).1 h

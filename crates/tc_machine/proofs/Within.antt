@@ -39,7 +39,7 @@ use Rattle.tc_base.specs.declared.moves.Move.{Move}
 use Rattle.tc_base.specs.declared.moves.Move.TheVariants as move
 use Rattle.tc_base.specs.declared.request.Request.{Request}
 use Rattle.tc_base.specs.declared.request.Request.TheVariants.{Write, Bar, Start}
-use Rattle.tc_code.specs.Instr.{Instr}
+use Rattle.tc_code.specs.declared.instr.Instr.{Instr}
 use Rattle.tc_code.specs.Code.{Code}
 use Rattle.tc_code.specs.Lawful.{IsLawful}
 use Rattle.tc_code.specs.Run.{IsReached}
@@ -50,9 +50,9 @@ use Rattle.run_laws.proofs.Steps.{step_went, holds_in_reached}
 use Rattle.run_laws.proofs.Whole.{reached_is_whole}
 use Rattle.store_buffers.specs.Pending.{Pending, Store, Bar as PendingBar, Binding, Stands, form_of}
 use Rattle.store_buffers.specs.Laws.{Laws}
-use Rattle.store_buffers.specs.Proved.Lists.{store_last, bar_last}
-use Rattle.tc_machine.specs.helpers.CanDo.{AsksWithin}
-use Rattle.tc_machine.proofs.Can.{asked_is_there}
+use Rattle.store_buffers.specs.helpers.Lists.{store_last, bar_last}
+use Rattle.tc_machine.specs.helpers.CanDo.{AsksIn}
+use Rattle.run_laws.proofs.Asks.{asked_is_there}
 
 -- each of these stores is to a cell below a number
 abbrev AreWithin : ℕ → List Pending → Type 0
@@ -156,7 +156,7 @@ module _ {B : Type 0} (ops : BufferOps B) (model : Model) (bound : Binding) (law
         either_way true e = all_put n s.threads q _ all (issued_within n t.buffer c v e lt h)
         either_way false e = all_put n s.threads q _ all h
 
-    performed_within : (s : State B) (q : Name) (t : Thread B) (i : Instr) (r : Request) → n ≡ length s.memory → AsksWithin s r
+    performed_within : (s : State B) (q : Name) (t : Thread B) (i : Instr) (r : Request) → n ≡ length s.memory → AsksIn s r
         → AllWithin n s.threads → HoldsWithin n t.buffer → AllWithin n (perform ops code s q t i r).threads
     performed_within s q t i (Write c v) cells asks all h = stored_within s q t i c v (subst (λ k. c < k) (sym cells) asks) all h
     performed_within s q t i Bar cells asks all h = all_put n s.threads q _ all (barred_within n t.buffer h)
@@ -178,7 +178,7 @@ module _ {B : Type 0} (ops : BufferOps B) (model : Model) (bound : Binding) (law
         subst (λ (v : State B). AllWithin (length code.memory) v.threads) (sym w.after)
         (all_put (length code.memory) s.threads q _ all (all q w.thread w.there))
     went_within s u (move.Drain q form) reached one all =
-        option_and_then_some (λ t. drain_of ops s q t form) (fin.get s.threads q) u (unless (is_some s.failed) _ u one) (λ t there g.
+        option_and_then_some (λ t. drain_of ops s q t form) (fin.get s.threads q) u (unless (is_some s.failed) _ u one).1 (λ t there g.
         let may = cond_some (ops.may_drain t.buffer form) (drained ops s q t form) u g in
         subst (λ (v : State B). AllWithin (length code.memory) v.threads) may.1
         (all_put (length code.memory) s.threads q _ all (rest_within (length code.memory) t.buffer form (all q t there) may.0)))
@@ -209,6 +209,6 @@ module _ {B : Type 0} (ops : BufferOps B) (model : Model) (bound : Binding) (law
         → IfSome (fin.get s.threads q) (λ t. (ops.drain t.buffer form).entry.cell < length s.memory)
     drains_within_memory s reached q form enabled =
         let after = some_value (step ops code s (move.Drain q form)) enabled in
-        option_and_then_some (λ t. drain_of ops s q t form) (fin.get s.threads q) after.0 (unless (is_some s.failed) _ after.0 after.1) (λ t there g.
+        option_and_then_some (λ t. drain_of ops s q t form) (fin.get s.threads q) after.0 (unless (is_some s.failed) _ after.0 after.1).1 (λ t there g.
         subst (λ o. IfSome o (λ (t : Thread B). (ops.drain t.buffer form).entry.cell < length s.memory)) (sym there)
         (drained_is_there s reached q t there form (cond_some (ops.may_drain t.buffer form) (drained ops s q t form) after.0 g).0))

@@ -8,7 +8,8 @@ use Rattle.tc_base.specs.Buffers.{BufferOps}
 use Rattle.tc_base.specs.States.{Thread, State}
 use Rattle.tc_base.specs.declared.moves.Move.{Move}
 use Rattle.tc_base.specs.declared.moves.Move.TheVariants.{Run, Wake, Drain}
-use Rattle.tc_code.specs.Instr.{Instr, Signal}
+use Rattle.tc_code.specs.declared.instr.Instr.{Instr}
+use Rattle.tc_code.specs.declared.instr.Instr.TheVariants.{Signal}
 use Rattle.tc_code.specs.Code.{Code}
 use Rattle.tc_base.specs.declared.request.Request.{Request}
 use Rattle.tc_base.specs.declared.request.Request.TheVariants.{Acquire, EndWait, WakeOne, Await}

@@ -2,10 +2,9 @@
 ghost use Rattle.std.specs.Prelude.{◌≡◌, IsSome, Option, Some, None, OnOk, OnErr, IfOk, IfErr, IsTrue, MatchResult};
 ghost use Rattle.std.specs.FinMap as map;
 ghost use Rattle.tc_base.specs.States as states;
-ghost use Rattle.tc_code.specs.Instr as flat;
+ghost use Rattle.tc_code.specs.declared.instr.Instr as flat;
 ghost use Rattle.tc_code.specs.Lawful.{IsLawful};
 ghost use Rattle.tc_code.specs.Run.{IsReached};
-ghost use Rattle.tc_code.specs.Seen.{plain_instr};
 ghost use Rattle.tc_code.specs.Step.{step, instr_of, request};
 ghost use Rattle.tc_machine.specs.Why.{why, why_at, why_doing, why_undrained, why_unmet, why_unwoken};
 ghost use Rattle.run_laws.specs.Counters.{CountersAreBelowLast};
@@ -103,7 +102,7 @@ fn next<'a, M: MemoryModel>(
     name: &ThreadName,
 ) -> Result<(&'a Thread<M>, &'a Instr), Why>
     ensures thread { IfOk result (λ p. map.get state.now.threads name.now ≡ Some p.0.now) }
-    ensures instr { IfOk result (λ p. instr_of code.now p.0.now.local ≡ Some (plain_instr p.1.now)) }
+    ensures instr { IfOk result (λ p. instr_of code.now p.0.now.local ≡ Some p.1.now) }
     ensures lawful { OnOk result (IsLawful code.now) }
     ensures err { IfErr result (λ w. (reason : states.Thread M.Buffer → flat.Instr → Option Why)
         → why_doing M.ops code.now state.now name.now reason ≡ Some w) }

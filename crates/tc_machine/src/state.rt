@@ -3,12 +3,11 @@ ghost use Rattle.std.specs.Prelude.{◌≡◌, ◌+◌, ◌-◌, ◌<◌, ◌^�
 ghost use Rattle.std.specs.Prelude.{IfOk, IfSome, OnOk, OnErr, MatchResult, option_map, Option, Some, None, IsSome, IsSomeAnd};
 ghost use Rattle.std.specs.FinMap as map;
 ghost use Rattle.std.specs.FinSet as set;
-ghost use Rattle.tc_code.specs.Instr as flat;
-ghost use Rattle.tc_code.specs.Seen.{plain_instr};
+ghost use Rattle.tc_code.specs.declared.instr.Instr.TheVariants as flat;
 ghost use Rattle.tc_code.specs.Step.{opening, perform, did, loaded, stored, drained, stepped, with_thread, woken, waiting_on};
 ghost use Rattle.tc_code.specs.Step as plain;
 ghost use Rattle.tc_threads.specs.CanDo.{CanAdvance, HasRoom, is_branch};
-ghost use Rattle.tc_machine.specs.helpers.CanDo.{AsksWithin, CanPerform};
+ghost use Rattle.tc_machine.specs.helpers.CanDo.{AsksIn, CanPerform};
 ghost use Rattle.tc_machine.specs.Why.{why_let, why_taken};
 
 use crate::why::Why;
@@ -147,7 +146,7 @@ impl<M: MemoryModel> State<M> {
 
     /// What the other threads don't let be.
     pub(crate) fn lets(&self, name: &ThreadName, request: Request) -> Result<(), Why>
-        requires { AsksWithin self.now request }
+        requires { AsksIn self.now request }
         ensures { MatchResult result
             (λ _. why_let self.now name.now request ≡ None)
             (λ w. why_let self.now name.now request ≡ Some w) }
@@ -201,9 +200,9 @@ impl<M: MemoryModel> State<M> {
         request: Request,
     ) -> Result<(), AllocError>
         requires { IsSomeAnd (map.get self.old.threads name.now)
-            (CanPerform code.now self.old name.now (plain_instr instr.now) request) }
+            (CanPerform code.now self.old name.now instr.now request) }
         ensures ok { OnOk result (IfSome (map.get self.old.threads name.now)
-            (λ t. self.new ≡ perform M.ops code.now self.old name.now t (plain_instr instr.now) request)) }
+            (λ t. self.new ≡ perform M.ops code.now self.old name.now t instr.now request)) }
         ensures err { OnErr result (self.new ≡ self.old) }
     {
         match request {
@@ -264,11 +263,11 @@ impl<M: MemoryModel> State<M> {
         cell: u32,
         value: i32,
     ) -> Result<(), AllocError>
-        requires can { CanAdvance self.old.threads name.now (plain_instr instr.now) }
+        requires can { CanAdvance self.old.threads name.now instr.now }
         requires there { cell < length self.old.memory }
-        requires no_branch { is_branch (plain_instr instr.now) ≡ false }
+        requires no_branch { is_branch instr.now ≡ false }
         ensures ok { OnOk result (IfSome (map.get self.old.threads name.now)
-            (λ t. self.new ≡ stored M.ops self.old name.now t (plain_instr instr.now) cell value)) }
+            (λ t. self.new ≡ stored M.ops self.old name.now t instr.now cell value)) }
         ensures err { OnErr result (self.new ≡ self.old) }
     {
         if M::BUFFERED {
@@ -296,10 +295,10 @@ impl<M: MemoryModel> State<M> {
 
     /// A thread takes a mutex.
     fn take(&mut self, name: &ThreadName, instr: &Instr, mutex: u32) -> Result<(), AllocError>
-        requires can { CanAdvance self.old.threads name.now (plain_instr instr.now) }
+        requires can { CanAdvance self.old.threads name.now instr.now }
         requires there { mutex < length self.old.owners }
         ensures ok { OnOk result (IfSome (map.get self.old.threads name.now)
-            (λ t. self.new ≡ record (did M.ops self.old name.now t (plain_instr instr.now)) { owners = slice_set self.old.owners mutex (Some name.now) })) }
+            (λ t. self.new ≡ record (did M.ops self.old name.now t instr.now) { owners = slice_set self.old.owners mutex (Some name.now) })) }
         ensures err { OnErr result (self.new ≡ self.old) }
     {
         let owner = name.clone()?;
@@ -316,12 +315,12 @@ impl<M: MemoryModel> State<M> {
         condition: u32,
         mutex: u32,
     ) -> Result<(), AllocError>
-        requires can { CanAdvance self.old.threads name.now (plain_instr instr.now) }
+        requires can { CanAdvance self.old.threads name.now instr.now }
         requires condition { condition < length self.old.waiters }
         requires mutex { mutex < length self.old.owners }
-        requires no_branch { is_branch (plain_instr instr.now) ≡ false }
+        requires no_branch { is_branch instr.now ≡ false }
         ensures ok { OnOk result (IfSome (map.get self.old.threads name.now)
-            (λ t. self.new ≡ record (did M.ops self.old name.now t (plain_instr instr.now)) {
+            (λ t. self.new ≡ record (did M.ops self.old name.now t instr.now) {
               owners = slice_set self.old.owners mutex None;
               waiters = slice_set self.old.waiters condition (set.insert (waiting_on self.old condition) name.now);
             })) }
@@ -344,9 +343,9 @@ impl<M: MemoryModel> State<M> {
         function: u32,
     ) -> Result<(), AllocError>
         requires { IsSomeAnd (map.get self.old.threads name.now)
-            (CanPerform code.now self.old name.now (plain_instr instr.now) (Request.Start function)) }
+            (CanPerform code.now self.old name.now instr.now (Request.Start function)) }
         ensures ok { OnOk result (IfSome (map.get self.old.threads name.now)
-            (λ t. self.new ≡ perform M.ops code.now self.old name.now t (plain_instr instr.now) (Request.Start function))) }
+            (λ t. self.new ≡ perform M.ops code.now self.old name.now t instr.now (Request.Start function))) }
         ensures err { OnErr result (self.new ≡ self.old) }
     {
         let Some(thread) = self.threads.get(name) else {
@@ -367,9 +366,9 @@ impl<M: MemoryModel> State<M> {
         instr: &Instr,
         condition: u32,
     ) -> Result<(), AllocError>
-        requires can { CanAdvance self.old.threads name.now (plain_instr instr.now) }
+        requires can { CanAdvance self.old.threads name.now instr.now }
         requires there { condition < length self.old.waiters }
-        requires signals { plain_instr instr.now ≡ flat.Signal condition }
+        requires signals { instr.now ≡ flat.Signal condition }
         ensures ok { OnOk result (IfSome (map.get self.old.threads name.now)
             (λ t. self.new ≡ woken M.ops self.old name.now waiter.now t condition)) }
         ensures err { OnErr result (self.new ≡ self.old) }

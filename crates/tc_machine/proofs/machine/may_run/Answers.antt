@@ -1,18 +1,18 @@
 use Rattle.std.proofs.Common.{subst, sym}
-use Rattle.tc_code.specs.Seen.{plain_instr}
-use Rattle.tc_machine.specs.helpers.CanDo.{AsksWithin}
-use Rattle.tc_machine.proofs.Can.{can_ask, asked_is_there}
+use Rattle.tc_machine.specs.helpers.CanDo.{AsksIn}
+use Rattle.run_laws.proofs.Asks.{asked_is_there}
+use Rattle.tc_machine.proofs.Can.{can_ask}
 use Rattle.tc_machine.proofs.machine.may_run.Goals as goal
 
 pub request-request-requires : goal.request-request-requires
 request-request-requires g c = (
   c.args.code.now,
   can_ask g.M.MemoryModel.ops c.args.code.now c.args.state.now c.args.name.now c.in_ok-thread.thread.now
-      (plain_instr c.in_ok-thread.instr.now) c.in_ok-thread.ensures.lawful c.requires.reached c.in_ok-thread.ensures.thread c.in_ok-thread.ensures.instr,
+      c.in_ok-thread.instr.now c.in_ok-thread.ensures.lawful c.requires.reached c.in_ok-thread.ensures.thread c.in_ok-thread.ensures.instr,
 )
 
 pub lets-requires : goal.lets-requires
 lets-requires g c =
-    subst (AsksWithin c.args.state.now) (sym c.request-request.ensures)
+    subst (AsksIn c.args.state.now) (sym c.request-request.ensures)
     (asked_is_there g.M.MemoryModel.ops c.args.code.now c.args.state.now c.args.name.now c.in_ok-thread.thread.now
-    (plain_instr c.in_ok-thread.instr.now) c.in_ok-thread.ensures.lawful c.requires.reached c.in_ok-thread.ensures.thread c.in_ok-thread.ensures.instr)
+    c.in_ok-thread.instr.now c.in_ok-thread.ensures.lawful c.requires.reached c.in_ok-thread.ensures.thread c.in_ok-thread.ensures.instr)

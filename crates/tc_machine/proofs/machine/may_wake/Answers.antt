@@ -1,12 +1,11 @@
 use Rattle.std.proofs.Common.{subst}
-use Rattle.tc_code.specs.Seen.{plain_instr}
 use Rattle.tc_code.specs.Step.{request}
-use Rattle.tc_machine.specs.helpers.CanDo.{AsksWithin}
-use Rattle.tc_machine.proofs.Can.{asked_is_there}
+use Rattle.tc_machine.specs.helpers.CanDo.{AsksIn}
+use Rattle.run_laws.proofs.Asks.{asked_is_there}
 use Rattle.tc_machine.proofs.machine.may_wake.Goals as goal
 
 pub waiting_on-requires : goal.waiting_on-requires
 waiting_on-requires g c =
-    subst (λ i. AsksWithin c.args.state.now (request c.in_ok-thread.thread.now.local (plain_instr i))) c.in-Signal.is
+    subst (λ i. AsksIn c.args.state.now (request c.in_ok-thread.thread.now.local i)) c.in-Signal.is
     (asked_is_there g.M.MemoryModel.ops c.args.code.now c.args.state.now c.args.name.now c.in_ok-thread.thread.now
-    (plain_instr c.in_ok-thread.instr.now) c.in_ok-thread.ensures.lawful c.requires.reached c.in_ok-thread.ensures.thread c.in_ok-thread.ensures.instr)
+    c.in_ok-thread.instr.now c.in_ok-thread.ensures.lawful c.requires.reached c.in_ok-thread.ensures.thread c.in_ok-thread.ensures.instr)
