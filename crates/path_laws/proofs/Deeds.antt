@@ -6,8 +6,6 @@ use Rattle.std.specs.Prelude.{option_map, unwrap_or, nat_lt, if◌then◌else◌
 use Rattle.std.specs.FinMap as fin
 use Rattle.std.specs.List.{filter, filter_map, cons_option, range_with_len}
 use Rattle.std.specs.Option.{option_map_or}
-use Rattle.std.specs.Ordering.{nat_cmp}
-use Rattle.std.specs.Cmp.Lexicographic.{slice_cmp}
 use Rattle.std.specs.Result.{result_unwrap_or}
 use Rattle.std.proofs.Math.Bool.{and-true, and-false}
 use Rattle.std.proofs.Math.Dec.{eqb-suc-zero}

@@ -1,6 +1,6 @@
 -- Names of the threads of a log rise.
 use Rattle.std.proofs.Common.{◌≡◌, ◌∙◌, ◌<◌, ℕ, zero, suc, Bool, true, false, cond, List, [], ◌∷◌, ◌++◌, drop}
-use Rattle.std.proofs.Common.{Option, Some, None, refl, sym, ap, subst, arith, bytes_eq}
+use Rattle.std.proofs.Common.{Option, Some, None, refl, ap, subst, arith, bytes_eq}
 use Rattle.std.specs.Prelude.{slice_get}
 use Rattle.std.specs.Ordering.{is_lt, ordering_reverse}
 use Rattle.std.specs.declared.cmp.Ordering.{Ordering}
