@@ -22,7 +22,7 @@ use Rattle.sym_terms.specs.Terms.{same_node, with_node}
 use Rattle.sym_terms.specs.declared.node.Node.{Node}
 use Rattle.sym_terms.specs.declared.node.Node.TheVariants.{Constant, Symbol, Unary, Binary}
 use Rattle.sym_exec.specs.Making.{Made, AllMade, made, expr_term, with_expr, range_test, last_index, replaced_term}
-use Rattle.sym_exec.specs.Thread.{Doing, term_in, making, symbol_in, after_instr, wanted_of, after_step, after_all}
+use Rattle.sym_exec.specs.Thread.{Doing, term_in, making, after_instr, wanted_of, after_step, after_all}
 use Rattle.sym_exec.specs.Executed.{Executed, fails_at, thread_started, with_thread, nothing, executed}
 use Rattle.sym_exec.specs.Ints.{HasInt}
 use Rattle.sym_exec.proofs.Tells.{one_less}

@@ -41,9 +41,9 @@ use Rattle.sym_exec.specs.Alone.{asked_in, outcome_by, TakesFrom, StandsFor, Tel
 use Rattle.sym_exec.specs.declared.symbolic.Test.{Test}
 use Rattle.sym_exec.specs.declared.symbolic.Access.{Access}
 use Rattle.sym_exec.specs.declared.symbolic.Cell.TheVariants.{Fixed, Element}
-use Rattle.sym_exec.proofs.Grown.{grows_none, grows_both, grows_made, made_within, stays_within, stay_of, expr_grows}
+use Rattle.sym_exec.proofs.Grown.{grows_none, grows_both, grows_made, stays_within, stay_of, expr_grows}
 use Rattle.sym_exec.proofs.Sound.{instr_goes, instr_named, step_goes, all_go, replaced_grows, exprs_made}
-use Rattle.sym_exec.proofs.Values.{HasValue, value_stays, values_stay, made_terms, symbol_value, unary_value, binary_value, expr_value, range_value}
+use Rattle.sym_exec.proofs.Values.{HasValue, value_stays, values_stay, symbol_value, unary_value, binary_value, expr_value, range_value}
 use Rattle.sym_exec.proofs.Values.{truth_nonzero}
 
 -- whether an instruction takes a value from memory
