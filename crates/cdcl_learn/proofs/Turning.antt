@@ -28,7 +28,6 @@ use Rattle.std.proofs.Common.{
   get_or-take,
 }
 use Rattle.std.specs.Prelude.{Contains, MatchOption}
-use Rattle.std.proofs.lemmas.Bool.Decides.{nat_tests}
 use Rattle.std.proofs.lemmas.List.{take_more, take_all, nil_from_length, get_or_default, length-take, length-take-le}
 use Rattle.std.proofs.lemmas.List.Elements.{Contains-push, Contains-push_cases, Contains-append_left}
 use Rattle.cdcl_trail.specs.Literals.{opposite_of}

@@ -1,47 +1,9 @@
 -- A clause that is to be asserted says more than units give.
-use Rattle.std.proofs.Common.{
-  ◌≡◌,
-  ◌≢◌,
-  ℕ,
-  zero,
-  suc,
-  ◌*◌,
-  ◌/◌,
-  ◌<◌,
-  Bool,
-  true,
-  false,
-  not,
-  cond,
-  eqb,
-  List,
-  [],
-  ◌∷◌,
-  ◌++◌,
-  map,
-  length,
-  take,
-  get_or,
-  ℤ,
-  neg_ℤ,
-  Option,
-  Some,
-  None,
-  inl,
-  inr,
-  refl,
-  sym,
-  ◌∙◌,
-  ap,
-  subst,
-  arith,
-  append-nil,
-  append_assoc,
-}
-use Rattle.std.specs.Prelude.{Contains, filter, fold, slice_get, IfSome, ◌||◌}
+use Rattle.std.proofs.Common.{◌≡◌, ◌≢◌, ℕ, zero, suc, ◌*◌, ◌<◌, Bool, true, false, not, cond, List, [], ◌∷◌, ◌++◌, map, length, take, get_or, ℤ, neg_ℤ, Option, Some, None, inl, inr, refl, sym, ◌∙◌, ap, subst, arith, append-nil, append_assoc}
+use Rattle.std.specs.Prelude.{Contains, filter, fold, slice_get, IfSome}
 use Rattle.std.specs.Ordering.{int_eq}
 use Rattle.std.specs.FinMap.{get}
-use Rattle.std.proofs.lemmas.Bool.{cases_lt, cases_eq, false≢true, eq-eqb, or_left, or_right, and_from, cases_Bool}
+use Rattle.std.proofs.lemmas.Bool.{cases_lt, cases_eq, false≢true, cases_Bool}
 use Rattle.std.proofs.lemmas.List.{take_all, length_push, take-append-le, get_or_default}
 use Rattle.std.proofs.lemmas.Option.{slice_get_past, none-some, same_Some}
 use Rattle.std.proofs.lemmas.List.Elements.{Contains-append_left, Contains-append_cases, Contains-push}
@@ -126,7 +88,8 @@ abbrev OnTrail : Trail → ℤ → Type 0
 OnTrail t z = Contains (map literal_of t.literals) z
 
 -- a kept clause that watches a false literal has a true one
-pub watched-true : (t : Trail) (cs : List Clause) (ws : List (List Watch)) → AreConsistent t cs ws → t.propagated ≡ length t.literals → (k l : ℕ) → k < length cs
+pub watched-true : (t : Trail) (cs : List Clause) (ws : List (List Watch)) → AreConsistent t cs ws → t.propagated ≡ length t.literals
+    → (k l : ℕ) → k < length cs
     → watches (at cs k) l ≡ true → Contains t.literals (opposite_of l) → HasTrue t.literals (at cs k)
 watched-true t cs ws s p k l kl w f =
     s.guarded.last k kl l w (subst (λ (xs : List ℕ). Contains xs (opposite_of l)) (sym (take_all t.propagated t.literals (omega (arith, p)))) f)

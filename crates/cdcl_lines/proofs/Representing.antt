@@ -33,7 +33,7 @@ use Rattle.std.specs.Prelude.{All, is_some, fold, if◌then◌else◌, neg_ℤ}
 use Rattle.std.specs.Ordering.{nat_cmp}
 use Rattle.std.specs.FinMap.{get, insert, remove, get-empty}
 use Rattle.std.proofs.lemmas.Bool.{cases_lt, cases_eq, false≢true, and_from, cond-true}
-use Rattle.std.proofs.lemmas.List.{get_or_at, get_or_append_left, get_or_past, length_push, get_or-set_same, get_or-set_other}
+use Rattle.std.proofs.lemmas.List.{get_or_at, get_or_append_left, get_or_past, length_push}
 use Rattle.std.proofs.lemmas.List.Elements.{All-head, All-contains}
 use Rattle.refute_check.specs.Kept.{KeptClauses}
 use Rattle.refute_check.specs.Refutations.{Checking, keep, judged, passed, line_fault, hints_fault, can_delete, without}

@@ -1,32 +1,5 @@
 -- A search and a checker keep the same clauses, and go on so.
-use Rattle.std.specs.Prelude.{
-  ◌≡◌,
-  ◌≢◌,
-  ℕ,
-  suc,
-  ◌+◌,
-  ◌*◌,
-  ◌<◌,
-  ◌≤◌,
-  true,
-  false,
-  if◌then◌else◌,
-  List,
-  [],
-  ◌∷◌,
-  ◌++◌,
-  length,
-  slice_get,
-  slice_set,
-  All,
-  AllPairs,
-  ℤ,
-  Option,
-  Some,
-  None,
-  IfSome,
-  fold,
-}
+use Rattle.std.specs.Prelude.{◌≡◌, ◌≢◌, ℕ, suc, ◌+◌, ◌*◌, ◌<◌, ◌≤◌, true, if◌then◌else◌, List, [], ◌∷◌, ◌++◌, length, slice_get, All, AllPairs, ℤ, Option, Some, None, IfSome, fold}
 use Rattle.std.specs.FinMap.{get}
 use Rattle.refute_check.specs.Refutations.{Checking, keep, opening, after, passed, line_fault}
 use Rattle.refute_check.specs.declared.line.Line.{Line}

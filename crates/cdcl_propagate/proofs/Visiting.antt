@@ -171,7 +171,8 @@ pub watches-neither : (c : Clause) (f : ℕ) → c.first ≢ f → c.second ≢ 
 watches-neither c f h g = grind (arith, nat_tests)
 
 pub sound-removed : (t : Trail) (cs : List Clause) (ws : List (List Watch)) → AreConsistent t cs ws → (f p : ℕ) (w : Watch) → f < length ws
-    → p < length (listed ws f) → w ≡ get_or (listed ws f) p w → watches (at cs w.clause) f ≡ false → AreConsistent t cs (set ws f (without_place (listed ws f) p))
+    → p < length (listed ws f) → w ≡ get_or (listed ws f) p w → watches (at cs w.clause) f ≡ false
+    → AreConsistent t cs (set ws f (without_place (listed ws f) p))
 sound-removed t cs ws s f p w h pl r gone = record {
   lawful = s.lawful;
   linked = linked-remove t.variables cs ws s.linked f p w h pl r gone;

@@ -1,5 +1,5 @@
 -- What is kept where levels are taken back.
-use Rattle.std.proofs.Common.{◌≡◌, ℕ, ◌<◌, Option, Some, None, List, length, take, get_or, sym, ◌∙◌, ap, subst, inl, inr, arith, get_or-take}
+use Rattle.std.proofs.Common.{◌≡◌, ℕ, ◌<◌, Option, None, List, length, take, get_or, sym, ◌∙◌, ap, subst, inl, inr, arith, get_or-take}
 use Rattle.std.specs.Prelude.{MatchOption}
 use Rattle.std.proofs.lemmas.Bool.{cases_lt, cases_eq}
 use Rattle.std.proofs.lemmas.List.{take-take, length-take}

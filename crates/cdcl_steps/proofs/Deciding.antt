@@ -1,42 +1,13 @@
 -- A decision keeps what a search keeps.
-use Rattle.std.proofs.Common.{
-  ◌≡◌,
-  ℕ,
-  ◌+◌,
-  ◌*◌,
-  ◌/◌,
-  ◌%◌,
-  ◌<◌,
-  ◌≤◌,
-  ◌⊎◌,
-  Option,
-  Some,
-  None,
-  List,
-  [],
-  ◌∷◌,
-  ◌++◌,
-  length,
-  take,
-  get_or,
-  refl,
-  sym,
-  ◌∙◌,
-  ap,
-  subst,
-  inl,
-  inr,
-  arith,
-}
+use Rattle.std.proofs.Common.{◌≡◌, ℕ, ◌+◌, ◌*◌, ◌/◌, ◌%◌, ◌<◌, ◌≤◌, ◌⊎◌, Option, None, List, [], ◌∷◌, ◌++◌, length, take, get_or, refl, sym, ◌∙◌, ap, subst, inl, inr, arith}
 use Rattle.std.specs.Prelude.{Contains, MatchOption}
 use Rattle.std.proofs.lemmas.Bool.{cases_lt, cases_eq}
 use Rattle.std.proofs.lemmas.Bool.Decides.{nat_tests}
 use Rattle.std.proofs.lemmas.List.{get_or_at, get_or_append_left, length_push, take-append-le, take_all, take-take}
-use Rattle.std.proofs.lemmas.List.Elements.{Contains-append_left}
 use Rattle.cdcl_trail.specs.Literals.{opposite_of}
 use Rattle.cdcl_trail.specs.Trail.{Trail, IsTrail, IsOpen, decided}
 use Rattle.cdcl_clauses.specs.Clauses.{Clause, at}
-use Rattle.cdcl_clauses.specs.Invariants.{HasTrue, Guards, AreGuarded, IsReason, BeginsAt, AreReasoned, AreConsistent}
+use Rattle.cdcl_clauses.specs.Invariants.{Guards, AreGuarded, IsReason, BeginsAt, AreReasoned, AreConsistent}
 use Rattle.cdcl_clauses.specs.declared.watches.Watch.{Watch}
 use Rattle.cdcl_propagate.specs.Propagation.{Propagates}
 use Rattle.cdcl_steps.specs.Descents.{Descends}

@@ -1,34 +1,9 @@
 -- A clause that is no reason goes.
-use Rattle.std.proofs.Common.{
-  ◌≡◌,
-  ◌≢◌,
-  ℕ,
-  ◌<◌,
-  Option,
-  Some,
-  None,
-  true,
-  false,
-  List,
-  [],
-  ◌∷◌,
-  length,
-  take,
-  get_or,
-  set,
-  inl,
-  inr,
-  sym,
-  ◌∙◌,
-  ap,
-  subst,
-  arith,
-  length-set,
-}
-use Rattle.std.specs.Prelude.{Contains, All, MatchOption}
+use Rattle.std.proofs.Common.{◌≡◌, ◌≢◌, ℕ, ◌<◌, Option, Some, None, true, false, List, length, take, get_or, inl, inr, sym, ◌∙◌, ap, subst, arith, length-set}
+use Rattle.std.specs.Prelude.{Contains, MatchOption}
 use Rattle.cdcl_trail.specs.Trail.{Trail, IsNoReason}
 use Rattle.cdcl_clauses.specs.Clauses.{Clause, at, watches, listed, dropped}
-use Rattle.cdcl_clauses.specs.Invariants.{Guards, IsClause, IsWatch, AreLinked, AreGuarded, IsReason, AreReasoned, AreConsistent, BeginsAt, AreRooted}
+use Rattle.cdcl_clauses.specs.Invariants.{Guards, IsClause, AreLinked, AreGuarded, IsReason, AreConsistent, BeginsAt, AreRooted}
 use Rattle.cdcl_clauses.specs.declared.watches.Watch.{Watch}
 use Rattle.cdcl_propagate.proofs.Links.{at-set}
 

@@ -1,33 +1,9 @@
 -- One more clause before anything is propagated.
-use Rattle.std.proofs.Common.{
-  ◌≡◌,
-  ◌≢◌,
-  ℕ,
-  ◌*◌,
-  ◌<◌,
-  Option,
-  Some,
-  true,
-  List,
-  [],
-  ◌∷◌,
-  ◌++◌,
-  length,
-  take,
-  get_or,
-  inl,
-  inr,
-  refl,
-  sym,
-  ◌∙◌,
-  ap,
-  subst,
-  arith,
-}
-use Rattle.std.specs.Prelude.{Contains, All}
+use Rattle.std.proofs.Common.{◌≡◌, ◌≢◌, ℕ, ◌<◌, Option, Some, List, [], ◌∷◌, ◌++◌, length, take, get_or, inl, inr, refl, sym, ◌∙◌, ap, subst, arith}
+use Rattle.std.specs.Prelude.{Contains}
 use Rattle.std.proofs.lemmas.Bool.{cases_eq}
 use Rattle.std.proofs.lemmas.List.{get_or_at, length_push, take_all}
-use Rattle.std.proofs.lemmas.List.Elements.{Contains-push, Contains-get_or}
+use Rattle.std.proofs.lemmas.List.Elements.{Contains-get_or}
 use Rattle.cdcl_trail.specs.Literals.{opposite_of}
 use Rattle.cdcl_trail.specs.Trail.{Trail, IsTrail, pushed}
 use Rattle.cdcl_clauses.specs.Clauses.{Clause, at, no_clause, kept_clause}
@@ -137,10 +113,6 @@ rooted-unit t cs ls a b r s old =
 
 pub first-is : (ls : List ℕ) (a : ℕ) → length ls ≡ 1 → a ≡ get_or ls 0 0 → ls ≡ a ∷ []
 first-is ls a e f = single-list ls e ∙ ap (λ (x : ℕ). x ∷ []) (sym f)
-
-pub refuted-all : (t : Trail) (ls : List ℕ) (a : ℕ) → ls ≡ a ∷ [] → Contains t.literals (opposite_of a) → (x : ℕ) → Contains ls x
-    → Contains t.literals (opposite_of x)
-refuted-all t ls a e c x h = subst (λ (y : ℕ). Contains t.literals (opposite_of y)) (sym (only ls a x e h)) c
 
 pub one_apart : (ls : List ℕ) (a b v : ℕ) → MayBeLoaded v ls → AreWatched ls a b → 1 < length ls → a ≢ b
 one_apart ls a b v m w h e = m.apart h (sym w.first ∙ e ∙ w.more (omega arith))

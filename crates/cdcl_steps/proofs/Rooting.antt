@@ -1,33 +1,9 @@
 -- What was true before the first level began stays true, and so do the clauses of one literal.
-use Rattle.std.proofs.Common.{
-  ◌≡◌,
-  ◌≢◌,
-  ℕ,
-  ◌<◌,
-  ◌≤◌,
-  Option,
-  Some,
-  true,
-  List,
-  [],
-  ◌∷◌,
-  ◌++◌,
-  length,
-  take,
-  get_or,
-  inl,
-  inr,
-  sym,
-  ◌∙◌,
-  ap,
-  subst,
-  arith,
-  get_or-take,
-}
+use Rattle.std.proofs.Common.{◌≡◌, ℕ, ◌<◌, ◌≤◌, Option, true, List, [], ◌∷◌, ◌++◌, length, take, get_or, inl, inr, sym, ◌∙◌, ap, subst, arith, get_or-take}
 use Rattle.std.specs.Prelude.{Contains}
-use Rattle.std.proofs.lemmas.Bool.{cases_lt, cases_eq}
+use Rattle.std.proofs.lemmas.Bool.{cases_eq}
 use Rattle.std.proofs.lemmas.List.{get_or_default, length_push, length-take, length-take-le, take-append-le, take_all}
-use Rattle.std.proofs.lemmas.List.Elements.{Contains-push, Contains-push_cases}
+use Rattle.std.proofs.lemmas.List.Elements.{Contains-push}
 use Rattle.cdcl_trail.specs.Trail.{Trail, IsTrail, pushed, decided, cut_to}
 use Rattle.cdcl_clauses.specs.Clauses.{Clause, at, kept_clause}
 use Rattle.cdcl_clauses.specs.Invariants.{IsClause, AreConsistent, AreSame, AreRooted, Extends, root_of}

@@ -1,5 +1,5 @@
 -- One more clause.
-use Rattle.std.specs.Prelude.{◌≡◌, ◌≢◌, ℕ, ◌*◌, ◌<◌, true, List, [], ◌∷◌, ◌++◌, length, take, slice_index, slice_set, Contains, All}
+use Rattle.std.specs.Prelude.{◌≡◌, ◌≢◌, ℕ, ◌*◌, ◌<◌, List, [], ◌∷◌, ◌++◌, length, take, slice_index, slice_set, Contains, All}
 use Rattle.cdcl_trail.specs.Literals.{opposite_of}
 use Rattle.cdcl_trail.specs.Trail.{Trail, IsOpen}
 use Rattle.cdcl_clauses.specs.Clauses.{Clause, kept_clause, listed}

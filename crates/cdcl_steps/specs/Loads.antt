@@ -1,5 +1,5 @@
 -- The clauses that a search begins with.
-use Rattle.std.specs.Prelude.{◌≡◌, ◌≢◌, ℕ, ◌+◌, ◌*◌, ◌<◌, true, List, [], ◌∷◌, ◌++◌, length, slice_index, Contains, All}
+use Rattle.std.specs.Prelude.{◌≡◌, ◌≢◌, ℕ, ◌*◌, ◌<◌, List, [], ◌∷◌, ◌++◌, length, slice_index, Contains, All}
 use Rattle.cdcl_trail.specs.Literals.{opposite_of}
 use Rattle.cdcl_trail.specs.Trail.{Trail}
 use Rattle.cdcl_clauses.specs.Clauses.{Clause, kept_clause}

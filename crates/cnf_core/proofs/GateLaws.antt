@@ -244,19 +244,25 @@ good-three n a b c p q s r =
 
 pub are_clauses-are_equal : (n : ℕ) (a out : ℤ) → 0 < var_of a → var_of a < var_of out → var_of out ≤ n → are_clauses n (are_equal a out) ≡ true
 are_clauses-are_equal n a out p q r =
-    and_from _ _ (good-two n (neg_ℤ a) out (omega (arith, var_of-neg a)) (omega (arith, var_of-neg a)) r) (and_from _ true (good-two n a (neg_ℤ out) p (omega (arith, var_of-neg out)) (omega (arith, var_of-neg out))) refl)
+    and_from _ _ (good-two n (neg_ℤ a) out (omega (arith, var_of-neg a)) (omega (arith, var_of-neg a)) r)
+    (and_from _ true (good-two n a (neg_ℤ out) p (omega (arith, var_of-neg out)) (omega (arith, var_of-neg out))) refl)
 
 pub are_clauses-is_both : (n : ℕ) (a b out : ℤ) → 0 < var_of a → var_of a < var_of b → var_of b < var_of out → var_of out ≤ n
     → are_clauses n (is_both a b out) ≡ true
 are_clauses-is_both n a b out p q s r =
     and_from _ _ (good-three n (neg_ℤ a) (neg_ℤ b) out (omega (arith, var_of-neg a)) (omega (arith, var_of-neg a, var_of-neg b))
-    (omega (arith, var_of-neg b)) r) (and_from _ _ (good-two n a (neg_ℤ out) p (omega (arith, var_of-neg out)) (omega (arith, var_of-neg out))) (and_from _ true (good-two n b (neg_ℤ out) (omega arith) (omega (arith, var_of-neg out)) (omega (arith, var_of-neg out))) refl))
+    (omega (arith, var_of-neg b)) r)
+    (and_from _ _ (good-two n a (neg_ℤ out) p (omega (arith, var_of-neg out)) (omega (arith, var_of-neg out)))
+    (and_from _ true (good-two n b (neg_ℤ out) (omega arith) (omega (arith, var_of-neg out)) (omega (arith, var_of-neg out))) refl))
 
 pub are_clauses-is_one : (n : ℕ) (a b out : ℤ) → 0 < var_of a → var_of a < var_of b → var_of b < var_of out → var_of out ≤ n
     → are_clauses n (is_one a b out) ≡ true
 are_clauses-is_one n a b out p q s r =
     and_from _ _ (good-three n (neg_ℤ a) (neg_ℤ b) (neg_ℤ out) (omega (arith, var_of-neg a)) (omega (arith, var_of-neg a, var_of-neg b))
-    (omega (arith, var_of-neg b, var_of-neg out)) (omega (arith, var_of-neg out))) (and_from _ _ (good-three n a b (neg_ℤ out) p q (omega (arith, var_of-neg out)) (omega (arith, var_of-neg out))) (and_from _ _ (good-three n a (neg_ℤ b) out p (omega (arith, var_of-neg b)) (omega (arith, var_of-neg b)) r) (and_from _ true (good-three n (neg_ℤ a) b out (omega (arith, var_of-neg a)) (omega (arith, var_of-neg a)) s r) refl)))
+    (omega (arith, var_of-neg b, var_of-neg out)) (omega (arith, var_of-neg out)))
+    (and_from _ _ (good-three n a b (neg_ℤ out) p q (omega (arith, var_of-neg out)) (omega (arith, var_of-neg out)))
+    (and_from _ _ (good-three n a (neg_ℤ b) out p (omega (arith, var_of-neg b)) (omega (arith, var_of-neg b)) r)
+    (and_from _ true (good-three n (neg_ℤ a) b out (omega (arith, var_of-neg a)) (omega (arith, var_of-neg a)) s r) refl)))
 
 pub are_clauses-and : (n : ℕ) (a b out : ℤ) → 0 < var_of a → 0 < var_of b → var_of a < var_of out → var_of b < var_of out → var_of out ≤ n
     → are_clauses n (and_clauses a b out) ≡ true

@@ -1,5 +1,6 @@
 -- What a checker's states keep.
-use Rattle.std.proofs.Common.{◌≡◌, ◌≢◌, ℕ, suc, zero, ◌+◌, List, [], ◌∷◌, ◌++◌, ℤ, refl, ap, sym, ◌∙◌, subst, arith, Bool, true, false, cond, Option, Some, None, length, take, drop, add-one, Err}
+use Rattle.std.proofs.Common.{◌≡◌, ◌≢◌, ℕ, suc, zero, ◌+◌, List, [], ◌∷◌, ◌++◌, ℤ, refl, ap, sym, ◌∙◌, subst, arith}
+use Rattle.std.proofs.Common.{Bool, true, false, cond, Option, Some, None, length, take, drop, add-one, Err}
 use Rattle.std.specs.Prelude.{is_some, IfSome, IsTrue, slice_get, if◌then◌else◌}
 use Rattle.std.specs.List.{fold}
 use Rattle.std.specs.Option.{option_map_or}
@@ -9,7 +10,9 @@ use Rattle.std.specs.FinMap.{get, insert, remove, empty, get-insert, get-remove,
 use Rattle.cnf_core.specs.Clauses.{is_within}
 use Rattle.refute_check.specs.Kept.{KeptClauses}
 use Rattle.refute_check.specs.Left.{by_left, what_is_left}
-use Rattle.refute_check.specs.Refutations.{AreWithin, Checking, keep, without, hints_fault, clause_fault, after, judged, refused, passed_clause, line_fault, verdict, verdict_of}
+use Rattle.refute_check.specs.helpers.Checkers.{AreWithin}
+use Rattle.refute_check.specs.Refutations.{Checking, keep, without, hints_fault, clause_fault, after, judged, refused, passed_clause}
+use Rattle.refute_check.specs.Refutations.{line_fault, verdict, verdict_of}
 use Rattle.tc_base.specs.Buffers.{is_nil}
 use Rattle.refute_check.specs.declared.line.Line.TheVariants.{Add, Delete}
 use Rattle.refute_check.specs.declared.line.Line.{Line}

@@ -32,7 +32,8 @@ use Rattle.std.specs.Bool.{MatchBool}
 use borrow.Author.Tests.{ne_eqb}
 use Rattle.std.specs.List.{position_or_len}
 use Rattle.std.specs.Io.BufRead.{take_through}
-use Rattle.refute_check.specs.Reading.{Reading, Reads, IsTakenAs, after_taken, CutsAgree, pushed, lines_of}
+use Rattle.refute_check.specs.Reading.{Reading, Reads, IsTakenAs, after_taken, CutsAgree, lines_of}
+use Rattle.refute_check.specs.helpers.Pieces.{pushed}
 use Rattle.refute_check.specs.declared.text.Taken.{Taken}
 use Rattle.refute_check.specs.declared.text.Taken.TheVariants.{More, Header, Line as Body, Form}
 

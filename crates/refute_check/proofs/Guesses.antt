@@ -120,7 +120,8 @@ literals : (low : ℕ) (c : List ℤ) → rises_above low c ≡ true → list_al
 literals low [] r b = refl
 literals low (l ∷ c) r b =
     let here : low < var_of l = ltb-true low (var_of l) (and_parts (nat_lt low (var_of l)) _ r).0 in
-    and_from _ _ (and_from _ _ (lt-ltb 0 (var_of l) (omega arith)) (and_parts (nat_lt (var_of l) 2147483648) _ b).0) (literals (var_of l) c (and_parts (nat_lt low (var_of l)) _ r).1 (and_parts (nat_lt (var_of l) 2147483648) _ b).1)
+    and_from _ _ (and_from _ _ (lt-ltb 0 (var_of l) (omega arith)) (and_parts (nat_lt (var_of l) 2147483648) _ b).0)
+    (literals (var_of l) c (and_parts (nat_lt low (var_of l)) _ r).1 (and_parts (nat_lt (var_of l) 2147483648) _ b).1)
 
 literals-front : (c rest : List ℤ) → list_all is_literal c ≡ true → literals_in (c ++ pos 0 ∷ rest) ≡ c
 literals-front [] rest h = refl
@@ -146,7 +147,8 @@ small-literals : (c : List ℤ) → list_all (λ l. nat_lt (var_of l) 2147483648
 small-literals [] h = refl
 small-literals (l ∷ c) h =
     and_from _ _ (lt-ltb (var_of l) 4294967296 (let b : var_of l < 2147483648 =
-    ltb-true (var_of l) 2147483648 (and_parts (nat_lt (var_of l) 2147483648) _ h).0 in omega arith)) (small-literals c (and_parts (nat_lt (var_of l) 2147483648) _ h).1)
+    ltb-true (var_of l) 2147483648 (and_parts (nat_lt (var_of l) 2147483648) _ h).0 in omega arith))
+    (small-literals c (and_parts (nat_lt (var_of l) 2147483648) _ h).1)
 
 small-numbers : (ns : List ℕ) → list_all is_numbered ns ≡ true → list_all is_small (map pos ns) ≡ true
 small-numbers [] h = refl

@@ -37,20 +37,9 @@ use Rattle.std.proofs.lemmas.List.{take-append-drop}
 use Rattle.std.proofs.Math.Seq.{take-add}
 use borrow.Author.Tests.{ne_eqb}
 use Rattle.refute_check.specs.Texts.{is_readable, refutation_text}
-use Rattle.refute_check.specs.Reading.{
-  Reading,
-  Reads,
-  ReadsTo,
-  ReadsMore,
-  IsTakenAs,
-  after_taken,
-  pushed,
-  beginning,
-  first_breach,
-  lines_of,
-  fault_of,
-  bodies,
-}
+use Rattle.refute_check.specs.Reading.{Reading, Reads, ReadsTo, IsTakenAs, after_taken, beginning, first_breach, lines_of, fault_of, bodies}
+use Rattle.refute_check.specs.helpers.Pieces.{ReadsMore}
+use Rattle.refute_check.specs.helpers.Pieces.{pushed}
 use Rattle.refute_check.specs.Refutations.{is_line}
 use Rattle.tc_base.specs.Buffers.{is_nil}
 use Rattle.refute_check.specs.declared.line.TheConstants.{LINES}

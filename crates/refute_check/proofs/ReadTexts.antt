@@ -32,7 +32,8 @@ use Rattle.std.specs.List.{list_all, flat_map}
 use Rattle.std.specs.Option.{option_map_or}
 use borrow.Author.Tests.{eqb-true}
 use Rattle.refute_check.specs.Texts.{head_text, line_text, is_readable, ended, refutation_text}
-use Rattle.refute_check.specs.Reading.{Reading, Reads, IsTakenAs, after_taken, pushed, beginning}
+use Rattle.refute_check.specs.Reading.{Reading, Reads, IsTakenAs, after_taken, beginning}
+use Rattle.refute_check.specs.helpers.Pieces.{pushed}
 use Rattle.tc_base.specs.Buffers.{is_nil}
 use Rattle.refute_check.specs.declared.line.TheConstants.{LINES}
 use Rattle.refute_check.specs.Laws.{whole_lines, IsWhole, ReadIsText}

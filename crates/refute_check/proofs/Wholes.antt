@@ -51,7 +51,8 @@ use Rattle.refute_check.specs.Texts.{
   ended,
   refutation_text,
 }
-use Rattle.refute_check.specs.Reading.{Reading, Reads, IsTakenAs, after_taken, pushed, beginning}
+use Rattle.refute_check.specs.Reading.{Reading, Reads, IsTakenAs, after_taken, beginning}
+use Rattle.refute_check.specs.helpers.Pieces.{pushed}
 use Rattle.refute_check.specs.declared.line.TheConstants.{LINES}
 use Rattle.refute_check.specs.helpers.Guess.{head_guess, line_guess}
 use Rattle.refute_check.specs.Laws.{whole_lines, ReadsAgree, TextIsRead, TextHasOneValue}

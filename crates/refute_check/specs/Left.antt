@@ -19,9 +19,3 @@ abbrev pub by_left : {A : Type 0} → Left → A → (ℤ → A) → A → A
 by_left Nothing nothing one more = nothing
 by_left (One l) nothing one more = one l
 by_left More nothing one more = more
-
--- the literals that were counted, where they aren't more than one
-abbrev pub those : Left → List ℤ
-those Nothing = []
-those (One l) = l ∷ []
-those More = []

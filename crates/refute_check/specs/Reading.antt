@@ -58,10 +58,6 @@ abbrev pub fault_of : Taken → Option ℕ
 fault_of (Form k) = Some k
 fault_of t = None
 
--- more bytes of a line
-abbrev pub pushed : Reading → List ℕ → Reading
-pushed s bytes = record s { unfinished = s.unfinished ++ bytes }
-
 -- the first line that breaks the form, where no more bytes come: a text has a first line, and each line ends
 abbrev pub first_breach : Reading → Option ℕ
 first_breach s = option_map_or (λ k. Some k) s.fault (if s.line == 1 || not (is_nil s.unfinished) then Some s.line else None)
@@ -73,7 +69,3 @@ bodies ls = map (λ l. Body l) ls
 -- the lines that end in some bytes, and the first line that breaks the form where no more bytes come
 abbrev pub ReadsTo : Reading → List ℕ → List Taken → Option ℕ → Type 0
 ReadsTo s bytes ts o = (t : Reading) × Reads s bytes ts t × (first_breach t ≡ o)
-
--- the lines that end in some bytes come after those of a derivation, and nothing in the bytes breaks the form
-abbrev pub ReadsMore : Reading → List ℕ → List Line → List Line → Reading → Type 0
-ReadsMore s bytes ls ms t = (ts : List Taken) × Reads s bytes ts t × (bodies ms ≡ bodies ls ++ ts) × (t.fault ≡ None)

@@ -1,34 +1,5 @@
 -- Derivations, and what a checker makes of them line by line.
-use Rattle.std.specs.Prelude.{
-  ◌≡◌,
-  ℕ,
-  ◌+◌,
-  ◌≤◌,
-  Bool,
-  true,
-  false,
-  not,
-  ◌&&◌,
-  ◌||◌,
-  if◌then◌else◌,
-  List,
-  [],
-  ◌∷◌,
-  ◌++◌,
-  map,
-  length,
-  ℤ,
-  neg_ℤ,
-  Option,
-  Some,
-  None,
-  is_some,
-  IfSome,
-  Result,
-  Ok,
-  Err,
-  IsTrue,
-}
+use Rattle.std.specs.Prelude.{◌≡◌, ℕ, ◌+◌, ◌≤◌, Bool, true, false, not, ◌&&◌, ◌||◌, if◌then◌else◌, List, [], ◌∷◌, ◌++◌, map, length, ℤ, neg_ℤ, Option, Some, None, is_some, Result, Ok, Err, IsTrue}
 use Rattle.std.specs.List.{list_all, fold}
 use Rattle.std.specs.Option.{option_map_or}
 use Rattle.std.specs.FinMap.{empty, get, insert, remove}
@@ -144,7 +115,3 @@ IsClosed f lines = check f lines ≡ Ok Closed
 
 abbrev pub IsOpen : Formula → List Line → Type 0
 IsOpen f lines = check f lines ≡ Ok Open
-
--- each clause that is kept is over the first `vars` variables
-abbrev pub AreWithin : ℕ → KeptClauses → Type 0
-AreWithin vars kept = (n : ℕ) → IfSome (get kept n) (λ c. IsTrue (is_within vars c))

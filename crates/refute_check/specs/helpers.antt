@@ -3,3 +3,4 @@ pub mod Blocks
 pub mod Checkers
 pub mod Given
 pub mod Guess
+pub mod Pieces

@@ -42,7 +42,8 @@ impl Model for Checker {
 }
 
 impl Checker {
-    ghost use Rattle.refute_check.specs.Refutations.{AreWithin, start, keep, after, verdict, clause_fault, passed_clause, refused};
+    ghost use Rattle.refute_check.specs.Refutations.{start, keep, after, verdict, clause_fault, passed_clause, refused};
+    ghost use Rattle.refute_check.specs.helpers.Checkers.{AreWithin};
     ghost use Rattle.refute_check.specs.declared.line.TheConstants.{LINES};
 
     /// A checker over a formula's clauses, before any line.

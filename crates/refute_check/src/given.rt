@@ -50,7 +50,8 @@ pub enum Left {
 }
 
 impl Given {
-    ghost use Rattle.refute_check.specs.Left.{what_is_left, those};
+    ghost use Rattle.refute_check.specs.Left.{what_is_left};
+    ghost use Rattle.refute_check.specs.helpers.Given.{those};
 
     /// No literals.
     pub fn new(alloc: Global, vars: u32) -> Result<Given, AllocError>

@@ -1,6 +1,7 @@
 //! The numbers in a line.
 ghost use Rattle.std.specs.Prelude.{◌≡◌, ◌<◌, IfOk, IsTrue, drop};
-ghost use Rattle.refute_check.specs.helpers.Guess.{guessed, number_of, literal_of, clause_number_of, literals_in, clause_numbers_in, add_of, delete_of, line_guess};
+ghost use Rattle.refute_check.specs.helpers.Guess.{guessed, number_of, literal_of, clause_number_of, literals_in, clause_numbers_in};
+ghost use Rattle.refute_check.specs.helpers.Guess.{add_of, delete_of, line_guess};
 ghost use Rattle.refute_check.specs.Numbers.{are_numbers};
 
 use crate::{Line, Numbers};

@@ -1,6 +1,7 @@
 //! What the hints of a line show, and which clauses a line takes out.
 ghost use Rattle.std.specs.Prelude.{◌≡◌, IfOk, IsTrue, if◌then◌else◌, map, neg_ℤ, [], None, Some};
-ghost use Rattle.refute_check.specs.Refutations.{AreWithin, hints_fault, can_delete, without};
+ghost use Rattle.refute_check.specs.Refutations.{hints_fault, can_delete, without};
+ghost use Rattle.refute_check.specs.helpers.Checkers.{AreWithin};
 ghost use Rattle.cnf_core.specs.Clauses.{is_within};
 
 use crate::{CheckFault, Given, Kept, Left};

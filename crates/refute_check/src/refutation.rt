@@ -2,7 +2,8 @@
 ghost use Rattle.std.specs.Prelude.{◌≡◌, ◌+◌, ◌<◌, ◌≤◌, None, IfOk, IfErr, length, take};
 ghost use Rattle.refute_check.specs.Texts.{refutation_text};
 ghost use Rattle.refute_check.specs.Laws.{IsWhole};
-ghost use Rattle.refute_check.specs.Reading.{ReadsMore, ReadsTo, bodies};
+ghost use Rattle.refute_check.specs.Reading.{ReadsTo, bodies};
+ghost use Rattle.refute_check.specs.helpers.Pieces.{ReadsMore};
 ghost use Rattle.refute_check.specs.Broken.{IsFault, IsFaultFrom};
 
 use crate::{Derivation, Head, RefutationFault, RefutationText, Taken};

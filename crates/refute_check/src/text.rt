@@ -72,7 +72,8 @@ pub fn cuts_agree()
 {}
 
 impl RefutationText {
-    ghost use Rattle.refute_check.specs.Reading.{beginning, Reads, lines_of, after_taken, pushed, first_breach, fault_of};
+    ghost use Rattle.refute_check.specs.Reading.{beginning, Reads, lines_of, after_taken, first_breach, fault_of};
+    ghost use Rattle.refute_check.specs.helpers.Pieces.{pushed};
 
     /// A text of which no byte was taken.
     pub fn new(alloc: Global) -> RefutationText

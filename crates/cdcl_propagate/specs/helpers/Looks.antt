@@ -3,7 +3,7 @@ use Rattle.std.specs.Prelude.{◌≡◌, ◌≢◌, ℕ, ◌<◌, true, false, L
 use Rattle.cdcl_trail.specs.Literals.{opposite_of}
 use Rattle.cdcl_trail.specs.Trail.{Trail, IsOpen}
 use Rattle.cdcl_clauses.specs.Clauses.{Clause, at, watches, beside, listed}
-use Rattle.cdcl_clauses.specs.Invariants.{AreConsistent, AreSame, Extends, HasTrue}
+use Rattle.cdcl_clauses.specs.Invariants.{HasTrue}
 use Rattle.cdcl_clauses.specs.declared.watches.Watch.{Watch}
 use Rattle.cdcl_propagate.specs.declared.inspect.Look.{Look}
 use Rattle.cdcl_propagate.specs.declared.inspect.Look.TheVariants.{Satisfied, Gone, Moves, Forces, Conflict}

@@ -1,8 +1,10 @@
 -- The literals that a line's check takes as true, as the checker's memory holds them.
-use Rattle.std.specs.Prelude.{◌≡◌, ℕ, suc, ◌+◌, ◌*◌, ◌<◌, ◌≤◌, false, IsTrue, List, ℤ, pos, negsuc, slice_index_or, length}
+use Rattle.std.specs.Prelude.{◌≡◌, ℕ, suc, ◌+◌, ◌*◌, ◌<◌, ◌≤◌, false, IsTrue, List, [], ◌∷◌, ℤ, pos, negsuc, slice_index_or, length}
 use Rattle.cnf_core.specs.Clauses.{var_of, is_within}
 use Rattle.refute_check.specs.Literals.{is_among}
 use Rattle.refute_check.specs.declared.given.Given.TheInside.{Inside}
+use Rattle.refute_check.specs.declared.given.Left.{Left}
+use Rattle.refute_check.specs.declared.given.Left.TheVariants.{Nothing, One, More}
 
 -- some literals over the first `vars` variables
 pub record Assumed : Type 0 where
@@ -22,3 +24,9 @@ pub record AreMarked (g : Inside) : Type 0 where
   pub room : length g.marks.items ≡ 2 * g.vars + 2
   pub marked : (l : ℤ) → 0 < var_of l → var_of l ≤ g.vars → slice_index_or g.marks.items (place_of l) false ≡ is_among g.literals.items l
   pub within : IsTrue (is_within g.vars g.literals.items)
+
+-- the literals that were counted, where they aren't more than one
+abbrev pub those : Left → List ℤ
+those Nothing = []
+those (One l) = l ∷ []
+those More = []

@@ -1,4 +1,4 @@
-use Rattle.std.proofs.Common.{◌≡◌, ◌∙◌, ◌++◌, ◌∷◌, [], ℕ, List, length, Some, ap, arith}
+use Rattle.std.proofs.Common.{◌≡◌, ◌∙◌, ℕ, List, length, Some, ap, arith}
 use Rattle.cdcl_trail.specs.Trail.{Trail, IsTrail, pushed}
 use Rattle.cdcl_clauses.specs.Clauses.{Clause}
 use Rattle.cdcl_steps.proofs.Loads.{

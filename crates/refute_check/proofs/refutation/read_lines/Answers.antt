@@ -1,7 +1,8 @@
 use Rattle.std.proofs.Common.{◌≡◌, ◌≤◌, subst, arith, take, drop, length, length-drop, Err}
 use Rattle.std.proofs.lemmas.Grind.{common_steps}
 use Rattle.std.proofs.lemmas.List.{take_rest}
-use Rattle.refute_check.specs.Reading.{bodies, ReadsMore}
+use Rattle.refute_check.specs.Reading.{bodies}
+use Rattle.refute_check.specs.helpers.Pieces.{ReadsMore}
 use Rattle.refute_check.specs.Broken.{IsFaultFrom}
 use Rattle.refute_check.proofs.Pieces.{place-of, fault-on, read-on}
 use Rattle.refute_check.proofs.refutation.read_lines.Goals as goal

@@ -1,5 +1,6 @@
 use Rattle.std.proofs.Common.{sym, subst, ap, arith}
-use Rattle.refute_check.specs.Refutations.{AreWithin, Checking}
+use Rattle.refute_check.specs.Refutations.{Checking}
+use Rattle.refute_check.specs.helpers.Checkers.{AreWithin}
 use Rattle.refute_check.proofs.Checkings.{AreWithin-empty, AreWithin-without}
 use Rattle.refute_check.proofs.checker.Checker.delete.Goals as goal
 

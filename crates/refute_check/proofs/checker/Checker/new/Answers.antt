@@ -2,7 +2,8 @@ use Rattle.std.proofs.lemmas.List.{length-take-le}
 use Rattle.std.proofs.Common.{sym, subst, ap, arith, ◌∙◌, ◌≡◌, take, IsTrue}
 use Rattle.std.specs.List.{fold}
 use Rattle.cnf_core.specs.Clauses.{is_within}
-use Rattle.refute_check.specs.Refutations.{AreWithin, Checking, keep, opening}
+use Rattle.refute_check.specs.Refutations.{Checking, keep, opening}
+use Rattle.refute_check.specs.helpers.Checkers.{AreWithin}
 use Rattle.refute_check.proofs.Checkings.{AreWithin-empty, keep-vars, keep-next, fold-keep-more}
 use Rattle.refute_check.proofs.checker.Checker.new.Goals as goal
 

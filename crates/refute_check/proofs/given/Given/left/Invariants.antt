@@ -1,7 +1,7 @@
 use Rattle.std.proofs.Common.{◌≡◌, ◌++◌, drop, ◌≢◌, true}
 use Rattle.cnf_core.specs.Clauses.{is_within}
 use Rattle.refute_check.specs.Literals.{left}
-use Rattle.refute_check.specs.Left.{those}
+use Rattle.refute_check.specs.helpers.Given.{those}
 use Rattle.refute_check.specs.declared.given.Left.TheVariants.{More}
 use Rattle.refute_check.proofs.given.Given.left.Given as goal
 

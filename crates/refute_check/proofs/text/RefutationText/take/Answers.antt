@@ -1,5 +1,6 @@
 use Rattle.std.proofs.Common.{◌≡◌, ◌<◌, ◌++◌, ◌∙◌, ap, sym, subst, arith, length, take, None}
-use Rattle.refute_check.specs.Reading.{Reading, pushed, IsTakenAs, after_taken}
+use Rattle.refute_check.specs.Reading.{Reading, IsTakenAs, after_taken}
+use Rattle.refute_check.specs.helpers.Pieces.{pushed}
 use Rattle.refute_check.proofs.Cuts.{take-more, take-line, through-all, through-line}
 use Rattle.refute_check.proofs.text.RefutationText.take.Goals as goal
 
@@ -21,7 +22,8 @@ returns-clause-reads c =
     take-line c.args.bytes.now c.args.self.now c.end_line.new.self c.line_end-end.result c.in_ok-taken.taken fault c.line_end-end.ensures.place inside t s
 
 pub returns-then-end-bytes-clause-through : goal.returns-then-end-bytes-clause-through
-returns-then-end-bytes-clause-through c = λ _. through-all c.args.bytes.now c.line_end-end.result c.line_end-end.ensures.place (omega (arith, c.if-end-bytes.true))
+returns-then-end-bytes-clause-through c = λ _. through-all c.args.bytes.now c.line_end-end.result c.line_end-end.ensures.place
+    (omega (arith, c.if-end-bytes.true))
 
 pub returns-clause-through : goal.returns-clause-through
 returns-clause-through c = λ _. through-line c.args.bytes.now c.line_end-end.result c.line_end-end.ensures.place
