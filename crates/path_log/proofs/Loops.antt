@@ -112,7 +112,8 @@ module _ {X : Type 0} (front : List X) (first : Read X) (later : X → Fields (L
       (fails_through fault _ (λ others. done (front ++ others)) (fails_through fault first (and_others later) h))
 
 -- nothing is left to read
-all_read : {X : Type 0} (front : List X) (place : Place) (all total : Read (List X)) → all ≡ Ok ([], place) → with_front front all ≡ total → total ≡ Ok (front, place)
+all_read : {X : Type 0} (front : List X) (place : Place) (all total : Read (List X)) → all ≡ Ok ([], place) → with_front front all ≡ total
+    → total ≡ Ok (front, place)
 all_read {X} front place all total none so_far =
     sym so_far ∙ (ap (with_front front) none ∙ ap (λ (xs : List X). whole_read (xs, place)) (append-nil front))
 

@@ -169,7 +169,8 @@ children_take (suc n) place x h e =
       and_from (is_within 1 255 a.0.0) (list_all (is_within 1 255) b.0.0) passes.1 others.2,
     )
 
-children_again : (ks : Name) (rest : List ℕ) (offset : ℕ) → list_all (is_within 1 255) ks ≡ true → ReadsAs (times child (length ks) (offset, ks ++ rest)) ks rest
+children_again : (ks : Name) (rest : List ℕ) (offset : ℕ) → list_all (is_within 1 255) ks ≡ true
+    → ReadsAs (times child (length ks) (offset, ks ++ rest)) ks rest
 children_again [] rest offset h = record { end = offset; read_is = refl }
 children_again (k ∷ ks) rest offset h =
     let parts = and_parts (is_within 1 255 k) (list_all (is_within 1 255) ks) h in

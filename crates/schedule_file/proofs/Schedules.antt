@@ -235,7 +235,9 @@ pub some_fault : (text : List ℕ) → ((model : Model) (moves : List Move) → 
 some_fault text no_schedule =
     elim (some_or_none (header_at text)) [
       | inl e ↦ (1, inl (no_schedule_begins text (sym e), refl))
-      | inr x ↦ fault_behind text x.0.1 x.0.0 (most_lines - 1) refl (header_takes text x.0.0 x.0.1 x.1) (moves_of (most_lines - 1) x.0.0 x.0.1) (no_schedule x.0.0)
+      | inr x ↦
+          let room = most_lines - 1 in
+          fault_behind text x.0.1 x.0.0 room refl (header_takes text x.0.0 x.0.1 x.1) (moves_of room x.0.0 x.0.1) (no_schedule x.0.0)
     ]
 
 -- The reader's loop.

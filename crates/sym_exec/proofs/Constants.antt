@@ -1,5 +1,6 @@
 -- The numbers in the terms of lawful code's paths are ints.
-use Rattle.std.proofs.Common.{◌≡◌, ◌≤◌, ℕ, zero, suc, ◌^◌, ℤ, pos, List, [], ◌∷◌, ◌++◌, fold, length, ◌+◌, ◌-◌, Bool, true, false, cond, Option, Some, None, refl, subst, sym, arith}
+use Rattle.std.proofs.Common.{◌≡◌, ◌≤◌, ℕ, zero, suc, ◌^◌, ℤ, pos, List, [], ◌∷◌, ◌++◌, fold, length, ◌+◌, ◌-◌, Bool, true, false, cond, Option, Some, None}
+use Rattle.std.proofs.Common.{refl, subst, sym, arith}
 use Rattle.std.specs.Prelude.{nat_lt, unwrap_or, ◌-ℤ◌}
 use Rattle.std.specs.List.{All, list_any}
 use Rattle.std.specs.Option.{option_map_or}

@@ -19,10 +19,12 @@ use Rattle.tc_base.proofs.Ints.{by_sameness, there_int}
 use Rattle.tc_code.specs.Code.{Code, instr_at, line_at}
 use Rattle.tc_code.specs.Expr.{Expr, names_slots, value_of as expr_value_of}
 use Rattle.tc_code.specs.declared.instr.Instr.{Instr}
-use Rattle.tc_code.specs.declared.instr.Instr.TheVariants.{Set, Load, LoadAt, Store, StoreAt, Inside, Branch, Holds, Ready, Create, Assert, Nonzero, InRange, Swap, Cas}
+use Rattle.tc_code.specs.declared.instr.Instr.TheVariants.{Set, Load, LoadAt, Store, StoreAt, Inside, Branch, Holds, Ready, Create, Assert, Nonzero, InRange}
+use Rattle.tc_code.specs.declared.instr.Instr.TheVariants.{Swap, Cas}
 use Rattle.tc_code.proofs.Facts.{placed}
 use Rattle.tc_code.specs.Lawful.{IsLawful}
-use Rattle.tc_code.specs.Step.{ints_of, instr_of, value_in, is_within, is_nonzero, cell_at, site, request, replaced, local_after, holds, can_be_joined, handle_of}
+use Rattle.tc_code.specs.Step.{ints_of, instr_of, value_in, is_within, is_nonzero, cell_at, site, request, replaced, local_after, holds, can_be_joined}
+use Rattle.tc_code.specs.Step.{handle_of}
 use Rattle.run_laws.specs.Alone.{Alone, after_request, goes_on}
 use Rattle.run_laws.specs.Ints.{AsksInts}
 use Rattle.run_laws.proofs.After.{branch_is}
@@ -312,7 +314,8 @@ told loads line wanted d (InRange i) t v are s named short is load =
           (truth_nonzero (is_distance n) ∙ ap (λ xs. is_distance (expr_value_of i xs)) (sym is));
     }
 told loads line wanted d (Branch e to) t v are s named short is load =
-    expr_told loads line wanted d (Branch e to) t v e (d.branches + 1) are s named is (ap (λ (u : Local). u.slots) (branch_is t (is_nonzero (value_in t e)) to)) refl
+    expr_told loads line wanted d (Branch e to) t v e (d.branches + 1) are s named is
+    (ap (λ (u : Local). u.slots) (branch_is t (is_nonzero (value_in t e)) to)) refl
 told loads line wanted d (Assert e) t v are s named short is load = expr_told loads line wanted d (Assert e) t v e d.branches are s named is refl refl
 told loads line wanted d (Nonzero e) t v are s named short is load = expr_told loads line wanted d (Nonzero e) t v e d.branches are s named is refl refl
 told loads line wanted d (Create h f es) t v are s named short is load =

@@ -70,8 +70,8 @@ module _ {B : Type 0} (ops : BufferOps B) (code : Code) (log : Log) (nodes : Lis
           (values_at j p c t there ct (ap (λ (w : Walk). fin.get s.threads w.name) same ∙ tt))
 
 -- so it is after each run on the paths
-pub valued : {B : Type 0} (ops : BufferOps B) (code : Code) (log : Log) (nodes : List Node) (loads : List ℤ) → PassesInts ops → IsLawful code → is_log log ≡ true
-    → Fits code log → AreTerms nodes → (moves : List Move) (s : State B) → run ops code moves ≡ Some s → AreOnPaths log s
+pub valued : {B : Type 0} (ops : BufferOps B) (code : Code) (log : Log) (nodes : List Node) (loads : List ℤ) → PassesInts ops → IsLawful code
+    → is_log log ≡ true → Fits code log → AreTerms nodes → (moves : List Move) (s : State B) → run ops code moves ≡ Some s → AreOnPaths log s
     → AgreesWith (found code log nodes).symbolic loads (history ops code moves) → HaveValues code log nodes loads (history ops code moves) s
 valued ops code log nodes loads ints lawful is fits terms moves s leads on agrees =
     have_values ops code log nodes loads lawful is terms s (history ops code moves)

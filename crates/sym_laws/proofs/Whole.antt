@@ -43,8 +43,8 @@ own_under log is j p at =
     ap (rises_from None) (sym split) ∙ (and_parts (rises_from None log.threads) (nat_lt log.failing (length log.threads)) is).0 in
     ap (path_under p.name) split ∙ own_path p (drop (suc j) log.threads) None (take j log.threads) rises
 
-module _ {B : Type 0} (ops : BufferOps B) (code : Code) (log : Log) (nodes : List Node) (loads : List ℤ) (ints : PassesInts ops) (lawful : IsLawful code) (is : is_log log ≡ true)
-    (terms : AreTerms nodes) (moves : List Move) (r : Reproduces ops code log moves)
+module _ {B : Type 0} (ops : BufferOps B) (code : Code) (log : Log) (nodes : List Node) (loads : List ℤ) (ints : PassesInts ops)
+    (lawful : IsLawful code) (is : is_log log ≡ true) (terms : AreTerms nodes) (moves : List Move) (r : Reproduces ops code log moves)
     (agrees : AgreesWith (found code log nodes).symbolic loads (history ops code moves)) where
   abbrev s : State B
   s = r.state

@@ -16,6 +16,7 @@ loop-walk-preserved c =
       all = ap (λ y. fold (with_thread code paths) y (drop (c.loop-walk.walk-index + 1) paths.threads)) c.in_ok-add_thread.ensures.added
           ∙ ap (fold (with_thread code paths) x) (sym (drop_next paths.threads c.loop-walk.walk-index w (grind arith) (grind arith)))
           ∙ c.loop-walk.invariant.all;
-      sound = subst HaveTerms (sym c.in_ok-add_thread.ensures.added) (thread_sound code paths x w c.in_ok-add_thread.ensures.lawful c.loop-walk.invariant.sound);
+      sound = subst HaveTerms (sym c.in_ok-add_thread.ensures.added)
+          (thread_sound code paths x w c.in_ok-add_thread.ensures.lawful c.loop-walk.invariant.sound);
       grown = grows_both _ c.loop-walk.terms _ c.loop-walk.invariant.grown c.in_ok-add_thread.ensures.grown;
     }
