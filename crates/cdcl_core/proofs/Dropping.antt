@@ -83,7 +83,8 @@ pub reasons-there : (t : Trail) (cs : List Clause) → AreReasoned t cs → (p k
     → k < length cs
 reasons-there t cs r p k h e = reason-in cs (BeginsAt t p) (take p t.literals) (get_or t.literals p 0) (get_or t.reasons p None) k e (r p h)
 
-pub may-go : (s : State) (marks : List Bool) (k : ℕ) → MarksReasons s.trail (length s.clauses) marks → length s.formula.clauses ≤ k → (at s.clauses k).kept ≡ true
+pub may-go : (s : State) (marks : List Bool) (k : ℕ) → MarksReasons s.trail (length s.clauses) marks → length s.formula.clauses ≤ k
+    → (at s.clauses k).kept ≡ true
     → not (get_or marks k false) ≡ true → MayGo s k
 may-go s marks k m h e f = record { learnt = h; kept = e; no_reason = λ p pl g. both_ways (not (get_or marks k false)) (ap not (m.marked p k pl g)) f }
 

@@ -99,7 +99,8 @@ never-paused Satisfied values e = cc
 never-paused Closed values e = cc
 
 -- an answer that stands is an answer again
-pub answered-already : (c : StagedSearch) (n : ℕ) (p : Progress) → 1 ≤ n → answer_at c.stage c.values.items ≡ Some p → Answers (searched_of c) (searched_of c) n p
+pub answered-already : (c : StagedSearch) (n : ℕ) (p : Progress) → 1 ≤ n → answer_at c.stage c.values.items ≡ Some p
+    → Answers (searched_of c) (searched_of c) n p
 answered-already c n (answers.Sat values) h e = (e, omega (arith, h))
 answered-already c n answers.Closed h e = (e, omega (arith, h))
 answered-already c n answers.Paused h e = absurd (never-paused c.stage c.values.items e)

@@ -1,6 +1,6 @@
 -- How a search lies in memory, and what it keeps from one conflict to the next.
 use Rattle.std.specs.Prelude.{◌≡◌, ◌≢◌, ℕ, ◌+◌, ◌*◌, ◌<◌, ◌≤◌, Bool, true, false, List, [], length, take, slice_index_or, slice_get, Contains, Some}
-use Rattle.std.specs.Prelude.{None, IfSome, AllPairs, IsTrue, count_by, All, ℤ}
+use Rattle.std.specs.Prelude.{None, IfSome, AllPairs, count_by, All, ℤ}
 use Rattle.std.specs.List.{fold}
 use Rattle.cnf_core.specs.Clauses.{Formula}
 use Rattle.cnf_core.specs.declared.cnf.TheConstants.{LIMIT}

@@ -10,4 +10,5 @@ returns c =
     let a : Agrees s.trail c.in_ok-assignment.assignment = c.in_ok-assignment.ensures in
     let f = full-satisfies s.trail s.clauses s.watches s.formula.clauses c.in_ok-assignment.assignment c.requires.live.sound c.requires.complete.full
     c.requires.complete.propagated c.requires.live.agree.keeps a in
-    rw c.into_values.ensures (let r : IsSolution s.formula c.in_ok-assignment.assignment = record { all = a.count ∙ c.requires.live.variables; satisfies = f } in r)
+    let r : IsSolution s.formula c.in_ok-assignment.assignment = record { all = a.count ∙ c.requires.live.variables; satisfies = f } in
+    rw c.into_values.ensures r
