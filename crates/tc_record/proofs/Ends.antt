@@ -1,7 +1,8 @@
 -- What stands where a failure ends a run.
-use Rattle.std.proofs.Common.{◌≡◌, ◌||◌, ℕ, zero, suc, Bool, true, false, List, [], ◌∷◌, Some, None, IsSome, refl, subst, length}
+use Rattle.std.proofs.Common.{◌≡◌, ℕ, zero, suc, Bool, true, false, List, [], ◌∷◌, Some, None, IsSome, refl, subst, length}
 use Rattle.std.specs.Prelude.{slice_get, is_some, nat_lt, if◌then◌else◌}
 use Rattle.std.specs.List.{list_any}
+use Rattle.std.proofs.lemmas.Bool.{or_parts}
 use Rattle.std.proofs.lemmas.Option.{none-some, same_Some}
 use Rattle.std.specs.FinMap as fin
 use Rattle.tc_base.specs.States.{State}
@@ -22,16 +23,8 @@ last_test false false false false h = absurd cc
 -- none of those that fail a test passes it
 pub none_passes : {X : Type 0} (p : X → Bool) (xs : List X) (i : ℕ) (x : X) → list_any p xs ≡ false → slice_get xs i ≡ Some x → p x ≡ false
 none_passes p [] i x h e = absurd (none-some x e)
-none_passes p (y ∷ ys) zero x h e = subst (λ z. p z ≡ false) (same_Some y x e) (neither (p y) (list_any p ys) h).0
-  where
-    neither : (a b : Bool) → (a || b) ≡ false → (a ≡ false) × (b ≡ false)
-    neither true b h = absurd cc
-    neither false b h = (refl, h)
-none_passes p (y ∷ ys) (suc i) x h e = none_passes p ys i x (neither (p y) (list_any p ys) h) e
-  where
-    neither : (a b : Bool) → (a || b) ≡ false → b ≡ false
-    neither true b h = absurd cc
-    neither false b h = h
+none_passes p (y ∷ ys) zero x h e = subst (λ z. p z ≡ false) (same_Some y x e) (or_parts (p y) (list_any p ys) h).0
+none_passes p (y ∷ ys) (suc i) x h e = none_passes p ys i x (or_parts (p y) (list_any p ys) h).1 e
 
 -- where a failure ends a run, it is within each limit
 pub record IsWithin {B : Type 0} (s : State B) : Type 0 where

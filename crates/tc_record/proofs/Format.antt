@@ -32,7 +32,7 @@ use Rattle.std.specs.List.{list_any, list_all}
 use Rattle.std.specs.Option.{option_map_or}
 use Rattle.std.specs.FinMap as fin
 use Rattle.std.specs.Cmp.{eq_by_cmp_equiv}
-use Rattle.std.proofs.lemmas.Bool.{ltb-false, lt-ltb, le-leb}
+use Rattle.std.proofs.lemmas.Bool.{ltb-false, lt-ltb, le-leb, and_parts, and_from, or_right}
 use Rattle.std.proofs.lemmas.Cmp.{nat_list_cmp_total}
 use Rattle.std.proofs.lemmas.List.{length_push, length-map}
 use Rattle.std.proofs.lemmas.Option.{none-some, same_Some}
@@ -42,24 +42,21 @@ use Rattle.tc_base.specs.States.{Local, Thread, State}
 use Rattle.tc_base.specs.Logs.{Path, ThreadPath}
 use Rattle.tc_base.specs.declared.request.Request.{Request}
 use Rattle.tc_base.specs.declared.request.Request.TheVariants.{Read, Exchange, CompareExchange, Fail}
-use Rattle.tc_code.specs.Instr.{Instr, Branch}
+use Rattle.tc_code.specs.declared.instr.Instr.{Instr}
+use Rattle.tc_code.specs.declared.instr.Instr.TheVariants.{Branch}
 use Rattle.tc_code.specs.Code.{Code}
 use Rattle.tc_code.specs.Step.{local_after, instr_of, request, born, is_nonzero, value_in}
 use Rattle.tc_code.specs.Run.{IsReached, path_of}
 use Rattle.path_log.specs.Texts.{is_within, is_thread}
-use Rattle.run_laws.specs.Alone.{Alone, after_request, goes_on, after_steps, taken_from}
+use Rattle.run_laws.specs.Alone.{Alone, same, after_request, goes_on, after_steps, taken_from}
 use Rattle.run_laws.proofs.After.{branch_is}
 use Rattle.run_laws.proofs.Basics.{some_is, some_value}
 use Rattle.run_laws.proofs.Begun.{threads_live_alone}
 use Rattle.run_laws.proofs.Created.{reached_is_created}
-use Rattle.run_laws.proofs.Names.{same_name}
 use Rattle.tc_record.specs.Ends.{has_many_steps}
 use Rattle.tc_record.specs.helpers.Paths.{named_path}
 use Rattle.tc_record.proofs.Ends.{IsWithin, none_passes}
 use Rattle.tc_record.proofs.Reached.{children_fit}
-
-both : {a b : Bool} → a ≡ true → b ≡ true → (a && b) ≡ true
-both {a} {b} e f = ap (λ c. c && b) e ∙ f
 
 -- A thread has no more outcomes than steps.
 
@@ -92,30 +89,20 @@ steps_outcomes code (suc k) a = omega (arith, one_outcomes a (instr_of code a.lo
 -- Names.
 
 all_push : (p : ℕ → Bool) (xs : List ℕ) (x : ℕ) → list_all p xs ≡ true → p x ≡ true → list_all p (xs ++ x ∷ []) ≡ true
-all_push p [] x h k = both k refl
-all_push p (y ∷ ys) x h k = both (first (p y) _ h) (all_push p ys x (second (p y) _ h) k)
-  where
-    first : (a b : Bool) → (a && b) ≡ true → a ≡ true
-    first true b h = refl
-    first false b h = h
-
-    second : (a b : Bool) → (a && b) ≡ true → b ≡ true
-    second true b h = h
-    second false b h = absurd cc
+all_push p [] x h k = and_from _ _ k refl
+all_push p (y ∷ ys) x h k =
+    let parts = and_parts (p y) _ h in
+    and_from _ _ parts.0 (all_push p ys x parts.1 k)
 
 all_map : {X : Type 0} (p : ThreadPath → Bool) (f : X → ThreadPath) (xs : List X)
     → ((i : ℕ) (x : X) → slice_get xs i ≡ Some x → p (f x) ≡ true) → list_all p (map f xs) ≡ true
 all_map p f [] h = refl
-all_map p f (x ∷ xs) h = both (h 0 x refl) (all_map p f xs (λ i y e. h (suc i) y e))
+all_map p f (x ∷ xs) h = and_from _ _ (h 0 x refl) (all_map p f xs (λ i y e. h (suc i) y e))
 
 some_passes : {X : Type 0} (p : X → Bool) (xs : List X) (i : ℕ) (x : X) → slice_get xs i ≡ Some x → p x ≡ true → list_any p xs ≡ true
 some_passes p [] i x e h = absurd (none-some x e)
 some_passes p (y ∷ ys) zero x e h = ap (λ b. b || list_any p ys) (subst (λ z. p z ≡ true) (sym (same_Some y x e)) h)
-some_passes p (y ∷ ys) (suc i) x e h = or_true (p y) (list_any p ys) (some_passes p ys i x e h)
-  where
-    or_true : (a b : Bool) → b ≡ true → (a || b) ≡ true
-    or_true true b h = refl
-    or_true false b h = h
+some_passes p (y ∷ ys) (suc i) x e h = or_right (p y) (list_any p ys) (some_passes p ys i x e h)
 
 module _ {B : Type 0} (ops : BufferOps B) (code : Code) (s : State B) (r : IsReached ops code s) where
   outcomes_fit : (n : Name) (t : Thread B) → fin.get s.threads n ≡ Some t → length t.local.outcomes ≤ t.local.steps
@@ -141,7 +128,7 @@ module _ {B : Type 0} (ops : BufferOps B) (code : Code) (s : State B) (r : IsRea
       let parent = numbers_fit few k c.parent shorter (some_is _ c.thread c.there) in
       let low = le-leb 1 c.number c.created.first in
       let high = le-leb c.number 255 (omega (arith, c.created.last, fits, few)) in
-      subst (λ m. list_all (is_within 1 255) m ≡ true) (sym c.name) (all_push (is_within 1 255) c.parent c.number parent (both low high))
+      subst (λ m. list_all (is_within 1 255) m ≡ true) (sym c.name) (all_push (is_within 1 255) c.parent c.number parent (and_from _ _ low high))
 
   -- the path of a thread that is there has a text
   thread_fits : Few → (n : Name) (t : Thread B) → fin.get s.threads n ≡ Some t → nat_lt 8 (length n) ≡ false → has_many_steps s n ≡ false
@@ -153,15 +140,15 @@ module _ {B : Type 0} (ops : BufferOps B) (code : Code) (s : State B) (r : IsRea
       ltb-false 65535 t.local.steps (sym (ap (λ (o : Option (Thread B)). option_map_or (λ u. nat_lt 65535 u.local.steps) o false) there) ∙ steps) in
       let own = outcomes_fit n t there in
       let fits : nat_lt t.local.steps (2 ^ 16) && nat_lt (length t.local.outcomes) (2 ^ 16) ≡ true =
-      both (lt-ltb t.local.steps (2 ^ 16) (omega (arith, most))) (lt-ltb (length t.local.outcomes) (2 ^ 16) (omega (arith, own, most))) in
-      both (both (le-leb (length n) 255 (omega (arith, short))) numbers)
+      and_from _ _ (lt-ltb t.local.steps (2 ^ 16) (omega (arith, most))) (lt-ltb (length t.local.outcomes) (2 ^ 16) (omega (arith, own, most))) in
+      and_from _ _ (and_from _ _ (le-leb (length n) 255 (omega (arith, short))) numbers)
       (subst (λ (p : Path). (nat_lt p.steps (2 ^ 16) && nat_lt (length p.outcomes) (2 ^ 16)) ≡ true)
       (sym (ap (λ (o : Option (Thread B)). option_map_or path_of o (record { outcomes = []; steps = 0 })) there)) fits)
 
   -- a name that is listed is of a thread
   listed_there : (i : ℕ) (n : Name) → slice_get (fin.keys s.threads) i ≡ Some n → IsSome (fin.get s.threads n)
   listed_there i n e =
-      fin.contains_key-keys s.threads n ∙ some_passes (same_name n) (fin.keys s.threads) i n e ((eq_by_cmp_equiv nat_list_cmp_total).refl n)
+      fin.contains_key-keys s.threads n ∙ some_passes (same n) (fin.keys s.threads) i n e ((eq_by_cmp_equiv nat_list_cmp_total).refl n)
 
   -- the log of the state is of the format
   pub of_format : IsWithin s → (threads : List ThreadPath) → threads ≡ map (named_path s) (fin.keys s.threads)
@@ -172,7 +159,7 @@ module _ {B : Type 0} (ops : BufferOps B) (code : Code) (s : State B) (r : IsRea
       let paths : list_all is_thread (map (named_path s) (fin.keys s.threads)) ≡ true = all_map is_thread (named_path s) (fin.keys s.threads) (λ i n e.
       let t = some_value (fin.get s.threads n) (listed_there i n e) in
       thread_fits few n t.0 t.1 (none_passes _ (fin.keys s.threads) i n within.depth e) (none_passes _ (fin.keys s.threads) i n within.steps e)) in
-      both (subst (λ (ts : List ThreadPath). nat_le (length ts) 255 ≡ true) (sym is)
+      and_from _ _ (subst (λ (ts : List ThreadPath). nat_le (length ts) 255 ≡ true) (sym is)
       (le-leb _ 255 (omega (arith, count, length-map (fin.keys s.threads) (named_path s)))))
       (subst (λ (ts : List ThreadPath). list_all is_thread ts ≡ true) (sym is) paths)
 
@@ -184,6 +171,6 @@ module _ {B : Type 0} (ops : BufferOps B) (code : Code) (s : State B) (r : IsRea
       let shallow : list_all (λ (t : ThreadPath). nat_le (length t.name) 8) (map (named_path s) (fin.keys s.threads)) ≡ true =
       all_map (λ t. nat_le (length t.name) 8) (named_path s) (fin.keys s.threads) (λ i n e.
       le-leb (length n) 8 (ltb-false 8 (length n) (none_passes _ (fin.keys s.threads) i n within.depth e))) in
-      both (subst (λ (ts : List ThreadPath). nat_le (length ts) 16 ≡ true) (sym is)
+      and_from _ _ (subst (λ (ts : List ThreadPath). nat_le (length ts) 16 ≡ true) (sym is)
       (le-leb _ 16 (omega (arith, count, length-map (fin.keys s.threads) (named_path s)))))
       (subst (λ (ts : List ThreadPath). list_all (λ (t : ThreadPath). nat_le (length t.name) 8) ts ≡ true) (sym is) shallow)

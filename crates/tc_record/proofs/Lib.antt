@@ -3,7 +3,7 @@ pub mod Format
 pub mod Paths
 pub mod Reached
 pub mod Runs
-pub mod Lines
+pub mod Places
 pub mod Sizes
 pub mod Leads
 pub mod Fitting

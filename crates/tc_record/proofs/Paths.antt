@@ -1,8 +1,8 @@
 -- The paths of a state's threads are those of its log.
-use Rattle.std.proofs.Common.{◌≡◌, ◌∙◌, ◌&&◌, ◌||◌, ℕ, zero, suc, Bool, true, false, cond, T, List, [], ◌∷◌, map, Option, Some, None, refl, ap, sym, subst}
+use Rattle.std.proofs.Common.{◌≡◌, ◌∙◌, ◌&&◌, ◌||◌, ℕ, suc, Bool, true, false, cond, T, List, [], ◌∷◌, map, Option, Some, None, refl, ap, sym, subst}
 use Rattle.std.proofs.Common.{◌<◌, ◌≤◌, IsSome, inl, inr, length, true≢false, arith}
-use Rattle.std.proofs.lemmas.Bool.{lt-ltb}
-use Rattle.std.proofs.lemmas.Option.{slice_get_within, slice_get_read}
+use Rattle.std.proofs.lemmas.Bool.{lt-ltb, and_from}
+use Rattle.std.proofs.lemmas.Option.{slice_get-map, slice_get_within, slice_get_read}
 use Rattle.std.proofs.lemmas.Cmp.{nat_list_cmp_total}
 use Rattle.std.specs.Cmp.{eq_by_cmp_equiv}
 use Rattle.std.specs.Option.{option_map_or, IsSomeAnd}
@@ -22,15 +22,11 @@ use Rattle.tc_base.specs.declared.moves.Move.{Move}
 use Rattle.tc_code.specs.Code.{Code}
 use Rattle.tc_code.specs.Run.{path_of, path_in, run, Reproduces}
 use Rattle.path_log.specs.Texts.{StoredLog, is_above, rises_from, is_log}
-use Rattle.run_laws.proofs.Names.{same_name, tells_names}
+use Rattle.run_laws.specs.Alone.{same}
+use Rattle.run_laws.proofs.Names.{tells_names}
+use Rattle.tc_base.proofs.Names.{same_true}
 use Rattle.tc_record.specs.Logged.{IsLogOf}
 use Rattle.tc_record.specs.helpers.Paths.{path_at, named_path, FailsThere}
-
--- a name's place among names, and in the list of their paths
-pub slice_get-map : {X Y : Type 0} (f : X → Y) (xs : List X) (i : ℕ) → slice_get (map f xs) i ≡ option_map f (slice_get xs i)
-slice_get-map f [] i = refl
-slice_get-map f (x ∷ xs) zero = refl
-slice_get-map f (x ∷ xs) (suc i) = slice_get-map f xs i
 
 first_T : (a b : Bool) → T (a && b) → T a
 first_T true b h = tt
@@ -64,11 +60,11 @@ module _ {X : Type 0} (f : Name → ThreadPath) (named : (n : Name) → (f n).na
 
 -- under a name that is among some stands its path, and under another none
 under_names : (p : Name → Path) (n : Name) (names : List Name)
-    → path_under n (map (λ k. let t : ThreadPath = record { name = k; path = p k } in t) names) ≡ cond (list_any (same_name n) names) (Some (p n)) None
+    → path_under n (map (λ k. let t : ThreadPath = record { name = k; path = p k } in t) names) ≡ cond (list_any (same n) names) (Some (p n)) None
 under_names p n [] = refl
 under_names p n (k ∷ names) =
     let rest = path_under n (map (λ k. let t : ThreadPath = record { name = k; path = p k } in t) names) in
-    let any = list_any (same_name n) names in
+    let any = list_any (same n) names in
     ap (λ b. cond b (Some (p k)) rest) (sym (is_eq-slice_cmp n k)) ∙ elim (tells_names n k) [
       | inl e ↦ ap (λ b. cond b (Some (p k)) rest) e.0 ∙ ap (λ m. Some (p m)) (sym e.1) ∙ sym (ap (λ b. cond (b || any) (Some (p n)) None) e.0)
       | inr e ↦ ap (λ b. cond b (Some (p k)) rest) e.0 ∙ under_names p n names ∙ sym (ap (λ b. cond (b || any) (Some (p n)) None) e.0)
@@ -79,22 +75,12 @@ own_path : {B : Type 0} (o : Option (Thread B)) (d : Path) → option_map path_o
 own_path None d = refl
 own_path (Some t) d = refl
 
-both : {a b : Bool} → a ≡ true → b ≡ true → (a && b) ≡ true
-both {a} {b} e f = ap (λ c. c && b) e ∙ f
-
 -- a place at which there is something is below the length
 below : {X : Type 0} (xs : List X) (i : ℕ) (o : Option X) → slice_get xs i ≡ o → IsSome o → nat_lt i (length xs) ≡ true
 below xs i None e some = absurd (true≢false (sym some))
 below xs i (Some x) e some = lt-ltb i (length xs) (slice_get_within xs i x e)
 
--- a name is told by its numbers
-same_numbers : (m n : Name) → bytes_eq m n ≡ true → m ≡ n
-same_numbers m n h = elim (tells_names m n) [
-  | inl e ↦ e.1
-  | inr e ↦ absurd (true≢false (sym h ∙ sym (is_eq-slice_cmp m n) ∙ e.0))
-]
-
-other_numbers : (m n : Name) → bytes_eq m n ≡ false → same_name n m ≡ false
+other_numbers : (m n : Name) → bytes_eq m n ≡ false → same n m ≡ false
 other_numbers m n h = elim (tells_names n m) [
   | inl e ↦ absurd (true≢false (sym ((eq_by_cmp_equiv nat_list_cmp_total).refl m) ∙ is_eq-slice_cmp m m ∙ subst (λ k. bytes_eq m k ≡ false) e.1 h))
   | inr e ↦ e.0
@@ -104,20 +90,20 @@ other_numbers m n h = elim (tells_names n m) [
 pub found_at : (names : List Name) (i : ℕ) (n item : Name) (o : Option Name) → i < length names → item ≡ slice_index_or names i item → bytes_eq item n ≡ true
     → o ≡ Some n → slice_get names i ≡ o
 found_at names i n item o lt is same some =
-    slice_get_read names (length names) i item refl lt is ∙ ap (λ m. Some m) (same_numbers item n same) ∙ sym some
+    slice_get_read names (length names) i item refl lt is ∙ ap (λ m. Some m) (same_true item n same) ∙ sym some
 
 none_same : (n : Name) (names : List Name) → ((k : ℕ) → k < length names → bytes_eq (slice_index_or names k []) n ≡ false) →
-    list_any (same_name n) names ≡ false
+    list_any (same n) names ≡ false
 none_same n [] h = refl
 none_same n (m ∷ names) h =
-    ap (λ b. b || list_any (same_name n) names) (other_numbers m n (h 0 (omega arith))) ∙ none_same n names (λ k lt. h (suc k) (omega (arith, lt)))
+    ap (λ b. b || list_any (same n) names) (other_numbers m n (h 0 (omega arith))) ∙ none_same n names (λ k lt. h (suc k) (omega (arith, lt)))
 
 -- a thread that is there is found
 pub is_found : {B : Type 0} (s : State B) (n : Name) (names : List Name) (i : ℕ) → FailsThere s → s.failed ≡ Some n → names ≡ fin.keys s.threads
     → length names ≤ i → ((k : ℕ) → k < i → bytes_eq (slice_index_or names k []) n ≡ false) → ⊥
 is_found s n names i there fails are all none =
     let some : IsSome (fin.get s.threads n) = subst (λ o. IsSomeAnd o (λ m. IsSome (fin.get s.threads m))) fails there in
-    true≢false (sym some ∙ fin.contains_key-keys s.threads n ∙ ap (list_any (same_name n)) (sym are)
+    true≢false (sym some ∙ fin.contains_key-keys s.threads n ∙ ap (list_any (same n)) (sym are)
     ∙ none_same n names (λ k lt. none k (omega (arith, lt, all))))
 
 module _ {B : Type 0} (s : State B) where
@@ -149,7 +135,7 @@ module _ {B : Type 0} (s : State B) where
   is_log_there model i threads some e is =
       let there = slice_get-map (named_path s) (fin.keys s.threads) i ∙ ap (option_map (named_path s)) e in
       subst (λ (ts : List ThreadPath). is_log (record { model = model; failing = i; threads = ts }) ≡ true) (sym is)
-      (both paths_rise (below _ i _ there (mapped s.failed some)))
+      (and_from _ _ paths_rise (below _ i _ there (mapped s.failed some)))
     where
       mapped : (o : Option Name) → IsSome o → IsSome (option_map (named_path s) o)
       mapped None h = h

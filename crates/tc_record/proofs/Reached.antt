@@ -14,9 +14,10 @@ use Rattle.tc_base.specs.declared.moves.Move.{Move}
 use Rattle.tc_base.specs.declared.moves.Move.TheVariants as move
 use Rattle.tc_base.specs.declared.request.Request.{Request}
 use Rattle.tc_base.specs.declared.request.Request.TheVariants.{Write, Fail}
-use Rattle.tc_code.specs.Instr.{Instr, Branch, Create}
+use Rattle.tc_code.specs.declared.instr.Instr.{Instr}
+use Rattle.tc_code.specs.declared.instr.Instr.TheVariants.{Branch, Create}
 use Rattle.tc_code.specs.Code.{Code, instr_at}
-use Rattle.tc_code.specs.Facts.{at_its_place}
+use Rattle.tc_code.proofs.Facts.{at_its_place}
 use Rattle.tc_code.specs.Step.{step, opening, perform, request, born, stepped}
 use Rattle.tc_code.specs.Run.{IsReached}
 use Rattle.run_laws.specs.Whole.{AllThreads}
@@ -105,8 +106,8 @@ module _ {B : Type 0} (ops : BufferOps B) (code : Code) where
 
   -- There are more threads than any of them has created.
 
-  abbrev Fits : State B → Type 0
-  Fits s = AllThreads (λ t. t.children + 1 ≤ fin.len s.threads) s.threads
+  abbrev HasMore : State B → Type 0
+  HasMore s = AllThreads (λ t. t.children + 1 ≤ fin.len s.threads) s.threads
 
   -- with one more thread put in, and at most so many children each
   put_fits : (k : ℕ) (threads : ByName (Thread B)) (n : Name) (new : Thread B) → AllThreads (λ t. t.children + 1 ≤ k) threads → new.local.children + 1 ≤ k
@@ -128,8 +129,8 @@ module _ {B : Type 0} (ops : BufferOps B) (code : Code) where
       fin.len-insert nat_list_cmp_total threads n new
       ∙ ap (λ (o : Option (Thread B)). cond (is_some o) (fin.len threads) (fin.len threads + 1)) none
 
-  module _ (s : State B) (n : Name) (old new : Thread B) (there : fin.get s.threads n ≡ Some old) (fits : Fits s) where
-    same_fits : (u : State B) → u.threads ≡ fin.insert s.threads n new → new.local.children ≡ old.local.children → Fits u
+  module _ (s : State B) (n : Name) (old new : Thread B) (there : fin.get s.threads n ≡ Some old) (fits : HasMore s) where
+    same_fits : (u : State B) → u.threads ≡ fin.insert s.threads n new → new.local.children ≡ old.local.children → HasMore u
     same_fits u threads same =
         let len : fin.len u.threads ≡ fin.len s.threads = ap fin.len threads ∙ len_put s.threads n new old there in
         let all = put_fits (fin.len s.threads) s.threads n new fits (omega (arith, same, fits n old there)) in
@@ -137,7 +138,7 @@ module _ {B : Type 0} (ops : BufferOps B) (code : Code) where
         (subst (AllThreads (λ t. t.children + 1 ≤ fin.len s.threads)) (sym threads) all)
 
     more_fits : (u : State B) (c : Name) (baby : Thread B) → u.threads ≡ fin.insert (fin.insert s.threads n new) c baby
-        → fin.get (fin.insert s.threads n new) c ≡ None → new.local.children ≡ old.local.children + 1 → baby.local.children ≡ 0 → Fits u
+        → fin.get (fin.insert s.threads n new) c ≡ None → new.local.children ≡ old.local.children + 1 → baby.local.children ≡ 0 → HasMore u
     more_fits u c baby threads none more fresh =
         let len : fin.len u.threads ≡ fin.len s.threads + 1 =
         ap fin.len threads ∙ len_put_new (fin.insert s.threads n new) c baby none ∙ ap (λ k. k + 1) (len_put s.threads n new old there) in
@@ -148,7 +149,7 @@ module _ {B : Type 0} (ops : BufferOps B) (code : Code) where
         subst (λ j. AllThreads (λ t. t.children + 1 ≤ j) u.threads) (sym len)
         (subst (AllThreads (λ t. t.children + 1 ≤ k)) (sym threads) all)
 
-  goes_fits : (s u : State B) (n : Name) (i : Instr) → IsReached ops code s → Goes ops code s u n i → Fits s → Fits u
+  goes_fits : (s u : State B) (n : Name) (i : Instr) → IsReached ops code s → Goes ops code s u n i → HasMore s → HasMore u
   goes_fits s u n (Create h f es) r g fits =
       let new = get_put_apart s.threads n g.after _ (child_apart n _) ∙ child_is_new ops code s n g.before r g.there in
       more_fits s n g.before g.after g.there fits u _ _ g.threads new (ap (λ t. t.children) g.local) refl
@@ -156,19 +157,19 @@ module _ {B : Type 0} (ops : BufferOps B) (code : Code) where
       _ to))
   goes_fits s u n _ r g fits = same_fits s n g.before g.after g.there fits u g.threads (ap (λ t. t.children) g.local)
 
-  step_fits : (s u : State B) (m : Move) → IsReached ops code s → step ops code s m ≡ Some u → Fits s → Fits u
+  step_fits : (s u : State B) (m : Move) → IsReached ops code s → step ops code s m ≡ Some u → HasMore s → HasMore u
   step_fits s u m r one fits =
       elim (step_changes ops code s u m one) [
         | Went_on n i g ↦ goes_fits s u n i r g fits
         | Stayed n g ↦ same_fits s n g.before g.after g.there fits u g.threads (ap (λ t. t.children) g.local)
       ]
 
-  opening_fits : Fits (opening ops code)
+  opening_fits : HasMore (opening ops code)
   opening_fits =
       let first = born ops code (length code.functions - 1) [] in
       let one = len_put_new fin.empty main first (fin.get-empty (slice_cmp nat_cmp) main) in
       put_fits _ fin.empty main first (λ n t there. absurd (none-some t (sym (fin.get-empty (slice_cmp nat_cmp) n) ∙ there))) (omega (arith, one))
 
   -- each thread has created fewer than there are
-  pub children_fit : (s : State B) → IsReached ops code s → Fits s
-  children_fit = holds_in_reached ops code Fits opening_fits (λ s u m r one fits. step_fits s u m r one fits)
+  pub children_fit : (s : State B) → IsReached ops code s → HasMore s
+  children_fit = holds_in_reached ops code HasMore opening_fits (λ s u m r one fits. step_fits s u m r one fits)

@@ -3,6 +3,7 @@ use Rattle.std.specs.Prelude.{ℕ, Bool, false, nat_lt, is_some, length, Option,
 use Rattle.std.specs.List.{list_any, list_all}
 use Rattle.std.specs.Option.{option_map_or}
 use Rattle.std.specs.FinMap as fin
+use Rattle.tc_base.specs.declared.limits.TheConstants.{THREADS, DEPTH, STEPS}
 use Rattle.tc_base.specs.Names.{Name}
 use Rattle.tc_base.specs.States.{Local, State}
 use Rattle.tc_record.specs.declared.end.Which.{Which}
@@ -12,9 +13,9 @@ use Rattle.tc_record.specs.declared.end.End.TheVariants.{Over, Failed, Finished,
 
 -- the most that a run may have
 abbrev pub limit_of : Which → ℕ
-limit_of Threads = 16
-limit_of Depth = 8
-limit_of Steps = 65535
+limit_of Threads = THREADS
+limit_of Depth = DEPTH
+limit_of Steps = STEPS
 
 module _ {B : Type 0} (s : State B) where
   -- what the thread of a name has to itself passes a test

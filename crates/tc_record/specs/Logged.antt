@@ -1,6 +1,7 @@
 -- Logs of states.
 use Rattle.std.specs.Prelude.{◌≡◌, None, Bool, ◌&&◌, nat_le, length}
 use Rattle.std.specs.List.{list_all}
+use Rattle.tc_base.specs.declared.limits.TheConstants.{THREADS, DEPTH}
 use Rattle.tc_base.specs.Names.{Name}
 use Rattle.tc_base.specs.States.{State}
 use Rattle.tc_base.specs.Logs.{Log, failing_of, path_under}
@@ -15,6 +16,6 @@ pub record IsLogOf {B : Type 0} (under : Model) (s : State B) (stored : StoredLo
   pub failing : failing_of stored.log ≡ s.failed
   pub paths : (n : Name) → path_in s n ≡ path_under n stored.log.threads
 
--- the log has at most 16 threads, to none of which more than 8 creates lead
+-- the log has at most so many threads as a run may have, to none of which more creates lead than may
 abbrev pub is_small : Log → Bool
-is_small log = nat_le (length log.threads) 16 && list_all (λ t. nat_le (length t.name) 8) log.threads
+is_small log = nat_le (length log.threads) THREADS && list_all (λ t. nat_le (length t.name) DEPTH) log.threads

@@ -1,5 +1,5 @@
 -- Seeded runs: each word of a generator chooses a move, until a test ends the run.
-use Rattle.std.specs.Prelude.{◌≡◌, ℕ, ◌+◌, ◌%◌, List, [], ◌∷◌, ◌++◌, length, slice_get, Option, Result, Ok, Err}
+use Rattle.std.specs.Prelude.{◌≡◌, ℕ, ◌+◌, ◌%◌, List, [], ◌∷◌, ◌++◌, length, slice_get, Option, Some, Result, Ok, Err}
 use Rattle.std.specs.Option.{option_map_or}
 use Rattle.rand_core.specs.Steps.{first_words}
 use Rattle.rand_xoshiro.specs.SplitMix64.{mix_u64}
@@ -15,9 +15,12 @@ use Rattle.tc_record.specs.declared.end.End.{End}
 use Rattle.tc_record.specs.declared.end.End.TheVariants as end
 use Rattle.tc_record.specs.declared.seeded.Seeded.{Seeded}
 use Rattle.tc_record.specs.declared.seeded.Seeded.TheVariants.{Failed, Finished, Deadlock, StepLimit}
+use Rattle.tc_record.specs.declared.seeded.Recorded.{Recorded}
+use Rattle.tc_record.specs.declared.seeded.Recorded.TheVariants as recorded
 use Rattle.tc_record.specs.declared.seeded.SeededFault.{SeededFault}
 use Rattle.tc_record.specs.declared.seeded.SeededFault.TheVariants.{Limit, Memory}
 use Rattle.tc_record.specs.Ends.{limit_of, end_at, end_without_moves}
+use Rattle.tc_record.specs.Failing.{failing_line}
 use Rattle.tc_record.specs.Logged.{IsLogOf}
 
 -- a run that ended: its moves, the state that they led to, and what ended it
@@ -61,7 +64,21 @@ IsAnswer model run (Ok (StepLimit moves)) = (run.end ≡ end.StepLimit) × (move
 IsAnswer model run (Err (Limit which found most)) = (run.end ≡ end.Over which) × (found ≡ limit_of which + 1) × (most ≡ limit_of which)
 IsAnswer model run (Err Memory) = Unit {0}
 
+-- the same with the line of a failure
+abbrev pub IsRecordOf : {B : Type 0} → Model → Code → Ended B → Result Recorded SeededFault → Type 0
+IsRecordOf model code run (Ok (recorded.Failed log moves line)) =
+    (run.end ≡ end.Failed) × (moves.items ≡ run.moves) × IsLogOf model run.state log × (failing_line code run.state ≡ Some line)
+IsRecordOf model code run (Ok (recorded.Finished moves)) = (run.end ≡ end.Finished) × (moves.items ≡ run.moves)
+IsRecordOf model code run (Ok (recorded.Deadlock moves)) = (run.end ≡ end.Deadlock) × (moves.items ≡ run.moves)
+IsRecordOf model code run (Ok (recorded.StepLimit moves)) = (run.end ≡ end.StepLimit) × (moves.items ≡ run.moves)
+IsRecordOf model code run (Err (Limit which found most)) = (run.end ≡ end.Over which) × (found ≡ limit_of which + 1) × (most ≡ limit_of which)
+IsRecordOf model code run (Err Memory) = Unit {0}
+
 -- a fact of the log and the moves of a run that failed
 abbrev pub IfFailed : Result Seeded SeededFault → (StoredLog → List Move → Type 0) → Type 0
 IfFailed (Ok (Failed log moves)) P = P log moves.items
 IfFailed _ P = Unit {0}
+
+abbrev pub IfRecorded : Result Recorded SeededFault → (StoredLog → List Move → Type 0) → Type 0
+IfRecorded (Ok (recorded.Failed log moves line)) P = P log moves.items
+IfRecorded _ P = Unit {0}

@@ -9,7 +9,6 @@ mod recording;
 mod seeded;
 
 pub use end::Which;
-pub use failing::failing_line;
 pub use laws::recorded_logs_fit;
-pub use recording::run_seeded;
-pub use seeded::{Seeded, SeededFault};
+pub use recording::{record_run, run_seeded};
+pub use seeded::{Recorded, Seeded, SeededFault};

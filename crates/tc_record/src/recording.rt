@@ -5,12 +5,14 @@ ghost use Rattle.path_log.specs.Texts.{is_of_format};
 ghost use Rattle.path_walk.specs.Fits.{Fits};
 ghost use Rattle.tc_record.specs.Ends as ends;
 ghost use Rattle.tc_record.specs.Logged.{is_small};
-ghost use Rattle.tc_record.specs.Seeded.{seeded_run, IsAnswer, IfFailed};
+ghost use Rattle.tc_record.specs.Seeded.{seeded_run, IsAnswer, IfFailed, IsRecordOf, IfRecorded};
+ghost use Rattle.tc_record.specs.helpers.Recorded.{without_line};
 ghost use Rattle.tc_record.specs.helpers.Turns.{IsTurn};
 
-use crate::end::{End, Which, end_at, end_without_moves};
+use crate::end::{End, end_at, end_without_moves};
+use crate::failing::line_of;
 use crate::logged::log_of;
-use crate::seeded::{Seeded, SeededFault};
+use crate::seeded::{Recorded, Seeded, SeededFault};
 use rand_core::{Rng, SeedableRng};
 use rand_xoshiro::SplitMix64;
 use std::alloc::{AllocError, Global};
@@ -39,6 +41,38 @@ pub fn run_seeded<M: MemoryModel>(
     // It fits the code.
     ensures fits { IfFailed result (λ stored moves. Fits code.now stored.log) }
 {
+    drop_line(record_run::<M>(alloc, code, seed, steps))
+}
+
+/// What is told of a run, but for the line of its failure.
+fn drop_line(recorded: Result<Recorded, SeededFault>) -> Result<Seeded, SeededFault>
+    ensures { result ≡ without_line recorded }
+{
+    match recorded {
+        Ok(Recorded::Failed(log, moves, _)) => Ok(Seeded::Failed(log, moves)),
+        Ok(Recorded::Finished(moves)) => Ok(Seeded::Finished(moves)),
+        Ok(Recorded::Deadlock(moves)) => Ok(Seeded::Deadlock(moves)),
+        Ok(Recorded::StepLimit(moves)) => Ok(Seeded::StepLimit(moves)),
+        Err(fault) => Err(fault),
+    }
+}
+
+/// Runs a program as [`run_seeded`] does, and gives the line of a failure too.
+pub fn record_run<M: MemoryModel>(
+    alloc: Global,
+    code: &Code,
+    seed: u64,
+    steps: u32,
+) -> Result<Recorded, SeededFault>
+    ensures answer { IsRecordOf M.MODEL code.now (seeded_run M.ops code.now seed steps) result }
+    // The log of a run that fails is reproduced by the moves that were made, and it has a text.
+    ensures reproduced { IfRecorded result (λ stored moves. Reproduces M.ops code.now stored.log moves) }
+    ensures of_format { IfRecorded result (λ stored moves. IsTrue (is_of_format stored.log)) }
+    // It is within the limits of recorded runs.
+    ensures small { IfRecorded result (λ stored moves. IsTrue (is_small stored.log)) }
+    // It fits the code.
+    ensures fits { IfRecorded result (λ stored moves. Fits code.now stored.log) }
+{
     // A code is lawful by its type, so what runs of it leave fits it.
     let _ = code.functions();
     let mut rng = SplitMix64::seed_from_u64(seed);
@@ -50,7 +84,7 @@ pub fn run_seeded<M: MemoryModel>(
             return answer(alloc, code, &state, made, end);
         }
     }
-    Ok(Seeded::StepLimit(made))
+    Ok(Recorded::StepLimit(made))
 }
 
 /// Makes the move that a word chooses, and tells what ends the run, if it ends.
@@ -86,19 +120,19 @@ fn answer<M: MemoryModel>(
     state: &State<M>,
     made: Vec<Move>,
     end: End,
-) -> Result<Seeded, SeededFault>
+) -> Result<Recorded, SeededFault>
     requires leads { run M.ops code.now made.items ≡ Some state.now }
     requires failed { end ≡ End.Failed → ends.end_at state.now ≡ Some End.Failed }
-    ensures answer { IsAnswer M.MODEL (record { moves = made.items; state = state.now; end = end }) result }
-    ensures reproduced { IfFailed result (λ stored moves. Reproduces M.ops code.now stored.log moves) }
-    ensures of_format { IfFailed result (λ stored moves. IsTrue (is_of_format stored.log)) }
-    ensures small { IfFailed result (λ stored moves. IsTrue (is_small stored.log)) }
+    ensures answer { IsRecordOf M.MODEL code.now (record { moves = made.items; state = state.now; end = end }) result }
+    ensures reproduced { IfRecorded result (λ stored moves. Reproduces M.ops code.now stored.log moves) }
+    ensures of_format { IfRecorded result (λ stored moves. IsTrue (is_of_format stored.log)) }
+    ensures small { IfRecorded result (λ stored moves. IsTrue (is_small stored.log)) }
 {
     match end {
         End::Over(which) => Err(SeededFault::Limit(which, which.limit() + 1, which.limit())),
-        End::Failed => Ok(Seeded::Failed(log_of(alloc, state)?, made)),
-        End::Finished => Ok(Seeded::Finished(made)),
-        End::Deadlock => Ok(Seeded::Deadlock(made)),
-        End::StepLimit => Ok(Seeded::StepLimit(made)),
+        End::Failed => Ok(Recorded::Failed(log_of(alloc, state)?, made, line_of(code, state))),
+        End::Finished => Ok(Recorded::Finished(made)),
+        End::Deadlock => Ok(Recorded::Deadlock(made)),
+        End::StepLimit => Ok(Recorded::StepLimit(made)),
     }
 }

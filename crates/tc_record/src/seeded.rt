@@ -20,6 +20,19 @@ pub enum Seeded {
     StepLimit(Vec<Move>),
 }
 
+/// How a seeded run ended, with the line of its failure too.
+#[derive(Debug, Drop)]
+pub enum Recorded {
+    /// A thread failed, at the instruction of that line. The log, which the moves reproduce, has no digest.
+    Failed(Log, Vec<Move>, u32),
+    /// Every thread exited.
+    Finished(Vec<Move>),
+    /// No move was enabled, and not every thread had exited.
+    Deadlock(Vec<Move>),
+    /// It made as many moves as it might.
+    StepLimit(Vec<Move>),
+}
+
 /// Why a seeded run has no log and isn't told.
 #[derive(Clone, Copy, Debug, PartialEq, Eq)]
 pub enum SeededFault {

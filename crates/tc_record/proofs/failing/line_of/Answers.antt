@@ -1,6 +1,6 @@
 use Rattle.std.proofs.Common.{◌≡◌, ◌∙◌, Some, ap, sym}
 use Rattle.std.specs.Prelude.{option_map}
-use Rattle.tc_record.proofs.Lines.{has_place, has_instr, not_none}
+use Rattle.tc_record.proofs.Places.{has_place, has_instr, not_none}
 use Rattle.tc_record.proofs.Reached.{fails_at_place}
 use Rattle.tc_record.proofs.failing.line_of.Goals as goal
 

@@ -24,3 +24,6 @@ pub returns-in_ok-log_of-in-Failed-clause-small : goal.returns-in_ok-log_of-in-F
 returns-in_ok-log_of-in-Failed-clause-small g c =
     small g.M.MemoryModel.ops c.args.code.now c.args.state.now (record { moves = c.args.made.items; leads = c.requires.leads })
     (within c.args.state.now (c.requires.failed (search rules))) _ c.in_ok-log_of-in-Failed.ensures.threads
+
+pub line_of-requires-clause-fails : goal.line_of-requires-clause-fails
+line_of-requires-clause-fails g c = (within c.args.state.now (c.requires.failed (search rules))).failed

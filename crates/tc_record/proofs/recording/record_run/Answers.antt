@@ -2,11 +2,11 @@ use Rattle.std.proofs.Common.{◌∙◌, ◌-◌, Some, ap, sym, subst, arith, l
 use Rattle.rand_core.specs.Steps.{stream_of}
 use Rattle.rand_xoshiro.specs.SplitMix64.{splitmix_steps}
 use Rattle.tc_code.specs.Run.{run}
-use Rattle.tc_record.specs.Seeded.{behind, seeded_from, seeded_run, IsAnswer}
+use Rattle.tc_record.specs.Seeded.{behind, seeded_from, seeded_run, IsRecordOf}
 use Rattle.tc_record.specs.helpers.Turns.{IsTurn}
 use Rattle.tc_record.proofs.Runs.{words, begins, goes_on, ends_so}
 use Rattle.tc_record.proofs.Fitting.{failed_fits}
-use Rattle.tc_record.proofs.recording.run_seeded.Goals as goal
+use Rattle.tc_record.proofs.recording.record_run.Goals as goal
 
 pub loop-init : goal.loop-init
 loop-init g c =
@@ -38,7 +38,7 @@ pub returns-in-Some-clause-answer : goal.returns-in-Some-clause-answer
 returns-in-Some-clause-answer g c =
     let ops = g.M.MemoryModel.ops in
     let code = c.args.code.now in
-    subst (λ r. IsAnswer g.M.MemoryModel.MODEL r c.answer.result)
+    subst (λ r. IsRecordOf g.M.MemoryModel.MODEL code r c.answer.result)
     (ends_so ops code c.loop.state c.turn.new.state c.loop.made.items c.turn.new.made.items c.next_u64-word.result
     (stream_of splitmix_steps c.loop.rng) (stream_of splitmix_steps c.next_u64-word.new.self) c.loop.counter c.args.steps
     (seeded_run ops code c.args.seed c.args.steps) c.loop-test.true c.next_u64-word.ensures c.loop.invariant.so_far c.in-Some.end

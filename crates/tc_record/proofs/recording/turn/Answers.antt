@@ -1,5 +1,5 @@
 use Rattle.std.proofs.Common.{◌≡◌, Some, sym, subst, rules}
-use Rattle.tc_code.specs.Facts.{run_from-step}
+use Rattle.tc_code.proofs.Facts.{run_from-step}
 use Rattle.tc_code.specs.Run.{run}
 use Rattle.tc_code.specs.Step.{opening}
 use Rattle.run_laws.proofs.Counts.{counters_below_last}
