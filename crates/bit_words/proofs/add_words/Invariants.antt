@@ -1,0 +1,15 @@
+use Rattle.std.proofs.Common.{◌≡◌, ◌≤◌, ◌*◌, length}
+use Rattle.cnf_core.specs.Clauses.{var_of}
+use Rattle.bit_gates.specs.Folded.{IsLarger, kept}
+use Rattle.bit_words.specs.Words.{AreWithin, added_place, added}
+use Rattle.bit_words.proofs.Loops.{IsReached}
+use Rattle.bit_words.proofs.add_words.Given as goal
+
+abbrev pub invariant-loop-place : goal.invariant-loop-place
+invariant-loop-place l = record {
+  reached : IsReached added_place (added l.initial.cnf l.initial.word l.other l.initial.carry) l.place (kept l.cnf l.carry) l.word l.other;
+  within : AreWithin l.cnf.vars l.word;
+  carry : var_of l.carry ≤ l.cnf.vars;
+  length : length l.word ≡ length l.initial.word;
+  larger : IsLarger (17 * l.place) l.initial.cnf l.cnf;
+}

@@ -1,0 +1,14 @@
+use Rattle.std.proofs.Common.{◌≡◌, ◌*◌, length}
+use Rattle.bit_gates.specs.Folded.{IsLarger, chosen}
+use Rattle.bit_words.specs.Words.{AreWithin, chosen_words, made_place}
+use Rattle.bit_words.proofs.Loops.{IsReached}
+use Rattle.bit_words.proofs.choose_words.Given as goal
+
+abbrev pub invariant-loop-place : goal.invariant-loop-place
+invariant-loop-place l = record {
+  reached : IsReached (λ h a b. made_place (chosen h l.condition a b)) (chosen_words l.condition l.initial.cnf l.initial.word l.other) l.place l.cnf l.word
+      l.other;
+  within : AreWithin l.cnf.vars l.word;
+  length : length l.word ≡ length l.initial.word;
+  larger : IsLarger (9 * l.place) l.initial.cnf l.cnf;
+}
