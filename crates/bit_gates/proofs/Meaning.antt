@@ -3,11 +3,12 @@ use Rattle.std.proofs.Common.{◌≡◌, ℕ, ◌<◌, ◌≤◌, [], ◌∷◌,
 use Rattle.std.specs.Prelude.{◌&&◌, ◌||◌, if◌then◌else◌}
 use Rattle.std.specs.Ordering.{int_eq}
 use Rattle.std.proofs.lemmas.Bool.{and_from}
+use Rattle.std.proofs.lemmas.Bool.Decides.{Decides-int_eq}
 use Rattle.cnf_core.specs.Clauses.{var_of, Formula, Valuation, literal_true}
 use Rattle.cnf_core.specs.Gates.{gate_value, Wired, is_over}
 use Rattle.cnf_core.specs.declared.gates.Gate.{Gate}
 use Rattle.cnf_core.specs.declared.gates.Gate.TheVariants.{And, Or, Xor}
-use Rattle.cnf_core.proofs.GateLaws.{literal_true-neg, int_eq-true, gate-decides}
+use Rattle.cnf_core.proofs.GateLaws.{literal_true-neg, gate-decides}
 use Rattle.bit_gates.specs.Folded.{Made, constant, kept, gated, both, either, differing, folded, chosen}
 use Rattle.bit_gates.specs.Laws.{IsModel, IsOf, IsBit, GatesMean}
 use Rattle.bit_gates.proofs.Blocks.{IsOf-opposite, is_over-of, grown_none, grown_more, grown_twice, IsOf-grown, model_before}
@@ -43,13 +44,13 @@ constant_value w false h = ap not h
 
 -- a literal that is a constant
 is_constant : (w : Valuation) (l : ℤ) (b : Bool) → int_eq l (constant b) ≡ true → w 1 ≡ true → literal_true w l ≡ b
-is_constant w l b e h = ap (literal_true w) (int_eq-true l (constant b) e) ∙ constant_value w b h
+is_constant w l b e h = ap (literal_true w) ((Decides-int_eq l (constant b)).0 e) ∙ constant_value w b h
 
 is_same : (w : Valuation) (a b : ℤ) → int_eq a b ≡ true → literal_true w a ≡ literal_true w b
-is_same w a b e = ap (literal_true w) (int_eq-true a b e)
+is_same w a b e = ap (literal_true w) ((Decides-int_eq a b).0 e)
 
 is_opposite : (w : Valuation) (a b : ℤ) → 0 < var_of b → int_eq a (neg_ℤ b) ≡ true → literal_true w a ≡ not (literal_true w b)
-is_opposite w a b h e = ap (literal_true w) (int_eq-true a (neg_ℤ b) e) ∙ literal_true-neg w b h
+is_opposite w a b h e = ap (literal_true w) ((Decides-int_eq a (neg_ℤ b)).0 e) ∙ literal_true-neg w b h
 
 or_three : (a b c : Bool) (P : Type 0) → (a || b || c) ≡ true → (a ≡ true → P) → (b ≡ true → P) → (c ≡ true → P) → P
 or_three true b c P h p q r = p refl

@@ -1,7 +1,8 @@
 -- Gates of literals, each made only where its value isn't known beforehand: variable 1 is the one that is true.
 use Rattle.std.specs.Prelude.{ℕ, suc, ◌+◌, ◌≤◌, ◌<◌, Bool, true, false, ◌||◌, if◌then◌else◌, ℤ, pos, negsuc, neg_ℤ, length}
 use Rattle.std.specs.Ordering.{int_eq}
-use Rattle.cnf_core.specs.Clauses.{limit, Formula}
+use Rattle.cnf_core.specs.Clauses.{Formula}
+use Rattle.cnf_core.specs.declared.cnf.TheConstants.{LIMIT}
 use Rattle.cnf_core.specs.Gates.{after_gate}
 use Rattle.cnf_core.specs.declared.gates.Gate.{Gate}
 use Rattle.cnf_core.specs.declared.gates.Gate.TheVariants.{And, Or, Xor}
@@ -65,7 +66,7 @@ chosen f c a b =
 
 -- there is room for so many variables and clauses more
 abbrev pub HasRoom : ℕ → Formula → Type 0
-HasRoom most f = (f.vars + most < limit) × (length f.clauses + most < limit)
+HasRoom most f = (f.vars + most < LIMIT) × (length f.clauses + most < LIMIT)
 
 -- the formula has grown by at most so many variables and clauses
 abbrev pub IsLarger : ℕ → Formula → Formula → Type 0

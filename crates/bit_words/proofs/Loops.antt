@@ -1,5 +1,5 @@
 -- Loops that go over two words from the lowest place on.
-use Rattle.std.proofs.Common.{◌≡◌, ℕ, suc, ◌+◌, ◌<◌, ◌≤◌, List, [], ◌∷◌, ◌++◌, ℤ, neg_ℤ, refl, ap, sym, ◌∙◌, arith, length, take, drop, set, get_or, append_assoc}
+use Rattle.std.proofs.Common.{◌≡◌, ℕ, suc, ◌+◌, ◌<◌, ◌≤◌, List, [], ◌∷◌, ◌++◌, ℤ, neg_ℤ, refl, ap, sym, ◌∙◌, arith, length, take, drop, set, get_or, replicate, append_assoc}
 use Rattle.std.proofs.Math.Seq.{drop-cons}
 use Rattle.std.proofs.lemmas.Grind.{common_steps}
 use Rattle.std.proofs.lemmas.List.{take_more_set, drop-set-lt, drop_all}
@@ -82,3 +82,6 @@ kept_same m f l p q = ap (λ k. kept k l) p ∙ ap (kept m.formula) q
 -- a formula that grew, and then grew again
 pub larger_more : (m n k : ℕ) (f g h : Formula) → IsLarger m f g → IsLarger n g h → k ≡ m + n → IsLarger k f h
 larger_more m n k f g h a b e = (omega (arith, a.0, b.0), omega (arith, a.1, b.1), omega (arith, a.2, b.2))
+
+pub replicate_at : (n i : ℕ) (x : ℤ) → i < n → x ≡ get_or (replicate n x) i x
+replicate_at n i x h = grind (arith, common_steps)

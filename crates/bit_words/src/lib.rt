@@ -1,7 +1,7 @@
 //! Circuits over words of literals: a word is a list of them, the lowest bit first.
 #![tactic(auto)]
 
-ghost use Rattle.std.specs.Prelude.{◌≡◌, ◌<◌, ◌≤◌, ◌+◌, ◌*◌, IfOk, OnOk, length, ℤ};
+ghost use Rattle.std.specs.Prelude.{◌≡◌, ◌<◌, ◌≤◌, ◌+◌, ◌*◌, IfOk, OnOk, length, replicate, ℤ};
 ghost use Rattle.cnf_core.specs.Clauses.{var_of};
 ghost use Rattle.bit_gates.specs.Folded.{HasRoom, IsLarger, kept};
 ghost use Rattle.bit_words.specs.Laws.{WordsMean};
@@ -46,6 +46,24 @@ pub fn gate_words(
 {
     for place in 0..word.len() {
         word[place] = gate(cnf, gate_of, word[place], other[place])?;
+    }
+    Ok(())
+}
+
+/// The gate at each place of the word and of one literal.
+pub fn gate_by(cnf: &mut Cnf, gate_of: Gate, word: &mut [Lit], by: Lit) -> Result<(), AllocError>
+    requires one { 0 < cnf.old.vars }
+    requires by { var_of by ≤ cnf.old.vars }
+    requires word { AreWithin cnf.old.vars word.old }
+    requires room { HasRoom (4 * length word.old) cnf.old }
+    ensures word { OnOk result (word.new ≡ (gated_words gate_of cnf.old word.old (replicate (length word.old) by)).word) }
+    ensures formula { OnOk result (cnf.new ≡ (gated_words gate_of cnf.old word.old (replicate (length word.old) by)).state) }
+    ensures within { OnOk result (AreWithin cnf.new.vars word.new) }
+    ensures length { length word.new ≡ length word.old }
+    ensures larger { OnOk result (IsLarger (4 * length word.old) cnf.old cnf.new) }
+{
+    for place in 0..word.len() {
+        word[place] = gate(cnf, gate_of, word[place], by)?;
     }
     Ok(())
 }
