@@ -35,19 +35,22 @@ use Rattle.std.proofs.Common.{
   bytes_eq,
 }
 use Rattle.std.specs.Prelude.{option_map}
-use Rattle.std.specs.Cmp.{tied_itself, booleans_Decides}
-use Rattle.std.specs.Cmp.Lexicographic.{slice_cmp, pointwise_decides}
+use Rattle.std.specs.Cmp.{booleans_Decides}
+use Rattle.std.specs.Cmp.Lexicographic.{pointwise_decides}
 use Rattle.std.specs.FinMap as fin
-use Rattle.std.specs.FinMap.{find, is_sorted, slice_cmp-IsAntisymmetric, nat_cmp-IsAntisymmetric}
+use Rattle.std.specs.FinMap.{find, is_sorted}
 use Rattle.std.specs.FinMap.Entries.{below_all}
-use Rattle.std.specs.Ordering.{nat_cmp, is_eq, is_lt, ordering_reverse}
+use Rattle.std.specs.Ordering.{is_eq, is_lt, ordering_reverse}
 use Rattle.std.specs.declared.cmp.Ordering.{Ordering}
 use Rattle.std.specs.declared.cmp.Ordering.TheVariants.{Less, Equal, Greater}
 use Rattle.std.proofs.lemmas.Bool.{and_parts, cases_Bool, eqb-true, eq-eqb}
 use Rattle.std.proofs.lemmas.Cmp.{nat_list_cmp_total}
 use Rattle.std.proofs.lemmas.List.{drop_more, drop_all, length-map}
+use Rattle.std.proofs.lemmas.Option.{none-some, same_Some}
 use Rattle.std.proofs.lemmas.Map.Text.{is_eq-slice_cmp}
-use Rattle.tc_base.specs.Names.{Name}
+use Rattle.tc_base.specs.Names.{Name, by_name}
+use Rattle.tc_base.proofs.Names.{same_name, itself, between, turned, less_true, equal_of}
+use Rattle.path_log.proofs.Rising.{rises_behind, none_below, under_first}
 use Rattle.tc_base.specs.States.{Thread, State}
 use Rattle.tc_base.specs.Logs.{Path, ThreadPath, Log, path_under}
 use Rattle.tc_code.specs.Run.{path_of, path_in}
@@ -55,30 +58,10 @@ use Rattle.path_log.specs.Texts.{is_above, rises_from, is_log}
 use Rattle.schedule_replay.specs.Verdicts.{GoesAsLogged, IsFirstToDiffer}
 use Rattle.schedule_replay.specs.helpers.Judged.{IsFirstOther, is_path, by_order, other_at}
 
-abbrev pub by_name : Name → Name → Ordering
-by_name = slice_cmp nat_cmp
-
-same_name : (m n : Name) → by_name m n ≡ Equal → m ≡ n
-same_name m n e = slice_cmp-IsAntisymmetric nat_cmp-IsAntisymmetric m n e
-
-itself : (n : Name) → by_name n n ≡ Equal
-itself n = tied_itself nat_list_cmp_total n
-
-between : (m n k : Name) → by_name m n ≡ Less → by_name n k ≡ Less → by_name m k ≡ Less
-between m n k a b = nat_list_cmp_total.trans m n k a b
-
-turned : (m n : Name) → by_name m n ≡ Greater → by_name n m ≡ Less
-turned m n e = nat_list_cmp_total.antisymm n m ∙ ap ordering_reverse e
-
 less_T : (o : Ordering) → T (is_lt o) → o ≡ Less
 less_T Less h = refl
 less_T Equal h = absurd h
 less_T Greater h = absurd h
-
-less_true : (o : Ordering) → is_lt o ≡ true → o ≡ Less
-less_true Less h = refl
-less_true Equal h = absurd cc
-less_true Greater h = absurd cc
 
 first_T : (a b : Bool) → T (a && b) → T a
 first_T true b h = tt
@@ -87,9 +70,6 @@ first_T false b h = absurd h
 second_T : (a b : Bool) → T (a && b) → T b
 second_T true b h = h
 second_T false b h = absurd h
-
-some_name_of : (n m : Name) → Some n ≡ Some m → n ≡ m
-some_name_of n m e = cc
 
 -- A path is told by a test.
 
@@ -107,46 +87,24 @@ path_is (Some q) p h =
 path_not : (o : Option Path) (p : Path) → is_path o p ≡ false → o ≡ Some p → ⊥
 path_not None p h e = cc
 path_not (Some q) p h e =
-    let steps : q.steps ≡ p.steps = ap (λ (x : Path). x.steps) (some_is q p e) in
-    let outcomes : q.outcomes ≡ p.outcomes = ap (λ (x : Path). x.outcomes) (some_is q p e) in
+    let steps : q.steps ≡ p.steps = ap (λ (x : Path). x.steps) (same_Some q p e) in
+    let outcomes : q.outcomes ≡ p.outcomes = ap (λ (x : Path). x.outcomes) (same_Some q p e) in
     let first = eq-eqb q.steps p.steps steps in
     let second = (pointwise_decides booleans_Decides q.outcomes p.outcomes).1 outcomes in
     let both : is_path (Some q) p ≡ true = rw (first, second) refl in
     let no : true ≡ false = sym both ∙ h in
     cc
-  where
-    some_is : (q p : Path) → Some q ≡ Some p → q ≡ p
-    some_is q p e = cc
 
 -- Logged threads that rise.
 
 abbrev rise : List ThreadPath → Bool
 rise ts = rises_from None ts
 
-rise_after : (last : Name) (ts : List ThreadPath) → rises_from (Some last) ts ≡ true → rise ts ≡ true
-rise_after last [] h = refl
-rise_after last (t ∷ ts) h = (and_parts (is_above (Some last) t.name) (rises_from (Some t.name) ts) h).1
-
-rise_rest : (t : ThreadPath) (ts : List ThreadPath) → rise (t ∷ ts) ≡ true → rises_from (Some t.name) ts ≡ true
-rise_rest t ts h = h
-
-rise_drop : (i : ℕ) (ts : List ThreadPath) → rise ts ≡ true → rise (drop i ts) ≡ true
-rise_drop zero ts h = h
-rise_drop (suc i) [] h = refl
-rise_drop (suc i) (t ∷ ts) h = rise_drop i ts (rise_after t.name ts h)
-
 not_under : (m : Name) (t : ThreadPath) (ts : List ThreadPath) → by_name m t.name ≡ Less → path_under m (t ∷ ts) ≡ path_under m ts
 not_under m t ts e = ap (λ (b : Bool). cond b (Some t.path) (path_under m ts)) (sym (is_eq-slice_cmp m t.name) ∙ ap is_eq e)
 
-none_under : (last m : Name) (ts : List ThreadPath) → rises_from (Some last) ts ≡ true → by_name m last ≡ Less → path_under m ts ≡ None
-none_under last m [] h e = refl
-none_under last m (t ∷ ts) h e =
-    let parts = and_parts (is_above (Some last) t.name) (rises_from (Some t.name) ts) h in
-    let less = between m last t.name e (less_true _ parts.0) in
-    not_under m t ts less ∙ none_under t.name m ts parts.1 less
-
 under_below : (m : Name) (t : ThreadPath) (ts : List ThreadPath) → rise (t ∷ ts) ≡ true → by_name m t.name ≡ Less → path_under m (t ∷ ts) ≡ None
-under_below m t ts h e = not_under m t ts e ∙ none_under t.name m ts h e
+under_below m t ts h e = not_under m t ts e ∙ none_below t.name m ts h e
 
 under_rest : (t : ThreadPath) (ts : List ThreadPath) → rise (t ∷ ts) ≡ true → path_under t.name ts ≡ None
 under_rest t [] h = refl
@@ -157,17 +115,6 @@ under_rest t (u ∷ ts) h =
 -- threads by name
 abbrev pub Entries : Type 0 → Type 0
 Entries B = List (Name × Thread B)
-
-none_not_some : {X : Type 0} (x : X) → None ≡ Some x → ⊥
-none_not_some x e = cc
-
-head_under : (t : ThreadPath) (ts : List ThreadPath) → path_under t.name (t ∷ ts) ≡ Some t.path
-head_under t ts = ap (λ (b : Bool). cond b (Some t.path) (path_under t.name ts)) (sym (is_eq-slice_cmp t.name t.name) ∙ ap is_eq (itself t.name))
-
-equal_of : (o : Ordering) → is_eq o ≡ true → o ≡ Equal
-equal_of Less h = absurd cc
-equal_of Equal h = refl
-equal_of Greater h = absurd cc
 
 equal_name : (m n : Name) → is_eq (by_name m n) ≡ true → m ≡ n
 equal_name m n h = same_name m n (equal_of (by_name m n) h)
@@ -259,14 +206,14 @@ module _ {B : Type 0} where
   log_head : (p : Name × Thread B) (es : Entries B) (t : ThreadPath) (ts : List ThreadPath) → T (is_sorted by_name (p ∷ es)) → rise (t ∷ ts) ≡ true
       → by_name t.name p.0 ≡ Less → IsFirst (p ∷ es) (t ∷ ts) t.name
   log_head p es t ts sorted rises less = record {
-    differs = λ goes. none_not_some t.path (sym (there_below t.name p es sorted less) ∙ (goes ∙ head_under t ts));
+    differs = λ goes. none-some t.path (sym (there_below t.name p es sorted less) ∙ (goes ∙ under_first t ts));
     least = λ m below. there_below m p es sorted (between m t.name p.0 below less) ∙ sym (under_below m t ts rises below);
   }
 
   run_head : (p : Name × Thread B) (es : Entries B) (t : ThreadPath) (ts : List ThreadPath) → T (is_sorted by_name (p ∷ es)) → rise (t ∷ ts) ≡ true
       → by_name p.0 t.name ≡ Less → IsFirst (p ∷ es) (t ∷ ts) p.0
   run_head p es t ts sorted rises less = record {
-    differs = λ goes. none_not_some (path_of p.1) (sym (under_below p.0 t ts rises less) ∙ (sym goes ∙ head_there p es));
+    differs = λ goes. none-some (path_of p.1) (sym (under_below p.0 t ts rises less) ∙ (sym goes ∙ head_there p es));
     least = λ m below. there_below m p es sorted below ∙ sym (under_below m t ts rises (between m p.0 t.name below less));
   }
 
@@ -274,24 +221,21 @@ module _ {B : Type 0} where
       → t.name ≡ p.0 → (path_of p.1 ≡ t.path → ⊥) → IsFirst (p ∷ es) (t ∷ ts) p.0
   other_path p es t ts sorted rises e other = record {
     differs = λ goes.
-        let under = ap (λ (k : Name). path_under k (t ∷ ts)) (sym e) ∙ head_under t ts in
+        let under = ap (λ (k : Name). path_under k (t ∷ ts)) (sym e) ∙ under_first t ts in
         let same : Some (path_of p.1) ≡ Some t.path = sym (head_there p es) ∙ (goes ∙ under) in
-        other (some_is (path_of p.1) t.path same);
+        other (same_Some (path_of p.1) t.path same);
     least = λ m below. there_below m p es sorted below ∙ sym (under_below m t ts rises (ap (by_name m) e ∙ below));
   }
-    where
-      some_is : (q r : Path) → Some q ≡ Some r → q ≡ r
-      some_is q r e = cc
 
   log_alone : (t : ThreadPath) (ts : List ThreadPath) → rise (t ∷ ts) ≡ true → IsFirst [] (t ∷ ts) t.name
   log_alone t ts rises = record {
-    differs = λ goes. none_not_some t.path (goes ∙ head_under t ts);
+    differs = λ goes. none-some t.path (goes ∙ under_first t ts);
     least = λ m below. sym (under_below m t ts rises below);
   }
 
   run_alone : (p : Name × Thread B) (es : Entries B) → T (is_sorted by_name (p ∷ es)) → IsFirst (p ∷ es) [] p.0
   run_alone p es sorted = record {
-    differs = λ goes. none_not_some (path_of p.1) (sym goes ∙ head_there p es);
+    differs = λ goes. none-some (path_of p.1) (sym goes ∙ head_there p es);
     least = λ m below. there_below m p es sorted below;
   }
 
@@ -332,7 +276,7 @@ module _ {B : Type 0} where
     logged = drop_more ts i t lt ∙ ap (λ (u : ThreadPath). u ∷ drop (i + 1) ts) here
 
     rises_here : rise (t ∷ drop (i + 1) ts) ≡ true
-    rises_here = subst (λ (us : List ThreadPath). rise us ≡ true) logged (rise_drop i ts rises)
+    rises_here = subst (λ (us : List ThreadPath). rise us ≡ true) logged (rises_behind None i ts rises)
 
     sorted_here : (p : Name × Thread B) → get_or (fin.entries s.threads) i p ≡ p → T (is_sorted by_name (p ∷ drop (i + 1) (fin.entries s.threads)))
     sorted_here p e = subst (λ (qs : Entries B). T (is_sorted by_name qs)) (heads p e) (sorted_drop i (fin.entries s.threads) (fin.entries_sorted s.threads))
@@ -356,10 +300,10 @@ module _ {B : Type 0} where
 
     shared_of : (x : Ordering) (b : Bool) → by_name t.name n ≡ x → is_path (path_in s t.name) t.path ≡ b
         → by_order x (Some t.name) (cond b None (Some n)) (Some n) ≡ None → IsShared
-    shared_of Less b is path e = absurd (none_not_some t.name (sym e))
+    shared_of Less b is path e = absurd (none-some t.name (sym e))
     shared_of Equal true is path e = record { names = same_name t.name n is; paths = path }
-    shared_of Equal false is path e = absurd (none_not_some n (sym e))
-    shared_of Greater b is path e = absurd (none_not_some n (sym e))
+    shared_of Equal false is path e = absurd (none-some n (sym e))
+    shared_of Greater b is path e = absurd (none-some n (sym e))
 
     pub shared_on : other_at s t n ≡ None → LeadsTo s ts i → LeadsTo s ts (i + 1)
     shared_on e leads o f =
@@ -376,18 +320,18 @@ module _ {B : Type 0} where
         → IsFirst (p ∷ drop (i + 1) (fin.entries s.threads)) (t ∷ drop (i + 1) ts) m
     other_of m Less b is path e p at named =
         let found = log_head p (drop (i + 1) (fin.entries s.threads)) t (drop (i + 1) ts) (sorted_here p at) rises_here (ap (by_name t.name) named ∙ is) in
-        subst (IsFirst (p ∷ drop (i + 1) (fin.entries s.threads)) (t ∷ drop (i + 1) ts)) (some_name_of t.name m e) found
-    other_of m Equal true is path e p at named = absurd (none_not_some m e)
+        subst (IsFirst (p ∷ drop (i + 1) (fin.entries s.threads)) (t ∷ drop (i + 1) ts)) (same_Some t.name m e) found
+    other_of m Equal true is path e p at named = absurd (none-some m e)
     other_of m Equal false is path e p at named =
         let names : t.name ≡ p.0 = same_name t.name n is ∙ sym named in
         let other : path_of p.1 ≡ t.path → ⊥ = λ same. path_not (path_in s t.name) t.path path
         (ap (path_in s) names ∙ (path_there p at ∙ ap (λ (q : Path). Some q) same)) in
         let found = other_path p (drop (i + 1) (fin.entries s.threads)) t (drop (i + 1) ts) (sorted_here p at) rises_here names other in
-        subst (IsFirst (p ∷ drop (i + 1) (fin.entries s.threads)) (t ∷ drop (i + 1) ts)) (named ∙ some_name_of n m e) found
+        subst (IsFirst (p ∷ drop (i + 1) (fin.entries s.threads)) (t ∷ drop (i + 1) ts)) (named ∙ same_Some n m e) found
     other_of m Greater b is path e p at named =
         let less : by_name p.0 t.name ≡ Less = turned t.name p.0 (ap (by_name t.name) named ∙ is) in
         let found = run_head p (drop (i + 1) (fin.entries s.threads)) t (drop (i + 1) ts) (sorted_here p at) rises_here less in
-        subst (IsFirst (p ∷ drop (i + 1) (fin.entries s.threads)) (t ∷ drop (i + 1) ts)) (named ∙ some_name_of n m e) found
+        subst (IsFirst (p ∷ drop (i + 1) (fin.entries s.threads)) (t ∷ drop (i + 1) ts)) (named ∙ same_Some n m e) found
 
     pub other_here : (m : Name) → other_at s t n ≡ Some m → LeadsTo s ts i → FirstOf (fin.entries s.threads) ts (Some m)
     other_here m e leads =
@@ -401,7 +345,7 @@ module _ {B : Type 0} where
       → get_or ts i t ≡ t → rise ts ≡ true → LeadsTo s ts i → FirstOf (fin.entries s.threads) ts (Some t.name)
   only_logged s ts i t none lt here rises leads =
       let logged : drop i ts ≡ t ∷ drop (i + 1) ts = drop_more ts i t lt ∙ ap (λ (u : ThreadPath). u ∷ drop (i + 1) ts) here in
-      let rising : rise (t ∷ drop (i + 1) ts) ≡ true = subst (λ (us : List ThreadPath). rise us ≡ true) logged (rise_drop i ts rises) in
+      let rising : rise (t ∷ drop (i + 1) ts) ≡ true = subst (λ (us : List ThreadPath). rise us ≡ true) logged (rises_behind None i ts rises) in
       let run : drop i (fin.entries s.threads) ≡ [] = drop_all i (fin.entries s.threads) none in
       leads (Some t.name)
       (subst (λ (qs : Entries B). IsFirst qs (drop i ts) t.name) (sym run)

@@ -15,7 +15,7 @@ use Rattle.tc_base.specs.declared.moves.Move.{Move}
 use Rattle.tc_code.specs.Code.{Code}
 use Rattle.tc_code.specs.Step.{step, opening}
 use Rattle.tc_code.specs.Run.{run, run_from}
-use Rattle.tc_code.specs.Facts.{run_from-append}
+use Rattle.tc_code.proofs.Facts.{run_from-append}
 use Rattle.tc_machine.specs.Why.{why}
 use Rattle.tc_machine.specs.declared.why.Why.{Why}
 use Rattle.tc_machine.proofs.Reasons.{no_reason_where_enabled}

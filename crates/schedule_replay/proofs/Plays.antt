@@ -1,5 +1,5 @@
 -- Moves that were made one after another.
-use Rattle.std.proofs.Common.{◌≡◌, ℕ, ◌+◌, ◌<◌, ◌≤◌, ◌^◌, List, [], ◌∷◌, ◌++◌, length, take, drop, get_or, Some, ap, sym, ◌∙◌, arith, add-one, drop-cons, suc}
+use Rattle.std.proofs.Common.{◌≡◌, ℕ, ◌+◌, ◌<◌, ◌≤◌, List, [], ◌∷◌, ◌++◌, length, take, drop, get_or, Some, ap, sym, ◌∙◌, arith, add-one, drop-cons, suc}
 use Rattle.std.proofs.lemmas.List.{take_all, take_more, take-append-drop, length-take}
 use Rattle.tc_base.specs.Buffers.{BufferOps}
 use Rattle.tc_base.specs.States.{State}
@@ -7,12 +7,13 @@ use Rattle.tc_base.specs.declared.moves.Move.{Move}
 use Rattle.tc_code.specs.Code.{Code}
 use Rattle.tc_code.specs.Step.{step, opening}
 use Rattle.tc_code.specs.Run.{run, Reproduces}
-use Rattle.tc_code.specs.Facts.{run_from-step}
+use Rattle.tc_code.proofs.Facts.{run_from-step}
 use Rattle.tc_machine.specs.Why.{why}
 use Rattle.tc_machine.specs.declared.why.Why.{Why}
 use Rattle.run_laws.specs.Counters.{CountersAreBelowLast}
 use Rattle.run_laws.proofs.Counts.{counters_below_last}
 use Rattle.tc_base.specs.Logs.{Log}
+use Rattle.schedule_file.specs.Schedules.{most_lines}
 use Rattle.schedule_replay.specs.Verdicts.{StopsAt, IsVerdict}
 use Rattle.schedule_replay.proofs.OneVerdict.{one_verdict}
 use Rattle.schedule_replay.specs.helpers.Judged.{IsJudged}
@@ -52,7 +53,7 @@ module _ {B : Type 0} (ops : BufferOps B) (code : Code) (moves : List Move) (i :
   pub not_reproduced : (r : Why) → why ops code s m ≡ Some r → (log : Log) → Reproduces ops code log moves → verdict.Stops (i + 1) r ≡ verdict.Reproduces
   not_reproduced r e log reproduces = one_verdict ops code log moves (verdict.Stops (i + 1) r) verdict.Reproduces (stops_here r e) reproduces
 
-  pub counts : length moves < 2 ^ 26 → CountersAreBelowLast s
+  pub counts : length moves < most_lines → CountersAreBelowLast s
   counts few = counters_below_last ops code (take i moves) s leads (omega (arith, few, taken moves i lt))
 
 -- the verdict on the state that all moves led to is the verdict on them

@@ -1,9 +1,7 @@
 -- What a replay says of a schedule.
 use Rattle.std.specs.Prelude.{◌≡◌, ℕ, ◌+◌, List, ◌∷◌, ◌++◌, length, Some, None, IsSomeAnd}
-use Rattle.std.specs.Ordering.{nat_cmp}
-use Rattle.std.specs.Cmp.Lexicographic.{slice_cmp}
 use Rattle.std.specs.declared.cmp.Ordering.TheVariants.{Less}
-use Rattle.tc_base.specs.Names.{Name}
+use Rattle.tc_base.specs.Names.{Name, by_name}
 use Rattle.tc_base.specs.Buffers.{BufferOps}
 use Rattle.tc_base.specs.States.{State}
 use Rattle.tc_base.specs.Logs.{Log, failing_of, path_under}
@@ -27,7 +25,7 @@ module _ {B : Type 0} where
   -- the least name whose path differs
   pub record IsFirstToDiffer (s : State B) (log : Log) (n : Name) : Type 0 where
     pub differs : ¬ (GoesAsLogged s log n)
-    pub least : (m : Name) → slice_cmp nat_cmp m n ≡ Less → GoesAsLogged s log m
+    pub least : (m : Name) → by_name m n ≡ Less → GoesAsLogged s log m
 
   -- the verdict on the state that all moves lead to
   abbrev pub IsVerdictAt : State B → Log → Verdict → Type 0

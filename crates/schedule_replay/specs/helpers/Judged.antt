@@ -1,11 +1,10 @@
 -- The state that all moves lead to, held against a log.
 use Rattle.std.specs.Prelude.{Bool, false, ◌&&◌, ◌==◌, if◌then◌else◌, Option, Some, None}
 use Rattle.std.specs.Bool.{beq}
-use Rattle.std.specs.Ordering.{nat_cmp}
-use Rattle.std.specs.Cmp.Lexicographic.{slice_cmp, pointwise}
+use Rattle.std.specs.Cmp.Lexicographic.{pointwise}
 use Rattle.std.specs.declared.cmp.Ordering.{Ordering}
 use Rattle.std.specs.declared.cmp.Ordering.TheVariants.{Less, Equal, Greater}
-use Rattle.tc_base.specs.Names.{Name}
+use Rattle.tc_base.specs.Names.{Name, by_name}
 use Rattle.tc_base.specs.States.{State}
 use Rattle.tc_base.specs.Logs.{Path, ThreadPath, Log}
 use Rattle.tc_code.specs.Run.{path_in}
@@ -37,4 +36,4 @@ module _ {B : Type 0} where
   -- the lesser of a log's and a run's thread, where their names or their paths differ
   abbrev pub other_at : State B → ThreadPath → Name → Option Name
   other_at s t n =
-      by_order (slice_cmp nat_cmp t.name n) (Some t.name) (if is_path (path_in s t.name) t.path then None else Some n) (Some n)
+      by_order (by_name t.name n) (Some t.name) (if is_path (path_in s t.name) t.path then None else Some n) (Some n)
