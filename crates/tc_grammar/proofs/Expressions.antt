@@ -26,7 +26,7 @@ use Rattle.tc_tree.specs.Grammar.{
 use Rattle.tc_syntax.specs.helpers.Reading.{operator_of, infix_of, operand}
 use Rattle.tc_syntax.specs.helpers.Read.{is_some}
 use Rattle.tc_syntax.proofs.Signs.{operator_is}
-use Rattle.tc_syntax.proofs.Trees.{opens}
+use Rattle.tc_syntax.proofs.Trees.{opens, sign_opens}
 use Rattle.tc_grammar.proofs.Flat.{
   Factor,
   FactorNumber,
@@ -73,13 +73,6 @@ no_paren : (op : UnOp) → unary_sign op ≡ sign.OpenParen → ⊥
 no_paren Neg e = cc
 no_paren Not e = cc
 no_paren Inv e = cc
-
-operator_opens : (s : Sign) (op : Operator) (ws : List Word) → operator_of s ≡ Some op → opens (ASign s ∷ ws) ≡ false
-operator_opens sign.OpenBracket op ws e = absurd cc
-operator_opens _ op ws e = refl
-
-sign_opens : (op : Operator) (ws : List Word) → opens (ASign (binary_sign op) ∷ ws) ≡ false
-sign_opens op ws = operator_opens (binary_sign op) op ws (operator_is op)
 
 bracket_opens : (r ws : List Word) → r ≡ ASign sign.OpenBracket ∷ ws → opens r ≡ false → ⊥
 bracket_opens r ws e h = let yes : opens r ≡ true = ap opens e in cc

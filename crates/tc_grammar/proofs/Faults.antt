@@ -33,10 +33,10 @@ use Rattle.std.proofs.lemmas.List.{take-append-drop, take-take}
 use Rattle.tc_lexer.specs.declared.token.Keyword.TheVariants as keyword
 use Rattle.tc_tree.specs.declared.word.Word.{Word}
 use Rattle.tc_tree.specs.declared.word.Word.TheVariants.{Keyword as AKeyword}
-use Rattle.tc_tree.specs.Grammar.{Program, IsSpelled, Begins, IsSyntaxFault, globals_then, threads_then, body_then}
+use Rattle.tc_tree.specs.Grammar.{Program, AreOf, IsSpelled, Begins, IsSyntaxFault, globals_then, threads_then, body_then}
 use Rattle.tc_syntax.specs.helpers.Reading.{Expected, Globals, first, skips, step, may_end, at_end, fault}
 use Rattle.tc_syntax.proofs.Stands.{Stands, StandsAfter, StandsThen, first_more, skip_more}
-use Rattle.tc_syntax.proofs.Places.{are_of, is_syntax_fault}
+use Rattle.tc_syntax.proofs.Places.{one_more, are_of, is_syntax_fault}
 
 -- ---- one fault
 
@@ -64,17 +64,6 @@ one_syntax_fault language ws j k x y = elim (cases_lt j k) [
 
 -- ---- a program or a fault
 
-by_first : (x : Expected) (s : List Expected) (w : Word) (ws : List Word) (o : Option (List Expected)) → first x w ≡ o → (b : Bool) → skips x ≡ b
-    → (StandsAfter (step s w) ws → Stands s (w ∷ ws)) → StandsAfter
-    (elim o [ Some es ↦ Some (es ++ s) | None ↦ elim b [ true ↦ step s w | false ↦ None ] ]) ws → Stands (x ∷ s) (w ∷ ws)
-by_first x s w ws (Some es) e b f more d = first_more x w s ws (subst (λ (o : Option (List Expected)). StandsThen o s ws) (sym e) d)
-by_first x s w ws None e true f more d = skip_more x s (w ∷ ws) f (more d)
-by_first x s w ws None e false f more d = absurd d
-
-one_more : (s : List Expected) (w : Word) (ws : List Word) → StandsAfter (step s w) ws → Stands s (w ∷ ws)
-one_more [] w ws d = absurd d
-one_more (x ∷ s) w ws d = by_first x s w ws (first x w) refl (skips x) refl (one_more s w ws) d
-
 ends_by : (x : Expected) (s : List Expected) (b : Bool) → skips x ≡ b → at_end (elim b [ true ↦ may_end s | false ↦ false ]) ≡ None
     → (at_end (may_end s) ≡ None → Stands s []) → Stands (x ∷ s) []
 ends_by x s true e h rest = skip_more x s [] e (rest h)
@@ -95,20 +84,24 @@ all_stand : (s : List Expected) (ws : List Word) → fault (Some s) ws ≡ None 
 all_stand s [] h = ends s h
 all_stand s (w ∷ ws) h = one_more s w ws (stands_by w ws (step s w) h (λ t. all_stand t ws))
 
-a_program : (ws : List Word) → Stands (Globals ∷ []) ws → (p : Program) × IsSpelled 3 ws p
-a_program ws (gs, ts, main, rest, gts, gm, is, nil) = (
-  record { globals = gs; threads = ts; main = main },
-  record {
-    spelled = is ∙ ap (λ (us : List Word). globals_then gs (threads_then ts (AKeyword keyword.Main ∷ body_then main us))) nil;
-    grouped = (gts, gm);
-    language_has = are_of ws;
-  },
-)
+module _ (language : ℕ) (least : 1 ≤ language) where
+  a_program : (ws : List Word) → AreOf language ws → Stands (Globals ∷ []) ws → (p : Program) × IsSpelled language ws p
+  a_program ws all (gs, ts, main, rest, gts, gm, is, nil) = (
+    record { globals = gs; threads = ts; main = main },
+    record {
+      spelled = is ∙ ap (λ (us : List Word). globals_then gs (threads_then ts (AKeyword keyword.Main ∷ body_then main us))) nil;
+      grouped = (gts, gm);
+      language_has = all;
+    },
+  )
 
-program_or_place : (ws : List Word) (o : Option ℕ) → fault (Some (Globals ∷ [])) ws ≡ o
-    → ((p : Program) × IsSpelled 3 ws p) ⊎ ((k : ℕ) × IsSyntaxFault 3 ws k)
-program_or_place ws None h = inl (a_program ws (all_stand (Globals ∷ []) ws h))
-program_or_place ws (Some left) h = let there = is_syntax_fault ws left h in inr (_, there.1)
+  program_or_place : (ws : List Word) (o : Option ℕ) → AreOf language ws → fault (Some (Globals ∷ [])) ws ≡ o
+      → ((p : Program) × IsSpelled language ws p) ⊎ ((k : ℕ) × IsSyntaxFault language ws k)
+  program_or_place ws None all h = inl (a_program ws all (all_stand (Globals ∷ []) ws h))
+  program_or_place ws (Some left) all h = let there = is_syntax_fault language least ws left all h in inr (_, there.1)
 
-pub program_or_fault : (ws : List Word) → ((p : Program) × IsSpelled 3 ws p) ⊎ ((k : ℕ) × IsSyntaxFault 3 ws k)
-program_or_fault ws = program_or_place ws (fault (Some (Globals ∷ [])) ws) refl
+  pub program_or_fault : (ws : List Word) → AreOf language ws → ((p : Program) × IsSpelled language ws p) ⊎ ((k : ℕ) × IsSyntaxFault language ws k)
+  program_or_fault ws all = program_or_place ws (fault (Some (Globals ∷ [])) ws) all refl
+
+pub program_or_fault_3 : (ws : List Word) → ((p : Program) × IsSpelled 3 ws p) ⊎ ((k : ℕ) × IsSyntaxFault 3 ws k)
+program_or_fault_3 ws = program_or_fault 3 (omega arith) ws (are_of ws)

@@ -39,7 +39,7 @@ use Rattle.tc_tree.specs.Grammar.{
   AreWell,
   IsWellOtherwise,
 }
-use Rattle.tc_syntax.proofs.Trees.{opens, is_else}
+use Rattle.tc_syntax.proofs.Trees.{opens, is_else, statements_begin}
 use Rattle.tc_grammar.proofs.Expressions.{next_operator, expression_same, no_expression, list_same}
 
 -- an expression up to a sign that it doesn't go on with
@@ -137,23 +137,6 @@ no_end (Assert q e) p r rest is = cc
 no_end (While q c b z) p r rest is = cc
 no_end (If q c b z o) p r rest is = cc
 
-starts_no_else : (a : Statement) (rest : List Word) → is_else (statement_then a rest) ≡ false
-starts_no_else (Assign x e) rest = refl
-starts_no_else (Store a i e) rest = refl
-starts_no_else (Create h f es) rest = refl
-starts_no_else (Swap a x e) rest = refl
-starts_no_else (Cas a x e f) rest = refl
-starts_no_else (Act q a x) rest = refl
-starts_no_else (Wait q c m) rest = refl
-starts_no_else (Order q b) rest = refl
-starts_no_else (Assert q e) rest = refl
-starts_no_else (While q c b z) rest = refl
-starts_no_else (If q c b z o) rest = refl
-
-no_else : (b : Statements) (p : Place) (rest : List Word) → is_else (statements_then b (AnEnd p ∷ rest)) ≡ false
-no_else Nil p rest = refl
-no_else (Cons a b) p rest = starts_no_else a (statements_then b (AnEnd p ∷ rest))
-
 else_next : (rest ws : List Word) → rest ≡ AKeyword keyword.Else ∷ ws → is_else rest ≡ false → ⊥
 else_next rest ws is h = let yes : is_else rest ≡ true = ap is_else is in cc
 
@@ -194,7 +177,7 @@ mutual
   statements_same Nil (Cons b ys) p q r s g h is = absurd (no_end b p r (statements_then ys (AnEnd q ∷ s)) (sym is))
   statements_same (Cons a xs) Nil p q r s g h is = absurd (no_end a q s (statements_then xs (AnEnd p ∷ r)) is)
   statements_same (Cons a xs) (Cons b ys) p q r s g h is =
-      let first = statement_same a b (statements_then xs (AnEnd p ∷ r)) (statements_then ys (AnEnd q ∷ s)) g.0 h.0 (no_else xs p r) (no_else ys q s) is in
+      let first = statement_same a b (statements_then xs (AnEnd p ∷ r)) (statements_then ys (AnEnd q ∷ s)) g.0 h.0 (statements_begin xs (AnEnd p ∷ r) refl) (statements_begin ys (AnEnd q ∷ s) refl) is in
       let others = statements_same xs ys p q r s g.1 h.1 first.1 in
       (cc, others.1, others.2)
 

@@ -1,7 +1,7 @@
 //! Laws of the grammar. They do nothing when they run.
-ghost use Rattle.std.specs.Prelude.{◌≡◌, ◌⊎◌, ℕ, List};
+ghost use Rattle.std.specs.Prelude.{◌≡◌, ◌≤◌, ◌⊎◌, ℕ, List};
 ghost use Rattle.tc_tree.specs.declared.word.Word.{Word as OneWord};
-ghost use Rattle.tc_tree.specs.Grammar.{Program as OneProgram, IsSpelled, IsSyntaxFault};
+ghost use Rattle.tc_tree.specs.Grammar.{Program as OneProgram, AreOf, IsSpelled, IsSyntaxFault};
 
 /// Words are one program at most: the grammar, with its precedence, gives them no second tree.
 pub fn words_are_one_program()
@@ -13,6 +13,8 @@ pub fn words_are_one_program()
 pub fn words_have_one_fault()
     ensures some { (words : List OneWord)
         → ((program : OneProgram) × IsSpelled 3 words program) ⊎ ((k : ℕ) × IsSyntaxFault 3 words k) }
+    ensures earlier { (language : ℕ) (words : List OneWord) → 1 ≤ language → AreOf language words
+        → ((program : OneProgram) × IsSpelled language words program) ⊎ ((k : ℕ) × IsSyntaxFault language words k) }
     ensures one { (language : ℕ) (words : List OneWord) (this that : ℕ)
         → IsSyntaxFault language words this → IsSyntaxFault language words that → this ≡ that }
     ensures none { (language : ℕ) (words : List OneWord) (k : ℕ) (program : OneProgram)

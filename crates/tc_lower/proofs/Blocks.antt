@@ -27,13 +27,14 @@ use Rattle.std.proofs.Common.{
 use Rattle.std.proofs.lemmas.Bool.{cases_lt}
 use Rattle.std.proofs.lemmas.Option.{none-some, same_Some}
 use Rattle.tc_code.specs.Expr.{Expr}
-use Rattle.tc_code.specs.Instr.{Instr, Set, Load, Load_at, Store, Store_at, Inside, Branch, Goto, Holds, Lock, Unlock, Sleep, Wake}
-use Rattle.tc_code.specs.Instr.{Signal, Broadcast, Create, Ready, Join, Assert, Nonzero, In_range, Swap, Cas, Fence, Stbar, Exit}
+use Rattle.tc_code.specs.declared.instr.Instr.{Instr}
+use Rattle.tc_code.specs.declared.instr.Instr.TheVariants.{Set, Load, LoadAt, Store, StoreAt, Inside, Branch, Goto, Holds, Lock, Unlock, Sleep, Wake}
+use Rattle.tc_code.specs.declared.instr.Instr.TheVariants.{Signal, Broadcast, Create, Ready, Join, Assert, Nonzero, InRange, Swap, Cas, Fence, Stbar, Exit}
 use Rattle.tc_code.specs.Lawful.{target, is_bound, keeps, StandsBefore}
 
 -- whether an instruction goes only with the one before it: no jump leads to it
 abbrev pub is_glued : Instr → Bool
-is_glued (Load_at t a len i) = true
+is_glued (LoadAt t a len i) = true
 is_glued i = is_bound i
 
 -- a jump may lead to a place
@@ -62,8 +63,8 @@ May all s e k (Unlock m) = StandsBefore all k (Holds m)
 May all s e k (Sleep c m) = StandsBefore all k (Holds m) × (slice_get all (k + 1) ≡ Some (Wake c m))
 May all s e k (Wake c m) = StandsBefore all k (Sleep c m)
 May all s e k (Join h) = StandsBefore all k (Ready h)
-May all s e k (Load_at t a len i) = StandsBefore all k (Inside len i)
-May all s e k (Store_at a len i v) = IsTested all s e k len i
+May all s e k (LoadAt t a len i) = StandsBefore all k (Inside len i)
+May all s e k (StoreAt a len i v) = IsTested all s e k len i
 May all s e k (Branch c to) = Lands all s e to
 May all s e k (Goto to) = Lands all s e to
 May all s e k Exit = ⊥
@@ -79,7 +80,7 @@ May all s e k (Create h f es) = Unit {0}
 May all s e k (Ready h) = Unit {0}
 May all s e k (Assert v) = Unit {0}
 May all s e k (Nonzero v) = Unit {0}
-May all s e k (In_range v) = Unit {0}
+May all s e k (InRange v) = Unit {0}
 May all s e k (Swap t c v) = Unit {0}
 May all s e k (Cas t c v w) = Unit {0}
 May all s e k Fence = Unit {0}
@@ -144,14 +145,14 @@ larger_tested all s e s' e' k len index low within spares t = record {
 
 larger : (all : List Instr) (s e s' e' k : ℕ) (i : Instr) → s ≤ s' → e' ≤ e → (e' < e → IsFree all e') → Spares all s e s' e' → k < e'
     → May all s' e' k i → May all s e k i
-larger all s e s' e' k (Store_at a len index v) low high free spares within h = larger_tested all s e s' e' k len index low within spares h
+larger all s e s' e' k (StoreAt a len index v) low high free spares within h = larger_tested all s e s' e' k len index low within spares h
 larger all s e s' e' k (Branch c to) low high free spares within h = larger_lands all s e s' e' to low high free h
 larger all s e s' e' k (Goto to) low high free spares within h = larger_lands all s e s' e' to low high free h
 larger all s e s' e' k (Unlock m) low high free spares within h = h
 larger all s e s' e' k (Sleep c m) low high free spares within h = h
 larger all s e s' e' k (Wake c m) low high free spares within h = h
 larger all s e s' e' k (Join m) low high free spares within h = h
-larger all s e s' e' k (Load_at t a len index) low high free spares within h = h
+larger all s e s' e' k (LoadAt t a len index) low high free spares within h = h
 larger all s e s' e' k Exit low high free spares within h = h
 larger all s e s' e' k (Set t v) low high free spares within h = h
 larger all s e s' e' k (Load t c) low high free spares within h = h
@@ -165,7 +166,7 @@ larger all s e s' e' k (Create t f es) low high free spares within h = h
 larger all s e s' e' k (Ready t) low high free spares within h = h
 larger all s e s' e' k (Assert v) low high free spares within h = h
 larger all s e s' e' k (Nonzero v) low high free spares within h = h
-larger all s e s' e' k (In_range v) low high free spares within h = h
+larger all s e s' e' k (InRange v) low high free spares within h = h
 larger all s e s' e' k (Swap t c v) low high free spares within h = h
 larger all s e s' e' k (Cas t c v w) low high free spares within h = h
 larger all s e s' e' k Fence low high free spares within h = h
@@ -384,17 +385,17 @@ looped_back all s m n c test back a b =
 
 -- the test of an index, what finds a value and leaves the index as it is, and the store
 pub stored_after : (all : List Instr) (s m first len : ℕ) (index value : Expr) → slice_get all s ≡ Some (Inside len index)
-    → slice_get all m ≡ Some (Store_at first len index value)
+    → slice_get all m ≡ Some (StoreAt first len index value)
     → ((at : ℕ) (i : Instr) → slice_get all at ≡ Some i → s < at → at < m → IsTrue (keeps index i)) → Block all (s + 1) m → Block all s (m + 1)
 stored_after all s m first len index value test write kept a =
     let ends : s + 1 ≤ m = a.ends in
-    let free_m : IsFree all m = free_at all m (Store_at first len index value) write refl in
+    let free_m : IsFree all m = free_at all m (StoreAt first len index value) write refl in
     let spares : Spares all s (m + 1) (s + 1) m = λ from to i above below outside there leads.
     elim outside [
       | inl less ↦ let same : from ≡ s = omega (arith, less, above) in
           absurd (no_jump all s (Inside len index) i to test refl (subst (λ n. slice_get all n ≡ Some i) same there) leads)
       | inr more ↦ let same : from ≡ m = omega (arith, more, below) in
-          absurd (no_jump all m (Store_at first len index value) i to write refl (subst (λ n. slice_get all n ≡ Some i) same there) leads)
+          absurd (no_jump all m (StoreAt first len index value) i to write refl (subst (λ n. slice_get all n ≡ Some i) same there) leads)
     ] in
     let tested : IsTested all s (m + 1) m len index = record {
       place = s;
@@ -407,7 +408,7 @@ stored_after all s m first len index value test write kept a =
             | inl later ↦ elim (cases_lt from m) [
               | inl inside ↦ (later, inside)
               | inr end ↦ let same : from ≡ m = omega (arith, end, below) in
-                  absurd (no_jump all m (Store_at first len index value) i to write refl (subst (λ n. slice_get all n ≡ Some i) same there) leads)
+                  absurd (no_jump all m (StoreAt first len index value) i to write refl (subst (λ n. slice_get all n ≡ Some i) same there) leads)
             ]
             | inr here ↦ let same : from ≡ s = omega (arith, here, above) in
                 absurd (no_jump all s (Inside len index) i to test refl (subst (λ n. slice_get all n ≡ Some i) same there) leads)
@@ -422,7 +423,7 @@ stored_after all s m first len index value test write kept a =
               | inl inside ↦ inner all s (m + 1) (s + 1) m (omega arith) (omega arith) (λ less. free_m) spares a k i (omega (arith, later)) inside there
               | inr end ↦
                   let same : m ≡ k = omega (arith, end, below) in
-                  stands_there all s (m + 1) m k (Store_at first len index value) i same write there
+                  stands_there all s (m + 1) m k (StoreAt first len index value) i same write there
                   (subst (λ n. IsTested all s (m + 1) n len index) same tested)
             ]
           ];

@@ -45,21 +45,14 @@ use Rattle.std.proofs.Common.{
 use Rattle.std.proofs.Math.ListN.{drop_of_length-le}
 use Rattle.std.proofs.Math.Seq.{set-append_seam}
 use Rattle.std.proofs.lemmas.List.{append-nil, length-set, length-replicate, set-append_left}
+use Rattle.tc_base.specs.declared.limits.TheConstants.{PROGRAM_BYTES}
 use Rattle.tc_base.specs.declared.place.Place.{Place}
 use Rattle.tc_code.specs.Expr.{Expr}
-use Rattle.tc_code.specs.Instr.{Instr, Branch, Goto}
-use Rattle.tc_code.specs.SeenExpr.{plain_expr}
+use Rattle.tc_code.specs.declared.instr.Instr.{Instr}
+use Rattle.tc_code.specs.declared.instr.Instr.TheVariants.{Branch, Goto}
 use Rattle.tc_tree.specs.declared.expression.Name.{Name}
 use Rattle.tc_tree.specs.Grammar.{Otherwise, ElseIf}
-use Rattle.tc_tree.specs.Seen.{
-  SeenBlock,
-  SeenBranch,
-  statement_of,
-  statements_of,
-  branch_of,
-  block_of,
-  otherwise_of,
-}
+use Rattle.tc_tree.specs.Seen.{SeenBlock, SeenBranch, statement_of, statements_of, branch_of, block_of, otherwise_of}
 use Rattle.tc_tree.specs.declared.statement.Statement.{Statement as TreeStatement, If}
 use Rattle.tc_tree.specs.declared.statement.Block.{Block}
 use Rattle.tc_tree.specs.declared.statement.Branch.{Branch as TreeBranch}
@@ -68,10 +61,11 @@ use Rattle.tc_lower.specs.declared.statement.Test.{Test}
 use Rattle.tc_lower.specs.declared.things.Thing.{Thing}
 use Rattle.tc_lower.specs.Statements.{Written, on_line, Lowered, lowered, all_lowered, lowered_otherwise, goes_on, passing, after_body, branched, looped}
 use Rattle.tc_lower.specs.Values.{Evaluated, evaluated}
-use Rattle.tc_lower.specs.helpers.Bodies.{IsReady, IsWritten, IsBegun, Below, filled, open_branch, jump_place, statements_seen}
+use Rattle.tc_tree.specs.helpers.Parts.{statements_seen}
+use Rattle.tc_lower.specs.helpers.Bodies.{IsReady, IsWritten, IsBegun, Below, filled, open_branch, jump_place}
 use Rattle.tc_lower.specs.helpers.Seen.{IsAdded}
 use Rattle.tc_lower.proofs.Lists.{drop-next}
-use Rattle.tc_lower.proofs.Views.{if_seen, branch_body, branch_place}
+use Rattle.tc_tree.proofs.Views.{if_seen, branch_body, branch_place}
 
 -- ---- jumps to the end
 
@@ -110,7 +104,7 @@ pub record SoFar (start w : Body) (jumps : List ℕ) (all left : Lowered) : Type
   pub lines : start.lines.items ++ all.lines ≡ w.lines.items ++ left.lines
   pub free : all.free ≡ left.free
   pub even : length w.lines.items ≡ length w.code.draft
-  pub room : w.code.free ≤ length w.code.draft + 65536
+  pub room : w.code.free ≤ length w.code.draft + PROGRAM_BYTES
   pub below : Below (length w.code.draft) jumps
 
 -- one part and then others
@@ -166,7 +160,7 @@ pub jump_left : (start w new : Body) (jumps : List ℕ) (all left others : Lower
     → SoFar start w jumps all left → left.instrs ≡ before ++ Goto (length w.code.draft + length left.instrs) ∷ [] ++ others.instrs
     → left.lines ≡ lines ++ others.lines → left.free ≡ others.free
     → new.code.draft ≡ w.code.draft ++ (before ++ Goto 0 ∷ []) → new.lines.items ≡ w.lines.items ++ lines
-    → length new.lines.items ≡ length new.code.draft → new.code.free ≤ length new.code.draft + 65536
+    → length new.lines.items ≡ length new.code.draft → new.code.free ≤ length new.code.draft + PROGRAM_BYTES
     → SoFar start new (jumps ++ (length w.code.draft + length before) ∷ []) all others
 jump_left start w new jumps all left others before lines o instrs_are lines_are free_is draft new_lines even room =
     let end = length w.code.draft + length left.instrs in
@@ -334,7 +328,7 @@ set-branch old test body tail room branch =
 pub test_ended : (old begun inner passed new : Body) (test : Evaluated) (line : ℕ) (t : Test) (body : Lowered) (tail : List Instr)
     → IsBegun old begun test line t → IsWritten begun inner body → passed.code.draft ≡ inner.code.draft ++ tail → passed.code.free ≡ inner.code.free
     → passed.lines.items ≡ inner.lines.items ++ replicate (length passed.code.draft - length inner.lines.items) line
-    → new.code.draft ≡ set passed.code.draft t.branch (Branch (plain_expr t.condition) (length passed.code.draft))
+    → new.code.draft ≡ set passed.code.draft t.branch (Branch t.condition (length passed.code.draft))
     → new.lines.items ≡ passed.lines.items → new.code.free ≡ passed.code.free
     → IsWritten old new
     (tested_body line test test.value (length old.code.draft + length test.instrs + 1 + length body.instrs + length tail) body tail)
@@ -355,7 +349,7 @@ test_ended old begun inner passed new test line t body tail b w draft free lines
     let new_size : length new.code.draft ≡ length passed.code.draft = ap length put ∙ length-set passed.code.draft t.branch _ in
     record {
       instrs =
-          put ∙ ap (λ n. set passed.code.draft t.branch (Branch (plain_expr t.condition) n)) target
+          put ∙ ap (λ n. set passed.code.draft t.branch (Branch t.condition n)) target
           ∙ ap (λ e. set passed.code.draft t.branch (Branch e (length old.code.draft + length test.instrs + 1 + length body.instrs + length tail))) b.condition
           ∙ ap (λ n. set passed.code.draft n branch) b.branch
           ∙ ap (λ is. set is (length old.code.draft + length test.instrs) branch) parts
@@ -574,7 +568,7 @@ module _ (scope : Name → Option Thing) (old begun inner left passed new : Body
       length inner.code.draft ≡ length old.code.draft + length test.instrs + 1 + length body.instrs
   inner_size = omega (arith, branch_size, ap (λ v. length v.draft) code, ap length draft, length-append inner.code.draft tail)
 
-  pub branch_ended : new.code.draft ≡ set passed.code.draft t.branch (Branch (plain_expr t.condition) (length passed.code.draft))
+  pub branch_ended : new.code.draft ≡ set passed.code.draft t.branch (Branch t.condition (length passed.code.draft))
       → new.lines.items ≡ passed.lines.items → new.code.free ≡ passed.code.free
       → let test = evaluated scope (length old.code.draft) old.code.free (branch_of b).condition in
       let body = all_lowered scope (length old.code.draft + length test.instrs + 1) test.free (branch_of b).body.statements in

@@ -1,5 +1,6 @@
 -- What a program's words leave room for.
 use Rattle.std.proofs.Common.{ℕ, ◌+◌, ◌*◌, ◌≤◌, List, [], ◌∷◌, length, arith}
+use Rattle.tc_base.specs.declared.limits.TheConstants.{PROGRAM_BYTES}
 use Rattle.tc_tree.specs.declared.expression.Name.{Name}
 use Rattle.tc_tree.specs.declared.program.Global.{Global}
 use Rattle.tc_tree.specs.declared.program.Global.TheVariants.{Int, Array, Mutex, Condition}
@@ -63,13 +64,13 @@ module _ (source : List ℕ) (all : List Named) where
         statements_width (scope source (own_things parameters b.locals) all) 0 (length parameters + ints b.locals) b.statements (AnEnd b.end ∷ rest),
       )
 
-  body_fits : (parameters : List Name) (b : Body) (rest : List Word) (n : ℕ) → length parameters + length (body_then b rest) ≤ n → n ≤ 65536
+  body_fits : (parameters : List Name) (b : Body) (rest : List Word) (n : ℕ) → length parameters + length (body_then b rest) ≤ n → n ≤ PROGRAM_BYTES
       → BodyFits source all parameters b
   body_fits parameters b rest n up few =
       let w = body_width parameters b rest in
       record { slots = omega (arith, w, up, few); instrs = omega (arith, w, up, few) }
 
-  threads_fit : (ts : List Thread) (rest : List Word) (n : ℕ) → length (threads_then ts rest) ≤ n → n ≤ 65536 → ThreadsFit source all ts
+  threads_fit : (ts : List Thread) (rest : List Word) (n : ℕ) → length (threads_then ts rest) ≤ n → n ≤ PROGRAM_BYTES → ThreadsFit source all ts
   threads_fit [] rest n up few = tt
   threads_fit (t ∷ ts) rest n up few =
       let p = parameters_width t.parameters (ASign sign.CloseParen ∷ body_then t.body (threads_then ts rest)) in
@@ -90,18 +91,18 @@ module _ (source : List ℕ) (all : List Named) where
 
 -- what a program of few words has
 pub record HasFew (source : List ℕ) (all : List Named) (p : Program) : Type 0 where
-  pub globals : length p.globals ≤ 65536
-  pub threads : length p.threads ≤ 65536
+  pub globals : length p.globals ≤ PROGRAM_BYTES
+  pub threads : length p.threads ≤ PROGRAM_BYTES
   pub bodies : ThreadsFit source all p.threads
   pub main : BodyFits source all [] p.main
 
-pub has_few : (source : List ℕ) (all : List Named) (p : Program) → length (program_words p) ≤ 65536 → HasFew source all p
+pub has_few : (source : List ℕ) (all : List Named) (p : Program) → length (program_words p) ≤ PROGRAM_BYTES → HasFew source all p
 has_few source all p few =
     let g = globals_width p.globals (threads_then p.threads (AKeyword keyword.Main ∷ body_then p.main [])) in
     let t = threads_count source all p.threads (AKeyword keyword.Main ∷ body_then p.main []) in
     record {
       globals = omega (arith, g, few);
       threads = omega (arith, g, t, few);
-      bodies = threads_fit source all p.threads (AKeyword keyword.Main ∷ body_then p.main []) 65536 (omega (arith, g, few)) (omega arith);
-      main = body_fits source all [] p.main [] 65536 (omega (arith, g, t, few)) (omega arith);
+      bodies = threads_fit source all p.threads (AKeyword keyword.Main ∷ body_then p.main []) PROGRAM_BYTES (omega (arith, g, few)) (omega arith);
+      main = body_fits source all [] p.main [] PROGRAM_BYTES (omega (arith, g, t, few)) (omega arith);
     }

@@ -33,16 +33,18 @@ use Rattle.std.proofs.lemmas.Bool.{cases_lt, true≢false}
 use Rattle.std.proofs.lemmas.List.{append-nil}
 use Rattle.std.proofs.lemmas.Option.{none-some, slice_get_within}
 use Rattle.tc_code.specs.Expr.{Expr}
-use Rattle.tc_code.specs.Instr.{Instr, Load_at, Store_at, Inside, Unlock, Sleep, Wake, Join, Exit}
+use Rattle.tc_code.specs.declared.instr.Instr.{Instr}
+use Rattle.tc_code.specs.declared.instr.Instr.TheVariants.{LoadAt, StoreAt, Inside, Unlock, Sleep, Wake, Join, Exit}
 use Rattle.tc_code.specs.Code.{Code}
 use Rattle.tc_code.specs.Lawful.{names_what_is, is_bound, target, StandsBefore, IsTarget, IsGuarded, IsLawfulFunction}
 use Rattle.tc_code.specs.declared.code.Func.{Func}
 use Rattle.tc_lower.proofs.Blocks.{Block, Lands, is_glued, block_lands, there_is}
+use Rattle.tc_lower.proofs.Ints.{AllFine, fine_append, fine_at, none}
 use Rattle.tc_lower.proofs.Parts.{IsAt, at_right, at_first, all_append, all_pass}
 
 -- what isn't bound to the one before it for a jump's sake isn't bound
 unbound : (i : Instr) → is_glued i ≡ false → is_bound i ≡ false
-unbound (Load_at t a len index) h = refl
+unbound (LoadAt t a len index) h = refl
 unbound (Unlock m) h = h
 unbound (Sleep c m) h = h
 unbound (Wake c m) h = h
@@ -109,10 +111,10 @@ module _ (code : Code) (f : Func) (body : List Instr) (whole : f.instrs ≡ body
             record { instr = Exit; there = subst (λ p. slice_get f.instrs p ≡ Some Exit) same exit_at; unbound = refl }
       ]
 
-  load_guarded : (k slot first len : ℕ) (index : Expr) → slice_get f.instrs k ≡ Some (Load_at slot first len index) → IsGuarded f.instrs len index k
+  load_guarded : (k slot first len : ℕ) (index : Expr) → slice_get f.instrs k ≡ Some (LoadAt slot first len index) → IsGuarded f.instrs len index k
   load_guarded k slot first len index there =
-      let within = inside k (Load_at slot first len index) there (λ e. absurd cc) in
-      let test = before_is f.instrs k (Inside len index) (block.stands k (Load_at slot first len index) (omega arith) within there) in (
+      let within = inside k (LoadAt slot first len index) there (λ e. absurd cc) in
+      let test = before_is f.instrs k (Inside len index) (block.stands k (LoadAt slot first len index) (omega arith) within there) in (
         test.0,
         record {
           before = omega (arith, test.1);
@@ -122,15 +124,15 @@ module _ (code : Code) (f : Func) (body : List Instr) (whole : f.instrs ≡ body
               let same : to ≡ k = omega (arith, test.1, low, high) in
               let l = jump_inside from to i here leads in
               let less : to < length body = omega (arith, same, within) in
-              absurd (true≢false (l.free less (Load_at slot first len index) (subst (λ p. slice_get f.instrs p ≡ Some (Load_at slot first len index)) (sym
+              absurd (true≢false (l.free less (LoadAt slot first len index) (subst (λ p. slice_get f.instrs p ≡ Some (LoadAt slot first len index)) (sym
               same) there)));
         },
       )
 
-  store_guarded : (k first len : ℕ) (index value : Expr) → slice_get f.instrs k ≡ Some (Store_at first len index value) → IsGuarded f.instrs len index k
+  store_guarded : (k first len : ℕ) (index value : Expr) → slice_get f.instrs k ≡ Some (StoreAt first len index value) → IsGuarded f.instrs len index k
   store_guarded k first len index value there =
-      let within = inside k (Store_at first len index value) there (λ e. absurd cc) in
-      let t = block.stands k (Store_at first len index value) (omega arith) within there in (
+      let within = inside k (StoreAt first len index value) there (λ e. absurd cc) in
+      let t = block.stands k (StoreAt first len index value) (omega arith) within there in (
         t.place,
         record {
           before = t.before;
@@ -141,13 +143,15 @@ module _ (code : Code) (f : Func) (body : List Instr) (whole : f.instrs ≡ body
         },
       )
 
-  pub function_is_lawful : length f.lines ≡ length f.instrs → f.params ≤ f.ints → IsTrue (list_all (names_what_is code f) body) → IsLawfulFunction code f
-  function_is_lawful lines params named = record {
+  pub function_is_lawful : length f.lines ≡ length f.instrs → f.params ≤ f.ints → IsTrue (list_all (names_what_is code f) body) → AllFine body
+      → IsLawfulFunction code f
+  function_is_lawful lines params named fine = record {
     lines = lines;
     params = params;
     names = λ k i there.
         all_pass (names_what_is code f) f.instrs 0 (body ++ Exit ∷ []) is_at (all_append (names_what_is code f) body (Exit ∷ []) named refl) k i (omega arith)
         (omega (arith, slice_get_within f.instrs k i there, size, length-append body (Exit ∷ []))) there;
+    ints = fine_at f.instrs (subst AllFine (sym whole) (fine_append body (Exit ∷ []) fine (none, tt)));
     jump = jump_lands;
     unlock = λ k m there. block.stands k (Unlock m) (omega arith) (inside k (Unlock m) there (λ e. absurd cc)) there;
     sleep = λ k c m there. (block.stands k (Sleep c m) (omega arith) (inside k (Sleep c m) there (λ e. absurd cc)) there).0;

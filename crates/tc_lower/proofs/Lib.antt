@@ -1,7 +1,6 @@
 pub mod Lists
 pub mod Values
 pub mod Numbering
-pub mod Views
 pub mod Chains
 pub mod Blocks
 pub mod Parts
@@ -9,6 +8,7 @@ pub mod Sound
 pub mod Pieces
 pub mod Functions
 pub mod Programs
+pub mod Ints
 pub mod Widths
 pub mod Fits
 pub mod Memory

@@ -25,11 +25,13 @@ set-choice old p q decided room branch last place e =
 pub ruleset choices = (rows, set-choice)
 
 -- one element further in a list
+pub drop-here : {A : Type 0} (xs : List A) (k : ℕ) (x : A) → k < length xs → x ≡ get_or xs k x → drop k xs ≡ x ∷ drop (k + 1) xs
+drop-here xs k x within is =
+    drop-cons xs k x within ∙ ap (λ y. y ∷ drop (suc k) xs) (sym is) ∙ ap (λ n. x ∷ drop n xs) (sym (add-one k))
+
 pub drop-next : {A B : Type 0} (f : A → B) (xs : List A) (k : ℕ) (x : A) → k < length xs → x ≡ get_or xs k x
     → map f (drop k xs) ≡ f x ∷ map f (drop (k + 1) xs)
-drop-next f xs k x within is =
-    ap (map f) (drop-cons xs k x within) ∙ ap (λ y. f y ∷ map f (drop (suc k) xs)) (sym is)
-    ∙ ap (λ n. f x ∷ map f (drop n xs)) (sym (add-one k))
+drop-next f xs k x within is = ap (map f) (drop-here xs k x within is)
 
 -- the first element and those after it
 pub rest_is : {A : Type 0} (rest : List A) (x : A) → 1 ≤ length rest → rest ≡ get_or rest 0 x ∷ take (length rest - 1) (drop 1 rest)

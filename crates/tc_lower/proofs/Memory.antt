@@ -25,6 +25,7 @@ use Rattle.std.proofs.Common.{
   length-append,
 }
 use Rattle.std.proofs.lemmas.List.{append-nil}
+use Rattle.tc_base.specs.declared.limits.TheConstants.{CELLS}
 use Rattle.tc_code.specs.declared.code.Func.{Func}
 use Rattle.tc_tree.specs.declared.program.Global.{Global}
 use Rattle.tc_tree.specs.declared.program.Global.TheVariants.{Int, Array, Mutex, Condition}
@@ -46,7 +47,7 @@ memory_split (Condition c) gs = refl
 -- the cells so far and those of the globals that are left make up all
 pub record CellsSoFar (all : List Global) (memory : List ℤ) (rest : List Global) : Type 0 where
   pub written : memory ++ memory_of rest ≡ memory_of all
-  pub few : length memory + cells rest ≤ 1024
+  pub few : length memory + cells rest ≤ CELLS
 
 pub cells_on : (all : List Global) (memory : List ℤ) (rest : List Global) (x : Global) → CellsSoFar all memory rest → 1 ≤ length rest
     → CellsSoFar all (memory ++ memory_of (get_or rest 0 x ∷ [])) (take (length rest - 1) (drop 1 rest))
@@ -62,7 +63,7 @@ cells_on all memory rest x o some =
     }
 
 pub cell_fits : (all : List Global) (memory : List ℤ) (rest : List Global) (x : Global) → CellsSoFar all memory rest → 1 ≤ length rest
-    → length memory + cells_of (get_or rest 0 x) ≤ 1024
+    → length memory + cells_of (get_or rest 0 x) ≤ CELLS
 cell_fits all memory rest x o some = omega (arith, o.few, ap cells (rest_is rest x some))
 
 -- the functions so far and those of the threads that are left make up all

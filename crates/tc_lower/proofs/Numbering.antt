@@ -1,5 +1,6 @@
 -- Declarations that are numbered one after another.
 use Rattle.std.proofs.Common.{◌≡◌, ℕ, ◌+◌, ◌-◌, ◌≤◌, List, [], ◌∷◌, ◌++◌, length, map, take, drop, get_or, refl, ap, sym, ◌∙◌, append_assoc, arith}
+use Rattle.tc_base.specs.declared.limits.TheConstants.{PROGRAM_BYTES}
 use Rattle.tc_tree.specs.declared.expression.Name.{Name}
 use Rattle.tc_tree.specs.declared.program.Global.{Global}
 use Rattle.tc_tree.specs.declared.program.Global.TheVariants.{Int, Array, Mutex, Condition}
@@ -52,8 +53,8 @@ pub record GlobalsSoFar (start : List Named) (all : List Global) (names : List N
   pub cells : n.cells + cells rest ≡ cells all
   pub mutexes : n.mutexes + mutexes rest ≡ mutexes all
   pub conditions : n.conditions + conditions rest ≡ conditions all
-  pub few_mutexes : n.mutexes + length rest ≤ 65536
-  pub few_conditions : n.conditions + length rest ≤ 65536
+  pub few_mutexes : n.mutexes + length rest ≤ PROGRAM_BYTES
+  pub few_conditions : n.conditions + length rest ≤ PROGRAM_BYTES
 
 global_next : (start : List Named) (all : List Global) (names : List Named) (n : Numbers) (rest : List Global) (g : Global) (later : List Global)
     → GlobalsSoFar start all names n rest → rest ≡ g ∷ later → GlobalsSoFar start all (names ++ global_thing n g ∷ []) (past_global n g) later
@@ -79,7 +80,7 @@ globals_on start all names n rest x o some = global_next start all names n rest 
 
 pub record ThreadsSoFar (start : List Named) (all : List TreeThread) (names : List Named) (function : ℕ) (rest : List TreeThread) : Type 0 where
   pub things : names ++ threads_from function (map thread_of rest) ≡ start ++ threads_from 0 (map thread_of all)
-  pub few : function + length rest ≤ 65536
+  pub few : function + length rest ≤ PROGRAM_BYTES
 
 pub threads_on : (start : List Named) (all : List TreeThread) (names : List Named) (function : ℕ) (rest : List TreeThread) (t : TreeThread)
     → ThreadsSoFar start all names function rest → 1 ≤ length rest → t ≡ get_or rest 0 t
@@ -116,11 +117,11 @@ parameters_on start from all names slot rest x o some =
       count = omega (arith, more, o.count);
     }
 
-pub record LocalsSoFar (start : List Named) (slots tids : ℕ) (all : List Local) (names : List Named) (slot handle : ℕ) (rest : List Local) : Type 0 where
-  pub things : names ++ locals_from slot handle rest ≡ start ++ locals_from slots tids all
+pub record LocalsSoFar (start : List Named) (slots first_handle : ℕ) (all : List Local) (names : List Named) (slot handle : ℕ) (rest : List Local) : Type 0 where
+  pub things : names ++ locals_from slot handle rest ≡ start ++ locals_from slots first_handle all
   pub ints : slot + ints rest ≡ slots + ints all
-  pub handles : handle + handles rest ≡ tids + handles all
-  pub few : slot + handle + length rest ≤ 65536
+  pub handles : handle + handles rest ≡ first_handle + handles all
+  pub few : slot + handle + length rest ≤ PROGRAM_BYTES
 
 ints_split : (l : Local) (ls : List Local) → ints (l ∷ ls) ≡ ints (l ∷ []) + ints ls
 ints_split (LocalInt x) ls = omega arith
@@ -134,12 +135,12 @@ one_more : (l : Local) → ints (l ∷ []) + handles (l ∷ []) ≡ 1
 one_more (LocalInt x) = refl
 one_more (Handle x) = refl
 
-pub locals_on : (start : List Named) (slots tids : ℕ) (all : List Local) (names : List Named) (slot handle : ℕ) (rest : List Local) (l : Local)
-    (n : Named) (slot' handle' : ℕ) → LocalsSoFar start slots tids all names slot handle rest → 1 ≤ length rest
+pub locals_on : (start : List Named) (slots first_handle : ℕ) (all : List Local) (names : List Named) (slot handle : ℕ) (rest : List Local) (l : Local)
+    (n : Named) (slot' handle' : ℕ) → LocalsSoFar start slots first_handle all names slot handle rest → 1 ≤ length rest
     → ((ls : List Local) → locals_from slot handle (get_or rest 0 l ∷ ls) ≡ n ∷ locals_from slot' handle' ls)
     → slot' ≡ slot + ints (get_or rest 0 l ∷ []) → handle' ≡ handle + handles (get_or rest 0 l ∷ [])
-    → LocalsSoFar start slots tids all (names ++ n ∷ []) slot' handle' (take (length rest - 1) (drop 1 rest))
-locals_on start slots tids all names slot handle rest l n slot' handle' o some is slot_is handle_is =
+    → LocalsSoFar start slots first_handle all (names ++ n ∷ []) slot' handle' (take (length rest - 1) (drop 1 rest))
+locals_on start slots first_handle all names slot handle rest l n slot' handle' o some is slot_is handle_is =
     let later = take (length rest - 1) (drop 1 rest) in
     let first = get_or rest 0 l in
     let e : rest ≡ first ∷ later = rest_is rest l some in

@@ -31,7 +31,7 @@ use Rattle.std.proofs.Common.{
 use Rattle.std.specs.List.{list_all}
 use Rattle.std.proofs.lemmas.Bool.{cases_lt, false≢true}
 use Rattle.std.proofs.lemmas.Option.{same_Some}
-use Rattle.tc_code.specs.Instr.{Instr}
+use Rattle.tc_code.specs.declared.instr.Instr.{Instr}
 
 pub record IsAt (all : List Instr) (s : ℕ) (is : List Instr) : Type 0 where
   pub before : List Instr

@@ -34,8 +34,9 @@ use Rattle.std.proofs.lemmas.Bool.Decides.{Decides-eqb}
 use Rattle.std.proofs.lemmas.List.{length-replicate}
 use Rattle.tc_code.specs.Expr.{Expr, names_slots}
 use Rattle.tc_code.specs.Expr as code_expr
-use Rattle.tc_code.specs.Instr as instr
-use Rattle.tc_code.specs.Instr.{Instr, Store_at, Inside, Branch, Goto}
+use Rattle.tc_code.specs.declared.instr.Instr.TheVariants as instr
+use Rattle.tc_code.specs.declared.instr.Instr.{Instr}
+use Rattle.tc_code.specs.declared.instr.Instr.TheVariants.{StoreAt, Inside, Branch, Goto}
 use Rattle.tc_code.specs.Code.{Code}
 use Rattle.tc_code.specs.Lawful.{takes, names_what_is, keeps}
 use Rattle.tc_code.specs.declared.code.Func.{Func}
@@ -184,7 +185,7 @@ module _ (code : Code) (f : Func) (base : ℕ) where
 
   action_piece : (at free : ℕ) (a : Action) (o : Option Thing) → IfThere code f base o → Piece code f at free free (action a o)
   action_piece at free Join (Some (Handle h)) there =
-      two_piece at free (instr.Ready h) (instr.Join h) (lt_true h f.tids there) (lt_true h f.tids there) refl (λ all k. tt)
+      two_piece at free (instr.Ready h) (instr.Join h) (lt_true h f.handles there) (lt_true h f.handles there) refl (λ all k. tt)
       (λ all first. before_next all at (instr.Ready h) first)
   action_piece at free Lock (Some (Mutex m)) there =
       one_piece at free free (instr.Lock m) (omega arith) (λ few. lt_true m code.mutexes there) refl (λ all k. tt)
@@ -226,13 +227,13 @@ module _ (code : Code) (f : Func) (base : ℕ) where
       both_true (names_slots m e) (list_all (names_slots m) es) (names_more e n m up (first_true (names_slots n e) (list_all (names_slots n) es) h))
       (all_named_more es n m up (second_true (names_slots n e) (list_all (names_slots n) es) h))
 
-  created_if : (at free : ℕ) (b : Bool) (h g n : ℕ) (es : List Expr) → nat_eq n (length es) ≡ b → h < f.tids → IsTrue (takes code g n)
+  created_if : (at free : ℕ) (b : Bool) (h g n : ℕ) (es : List Expr) → nat_eq n (length es) ≡ b → h < f.handles → IsTrue (takes code g n)
       → IsTrue (list_all (names_slots free) es) → Piece code f at free free (cond b (instr.Create h g es ∷ []) [])
   created_if at free true h g n es e handle function named =
       let same : n ≡ length es = (Decides-eqb n (length es)).0 e in
       one_piece at free free (instr.Create h g es) (omega arith) (λ few.
-      both_true (nat_lt h f.tids && takes code g (length es)) (list_all (names_slots f.ints) es)
-      (both_true (nat_lt h f.tids) (takes code g (length es)) (lt_true h f.tids handle) (subst (λ k. IsTrue (takes code g k)) same function))
+      both_true (nat_lt h f.handles && takes code g (length es)) (list_all (names_slots f.ints) es)
+      (both_true (nat_lt h f.handles) (takes code g (length es)) (lt_true h f.handles handle) (subst (λ k. IsTrue (takes code g k)) same function))
       (all_named_more es free f.ints few named)) refl (λ all k. tt)
   created_if at free false h g n es e handle function named = no_piece at free
 
@@ -272,7 +273,7 @@ module _ (code : Code) (f : Func) (base : ℕ) where
         let m = at + length index.instrs in
         let test = Inside len index.value in
         let v = evaluated scope (m + 1) index.free e in
-        let write = Store_at first len index.value v.value in
+        let write = StoreAt first len index.value v.value in
         let a = evaluated_sound code f base scope there at free i low in
         let b = evaluated_sound code f base scope there (m + 1) index.free e (omega (arith, low, a.grows)) in
         let end = m + 1 + length v.instrs in

@@ -39,8 +39,9 @@ use Rattle.std.specs.Option.{option_map_or}
 use Rattle.std.proofs.lemmas.Bool.Decides.{Decides-eqb}
 use Rattle.std.proofs.lemmas.List.{length-replicate}
 use Rattle.std.proofs.lemmas.Option.{none-some, same_Some}
-use Rattle.tc_code.specs.Instr.{Exit}
+use Rattle.tc_code.specs.declared.instr.Instr.TheVariants.{Exit}
 use Rattle.tc_code.specs.Code.{Code}
+use Rattle.tc_base.specs.declared.limits.TheConstants.{CELLS}
 use Rattle.tc_code.specs.Lawful.{takes, IsLawfulFunction, IsLawful}
 use Rattle.tc_code.specs.declared.code.Func.{Func}
 use Rattle.tc_tree.specs.declared.expression.Name.{Name}
@@ -73,6 +74,7 @@ use Rattle.tc_lower.specs.Statements.{all_lowered}
 use Rattle.tc_lower.specs.Lowering.{memory_of, function_of, thread_function, code_of}
 use Rattle.tc_lower.proofs.Blocks.{Block}
 use Rattle.tc_lower.proofs.Functions.{function_is_lawful}
+use Rattle.tc_lower.proofs.Ints.{BodyInts, ThreadsInts, ProgramInts}
 use Rattle.tc_lower.proofs.Parts.{IsAt}
 use Rattle.tc_lower.proofs.Pieces.{all_lined}
 use Rattle.tc_lower.proofs.Sound.{InBounds, IfThere, block_at}
@@ -134,7 +136,7 @@ module _ (code : Code) (f : Func) (base : ℕ) where
   parameters_there slot [] h = tt
   parameters_there slot (x ∷ xs) h = (omega (arith, h), parameters_there (slot + 1) xs (omega (arith, h)))
 
-  locals_there : (slot handle : ℕ) (ls : List Local) → slot + ints ls ≤ base → handle + handles ls ≤ f.tids → AllThere code f base (locals_from slot handle ls)
+  locals_there : (slot handle : ℕ) (ls : List Local) → slot + ints ls ≤ base → handle + handles ls ≤ f.handles → AllThere code f base (locals_from slot handle ls)
   locals_there slot handle [] h g = tt
   locals_there slot handle (LocalInt x ∷ ls) h g = (omega (arith, h), locals_there (slot + 1) handle ls (omega (arith, h)) g)
   locals_there slot handle (Handle x ∷ ls) h g = (omega (arith, g), locals_there slot (handle + 1) ls h (omega (arith, g)))
@@ -166,11 +168,11 @@ memory_length (Condition c ∷ gs) = omega (arith, memory_length gs)
 
 -- ---- functions
 
-module _ (source : List ℕ) (p : Program) (few : cells p.globals ≤ 1024) where
+module _ (source : List ℕ) (p : Program) (few : cells p.globals ≤ CELLS) (has : ProgramInts p) where
   -- each function of the program
-  body_lawful : (name : List ℕ) (parameters : List Name) (b : Body)
+  body_lawful : (name : List ℕ) (parameters : List Name) (b : Body) → BodyInts b
       → IsLawfulFunction (code_of source p) (function_of source (program_things p.globals p.threads) name parameters b)
-  body_lawful name parameters b =
+  body_lawful name parameters b fine =
       let code = code_of source p in
       let all = program_things p.globals p.threads in
       let f = function_of source all name parameters b in
@@ -191,22 +193,22 @@ module _ (source : List ℕ) (p : Program) (few : cells p.globals ≤ 1024) wher
       block_at f.instrs 0 0 (0 + length written.instrs) (length written.instrs) refl (omega arith) (lined.piece.block f.instrs is_at) in
       function_is_lawful code f written.instrs refl block
       (omega (arith, lined.lines, length-append written.lines (b.end.line ∷ []), length-append written.instrs (Exit ∷ [])))
-      (omega (arith, lined.piece.grows)) (lined.piece.named (omega arith))
+      (omega (arith, lined.piece.grows)) (lined.piece.named (omega arith)) (fine (scope source own all) 0 base)
 
   each_function : (after : List Func) → ((k : ℕ) (g : Func) → slice_get after k ≡ Some g → IsLawfulFunction (code_of source p) g) →
-      (ts : List Thread) (k : ℕ) (g : Func)
+      (ts : List Thread) → ThreadsInts ts → (k : ℕ) (g : Func)
       → slice_get (map (thread_function source (program_things p.globals p.threads)) ts ++ after) k ≡ Some g → IsLawfulFunction (code_of source p) g
-  each_function after h [] k g there = h k g there
-  each_function after h (t ∷ ts) zero g there =
+  each_function after h [] fine k g there = h k g there
+  each_function after h (t ∷ ts) fine zero g there =
       subst (IsLawfulFunction (code_of source p)) (same_Some (thread_function source (program_things p.globals p.threads) t) g there)
-      (body_lawful (name_text source t.name) t.parameters t.body)
-  each_function after h (t ∷ ts) (suc k) g there = each_function after h ts k g there
+      (body_lawful (name_text source t.name) t.parameters t.body fine.0)
+  each_function after h (t ∷ ts) fine (suc k) g there = each_function after h ts fine.1 k g there
 
   only_main : (k : ℕ) (g : Func) → slice_get (function_of source (program_things p.globals p.threads) (codes "main") [] p.main ∷ []) k ≡ Some g
       → IsLawfulFunction (code_of source p) g
   only_main zero g there =
       subst (IsLawfulFunction (code_of source p)) (same_Some (function_of source (program_things p.globals p.threads) (codes "main") [] p.main) g there)
-      (body_lawful (codes "main") [] p.main)
+      (body_lawful (codes "main") [] p.main has.main)
   only_main (suc k) g there = absurd (none-some g there)
 
   pub program_is_lawful : IsLawful (code_of source p)
@@ -217,6 +219,7 @@ module _ (source : List ℕ) (p : Program) (few : cells p.globals ≤ 1024) wher
       let last : length fs ≡ length (fs ++ main ∷ []) - 1 = omega (arith, length-append fs (main ∷ [])) in
       record {
         cells = omega (arith, memory_length p.globals, few);
-        functions = each_function (main ∷ []) only_main p.threads;
+        ints = has.memory;
+        functions = each_function (main ∷ []) only_main p.threads has.threads;
         main = record { main = main; there = subst (λ k. slice_get (fs ++ main ∷ []) k ≡ Some main) last (seam fs main []); params = refl };
       }

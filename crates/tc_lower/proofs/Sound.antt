@@ -38,7 +38,8 @@ use Rattle.tc_base.specs.declared.arith.BinOp.{BinOp}
 use Rattle.tc_base.specs.declared.arith.BinOp.TheVariants as binary
 use Rattle.tc_code.specs.Expr as code_expr
 use Rattle.tc_code.specs.Expr.{Expr, names_slots, names_slot}
-use Rattle.tc_code.specs.Instr.{Instr, Set, Load, Load_at, Inside, Branch, Nonzero, In_range}
+use Rattle.tc_code.specs.declared.instr.Instr.{Instr}
+use Rattle.tc_code.specs.declared.instr.Instr.TheVariants.{Set, Load, LoadAt, Inside, Branch, Nonzero, InRange}
 use Rattle.tc_code.specs.Code.{Code}
 use Rattle.tc_code.specs.Lawful.{takes, names_what_is, written, keeps}
 use Rattle.tc_code.specs.declared.code.Func.{Func}
@@ -131,7 +132,7 @@ InBounds code f base (Mutex m) = m < code.mutexes
 InBounds code f base (Condition c) = c < code.conditions
 InBounds code f base (Function g n) = IsTrue (takes code g n)
 InBounds code f base (Slot k) = k < base
-InBounds code f base (Handle h) = h < f.tids
+InBounds code f base (Handle h) = h < f.handles
 
 abbrev pub IfThere : Code → Func → ℕ → Option Thing → Type 0
 IfThere code f base (Some t) = InBounds code f base t
@@ -204,9 +205,9 @@ module _ (code : Code) (f : Func) (base : ℕ) where
         (le_true (a + len) (length code.memory) there)) e_named) refl);
     fresh = both_true (nat_le free free) true (le_true free free (omega arith)) refl;
     block = λ all h.
-        two_block all at (Inside len e) (Load_at free a len e) (at_first all at (Inside len e) (Load_at free a len e ∷ []) h)
-        (at_first all (at + 1) (Load_at free a len e) [] (at_next all at (Inside len e) (Load_at free a len e ∷ []) h)) refl (λ k. tt)
-        (before_next all at (Inside len e) (at_first all at (Inside len e) (Load_at free a len e ∷ []) h));
+        two_block all at (Inside len e) (LoadAt free a len e) (at_first all at (Inside len e) (LoadAt free a len e ∷ []) h)
+        (at_first all (at + 1) (LoadAt free a len e) [] (at_next all at (Inside len e) (LoadAt free a len e ∷ []) h)) refl (λ k. tt)
+        (before_next all at (Inside len e) (at_first all at (Inside len e) (LoadAt free a len e ∷ []) h));
   }
   element_sound at free _ e there named = nothing_sound code f at free e named
 
@@ -221,13 +222,13 @@ module _ (code : Code) (f : Func) (base : ℕ) where
   }
 
   in_range_sound : (at free : ℕ) (q v : Expr) → IsTrue (names_slots free q) → IsTrue (names_slots free v)
-      → Sound code f at free (record { instrs = In_range q ∷ []; value = v; free = free })
+      → Sound code f at free (record { instrs = InRange q ∷ []; value = v; free = free })
   in_range_sound at free q v q_named v_named = record {
     grows = omega arith;
     value = v_named;
     named = λ few. both_true (names_slots f.ints q) true (names_more q free f.ints few q_named) refl;
     fresh = refl;
-    block = λ all h. one_block all at (In_range q) (at_first all at (In_range q) [] h) refl (λ k. tt);
+    block = λ all h. one_block all at (InRange q) (at_first all at (InRange q) [] h) refl (λ k. tt);
   }
 
   -- one instruction that writes nothing, and goes with no other

@@ -21,15 +21,14 @@ use Rattle.std.proofs.Common.{
   arith,
   length-append,
 }
+use Rattle.tc_base.specs.declared.limits.TheConstants.{PROGRAM_BYTES}
 use Rattle.tc_code.specs.Expr.{Expr}
-use Rattle.tc_tree.specs.declared.expression.Expression.{Expression as TreeExpression}
 use Rattle.tc_tree.specs.declared.expression.Name.{Name}
 use Rattle.tc_tree.specs.Grammar.{Expression}
-use Rattle.tc_tree.specs.Seen.{expression_of, expressions_of}
 use Rattle.tc_lower.specs.declared.things.Thing.{Thing}
 use Rattle.tc_lower.specs.declared.value.Writer.{Writer}
 use Rattle.tc_lower.specs.Values.{evaluated, arguments}
-use Rattle.tc_lower.proofs.Lists.{drop-next}
+use Rattle.tc_lower.proofs.Lists.{drop-here}
 
 -- the arguments that are left, and what was written, make up all
 pub record ArgumentsSoFar (scope : Name → Option Thing) (start w : Writer) (values : List Expr) (all rest : List Expression) : Type 0 where
@@ -37,32 +36,32 @@ pub record ArgumentsSoFar (scope : Name → Option Thing) (start w : Writer) (va
       ≡ w.draft ++ (arguments scope (length w.draft) w.free rest).instrs
   pub free : (arguments scope (length start.draft) start.free all).free ≡ (arguments scope (length w.draft) w.free rest).free
   pub found : (arguments scope (length start.draft) start.free all).values ≡ values ++ (arguments scope (length w.draft) w.free rest).values
-  pub room : w.free ≤ length w.draft + 65536
+  pub room : w.free ≤ length w.draft + PROGRAM_BYTES
 
-module _ (scope : Name → Option Thing) (start w : Writer) (values : List Expr) (all : List Expression) (xs : List TreeExpression) (k : ℕ) (x : TreeExpression)
-    (so_far : ArgumentsSoFar scope start w values all (expressions_of (drop k xs))) (within : k < length xs) (is : x ≡ get_or xs k x) where
-  next_is : expressions_of (drop k xs) ≡ expression_of x ∷ expressions_of (drop (k + 1) xs)
-  next_is = drop-next expression_of xs k x within is
+module _ (scope : Name → Option Thing) (start w : Writer) (values : List Expr) (all : List Expression) (xs : List Expression) (k : ℕ) (x : Expression)
+    (so_far : ArgumentsSoFar scope start w values all (drop k xs)) (within : k < length xs) (is : x ≡ get_or xs k x) where
+  next_is : (drop k xs) ≡ x ∷ (drop (k + 1) xs)
+  next_is = drop-here xs k x within is
 
   -- the next one fits
   pub argument_fits : length start.draft + length (arguments scope (length start.draft) start.free all).instrs < 2 ^ 18
-      → length w.draft + length (evaluated scope (length w.draft) w.free (expression_of x)).instrs < 2 ^ 18
+      → length w.draft + length (evaluated scope (length w.draft) w.free x).instrs < 2 ^ 18
   argument_fits fits =
-      let first = evaluated scope (length w.draft) w.free (expression_of x) in
-      let others = arguments scope (length w.draft + length first.instrs) first.free (expressions_of (drop (k + 1) xs)) in
+      let first = evaluated scope (length w.draft) w.free x in
+      let others = arguments scope (length w.draft + length first.instrs) first.free (drop (k + 1) xs) in
       let parts : start.draft ++ (arguments scope (length start.draft) start.free all).instrs ≡ w.draft ++ (first.instrs ++ others.instrs) =
       so_far.instrs ∙ ap (λ es. w.draft ++ (arguments scope (length w.draft) w.free es).instrs) next_is in
       omega (arith, fits, simp length-append at (ap length parts))
 
   -- and is then among what was written
   pub argument_next : (new : Writer) (v : Expr)
-      → new.draft ≡ w.draft ++ (evaluated scope (length w.draft) w.free (expression_of x)).instrs
-      → new.free ≡ (evaluated scope (length w.draft) w.free (expression_of x)).free
-      → v ≡ (evaluated scope (length w.draft) w.free (expression_of x)).value → new.free ≤ length new.draft + 65536
-      → ArgumentsSoFar scope start new (values ++ v ∷ []) all (expressions_of (drop (k + 1) xs))
+      → new.draft ≡ w.draft ++ (evaluated scope (length w.draft) w.free x).instrs
+      → new.free ≡ (evaluated scope (length w.draft) w.free x).free
+      → v ≡ (evaluated scope (length w.draft) w.free x).value → new.free ≤ length new.draft + PROGRAM_BYTES
+      → ArgumentsSoFar scope start new (values ++ v ∷ []) all (drop (k + 1) xs)
   argument_next new v draft free value room =
-      let first = evaluated scope (length w.draft) w.free (expression_of x) in
-      let later = expressions_of (drop (k + 1) xs) in
+      let first = evaluated scope (length w.draft) w.free x in
+      let later = (drop (k + 1) xs) in
       let place : length new.draft ≡ length w.draft + length first.instrs = ap length draft ∙ length-append w.draft first.instrs in
       let others : arguments scope (length w.draft + length first.instrs) first.free later ≡ arguments scope (length new.draft) new.free later =
       ap (λ n. arguments scope n first.free later) (sym place) ∙ ap (λ n. arguments scope (length new.draft) n later) (sym free) in

@@ -4,8 +4,9 @@ use Rattle.tc_base.specs.declared.arith.BinOp.{BinOp}
 use Rattle.tc_base.specs.declared.arith.BinOp.TheVariants as binary
 use Rattle.tc_code.specs.Expr.{Expr}
 use Rattle.tc_code.specs.Expr as code_expr
-use Rattle.tc_code.specs.Instr.{Instr, Set, Branch, Goto, Create}
-use Rattle.tc_code.specs.Instr as instr
+use Rattle.tc_code.specs.declared.instr.Instr.{Instr}
+use Rattle.tc_code.specs.declared.instr.Instr.TheVariants.{Set, Branch, Goto, Create}
+use Rattle.tc_code.specs.declared.instr.Instr.TheVariants as instr
 use Rattle.tc_tree.specs.declared.expression.Name.{Name}
 use Rattle.tc_tree.specs.declared.expression.Operator.{Operator}
 use Rattle.tc_tree.specs.declared.statement.Action.{Action}

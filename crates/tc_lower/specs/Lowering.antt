@@ -1,7 +1,7 @@
 -- The code of a program.
 use Rattle.std.specs.Prelude.{ℕ, ◌+◌, ℤ, pos, List, [], ◌∷◌, ◌++◌, length, map, replicate, codes}
 use Rattle.tc_base.specs.Arith.{negated}
-use Rattle.tc_code.specs.Instr.{Exit}
+use Rattle.tc_code.specs.declared.instr.Instr.TheVariants.{Exit}
 use Rattle.tc_code.specs.Code.{Code}
 use Rattle.tc_code.specs.declared.code.Func.{Func}
 use Rattle.tc_tree.specs.declared.expression.Name.{Name}
@@ -38,7 +38,7 @@ function_of source all name parameters b =
       name = name;
       params = length parameters;
       ints = code.free;
-      tids = handles b.locals;
+      handles = handles b.locals;
       instrs = code.instrs ++ Exit ∷ [];
       lines = code.lines ++ b.end.line ∷ [];
     }

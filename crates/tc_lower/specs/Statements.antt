@@ -2,8 +2,8 @@
 use Rattle.std.specs.Prelude.{ℕ, ◌+◌, nat_eq, Bool, true, false, List, [], ◌∷◌, ◌++◌, length, replicate, Option, Some, if◌then◌else◌}
 use Rattle.tc_code.specs.Expr.{Expr}
 use Rattle.tc_code.specs.Expr as code
-use Rattle.tc_code.specs.Instr as instr
-use Rattle.tc_code.specs.Instr.{Instr}
+use Rattle.tc_code.specs.declared.instr.Instr.TheVariants as instr
+use Rattle.tc_code.specs.declared.instr.Instr.{Instr}
 use Rattle.tc_tree.specs.declared.expression.Name.{Name}
 use Rattle.tc_tree.specs.declared.statement.Action.{Action}
 use Rattle.tc_tree.specs.declared.statement.Action.TheVariants.{Join, Lock, Unlock, Signal, Broadcast}
@@ -62,7 +62,7 @@ test_of_index (Some (Array first len)) i = instr.Inside len i ∷ []
 test_of_index _ i = []
 
 abbrev pub store : Option Thing → Expr → Expr → List Instr
-store (Some (Array first len)) i e = instr.Store_at first len i e ∷ []
+store (Some (Array first len)) i e = instr.StoreAt first len i e ∷ []
 store _ i e = []
 
 -- a thread has as many parameters as it is given arguments

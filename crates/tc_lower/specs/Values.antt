@@ -5,7 +5,8 @@ use Rattle.tc_base.specs.declared.arith.BinOp.TheVariants as binary
 use Rattle.tc_base.specs.declared.arith.UnOp.TheVariants.{Not}
 use Rattle.tc_code.specs.Expr as code
 use Rattle.tc_code.specs.Expr.{Expr}
-use Rattle.tc_code.specs.Instr.{Instr, Set, Load, Load_at, Inside, Branch, Nonzero, In_range}
+use Rattle.tc_code.specs.declared.instr.Instr.{Instr}
+use Rattle.tc_code.specs.declared.instr.Instr.TheVariants.{Set, Load, LoadAt, Inside, Branch, Nonzero, InRange}
 use Rattle.tc_tree.specs.declared.expression.Name.{Name}
 use Rattle.tc_tree.specs.declared.expression.Operator.{Operator}
 use Rattle.tc_tree.specs.declared.expression.Operator.TheVariants.{
@@ -47,7 +48,7 @@ variable _ free = record { instrs = []; value = code.Number (pos 0); free = free
 -- an index is tested, and then the element is loaded into the next free slot
 abbrev pub element : Option Thing → Expr → ℕ → Evaluated
 element (Some (Array first len)) i free = record {
-  instrs = Inside len i ∷ Load_at free first len i ∷ [];
+  instrs = Inside len i ∷ LoadAt free first len i ∷ [];
   value = code.Slot free;
   free = free + 1;
 }
@@ -61,8 +62,8 @@ after is v = record { instrs = is ++ v.instrs; value = v.value; free = v.free }
 abbrev pub tested : BinOp → Expr → List Instr
 tested binary.Div e = Nonzero e ∷ []
 tested binary.Rem e = Nonzero e ∷ []
-tested binary.Shl e = In_range e ∷ []
-tested binary.Shr e = In_range e ∷ []
+tested binary.Shl e = InRange e ∷ []
+tested binary.Shr e = InRange e ∷ []
 tested _ e = []
 
 -- an operator over what both sides leave

@@ -1,7 +1,6 @@
 //! Instructions that are being written.
 ghost use Rattle.std.specs.Prelude.{◌≡◌, ◌+◌, ◌<◌, ◌^◌, [], ◌∷◌, ◌++◌, length, OnOk, IfOk, slice_set};
-ghost use Rattle.tc_code.specs.Instr as flat;
-ghost use Rattle.tc_code.specs.Seen.{plain_instr};
+ghost use Rattle.tc_code.specs.declared.instr.Instr.TheVariants as flat;
 
 use std::alloc::{AllocError, Global};
 use std::marker::Model;
@@ -16,15 +15,14 @@ pub(crate) struct Draft {
 impl Model for Draft {
     ghost use Rattle.std.specs.Prelude.{List};
     ghost use Rattle.std.specs.Coded.{coded_list};
-    ghost use Rattle.tc_code.specs.Instr as flat;
-    ghost use Rattle.tc_code.specs.Seen.{plain_instrs};
-    ghost use Rattle.tc_code.specs.helpers.CodedInstr.{coded_instr};
+    ghost use Rattle.tc_code.specs.contracts.instr.Instr as instr;
+    ghost use Rattle.tc_code.specs.declared.instr.Instr.{Instr};
 
-    ghost Value = { List flat.Instr };
+    ghost Value = { List Instr };
 
-    ghost coded = { coded_list coded_instr };
+    ghost coded = { coded_list instr.the_row.coded };
 
-    ghost view = { λ d. plain_instrs d.instrs.items };
+    ghost view = { λ d. d.instrs.items };
 }
 
 impl Draft {
@@ -44,7 +42,7 @@ impl Draft {
     }
 
     pub(crate) fn push(&mut self, instr: Instr) -> Result<(), AllocError>
-        ensures { OnOk result (self.new ≡ self.old ++ plain_instr instr ∷ []) }
+        ensures { OnOk result (self.new ≡ self.old ++ instr ∷ []) }
     {
         self.instrs.push(instr)?;
         Ok(())
@@ -64,7 +62,7 @@ impl Draft {
     #[tactic(auto, using(crate::proofs::Lists::rows))]
     pub(crate) fn put(&mut self, place: usize, instr: Instr)
         requires { place < length self.old }
-        ensures { self.new ≡ slice_set self.old place (plain_instr instr) }
+        ensures { self.new ≡ slice_set self.old place instr }
     {
         self.instrs[place] = instr;
     }

@@ -1,17 +1,19 @@
 //! What holds of the code of every program, and of its names.
 ghost use Rattle.std.specs.Prelude.{ℕ, ◌≤◌, ◌++◌, List};
+ghost use Rattle.tc_base.specs.declared.limits.TheConstants.{CELLS};
 ghost use Rattle.tc_code.specs.Lawful.{IsLawful};
 ghost use Rattle.tc_names.specs.Names.{meaning_in, own_declarations, program_declarations};
 ghost use Rattle.tc_tree.specs.Counts.{cells};
 ghost use Rattle.tc_tree.specs.Grammar.{Body, Program};
+ghost use Rattle.tc_tree.specs.Numbers.{HasInts};
 ghost use Rattle.tc_tree.specs.declared.expression.Name.{Name};
 ghost use Rattle.tc_lower.specs.Kinds.{Agree};
 ghost use Rattle.tc_lower.specs.Lowering.{code_of};
 ghost use Rattle.tc_lower.specs.Things.{scope, own_things, program_things};
 
-/// The code of a program whose globals are few enough is lawful, whatever its names.
+/// The code of a program whose globals are few enough, and whose numbers are ints, is lawful, whatever its names.
 pub fn code_is_lawful()
-    ensures { (source : List ℕ) (p : Program) → cells p.globals ≤ 1024 → IsLawful (code_of source p) }
+    ensures { (source : List ℕ) (p : Program) → cells p.globals ≤ CELLS → HasInts p → IsLawful (code_of source p) }
 {}
 
 /// A name in a body stands for a thing of the kind that the rules on names give it, and for nothing where it has no

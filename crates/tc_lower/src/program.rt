@@ -1,6 +1,8 @@
 //! Programs as code.
 ghost use Rattle.std.specs.Prelude.{◌≡◌, ℤ, pos, ◌+◌, ◌<◌, ◌≤◌, ◌^◌, ◌++◌, ◌∷◌, [], length, map, codes, OnOk, IfOk};
+ghost use Rattle.tc_base.specs.declared.limits.TheConstants.{CELLS, PROGRAM_BYTES};
 ghost use Rattle.tc_tree.specs.Counts as count;
+ghost use Rattle.tc_tree.specs.Numbers.{HasInts};
 ghost use Rattle.tc_tree.specs.Grammar.{program_words};
 ghost use Rattle.tc_tree.specs.Seen.{body_of, thread_of, program_of};
 ghost use Rattle.tc_lower.specs.Lowering as spec;
@@ -18,11 +20,13 @@ use tc_tree::{Body, Global, Initial, Name, Program, Thread, Tree};
 
 /// The code of a program: each thread is a function, and main is the last.
 ///
-/// It takes a tree whose cells fit and whose tokens are those of a text of 65,536 bytes at most. A name that has no
-/// declaration, or one of another kind, has no code: the rules on names keep it out.
+/// It takes what is known of each tree that was read: its cells fit, its tokens are no more than a text may have bytes,
+/// and its numbers are ints. A name that has no declaration, or one of another kind, has no code: the rules on names
+/// keep it out.
 pub fn lower(alloc: Heap, tree: &Tree) -> Result<tc_code::Code, AllocError>
-    requires cells { count.cells (program_of tree.now.program).globals ≤ 1024 }
-    requires few { length (program_words (program_of tree.now.program)) ≤ 65536 }
+    requires cells { count.cells (program_of tree.now.program).globals ≤ CELLS }
+    requires few { length (program_words (program_of tree.now.program)) ≤ PROGRAM_BYTES }
+    requires ints { HasInts (program_of tree.now.program) }
     ensures { IfOk result (λ code. code ≡ spec.code_of tree.now.text.now (program_of tree.now.program)) }
 {
     let program = &tree.program;
@@ -108,7 +112,7 @@ fn name_of(alloc: Heap, text: &[u8]) -> Result<FuncName, AllocError>
 
 /// What each cell begins with.
 fn memory_of(alloc: Heap, globals: &[Global]) -> Result<Vec<i32>, AllocError>
-    requires { count.cells globals.now ≤ 1024 }
+    requires { count.cells globals.now ≤ CELLS }
     ensures { IfOk result (λ memory. memory.items ≡ spec.memory_of globals.now) }
 {
     let mut memory = Vec::new(alloc);
@@ -122,7 +126,7 @@ fn memory_of(alloc: Heap, globals: &[Global]) -> Result<Vec<i32>, AllocError>
 
 /// The cells of the next global.
 fn add_cells(memory: &mut Vec<i32>, global: &Global) -> Result<(), AllocError>
-    requires { length memory.old.items + count.cells_of global.now ≤ 1024 }
+    requires { length memory.old.items + count.cells_of global.now ≤ CELLS }
     ensures { OnOk result (memory.new.items ≡ memory.old.items ++ spec.memory_of (global.now ∷ [])) }
 {
     match global {

@@ -1,7 +1,5 @@
 //! Statements without statements inside, as instructions.
 ghost use Rattle.std.specs.Prelude.{◌≡◌, ◌++◌, [], ◌∷◌, OnOk, IfOk, length};
-ghost use Rattle.tc_tree.specs.Seen.{expression_of, expressions_of};
-ghost use Rattle.tc_code.specs.SeenExpr.{plain_expr, plain_exprs};
 ghost use Rattle.tc_lower.specs.Statements as spec;
 ghost use Rattle.tc_lower.specs.helpers.Seen.{arguments_by, plain_scope, HasRoom, IsAdded};
 
@@ -21,9 +19,9 @@ impl Writer {
         name: &Name,
         value: &Expression,
     ) -> Result<(), AllocError>
-        requires { HasRoom self.old (spec.assigned (plain_scope scope) (length self.old.draft) self.old.free name.now (expression_of value.now)).instrs }
+        requires { HasRoom self.old (spec.assigned (plain_scope scope) (length self.old.draft) self.old.free name.now value.now).instrs }
         ensures { OnOk result (IsAdded self.old self.new (spec.assigned (plain_scope scope.entry) (length self.old.draft) self.old.free name.now
-            (expression_of value.now))) }
+            value.now)) }
     {
         let value = self.evaluate(alloc, scope, value)?;
         match thing_of(scope, name) {
@@ -43,10 +41,9 @@ impl Writer {
         index: &Expression,
         value: &Expression,
     ) -> Result<(), AllocError>
-        requires { HasRoom self.old (spec.stored (plain_scope scope) (length self.old.draft) self.old.free array.now (expression_of index.now) (expression_of
-            value.now)).instrs }
+        requires { HasRoom self.old (spec.stored (plain_scope scope) (length self.old.draft) self.old.free array.now index.now value.now).instrs }
         ensures { OnOk result (IsAdded self.old self.new (spec.stored (plain_scope scope.entry) (length self.old.draft) self.old.free array.now
-            (expression_of index.now) (expression_of value.now))) }
+            index.now value.now)) }
     {
         let array = thing_of(scope, array);
         let index = self.evaluate(alloc, scope, index)?;
@@ -70,7 +67,7 @@ impl Writer {
         array: Option<Thing>,
         index: &Expr,
     ) -> Result<(), AllocError>
-        ensures draft { OnOk result (self.new.draft ≡ self.old.draft ++ spec.test_of_index array (plain_expr index.now)) }
+        ensures draft { OnOk result (self.new.draft ≡ self.old.draft ++ spec.test_of_index array index.now) }
         ensures free { self.new.free ≡ self.old.free }
     {
         match array {
@@ -92,10 +89,9 @@ impl Writer {
         thread: &Name,
         arguments: &[Expression],
     ) -> Result<(), AllocError>
-        requires { HasRoom self.old (spec.created (plain_scope scope) (length self.old.draft) self.old.free handle.now thread.now (expressions_of
-            arguments.now)).instrs }
+        requires { HasRoom self.old (spec.created (plain_scope scope) (length self.old.draft) self.old.free handle.now thread.now arguments.now).instrs }
         ensures { OnOk result (IsAdded self.old self.new (spec.created (plain_scope scope.entry) (length self.old.draft) self.old.free handle.now thread.now
-            (expressions_of arguments.now))) }
+            arguments.now)) }
     {
         let arguments = self.evaluate_all(alloc, scope, arguments)?;
         match (thing_of(scope, handle), thing_of(scope, thread)) {
@@ -120,7 +116,7 @@ impl Writer {
         arguments: &[Expression],
     ) -> Result<Vec<Expr>, AllocError>
         requires { HasRoom self.old (arguments_by scope self.old arguments.now).instrs }
-        ensures values { IfOk result (λ values. plain_exprs values.items ≡ (arguments_by scope.entry self.old arguments.now).values) }
+        ensures values { IfOk result (λ values. values.items ≡ (arguments_by scope.entry self.old arguments.now).values) }
         ensures added { OnOk result (let given = arguments_by scope.entry self.old arguments.now in
             IsAdded self.old self.new (record { instrs = given.instrs; free = given.free })) }
     {
@@ -142,10 +138,9 @@ impl Writer {
         global: &Name,
         value: &Expression,
     ) -> Result<(), AllocError>
-        requires { HasRoom self.old (spec.swapped (plain_scope scope) (length self.old.draft) self.old.free local.now global.now (expression_of
-            value.now)).instrs }
+        requires { HasRoom self.old (spec.swapped (plain_scope scope) (length self.old.draft) self.old.free local.now global.now value.now).instrs }
         ensures { OnOk result (IsAdded self.old self.new (spec.swapped (plain_scope scope.entry) (length self.old.draft) self.old.free local.now global.now
-            (expression_of value.now))) }
+            value.now)) }
     {
         let value = self.evaluate(alloc, scope, value)?;
         let slot = self.take_slot();
@@ -154,7 +149,7 @@ impl Writer {
                 self.draft.push(Instr::Swap { slot, cell, value })?;
                 self.draft.push(Instr::Set {
                     slot: local,
-                    value: Expr::Slot(slot),
+                    value: Expr::slot(slot),
                 })
             }
             _ => self.draft.push(Instr::Set { slot, value }),
@@ -172,10 +167,9 @@ impl Writer {
         expected: &Expression,
         value: &Expression,
     ) -> Result<(), AllocError>
-        requires { HasRoom self.old (spec.compared (plain_scope scope) (length self.old.draft) self.old.free local.now global.now (expression_of
-            expected.now) (expression_of value.now)).instrs }
+        requires { HasRoom self.old (spec.compared (plain_scope scope) (length self.old.draft) self.old.free local.now global.now expected.now value.now).instrs }
         ensures { OnOk result (IsAdded self.old self.new (spec.compared (plain_scope scope.entry) (length self.old.draft) self.old.free local.now global.now
-            (expression_of expected.now) (expression_of value.now))) }
+            expected.now value.now)) }
     {
         let expected = self.evaluate(alloc, scope, expected)?;
         let value = self.evaluate(alloc, scope, value)?;
@@ -190,7 +184,7 @@ impl Writer {
                 })?;
                 self.draft.push(Instr::Set {
                     slot: local,
-                    value: Expr::Slot(slot),
+                    value: Expr::slot(slot),
                 })
             }
             _ => self.draft.push(Instr::Set {
@@ -266,9 +260,8 @@ impl Writer {
         scope: Scope,
         condition: &Expression,
     ) -> Result<(), AllocError>
-        requires { HasRoom self.old (spec.asserted (plain_scope scope) (length self.old.draft) self.old.free (expression_of condition.now)).instrs }
-        ensures { OnOk result (IsAdded self.old self.new (spec.asserted (plain_scope scope.entry) (length self.old.draft) self.old.free (expression_of
-            condition.now))) }
+        requires { HasRoom self.old (spec.asserted (plain_scope scope) (length self.old.draft) self.old.free condition.now).instrs }
+        ensures { OnOk result (IsAdded self.old self.new (spec.asserted (plain_scope scope.entry) (length self.old.draft) self.old.free condition.now)) }
     {
         let condition = self.evaluate(alloc, scope, condition)?;
         self.draft.push(Instr::Assert(condition))

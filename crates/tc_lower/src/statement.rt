@@ -1,22 +1,12 @@
 //! Statements as instructions, each with its line.
 ghost use Rattle.std.specs.Prelude.{◌≡◌, [], ◌+◌, ◌-◌, ◌<◌, ◌≤◌, ◌^◌, ◌∷◌, ◌++◌, OnOk, IfOk, length, map, drop, option_map, replicate, slice_set};
-ghost use Rattle.tc_code.specs.Instr as flat;
-ghost use Rattle.tc_code.specs.SeenExpr.{plain_expr};
+ghost use Rattle.tc_base.specs.declared.limits.TheConstants.{PROGRAM_BYTES};
+ghost use Rattle.tc_code.specs.declared.instr.Instr.TheVariants as flat;
 ghost use Rattle.tc_tree.specs.Seen.{statement_of, block_of, branch_of, otherwise_of};
 ghost use Rattle.tc_lower.specs.Statements as spec;
 ghost use Rattle.tc_lower.specs.helpers.Seen.{plain_scope};
-ghost use Rattle.tc_lower.specs.helpers.Bodies.{
-  statements_seen,
-  IsWritten,
-  IsBegun,
-  while_of,
-  test_of,
-  body_of,
-  open_branch,
-  jump_place,
-  filled,
-  Below,
-};
+ghost use Rattle.tc_tree.specs.helpers.Parts.{statements_seen};
+ghost use Rattle.tc_lower.specs.helpers.Bodies.{IsWritten, IsBegun, while_of, test_of, body_of, open_branch, jump_place, filled, Below};
 
 use crate::draft::Draft;
 use crate::things::{Scope, thing_of};
@@ -62,14 +52,14 @@ impl Body {
         self,
         name: FuncName,
         params: u32,
-        tids: u32,
+        handles: u32,
         line: u32,
     ) -> Result<Func, AllocError>
         ensures { IfOk result (λ f. f ≡ record {
           name = name;
           params = params;
           ints = self.code.free;
-          tids = tids;
+          handles = handles;
           instrs = self.code.draft ++ flat.Exit ∷ [];
           lines = self.lines.items ++ line ∷ [];
         }) }
@@ -82,7 +72,7 @@ impl Body {
             name,
             params,
             ints: free,
-            tids,
+            handles,
             instrs: draft.finish(),
             lines: Lines::new(lines),
         })
@@ -97,7 +87,7 @@ impl Body {
         statements: &[Statement],
     ) -> Result<(), AllocError>
         requires even { length self.old.lines.items ≡ length self.old.code.draft }
-        requires room { self.old.code.free ≤ length self.old.code.draft + 65536 }
+        requires room { self.old.code.free ≤ length self.old.code.draft + PROGRAM_BYTES }
         requires fits { length self.old.code.draft + length (spec.all_lowered (plain_scope scope) (length self.old.code.draft) self.old.code.free
             (statements_seen statements.now)).instrs < 2 ^ 18 }
         ensures { OnOk result (IsWritten self.old self.new
@@ -117,7 +107,7 @@ impl Body {
         statement: &Statement,
     ) -> Result<(), AllocError>
         requires even { length self.old.lines.items ≡ length self.old.code.draft }
-        requires room { self.old.code.free ≤ length self.old.code.draft + 65536 }
+        requires room { self.old.code.free ≤ length self.old.code.draft + PROGRAM_BYTES }
         requires fits { length self.old.code.draft + length (spec.lowered (plain_scope scope) (length self.old.code.draft) self.old.code.free (statement_of
             statement.now)).instrs < 2 ^ 18 }
         ensures { OnOk result (IsWritten self.old self.new
@@ -194,7 +184,7 @@ impl Body {
     #[cycle(statements)]
     fn write_loop(&mut self, alloc: Global, scope: Scope, branch: &Branch) -> Result<(), AllocError>
         requires even { length self.old.lines.items ≡ length self.old.code.draft }
-        requires room { self.old.code.free ≤ length self.old.code.draft + 65536 }
+        requires room { self.old.code.free ≤ length self.old.code.draft + PROGRAM_BYTES }
         requires fits { length self.old.code.draft + length (spec.lowered (plain_scope scope) (length self.old.code.draft) self.old.code.free (while_of
             (branch_of branch.now))).instrs < 2 ^ 18 }
         ensures { OnOk result (IsWritten self.old self.new
@@ -218,7 +208,7 @@ impl Body {
         last: &Option<Block>,
     ) -> Result<(), AllocError>
         requires even { length self.old.lines.items ≡ length self.old.code.draft }
-        requires room { self.old.code.free ≤ length self.old.code.draft + 65536 }
+        requires room { self.old.code.free ≤ length self.old.code.draft + PROGRAM_BYTES }
         requires fits { length self.old.code.draft + length (spec.lowered_otherwise (plain_scope scope) (length self.old.code.draft) self.old.code.free
             (otherwise_of [] (option_map block_of last.now))).instrs < 2 ^ 18 }
         ensures { OnOk result (IsWritten self.old self.new (spec.lowered_otherwise (plain_scope scope.entry) (length self.old.code.draft)
@@ -241,7 +231,7 @@ impl Body {
         jumps: &mut Vec<usize>,
     ) -> Result<(), AllocError>
         requires even { length self.old.lines.items ≡ length self.old.code.draft }
-        requires room { self.old.code.free ≤ length self.old.code.draft + 65536 }
+        requires room { self.old.code.free ≤ length self.old.code.draft + PROGRAM_BYTES }
         requires fits { let b = branch_of branch.now in
             length self.old.code.draft + length (open_branch b.place.line (length self.old.code.draft) (test_of scope self.old b) (body_of scope self.old b)
             more).instrs < 2 ^ 18 }
@@ -276,7 +266,7 @@ impl Body {
     #[tactic(auto, using(crate::proofs::Lists::lined))]
     fn begin(&mut self, alloc: Global, scope: Scope, branch: &Branch) -> Result<Test, AllocError>
         requires even { length self.old.lines.items ≡ length self.old.code.draft }
-        requires room { self.old.code.free ≤ length self.old.code.draft + 65536 }
+        requires room { self.old.code.free ≤ length self.old.code.draft + PROGRAM_BYTES }
         requires fits { length self.old.code.draft + length (test_of scope self.old (branch_of branch.now)).instrs < 2 ^ 18 }
         ensures { IfOk result (λ test. IsBegun self.old self.new (test_of scope.entry self.old (branch_of branch.now)) (branch_of branch.now).place.line test) }
     {
@@ -295,7 +285,7 @@ impl Body {
         requires room { length self.old.code.draft < 2 ^ 31 }
         requires branch { test.branch < length self.old.code.draft }
         ensures draft { self.new.code.draft
-            ≡ slice_set self.old.code.draft test.branch (flat.Branch (plain_expr test.condition) (length self.old.code.draft)) }
+            ≡ slice_set self.old.code.draft test.branch (flat.Branch test.condition (length self.old.code.draft)) }
         ensures lines { self.new.lines.items ≡ self.old.lines.items }
         ensures free { self.new.code.free ≡ self.old.code.free }
     {

@@ -1,5 +1,6 @@
 //! What declarations stand for: tables of names.
 ghost use Rattle.std.specs.Prelude.{◌≡◌, List, ◌∷◌, ◌+◌, ◌<◌, ◌≤◌, ◌^◌, ◌++◌, [], length, map, OnOk, IfOk};
+ghost use Rattle.tc_base.specs.declared.limits.TheConstants.{CELLS, PROGRAM_BYTES};
 ghost use Rattle.tc_tree.specs.Counts as count;
 ghost use Rattle.tc_tree.specs.declared.program.Local.{Local};
 ghost use Rattle.tc_tree.specs.Seen.{thread_of};
@@ -26,9 +27,9 @@ pub(crate) struct ProgramThings {
 
 /// The globals, and then the threads.
 pub(crate) fn program_things(alloc: Heap, program: &Program) -> Result<ProgramThings, AllocError>
-    requires cells { count.cells program.now.globals.items ≤ 1024 }
-    requires globals { length program.now.globals.items ≤ 65536 }
-    requires threads { length program.now.threads.items ≤ 65536 }
+    requires cells { count.cells program.now.globals.items ≤ CELLS }
+    requires globals { length program.now.globals.items ≤ PROGRAM_BYTES }
+    requires threads { length program.now.threads.items ≤ PROGRAM_BYTES }
     ensures names { IfOk result (λ all. all.names.items ≡ spec.program_things program.now.globals.items (map thread_of program.now.threads.items)) }
     ensures mutexes { IfOk result (λ all. all.numbers.mutexes ≡ count.mutexes program.now.globals.items) }
     ensures conditions { IfOk result (λ all. all.numbers.conditions ≡ count.conditions program.now.globals.items) }
@@ -40,8 +41,8 @@ pub(crate) fn program_things(alloc: Heap, program: &Program) -> Result<ProgramTh
 }
 
 fn add_globals(names: &mut Vec<Named>, globals: &[Global]) -> Result<Numbers, AllocError>
-    requires cells { count.cells globals.now ≤ 1024 }
-    requires few { length globals.now ≤ 65536 }
+    requires cells { count.cells globals.now ≤ CELLS }
+    requires few { length globals.now ≤ PROGRAM_BYTES }
     ensures names { OnOk result (names.new.items ≡ names.old.items ++ spec.globals_from spec.no_numbers globals.now) }
     ensures mutexes { IfOk result (λ numbers. numbers.mutexes ≡ count.mutexes globals.now) }
     ensures conditions { IfOk result (λ numbers. numbers.conditions ≡ count.conditions globals.now) }
@@ -62,9 +63,9 @@ fn add_globals(names: &mut Vec<Named>, globals: &[Global]) -> Result<Numbers, Al
 impl Numbers {
     /// What the next global stands for.
     fn declare(&mut self, global: &Global) -> Named
-        requires cells { self.old.cells + count.cells_of global.now ≤ 1024 }
-        requires mutexes { self.old.mutexes < 65536 }
-        requires conditions { self.old.conditions < 65536 }
+        requires cells { self.old.cells + count.cells_of global.now ≤ CELLS }
+        requires mutexes { self.old.mutexes < PROGRAM_BYTES }
+        requires conditions { self.old.conditions < PROGRAM_BYTES }
         ensures thing { result ≡ spec.global_thing self.old global.now }
         ensures past { self.new ≡ spec.past_global self.old global.now }
     {
@@ -102,7 +103,7 @@ pub(crate) fn elements(length: i32) -> u32
 }
 
 fn add_threads(names: &mut Vec<Named>, threads: &[Thread]) -> Result<(), AllocError>
-    requires { length threads.now ≤ 65536 }
+    requires { length threads.now ≤ PROGRAM_BYTES }
     ensures { OnOk result (names.new.items ≡ names.old.items ++ spec.threads_from 0 (map thread_of threads.now)) }
 {
     let mut function = 0;
@@ -130,11 +131,11 @@ pub(crate) fn own_things(
     parameters: &[Name],
     locals: &[Local],
 ) -> Result<OwnThings, AllocError>
-    requires { length parameters.now + length locals.now ≤ 65536 }
+    requires { length parameters.now + length locals.now ≤ PROGRAM_BYTES }
     ensures names { IfOk result (λ own. own.names.items ≡ spec.own_things parameters.now locals.now) }
     ensures slots { IfOk result (λ own. own.slots ≡ length parameters.now + spec.ints locals.now) }
     ensures handles { IfOk result (λ own. own.handles ≡ spec.handles locals.now) }
-    ensures few { IfOk result (λ own. own.slots ≤ 65536) }
+    ensures few { IfOk result (λ own. own.slots ≤ PROGRAM_BYTES) }
 {
     let mut own = OwnThings {
         names: Vec::new(alloc),
@@ -148,7 +149,7 @@ pub(crate) fn own_things(
 
 impl OwnThings {
     fn add_parameters(&mut self, parameters: &[Name]) -> Result<(), AllocError>
-        requires { self.old.slots + length parameters.now ≤ 65536 }
+        requires { self.old.slots + length parameters.now ≤ PROGRAM_BYTES }
         ensures names { OnOk result (self.new.names.items ≡ self.old.names.items ++ spec.parameters_from self.old.slots parameters.now) }
         ensures slots { OnOk result (self.new.slots ≡ self.old.slots + length parameters.now) }
         ensures handles { self.new.handles ≡ self.old.handles }
@@ -163,11 +164,11 @@ impl OwnThings {
     }
 
     fn add_locals(&mut self, locals: &[Local]) -> Result<(), AllocError>
-        requires { self.old.slots + self.old.handles + length locals.now ≤ 65536 }
+        requires { self.old.slots + self.old.handles + length locals.now ≤ PROGRAM_BYTES }
         ensures names { OnOk result (self.new.names.items ≡ self.old.names.items ++ spec.locals_from self.old.slots self.old.handles locals.now) }
         ensures slots { OnOk result (self.new.slots ≡ self.old.slots + spec.ints locals.now) }
         ensures handles { OnOk result (self.new.handles ≡ self.old.handles + spec.handles locals.now) }
-        ensures few { OnOk result (self.new.slots + self.new.handles ≤ 65536) }
+        ensures few { OnOk result (self.new.slots + self.new.handles ≤ PROGRAM_BYTES) }
     {
         let mut rest = locals;
         while let [local, later @ ..] = rest {
@@ -180,7 +181,7 @@ impl OwnThings {
 
     /// What the next declaration of a body stands for.
     fn declare(&mut self, local: &Local) -> Named
-        requires { self.old.slots + self.old.handles < 65536 }
+        requires { self.old.slots + self.old.handles < PROGRAM_BYTES }
         ensures names { self.new.names ≡ self.old.names }
         ensures thing { (ls : List Local) → spec.locals_from self.old.slots self.old.handles (local.now ∷ ls)
             ≡ result ∷ spec.locals_from self.new.slots self.new.handles ls }

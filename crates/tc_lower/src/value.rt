@@ -1,8 +1,8 @@
 //! Expressions as instructions and an expression over slots.
 ghost use Rattle.std.specs.Prelude.{◌≡◌, ◌+◌, ◌<◌, ◌≤◌, ◌^◌, [], ◌∷◌, ◌++◌, length, Ok, OnOk, IfOk, Some, None, slice_set};
+ghost use Rattle.tc_base.specs.declared.limits.TheConstants.{PROGRAM_BYTES};
 ghost use Rattle.tc_code.specs.Expr as plain;
-ghost use Rattle.tc_code.specs.Instr as flat;
-ghost use Rattle.tc_code.specs.SeenExpr.{plain_expr};
+ghost use Rattle.tc_code.specs.declared.instr.Instr.TheVariants as flat;
 ghost use Rattle.tc_lower.specs.Values as spec;
 ghost use Rattle.tc_lower.specs.helpers.Seen.{evaluated_by};
 
@@ -10,8 +10,8 @@ use crate::draft::Draft;
 use crate::things::{Scope, Thing, thing_of};
 use std::alloc::{AllocError, Global};
 use tc_base::{BinOp, UnOp};
-use tc_code::{Expr, Instr};
-use tc_tree::{Expression, Operator};
+use tc_code::{Expr, Instr, Node as Part};
+use tc_tree::{Expression, Node, Operator};
 
 /// The instructions of a function so far, and the next free slot.
 #[derive(Drop)]
@@ -40,26 +40,26 @@ impl Writer {
         scope: Scope,
         expression: &Expression,
     ) -> Result<Expr, AllocError>
-        requires room { self.old.free ≤ length self.old.draft + 65536 }
+        requires room { self.old.free ≤ length self.old.draft + PROGRAM_BYTES }
         requires fits { length self.old.draft + length (evaluated_by scope self.old expression.now).instrs < 2 ^ 18 }
-        ensures value { IfOk result (λ value. plain_expr value ≡ (evaluated_by scope.entry self.old expression.now).value) }
+        ensures value { IfOk result (λ value. value ≡ (evaluated_by scope.entry self.old expression.now).value) }
         ensures instrs { OnOk result (self.new.draft ≡ self.old.draft ++ (evaluated_by scope.entry self.old expression.now).instrs) }
         ensures free { OnOk result (self.new.free ≡ (evaluated_by scope.entry self.old expression.now).free) }
-        ensures room { OnOk result (self.new.free ≤ length self.new.draft + 65536) }
+        ensures room { OnOk result (self.new.free ≤ length self.new.draft + PROGRAM_BYTES) }
     {
-        match expression {
-            Expression::Number(number) => Ok(Expr::Number(number.value)),
-            Expression::Name(name) => self.read(thing_of(scope, name)),
-            Expression::Element(array, index) => {
+        match &expression.node {
+            Node::Number(number) => Ok(Expr::number(number.value)),
+            Node::Variable(name) => self.read(thing_of(scope, name)),
+            Node::Element(array, index) => {
                 let index = self.evaluate(alloc, scope, index)?;
                 self.read_element(alloc, thing_of(scope, array), index)
             }
-            Expression::Paren(inside) => self.evaluate(alloc, scope, inside),
-            Expression::Unary(op, operand) => {
+            Node::Paren(inside) => self.evaluate(alloc, scope, inside),
+            Node::Unary(op, operand) => {
                 let operand = self.evaluate(alloc, scope, operand)?;
-                Ok(Expr::Unary(*op, Box::new(alloc, operand)?))
+                Expr::unary(alloc, *op, operand)
             }
-            Expression::Binary(op, left, right) => {
+            Node::Binary(op, left, right) => {
                 match over_both(*op) {
                     Some(op) => {
                         let left = self.evaluate(alloc, scope, left)?;
@@ -72,7 +72,7 @@ impl Writer {
                         let slot = choice.slot;
                         let right = self.evaluate(alloc, scope, right)?;
                         self.end_choice(alloc, choice, right)?;
-                        Ok(Expr::Slot(slot))
+                        Ok(Expr::slot(slot))
                     }
                 }
             }
@@ -93,21 +93,21 @@ impl Writer {
 
     /// The value of a variable.
     fn read(&mut self, variable: Option<Thing>) -> Result<Expr, AllocError>
-        requires room { self.old.free ≤ length self.old.draft + 65536 }
+        requires room { self.old.free ≤ length self.old.draft + PROGRAM_BYTES }
         requires fits { length self.old.draft + length (spec.variable variable self.old.free).instrs < 2 ^ 18 }
-        ensures value { IfOk result (λ value. plain_expr value ≡ (spec.variable variable self.old.free).value) }
+        ensures value { IfOk result (λ value. value ≡ (spec.variable variable self.old.free).value) }
         ensures instrs { OnOk result (self.new.draft ≡ self.old.draft ++ (spec.variable variable self.old.free).instrs) }
         ensures free { OnOk result (self.new.free ≡ (spec.variable variable self.old.free).free) }
-        ensures room { OnOk result (self.new.free ≤ length self.new.draft + 65536) }
+        ensures room { OnOk result (self.new.free ≤ length self.new.draft + PROGRAM_BYTES) }
     {
         match variable {
-            Some(Thing::Slot(slot)) => Ok(Expr::Slot(slot)),
+            Some(Thing::Slot(slot)) => Ok(Expr::slot(slot)),
             Some(Thing::Cell(cell)) => {
                 let slot = self.take_slot();
                 self.draft.push(Instr::Load { slot, cell })?;
-                Ok(Expr::Slot(slot))
+                Ok(Expr::slot(slot))
             }
-            _ => Ok(Expr::Number(0)),
+            _ => Ok(Expr::number(0)),
         }
     }
 
@@ -119,9 +119,9 @@ impl Writer {
         index: Expr,
     ) -> Result<Expr, AllocError>
         requires { self.old.free < 2 ^ 31 }
-        ensures value { IfOk result (λ value. plain_expr value ≡ (spec.element array (plain_expr index) self.old.free).value) }
-        ensures instrs { OnOk result (self.new.draft ≡ self.old.draft ++ (spec.element array (plain_expr index) self.old.free).instrs) }
-        ensures free { OnOk result (self.new.free ≡ (spec.element array (plain_expr index) self.old.free).free) }
+        ensures value { IfOk result (λ value. value ≡ (spec.element array index self.old.free).value) }
+        ensures instrs { OnOk result (self.new.draft ≡ self.old.draft ++ (spec.element array index self.old.free).instrs) }
+        ensures free { OnOk result (self.new.free ≡ (spec.element array index self.old.free).free) }
     {
         let Some(Thing::Array(first, length)) = array else {
             return Ok(index);
@@ -138,7 +138,7 @@ impl Writer {
             length,
             index,
         })?;
-        Ok(Expr::Slot(slot))
+        Ok(Expr::slot(slot))
     }
 
     /// An operator over two values, once what it asks of the right one is tested.
@@ -149,8 +149,8 @@ impl Writer {
         left: Expr,
         right: Expr,
     ) -> Result<Expr, AllocError>
-        ensures value { IfOk result (λ value. plain_expr value ≡ plain.Binary op (plain_expr left) (plain_expr right)) }
-        ensures instrs { OnOk result (self.new.draft ≡ self.old.draft ++ spec.tested op (plain_expr right)) }
+        ensures value { IfOk result (λ value. value ≡ plain.Binary op left right) }
+        ensures instrs { OnOk result (self.new.draft ≡ self.old.draft ++ spec.tested op right) }
         ensures free { self.new.free ≡ self.old.free }
     {
         match op {
@@ -162,9 +162,7 @@ impl Writer {
             }
             _ => {}
         }
-        let left = Box::new(alloc, left)?;
-        let right = Box::new(alloc, right)?;
-        Ok(Expr::Binary(op, left, right))
+        Expr::binary(alloc, op, left, right)
     }
 
     /// Writes what the left side of `&&` or `||` decides alone, and leaves room for the branch past the right side.
@@ -178,14 +176,14 @@ impl Writer {
         ensures instrs { OnOk result (self.new.draft ≡ self.old.draft ++ flat.Set self.old.free (plain.Number (spec.decided op)) ∷ flat.Goto 0 ∷ []) }
         ensures free { OnOk result (self.new.free ≡ self.old.free + 1) }
         ensures slot { IfOk result (λ choice. choice.slot ≡ self.old.free) }
-        ensures undecided { IfOk result (λ choice. plain_expr choice.undecided ≡ spec.undecided op (plain_expr left)) }
+        ensures undecided { IfOk result (λ choice. choice.undecided ≡ spec.undecided op left) }
         ensures branch { IfOk result (λ choice. choice.branch ≡ length self.old.draft + 1) }
     {
         let slot = self.take_slot();
         let undecided = undecided(alloc, op, left)?;
         self.draft.push(Instr::Set {
             slot,
-            value: Expr::Number(decided(op)),
+            value: Expr::number(decided(op)),
         })?;
         let branch = self.draft.leave_room()?;
         Ok(Choice {
@@ -199,8 +197,8 @@ impl Writer {
     fn end_choice(&mut self, alloc: Global, choice: Choice, right: Expr) -> Result<(), AllocError>
         requires room { length self.old.draft < 2 ^ 31 }
         requires branch { choice.branch < length self.old.draft }
-        ensures instrs { OnOk result (self.new.draft ≡ slice_set (self.old.draft ++ flat.Set choice.slot (spec.isnt_zero (plain_expr right)) ∷ [])
-            choice.branch (flat.Branch (plain_expr choice.undecided) (length self.old.draft + 1))) }
+        ensures instrs { OnOk result (self.new.draft ≡ slice_set (self.old.draft ++ flat.Set choice.slot (spec.isnt_zero right) ∷ [])
+            choice.branch (flat.Branch choice.undecided (length self.old.draft + 1))) }
         ensures free { self.new.free ≡ self.old.free }
     {
         let Choice {
@@ -208,12 +206,8 @@ impl Writer {
             undecided,
             branch,
         } = choice;
-        let left = Box::new(alloc, right)?;
-        let right = Box::new(alloc, Expr::Number(0))?;
-        self.draft.push(Instr::Set {
-            slot,
-            value: Expr::Binary(BinOp::Ne, left, right),
-        })?;
+        let value = Expr::binary(alloc, BinOp::Ne, right, Expr::number(0))?;
+        self.draft.push(Instr::Set { slot, value })?;
         self.draft.put(
             branch,
             Instr::Branch {
@@ -262,29 +256,29 @@ fn decided(op: Operator) -> i32
 
 /// What is 0 where the left side does so.
 fn undecided(alloc: Global, op: Operator, left: Expr) -> Result<Expr, AllocError>
-    ensures { IfOk result (λ e. plain_expr e ≡ spec.undecided op (plain_expr left)) }
+    ensures { IfOk result (λ e. e ≡ spec.undecided op left) }
 {
     match op {
         Operator::And => Ok(left),
-        _ => Ok(Expr::Unary(UnOp::Not, Box::new(alloc, left)?)),
+        _ => Expr::unary(alloc, UnOp::Not, left),
     }
 }
 
 /// The same expression once more.
 pub(crate) fn copy(alloc: Global, e: &Expr) -> Result<Expr, AllocError>
-    ensures { IfOk result (λ same. plain_expr same ≡ plain_expr e.now) }
+    ensures { IfOk result (λ same. same ≡ e.now) }
 {
-    match e {
-        Expr::Number(number) => Ok(Expr::Number(*number)),
-        Expr::Slot(slot) => Ok(Expr::Slot(*slot)),
-        Expr::Unary(op, operand) => {
+    match &e.node {
+        Part::Number(number) => Ok(Expr::number(*number)),
+        Part::Slot(slot) => Ok(Expr::slot(*slot)),
+        Part::Unary(op, operand) => {
             let operand = copy(alloc, operand)?;
-            Ok(Expr::Unary(*op, Box::new(alloc, operand)?))
+            Expr::unary(alloc, *op, operand)
         }
-        Expr::Binary(op, left, right) => {
-            let left = Box::new(alloc, copy(alloc, left)?)?;
-            let right = Box::new(alloc, copy(alloc, right)?)?;
-            Ok(Expr::Binary(*op, left, right))
+        Part::Binary(op, left, right) => {
+            let left = copy(alloc, left)?;
+            let right = copy(alloc, right)?;
+            Expr::binary(alloc, *op, left, right)
         }
     }
 }

@@ -6,7 +6,7 @@ use Rattle.tc_tree.specs.Grammar.{Program}
 use Rattle.tc_tree.specs.Seen.{thread_of}
 use Rattle.tc_names.specs.declared.fault.NameFault.{NameFault}
 use Rattle.tc_names.specs.declared.fault.NameFault.TheVariants.{Unknown, Twice, Kind, Arguments, Memory}
-use Rattle.tc_names.specs.helpers.Answers.{TellsUnlessMemory}
+use Rattle.tc_names.specs.Answers.{TellsUnlessMemory}
 use Rattle.tc_names.specs.declared.scope.Declaration.{Declaration}
 use Rattle.tc_names.specs.Names.{◌then◌, global_declaration, thread_declaration, globals_fault, threads_fault, body_fault, names_fault, program_declarations}
 

@@ -14,7 +14,8 @@ ghost use Rattle.tc_names.specs.Names.{
   ◌then◌,
 };
 ghost use Rattle.tc_names.specs.Names as rules;
-ghost use Rattle.tc_names.specs.helpers.Answers.{Tells, TellsUnlessMemory};
+ghost use Rattle.tc_names.specs.Answers.{TellsUnlessMemory};
+ghost use Rattle.tc_names.specs.helpers.Answers.{Tells};
 
 use crate::fault::NameFault;
 use crate::scope::{Declaration, Meaning, Scope, check_first};

@@ -1,6 +1,6 @@
 //! Uses of names in statements and expressions.
 ghost use Rattle.std.specs.Prelude.{◌≡◌, length, map};
-ghost use Rattle.tc_tree.specs.Seen.{expression_of, expressions_of, statement_of, branch_of};
+ghost use Rattle.tc_tree.specs.Seen.{statement_of, branch_of};
 ghost use Rattle.tc_names.specs.Names.{
   name_fault,
   is_int,
@@ -12,11 +12,12 @@ ghost use Rattle.tc_names.specs.Names.{
   statement_fault,
   statements_fault,
 };
-ghost use Rattle.tc_names.specs.helpers.Answers.{Tells, plain_scope, statements_seen, branch_fault, branches_fault};
+ghost use Rattle.tc_tree.specs.helpers.Parts.{statements_seen};
+ghost use Rattle.tc_names.specs.helpers.Answers.{Tells, plain_scope, branch_fault, branches_fault};
 
 use crate::fault::NameFault;
 use crate::scope::{Meaning, Scope, meaning_of};
-use tc_tree::{Action, Block, Branch, Expression, Name, Statement};
+use tc_tree::{Action, Block, Branch, Expression, Name, Node, Statement};
 
 /// Refuses a name of another meaning.
 fn check_meaning(scope: Scope, name: &Name, wanted: Meaning) -> Result<(), NameFault>
@@ -51,18 +52,18 @@ fn check_thread(scope: Scope, name: &Name, arguments: usize) -> Result<(), NameF
 }
 
 fn check_expression(scope: Scope, expression: &Expression) -> Result<(), NameFault>
-    ensures { Tells result (expression_fault (plain_scope scope.entry) (expression_of expression.now)) }
+    ensures { Tells result (expression_fault (plain_scope scope.entry) expression.now) }
 {
-    match expression {
-        Expression::Number(_) => Ok(()),
-        Expression::Name(name) => check_int(scope, name),
-        Expression::Element(array, index) => {
+    match &expression.node {
+        Node::Number(_) => Ok(()),
+        Node::Variable(name) => check_int(scope, name),
+        Node::Element(array, index) => {
             check_meaning(scope, array, Meaning::Array)?;
             check_expression(scope, index)
         }
-        Expression::Paren(inside) => check_expression(scope, inside),
-        Expression::Unary(_, operand) => check_expression(scope, operand),
-        Expression::Binary(_, left, right) => {
+        Node::Paren(inside) => check_expression(scope, inside),
+        Node::Unary(_, operand) => check_expression(scope, operand),
+        Node::Binary(_, left, right) => {
             check_expression(scope, left)?;
             check_expression(scope, right)
         }
@@ -70,7 +71,7 @@ fn check_expression(scope: Scope, expression: &Expression) -> Result<(), NameFau
 }
 
 fn check_expressions(scope: Scope, expressions: &[Expression]) -> Result<(), NameFault>
-    ensures { Tells result (expressions_fault (plain_scope scope.entry) (expressions_of expressions.now)) }
+    ensures { Tells result (expressions_fault (plain_scope scope.entry) expressions.now) }
 {
     for expression in expressions {
         check_expression(scope, expression)?;

@@ -30,6 +30,8 @@ use Rattle.std.proofs.Common.{
 use Rattle.std.specs.Prelude.{nat_lt}
 use Rattle.std.proofs.lemmas.Bool.{cases_lt, cond-true, cond-false, lt-ltb, le-ltb}
 use Rattle.std.proofs.lemmas.List.{drop_more}
+use Rattle.std.proofs.lemmas.Option.{none-some, same_Some}
+use Rattle.tc_base.specs.declared.limits.TheConstants.{BRACKETS, CELLS, MUTEXES, CONDITIONS}
 use Rattle.tc_lexer.specs.declared.token.Token.{Token}
 use Rattle.tc_lexer.specs.Places.{place_after}
 use Rattle.tc_lexer.specs.Text.{AreTokens, tokens_after, fault_at}
@@ -54,7 +56,7 @@ use Rattle.tc_parser.specs.Programs.{
   open_after_kind,
   IsNested,
   IsTooDeep,
-  longest_stretch,
+  long_stretch,
   AreOfProgram,
   IsProgram,
   place_at,
@@ -65,6 +67,7 @@ use Rattle.tc_parser.specs.Programs.{
   IsTextFault,
 }
 use Rattle.tc_parser.specs.helpers.Parts.{fault_of}
+use Rattle.tc_parser.proofs.Words.{are_of_language}
 use Rattle.tc_parser.proofs.Tokens.{AreNestedBefore, none_open, nested_more, deep_here, all_nested}
 use Rattle.tc_names.proofs.Real.{IsReal, names_real}
 
@@ -73,9 +76,9 @@ use Rattle.tc_names.proofs.Real.{IsReal, names_real}
 -- what a program's declarations are too many of
 counts_fault : List Global → Option ParseFault
 counts_fault gs =
-    if nat_lt 1024 (count.cells gs) then Some (Count Cells (count.cells gs))
-    else (if nat_lt 64 (count.mutexes gs) then Some (Count Mutexes (count.mutexes gs))
-    else (if nat_lt 64 (count.conditions gs) then Some (Count Conditions (count.conditions gs)) else None))
+    if nat_lt CELLS (count.cells gs) then Some (Count Cells (count.cells gs))
+    else (if nat_lt MUTEXES (count.mutexes gs) then Some (Count Mutexes (count.mutexes gs))
+    else (if nat_lt CONDITIONS (count.conditions gs) then Some (Count Conditions (count.conditions gs)) else None))
 
 after_names : Option NameFault → List Global → Option ParseFault
 after_names (Some f) gs = Some (fault_of f)
@@ -88,7 +91,7 @@ tree_fault text p = after_names (names_fault text p) p.globals
 -- the words are no program
 record IsBroken (language : ℕ) (text : List ℕ) (tokens : List Token) (fault : ParseFault) : Type 0 where
   nested : IsNested tokens
-  parted : longest_stretch tokens ≤ 512
+  parted : long_stretch tokens ≡ None
   place : ℕ
   is : IsSyntaxFault language (words_of tokens) place
   fault_is : fault ≡ Syntax (place_at text tokens place)
@@ -101,8 +104,8 @@ record IsLate (language : ℕ) (text : List ℕ) (tokens : List Token) (fault : 
 
 abbrev Cause : ℕ → List ℕ → List Token → ParseFault → Type 0
 Cause language text tokens fault =
-    (IsTooDeep tokens × (fault ≡ Count Brackets 65))
-    ⊎ ((IsNested tokens × (512 < longest_stretch tokens) × (fault ≡ Count Stretch (longest_stretch tokens)))
+    (IsTooDeep tokens × (fault ≡ Count Brackets (BRACKETS + 1)))
+    ⊎ ((IsNested tokens × ((n : ℕ) × (long_stretch tokens ≡ Some n) × (fault ≡ Count Stretch n)))
     ⊎ (IsBroken language text tokens fault ⊎ IsLate language text tokens fault))
 
 late_name : (language : ℕ) (text : List ℕ) (tokens : List Token) (f : NameFault) → HasNameFault language text tokens f
@@ -123,20 +126,20 @@ late_count language text tokens p fault h is = record {
   fault_is = ap (λ (o : Option NameFault). after_names o p.globals) h.names ∙ is;
 }
 
-many_cells : (gs : List Global) → 1024 < count.cells gs → counts_fault gs ≡ Some (Count Cells (count.cells gs))
+many_cells : (gs : List Global) → CELLS < count.cells gs → counts_fault gs ≡ Some (Count Cells (count.cells gs))
 unfolding counts_fault
 many_cells gs h = cond-true _ _ _ (lt-ltb _ _ h)
 
-many_mutexes : (gs : List Global) → count.cells gs ≤ 1024 → 64 < count.mutexes gs → counts_fault gs ≡ Some (Count Mutexes (count.mutexes gs))
+many_mutexes : (gs : List Global) → count.cells gs ≤ CELLS → MUTEXES < count.mutexes gs → counts_fault gs ≡ Some (Count Mutexes (count.mutexes gs))
 unfolding counts_fault
 many_mutexes gs c h = cond-false _ _ _ (le-ltb _ _ c) ∙ cond-true _ _ _ (lt-ltb _ _ h)
 
-many_conditions : (gs : List Global) → count.cells gs ≤ 1024 → count.mutexes gs ≤ 64 → 64 < count.conditions gs
+many_conditions : (gs : List Global) → count.cells gs ≤ CELLS → count.mutexes gs ≤ MUTEXES → CONDITIONS < count.conditions gs
     → counts_fault gs ≡ Some (Count Conditions (count.conditions gs))
 unfolding counts_fault
 many_conditions gs c m h = cond-false _ _ _ (le-ltb _ _ c) ∙ cond-false _ _ _ (le-ltb _ _ m) ∙ cond-true _ _ _ (lt-ltb _ _ h)
 
-few : (gs : List Global) → count.cells gs ≤ 1024 → count.mutexes gs ≤ 64 → count.conditions gs ≤ 64 → counts_fault gs ≡ None
+few : (gs : List Global) → count.cells gs ≤ CELLS → count.mutexes gs ≤ MUTEXES → count.conditions gs ≤ CONDITIONS → counts_fault gs ≡ None
 unfolding counts_fault
 few gs c m d = cond-false _ _ _ (le-ltb _ _ c) ∙ cond-false _ _ _ (le-ltb _ _ m) ∙ cond-false _ _ _ (le-ltb _ _ d)
 
@@ -144,7 +147,7 @@ cause : (language : ℕ) (text : List ℕ) (tokens : List Token) (fault : ParseF
     → Cause language text tokens fault
 cause language text tokens (Count Brackets n) h = inl (h.0, ap (Count Brackets) h.1)
 cause language text tokens (Count Stretch n) h =
-    inr (inl (h.0, subst (λ (m : ℕ). 512 < m) h.2 h.1, ap (Count Stretch) h.2))
+    inr (inl (h.0, (n, h.1, refl)))
 cause language text tokens (Syntax place) h =
     inr (inr (inl (record { nested = h.0; parted = h.1; place = h.2.0; is = h.2.1; fault_is = ap Syntax h.2.2 })))
 cause language text tokens (Unknown place) h = inr (inr (inr (late_name language text tokens (name.Unknown place) h)))
@@ -153,13 +156,13 @@ cause language text tokens (Kind place) h = inr (inr (inr (late_name language te
 cause language text tokens (Arguments place) h = inr (inr (inr (late_name language text tokens (name.Arguments place) h)))
 cause language text tokens (Count Cells n) (p, named, much, is) =
     inr (inr (inr (late_count language text tokens p (Count Cells n) named
-    (many_cells p.globals (subst (λ (m : ℕ). 1024 < m) is much) ∙ ap (λ (m : ℕ). Some (Count Cells m)) (sym is)))))
+    (many_cells p.globals (subst (λ (m : ℕ). CELLS < m) is much) ∙ ap (λ (m : ℕ). Some (Count Cells m)) (sym is)))))
 cause language text tokens (Count Mutexes n) (p, named, c, much, is) =
     inr (inr (inr (late_count language text tokens p (Count Mutexes n) named
-    (many_mutexes p.globals c (subst (λ (m : ℕ). 64 < m) is much) ∙ ap (λ (m : ℕ). Some (Count Mutexes m)) (sym is)))))
+    (many_mutexes p.globals c (subst (λ (m : ℕ). MUTEXES < m) is much) ∙ ap (λ (m : ℕ). Some (Count Mutexes m)) (sym is)))))
 cause language text tokens (Count Conditions n) (p, named, c, m, much, is) =
     inr (inr (inr (late_count language text tokens p (Count Conditions n) named
-    (many_conditions p.globals c m (subst (λ (k : ℕ). 64 < k) is much) ∙ ap (λ (k : ℕ). Some (Count Conditions k)) (sym is)))))
+    (many_conditions p.globals c m (subst (λ (k : ℕ). CONDITIONS < k) is much) ∙ ap (λ (k : ℕ). Some (Count Conditions k)) (sym is)))))
 cause language text tokens Memory h = absurd h
 
 -- ---- one fault
@@ -179,16 +182,17 @@ one_cause language text tokens f g (inl x) (inr (inl y)) = absurd (deep_or_neste
 one_cause language text tokens f g (inl x) (inr (inr (inl y))) = absurd (deep_or_nested tokens x.0 y.nested)
 one_cause language text tokens f g (inl x) (inr (inr (inr y))) = absurd (deep_or_nested tokens x.0 y.are_of.nested)
 one_cause language text tokens f g (inr (inl x)) (inl y) = absurd (deep_or_nested tokens y.0 x.0)
-one_cause language text tokens f g (inr (inl x)) (inr (inl y)) = x.2 ∙ sym y.2
-one_cause language text tokens f g (inr (inl x)) (inr (inr (inl y))) = absurd (omega (arith, x.1, y.parted))
-one_cause language text tokens f g (inr (inl x)) (inr (inr (inr y))) = absurd (omega (arith, x.1, y.are_of.parted))
+one_cause language text tokens f g (inr (inl x)) (inr (inl y)) =
+    x.3 ∙ ap (Count Stretch) (same_Some x.1 y.1 (sym x.2 ∙ y.2)) ∙ sym y.3
+one_cause language text tokens f g (inr (inl x)) (inr (inr (inl y))) = absurd (none-some x.1 (sym y.parted ∙ x.2))
+one_cause language text tokens f g (inr (inl x)) (inr (inr (inr y))) = absurd (none-some x.1 (sym y.are_of.parted ∙ x.2))
 one_cause language text tokens f g (inr (inr (inl x))) (inl y) = absurd (deep_or_nested tokens y.0 x.nested)
-one_cause language text tokens f g (inr (inr (inl x))) (inr (inl y)) = absurd (omega (arith, y.1, x.parted))
+one_cause language text tokens f g (inr (inr (inl x))) (inr (inl y)) = absurd (none-some y.1 (sym x.parted ∙ y.2))
 one_cause language text tokens f g (inr (inr (inl x))) (inr (inr (inl y))) =
     x.fault_is ∙ ap (λ (k : ℕ). Syntax (place_at text tokens k)) (one_syntax_fault language (words_of tokens) x.place y.place x.is y.is) ∙ sym y.fault_is
 one_cause language text tokens f g (inr (inr (inl x))) (inr (inr (inr y))) = absurd (x.is.none y.program y.are_of.spelled)
 one_cause language text tokens f g (inr (inr (inr x))) (inl y) = absurd (deep_or_nested tokens y.0 x.are_of.nested)
-one_cause language text tokens f g (inr (inr (inr x))) (inr (inl y)) = absurd (omega (arith, y.1, x.are_of.parted))
+one_cause language text tokens f g (inr (inr (inr x))) (inr (inl y)) = absurd (none-some y.1 (sym x.are_of.parted ∙ y.2))
 one_cause language text tokens f g (inr (inr (inr x))) (inr (inr (inl y))) = absurd (y.is.none x.program x.are_of.spelled)
 one_cause language text tokens f g (inr (inr (inr x))) (inr (inr (inr y))) = one_late language text tokens f g x y
 
@@ -221,7 +225,7 @@ no_tree_fault language text p x =
 no_cause : (language : ℕ) (text : List ℕ) (tokens : List Token) (p : Program) (f : ParseFault) → AreOfProgram language tokens p → tree_fault text p ≡ None
     → Cause language text tokens f → ⊥
 no_cause language text tokens p f x none (inl y) = deep_or_nested tokens y.0 x.nested
-no_cause language text tokens p f x none (inr (inl y)) = omega (arith, y.1, x.parted)
+no_cause language text tokens p f x none (inr (inl y)) = none-some y.1 (sym x.parted ∙ y.2)
 no_cause language text tokens p f x none (inr (inr (inl y))) = y.is.none p x.spelled
 no_cause language text tokens p f x none (inr (inr (inr y))) =
     let same = one_program language (words_of tokens) p y.program x.spelled y.are_of.spelled in
@@ -246,11 +250,11 @@ faulty language text tokens f read is = inr (Parse f, record { tokens = tokens; 
 
 counted : (language : ℕ) (text : List ℕ) (tokens : List Token) (p : Program) → AreTokens language text tokens → AreNamed language text tokens p
     → Answer language text
-counted language text tokens p read named = elim (cases_lt 1024 (count.cells p.globals)) [
+counted language text tokens p read named = elim (cases_lt CELLS (count.cells p.globals)) [
   | inl much ↦ faulty language text tokens (Count Cells (count.cells p.globals)) read (p, named, much, refl)
-  | inr c ↦ elim (cases_lt 64 (count.mutexes p.globals)) [
+  | inr c ↦ elim (cases_lt MUTEXES (count.mutexes p.globals)) [
     | inl much ↦ faulty language text tokens (Count Mutexes (count.mutexes p.globals)) read (p, named, c, much, refl)
-    | inr m ↦ elim (cases_lt 64 (count.conditions p.globals)) [
+    | inr m ↦ elim (cases_lt CONDITIONS (count.conditions p.globals)) [
       | inl much ↦ faulty language text tokens (Count Conditions (count.conditions p.globals)) read (p, named, c, m, much, refl)
       | inr d ↦ inl (
         p,
@@ -273,13 +277,6 @@ by_names language text tokens p (Some (name.Arguments place)) read are is real =
     faulty language text tokens (Arguments place) read (record { program = p; are_of = are; is = is })
 by_names language text tokens p (Some name.Memory) read are is real = absurd real
 
-by_words : (text : List ℕ) (tokens : List Token) → AreTokens 3 text tokens → IsNested tokens → longest_stretch tokens ≤ 512 → Answer 3 text
-by_words text tokens read nested parted = elim (program_or_fault (words_of tokens)) [
-  | inl tree ↦ by_names 3 text tokens tree.0 (names_fault text tree.0) read (record { nested = nested; parted = parted; spelled = tree.1 }) refl
-      (names_real text tree.0)
-  | inr fault ↦ faulty 3 text tokens (Syntax (place_at text tokens fault.0)) read (nested, parted, (fault.0, fault.1, refl))
-]
-
 nothing_left : (tokens : List Token) (i : ℕ) → drop i tokens ≡ [] → length tokens ≤ i
 nothing_left tokens i is = let none : length (drop i tokens) ≡ 0 = ap length is in omega (arith, length-drop i tokens, none)
 
@@ -297,36 +294,45 @@ nested_or_deep tokens (t ∷ ts) i m n is =
     let there = next_is tokens i t ts is in
     let kind_is : open_after_kind m t.kind ≡ open_after_kind m (get_or tokens i t).kind =
     ap (λ (u : Token). open_after_kind m u.kind) (sym there.1) in
-    elim (cases_lt 64 (open_after_kind m t.kind)) [
+    elim (cases_lt BRACKETS (open_after_kind m t.kind)) [
       | inl deep ↦ inr (deep_here tokens i m (open_after_kind m t.kind) t n there.0 kind_is deep)
       | inr small ↦ nested_or_deep tokens ts (i + 1) (open_after_kind m t.kind)
           (nested_more tokens i m (open_after_kind m t.kind) t n there.0 kind_is small) there.2
     ]
 
-by_tokens : (text : List ℕ) (tokens : List Token) → AreTokens 3 text tokens → Answer 3 text
-by_tokens text tokens read = elim (nested_or_deep tokens tokens 0 0 (none_open tokens) refl) [
-  | inr deep ↦ faulty 3 text tokens (Count Brackets 65) read (deep, refl)
-  | inl nested ↦ elim (cases_lt 512 (longest_stretch tokens)) [
-    | inl long ↦ faulty 3 text tokens (Count Stretch (longest_stretch tokens)) read (nested, long, refl)
-    | inr parted ↦ by_words text tokens read nested parted
+module _ (language : ℕ) (least : 1 ≤ language) where
+  by_words : (text : List ℕ) (tokens : List Token) → AreTokens language text tokens → IsNested tokens → long_stretch tokens ≡ None → Answer language text
+  by_words text tokens read nested parted = elim (program_or_fault language least (words_of tokens) (are_of_language language text tokens least read)) [
+    | inl tree ↦ by_names language text tokens tree.0 (names_fault text tree.0) read (record { nested = nested; parted = parted; spelled = tree.1 }) refl
+        (names_real text tree.0)
+    | inr fault ↦ faulty language text tokens (Syntax (place_at text tokens fault.0)) read (nested, parted, (fault.0, fault.1, refl))
   ]
-]
 
-by_pieces : (text : List ℕ) (ps : List Piece) (rest : List ℕ) → ArePieces 3 text ps rest → BeginsNone 3 rest → Answer 3 text
-by_pieces text ps [] x none = by_tokens text (tokens_after [] ps) (record { pieces = ps; whole = x; tokens_are = refl })
-by_pieces text ps (b ∷ bs) x none = inr (
-  Lex (fault_at (place_after (all_written ps)) (b ∷ bs)),
-  record {
-    before = all_written ps;
-    rest = b ∷ bs;
-    split = pieces_split 3 text ps (b ∷ bs) x;
-    pieces = ps;
-    read = x;
-    more = omega arith;
-    none = none;
-    fault_is = refl;
-  },
-)
+  by_stretch : (text : List ℕ) (tokens : List Token) (o : Option ℕ) → AreTokens language text tokens → IsNested tokens → long_stretch tokens ≡ o → Answer language text
+  by_stretch text tokens None read nested is = by_words text tokens read nested is
+  by_stretch text tokens (Some n) read nested is = faulty language text tokens (Count Stretch n) read (nested, is)
 
-pub program_or_text_fault : (text : List ℕ) → Answer 3 text
-program_or_text_fault text = let r = reads 3 text in by_pieces text r.pieces r.rest r.read r.none
+  by_tokens : (text : List ℕ) (tokens : List Token) → AreTokens language text tokens → Answer language text
+  by_tokens text tokens read = elim (nested_or_deep tokens tokens 0 0 (none_open tokens) refl) [
+    | inr deep ↦ faulty language text tokens (Count Brackets (BRACKETS + 1)) read (deep, refl)
+    | inl nested ↦ by_stretch text tokens (long_stretch tokens) read nested refl
+  ]
+
+  by_pieces : (text : List ℕ) (ps : List Piece) (rest : List ℕ) → ArePieces language text ps rest → BeginsNone language rest → Answer language text
+  by_pieces text ps [] x none = by_tokens text (tokens_after [] ps) (record { pieces = ps; whole = x; tokens_are = refl })
+  by_pieces text ps (b ∷ bs) x none = inr (
+    Lex (fault_at (place_after (all_written ps)) (b ∷ bs)),
+    record {
+      before = all_written ps;
+      rest = b ∷ bs;
+      split = pieces_split language text ps (b ∷ bs) x;
+      pieces = ps;
+      read = x;
+      more = omega arith;
+      none = none;
+      fault_is = refl;
+    },
+  )
+
+  pub program_or_text_fault : (text : List ℕ) → Answer language text
+  program_or_text_fault text = let r = reads language text in by_pieces text r.pieces r.rest r.read r.none

@@ -23,11 +23,11 @@ use Rattle.tc_base.specs.declared.place.Place.{Place}
 use Rattle.tc_names.specs.declared.fault.NameFault.{NameFault}
 use Rattle.tc_names.specs.declared.fault.NameFault.TheVariants as name
 use Rattle.tc_names.specs.Names.{names_fault}
-use Rattle.tc_names.specs.helpers.Answers.{TellsUnlessMemory}
+use Rattle.tc_names.specs.Answers.{TellsUnlessMemory}
 use Rattle.tc_parser.specs.declared.fault.ParseFault.{ParseFault}
 use Rattle.tc_parser.specs.declared.fault.ParseFault.TheVariants.{Count, Syntax, Memory}
 use Rattle.tc_parser.specs.declared.fault.What.TheVariants.{Cells, Mutexes, Conditions}
-use Rattle.tc_parser.specs.Programs.{IsNested, longest_stretch, AreOfProgram, IsTokensFault, IsProgramFault, place_at}
+use Rattle.tc_parser.specs.Programs.{IsNested, long_stretch, AreOfProgram, IsTokensFault, IsProgramFault, place_at}
 use Rattle.tc_parser.specs.helpers.Parts.{IsCountFault, IsReadFault, fault_of}
 
 -- ---- a text has no more declarations than bytes
@@ -78,7 +78,7 @@ few_globals language text tokens p read spelled = omega (
 
 -- ---- faults of the parts
 
-pub tree_fault : (text : List ℕ) (tokens : List Token) (fault : ParseFault) → AreTokens 3 text tokens → IsNested tokens → longest_stretch tokens ≤ 512
+pub tree_fault : (text : List ℕ) (tokens : List Token) (fault : ParseFault) → AreTokens 3 text tokens → IsNested tokens → long_stretch tokens ≡ None
     → IsReadFault text tokens fault → fault ≢ Memory → IsProgramFault 3 text fault
 tree_fault text tokens (Syntax place) read nested parted is h = record { tokens = tokens; read = read; is = (nested, parted, is) }
 tree_fault text tokens Memory read nested parted is h = absurd (h refl)

@@ -1,6 +1,6 @@
 -- Texts of programs, and the one fault of a text that is none. The language is told by its number.
-use Rattle.std.specs.Prelude.{◌≡◌, ℕ, zero, suc, ◌+◌, ◌-◌, ◌<◌, ◌≤◌, max, Bool, true, false, List, [], ◌∷◌, length, map, take, fold, Some, None}
-use Rattle.std.specs.List.{slice_split}
+use Rattle.std.specs.Prelude.{◌≡◌, ℕ, zero, suc, ◌+◌, ◌-◌, ◌<◌, ◌≤◌, Bool, true, false, nat_lt, List, [], ◌∷◌, length, map, take, fold, Option, Some, None}
+use Rattle.std.specs.List.{slice_split, find}
 use Rattle.tc_base.specs.declared.place.Place.{Place}
 use Rattle.tc_lexer.specs.declared.token.Sign.{Sign}
 use Rattle.tc_lexer.specs.declared.token.Sign.TheVariants.{OpenParen, CloseParen, OpenBracket, CloseBracket, OpenBrace, CloseBrace, Semicolon}
@@ -56,16 +56,16 @@ ends_stretch (kind.Sign OpenBrace) = true
 ends_stretch (kind.Sign CloseBrace) = true
 ends_stretch _ = false
 
--- how many tokens the longest part between `;`, `{` and `}` has
-abbrev pub longest_stretch : List Token → ℕ
-longest_stretch tokens = fold max 0 (map length (slice_split (λ t. ends_stretch t.kind) tokens))
+-- how many tokens the first part between `;`, `{` and `}` has that has too many
+abbrev pub long_stretch : List Token → Option ℕ
+long_stretch tokens = find (λ n. nat_lt (limit_of Stretch) n) (map length (slice_split (λ t. ends_stretch t.kind) tokens))
 
 -- ---- programs
 
 -- the tokens are the program's, nested no deeper and parted as often as they have to be
 pub record AreOfProgram (language : ℕ) (tokens : List Token) (p : Program) : Type 0 where
   pub nested : IsNested tokens
-  pub parted : longest_stretch tokens ≤ limit_of Stretch
+  pub parted : long_stretch tokens ≡ None
   pub spelled : IsSpelled language (words_of tokens) p
 
 -- the text is the program's: its tokens are, each name is declared and used as it may be, and no more is declared than may be
@@ -100,8 +100,8 @@ pub record AreNamed (language : ℕ) (text : List ℕ) (tokens : List Token) (p 
 -- the fault of the tokens of this text; each comes only where none before it does
 abbrev pub IsTokensFault : ℕ → List ℕ → List Token → ParseFault → Type 0
 IsTokensFault language text tokens (Count Brackets n) = IsTooDeep tokens × (n ≡ limit_of Brackets + 1)
-IsTokensFault language text tokens (Count Stretch n) = IsNested tokens × (limit_of Stretch < n) × (n ≡ longest_stretch tokens)
-IsTokensFault language text tokens (Syntax place) = IsNested tokens × (longest_stretch tokens ≤ limit_of Stretch)
+IsTokensFault language text tokens (Count Stretch n) = IsNested tokens × (long_stretch tokens ≡ Some n)
+IsTokensFault language text tokens (Syntax place) = IsNested tokens × (long_stretch tokens ≡ None)
     × ((k : ℕ) × IsSyntaxFault language (words_of tokens) k × (place ≡ place_at text tokens k))
 IsTokensFault language text tokens (Unknown place) = HasNameFault language text tokens (name.Unknown place)
 IsTokensFault language text tokens (Twice place) = HasNameFault language text tokens (name.Twice place)

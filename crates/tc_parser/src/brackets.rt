@@ -1,5 +1,6 @@
 //! How many brackets are open at once.
 ghost use Rattle.std.specs.Prelude.{◌≡◌, ◌≤◌, MatchBool};
+ghost use Rattle.tc_base.specs.declared.limits.TheConstants.{BRACKETS};
 ghost use Rattle.tc_parser.specs.Programs.{open_after_kind, IsNested, IsTooDeep};
 
 use tc_base::limits::BRACKETS;
@@ -21,7 +22,7 @@ pub(crate) fn is_too_deep(tokens: &[Token]) -> bool
 
 /// How many brackets are open after one token more.
 fn open_after(depth: usize, kind: TokenKind) -> usize
-    requires { depth ≤ 64 }
+    requires { depth ≤ BRACKETS }
     ensures { result ≡ open_after_kind depth kind }
 {
     match kind {

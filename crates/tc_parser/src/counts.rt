@@ -1,15 +1,15 @@
 //! What a program may have only so many of.
-ghost use Rattle.std.specs.Prelude.{◌≡◌, ◌≤◌, ◌<◌, List, length, MatchResult, ℕ};
+ghost use Rattle.std.specs.Prelude.{◌≡◌, ◌≤◌, ◌<◌, List, length, MatchResult, ℕ, None};
+ghost use Rattle.tc_base.specs.declared.limits.TheConstants.{PROGRAM_BYTES};
 ghost use Rattle.tc_tree.specs.Counts as count;
 ghost use Rattle.tc_parser.specs.declared.fault.ParseFault.TheVariants.{Count};
-ghost use Rattle.tc_parser.specs.declared.fault.What.TheVariants.{Stretch};
 ghost use Rattle.tc_parser.specs.Faults.{limit_of};
-ghost use Rattle.tc_parser.specs.Programs.{IsNested, longest_stretch, IsTokensFault};
+ghost use Rattle.tc_parser.specs.Programs.{IsNested, long_stretch, IsTokensFault};
 ghost use Rattle.tc_parser.specs.helpers.Parts.{HaveRoom, IsCountFault};
 
 use crate::brackets::is_too_deep;
 use crate::fault::{ParseFault, What};
-use crate::stretches::longest_stretch;
+use crate::stretches::long_stretch;
 use tc_base::limits::BRACKETS;
 use tc_lexer::Token;
 use tc_tree::Global;
@@ -17,18 +17,21 @@ use tc_tree::Global;
 /// Refuses tokens with too many brackets open at once, or in too long a stretch.
 pub(crate) fn check_tokens(tokens: &[Token]) -> Result<(), ParseFault>
     ensures { MatchResult result
-        (λ _. IsNested tokens.now × (longest_stretch tokens.now ≤ limit_of Stretch))
+        (λ _. IsNested tokens.now × (long_stretch tokens.now ≡ None))
         (λ fault. (text : List ℕ) → IsTokensFault 3 text tokens.now fault) }
 {
     if is_too_deep(tokens) {
         return Err(ParseFault::Count(What::Brackets, BRACKETS as u64 + 1));
     }
-    check_count(What::Stretch, longest_stretch(tokens) as u64)
+    match long_stretch(tokens) {
+        Some(n) => Err(ParseFault::Count(What::Stretch, n as u64)),
+        None => Ok(()),
+    }
 }
 
 /// Refuses declarations of too many cells, mutexes or conditions.
 pub(crate) fn check_globals(globals: &[Global]) -> Result<(), ParseFault>
-    requires { length globals.now ≤ 65536 }
+    requires { length globals.now ≤ PROGRAM_BYTES }
     ensures { MatchResult result (λ _. HaveRoom globals.now) (IsCountFault globals.now) }
 {
     check_count(What::Cells, cells(globals))?;
@@ -51,7 +54,7 @@ fn check_count(what: What, n: u64) -> Result<(), ParseFault>
 
 /// How many cells the declarations make.
 fn cells(globals: &[Global]) -> u64
-    requires { length globals.now ≤ 65536 }
+    requires { length globals.now ≤ PROGRAM_BYTES }
     ensures { result ≡ count.cells globals.now }
 {
     let mut sum = 0;

@@ -3,11 +3,12 @@ ghost use Rattle.std.specs.Prelude.{◌≡◌};
 ghost use Rattle.tc_parser.specs.Faults.{limit_of, name_of};
 
 use std::alloc::AllocError;
+use std::error::Error;
+use std::fmt;
 use tc_base::Place;
 use tc_base::limits::{BRACKETS, CELLS, CONDITIONS, MUTEXES, STRETCH};
 use tc_lexer::LexFault;
 use tc_names::NameFault;
-use thiserror::Error;
 
 /// What a program may have only so many of.
 #[derive(Clone, Copy, Debug, PartialEq, Eq)]
@@ -53,41 +54,74 @@ impl What {
 }
 
 /// Why the tokens of a text are no program.
-#[derive(Clone, Copy, Debug, PartialEq, Eq, Error)]
+#[derive(Clone, Copy, Debug, PartialEq, Eq)]
 pub enum ParseFault {
     /// There are so many of this, more than a program may have. Of brackets it is always one more.
-    #[error("{} {} of {}", .0.name(), .1, .0.limit())]
     Count(What, u64),
     /// The first token with which no program goes on, or the text's end where the program doesn't end.
-    #[error("Syntax at {}:{}", .0.line, .0.col)]
     Syntax(Place),
     /// A name without a declaration.
-    #[error("Unknown at {}:{}", .0.line, .0.col)]
     Unknown(Place),
     /// A declaration of a name that was declared earlier in its scope.
-    #[error("Twice at {}:{}", .0.line, .0.col)]
     Twice(Place),
     /// A name of another kind than its use asks for, or the length 0 of an array.
-    #[error("Kind at {}:{}", .0.line, .0.col)]
     Kind(Place),
     /// A thread that is given another number of arguments than it has parameters.
-    #[error("Arguments at {}:{}", .0.line, .0.col)]
     Arguments(Place),
     /// There is no memory.
-    #[error("no memory")]
     Memory,
 }
 
 /// Why a text is no program.
-#[derive(Clone, Copy, Debug, PartialEq, Eq, Error)]
+#[derive(Clone, Copy, Debug, PartialEq, Eq)]
 pub enum TextFault {
     /// It has no tokens.
-    #[error("{0}")]
     Lex(LexFault),
     /// Its tokens are no program.
-    #[error("{0}")]
     Parse(ParseFault),
 }
+
+/// What is wrong, and the line and column where; or how many there are of how many.
+impl fmt::Display for ParseFault {
+    ghost use Rattle.std.specs.Prelude.{Some};
+    ghost use Rattle.tc_parser.specs.Faults.{parse_fault_text};
+
+    ghost output = { λ f. Some (parse_fault_text f) };
+
+    fn fmt<W: fmt::Write>(&self, f: &mut fmt::Formatter<W>) -> fmt::Result {
+        match self {
+            ParseFault::Count(what, count) => {
+                let (name, limit) = (what.name(), what.limit());
+                write!(f, "{name} {count} of {limit}")
+            }
+            ParseFault::Syntax(Place { line, col }) => write!(f, "Syntax at {line}:{col}"),
+            ParseFault::Unknown(Place { line, col }) => write!(f, "Unknown at {line}:{col}"),
+            ParseFault::Twice(Place { line, col }) => write!(f, "Twice at {line}:{col}"),
+            ParseFault::Kind(Place { line, col }) => write!(f, "Kind at {line}:{col}"),
+            ParseFault::Arguments(Place { line, col }) => write!(f, "Arguments at {line}:{col}"),
+            ParseFault::Memory => write!(f, "no memory"),
+        }
+    }
+}
+
+impl Error for ParseFault {}
+
+/// What is wrong, and the line and column where; or how many there are of how many.
+impl fmt::Display for TextFault {
+    ghost use Rattle.std.specs.Prelude.{Some};
+    ghost use Rattle.tc_parser.specs.Faults.{text_fault_text};
+
+    ghost output = { λ f. Some (text_fault_text f) };
+
+    fn fmt<W: fmt::Write>(&self, f: &mut fmt::Formatter<W>) -> fmt::Result {
+        match self {
+            TextFault::Lex(fault) => write!(f, "{fault}"),
+            TextFault::Parse(fault) => write!(f, "{fault}"),
+        }
+    }
+}
+
+impl Error for TextFault {}
 
 impl From<NameFault> for ParseFault {
     ghost use Rattle.tc_parser.specs.helpers.Parts.{fault_of};

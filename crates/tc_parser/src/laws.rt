@@ -1,10 +1,11 @@
 //! Laws of the definitions of a program's text. They do nothing when they run.
-ghost use Rattle.std.specs.Prelude.{◌≡◌, ◌⊎◌, ℕ, List};
+ghost use Rattle.std.specs.Prelude.{◌≡◌, ◌≤◌, ◌⊎◌, ℕ, List};
 ghost use Rattle.tc_lexer.specs.declared.token.Token.{Token as OneToken};
 ghost use Rattle.tc_lexer.specs.Tokens.{plain_tokens};
 ghost use Rattle.tc_lexer.specs.Text.{AreTokens};
 ghost use Rattle.tc_lexer.specs.Languages.{HaveNoKeywordOf};
 ghost use Rattle.tc_tree.specs.Grammar.{Program as OneProgram};
+ghost use Rattle.tc_tree.specs.Numbers.{HasInts};
 ghost use Rattle.tc_parser.specs.declared.fault.TextFault.{TextFault as OneFault};
 ghost use Rattle.tc_parser.specs.Programs.{IsProgram, IsTextFault};
 
@@ -14,14 +15,19 @@ pub fn programs_are_one()
         → IsProgram language text this → IsProgram language text that → this ≡ that }
 {}
 
-/// A text is a program or has a fault, never both, and it has one fault at most.
+/// In each language a text is a program or has a fault, never both, and it has one fault at most.
 pub fn faults_are_one()
-    ensures some { (text : List ℕ)
-        → ((program : OneProgram) × IsProgram 3 text program) ⊎ ((fault : OneFault) × IsTextFault 3 text fault) }
+    ensures some { (language : ℕ) (text : List ℕ) → 1 ≤ language
+        → ((program : OneProgram) × IsProgram language text program) ⊎ ((fault : OneFault) × IsTextFault language text fault) }
     ensures one { (language : ℕ) (text : List ℕ) (this that : OneFault)
         → IsTextFault language text this → IsTextFault language text that → this ≡ that }
     ensures none { (language : ℕ) (text : List ℕ) (program : OneProgram) (fault : OneFault)
         → IsProgram language text program → IsTextFault language text fault → ⊥ }
+{}
+
+/// Each number of a program is an int.
+pub fn numbers_are_ints()
+    ensures { (language : ℕ) (text : List ℕ) (program : OneProgram) → IsProgram language text program → HasInts program }
 {}
 
 /// A program of language 1 is the same text's program in language 2.

@@ -1,5 +1,6 @@
 //! From a text to its tree.
 ghost use Rattle.std.specs.Prelude.{◌≡◌, ◌≢◌, ◌≤◌, length, IfOk, IfErr, MatchResult};
+ghost use Rattle.tc_base.specs.declared.limits.TheConstants.{PROGRAM_BYTES};
 ghost use Rattle.tc_lexer.specs.Text.{AreTokens};
 ghost use Rattle.tc_lexer.specs.declared.fault.LexFault.TheVariants as lex_fault;
 ghost use Rattle.tc_tree.specs.Grammar.{IsSpelled};
@@ -25,7 +26,7 @@ use tc_tree::{Program, Tree, Word};
 /// `Memory` where there is none. The time grows linearly with the text, look-ups of names aside. Brackets and stretches
 /// are counted before the tree is read, which bounds how deep the reader's calls go.
 pub fn parse<'a>(alloc: Global, text: &'a [u8], tokens: &Tokens) -> Result<Tree<'a>, ParseFault>
-    requires size { length text.now ≤ 65536 }
+    requires size { length text.now ≤ PROGRAM_BYTES }
     requires tokens { AreTokens 3 text.now tokens.now }
     ensures found { IfOk result (λ tree. (tree.text.now ≡ text.now) × IsProgram 3 text.now (program_of tree.program)) }
     ensures refused { IfErr result (λ fault. fault ≢ parse_fault.Memory → IsProgramFault 3 text.now fault) }
@@ -41,7 +42,7 @@ pub fn parse<'a>(alloc: Global, text: &'a [u8], tokens: &Tokens) -> Result<Tree<
 
 /// The tree of some tokens, without a look at its names.
 fn read_tree(alloc: Global, text: &[u8], tokens: &[Token]) -> Result<Program, ParseFault>
-    requires { length text.now ≤ 65536 }
+    requires { length text.now ≤ PROGRAM_BYTES }
     ensures { MatchResult result
         (λ program. IsSpelled 3 (words_of tokens.now) (program_of program))
         (IsReadFault text.now tokens.now) }
@@ -66,7 +67,7 @@ fn words_of(alloc: Global, tokens: &[Token]) -> Result<Vec<Word>, AllocError>
 
 /// Where the k-th token stands, or the text ends.
 fn place_at(text: &[u8], tokens: &[Token], k: usize) -> Place
-    requires { length text.now ≤ 65536 }
+    requires { length text.now ≤ PROGRAM_BYTES }
     ensures { result ≡ place_at text.now tokens.now k }
 {
     match tokens.get(k) {
@@ -79,7 +80,7 @@ fn place_at(text: &[u8], tokens: &[Token], k: usize) -> Place
 ///
 /// A text is a program or has exactly one fault, so the answer is the only one that there is, but for want of memory.
 pub fn read<'a>(alloc: Global, text: &'a [u8]) -> Result<Tree<'a>, TextFault>
-    requires { length text.now ≤ 65536 }
+    requires { length text.now ≤ PROGRAM_BYTES }
     ensures found { IfOk result (λ tree. (tree.text.now ≡ text.now) × IsProgram 3 text.now (program_of tree.program)) }
     ensures refused { IfErr result (λ fault.
         fault ≢ text_fault.Lex lex_fault.Memory → fault ≢ text_fault.Parse parse_fault.Memory → IsTextFault 3 text.now fault) }

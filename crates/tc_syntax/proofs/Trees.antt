@@ -82,7 +82,7 @@ use Rattle.tc_syntax.specs.helpers.Reading.{
   Threads,
   fault,
 }
-use Rattle.tc_syntax.proofs.Signs.{sign_read}
+use Rattle.tc_syntax.proofs.Signs.{operator_is, sign_read}
 
 -- whether `[` is next
 abbrev pub opens : List Word → Bool
@@ -94,25 +94,12 @@ no_subscript [] h s = refl
 no_subscript (ASign sign.OpenBracket ∷ ws) h s = absurd cc
 no_subscript (_ ∷ ws) h s = refl
 
-sign_opens : (op : Operator) (ws : List Word) → opens (ASign (binary_sign op) ∷ ws) ≡ false
-sign_opens operator.Multiply ws = refl
-sign_opens operator.Divide ws = refl
-sign_opens operator.Remainder ws = refl
-sign_opens operator.Add ws = refl
-sign_opens operator.Subtract ws = refl
-sign_opens operator.ShiftLeft ws = refl
-sign_opens operator.ShiftRight ws = refl
-sign_opens operator.Less ws = refl
-sign_opens operator.LessOrEqual ws = refl
-sign_opens operator.Greater ws = refl
-sign_opens operator.GreaterOrEqual ws = refl
-sign_opens operator.Equal ws = refl
-sign_opens operator.Unequal ws = refl
-sign_opens operator.BitAnd ws = refl
-sign_opens operator.BitXor ws = refl
-sign_opens operator.BitOr ws = refl
-sign_opens operator.And ws = refl
-sign_opens operator.Or ws = refl
+operator_opens : (k : Sign) (op : Operator) (ws : List Word) → operator_of k ≡ Some op → opens (ASign k ∷ ws) ≡ false
+operator_opens sign.OpenBracket op ws e = absurd cc
+operator_opens _ op ws e = refl
+
+pub sign_opens : (op : Operator) (ws : List Word) → opens (ASign (binary_sign op) ∷ ws) ≡ false
+sign_opens op ws = operator_opens (binary_sign op) op ws (operator_is op)
 
 pub expression_read : (e : Expression) (s : List Expected) (rest : List Word) → opens rest ≡ false
     → fault (Some (Operand ∷ Operators ∷ s)) (expression_then e rest) ≡ fault (Some (Operators ∷ s)) rest
@@ -193,7 +180,7 @@ statement_begins (Assert p e) rest = refl
 statement_begins (While p c b q) rest = refl
 statement_begins (If p c b q o) rest = refl
 
-statements_begin : (b : grammar.Statements) (rest : List Word) → is_else rest ≡ false → is_else (statements_then b rest) ≡ false
+pub statements_begin : (b : grammar.Statements) (rest : List Word) → is_else rest ≡ false → is_else (statements_then b rest) ≡ false
 statements_begin Nil rest h = h
 statements_begin (Cons a b) rest h = statement_begins a (statements_then b rest)
 

@@ -4,7 +4,6 @@ ghost use Rattle.tc_lexer.specs.declared.token.Sign.TheVariants as sign;
 ghost use Rattle.tc_tree.specs.Grammar.{binary_sign, unary_sign, expression_then, list_then, IsGrouped, AreGrouped};
 ghost use Rattle.tc_tree.specs.declared.word.Word.TheVariants.{Sign as ASign, Name as AName};
 ghost use Rattle.tc_tree.specs.Grammar as grammar;
-ghost use Rattle.tc_tree.specs.Seen.{expression_of, expressions_of};
 ghost use Rattle.tc_syntax.specs.helpers.Reading.{Just, Operand, Operators, Subscript, Arguments, next_level};
 ghost use Rattle.tc_syntax.specs.helpers.Reading as reading;
 ghost use Rattle.tc_syntax.specs.helpers.Read.{Stops, IsRead, IsTight, IsOperand};
@@ -19,7 +18,7 @@ use tc_tree::{Expression, Name, Operator, Word};
 #[cycle(expression)]
 pub(crate) fn read_expression<'w>(alloc: Global, words: &'w [Word]) -> Read<'w, Expression>
     ensures { MatchResult result
-        (λ x. IsRead expression_then IsGrouped [] (Operand ∷ Operators ∷ []) words.now (expression_of x.0) x.1.now)
+        (λ x. IsRead expression_then IsGrouped [] (Operand ∷ Operators ∷ []) words.now x.0 x.1.now)
         (λ stop. Stops (Operand ∷ Operators ∷ []) words.now stop) }
 {
     let (expression, rest) = read_tight(alloc, words, 1)?;
@@ -31,13 +30,13 @@ pub(crate) fn read_expression<'w>(alloc: Global, words: &'w [Word]) -> Read<'w, 
 fn read_tight<'w>(alloc: Global, words: &'w [Word], least: u8) -> Read<'w, Expression>
     requires least { (1 ≤ least) × (least ≤ 11) }
     ensures { MatchResult result
-        (λ x. IsTight least words.now (expression_of x.0) x.1.now)
+        (λ x. IsTight least words.now x.0 x.1.now)
         (λ stop. Stops (Operand ∷ Operators ∷ []) words.now stop) }
 {
     let (mut left, mut rest) = read_operand(alloc, words)?;
     while let Some((operator, after)) = next_operator(rest, least) {
         let (right, after) = read_tight(alloc, after, level(operator) + 1)?;
-        left = Expression::Binary(operator, Box::new(alloc, left)?, Box::new(alloc, right)?);
+        left = Expression::binary(alloc, operator, left, right)?;
         rest = after;
     }
     Ok((left, rest))
@@ -47,11 +46,11 @@ fn read_tight<'w>(alloc: Global, words: &'w [Word], least: u8) -> Read<'w, Expre
 #[cycle(expression)]
 fn read_operand<'w>(alloc: Global, words: &'w [Word]) -> Read<'w, Expression>
     ensures { MatchResult result
-        (λ x. IsOperand [] (Operand ∷ []) words.now (expression_of x.0) x.1.now)
+        (λ x. IsOperand [] (Operand ∷ []) words.now x.0 x.1.now)
         (λ stop. Stops (Operand ∷ []) words.now stop) }
 {
     match words {
-        [Word::Number(number), rest @ ..] => Ok((Expression::Number(*number), rest)),
+        [Word::Number(number), rest @ ..] => Ok((Expression::number(*number), rest)),
         [Word::Name(name), rest @ ..] => read_variable(alloc, *name, rest),
         [Word::Sign(Sign::OpenParen), start @ ..] => read_paren(alloc, start),
         [Word::Sign(Sign::Minus), start @ ..] => read_unary(alloc, UnOp::Neg, start),
@@ -65,15 +64,15 @@ fn read_operand<'w>(alloc: Global, words: &'w [Word]) -> Read<'w, Expression>
 #[cycle(expression)]
 fn read_variable<'w>(alloc: Global, name: Name, words: &'w [Word]) -> Read<'w, Expression>
     ensures { MatchResult result
-        (λ x. IsOperand (AName name ∷ []) (Subscript ∷ []) words.now (expression_of x.0) x.1.now)
+        (λ x. IsOperand (AName name ∷ []) (Subscript ∷ []) words.now x.0 x.1.now)
         (λ stop. Stops (Subscript ∷ []) words.now stop) }
 {
     if let Ok(start) = past(words, Sign::OpenBracket) {
         let (index, end) = read_expression(alloc, start)?;
         let rest = past(end, Sign::CloseBracket)?;
-        Ok((Expression::Element(name, Box::new(alloc, index)?), rest))
+        Ok((Expression::element(alloc, name, index)?, rest))
     } else {
-        Ok((Expression::Name(name), words))
+        Ok((Expression::variable(name), words))
     }
 }
 
@@ -81,30 +80,30 @@ fn read_variable<'w>(alloc: Global, name: Name, words: &'w [Word]) -> Read<'w, E
 #[cycle(expression)]
 fn read_paren<'w>(alloc: Global, words: &'w [Word]) -> Read<'w, Expression>
     ensures { MatchResult result
-        (λ x. IsOperand (ASign sign.OpenParen ∷ []) (Operand ∷ Operators ∷ Just sign.CloseParen ∷ []) words.now (expression_of x.0) x.1.now)
+        (λ x. IsOperand (ASign sign.OpenParen ∷ []) (Operand ∷ Operators ∷ Just sign.CloseParen ∷ []) words.now x.0 x.1.now)
         (λ stop. Stops (Operand ∷ Operators ∷ Just sign.CloseParen ∷ []) words.now stop) }
 {
     let (inside, end) = read_expression(alloc, words)?;
     let rest = past(end, Sign::CloseParen)?;
-    Ok((Expression::Paren(Box::new(alloc, inside)?), rest))
+    Ok((Expression::paren(alloc, inside)?, rest))
 }
 
 /// The operand of an operator that stands before it, and the words after it.
 #[cycle(expression)]
 fn read_unary<'w>(alloc: Global, operator: UnOp, words: &'w [Word]) -> Read<'w, Expression>
     ensures { MatchResult result
-        (λ x. IsOperand (ASign (unary_sign operator) ∷ []) (Operand ∷ []) words.now (expression_of x.0) x.1.now)
+        (λ x. IsOperand (ASign (unary_sign operator) ∷ []) (Operand ∷ []) words.now x.0 x.1.now)
         (λ stop. Stops (Operand ∷ []) words.now stop) }
 {
     let (operand, rest) = read_operand(alloc, words)?;
-    Ok((Expression::Unary(operator, Box::new(alloc, operand)?), rest))
+    Ok((Expression::unary(alloc, operator, operand)?, rest))
 }
 
 /// Expressions between commas, as many as stand there, and the words after the parenthesis that closes them.
 pub(crate) fn read_arguments<'w>(alloc: Global, words: &'w [Word]) -> Read<'w, Vec<Expression>>
     ensures { MatchResult result
         (λ x. IsRead (λ es rest. list_then es (ASign sign.CloseParen ∷ rest)) AreGrouped [] (Arguments ∷ Just sign.CloseParen ∷ []) words.now
-        (expressions_of x.0.items) x.1.now)
+        x.0.items x.1.now)
         (λ stop. Stops (Arguments ∷ Just sign.CloseParen ∷ []) words.now stop) }
 {
     let mut found = Vec::new(alloc);

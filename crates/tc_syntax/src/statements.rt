@@ -16,7 +16,8 @@ ghost use Rattle.tc_tree.specs.declared.word.Word.TheVariants.{
 };
 ghost use Rattle.tc_tree.specs.Seen.{statement_of, block_of, branch_of};
 ghost use Rattle.tc_syntax.specs.helpers.Reading.{Just, AnyName, Operand, Operators, Arguments, Statements, AfterName, AfterAssign, Alternative, End, guarded};
-ghost use Rattle.tc_syntax.specs.helpers.Read.{Stops, IsRead, IsStatement, block_then, branch_then, IsWellBlock, IsWellBranch, statements_seen, otherwise_seen};
+ghost use Rattle.tc_tree.specs.helpers.Parts.{statements_seen, otherwise_seen};
+ghost use Rattle.tc_syntax.specs.helpers.Read.{Stops, IsRead, IsStatement, block_then, branch_then, IsWellBlock, IsWellBranch};
 ghost use Rattle.tc_syntax.specs.helpers.Read as reads;
 
 use crate::expressions::{read_arguments, read_expression};

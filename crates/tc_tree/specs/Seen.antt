@@ -1,7 +1,6 @@
 -- What trees are, without where they lie in memory.
 use Rattle.std.specs.Prelude.{List, [], ◌∷◌, map, Option, Some, None}
 use Rattle.tc_base.specs.declared.place.Place.{Place}
-use Rattle.tc_tree.specs.declared.expression.Expression.{Expression as TreeExpression, Number, Name, Element', Paren', Unary', Binary'}
 use Rattle.tc_tree.specs.declared.statement.Statement.{Statement as TreeStatement, fold-Statement}
 use Rattle.tc_tree.specs.declared.statement.Statement.TheOpen.{Statement-F, Block-F, Branch-F}
 use Rattle.tc_tree.specs.declared.statement.Block.{Block, fold-Block}
@@ -11,17 +10,6 @@ use Rattle.tc_tree.specs.declared.program.Thread.{Thread as TreeThread}
 use Rattle.tc_tree.specs.declared.program.Program.{Program as TreeProgram}
 use Rattle.tc_tree.specs.Grammar as grammar
 use Rattle.tc_tree.specs.Grammar.{Statement, Statements, Otherwise, Body, Thread, Program}
-
-abbrev pub expression_of : TreeExpression → grammar.Expression
-expression_of (Number n) = grammar.Number n
-expression_of (Name x) = grammar.Variable x
-expression_of (Element' a p i) = grammar.Element a (expression_of i)
-expression_of (Paren' p e) = grammar.Paren (expression_of e)
-expression_of (Unary' op p e) = grammar.Unary op (expression_of e)
-expression_of (Binary' op p a q b) = grammar.Binary op (expression_of a) (expression_of b)
-
-abbrev pub expressions_of : List TreeExpression → List grammar.Expression
-expressions_of es = map expression_of es
 
 abbrev pub statements_of : List Statement → Statements
 statements_of [] = grammar.Nil
@@ -44,15 +32,15 @@ otherwise_of [] (Some b) = grammar.Else b.statements b.end
 otherwise_of (b ∷ bs) last = grammar.ElseIf b.place b.condition b.body.statements b.body.end (otherwise_of bs last)
 
 abbrev pub view_statement : Statement-F Statement SeenBlock SeenBranch → Statement
-view_statement (Statement-F.Assign x e) = grammar.Assign x (expression_of e)
-view_statement (Statement-F.Store a i e) = grammar.Store a (expression_of i) (expression_of e)
-view_statement (Statement-F.Create h f es) = grammar.Create h f (expressions_of es.items)
-view_statement (Statement-F.Swap r x e) = grammar.Swap r x (expression_of e)
-view_statement (Statement-F.Cas r x e f) = grammar.Cas r x (expression_of e) (expression_of f)
+view_statement (Statement-F.Assign x e) = grammar.Assign x e
+view_statement (Statement-F.Store a i e) = grammar.Store a i e
+view_statement (Statement-F.Create h f es) = grammar.Create h f es.items
+view_statement (Statement-F.Swap r x e) = grammar.Swap r x e
+view_statement (Statement-F.Cas r x e f) = grammar.Cas r x e f
 view_statement (Statement-F.Act p a x) = grammar.Act p a x
 view_statement (Statement-F.Wait p c m) = grammar.Wait p c m
 view_statement (Statement-F.Order p b) = grammar.Order p b
-view_statement (Statement-F.Assert p e) = grammar.Assert p (expression_of e)
+view_statement (Statement-F.Assert p e) = grammar.Assert p e
 view_statement (Statement-F.While b) = grammar.While b.place b.condition b.body.statements b.body.end
 view_statement (Statement-F.If b others last) = grammar.If b.place b.condition b.body.statements b.body.end (otherwise_of others.items last)
 
@@ -60,7 +48,7 @@ abbrev pub view_block : Block-F Statement SeenBlock SeenBranch → SeenBlock
 view_block b = record { statements = statements_of b.statements.items; end = b.end }
 
 abbrev pub view_branch : Branch-F Statement SeenBlock SeenBranch → SeenBranch
-view_branch b = record { place = b.place; condition = expression_of b.condition; body = b.body }
+view_branch b = record { place = b.place; condition = b.condition; body = b.body }
 
 abbrev pub statement_of : TreeStatement → Statement
 statement_of s = fold-Statement Statement SeenBlock SeenBranch view_statement view_block view_branch s

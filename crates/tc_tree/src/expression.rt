@@ -1,6 +1,9 @@
 //! Expressions.
-ghost use Rattle.std.specs.Prelude.{◌≡◌, slice_range};
+ghost use Rattle.std.specs.Prelude.{◌≡◌, slice_range, IfOk};
+ghost use Rattle.tc_tree.specs.Grammar as plain;
 
+use std::alloc::{AllocError, Global};
+use std::marker::Model;
 use tc_base::{Place, UnOp};
 
 /// A name, told by where it stands in its text.
@@ -75,12 +78,21 @@ pub enum Operator {
 }
 
 /// An expression, which keeps its parentheses.
+#[cycle(expression)]
 #[derive(Debug, Drop)]
-pub enum Expression {
+pub struct Expression {
+    /// What it is.
+    pub node: Node,
+}
+
+/// What an expression is.
+#[cycle(expression)]
+#[derive(Debug, Drop)]
+pub enum Node {
     /// A number.
     Number(Number),
     /// The value of a variable.
-    Name(Name),
+    Variable(Name),
     /// `a[i]`
     Element(Name, Box<Expression>),
     /// `( e )`
@@ -89,4 +101,86 @@ pub enum Expression {
     Unary(UnOp, Box<Expression>),
     /// An operator between its operands.
     Binary(Operator, Box<Expression>, Box<Expression>),
+}
+
+impl Model for Expression {
+    ghost use Rattle.tc_tree.specs.Grammar as plain;
+    ghost use Rattle.tc_tree.specs.helpers.CodedExpression.{coded_expression};
+
+    ghost Value = { plain.Expression };
+
+    ghost coded = { coded_expression };
+
+    ghost use Rattle.tc_tree.specs.Node.{expression_of};
+
+    ghost view = { λ e. expression_of e.node };
+
+    ghost use Rattle.tc_tree.specs.helpers.Size as nodes;
+
+    ghost size = { nodes.size };
+
+    ghost use Rattle.tc_tree.specs.helpers.Falls.{depth_le-size};
+
+    ghost size_decreases = { λ e h. depth_le-size e.node };
+}
+
+impl Expression {
+    /// A number.
+    pub fn number(number: Number) -> Self
+        ensures { result ≡ plain.Number number }
+    {
+        Expression {
+            node: Node::Number(number),
+        }
+    }
+
+    /// The value of a variable.
+    pub fn variable(name: Name) -> Self
+        ensures { result ≡ plain.Variable name }
+    {
+        Expression {
+            node: Node::Variable(name),
+        }
+    }
+
+    /// `a[i]`
+    pub fn element(alloc: Global, array: Name, index: Self) -> Result<Self, AllocError>
+        ensures { IfOk result (λ e. e ≡ plain.Element array index) }
+    {
+        let index = Box::new(alloc, index)?;
+        Ok(Expression {
+            node: Node::Element(array, index),
+        })
+    }
+
+    /// `( e )`
+    pub fn paren(alloc: Global, inside: Self) -> Result<Self, AllocError>
+        ensures { IfOk result (λ e. e ≡ plain.Paren inside) }
+    {
+        let inside = Box::new(alloc, inside)?;
+        Ok(Expression {
+            node: Node::Paren(inside),
+        })
+    }
+
+    /// An operator before its operand.
+    pub fn unary(alloc: Global, op: UnOp, operand: Self) -> Result<Self, AllocError>
+        ensures { IfOk result (λ e. e ≡ plain.Unary op operand) }
+    {
+        let operand = Box::new(alloc, operand)?;
+        Ok(Expression {
+            node: Node::Unary(op, operand),
+        })
+    }
+
+    /// An operator between its operands.
+    pub fn binary(alloc: Global, op: Operator, left: Self, right: Self) -> Result<Self, AllocError>
+        ensures { IfOk result (λ e. e ≡ plain.Binary op left right) }
+    {
+        let left = Box::new(alloc, left)?;
+        let right = Box::new(alloc, right)?;
+        Ok(Expression {
+            node: Node::Binary(op, left, right),
+        })
+    }
 }

@@ -8,7 +8,7 @@ mod program;
 mod statement;
 mod word;
 
-pub use expression::{Expression, Name, Number, Operator};
+pub use expression::{Expression, Name, Node, Number, Operator};
 pub use program::{Body, Global, Initial, Local, Program, Thread, Tree};
 pub use statement::{Action, Barrier, Block, Branch, Statement};
 pub use word::Word;

@@ -1,11 +1,10 @@
 -- Helpers: bodies that are being written.
-use Rattle.std.specs.Prelude.{◌≡◌, ℕ, ◌+◌, ◌<◌, ◌≤◌, ◌^◌, Bool, true, false, [], ◌∷◌, ◌++◌, List, length, map, set, replicate}
-use Rattle.tc_code.specs.Instr.{Instr, Branch, Goto}
-use Rattle.tc_code.specs.SeenExpr.{plain_expr}
-use Rattle.tc_tree.specs.declared.statement.Statement.{Statement}
+use Rattle.std.specs.Prelude.{◌≡◌, ℕ, ◌+◌, ◌<◌, ◌≤◌, ◌^◌, Bool, true, false, [], ◌∷◌, ◌++◌, List, length, set, replicate}
+use Rattle.tc_base.specs.declared.limits.TheConstants.{PROGRAM_BYTES}
+use Rattle.tc_code.specs.declared.instr.Instr.{Instr}
+use Rattle.tc_code.specs.declared.instr.Instr.TheVariants.{Branch, Goto}
 use Rattle.tc_tree.specs.Grammar as grammar
-use Rattle.tc_tree.specs.Grammar.{Statements}
-use Rattle.tc_tree.specs.Seen.{SeenBranch, statement_of, statements_of}
+use Rattle.tc_tree.specs.Seen.{SeenBranch}
 use Rattle.tc_lower.specs.declared.statement.Body.{Body}
 use Rattle.tc_lower.specs.declared.statement.Test.{Test}
 use Rattle.tc_lower.specs.declared.things.Scope.{Scope}
@@ -13,13 +12,10 @@ use Rattle.tc_lower.specs.Statements.{Lowered, all_lowered, passing, after_body}
 use Rattle.tc_lower.specs.Values.{Evaluated, evaluated}
 use Rattle.tc_lower.specs.helpers.Seen.{plain_scope}
 
-abbrev pub statements_seen : List Statement → Statements
-statements_seen ss = statements_of (map statement_of ss)
-
 -- each instruction has its line, and these fit
 pub record IsReady (b : Body) (all : Lowered) : Type 0 where
   pub even : length b.lines.items ≡ length b.code.draft
-  pub room : b.code.free ≤ length b.code.draft + 65536
+  pub room : b.code.free ≤ length b.code.draft + PROGRAM_BYTES
   pub fits : length b.code.draft + length all.instrs < 2 ^ 18
 
 -- these instructions were written, with their lines
@@ -28,7 +24,7 @@ pub record IsWritten (old new : Body) (all : Lowered) : Type 0 where
   pub lines : new.lines.items ≡ old.lines.items ++ all.lines
   pub free : new.code.free ≡ all.free
   pub even : length new.lines.items ≡ length new.code.draft
-  pub room : new.code.free ≤ length new.code.draft + 65536
+  pub room : new.code.free ≤ length new.code.draft + PROGRAM_BYTES
 
 -- a test was written, with room for its branch
 pub record IsBegun (old new : Body) (test : Evaluated) (line : ℕ) (begun : Test) : Type 0 where
@@ -36,17 +32,13 @@ pub record IsBegun (old new : Body) (test : Evaluated) (line : ℕ) (begun : Tes
   pub lines : new.lines.items ≡ old.lines.items ++ replicate (length test.instrs + 1) line
   pub free : new.code.free ≡ test.free
   pub even : length new.lines.items ≡ length new.code.draft
-  pub room : new.code.free ≤ length new.code.draft + 65536
-  pub condition : plain_expr begun.condition ≡ test.value
+  pub room : new.code.free ≤ length new.code.draft + PROGRAM_BYTES
+  pub condition : begun.condition ≡ test.value
   pub branch : begun.branch ≡ length old.code.draft + length test.instrs
 
 -- a `while` of this test and body
 abbrev pub while_of : SeenBranch → grammar.Statement
 while_of b = grammar.While b.place b.condition b.body.statements b.body.end
-
--- an `if` of this test and body, and what stands after it
-abbrev pub if_of : SeenBranch → grammar.Otherwise → grammar.Statement
-if_of b o = grammar.If b.place b.condition b.body.statements b.body.end o
 
 -- the test of a branch that is written next, and its body
 abbrev pub test_of : Scope → Body → SeenBranch → Evaluated

@@ -1,9 +1,9 @@
 -- Helpers: the parts of the lowering as the definitions have them.
 use Rattle.std.specs.Prelude.{◌≡◌, ◌+◌, ◌<◌, ◌≤◌, ◌^◌, ◌++◌, List, Option, length}
-use Rattle.tc_code.specs.Instr.{Instr}
-use Rattle.tc_tree.specs.declared.expression.Expression.{Expression}
+use Rattle.tc_base.specs.declared.limits.TheConstants.{PROGRAM_BYTES}
+use Rattle.tc_code.specs.declared.instr.Instr.{Instr}
+use Rattle.tc_tree.specs.Grammar.{Expression}
 use Rattle.tc_tree.specs.declared.expression.Name.{Name}
-use Rattle.tc_tree.specs.Seen.{expression_of, expressions_of}
 use Rattle.tc_lower.specs.declared.things.Scope.{Scope}
 use Rattle.tc_lower.specs.declared.things.Thing.{Thing}
 use Rattle.tc_lower.specs.declared.value.Writer.{Writer}
@@ -17,18 +17,18 @@ plain_scope s = scope s.source.now s.own.now s.all.now
 
 -- an expression that is written next
 abbrev pub evaluated_by : Scope → Writer → Expression → Evaluated
-evaluated_by s w e = evaluated (plain_scope s) (length w.draft) w.free (expression_of e)
+evaluated_by s w e = evaluated (plain_scope s) (length w.draft) w.free e
 
 abbrev pub arguments_by : Scope → Writer → List Expression → Arguments
-arguments_by s w es = arguments (plain_scope s) (length w.draft) w.free (expressions_of es)
+arguments_by s w es = arguments (plain_scope s) (length w.draft) w.free es
 
 -- these instructions fit
 pub record HasRoom (w : Writer) (is : List Instr) : Type 0 where
-  pub room : w.free ≤ length w.draft + 65536
+  pub room : w.free ≤ length w.draft + PROGRAM_BYTES
   pub fits : length w.draft + length is < 2 ^ 18
 
 -- these instructions were written, and this is the next free slot
 pub record IsAdded (old new : Writer) (all : Written) : Type 0 where
   pub instrs : new.draft ≡ old.draft ++ all.instrs
   pub free : new.free ≡ all.free
-  pub room : new.free ≤ length new.draft + 65536
+  pub room : new.free ≤ length new.draft + PROGRAM_BYTES

@@ -1,11 +1,8 @@
 -- Helpers: what the parts of the check answer.
-use Rattle.std.specs.Prelude.{◌≡◌, List, [], ◌∷◌, ◌++◌, map, Option, Some, None, Result, Ok, Err}
-use Rattle.tc_tree.specs.declared.statement.Statement.{Statement as TreeStatement}
+use Rattle.std.specs.Prelude.{◌≡◌, List, [], ◌∷◌, ◌++◌, Option, Some, None, Result, Ok, Err}
 use Rattle.tc_tree.specs.declared.expression.Name.{Name}
-use Rattle.tc_tree.specs.Grammar.{Statements}
-use Rattle.tc_tree.specs.Seen.{SeenBranch, statement_of, statements_of}
+use Rattle.tc_tree.specs.Seen.{SeenBranch}
 use Rattle.tc_names.specs.declared.fault.NameFault.{NameFault}
-use Rattle.tc_names.specs.declared.fault.NameFault.TheVariants.{Memory}
 use Rattle.tc_names.specs.declared.scope.Scope.{Scope}
 use Rattle.tc_names.specs.declared.scope.Meaning.{Meaning}
 use Rattle.tc_names.specs.Names.{expression_fault, statements_fault, ◌then◌, meaning_in}
@@ -15,18 +12,9 @@ abbrev pub Tells : {A : Type 0} → Result A NameFault → Option NameFault → 
 Tells (Ok a) fault = fault ≡ None
 Tells (Err f) fault = fault ≡ Some f
 
--- the same, but memory may run out
-abbrev pub TellsUnlessMemory : {A : Type 0} → Result A NameFault → Option NameFault → Type 0
-TellsUnlessMemory (Ok a) fault = fault ≡ None
-TellsUnlessMemory (Err Memory) fault = Unit {0}
-TellsUnlessMemory (Err f) fault = fault ≡ Some f
-
 -- the body's own declarations and then the program's
 abbrev pub plain_scope : Scope → Name → Option Meaning
 plain_scope s = meaning_in s.source.now (s.own.now ++ s.all.now)
-
-abbrev pub statements_seen : List TreeStatement → Statements
-statements_seen ss = statements_of (map statement_of ss)
 
 abbrev pub branch_fault : (Name → Option Meaning) → SeenBranch → Option NameFault
 branch_fault scope b = expression_fault scope b.condition then statements_fault scope b.body.statements

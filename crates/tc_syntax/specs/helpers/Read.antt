@@ -99,12 +99,6 @@ branch_then b rest = ASign OpenParen ∷ expression_then b.condition (ASign Clos
 abbrev pub IsWellBranch : Place → SeenBranch → Type 0
 IsWellBranch place b = (b.place ≡ place) × IsGrouped b.condition × AreWell b.body.statements
 
-abbrev pub statements_seen : List TreeStatement → Statements
-statements_seen ss = statements_of (map statement_of ss)
-
-abbrev pub otherwise_seen : List Branch → Option Block → Otherwise
-otherwise_seen others last = otherwise_of (map branch_of others) (option_map block_of last)
-
 -- ---- programs
 
 abbrev pub IsAny : {A : Type 0} → A → Type 0

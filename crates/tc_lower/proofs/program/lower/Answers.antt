@@ -8,6 +8,7 @@ use Rattle.tc_tree.specs.Seen.{thread_of, program_of}
 use Rattle.tc_lower.specs.Things.{program_things}
 use Rattle.tc_lower.specs.Lowering.{memory_of, function_of, thread_function, code_of}
 use Rattle.tc_lower.proofs.Fits.{has_few}
+use Rattle.tc_lower.proofs.Ints.{program_ints}
 use Rattle.tc_lower.proofs.Programs.{program_is_lawful}
 use Rattle.tc_lower.proofs.program.lower.Goals as goal
 
@@ -48,4 +49,4 @@ new-requires c =
     ∙ ap (λ n. flat.code_of (memory_of p.globals) n c.in_ok-names.field-0.numbers.conditions c.in_ok-functions.functions.items) mutexes_are
     ∙ ap (λ n. flat.code_of (memory_of p.globals) (mutexes p.globals) n c.in_ok-functions.functions.items) conditions_are
     ∙ ap (λ fs. flat.code_of (memory_of p.globals) (mutexes p.globals) (conditions p.globals) fs) functions in
-    subst IsLawful (sym same) (program_is_lawful source p c.requires.cells)
+    subst IsLawful (sym same) (program_is_lawful source p c.requires.cells (program_ints p c.requires.ints))

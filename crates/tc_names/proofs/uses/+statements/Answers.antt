@@ -1,7 +1,53 @@
+use Rattle.std.proofs.Common.{refl}
 use Rattle.std.proofs.lemmas.Result.{err_from_is_err_and}
 use Rattle.tc_names.specs.helpers.Answers.{plain_scope}
-use Rattle.tc_names.proofs.Chains.{if_first, if_others, if_last, block_seen, create_arguments}
+use Rattle.tc_tree.proofs.Views.{store_seen, cas_seen, block_seen}
+use Rattle.tc_names.proofs.Chains.{if_first, if_others, if_last, create_arguments}
 use Rattle.tc_names.proofs.uses.+statements.Goals as goal
+
+pub check_statement-returns-in_err-check_expression-in-Store : goal.check_statement-returns-in_err-check_expression-in-Store
+check_statement-returns-in_err-check_expression-in-Store t c =
+    let p = err_from_is_err_and c.from_residual-in_err-check_expression-in-Store.result c.from_residual-in_err-check_expression-in-Store.ensures.1 in
+    rw (
+      p.1,
+      p.2,
+      c.in-Store.is,
+      store_seen c.in-Store.array c.in-Store.index c.in-Store.value,
+      c.in_ok-check_meaning-in-Store.ensures,
+      c.in_err-check_expression-in-Store.ensures,
+    ) refl
+
+pub check_statement-returns-in_ok-check_expression-in-Store : goal.check_statement-returns-in_ok-check_expression-in-Store
+check_statement-returns-in_ok-check_expression-in-Store t c =
+    rw (
+      c.in-Store.is,
+      store_seen c.in-Store.array c.in-Store.index c.in-Store.value,
+      c.in_ok-check_meaning-in-Store.ensures,
+      c.in_ok-check_expression-in-Store.ensures,
+    ) c.check_expression-in-Store-2.ensures
+
+pub check_statement-returns-in_err-check_expression-in-Cas : goal.check_statement-returns-in_err-check_expression-in-Cas
+check_statement-returns-in_err-check_expression-in-Cas t c =
+    let p = err_from_is_err_and c.from_residual-in_err-check_expression-in-Cas.result c.from_residual-in_err-check_expression-in-Cas.ensures.1 in
+    rw (
+      p.1,
+      p.2,
+      c.in-Cas.is,
+      cas_seen c.in-Cas.local c.in-Cas.global c.in-Cas.old c.in-Cas.new,
+      c.in_ok-check_meaning-in-Cas.ensures,
+      c.in_ok-check_meaning-in-Cas-2.ensures,
+      c.in_err-check_expression-in-Cas.ensures,
+    ) refl
+
+pub check_statement-returns-in_ok-check_expression-in-Cas : goal.check_statement-returns-in_ok-check_expression-in-Cas
+check_statement-returns-in_ok-check_expression-in-Cas t c =
+    rw (
+      c.in-Cas.is,
+      cas_seen c.in-Cas.local c.in-Cas.global c.in-Cas.old c.in-Cas.new,
+      c.in_ok-check_meaning-in-Cas.ensures,
+      c.in_ok-check_meaning-in-Cas-2.ensures,
+      c.in_ok-check_expression-in-Cas.ensures,
+    ) c.check_expression-in-Cas-2.ensures
 
 pub check_statement-returns-in_err-check_branch-in-If : goal.check_statement-returns-in_err-check_branch-in-If
 check_statement-returns-in_err-check_branch-in-If t c =

@@ -1,7 +1,8 @@
 use Rattle.std.proofs.Common.{◌≡◌, drop, map}
 use Rattle.tc_tree.specs.Seen.{branch_of}
 use Rattle.tc_names.specs.Names.{statements_fault}
-use Rattle.tc_names.specs.helpers.Answers.{plain_scope, statements_seen, branches_fault}
+use Rattle.tc_tree.specs.helpers.Parts.{statements_seen}
+use Rattle.tc_names.specs.helpers.Answers.{plain_scope, branches_fault}
 use Rattle.tc_names.proofs.uses.+statements.Given as goal
 
 -- the fault is that of the branches that are left

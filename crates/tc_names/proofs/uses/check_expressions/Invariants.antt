@@ -1,5 +1,4 @@
 use Rattle.std.proofs.Common.{◌≡◌, drop}
-use Rattle.tc_tree.specs.Seen.{expressions_of}
 use Rattle.tc_names.specs.Names.{expressions_fault}
 use Rattle.tc_names.specs.helpers.Answers.{plain_scope}
 use Rattle.tc_names.proofs.uses.check_expressions.Given as goal
@@ -7,5 +6,5 @@ use Rattle.tc_names.proofs.uses.check_expressions.Given as goal
 -- the fault is that of the expressions that are left
 abbrev pub invariant-loop-expression : goal.invariant-loop-expression
 invariant-loop-expression l =
-    expressions_fault (plain_scope l.scope) (expressions_of l.expressions)
-    ≡ expressions_fault (plain_scope l.scope) (expressions_of (drop l.expression-index l.expressions))
+    expressions_fault (plain_scope l.scope) l.expressions
+    ≡ expressions_fault (plain_scope l.scope) (drop l.expression-index l.expressions)

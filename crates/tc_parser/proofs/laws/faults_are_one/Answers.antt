@@ -2,7 +2,7 @@ use Rattle.tc_parser.proofs.OneFault.{program_or_text_fault, one_text_fault, pro
 use Rattle.tc_parser.proofs.laws.faults_are_one.Goals as goal
 
 pub returns-clause-some : goal.returns-clause-some
-returns-clause-some c = program_or_text_fault
+returns-clause-some c = λ language text least. program_or_text_fault language least text
 
 pub returns-clause-one : goal.returns-clause-one
 returns-clause-one c = one_text_fault

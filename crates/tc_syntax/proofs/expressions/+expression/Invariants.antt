@@ -1,5 +1,4 @@
 use Rattle.std.proofs.Common.{◌+◌, ◌*◌, length}
-use Rattle.tc_tree.specs.Seen.{expression_of}
 use Rattle.tc_syntax.proofs.Chains.{IsSoFar}
 use Rattle.tc_syntax.proofs.expressions.+expression.Given as goal
 
@@ -23,7 +22,7 @@ decreases-read_unary l = 4 * length l.words.now + 3
 
 -- an expression so far and the words that are left
 abbrev pub invariant-read_tight-loop-operator : goal.invariant-read_tight-loop-operator
-invariant-read_tight-loop-operator l = IsSoFar l.least l.words (expression_of l.left) l.rest
+invariant-read_tight-loop-operator l = IsSoFar l.least l.words l.left l.rest
 
 abbrev pub decreases-read_tight-loop-operator : goal.decreases-read_tight-loop-operator
 decreases-read_tight-loop-operator l = length l.rest

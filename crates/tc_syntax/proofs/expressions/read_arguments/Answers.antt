@@ -2,7 +2,6 @@ use Rattle.std.proofs.Common.{[], ◌∷◌, ◌∙◌}
 use Rattle.std.proofs.lemmas.Result.{err_from_is_err_and}
 use Rattle.std.proofs.lemmas.List.{map-append}
 use Rattle.tc_lexer.specs.declared.token.Sign.TheVariants.{CloseParen}
-use Rattle.tc_tree.specs.Seen.{expression_of, expressions_of}
 use Rattle.tc_syntax.specs.helpers.Reading.{Just, Operand, Operators, Arguments, Others}
 use Rattle.tc_syntax.proofs.Stacks.{goes, at_once}
 use Rattle.tc_syntax.proofs.Chains.{argument_goes, first_argument, one_more_argument, no_comma}
@@ -17,14 +16,14 @@ returns-in_err-first c =
 
 pub loop-start-init : goal.loop-start-init
 loop-start-init c =
-    let h = first_argument c.args.words.now (expression_of c.in_ok-first.first) c.in_ok-first.rest.now c.in_default.ensures.1 c.in_ok-first.ensures in
+    let h = first_argument c.args.words.now c.in_ok-first.first c.in_ok-first.rest.now c.in_default.ensures.1 c.in_ok-first.ensures in
     rw (c.in_ok-push.ensures.items, c.new-found.ensures.items) h
 
 pub loop-start-preserved : goal.loop-start-preserved
 loop-start-preserved c =
-    let h = one_more_argument c.args.words.now (expressions_of c.loop-start.found.items) c.loop-start.rest.now c.in-Ok-past.start.now
-    (expression_of c.in_ok-argument.argument) c.in_ok-argument.after.now c.loop-start.invariant c.in-Ok-past.ensures.0 c.in_ok-argument.ensures in
-    rw (c.in_ok-push-2.ensures.items, map-append expression_of c.loop-start.found.items (c.in_ok-argument.argument ∷ [])) h
+    let h = one_more_argument c.args.words.now c.loop-start.found.items c.loop-start.rest.now c.in-Ok-past.start.now
+    c.in_ok-argument.argument c.in_ok-argument.after.now c.loop-start.invariant c.in-Ok-past.ensures.0 c.in_ok-argument.ensures in
+    rw (c.in_ok-push-2.ensures.items) h
 
 pub returns-in_err-rest : goal.returns-in_err-rest
 returns-in_err-rest c =

@@ -1,11 +1,10 @@
 use Rattle.std.proofs.Common.{length}
-use Rattle.tc_tree.specs.Seen.{expressions_of}
 use Rattle.tc_syntax.proofs.Chains.{AreSome}
 use Rattle.tc_syntax.proofs.expressions.read_arguments.Given as goal
 
 -- the arguments so far and the words that are left
 abbrev pub invariant-loop-start : goal.invariant-loop-start
-invariant-loop-start l = AreSome l.words (expressions_of l.found.items) l.rest
+invariant-loop-start l = AreSome l.words l.found.items l.rest
 
 abbrev pub decreases-loop-start : goal.decreases-loop-start
 decreases-loop-start l = length l.rest

@@ -2,7 +2,8 @@ use Rattle.std.proofs.Common.{◌+◌, ◌*◌, length, map}
 use Rattle.tc_tree.specs.Grammar.{statements_then, AreWell}
 use Rattle.tc_tree.specs.Seen.{branch_of}
 use Rattle.tc_syntax.specs.helpers.Reading.{Statements, Alternative}
-use Rattle.tc_syntax.specs.helpers.Read.{IsPassed, statements_seen}
+use Rattle.tc_tree.specs.helpers.Parts.{statements_seen}
+use Rattle.tc_syntax.specs.helpers.Read.{IsPassed}
 use Rattle.tc_syntax.proofs.Chains.{chain_then, AreWellBranches}
 use Rattle.tc_syntax.proofs.statements.+statements.Given as goal
 

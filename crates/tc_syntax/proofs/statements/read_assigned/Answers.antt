@@ -1,11 +1,7 @@
 use Rattle.std.proofs.Common.{◌≡◌, [], ◌∷◌, sym, ap, ◌∙◌}
 use Rattle.std.proofs.lemmas.Result.{err_from_is_err_and}
 use Rattle.tc_lexer.specs.declared.token.Sign.TheVariants.{Semicolon}
-use Rattle.tc_tree.specs.declared.statement.Statement.{Assign, fold-roll-Statement}
-use Rattle.tc_tree.specs.declared.statement.Statement.TheVariants.{rolls-Assign}
-use Rattle.tc_tree.specs.declared.statement.Statement.TheOpen.{Statement-F}
-use Rattle.tc_tree.specs.Grammar as grammar
-use Rattle.tc_tree.specs.Seen.{SeenBlock, SeenBranch, expression_of, statement_of, view_statement, view_block, view_branch}
+use Rattle.tc_tree.proofs.Views.{assign_seen}
 use Rattle.tc_syntax.specs.helpers.Reading.{Just, Operand, Operators, AfterAssign}
 use Rattle.tc_syntax.proofs.Stacks.{goes, at_once}
 use Rattle.tc_syntax.proofs.Chains.{value_goes, value_read}
@@ -27,10 +23,6 @@ returns-in_err-rest c =
 
 pub returns-in_ok-rest : goal.returns-in_ok-rest
 returns-in_ok-rest c =
-    let h = value_read c.args.name c.args.words.now (expression_of c.in_ok-value.value) c.in_ok-value.end.now c.in_ok-rest.rest.now
+    let h = value_read c.args.name c.args.words.now c.in_ok-value.value c.in_ok-value.end.now c.in_ok-rest.rest.now
     c.in_default.ensures c.in_default-past_keyword.ensures c.in_default-past_keyword-2.ensures c.in_ok-value.ensures c.in_ok-rest.ensures.0 in
-    let e : statement_of (Assign c.args.name c.in_ok-value.value) ≡ grammar.Assign c.args.name (expression_of c.in_ok-value.value) =
-    ap statement_of (sym (rolls-Assign c.args.name c.in_ok-value.value))
-    ∙ fold-roll-Statement grammar.Statement SeenBlock SeenBranch view_statement view_block view_branch
-    (Statement-F.Assign c.args.name c.in_ok-value.value) in
-    rw e h
+    rw (assign_seen c.args.name c.in_ok-value.value) h

@@ -21,9 +21,9 @@ use Rattle.std.proofs.Common.{
   arith,
   rules,
 }
-use Rattle.tc_code.specs.Instr.{Goto}
+use Rattle.tc_code.specs.declared.instr.Instr.TheVariants.{Goto}
 use Rattle.tc_tree.specs.declared.statement.Statement.{the_lemmas}
-use Rattle.tc_tree.specs.Seen.{expression_of, expressions_of, statement_of, branch_of, block_of, otherwise_of}
+use Rattle.tc_tree.specs.Seen.{statement_of, branch_of, block_of, otherwise_of}
 use Rattle.tc_lower.specs.declared.statement.Body.{Body}
 use Rattle.tc_lower.specs.Statements.{
   Lowered,
@@ -42,7 +42,8 @@ use Rattle.tc_lower.specs.Statements.{
   goes_on,
   passing,
 }
-use Rattle.tc_lower.specs.helpers.Bodies.{statements_seen, IsReady, IsWritten, test_of, body_of, jump_place, Below, filled}
+use Rattle.tc_tree.specs.helpers.Parts.{statements_seen}
+use Rattle.tc_lower.specs.helpers.Bodies.{IsReady, IsWritten, test_of, body_of, jump_place, Below, filled}
 use Rattle.tc_lower.specs.helpers.Seen.{plain_scope, IsAdded}
 use Rattle.tc_lower.proofs.Chains.{
   marked,
@@ -60,7 +61,7 @@ use Rattle.tc_lower.proofs.Chains.{
   last_written,
   all_written,
 }
-use Rattle.tc_lower.proofs.Views.{
+use Rattle.tc_tree.proofs.Views.{
   assign_seen,
   store_seen,
   create_seen,
@@ -79,11 +80,11 @@ write-returns-in_ok-assign-in-Assign t c =
     let mid : Body = record { code = c.assign.new.self; lines = old.lines } in
     let seen = ap statement_of c.in-Assign.is ∙ assign_seen c.in-Assign.name c.in-Assign.value in
     let added : IsAdded old.code mid.code (assigned (plain_scope c.args.scope) (length c.args.self.now.code.draft) c.args.self.now.code.free c.in-Assign.name
-    (expression_of c.in-Assign.value)) = c.in_ok-assign-in-Assign.ensures in
+    c.in-Assign.value) = c.in_ok-assign-in-Assign.ensures in
     subst (λ s. OnOk c.mark.result (IsWritten old c.mark.new.self (lowered (plain_scope c.args.scope) (length c.args.self.now.code.draft)
     c.args.self.now.code.free s))) (sym seen)
     (marked old mid c.mark.new.self (assigned (plain_scope c.args.scope) (length c.args.self.now.code.draft) c.args.self.now.code.free c.in-Assign.name
-    (expression_of c.in-Assign.value)) c.in-Assign.name.place.line c.mark.result c.requires.even refl added c.mark.ensures.code c.mark.ensures.lines)
+    c.in-Assign.value) c.in-Assign.name.place.line c.mark.result c.requires.even refl added c.mark.ensures.code c.mark.ensures.lines)
 
 pub write-returns-in_ok-store-in-Store : goal.write-returns-in_ok-store-in-Store
 write-returns-in_ok-store-in-Store t c =
@@ -91,11 +92,11 @@ write-returns-in_ok-store-in-Store t c =
     let mid : Body = record { code = c.store.new.self; lines = old.lines } in
     let seen = ap statement_of c.in-Store.is ∙ store_seen c.in-Store.array c.in-Store.index c.in-Store.value in
     let added : IsAdded old.code mid.code (stored (plain_scope c.args.scope) (length c.args.self.now.code.draft) c.args.self.now.code.free c.in-Store.array
-    (expression_of c.in-Store.index) (expression_of c.in-Store.value)) = c.in_ok-store-in-Store.ensures in
+    c.in-Store.index c.in-Store.value) = c.in_ok-store-in-Store.ensures in
     subst (λ s. OnOk c.mark-in-Store.result (IsWritten old c.mark-in-Store.new.self (lowered (plain_scope c.args.scope) (length c.args.self.now.code.draft)
     c.args.self.now.code.free s))) (sym seen)
     (marked old mid c.mark-in-Store.new.self (stored (plain_scope c.args.scope) (length c.args.self.now.code.draft) c.args.self.now.code.free
-    c.in-Store.array (expression_of c.in-Store.index) (expression_of c.in-Store.value)) c.in-Store.array.place.line c.mark-in-Store.result
+    c.in-Store.array c.in-Store.index c.in-Store.value) c.in-Store.array.place.line c.mark-in-Store.result
     c.requires.even refl added c.mark-in-Store.ensures.code c.mark-in-Store.ensures.lines)
 
 pub write-returns-in_ok-create-in-Create : goal.write-returns-in_ok-create-in-Create
@@ -104,13 +105,13 @@ write-returns-in_ok-create-in-Create t c =
     let mid : Body = record { code = c.create.new.self; lines = old.lines } in
     let seen = ap statement_of c.in-Create.is ∙ create_seen c.in-Create.handle c.in-Create.thread c.in-Create.arguments in
     let added : IsAdded old.code mid.code (created (plain_scope c.args.scope) (length c.args.self.now.code.draft) c.args.self.now.code.free
-    c.in-Create.handle c.in-Create.thread (expressions_of c.in-Create.arguments.items)) =
+    c.in-Create.handle c.in-Create.thread c.in-Create.arguments.items) =
     subst (λ es. IsAdded old.code mid.code (created (plain_scope c.args.scope) (length c.args.self.now.code.draft) c.args.self.now.code.free
-    c.in-Create.handle c.in-Create.thread (expressions_of es))) c.as_slice.ensures.value c.in_ok-create-in-Create.ensures in
+    c.in-Create.handle c.in-Create.thread es)) c.as_slice.ensures.value c.in_ok-create-in-Create.ensures in
     subst (λ s. OnOk c.mark-in-Create.result (IsWritten old c.mark-in-Create.new.self (lowered (plain_scope c.args.scope) (length c.args.self.now.code.draft)
     c.args.self.now.code.free s))) (sym seen)
     (marked old mid c.mark-in-Create.new.self (created (plain_scope c.args.scope) (length c.args.self.now.code.draft) c.args.self.now.code.free
-    c.in-Create.handle c.in-Create.thread (expressions_of c.in-Create.arguments.items)) c.in-Create.handle.place.line c.mark-in-Create.result
+    c.in-Create.handle c.in-Create.thread c.in-Create.arguments.items) c.in-Create.handle.place.line c.mark-in-Create.result
     c.requires.even refl added c.mark-in-Create.ensures.code c.mark-in-Create.ensures.lines)
 
 pub write-returns-in_ok-swap-in-Swap : goal.write-returns-in_ok-swap-in-Swap
@@ -119,11 +120,11 @@ write-returns-in_ok-swap-in-Swap t c =
     let mid : Body = record { code = c.swap.new.self; lines = old.lines } in
     let seen = ap statement_of c.in-Swap.is ∙ swap_seen c.in-Swap.local c.in-Swap.global c.in-Swap.value in
     let added : IsAdded old.code mid.code (swapped (plain_scope c.args.scope) (length c.args.self.now.code.draft) c.args.self.now.code.free c.in-Swap.local
-    c.in-Swap.global (expression_of c.in-Swap.value)) = c.in_ok-swap-in-Swap.ensures in
+    c.in-Swap.global c.in-Swap.value) = c.in_ok-swap-in-Swap.ensures in
     subst (λ s. OnOk c.mark-in-Swap.result (IsWritten old c.mark-in-Swap.new.self (lowered (plain_scope c.args.scope) (length c.args.self.now.code.draft)
     c.args.self.now.code.free s))) (sym seen)
     (marked old mid c.mark-in-Swap.new.self (swapped (plain_scope c.args.scope) (length c.args.self.now.code.draft) c.args.self.now.code.free c.in-Swap.local
-    c.in-Swap.global (expression_of c.in-Swap.value)) c.in-Swap.local.place.line c.mark-in-Swap.result c.requires.even refl added
+    c.in-Swap.global c.in-Swap.value) c.in-Swap.local.place.line c.mark-in-Swap.result c.requires.even refl added
     c.mark-in-Swap.ensures.code c.mark-in-Swap.ensures.lines)
 
 pub write-returns-in_ok-cas-in-Cas : goal.write-returns-in_ok-cas-in-Cas
@@ -132,11 +133,11 @@ write-returns-in_ok-cas-in-Cas t c =
     let mid : Body = record { code = c.cas.new.self; lines = old.lines } in
     let seen = ap statement_of c.in-Cas.is ∙ cas_seen c.in-Cas.local c.in-Cas.global c.in-Cas.expected c.in-Cas.value in
     let added : IsAdded old.code mid.code (compared (plain_scope c.args.scope) (length c.args.self.now.code.draft) c.args.self.now.code.free c.in-Cas.local
-    c.in-Cas.global (expression_of c.in-Cas.expected) (expression_of c.in-Cas.value)) = c.in_ok-cas-in-Cas.ensures in
+    c.in-Cas.global c.in-Cas.expected c.in-Cas.value) = c.in_ok-cas-in-Cas.ensures in
     subst (λ s. OnOk c.mark-in-Cas.result (IsWritten old c.mark-in-Cas.new.self (lowered (plain_scope c.args.scope) (length c.args.self.now.code.draft)
     c.args.self.now.code.free s))) (sym seen)
     (marked old mid c.mark-in-Cas.new.self (compared (plain_scope c.args.scope) (length c.args.self.now.code.draft) c.args.self.now.code.free c.in-Cas.local
-    c.in-Cas.global (expression_of c.in-Cas.expected) (expression_of c.in-Cas.value)) c.in-Cas.local.place.line c.mark-in-Cas.result c.requires.even refl
+    c.in-Cas.global c.in-Cas.expected c.in-Cas.value) c.in-Cas.local.place.line c.mark-in-Cas.result c.requires.even refl
     added c.mark-in-Cas.ensures.code c.mark-in-Cas.ensures.lines)
 
 pub write-returns-in_ok-assert-in-Assert : goal.write-returns-in_ok-assert-in-Assert
@@ -144,12 +145,11 @@ write-returns-in_ok-assert-in-Assert t c =
     let old = c.args.self.now in
     let mid : Body = record { code = c.assert.new.self; lines = old.lines } in
     let seen = ap statement_of c.in-Assert.is ∙ assert_seen c.in-Assert.place c.in-Assert.condition in
-    let added : IsAdded old.code mid.code (asserted (plain_scope c.args.scope) (length c.args.self.now.code.draft) c.args.self.now.code.free (expression_of
-    c.in-Assert.condition)) = c.in_ok-assert-in-Assert.ensures in
+    let added : IsAdded old.code mid.code (asserted (plain_scope c.args.scope) (length c.args.self.now.code.draft) c.args.self.now.code.free c.in-Assert.condition) = c.in_ok-assert-in-Assert.ensures in
     subst (λ s. OnOk c.mark-in-Assert.result (IsWritten old c.mark-in-Assert.new.self (lowered (plain_scope c.args.scope) (length c.args.self.now.code.draft)
     c.args.self.now.code.free s))) (sym seen)
     (marked old mid c.mark-in-Assert.new.self (asserted (plain_scope c.args.scope) (length c.args.self.now.code.draft) c.args.self.now.code.free
-    (expression_of c.in-Assert.condition)) c.in-Assert.place.line c.mark-in-Assert.result c.requires.even refl added c.mark-in-Assert.ensures.code
+    c.in-Assert.condition) c.in-Assert.place.line c.mark-in-Assert.result c.requires.even refl added c.mark-in-Assert.ensures.code
     c.mark-in-Assert.ensures.lines)
 
 pub write-returns-in_ok-act-in-Act : goal.write-returns-in_ok-act-in-Act

@@ -1,7 +1,7 @@
 use Rattle.std.proofs.Common.{[], drop, length, map, option_map}
 use Rattle.tc_tree.specs.Seen.{statement_of, branch_of, block_of, otherwise_of}
 use Rattle.tc_lower.specs.Statements.{all_lowered, lowered_otherwise, lowered}
-use Rattle.tc_lower.specs.helpers.Bodies.{statements_seen}
+use Rattle.tc_tree.specs.helpers.Parts.{statements_seen}
 use Rattle.tc_lower.specs.helpers.Seen.{plain_scope}
 use Rattle.tc_lower.proofs.Chains.{SoFar}
 use Rattle.tc_lower.proofs.statement.Body.+statements.Given as goal

@@ -1,11 +1,9 @@
 use Rattle.std.proofs.Common.{drop}
-use Rattle.tc_code.specs.SeenExpr.{plain_exprs}
-use Rattle.tc_tree.specs.Seen.{expressions_of}
 use Rattle.tc_lower.specs.helpers.Seen.{plain_scope}
 use Rattle.tc_lower.proofs.Values.{ArgumentsSoFar}
 use Rattle.tc_lower.proofs.value.Writer.evaluate_all.Given as goal
 
 -- what was written and what is left make up all
 abbrev pub invariant-loop-argument : goal.invariant-loop-argument
-invariant-loop-argument l = ArgumentsSoFar (plain_scope l.scope) l.fn.self l.self (plain_exprs l.values.items) (expressions_of l.arguments)
-    (expressions_of (drop l.argument-index l.arguments))
+invariant-loop-argument l = ArgumentsSoFar (plain_scope l.scope) l.fn.self l.self l.values.items l.arguments
+    (drop l.argument-index l.arguments)

@@ -1,7 +1,7 @@
 -- Statements of the tree as the grammar has them.
 use Rattle.std.proofs.Common.{◌≡◌, Vec, Global, map, option_map, Option, Some, None, sym, ap, ◌∙◌}
 use Rattle.tc_base.specs.declared.place.Place.{Place}
-use Rattle.tc_tree.specs.declared.expression.Expression.{Expression as TreeExpression}
+use Rattle.tc_tree.specs.Grammar.{Expression}
 use Rattle.tc_tree.specs.declared.expression.Name.{Name}
 use Rattle.tc_tree.specs.declared.statement.Action.{Action}
 use Rattle.tc_tree.specs.declared.statement.Barrier.{Barrier}
@@ -22,44 +22,32 @@ use Rattle.tc_tree.specs.declared.statement.Statement.TheVariants.{
 }
 use Rattle.tc_tree.specs.declared.statement.Statement.TheOpen.{Statement-F}
 use Rattle.tc_tree.specs.Grammar as grammar
-use Rattle.tc_tree.specs.Seen.{
-  SeenBlock,
-  SeenBranch,
-  expression_of,
-  expressions_of,
-  statement_of,
-  branch_of,
-  block_of,
-  otherwise_of,
-  view_statement,
-  view_block,
-  view_branch,
-}
-use Rattle.tc_lower.specs.helpers.Bodies.{statements_seen, if_of}
+use Rattle.tc_tree.specs.Seen.{SeenBlock, SeenBranch, statement_of, branch_of, block_of, otherwise_of, view_statement, view_block, view_branch}
+use Rattle.tc_tree.specs.helpers.Parts.{statements_seen, if_of}
 
 -- ---- statements without statements inside, as the grammar has them
 
-pub assign_seen : (x : Name) (e : TreeExpression) → statement_of (Assign x e) ≡ grammar.Assign x (expression_of e)
+pub assign_seen : (x : Name) (e : Expression) → statement_of (Assign x e) ≡ grammar.Assign x e
 assign_seen x e =
     ap statement_of (sym (rolls-Assign x e))
     ∙ fold-roll-Statement grammar.Statement SeenBlock SeenBranch view_statement view_block view_branch (Statement-F.Assign x e)
 
-pub store_seen : (a : Name) (i e : TreeExpression) → statement_of (Store a i e) ≡ grammar.Store a (expression_of i) (expression_of e)
+pub store_seen : (a : Name) (i e : Expression) → statement_of (Store a i e) ≡ grammar.Store a i e
 store_seen a i e =
     ap statement_of (sym (rolls-Store a i e))
     ∙ fold-roll-Statement grammar.Statement SeenBlock SeenBranch view_statement view_block view_branch (Statement-F.Store a i e)
 
-pub create_seen : (h f : Name) (es : Vec TreeExpression Global) → statement_of (Create h f es) ≡ grammar.Create h f (expressions_of es.items)
+pub create_seen : (h f : Name) (es : Vec Expression Global) → statement_of (Create h f es) ≡ grammar.Create h f es.items
 create_seen h f es =
     ap statement_of (sym (rolls-Create h f es))
     ∙ fold-roll-Statement grammar.Statement SeenBlock SeenBranch view_statement view_block view_branch (Statement-F.Create h f es)
 
-pub swap_seen : (r x : Name) (e : TreeExpression) → statement_of (Swap r x e) ≡ grammar.Swap r x (expression_of e)
+pub swap_seen : (r x : Name) (e : Expression) → statement_of (Swap r x e) ≡ grammar.Swap r x e
 swap_seen r x e =
     ap statement_of (sym (rolls-Swap r x e))
     ∙ fold-roll-Statement grammar.Statement SeenBlock SeenBranch view_statement view_block view_branch (Statement-F.Swap r x e)
 
-pub cas_seen : (r x : Name) (e f : TreeExpression) → statement_of (Cas r x e f) ≡ grammar.Cas r x (expression_of e) (expression_of f)
+pub cas_seen : (r x : Name) (e f : Expression) → statement_of (Cas r x e f) ≡ grammar.Cas r x e f
 cas_seen r x e f =
     ap statement_of (sym (rolls-Cas r x e f))
     ∙ fold-roll-Statement grammar.Statement SeenBlock SeenBranch view_statement view_block view_branch (Statement-F.Cas r x e f)
@@ -79,7 +67,7 @@ order_seen p b =
     ap statement_of (sym (rolls-Order p b))
     ∙ fold-roll-Statement grammar.Statement SeenBlock SeenBranch view_statement view_block view_branch (Statement-F.Order p b)
 
-pub assert_seen : (p : Place) (e : TreeExpression) → statement_of (Assert p e) ≡ grammar.Assert p (expression_of e)
+pub assert_seen : (p : Place) (e : Expression) → statement_of (Assert p e) ≡ grammar.Assert p e
 assert_seen p e =
     ap statement_of (sym (rolls-Assert p e))
     ∙ fold-roll-Statement grammar.Statement SeenBlock SeenBranch view_statement view_block view_branch (Statement-F.Assert p e)
@@ -97,7 +85,7 @@ if_seen b others (Some l) =
 
 -- ---- a branch
 
-block_seen : (b : Block) → (block_of b).statements ≡ statements_seen b.statements.items
+pub block_seen : (b : Block) → (block_of b).statements ≡ statements_seen b.statements.items
 block_seen b = ap (λ (x : SeenBlock). x.statements) (fold_out-Block grammar.Statement SeenBlock SeenBranch view_statement view_block view_branch b)
 
 pub branch_body : (b : TreeBranch) → (branch_of b).body.statements ≡ statements_seen b.body.statements.items

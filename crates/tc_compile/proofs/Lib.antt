@@ -1,0 +1,2 @@
+pub mod OnePrograms
+pub mod Faults
