@@ -183,16 +183,16 @@ one_cause language text tokens f g (inl x) (inr (inr (inl y))) = absurd (deep_or
 one_cause language text tokens f g (inl x) (inr (inr (inr y))) = absurd (deep_or_nested tokens x.0 y.are_of.nested)
 one_cause language text tokens f g (inr (inl x)) (inl y) = absurd (deep_or_nested tokens y.0 x.0)
 one_cause language text tokens f g (inr (inl x)) (inr (inl y)) =
-    x.3 ∙ ap (Count Stretch) (same_Some x.1 y.1 (sym x.2 ∙ y.2)) ∙ sym y.3
-one_cause language text tokens f g (inr (inl x)) (inr (inr (inl y))) = absurd (none-some x.1 (sym y.parted ∙ x.2))
-one_cause language text tokens f g (inr (inl x)) (inr (inr (inr y))) = absurd (none-some x.1 (sym y.are_of.parted ∙ x.2))
+    x.1.2 ∙ ap (Count Stretch) (same_Some x.1.0 y.1.0 (sym x.1.1 ∙ y.1.1)) ∙ sym y.1.2
+one_cause language text tokens f g (inr (inl x)) (inr (inr (inl y))) = absurd (none-some x.1.0 (sym y.parted ∙ x.1.1))
+one_cause language text tokens f g (inr (inl x)) (inr (inr (inr y))) = absurd (none-some x.1.0 (sym y.are_of.parted ∙ x.1.1))
 one_cause language text tokens f g (inr (inr (inl x))) (inl y) = absurd (deep_or_nested tokens y.0 x.nested)
-one_cause language text tokens f g (inr (inr (inl x))) (inr (inl y)) = absurd (none-some y.1 (sym x.parted ∙ y.2))
+one_cause language text tokens f g (inr (inr (inl x))) (inr (inl y)) = absurd (none-some y.1.0 (sym x.parted ∙ y.1.1))
 one_cause language text tokens f g (inr (inr (inl x))) (inr (inr (inl y))) =
     x.fault_is ∙ ap (λ (k : ℕ). Syntax (place_at text tokens k)) (one_syntax_fault language (words_of tokens) x.place y.place x.is y.is) ∙ sym y.fault_is
 one_cause language text tokens f g (inr (inr (inl x))) (inr (inr (inr y))) = absurd (x.is.none y.program y.are_of.spelled)
 one_cause language text tokens f g (inr (inr (inr x))) (inl y) = absurd (deep_or_nested tokens y.0 x.are_of.nested)
-one_cause language text tokens f g (inr (inr (inr x))) (inr (inl y)) = absurd (none-some y.1 (sym x.are_of.parted ∙ y.2))
+one_cause language text tokens f g (inr (inr (inr x))) (inr (inl y)) = absurd (none-some y.1.0 (sym x.are_of.parted ∙ y.1.1))
 one_cause language text tokens f g (inr (inr (inr x))) (inr (inr (inl y))) = absurd (y.is.none x.program x.are_of.spelled)
 one_cause language text tokens f g (inr (inr (inr x))) (inr (inr (inr y))) = one_late language text tokens f g x y
 
@@ -225,7 +225,7 @@ no_tree_fault language text p x =
 no_cause : (language : ℕ) (text : List ℕ) (tokens : List Token) (p : Program) (f : ParseFault) → AreOfProgram language tokens p → tree_fault text p ≡ None
     → Cause language text tokens f → ⊥
 no_cause language text tokens p f x none (inl y) = deep_or_nested tokens y.0 x.nested
-no_cause language text tokens p f x none (inr (inl y)) = none-some y.1 (sym x.parted ∙ y.2)
+no_cause language text tokens p f x none (inr (inl y)) = none-some y.1.0 (sym x.parted ∙ y.1.1)
 no_cause language text tokens p f x none (inr (inr (inl y))) = y.is.none p x.spelled
 no_cause language text tokens p f x none (inr (inr (inr y))) =
     let same = one_program language (words_of tokens) p y.program x.spelled y.are_of.spelled in

@@ -9,10 +9,17 @@ use tc_lexer::{Sign, Token, TokenKind};
 pub(crate) fn long_stretch(tokens: &[Token]) -> Option<usize>
     ensures { result ≡ long_stretch tokens.now }
 {
-    tokens
-        .split(|t| ends_stretch(t.kind))
-        .map(|s| s.len())
-        .find(|n| *n > STRETCH)
+    let mut len = 0;
+    for token in tokens {
+        if !ends_stretch(token.kind) {
+            len += 1;
+        } else if len > STRETCH {
+            return Some(len);
+        } else {
+            len = 0;
+        }
+    }
+    if len > STRETCH { Some(len) } else { None }
 }
 
 fn ends_stretch(kind: TokenKind) -> bool

@@ -97,6 +97,13 @@ operand_early (ASign s) = sign_early s
 operand_early _ = refl
 
 statement_early : (w : Word) → early_after (statement w) ≡ true
+statement_early (AName x) = refl
+statement_early (AnIf p) = refl
+statement_early (AWhile p) = refl
+statement_early (AnAction a p) = refl
+statement_early (AWait p) = refl
+statement_early (ABarrier b p) = refl
+statement_early (AnAssert p) = refl
 statement_early _ = refl
 
 followed_early : (o : Option (List Expected)) (more : List Expected) → early_after o ≡ true → are_early more ≡ true → early_after (followed o more) ≡ true

@@ -3,6 +3,7 @@ use Rattle.std.proofs.Common.{◌≡◌, Bool, true, false, List, [], ◌∷◌,
 use Rattle.tc_base.specs.declared.place.Place.{Place}
 use Rattle.tc_base.specs.declared.arith.UnOp.TheVariants.{Neg, Not, Inv}
 use Rattle.tc_lexer.specs.declared.token.Keyword.TheVariants as keyword
+use Rattle.tc_lexer.specs.declared.token.Sign.{Sign}
 use Rattle.tc_lexer.specs.declared.token.Sign.TheVariants as sign
 use Rattle.tc_tree.specs.declared.expression.Operator.{Operator}
 use Rattle.tc_tree.specs.declared.expression.Operator.TheVariants as operator
@@ -64,6 +65,7 @@ use Rattle.tc_tree.specs.declared.program.Local.{Local}
 use Rattle.tc_tree.specs.declared.program.Local.TheVariants.{Int as LocalInt, Handle}
 use Rattle.tc_tree.specs.Grammar as grammar
 use Rattle.tc_syntax.specs.helpers.Reading.{
+  operator_of,
   Expected,
   Just,
   End,

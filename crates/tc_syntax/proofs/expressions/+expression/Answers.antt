@@ -13,7 +13,7 @@ read_tight-loop-operator-preserved t c =
     let h = one_more_operand c.args.least c.args.words.now c.loop-operator.left c.loop-operator.rest.now c.in-Some.operator
     c.in-Some.after.now c.in_ok-right.right c.in_ok-right.after.now c.loop-operator.invariant c.in-Some.ensures.0
     c.in-Some.ensures.1 (rw c.level.ensures at c.in_ok-right.ensures) in
-    rw (c.in_ok-new.ensures.ok, c.in_ok-new-2.ensures.ok) h
+    rw c.in_ok-left-2.ensures h
 
 pub read_tight-returns-in_err-right : goal.read_tight-returns-in_err-right
 read_tight-returns-in_err-right t c =

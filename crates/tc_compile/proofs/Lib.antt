@@ -1,2 +1,0 @@
-pub mod OnePrograms
-pub mod Faults
