@@ -1,16 +1,16 @@
 -- Moves that are listed one after another, and that no enabled one is left out.
 use Rattle.std.proofs.Common.{◌≡◌, ◌+◌, ◌<◌, ◌≤◌, ◌&&◌, inl, inr, ℕ, zero, suc, List, [], ◌∷◌, ◌++◌, length, take, get_or, map, cond, Bool}
 use Rattle.std.proofs.Common.{true, false, Option, Some, None, refl, ap, sym, subst, ◌∙◌, append_assoc, arith}
-use Rattle.std.specs.List.{filter, flat_map, range_with_len, Contains}
+use Rattle.std.specs.List.{All, filter, flat_map, range_with_len, Contains}
 use Rattle.std.specs.Option.{is_some, IsSome, option_and_then}
 use Rattle.std.specs.FinMap as fin
 use Rattle.std.specs.FinSet as set
 use Rattle.std.proofs.lemmas.Bool.{false≢true}
 use Rattle.std.proofs.lemmas.List.{append-nil, get_or_default, map-append, take_more}
-use Rattle.std.proofs.lemmas.List.Elements.{filter-append, Contains-append_left, Contains-append_right}
+use Rattle.std.proofs.lemmas.List.Elements.{All-head, All-tail, filter-append, Contains-append_left, Contains-append_right}
 use Rattle.std.proofs.lemmas.Map.Views.{Contains-from_any}
 use Rattle.std.proofs.lemmas.Option.{none-some, same_Some, option_and_then_some, cond_some}
-use Rattle.tc_base.specs.Names.{Name}
+use Rattle.tc_base.specs.Names.{Name, ByName}
 use Rattle.tc_base.specs.Buffers.{BufferOps}
 use Rattle.tc_base.specs.declared.model.Model.{Model}
 use Rattle.store_buffers.specs.Pending.{Binding}
@@ -58,6 +58,23 @@ module _ {X : Type 0} (p : Move → Bool) where
   -- where none of the further candidates is enabled, the first is all
   pub first_only : (f : X → Move) (names : List X) (m : Move) → ((n : X) → p (f n) ≡ false) → filter p (m ∷ []) ≡ filter p (m ∷ map f names)
   first_only f names m h = ap (λ ms. cond (p m) (m ∷ ms) ms) (sym (none_passes f names h))
+
+-- the first of threads with their names is one, and so are the others
+pub first_there : {B : Type 0} (m : ByName (Thread B)) (es rest : List (Name × Thread B)) (n : Name) (t : Thread B) → es ≡ (n, t) ∷ rest
+    → All (λ e. fin.get m e.0 ≡ Some e.1) es → (fin.get m n ≡ Some t) × All (λ e. fin.get m e.0 ≡ Some e.1) rest
+first_there {B} m es rest n t is all =
+    let P : Name × Thread B → Type 0 = λ e. fin.get m e.0 ≡ Some e.1 in
+    let there = subst (All P) is all in
+    (All-head P (n, t) rest there, All-tail P (n, t) rest there)
+
+-- once the moves of the first are listed, those of the others are left
+pub listed_thread : {X : Type 0} (f : Name → List Move) (old new all : List Move) (es rest : List (Name × X)) (n : Name) (x : X) → es ≡ (n, x) ∷ rest
+    → new ≡ old ++ f n → old ++ flat_map f (map (λ e. e.0) es) ≡ all → new ++ flat_map f (map (λ e. e.0) rest) ≡ all
+listed_thread f old new all es rest n x is more so_far =
+    ap (λ ms. ms ++ flat_map f (map (λ e. e.0) rest)) more
+    ∙ append_assoc old (f n) (flat_map f (map (λ e. e.0) rest))
+    ∙ ap (λ fs. old ++ flat_map f (map (λ e. e.0) fs)) (sym is)
+    ∙ so_far
 
 kept : (f : Option ℕ → Move) (g : Option ℕ) (ms : List Move) (gs : List (Option ℕ)) → ms ≡ map f gs → (b : Bool)
     → cond b (f g ∷ ms) ms ≡ map f (cond b (g ∷ gs) gs)
@@ -119,22 +136,6 @@ module _ {B : Type 0} (ops : BufferOps B) (code : Code) (s : State B) (n : Name)
       option_and_then_some (λ u. drain_of ops s n u form) (fin.get s.threads n) after.0 (unless (is_some s.failed) _ after.0 after.1).1 (λ u here g.
       subst (λ (v : Thread B). ops.may_drain v.buffer form ≡ true) (same_Some u t (sym here ∙ there))
       (cond_some (ops.may_drain u.buffer form) (drained ops s n u form) after.0 g).0)
-
-  nobody_drains : (b : Bool) (form : Option ℕ) (o : Option (Thread B)) → o ≡ None
-      → is_some (cond b None (option_and_then (λ t. drain_of ops s n t form) o)) ≡ false
-  nobody_drains true form o none = refl
-  nobody_drains false form None none = refl
-  nobody_drains false form (Some t) none = absurd (none-some t (sym none))
-
-  -- where there is no thread nothing drains
-  pub no_drains : (found : List Move) → fin.get s.threads n ≡ None → found ≡ found ++ filter (is_enabled ops code s) (drains_of ops code s n)
-  no_drains found none =
-      let p = is_enabled ops code s in
-      let rest = map (λ c. Drain n (Some c)) (range_with_len 0 (length s.memory)) in
-      sym (ap (λ ms. found ++ ms)
-      (ap (λ b. cond b (Drain n None ∷ filter p rest) (filter p rest)) (nobody_drains (is_some s.failed) None (fin.get s.threads n) none)
-      ∙ none_passes p (λ c. Drain n (Some c)) (range_with_len 0 (length s.memory))
-      (λ c. nobody_drains (is_some s.failed) (Some c) (fin.get s.threads n) none)) ∙ append-nil found)
 
 module _ {B : Type 0} (ops : BufferOps B) (model : Model) (bound : Binding) (laws : Laws ops model bound) (code : Code) (lawful : IsLawful code) (s : State B)
     (reached : IsReached ops code s) where

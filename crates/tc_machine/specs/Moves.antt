@@ -7,8 +7,16 @@ use Rattle.tc_base.specs.Buffers.{BufferOps}
 use Rattle.tc_base.specs.States.{State}
 use Rattle.tc_base.specs.declared.moves.Move.{Move}
 use Rattle.tc_base.specs.declared.moves.Move.TheVariants.{Run, Wake, Drain}
+use Rattle.tc_machine.specs.declared.choice.Choice.{Choice}
+use Rattle.tc_machine.specs.declared.choice.Choice.TheVariants as choice
 use Rattle.tc_code.specs.Code.{Code}
 use Rattle.tc_code.specs.Step.{step}
+
+-- the move that names which are lent tell
+abbrev pub move_of : Choice → Move
+move_of (choice.Run n) = Run n.now
+move_of (choice.Wake n u) = Wake n.now u.now
+move_of (choice.Drain n form) = Drain n.now form
 
 module _ {B : Type 0} (ops : BufferOps B) (code : Code) (s : State B) where
   abbrev pub is_enabled : Move → Bool

@@ -1,13 +1,15 @@
 //! The machine over every memory model: its states, its steps, and why a move isn't enabled.
 #![tactic(auto)]
 
+mod choice;
 pub mod laws;
 mod listed;
 mod machine;
 mod state;
 mod why;
 
-pub use listed::moves;
+pub use choice::Choice;
+pub use listed::{choices, moves};
 pub use machine::{enabled, step};
 pub use state::{State, start};
 pub use tc_threads::{Outcomes, ThreadNames};

@@ -1,19 +1,22 @@
 //! The moves that are enabled in a state.
-ghost use Rattle.std.specs.Prelude.{◌≡◌, [], ◌∷◌, ◌++◌, map, filter, false, Contains, IsSome, IfOk, OnOk};
+ghost use Rattle.std.specs.Prelude.{◌≡◌, [], ◌∷◌, ◌++◌, map, filter, false, Contains, IsSome, Some, IfOk, OnOk};
 ghost use Rattle.std.specs.Bool.{OnFalse};
 ghost use Rattle.std.specs.FinMap as fin;
 ghost use Rattle.tc_base.specs.Names.{Name};
-ghost use Rattle.tc_base.specs.declared.moves.Move.{Move};
+ghost use Rattle.tc_base.specs.declared.moves.Move.{Move as AnyMove};
 ghost use Rattle.tc_code.specs.Run.{IsReached};
 ghost use Rattle.tc_code.specs.Step.{step};
-ghost use Rattle.tc_machine.specs.Moves.{is_enabled, steps_of, drains_of, moves_of, enabled_moves};
+ghost use Rattle.tc_machine.specs.Moves.{move_of, is_enabled, steps_of, drains_of, moves_of, enabled_moves};
+ghost use Rattle.tc_machine.specs.helpers.Movers.{mover};
 
-use crate::machine::{enabled, recall_lawful};
+use crate::choice::Choice;
+use crate::machine::{allowed, recall_lawful};
 use crate::state::State;
 use std::alloc::{AllocError, Global};
 use store_buffers::MemoryModel;
 use tc_base::{Move, ThreadName};
 use tc_code::{Code, Instr};
+use tc_threads::Thread;
 
 /// The enabled moves, by the names of the threads. Each thread's are to run or, at a signal on which others wait, to
 /// wake one of these, by their names; then the drains of its buffer, those of named cells by rising cell.
@@ -25,118 +28,140 @@ pub fn moves<M: MemoryModel>(
     requires reached { IsReached M.ops code.now state.now }
     ensures listed { IfOk result (λ moves. moves.items ≡ enabled_moves M.ops code.now state.now) }
     // No enabled move is left out.
-    ensures all { IfOk result (λ moves. (m : Move) → IsSome (step M.ops code.now state.now m) → Contains moves.items m) }
+    ensures all { IfOk result (λ moves. (m : AnyMove) → IsSome (step M.ops code.now state.now m) → Contains moves.items m) }
 {
     recall_lawful(code);
+    let choices = choices(alloc, code, state)?;
     let mut found = Vec::new(alloc);
-    for name in state.threads().as_slice() {
-        push_moves(alloc, &mut found, code, state, name)?;
+    for choice in choices.iter() {
+        found.push(choice.to_move()?)?;
+    }
+    Ok(found)
+}
+
+/// The enabled moves as `moves` lists them, by names that the state lends.
+pub fn choices<'a, M: MemoryModel>(
+    alloc: Global,
+    code: &Code,
+    state: &'a State<M>,
+) -> Result<Vec<Choice<'a>>, AllocError>
+    requires reached { IsReached M.ops code.now state.now }
+    ensures { IfOk result (λ choices. map move_of choices.items ≡ enabled_moves M.ops code.now state.now) }
+{
+    let mut found = Vec::new(alloc);
+    for (name, thread) in state.entries() {
+        push_moves(alloc, &mut found, code, state, name, thread)?;
     }
     Ok(found)
 }
 
 /// Adds the enabled moves of a thread.
-fn push_moves<M: MemoryModel>(
+fn push_moves<'a, M: MemoryModel>(
     alloc: Global,
-    found: &mut Vec<Move>,
+    found: &mut Vec<Choice<'a>>,
     code: &Code,
-    state: &State<M>,
-    name: &ThreadName,
+    state: &'a State<M>,
+    name: &'a ThreadName,
+    thread: &Thread<M>,
 ) -> Result<(), AllocError>
     requires reached { IsReached M.ops code.now state.now }
-    ensures { OnOk result (found.new.items ≡ found.old.items ++ moves_of M.ops code.now state.now name.now) }
+    requires there { fin.get state.now.threads name.now ≡ Some thread.now }
+    ensures { OnOk result (map move_of found.new.items ≡ map move_of found.old.items ++ moves_of M.ops code.now state.now name.now) }
 {
-    push_steps(found, code, state, name)?;
-    push_drains(alloc, found, code, state, name)
+    push_steps(found, code, state, name, thread)?;
+    push_drains(alloc, found, code, state, name, thread)
 }
 
 /// Adds the enabled steps of a thread.
-fn push_steps<M: MemoryModel>(
-    found: &mut Vec<Move>,
+fn push_steps<'a, M: MemoryModel>(
+    found: &mut Vec<Choice<'a>>,
     code: &Code,
-    state: &State<M>,
-    name: &ThreadName,
+    state: &'a State<M>,
+    name: &'a ThreadName,
+    thread: &Thread<M>,
 ) -> Result<(), AllocError>
     requires reached { IsReached M.ops code.now state.now }
-    ensures { OnOk result (found.new.items
-        ≡ found.old.items ++ filter (is_enabled M.ops code.now state.now) (steps_of M.ops code.now state.now name.now)) }
+    requires there { fin.get state.now.threads name.now ≡ Some thread.now }
+    ensures { OnOk result (map move_of found.new.items
+        ≡ map move_of found.old.items ++ filter (is_enabled M.ops code.now state.now) (steps_of M.ops code.now state.now name.now)) }
 {
-    push_enabled(found, code, state, Move::Run(name.clone()?))?;
-    if signals(code, state, name) {
-        push_wakes(found, code, state, name)?;
+    push_enabled(found, code, state, thread, Choice::Run(name))?;
+    if signals(code, state, name, thread) {
+        push_wakes(found, code, state, name, thread)?;
     }
     Ok(())
 }
 
 /// Whether a thread signals next. If not, it wakes nobody.
-fn signals<M: MemoryModel>(code: &Code, state: &State<M>, name: &ThreadName) -> bool
-    ensures { OnFalse result ((u : Name) → is_enabled M.ops code.now state.now (Move.Wake name.now u) ≡ false) }
-{
-    match state.thread(name) {
-        Some(thread) => matches!(thread.instr(code), Some(Instr::Signal { .. })),
-        None => false,
-    }
-}
-
-/// Adds the enabled moves in which a thread wakes another.
-fn push_wakes<M: MemoryModel>(
-    found: &mut Vec<Move>,
+fn signals<M: MemoryModel>(
     code: &Code,
     state: &State<M>,
     name: &ThreadName,
+    thread: &Thread<M>,
+) -> bool
+    requires there { fin.get state.now.threads name.now ≡ Some thread.now }
+    ensures { OnFalse result ((u : Name) → is_enabled M.ops code.now state.now (Move.Wake name.now u) ≡ false) }
+{
+    matches!(thread.instr(code), Some(Instr::Signal { .. }))
+}
+
+/// Adds the enabled moves in which a thread wakes another.
+fn push_wakes<'a, M: MemoryModel>(
+    found: &mut Vec<Choice<'a>>,
+    code: &Code,
+    state: &'a State<M>,
+    name: &'a ThreadName,
+    thread: &Thread<M>,
 ) -> Result<(), AllocError>
     requires reached { IsReached M.ops code.now state.now }
-    ensures { OnOk result (found.new.items
-        ≡ found.old.items ++ filter (is_enabled M.ops code.now state.now) (map (λ u. Move.Wake name.now u) (fin.keys state.now.threads))) }
+    requires there { fin.get state.now.threads name.now ≡ Some thread.now }
+    ensures { OnOk result (map move_of found.new.items
+        ≡ map move_of found.old.items ++ filter (is_enabled M.ops code.now state.now) (map (λ u. Move.Wake name.now u) (fin.keys state.now.threads))) }
 {
     for waiter in state.threads().as_slice() {
-        push_enabled(
-            found,
-            code,
-            state,
-            Move::Wake(name.clone()?, waiter.clone()?),
-        )?;
+        push_enabled(found, code, state, thread, Choice::Wake(name, waiter))?;
     }
     Ok(())
 }
 
 /// Adds the enabled drains of a thread.
-fn push_drains<M: MemoryModel>(
+fn push_drains<'a, M: MemoryModel>(
     alloc: Global,
-    found: &mut Vec<Move>,
+    found: &mut Vec<Choice<'a>>,
     code: &Code,
     state: &State<M>,
-    name: &ThreadName,
+    name: &'a ThreadName,
+    thread: &Thread<M>,
 ) -> Result<(), AllocError>
     requires reached { IsReached M.ops code.now state.now }
-    ensures { OnOk result (found.new.items
-        ≡ found.old.items ++ filter (is_enabled M.ops code.now state.now) (drains_of M.ops code.now state.now name.now)) }
+    requires there { fin.get state.now.threads name.now ≡ Some thread.now }
+    ensures { OnOk result (map move_of found.new.items
+        ≡ map move_of found.old.items ++ filter (is_enabled M.ops code.now state.now) (drains_of M.ops code.now state.now name.now)) }
 {
-    let Some(thread) = state.thread(name) else {
-        return Ok(());
-    };
     recall_lawful(code);
     let forms = thread.forms(alloc)?;
     for form in forms.as_slice() {
-        push_enabled(found, code, state, Move::Drain(name.clone()?, *form))?;
+        push_enabled(found, code, state, thread, Choice::Drain(name, *form))?;
     }
     Ok(())
 }
 
-/// Adds a move, where it is enabled.
+/// Adds a move of a thread, where it is enabled.
 #[tactic(auto, using(crate::proofs::Reasons::reasons))]
-fn push_enabled<M: MemoryModel>(
-    found: &mut Vec<Move>,
+fn push_enabled<'a, M: MemoryModel>(
+    found: &mut Vec<Choice<'a>>,
     code: &Code,
     state: &State<M>,
-    m: Move,
+    thread: &Thread<M>,
+    choice: Choice<'a>,
 ) -> Result<(), AllocError>
     requires reached { IsReached M.ops code.now state.now }
-    ensures { OnOk result (found.new.items
-        ≡ found.old.items ++ filter (is_enabled M.ops code.now state.now) (m ∷ [])) }
+    requires there { fin.get state.now.threads (mover (move_of choice)) ≡ Some thread.now }
+    ensures { OnOk result (map move_of found.new.items
+        ≡ map move_of found.old.items ++ filter (is_enabled M.ops code.now state.now) (move_of choice.entry ∷ [])) }
 {
-    match enabled(code, state, &m) {
-        Ok(()) => found.push(m)?,
+    match allowed(code, state, thread, choice) {
+        Ok(()) => found.push(choice)?,
         Err(_) => {}
     }
     Ok(())

@@ -6,9 +6,12 @@ ghost use Rattle.tc_code.specs.declared.instr.Instr as flat;
 ghost use Rattle.tc_code.specs.Lawful.{IsLawful};
 ghost use Rattle.tc_code.specs.Run.{IsReached};
 ghost use Rattle.tc_code.specs.Step.{step, instr_of, request};
+ghost use Rattle.tc_machine.specs.Moves.{move_of};
+ghost use Rattle.tc_machine.specs.helpers.Movers.{mover};
 ghost use Rattle.tc_machine.specs.Why.{why, why_at, why_doing, why_undrained, why_unmet, why_unwoken};
 ghost use Rattle.run_laws.specs.Counters.{CountersAreBelowLast};
 
+use crate::choice::Choice;
 use crate::state::State;
 use crate::why::Why;
 use std::alloc::{AllocError, Global};
@@ -28,21 +31,50 @@ pub fn enabled<M: MemoryModel>(code: &Code, state: &State<M>, m: &Move) -> Resul
         return Err(Why::Stopped);
     }
     match m {
-        Move::Run(name) => may_run(code, state, name),
-        Move::Wake(name, waiter) => may_wake(code, state, name, waiter),
-        Move::Drain(name, form) => may_drain(state, name, *form),
+        Move::Run(name) => may_run(code, state, name, find(state, name)?),
+        Move::Wake(name, waiter) => may_wake(code, state, name, waiter, find(state, name)?),
+        Move::Drain(name, form) => may_drain(state, name, *form, find(state, name)?),
+    }
+}
+
+/// Whether a move of this thread is enabled, and the first reason why not.
+pub(crate) fn allowed<M: MemoryModel>(
+    code: &Code,
+    state: &State<M>,
+    thread: &Thread<M>,
+    choice: Choice,
+) -> Result<(), Why>
+    requires reached { IsReached M.ops code.now state.now }
+    requires there { map.get state.now.threads (mover (move_of choice)) ≡ Some thread.now }
+    ensures { MatchResult result
+        (λ _. why M.ops code.now state.now (move_of choice.entry) ≡ None)
+        (λ w. why M.ops code.now state.now (move_of choice.entry) ≡ Some w) }
+{
+    if state.failed().is_some() {
+        return Err(Why::Stopped);
+    }
+    match choice {
+        Choice::Run(name) => may_run(code, state, name, thread),
+        Choice::Wake(name, waiter) => may_wake(code, state, name, waiter, thread),
+        Choice::Drain(name, form) => may_drain(state, name, form, thread),
     }
 }
 
 /// Whether a thread can do the instruction at its place.
-fn may_run<M: MemoryModel>(code: &Code, state: &State<M>, name: &ThreadName) -> Result<(), Why>
+fn may_run<M: MemoryModel>(
+    code: &Code,
+    state: &State<M>,
+    name: &ThreadName,
+    thread: &Thread<M>,
+) -> Result<(), Why>
     requires reached { IsReached M.ops code.now state.now }
+    requires there { map.get state.now.threads name.now ≡ Some thread.now }
     ensures { let reason = λ (t : states.Thread M.Buffer) (i : flat.Instr). why_unmet M.ops state.now name.now t (request t.local i) in
         MatchResult result
         (λ _. why_doing M.ops code.now state.now name.now reason ≡ None)
         (λ w. why_doing M.ops code.now state.now name.now reason ≡ Some w) }
 {
-    let (thread, instr) = next(code, state, name)?;
+    let instr = next(code, state, name, thread)?;
     let request = thread.request(instr);
     if drains_first(request) && !thread.is_drained() {
         return Err(Why::NotDrained);
@@ -56,13 +88,15 @@ fn may_wake<M: MemoryModel>(
     state: &State<M>,
     name: &ThreadName,
     waiter: &ThreadName,
+    thread: &Thread<M>,
 ) -> Result<(), Why>
     requires reached { IsReached M.ops code.now state.now }
+    requires there { map.get state.now.threads name.now ≡ Some thread.now }
     ensures { MatchResult result
         (λ _. why_doing M.ops code.now state.now name.now (why_unwoken M.ops state.now waiter.now) ≡ None)
         (λ w. why_doing M.ops code.now state.now name.now (why_unwoken M.ops state.now waiter.now) ≡ Some w) }
 {
-    let (thread, instr) = next(code, state, name)?;
+    let instr = next(code, state, name, thread)?;
     match instr {
         Instr::Signal { condition } => {
             if !thread.is_drained() {
@@ -82,12 +116,13 @@ fn may_drain<M: MemoryModel>(
     state: &State<M>,
     name: &ThreadName,
     form: Option<u32>,
+    thread: &Thread<M>,
 ) -> Result<(), Why>
+    requires there { map.get state.now.threads name.now ≡ Some thread.now }
     ensures { MatchResult result
         (λ _. why_at M.ops state.now name.now (why_undrained M.ops form) ≡ None)
         (λ w. why_at M.ops state.now name.now (why_undrained M.ops form) ≡ Some w) }
 {
-    let thread = state.thread(name).ok_or(Why::NoThread)?;
     if thread.may_drain(form) {
         Ok(())
     } else {
@@ -95,21 +130,29 @@ fn may_drain<M: MemoryModel>(
     }
 }
 
-/// A thread and the instruction that it does next, if there are both.
+/// The thread of a name, if there is one.
+fn find<'a, M: MemoryModel>(state: &'a State<M>, name: &ThreadName) -> Result<&'a Thread<M>, Why>
+    ensures thread { IfOk result (λ t. map.get state.now.threads name.now ≡ Some t.now) }
+    ensures err { IfErr result (λ w. (reason : states.Thread M.Buffer → Option Why)
+        → why_at M.ops state.now name.now reason ≡ Some w) }
+{
+    state.thread(name).ok_or(Why::NoThread)
+}
+
+/// The instruction that a thread does next, if there is one.
 fn next<'a, M: MemoryModel>(
     code: &'a Code,
-    state: &'a State<M>,
+    state: &State<M>,
     name: &ThreadName,
-) -> Result<(&'a Thread<M>, &'a Instr), Why>
-    ensures thread { IfOk result (λ p. map.get state.now.threads name.now ≡ Some p.0.now) }
-    ensures instr { IfOk result (λ p. instr_of code.now p.0.now.local ≡ Some p.1.now) }
+    thread: &Thread<M>,
+) -> Result<&'a Instr, Why>
+    requires there { map.get state.now.threads name.now ≡ Some thread.now }
+    ensures instr { IfOk result (λ i. instr_of code.now thread.now.local ≡ Some i.now) }
     ensures lawful { OnOk result (IsLawful code.now) }
     ensures err { IfErr result (λ w. (reason : states.Thread M.Buffer → flat.Instr → Option Why)
         → why_doing M.ops code.now state.now name.now reason ≡ Some w) }
 {
-    let thread = state.thread(name).ok_or(Why::NoThread)?;
-    let instr = thread.instr(code).ok_or(Why::Exited)?;
-    Ok((thread, instr))
+    thread.instr(code).ok_or(Why::Exited)
 }
 
 /// Does a move that is enabled. Where memory is refused, the state stays as it was.

@@ -3,6 +3,7 @@ ghost use Rattle.std.specs.Prelude.{◌≡◌, ◌+◌, ◌-◌, ◌<◌, ◌^�
 ghost use Rattle.std.specs.Prelude.{IfOk, IfSome, OnOk, OnErr, MatchResult, option_map, Option, Some, None, IsSome, IsSomeAnd};
 ghost use Rattle.std.specs.FinMap as map;
 ghost use Rattle.std.specs.FinSet as set;
+ghost use Rattle.std.specs.List.{All};
 ghost use Rattle.tc_code.specs.declared.instr.Instr.TheVariants as flat;
 ghost use Rattle.tc_code.specs.Step.{opening, perform, did, loaded, stored, drained, stepped, with_thread, woken, waiting_on};
 ghost use Rattle.tc_code.specs.Step as plain;
@@ -12,6 +13,7 @@ ghost use Rattle.tc_machine.specs.Why.{why_let, why_taken};
 
 use crate::why::Why;
 use std::alloc::{AllocError, Global};
+use std::collections::btree_map;
 use std::marker::Model;
 use store_buffers::MemoryModel;
 use tc_base::{Request, ThreadName};
@@ -128,6 +130,14 @@ impl<M: MemoryModel> State<M> {
             ≡ option_map (λ t. (t.local.function, t.local.instruction)) (map.get self.now.threads name.now) }
     {
         Some(self.thread(name)?.local().place())
+    }
+
+    /// The threads with their names, in order.
+    pub fn entries(&self) -> btree_map::Iter<'_, ThreadName, Thread<M>>
+        ensures rest { result ≡ map.entries self.now.threads }
+        ensures found { All (λ e. map.get self.now.threads e.0 ≡ Some e.1) result }
+    {
+        self.threads.iter()
     }
 
     pub(crate) fn thread(&self, name: &ThreadName) -> Option<&Thread<M>>

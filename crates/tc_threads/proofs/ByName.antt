@@ -4,7 +4,7 @@ use Rattle.std.proofs.Common.{◌∙◌, Option, Some, None, Bool, true, false, 
 use Rattle.std.specs.Option.{IfSome, IsSomeAnd}
 use Rattle.std.specs.FinMap as fin
 use Rattle.std.specs.FinMap.{get, insert, find, put, get-from_entries, from_entries, entries, entries-insert, get-insert, len-entries, len-empty, same_map}
-use Rattle.std.specs.List.{AllByRecursion, position_or_len}
+use Rattle.std.specs.List.{All, AllByRecursion, position_or_len}
 use Rattle.std.specs.List as list
 use Rattle.std.specs.List.Sorted.{IsStrictlySortedBy}
 use Rattle.std.specs.Ordering.{nat_cmp, eq_by_cmp, is_lt, match_ordering}
@@ -16,6 +16,7 @@ use Rattle.std.specs.Map.{lookup, keys_of}
 use Rattle.std.specs.BTreeMap.{is_at, insert_entry}
 use Rattle.std.proofs.lemmas.Cmp.{nat_list_cmp_total}
 use Rattle.std.proofs.lemmas.List.{nil_from_length}
+use Rattle.std.proofs.lemmas.List.Elements.{All-weaker}
 use Rattle.std.proofs.lemmas.List.Sums.{prefix_len-le-length}
 use Rattle.std.proofs.lemmas.Option.{none-some}
 use Rattle.std.proofs.lemmas.Map.Lookups.{exact_bytes}
@@ -41,6 +42,11 @@ get-map_of es n = get-from_entries nat_list_cmp_total es n ∙ find-at_name es n
 -- what any map has at a name, whose entries make it
 pub get_of_entries : {X : Type 0} (es : List (Name × X)) (m : ByName X) (n : Name) → map_of es ≡ m → get m n ≡ at_name es n
 get_of_entries es m n e = ap (λ k. get k n) (sym e) ∙ get-map_of es n
+
+-- so it has each of the entries that are found among them
+pub all_there : {X : Type 0} (es : List (Name × X)) (m : ByName X) → map_of es ≡ m → All (λ e. at_name es e.0 ≡ Some e.1) es
+    → All (λ e. get m e.0 ≡ Some e.1) es
+all_there es m is found = All-weaker (λ e. at_name es e.0 ≡ Some e.1) (λ e. get m e.0 ≡ Some e.1) (λ e h. get_of_entries es m e.0 is ∙ h) es found
 
 -- entries that differ at one name make maps that differ there
 pub map_of_update : {X : Type 0} (es fs : List (Name × X)) (n : Name) (x : X)

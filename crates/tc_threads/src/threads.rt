@@ -1,6 +1,7 @@
 //! Threads by name.
 ghost use Rattle.std.specs.Prelude.{◌≡◌, ◌↔◌, ◌+◌, ◌<◌, ◌^◌, length, IsTrue, IfOk, IfSome, OnOk, OnErr, option_map, Some, None, IsSomeAnd, true, false, pos};
 ghost use Rattle.std.specs.FinMap as map;
+ghost use Rattle.std.specs.List.{All};
 ghost use Rattle.std.specs.Option.{option_map_or};
 ghost use Rattle.tc_base.specs.Names.{main, child};
 ghost use Rattle.tc_code.specs.Code as flat;
@@ -12,7 +13,7 @@ use crate::effect::Effect;
 use crate::names::ThreadNames;
 use crate::thread::Thread;
 use std::alloc::{AllocError, Global};
-use std::collections::BTreeMap;
+use std::collections::{BTreeMap, btree_map};
 use std::marker::Model;
 use store_buffers::MemoryModel;
 use tc_base::ThreadName;
@@ -68,6 +69,14 @@ impl<M: MemoryModel> Threads<M> {
         ensures { option_map (λ t. t.now) result ≡ map.get self.now name.now }
     {
         self.by_name.get(name)
+    }
+
+    /// The threads with their names, in order.
+    pub fn iter(&self) -> btree_map::Iter<'_, ThreadName, Thread<M>>
+        ensures rest { result ≡ map.entries self.now }
+        ensures found { All (λ e. map.get self.now e.0 ≡ Some e.1) result }
+    {
+        self.by_name.iter()
     }
 
     /// The thread does an instruction that doesn't fail, with this effect.

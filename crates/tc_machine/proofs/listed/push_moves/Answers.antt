@@ -1,8 +1,8 @@
-use Rattle.std.proofs.Common.{◌++◌, sym, ap, ◌∙◌, append_assoc}
+use Rattle.std.proofs.Common.{◌++◌, map, sym, ap, ◌∙◌, append_assoc}
 use Rattle.std.specs.List.{filter}
 use Rattle.std.proofs.lemmas.List.Elements.{filter-append}
 use Rattle.std.proofs.lemmas.Result.{on_ok_weaker}
-use Rattle.tc_machine.specs.Moves.{is_enabled, steps_of, drains_of}
+use Rattle.tc_machine.specs.Moves.{move_of, is_enabled, steps_of, drains_of}
 use Rattle.tc_machine.proofs.listed.push_moves.Goals as goal
 
 pub returns : goal.returns
@@ -12,5 +12,5 @@ returns g c =
     let drains = drains_of g.M.MemoryModel.ops c.args.code.now c.args.state.now c.args.name.now in
     on_ok_weaker c.push_drains.result
     (λ e. e ∙ ap (λ ms. ms ++ filter p drains) c.in_ok-push_steps.ensures
-    ∙ append_assoc c.args.found.now.items (filter p steps) (filter p drains)
-    ∙ ap (λ ms. c.args.found.now.items ++ ms) (sym (filter-append p steps drains))) c.push_drains.ensures
+    ∙ append_assoc (map move_of c.args.found.now.items) (filter p steps) (filter p drains)
+    ∙ ap (λ ms. map move_of c.args.found.now.items ++ ms) (sym (filter-append p steps drains))) c.push_drains.ensures

@@ -7,12 +7,12 @@ use Rattle.tc_machine.proofs.machine.may_run.Goals as goal
 pub request-request-requires : goal.request-request-requires
 request-request-requires g c = (
   c.args.code.now,
-  can_ask g.M.MemoryModel.ops c.args.code.now c.args.state.now c.args.name.now c.in_ok-thread.thread.now
-      c.in_ok-thread.instr.now c.in_ok-thread.ensures.lawful c.requires.reached c.in_ok-thread.ensures.thread c.in_ok-thread.ensures.instr,
+  can_ask g.M.MemoryModel.ops c.args.code.now c.args.state.now c.args.name.now c.args.thread.now
+      c.in_ok-instr.instr.now c.in_ok-instr.ensures.lawful c.requires.reached c.requires.there c.in_ok-instr.ensures.instr,
 )
 
 pub lets-requires : goal.lets-requires
 lets-requires g c =
     subst (AsksIn c.args.state.now) (sym c.request-request.ensures)
-    (asked_is_there g.M.MemoryModel.ops c.args.code.now c.args.state.now c.args.name.now c.in_ok-thread.thread.now
-    c.in_ok-thread.instr.now c.in_ok-thread.ensures.lawful c.requires.reached c.in_ok-thread.ensures.thread c.in_ok-thread.ensures.instr)
+    (asked_is_there g.M.MemoryModel.ops c.args.code.now c.args.state.now c.args.name.now c.args.thread.now
+    c.in_ok-instr.instr.now c.in_ok-instr.ensures.lawful c.requires.reached c.requires.there c.in_ok-instr.ensures.instr)
