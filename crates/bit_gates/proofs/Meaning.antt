@@ -34,7 +34,7 @@ gated_bit f g a b p q =
           (record { first-positive = p.0; first-within = p.1; second-positive = q.0; second-within = q.1 }) m.all;
     }
 
-constant_of : (n : ℕ) (b : Bool) → 0 < n → IsOf n (constant b)
+pub constant_of : (n : ℕ) (b : Bool) → 0 < n → IsOf n (constant b)
 constant_of n true h = (omega arith, omega arith)
 constant_of n false h = (omega arith, omega arith)
 

@@ -17,13 +17,13 @@ pub reached_none : {S : Type 0} (step : S → ℤ → ℤ → Placed S) (s : S) 
 reached_none step s xs ys = record { state = refl; word = refl }
 
 -- an element, and those before and after it
-split_here : (xs : List ℤ) (i : ℕ) (x : ℤ) → i < length xs → x ≡ get_or xs i x → drop i xs ≡ x ∷ drop (i + 1) xs
+pub split_here : (xs : List ℤ) (i : ℕ) (x : ℤ) → i < length xs → x ≡ get_or xs i x → drop i xs ≡ x ∷ drop (i + 1) xs
 split_here xs i x p e = let n : suc i ≡ i + 1 = omega arith in drop-cons xs i x p ∙ ap (λ k. k ∷ drop (suc i) xs) (sym e) ∙ ap (λ k. x ∷ drop k xs) n
 
-join_here : (xs zs : List ℤ) (i : ℕ) (l : ℤ) → i < length xs → take i xs ++ (l ∷ zs) ≡ take (i + 1) (set xs i l) ++ zs
+pub join_here : (xs zs : List ℤ) (i : ℕ) (l : ℤ) → i < length xs → take i xs ++ (l ∷ zs) ≡ take (i + 1) (set xs i l) ++ zs
 join_here xs zs i l p = sym (append_assoc (take i xs) (l ∷ []) zs) ∙ ap (λ k. k ++ zs) (sym (take_more_set xs i l p))
 
-drop_here : (xs : List ℤ) (i : ℕ) (l : ℤ) → drop (i + 1) (set xs i l) ≡ drop (i + 1) xs
+pub drop_here : (xs : List ℤ) (i : ℕ) (l : ℤ) → drop (i + 1) (set xs i l) ≡ drop (i + 1) xs
 drop_here xs i l = drop-set-lt (i + 1) xs i l (omega arith)
 
 pub reached_more : {S : Type 0} (step : S → ℤ → ℤ → Placed S) (all : Walked S) (i : ℕ) (s t : S) (xs ys : List ℤ) (x y l : ℤ)

@@ -1,0 +1,40 @@
+-- Sums, differences and products of words.
+use Rattle.std.specs.Prelude.{ℕ, true, false, List, [], ◌∷◌, ◌++◌, ℤ, length, take, drop, replicate}
+use Rattle.cnf_core.specs.Clauses.{Formula}
+use Rattle.cnf_core.specs.declared.gates.Gate.TheVariants.{And}
+use Rattle.bit_gates.specs.Folded.{Made, constant}
+use Rattle.bit_words.specs.Words.{Walked, gated_words, added, inverted}
+
+-- without the carry
+abbrev pub without_carry : Walked Made → Walked Formula
+without_carry m = record { state = m.state.formula; word = m.word }
+
+-- the sum of two words
+abbrev pub plus_word : Formula → List ℤ → List ℤ → Walked Formula
+plus_word f xs ys = without_carry (added f xs ys (constant false))
+
+-- the difference of two words: the sum of the first, the second's opposite and 1
+abbrev pub minus_word : Formula → List ℤ → List ℤ → Walked Formula
+minus_word f xs ys = without_carry (added f xs (inverted ys) (constant true))
+
+-- the constant 0
+abbrev pub zeros : ℕ → List ℤ
+zeros n = replicate n (constant false)
+
+-- a word with one row of a product more: the factor, as far as the word goes, where a bit of the other factor is true
+abbrev pub with_row : Formula → List ℤ → List ℤ → ℤ → Walked Formula
+with_row f word xs bit =
+    let row : Walked Formula = gated_words And f (take (length word) xs) (replicate (length word) bit) in
+    plus_word row.state word row.word
+
+-- a word and a product: row after row, each one place above the one before it
+abbrev pub with_product : Formula → List ℤ → List ℤ → List ℤ → Walked Formula
+with_product f word xs [] = record { state = f; word = word }
+with_product f word xs (b ∷ bs) =
+    let row : Walked Formula = with_row f word xs b in
+    let rest : Walked Formula = with_product row.state (drop 1 row.word) xs bs in
+    record { state = rest.state; word = take 1 row.word ++ rest.word }
+
+-- the product of two words
+abbrev pub times_word : Formula → List ℤ → List ℤ → Walked Formula
+times_word f xs ys = with_product f (zeros (length xs)) xs ys
