@@ -1,0 +1,36 @@
+-- A restoring divider.
+use Rattle.std.specs.Prelude.{true, List, [], ◌∷◌, ℤ, length, take}
+use Rattle.cnf_core.specs.Clauses.{Formula}
+use Rattle.bit_gates.specs.Folded.{Made, constant}
+use Rattle.bit_words.specs.Words.{Walked, added, chosen_words, inverted}
+use Rattle.bit_arith.specs.Sums.{zeros}
+
+-- a word with a bit more below its lowest, and without its highest
+abbrev pub shifted_in : ℤ → List ℤ → List ℤ
+shifted_in bit ls = take (length ls) (bit ∷ ls)
+
+-- what a division has: what remains, and the quotient
+pub record Divided : Type 0 where
+  pub formula : Formula
+  pub remainder : List ℤ
+  pub quotient : List ℤ
+
+-- one place: the remainder takes the dividend's bit, and the divisor, whose opposite this is, is taken off where it goes in
+abbrev pub divided_place : Formula → List ℤ → ℤ → List ℤ → Walked Made
+divided_place f rest bit opposite =
+    let next : List ℤ = shifted_in bit rest in
+    let less : Walked Made = added f next opposite (constant true) in
+    let kept : Walked Formula = chosen_words less.state.literal less.state.formula less.word next in
+    record { state = record { formula = kept.state; literal = less.state.literal }; word = kept.word }
+
+-- the places of the dividend from the highest on, over what remained before them
+abbrev pub divided : Formula → List ℤ → List ℤ → List ℤ → Divided
+divided f rest opposite [] = record { formula = f; remainder = rest; quotient = [] }
+divided f rest opposite (x ∷ xs) =
+    let high : Divided = divided f rest opposite xs in
+    let here : Walked Made = divided_place high.formula high.remainder x opposite in
+    record { formula = here.state.formula; remainder = here.word; quotient = here.state.literal ∷ high.quotient }
+
+-- the division of a word by another
+abbrev pub division : Formula → List ℤ → List ℤ → Divided
+division f xs ds = divided f (zeros (length ds)) (inverted ds) xs
