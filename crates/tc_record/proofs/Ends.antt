@@ -1,11 +1,13 @@
 -- What stands where a failure ends a run.
-use Rattle.std.proofs.Common.{◌≡◌, ℕ, zero, suc, Bool, true, false, List, [], ◌∷◌, Some, None, IsSome, refl, subst, length}
+use Rattle.std.proofs.Common.{◌≡◌, ◌∙◌, ◌||◌, ℕ, zero, suc, Bool, true, false, List, [], ◌∷◌, map, Option, Some, None, IsSome, refl, ap, subst, length}
 use Rattle.std.specs.Prelude.{slice_get, is_some, nat_lt, if◌then◌else◌}
 use Rattle.std.specs.List.{list_any}
+use Rattle.std.specs.Option.{option_map_or}
 use Rattle.std.proofs.lemmas.Bool.{or_parts}
 use Rattle.std.proofs.lemmas.Option.{none-some, same_Some}
 use Rattle.std.specs.FinMap as fin
-use Rattle.tc_base.specs.States.{State}
+use Rattle.tc_base.specs.Names.{Name}
+use Rattle.tc_base.specs.States.{Thread, State}
 use Rattle.tc_record.specs.declared.end.Which.TheVariants.{Threads, Depth, Steps}
 use Rattle.tc_record.specs.declared.end.End.TheVariants.{Over, Failed}
 use Rattle.tc_record.specs.Ends.{limit_of, has_many_steps, end_at}
@@ -37,3 +39,12 @@ pub within : {B : Type 0} (s : State B) → end_at s ≡ Some Failed → IsWithi
 within s h =
     let all = last_test _ _ _ (is_some s.failed) h in
     record { threads = all.0; depth = all.1; steps = all.2; failed = all.3 }
+
+-- the first of the threads has done too many instructions, or one of the others has
+pub first_decides : {B : Type 0} (s : State B) (es rest : List (Name × Thread B)) (n : Name) (t : Thread B) → es ≡ (n, t) ∷ rest
+    → fin.get s.threads n ≡ Some t → list_any (has_many_steps s) (map (λ e. e.0) es)
+    ≡ nat_lt (limit_of Steps) t.local.steps || list_any (has_many_steps s) (map (λ e. e.0) rest)
+first_decides {B} s es rest n t is there =
+    ap (λ (fs : List (Name × Thread B)). list_any (has_many_steps s) (map (λ e. e.0) fs)) is
+    ∙ ap (λ (o : Option (Thread B)). option_map_or (λ u. nat_lt (limit_of Steps) u.local.steps) o false
+    || list_any (has_many_steps s) (map (λ e. e.0) rest)) there

@@ -1,12 +1,13 @@
 -- Seeded runs, turn by turn.
 use Rattle.std.proofs.Common.{◌≡◌, ◌∙◌, ◌&&◌, ℕ, zero, suc, ◌+◌, ◌-◌, ◌<◌, ◌%◌, Bool, true, false, cond, List, [], ◌∷◌, ◌++◌, length, append_assoc, append-nil}
 use Rattle.std.proofs.Common.{Option, Some, None, IsSome, refl, ap, sym, subst, arith}
-use Rattle.std.specs.Prelude.{slice_get, slice_index_or}
+use Rattle.std.specs.Prelude.{slice_get, slice_index_or, map, option_map}
 use Rattle.std.specs.List.{filter, flat_map, list_all}
 use Rattle.std.specs.Option.{option_map_or}
 use Rattle.std.proofs.lemmas.Bool.{and_parts}
 use Rattle.std.proofs.lemmas.Nat.{mod_below}
-use Rattle.std.proofs.lemmas.Option.{none-some, same_Some, slice_get_read}
+use Rattle.std.proofs.lemmas.Option.{none-some, same_Some, slice_get_read, slice_get-map}
+use Rattle.std.proofs.lemmas.List.{length-map, nil_from_length}
 use Rattle.std.specs.FinMap as fin
 use Rattle.rand_core.specs.Steps.{stream_of, first_words}
 use Rattle.rand_core.specs.Stream.{Stream, next_u64}
@@ -17,7 +18,8 @@ use Rattle.tc_base.specs.States.{State}
 use Rattle.tc_base.specs.declared.moves.Move.{Move}
 use Rattle.tc_code.specs.Code.{Code}
 use Rattle.tc_code.specs.Step.{step, opening}
-use Rattle.tc_machine.specs.Moves.{is_enabled, steps_of, drains_of, moves_of, enabled_moves}
+use Rattle.tc_machine.specs.declared.choice.Choice.{Choice}
+use Rattle.tc_machine.specs.Moves.{move_of, is_enabled, steps_of, drains_of, moves_of, enabled_moves}
 use Rattle.tc_record.specs.declared.end.End.{End}
 use Rattle.tc_record.specs.declared.end.End.TheVariants as end
 use Rattle.tc_record.specs.Ends.{end_at, end_without_moves}
@@ -87,24 +89,34 @@ module _ {B : Type 0} (ops : BufferOps B) (code : Code) where
       ++ drains_of ops code s n))) e
 
   -- the move at the place that a word gives is the chosen one
-  pub picked : (s : State B) (items : List Move) (i word : ℕ) (m : Move) → items ≡ enabled_moves ops code s → i ≡ word % length items → 0 < length items
-      → m ≡ slice_index_or items i m → chosen ops code s word ≡ Some m
-  picked s items i word m listed place some is =
-      subst (λ ms. slice_get ms (word % length ms) ≡ Some m) listed
-      (subst (λ k. slice_get items k ≡ Some m) place
-      (slice_get_read items (length items) i m refl (subst (λ k. k < length items) (sym place) (mod_below word (length items) some)) is))
+  pub picked : (s : State B) (items : List Choice) (i word : ℕ) (x : Choice) (m : Move) → map move_of items ≡ enabled_moves ops code s
+      → i ≡ word % length items → 0 < length items → x ≡ slice_index_or items i x → m ≡ move_of x → Some m ≡ chosen ops code s word
+  picked s items i word x m listed place some is same =
+      let here : slice_get items i ≡ Some x =
+      slice_get_read items (length items) i x refl (subst (λ k. k < length items) (sym place) (mod_below word (length items) some)) is in
+      let picks : slice_get (map move_of items) i ≡ Some m =
+      slice_get-map move_of items i ∙ ap (option_map move_of) here ∙ ap (λ n. Some n) (sym same) in
+      sym (subst (λ ms. slice_get ms (word % length ms) ≡ Some m) listed
+      (subst (λ k. slice_get (map move_of items) (word % k) ≡ Some m) (sym (length-map items move_of))
+      (subst (λ k. slice_get (map move_of items) k ≡ Some m) place picks)))
 
-  -- and it is enabled
-  pub picked_is_enabled : (s : State B) (items : List Move) (i word : ℕ) (m : Move) → items ≡ enabled_moves ops code s → i ≡ word % length items
-      → 0 < length items → m ≡ slice_index_or items i m → IsSome (step ops code s m)
-  picked_is_enabled s items i word m listed place some is = listed_is_enabled s _ m (picked s items i word m listed place some is)
+  -- and none is, where no move is listed
+  pub picked_none : (s : State B) (items : List Choice) (word : ℕ) → map move_of items ≡ enabled_moves ops code s → length items ≡ 0
+      → None ≡ chosen ops code s word
+  picked_none s items word listed none =
+      let empty : enabled_moves ops code s ≡ [] = sym listed ∙ ap (map move_of) (nil_from_length items none) in
+      sym (ap (λ ms. slice_get ms (word % length ms)) empty)
+
+  -- what is chosen is enabled
+  pub chosen_is_enabled : (s : State B) (word : ℕ) (m : Move) → Some m ≡ chosen ops code s word → IsSome (step ops code s m)
+  chosen_is_enabled s word m is = listed_is_enabled s _ m (sym is)
 
   -- a turn in which no move is enabled
-  pub turn_without_moves : (s : State B) (before : List Move) (word : ℕ) → enabled_moves ops code s ≡ []
+  pub turn_without_moves : (s : State B) (before : List Move) (word : ℕ) → None ≡ chosen ops code s word
       → IsTurn ops code s s before before word (Some (end_without_moves s))
   turn_without_moves s before word none rest =
       ap (λ (o : Option Move). behind before (option_map_or (making ops code s (λ u. seeded_from ops code u rest)) o (ended s (end_without_moves s))))
-      (ap (λ ms. slice_get ms (word % length ms)) none)
+      (sym none)
 
   -- a turn in which a move is made
   pub turn_with_move : (s u : State B) (before after : List Move) (word : ℕ) (m : Move) (e : Option End) → chosen ops code s word ≡ Some m

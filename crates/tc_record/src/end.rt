@@ -76,14 +76,12 @@ fn some_is_deep<M: MemoryModel>(state: &State<M>) -> bool
 fn some_has_many_steps<M: MemoryModel>(state: &State<M>) -> bool
     ensures { result ≡ ends.some_has_many_steps state.now }
 {
-    let names = state.threads().as_slice();
-    names.iter().any(|name| has_many_steps(state, name))
-}
-
-fn has_many_steps<M: MemoryModel>(state: &State<M>, name: &ThreadName) -> bool
-    ensures { result ≡ ends.has_many_steps state.now name.now }
-{
-    state.steps_of(name).is_some_and(|steps| steps > STEPS)
+    for (_name, thread) in state.entries() {
+        if thread.local().steps() > STEPS {
+            return true;
+        }
+    }
+    false
 }
 
 /// What ends a run where no move is enabled.

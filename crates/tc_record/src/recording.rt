@@ -1,10 +1,11 @@
 //! Making a seeded run.
 ghost use Rattle.std.specs.Prelude.{◌≡◌, ◌≤◌, ◌<◌, ◌+◌, ◌^◌, length, IfOk, Some, IsTrue};
-ghost use Rattle.tc_code.specs.Run.{Reproduces, run};
+ghost use Rattle.tc_code.specs.Run.{IsReached, Reproduces, run};
 ghost use Rattle.path_log.specs.Texts.{is_of_format};
 ghost use Rattle.path_walk.specs.Fits.{Fits};
 ghost use Rattle.tc_record.specs.Ends as ends;
 ghost use Rattle.tc_record.specs.Logged.{is_small};
+ghost use Rattle.tc_record.specs.Seeded as spec;
 ghost use Rattle.tc_record.specs.Seeded.{seeded_run, IsAnswer, IfFailed, IsRecordOf, IfRecorded};
 ghost use Rattle.tc_record.specs.helpers.Recorded.{without_line};
 ghost use Rattle.tc_record.specs.helpers.Turns.{IsTurn};
@@ -19,7 +20,7 @@ use std::alloc::{AllocError, Global};
 use store_buffers::MemoryModel;
 use tc_base::Move;
 use tc_code::Code;
-use tc_machine::{State, moves, start, step};
+use tc_machine::{State, choices, start, step};
 
 /// Runs a program under a memory model, and makes at most so many moves.
 ///
@@ -102,15 +103,30 @@ fn turn<M: MemoryModel>(
     ensures counted { IfOk result (λ _. length made.new.items ≤ length made.old.items + 1) }
     ensures failed { IfOk result (λ end. end ≡ Some End.Failed → ends.end_at state.new ≡ Some End.Failed) }
 {
-    let mut enabled = moves(alloc, code, state)?;
-    if enabled.is_empty() {
+    let Some(m) = chosen(alloc, code, state, word)? else {
         return Ok(Some(end_without_moves(state)));
-    }
-    let place = word % enabled.len() as u64;
-    let chosen = enabled.swap_remove(place as usize);
-    step(alloc, code, state, &chosen)?;
-    made.push(chosen)?;
+    };
+    step(alloc, code, state, &m)?;
+    made.push(m)?;
     Ok(end_at(state))
+}
+
+/// The move that a word chooses, where one is enabled.
+fn chosen<M: MemoryModel>(
+    alloc: Global,
+    code: &Code,
+    state: &State<M>,
+    word: u64,
+) -> Result<Option<Move>, AllocError>
+    requires reached { IsReached M.ops code.now state.now }
+    ensures { IfOk result (λ m. m ≡ spec.chosen M.ops code.now state.now word) }
+{
+    let choices = choices(alloc, code, state)?;
+    if choices.is_empty() {
+        return Ok(None);
+    }
+    let place = word % choices.len() as u64;
+    Ok(Some(choices[place as usize].to_move()?))
 }
 
 /// The answer of a run that ended so.
