@@ -1,7 +1,9 @@
 //! What no clause says: what real files do, and that an interruption ends a call.
 ghost use Rattle.std.specs.Prelude.{◌≤◌, IfOk};
 
-use std::io::{self, ErrorKind};
+use std::alloc::Allocator;
+use std::fs::{Metadata, OpenFile, OpenOptions};
+use std::io::{self, ErrorKind, SeekFrom};
 use std::os::unix::fs::symlink;
 use std::process::Abort;
 use std::rt::Files;
@@ -87,6 +89,123 @@ impl io::Read for Interrupted {
         }
         self.turn()
     }
+}
+
+/// A folder in which each file gives three bytes, one at a time, and then fails.
+#[derive(Drop)]
+struct ShortFiles;
+
+/// A file that gives so many more bytes, and does nothing else.
+#[derive(Drop)]
+struct ShortFile {
+    left: u8,
+}
+
+/// What is answered to all else that is asked of a folder or a file.
+fn unsupported() -> io::Error {
+    io::Error::from(ErrorKind::Unsupported)
+}
+
+impl io::Read for ShortFile {
+    fn read(&mut self, buf: &mut [u8]) -> io::Result<usize> {
+        if buf.is_empty() {
+            return Ok(0);
+        }
+        if self.left == 0 {
+            return Err(unsupported());
+        }
+        self.left -= 1;
+        Ok(1)
+    }
+}
+
+impl io::Write for ShortFile {
+    fn write(&mut self, _bytes: &[u8]) -> io::Result<usize> {
+        Err(unsupported())
+    }
+
+    fn flush(&mut self) -> io::Result<()> {
+        Err(unsupported())
+    }
+}
+
+impl io::Seek for ShortFile {
+    fn seek(&mut self, _to: SeekFrom) -> io::Result<u64> {
+        Err(unsupported())
+    }
+}
+
+impl OpenFile for ShortFile {
+    fn metadata(&self) -> io::Result<Metadata> {
+        Err(unsupported())
+    }
+
+    fn set_len(&self, _size: u64) -> io::Result<()> {
+        Err(unsupported())
+    }
+
+    fn sync_all(&self) -> io::Result<()> {
+        Err(unsupported())
+    }
+
+    fn sync_data(&self) -> io::Result<()> {
+        Err(unsupported())
+    }
+}
+
+impl Files for ShortFiles {
+    type File = ShortFile;
+
+    type Dir = ShortFile;
+
+    fn open_file(&self, _how: &OpenOptions, _path: &str) -> io::Result<ShortFile> {
+        Ok(ShortFile { left: 3 })
+    }
+
+    fn open_dir(&self, _path: &str) -> io::Result<ShortFile> {
+        Err(unsupported())
+    }
+
+    fn metadata(&self, _path: &str) -> io::Result<Metadata> {
+        Err(unsupported())
+    }
+
+    fn symlink_metadata(&self, _path: &str) -> io::Result<Metadata> {
+        Err(unsupported())
+    }
+
+    fn copy(&self, _from: &str, _to: &str) -> io::Result<u64> {
+        Err(unsupported())
+    }
+
+    fn rename(&self, _from: &str, _to: &str) -> io::Result<()> {
+        Err(unsupported())
+    }
+
+    fn remove_file(&self, _path: &str) -> io::Result<()> {
+        Err(unsupported())
+    }
+
+    fn create_dir(&self, _path: &str) -> io::Result<()> {
+        Err(unsupported())
+    }
+
+    fn remove_dir(&self, _path: &str) -> io::Result<()> {
+        Err(unsupported())
+    }
+
+    fn remove_dir_all<B: Allocator>(&self, _alloc: B, _path: &str) -> io::Result<()> {
+        Err(unsupported())
+    }
+}
+
+#[test]
+fn each_byte_is_counted(rt: HostRuntime) {
+    let mut shelf = FileShelf::new(ShortFiles);
+    fetches(&rt, &mut shelf, &[("a", 9, Err(FetchFault::Failed))]);
+    assert_eq!(rt; shelf.taken(), 3, "before a failure");
+    fetches(&rt, &mut shelf, &[("a", 2, Err(FetchFault::TooLong))]);
+    assert_eq!(rt; shelf.taken(), 6, "of a file that is too long");
 }
 
 /// Writes a file, and fetches it within limits about its length.
