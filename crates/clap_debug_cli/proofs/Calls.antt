@@ -3,28 +3,11 @@ use Rattle.std.proofs.Common.{◌≡◌, ◌≢◌, ◌≤◌, length, ℕ, List
 use Rattle.std.specs.Option.{IsSomeAnd}
 use Rattle.tc_code.specs.Code.{Code}
 use Rattle.tc_base.specs.declared.model.Model.{Model}
-use Rattle.tc_io.specs.Outside.{Files, ShelfTells, SinkTells, KeptPart, bytes_at, put_under}
+use Rattle.tc_io.specs.Outside.{Files, Reading, Writing, ShelfTells, SinkTells, KeptPart, bytes_at, put_under}
 use Rattle.clap_debug_words.specs.Calls.{Called, Lists, Replays, Records, Migrates, call_of}
-use Rattle.clap_debug_cli.specs.Answers.{
-  Answer,
-  Usage,
-  ReadFault,
-  TooLong,
-  ProgramRefused,
-  LogRefused,
-  ScheduleRefused,
-  Listed,
-  Replayed,
-  RunFailed,
-  RunEnded,
-  LogOver,
-  Migrated,
-  WriteFault,
-  NoMemory,
-  status_of,
-  verdict_status,
-  ending_status,
-}
+use Rattle.clap_debug_cli.specs.Answers.{status_of, verdict_status, ending_status}
+use Rattle.clap_debug_cli.specs.declared.answer.Answer.{Answer}
+use Rattle.clap_debug_cli.specs.declared.answer.Answer.TheVariants.{Usage, ReadFault, TooLong, ProgramRefused, LogRefused, ScheduleRefused, Listed, Replayed, RunFailed, RunEnded, LogOver, Migrated, WriteFault, NoMemory}
 use Rattle.clap_debug_cli.specs.Causes.{IsCause, IsCauseOf, IsListAnswer, IsLogRefused, IsScheduleRefused, IsReplayAnswer, IsRecordAnswer, IsReplayed}
 use Rattle.clap_debug_cli.specs.Causes.{IsWorkOf, IsAnswerTo, IsOutput, KeepsResult, IsMigrateAnswer}
 use Rattle.clap_debug_cli.specs.Call.{
@@ -48,9 +31,8 @@ use Rattle.clap_debug_cli.specs.Call.{
   MigrateAnswers,
   CommandAnswers,
 }
-use Rattle.clap_debug_cli.specs.Inputs.{Wanted, Texts, GaveAll, inputs_of, texts_under, limit_of, IsTooLong}
-use Rattle.clap_debug_cli.specs.Held.{KeptNothing}
-use Rattle.clap_debug_cli.specs.Programs.{IsCodeOf, IsRefusal}
+use Rattle.clap_debug_cli.specs.Inputs.{Texts, GaveAll, inputs_of, texts_under, limit_of, IsTooLong}
+use Rattle.tc_compile.specs.Programs.{IsCodeOf, IsRefusal}
 use Rattle.clap_debug_cli.specs.Recorded.{FailsSo, EndsSo, end_status, run_of}
 use Rattle.clap_debug_cli.specs.Migrated.{IsMigrated}
 use Rattle.tc_parser.specs.declared.fault.TextFault.{TextFault}
@@ -61,15 +43,15 @@ use Rattle.tc_record.specs.declared.end.Which.{Which}
 use Rattle.clap_debug_cli.specs.declared.answer.Excess.{Excess}
 use Rattle.clap_debug_cli.specs.declared.input.Input.{Input}
 use Rattle.clap_debug_cli.specs.declared.input.Input.TheVariants as input
-use Rattle.clap_debug_cli.specs.declared.run.Ending.{Ending}
-use Rattle.clap_debug_cli.specs.declared.run.Ending.TheVariants.{StepLimit, Over}
-use Rattle.clap_debug_cli.specs.declared.run.Ending.TheVariants as ending
+use Rattle.clap_debug_cli.specs.declared.answer.Ending.{Ending}
+use Rattle.clap_debug_cli.specs.declared.answer.Ending.TheVariants.{StepLimit, Over}
+use Rattle.clap_debug_cli.specs.declared.answer.Ending.TheVariants as ending
 use Rattle.tc_record.specs.declared.end.End.TheVariants as end
-use Rattle.clap_debug_cli.specs.declared.run.Failure.{Failure}
-use Rattle.clap_debug_cli.proofs.Fetches.{gave_all, passes_told, not_within}
+use Rattle.clap_debug_cli.specs.declared.answer.Failure.{Failure}
+use Rattle.clap_debug_cli.proofs.Fetches.{failed_still, gave_all, given_still, not_within, passed_still, passes_told}
 use Rattle.clap_debug_cli.proofs.Migrations.{migrated_answer, migrated_text}
 use Rattle.clap_debug_cli.proofs.OneAnswer.{one_answer}
-use Rattle.clap_debug_cli.proofs.OnePrograms.{one_code, refused_no_code}
+use Rattle.tc_compile.proofs.OnePrograms.{one_code, refused_no_code}
 use Rattle.clap_debug_cli.proofs.OneRun.{ended_status}
 use Rattle.clap_debug_cli.proofs.Statuses.{is_usage, is_program_refused, is_log_refused, is_schedule_refused, is_limit, is_read_fault, is_write_fault}
 use Rattle.clap_debug_cli.proofs.Statuses.{is_no_memory, is_step_limit, no_ending}
@@ -97,37 +79,14 @@ no_work _ _ h = h
 pub cause_of : (words : List (List ℕ)) (old new : ShelfTells) (call : Called) (a : Answer) → call_of words ≡ Some call
     → IsCauseOf call old new a → IsCause words old new a
 cause_of words old new call Usage taken h = absurd (no_work call h.0 h.3.1)
-cause_of words old new call NoMemory taken h = tt
-cause_of words old new call (ReadFault name) taken h = called_of _ (call_of words) call taken h
-cause_of words old new call (TooLong i) taken h = called_of _ (call_of words) call taken h
-cause_of words old new call (ProgramRefused r) taken h = called_of _ (call_of words) call taken h
-cause_of words old new call (LogRefused r) taken h = called_of _ (call_of words) call taken h
-cause_of words old new call (ScheduleRefused n) taken h = called_of _ (call_of words) call taken h
-cause_of words old new call (Listed code) taken h = called_of _ (call_of words) call taken h
-cause_of words old new call (Replayed v) taken h = called_of _ (call_of words) call taken h
-cause_of words old new call (RunFailed f) taken h = called_of _ (call_of words) call taken h
-cause_of words old new call (RunEnded e) taken h = called_of _ (call_of words) call taken h
-cause_of words old new call (LogOver e) taken h = called_of _ (call_of words) call taken h
-cause_of words old new call Migrated taken h = called_of _ (call_of words) call taken h
-cause_of words old new call (WriteFault name) taken h = called_of _ (call_of words) call taken h
+cause_of words old new call NoMemory taken h = inr (called_of (λ c. IsCauseOf c old new NoMemory) (call_of words) call taken h)
+cause_of words old new call _ taken h = called_of _ (call_of words) call taken h
 
 -- what is said without memory for the line
 pub no_more : (a : Answer) (status : ℕ) (j k : SinkTells) → SaysNoMore a status j k
     → ((name : List ℕ) × (a ≡ WriteFault name) × (status ≡ 8) × (k ≡ j)) ⊎ ((status ≡ 9) × PutsAtMostNoMemory j k) ⊎ ((status ≡ 8) × FailsToPut j k NoMemory)
 no_more (WriteFault name) status j k h = inl (name, refl, h.0, h.1)
-no_more Usage status j k h = inr h
-no_more (ReadFault _) status j k h = inr h
-no_more (TooLong _) status j k h = inr h
-no_more (ProgramRefused _) status j k h = inr h
-no_more (LogRefused _) status j k h = inr h
-no_more (ScheduleRefused _) status j k h = inr h
-no_more (Listed _) status j k h = inr h
-no_more (Replayed _) status j k h = inr h
-no_more (RunFailed _) status j k h = inr h
-no_more (RunEnded _) status j k h = inr h
-no_more (LogOver _) status j k h = inr h
-no_more Migrated status j k h = inr h
-no_more NoMemory status j k h = inr h
+no_more _ status j k h = inr h
 
 -- its status
 no_more_status : (a : Answer) (status : ℕ) (j k : SinkTells) → SaysNoMore a status j k → (status ≡ 8) ⊎ (status ≡ 9)
@@ -157,23 +116,38 @@ put_at a status j k says eight nine = from (said_status a status j k says)
 
 -- the shelf after the causes of answers
 
-given_held : (ws : List Wanted) (old s : ShelfTells) (t : Texts) → GaveAll ws old s t → s.held ≡ old.held
-given_held [] old s [] g = ap (λ x. x.held) g
-given_held [] old s (t ∷ ts) g = absurd g
-given_held (w ∷ ws) old s [] g = absurd g
-given_held (w ∷ ws) old s (t ∷ ts) g = given_held ws g.0 s ts g.2 ∙ ap (λ x. x.held) g.1.1
-
 module _ (call : Called) (name : List ℕ) (own : (n : List ℕ) → IsOutput call n → n ≡ name) (old new : ShelfTells) where
   -- a result that was kept stands there
   holds_result : (t : Texts) (s : ShelfTells) → GaveAll (inputs_of call) old s t → KeepsResult call t s new → Holds call name old new
   holds_result t s gave k =
       let held : new.held ≡ put_under name k.1 old.held =
-      ap (λ x. x.held) k.4 ∙ ap (put_under k.0 k.1) (given_held (inputs_of call) old s t gave) ∙ ap (λ n. put_under n k.1 old.held) (own k.0 k.2) in
+      ap (λ x. x.held) k.4 ∙ ap (put_under k.0 k.1) (given_still (inputs_of call) old s t gave).0 ∙ ap (λ n. put_under n k.1 old.held) (own k.0 k.2) in
       (t, s, gave, k.1, k.3, held)
 
   -- and after a keep that failed maybe a part of it
   loses_result : (lost : List ℕ) → IsCauseOf call old new (WriteFault lost) → Loses call name old new
   loses_result lost c = (c.0, c.1, c.2, c.4.1, c.4.2, subst (λ n. KeptPart c.1 new n c.4.1) (own lost c.4.0) c.4.3)
+
+-- where the shelf counted a fault, and its last is of a keep, the answer is that of a keep that failed
+wrote_of : (call : Called) (old new : ShelfTells) (b : Answer) → IsCauseOf call old new b → new.faults ≢ old.faults → (name : List ℕ)
+    → new.last_fault ≡ Some (Writing name) → b ≡ WriteFault name
+wrote_of call old new (ReadFault n) c rose name last =
+    let e : Some (Reading n) ≡ Some (Writing name) = sym (failed_still (inputs_of call) old new n c).2 ∙ last in
+    cc
+wrote_of call old new (TooLong i) c rose name last = absurd (rose (passed_still (inputs_of call) old new i c).1)
+wrote_of call old new NoMemory c rose name last = absurd (rose c.1)
+wrote_of call old new (WriteFault n) c rose name last =
+    let e : Some (Writing n) ≡ Some (Writing name) = sym (ap (λ x. x.last_fault) c.4.3.2) ∙ last in
+    cc
+wrote_of call old new (RunFailed f) c rose name last =
+    absurd (rose (ap (λ x. x.faults) c.4.4 ∙ (given_still (inputs_of call) old c.1 c.0 c.2).1))
+wrote_of call old new Migrated c rose name last = absurd (rose (ap (λ x. x.faults) c.4.4 ∙ (given_still (inputs_of call) old c.1 c.0 c.2).1))
+wrote_of call old new _ c rose name last = absurd (rose (ap (λ x. x.faults) c.4 ∙ (given_still (inputs_of call) old c.1 c.0 c.2).1))
+
+-- what follows for each call
+for_call : (o : Option Called) (P : Called → Type 0) (Q : Type 0) → ((call : Called) → P call → Q) → IsSomeAnd o P → Q
+for_call None P Q h c = absurd c
+for_call (Some call) P Q h c = h call c
 
 -- where the words ask for a call
 if_called : (o : Option Called) (P : Called → Type 0) → ((call : Called) → o ≡ Some call → P call) → IfSome o P
@@ -207,24 +181,24 @@ no_verdict (Migrates _ _ _) name o (program ∷ log ∷ []) v f = f.2.2.1
 no_verdict _ name o _ v f = f
 
 module _ (words : List (List ℕ)) (old new : ShelfTells) (a : Answer) (status : ℕ) (j k : SinkTells) (cause : IsCause words old new a)
-    (says : Says a status j k) (unused : call_of words ≡ None → new ≡ old) (kept : KeptNothing a old new) where
+    (says : Says a status j k) where
   -- a keep failed, or a put did
   abbrev Fails : Type 0
   Fails = ((name : List ℕ) × IsCause words old new (WriteFault name) × PutsPart j k (WriteFault name))
-      ⊎ ((b : Answer) × IsCause words old new b × FailsToPut j k b)
+      ⊎ ((b : Answer) × IsCause words old new b × (FailsToPut j k b ⊎ FailsToPut j k NoMemory))
 
   lost_at : (name : List ℕ) → a ≡ WriteFault name → PutsPart j k a → Fails
   lost_at name e puts = inl (name, subst (IsCause words old new) e cause, subst (PutsPart j k) e puts)
 
   failed_at : Says a status j k → status ≡ 8 → Fails
   failed_at (inl done) h = let e = is_write_fault a (sym done.0 ∙ h) in lost_at e.0 e.1 (inl done.1)
-  failed_at (inr (inl failed)) h = inr (a, cause, failed.1)
+  failed_at (inr (inl failed)) h = inr (a, cause, inl failed.1)
   failed_at (inr (inr none)) h =
       elim (no_more a status j k none) [
         | inl lost ↦ lost_at lost.0 lost.1 (inr (inr lost.3))
         | inr said ↦ elim said [
           | inl wanted ↦ absurd (omega (arith, h, wanted.0))
-          | inr failed ↦ inr (NoMemory, tt, failed.1)
+          | inr failed ↦ inr (a, cause, inr failed.1)
         ]
       ]
 
@@ -239,6 +213,24 @@ module _ (words : List (List ℕ)) (old new : ShelfTells) (a : Answer) (status :
           | inr failed ↦ absurd (omega (arith, h, failed.0))
         ]
       ]
+
+  wrote : (b : Answer) → IsCause words old new b → new.faults ≢ old.faults → (name : List ℕ) → new.last_fault ≡ Some (Writing name) → b ≡ WriteFault name
+  wrote Usage c rose name last = absurd (rose (ap (λ x. x.faults) c.1))
+  wrote NoMemory (inl same) rose name last = absurd (rose (ap (λ x. x.faults) same))
+  wrote NoMemory (inr c) rose name last = for_call (call_of words) _ _ (λ call d. wrote_of call old new NoMemory d rose name last) c
+  wrote b c rose name last = for_call (call_of words) _ _ (λ call d. wrote_of call old new b d rose name last) c
+
+  lost_says : (name : List ℕ) → Says (WriteFault name) status j k → (status ≡ 8) × PutsPart j k (WriteFault name)
+  lost_says name (inl done) = (done.0, inl done.1)
+  lost_says name (inr (inl failed)) = (failed.0, inr (inl failed.1))
+  lost_says name (inr (inr none)) = (none.0, inr (inr none.1))
+
+  failed_keep_at : new.faults ≢ old.faults → (name : List ℕ) → new.last_fault ≡ Some (Writing name)
+      → (status ≡ 8) × IsCause words old new (WriteFault name) × PutsPart j k (WriteFault name)
+  failed_keep_at rose name last =
+      let e : a ≡ WriteFault name = wrote a cause rose name last in
+      let s = lost_says name (subst (λ b. Says b status j k) e says) in
+      (s.0, subst (IsCause words old new) e cause, s.1)
 
   answer_at : (status ≡ 8 → ⊥) → (status ≡ 9 → ⊥) → (b : Answer) × IsCause words old new b × (status ≡ status_of b) × Puts j k b
   answer_at eight nine =
@@ -274,18 +266,14 @@ module _ (words : List (List ℕ)) (old new : ShelfTells) (a : Answer) (status :
   only_usage_of : (b : Answer) → IsCause words old new b → call_of words ≡ None → (status_of b ≡ 2) ⊎ (status_of b ≡ 9)
   only_usage_of Usage c none = inl refl
   only_usage_of NoMemory c none = inr refl
-  only_usage_of (ReadFault name) c none = absurd (uncalled _ (call_of words) none c)
-  only_usage_of (TooLong i) c none = absurd (uncalled _ (call_of words) none c)
-  only_usage_of (ProgramRefused r) c none = absurd (uncalled _ (call_of words) none c)
-  only_usage_of (LogRefused r) c none = absurd (uncalled _ (call_of words) none c)
-  only_usage_of (ScheduleRefused n) c none = absurd (uncalled _ (call_of words) none c)
-  only_usage_of (Listed code) c none = absurd (uncalled _ (call_of words) none c)
-  only_usage_of (Replayed v) c none = absurd (uncalled _ (call_of words) none c)
-  only_usage_of (RunFailed f) c none = absurd (uncalled _ (call_of words) none c)
-  only_usage_of (RunEnded e) c none = absurd (uncalled _ (call_of words) none c)
-  only_usage_of (LogOver e) c none = absurd (uncalled _ (call_of words) none c)
-  only_usage_of Migrated c none = absurd (uncalled _ (call_of words) none c)
-  only_usage_of (WriteFault name) c none = absurd (uncalled _ (call_of words) none c)
+  only_usage_of _ c none = absurd (uncalled _ (call_of words) none c)
+
+  -- and the shelf is as before
+  unused : (b : Answer) → IsCause words old new b → call_of words ≡ None → new ≡ old
+  unused Usage c none = c.1
+  unused NoMemory (inl same) none = same
+  unused NoMemory (inr c) none = absurd (uncalled _ (call_of words) none c)
+  unused _ c none = absurd (uncalled _ (call_of words) none c)
 
   only_usage_at : (status_of a ≡ 2) ⊎ (status_of a ≡ 9) → (status ≡ 2) ⊎ (status ≡ 8) ⊎ (status ≡ 9)
   only_usage_at own =
@@ -303,29 +291,26 @@ module _ (words : List (List ℕ)) (old new : ShelfTells) (a : Answer) (status :
   abbrev IsKept : Answer → Type 0
   IsKept b = Keeps b ⊎ ((name : List ℕ) × (b ≡ WriteFault name)) ⊎ (new.held ≡ old.held)
 
-  what_is_kept : (b : Answer) → KeptNothing b old new → IsKept b
-  what_is_kept (RunFailed f) h = inl tt
-  what_is_kept Migrated h = inl tt
-  what_is_kept (WriteFault name) h = inr (inl (name, refl))
-  what_is_kept Usage h = inr (inr h)
-  what_is_kept (ReadFault _) h = inr (inr h)
-  what_is_kept (TooLong _) h = inr (inr h)
-  what_is_kept (ProgramRefused _) h = inr (inr h)
-  what_is_kept (LogRefused _) h = inr (inr h)
-  what_is_kept (ScheduleRefused _) h = inr (inr h)
-  what_is_kept (Listed _) h = inr (inr h)
-  what_is_kept (Replayed _) h = inr (inr h)
-  what_is_kept (RunEnded _) h = inr (inr h)
-  what_is_kept (LogOver _) h = inr (inr h)
-  what_is_kept NoMemory h = inr (inr h)
-
-  is_kept : IsKept a
-  is_kept = what_is_kept a kept
-
   module _ (call : Called) (taken : call_of words ≡ Some call) where
     -- the cause of an answer that only a call has
     called_cause : (b : Answer) → IsSomeAnd (call_of words) (λ c. IsCauseOf c old new b) → IsCauseOf call old new b
     called_cause b c = called_now (λ c. IsCauseOf c old new b) (call_of words) call taken c
+
+    what_is_kept : (b : Answer) → IsCause words old new b → IsKept b
+    what_is_kept (RunFailed f) c = inl tt
+    what_is_kept Migrated c = inl tt
+    what_is_kept (WriteFault name) c = inr (inl (name, refl))
+    what_is_kept Usage c = inr (inr (ap (λ x. x.held) c.1))
+    what_is_kept NoMemory (inl same) = inr (inr (ap (λ x. x.held) same))
+    what_is_kept NoMemory (inr c) = inr (inr (called_cause NoMemory c).0)
+    what_is_kept (ReadFault name) c = inr (inr (failed_still (inputs_of call) old new name (called_cause (ReadFault name) c)).0)
+    what_is_kept (TooLong i) c = inr (inr (passed_still (inputs_of call) old new i (called_cause (TooLong i) c)).0)
+    what_is_kept b c =
+        let d = called_cause b c in
+        inr (inr (ap (λ x. x.held) d.4 ∙ (given_still (inputs_of call) old d.1 d.0 d.2).0))
+
+    is_kept : IsKept a
+    is_kept = what_is_kept a cause
 
     -- what was kept is a result
     kept_result : (b : Answer) → Keeps b → IsCause words old new b
@@ -418,10 +403,11 @@ module _ (words : List (List ℕ)) (old new : ShelfTells) (a : Answer) (status :
   pub call_answers : CallAnswers words old new status j k
   call_answers = record {
     usage = usage_at;
-    only_usage = λ none. (unused none, only_usage_at (only_usage_of a cause none));
+    only_usage = λ none. (unused a cause none, only_usage_at (only_usage_of a cause none));
     limit = limit_at;
     read_fault = read_fault_at;
     write_fault = failed_at says;
+    failed_keep = failed_keep_at;
     no_memory = wanted_at says;
     answer = answer_at;
     leaves = if_called (call_of words) (λ call. Leaves call status old new) leaves_of;

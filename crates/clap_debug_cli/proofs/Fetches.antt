@@ -1,25 +1,69 @@
 -- From the fetch of one input to the fetches of all, and from what the shelf gave to what it tells.
 use Rattle.std.proofs.Common.{arith, ◌≡◌, ◌∙◌, refl, ap, ap₂, subst, inl, inr, ℕ, ◌<◌, ◌≤◌, List, [], ◌∷◌, length, map, Some}
 use Rattle.std.specs.Prelude.{IfSome}
-use Rattle.tc_io.specs.Outside.{Files, ShelfTells, bytes_at}
-use Rattle.clap_debug_cli.specs.Inputs.{Wanted, Texts, limit_of, GaveInput, GaveAll, PassesLimit, IsTooLong, AreWithin}
-use Rattle.clap_debug_cli.specs.Fetched.{IsWhyMissing, IsWhyNone}
+use Rattle.tc_io.specs.Outside.{Files, Reading, ShelfTells, bytes_at, counted_on}
+use Rattle.clap_debug_words.specs.Calls.{Called}
+use Rattle.clap_debug_cli.specs.Causes.{HeldStill, IsCauseOf}
+use Rattle.clap_debug_cli.specs.Inputs.{Wanted, Texts, inputs_of, limit_of, GaveInput, GaveAll, FailsToRead, PassesLimit, IsTooLong, AreWithin}
+use Rattle.clap_debug_cli.specs.helpers.Refused.{IsWhyMissing}
+use Rattle.clap_debug_cli.specs.declared.answer.Answer.{Answer}
+use Rattle.clap_debug_cli.specs.declared.answer.Answer.TheVariants.{ReadFault, TooLong, NoMemory}
 use Rattle.clap_debug_cli.specs.declared.input.Input.{Input}
-use Rattle.clap_debug_cli.specs.declared.input.Missing.{Missing}
-use Rattle.clap_debug_cli.specs.declared.input.Missing.TheVariants.{Read, TooLong, Memory}
+
+-- why not all of these could be had
+abbrev pub IsWhyNone : List Wanted → ShelfTells → ShelfTells → Answer → Type 0
+IsWhyNone ws old new (ReadFault name) = FailsToRead ws old new name
+IsWhyNone ws old new (TooLong i) = PassesLimit ws old new i
+IsWhyNone ws old new NoMemory = HeldStill old new
+IsWhyNone ws old new _ = ⊥
 
 -- why the first couldn't be had is why not all could
-pub missing_first : (w : Wanted) (ws : List Wanted) (old new : ShelfTells) (m : Missing) → IsWhyMissing w old new m → IsWhyNone (w ∷ ws) old new m
-missing_first w ws old new (Read n) h = inl h
+pub missing_first : (w : Wanted) (ws : List Wanted) (old new : ShelfTells) (a : Answer) → IsWhyMissing w old new a → IsWhyNone (w ∷ ws) old new a
+missing_first w ws old new (ReadFault name) h = inl h
 missing_first w ws old new (TooLong i) h = inl h
-missing_first w ws old new Memory h = tt
+missing_first w ws old new NoMemory h = h
+missing_first w ws old new _ h = absurd h
 
 -- where the first was given, why not all others could be had is why not all could
-pub missing_later : (w : Wanted) (ws : List Wanted) (old s new : ShelfTells) (bytes : List ℕ) (m : Missing) → GaveInput w old s bytes → IsWhyNone ws s new m
-    → IsWhyNone (w ∷ ws) old new m
-missing_later w ws old s new bytes (Read n) g h = inr (s, bytes, g, h)
+pub missing_later : (w : Wanted) (ws : List Wanted) (old s new : ShelfTells) (bytes : List ℕ) (a : Answer) → GaveInput w old s bytes → IsWhyNone ws s new a
+    → IsWhyNone (w ∷ ws) old new a
+missing_later w ws old s new bytes (ReadFault name) g h = inr (s, bytes, g, h)
 missing_later w ws old s new bytes (TooLong i) g h = inr (s, bytes, g, h)
-missing_later w ws old s new bytes Memory g h = tt
+missing_later w ws old s new bytes NoMemory g h = (h.0 ∙ ap (λ x. x.held) g.1, h.1 ∙ ap (λ x. x.faults) g.1)
+missing_later w ws old s new bytes _ g h = absurd h
+
+-- and then it is the cause of the answer that says so
+pub missing_cause : (call : Called) (old new : ShelfTells) (a : Answer) → IsWhyNone (inputs_of call) old new a → IsCauseOf call old new a
+missing_cause call old new (ReadFault name) h = h
+missing_cause call old new (TooLong i) h = h
+missing_cause call old new NoMemory h = h
+missing_cause call old new _ h = absurd h
+
+-- a shelf that gave inputs holds what it held, and counted no fault
+pub given_still : (ws : List Wanted) (old s : ShelfTells) (t : Texts) → GaveAll ws old s t → HeldStill old s
+given_still [] old s [] g = (ap (λ x. x.held) g, ap (λ x. x.faults) g)
+given_still [] old s (t ∷ ts) g = absurd g
+given_still (w ∷ ws) old s [] g = absurd g
+given_still (w ∷ ws) old s (t ∷ ts) g =
+    let rest = given_still ws g.0 s ts g.2 in
+    (rest.0 ∙ ap (λ x. x.held) g.1.1, rest.1 ∙ ap (λ x. x.faults) g.1.1)
+
+-- one that failed to give one holds what it held, counted one fault, and tells of that read
+pub failed_still : (ws : List Wanted) (old new : ShelfTells) (name : List ℕ) → FailsToRead ws old new name
+    → (new.held ≡ old.held) × (new.faults ≡ counted_on old.faults 1) × (new.last_fault ≡ Some (Reading name))
+failed_still [] old new name f = absurd f
+failed_still (w ∷ ws) old new name (inl f) = (ap (λ x. x.held) f.1.2, ap (λ x. x.faults) f.1.2, ap (λ x. x.last_fault) f.1.2)
+failed_still (w ∷ ws) old new name (inr f) =
+    let rest = failed_still ws f.0 new name f.3 in
+    (rest.0 ∙ ap (λ x. x.held) f.2.1, rest.1 ∙ ap (λ x. counted_on x.faults 1) f.2.1, rest.2)
+
+-- and one that has one too long holds what it held, and counted no fault
+pub passed_still : (ws : List Wanted) (old new : ShelfTells) (i : Input) → PassesLimit ws old new i → HeldStill old new
+passed_still [] old new i p = absurd p
+passed_still (w ∷ ws) old new i (inl p) = (ap (λ x. x.held) p.1.0, ap (λ x. x.faults) p.1.0)
+passed_still (w ∷ ws) old new i (inr p) =
+    let rest = passed_still ws p.0 new i p.3 in
+    (rest.0 ∙ ap (λ x. x.held) p.2.1, rest.1 ∙ ap (λ x. x.faults) p.2.1)
 
 -- a shelf that gave bytes holds what it held
 gave_held : (w : Wanted) (old new : ShelfTells) (bytes : List ℕ) → GaveInput w old new bytes → new.held ≡ old.held

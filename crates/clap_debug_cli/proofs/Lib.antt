@@ -1,4 +1,3 @@
-pub mod OnePrograms
 pub mod OneFiles
 pub mod OneRun
 pub mod Statuses

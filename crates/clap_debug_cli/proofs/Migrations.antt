@@ -14,11 +14,11 @@ use Rattle.path_log.specs.Texts.{StoredLog, is_digest, log_text}
 use Rattle.tc_record.specs.Logged.{is_small}
 use Rattle.tc_record.specs.declared.end.Which.TheVariants.{Threads, Depth}
 use Rattle.tc_record.proofs.Sizes.{recorded_size}
-use Rattle.clap_debug_cli.specs.Answers.{Migrated}
+use Rattle.clap_debug_cli.specs.declared.answer.Answer.TheVariants.{Migrated}
 use Rattle.clap_debug_cli.specs.Causes.{IsMigrateAnswer}
 use Rattle.clap_debug_cli.specs.Files.{IsLog}
 use Rattle.clap_debug_cli.specs.Migrated.{IsMigrated, excess, excess_of, too_deep}
-use Rattle.clap_debug_cli.specs.Recorded.{with_digest}
+use Rattle.clap_debug_cli.specs.Recorded.{most_log_bytes, with_digest}
 use Rattle.clap_debug_cli.proofs.OneFiles.{one_log}
 
 -- what is kept is an answer, and an answer is kept
@@ -106,7 +106,7 @@ module _ (program log text : List ℕ) (m : IsMigrated program log text) where
     kept_whole e = text_is ∙ ap (λ o. log_text (record { digest = o; log = run.log })) (sym e) ∙ sym is.text
 
   -- it isn't too long to be read
-  pub kept_short : length text ≤ 4194304
+  pub kept_short : length text ≤ most_log_bytes
   kept_short =
       let size = recorded_size (sha256 program) m.run.log (sha256_is program) m.logs.has_text.is_of_format (small m.run.log m.within) in
       omega (arith, size, ap length m.is_text)

@@ -12,16 +12,17 @@ use Rattle.schedule_replay.specs.declared.verdict.Verdict.{Verdict}
 use Rattle.schedule_replay.proofs.OneVerdict.{one_verdict}
 use Rattle.clap_debug_words.specs.Calls.{Called, Lists, Replays, Records, Migrates}
 use Rattle.clap_debug_cli.specs.Files.{IsOfOther, Schedule}
-use Rattle.clap_debug_cli.specs.Answers.{Answer, TooLong, ProgramRefused, LogRefused, ScheduleRefused, Listed, Replayed, RunFailed, RunEnded}
+use Rattle.clap_debug_cli.specs.declared.answer.Answer.{Answer}
+use Rattle.clap_debug_cli.specs.declared.answer.Answer.TheVariants.{TooLong, ProgramRefused, LogRefused, ScheduleRefused, Listed, Replayed, RunFailed, RunEnded}
 use Rattle.clap_debug_cli.specs.Causes.{IsListAnswer, IsRecordAnswer, IsReplayed, IsLogRefused, IsScheduleRefused, IsReplayAnswer, IsWorkOf, IsAnswerTo}
 use Rattle.clap_debug_cli.specs.Inputs.{Texts, inputs_of}
-use Rattle.clap_debug_cli.specs.Programs.{IsRefusal}
+use Rattle.tc_compile.specs.Programs.{IsRefusal}
 use Rattle.clap_debug_cli.specs.declared.answer.LogRefusal.{LogRefusal}
 use Rattle.clap_debug_cli.specs.declared.answer.LogRefusal.TheVariants.{Form, OtherProgram, Unfit}
 use Rattle.clap_debug_cli.proofs.Fetches.{not_within, one_too_long}
 use Rattle.clap_debug_cli.proofs.OneMigration.{one_migrate_answer}
 use Rattle.clap_debug_cli.proofs.OneFiles.{one_log, log_or_fault, one_schedule, schedule_or_fault}
-use Rattle.clap_debug_cli.proofs.OnePrograms.{one_code, one_refusal, refused_no_code}
+use Rattle.tc_compile.proofs.OnePrograms.{one_code, one_refusal, refused_no_code}
 use Rattle.clap_debug_cli.proofs.OneRun.{one_failure, one_ending, failed_or_ended}
 
 -- the verdict on what a schedule does with a log

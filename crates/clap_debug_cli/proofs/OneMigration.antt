@@ -14,11 +14,12 @@ use Rattle.path_walk.specs.Fits.{IsFirst, misfit_of}
 use Rattle.path_walk.specs.declared.fault.Misfit.{Misfit}
 use Rattle.path_log.specs.Texts.{StoredLog}
 use Rattle.path_log.proofs.Logs as logs
-use Rattle.clap_debug_cli.specs.Answers.{Answer, ProgramRefused, LogRefused, LogOver, Migrated}
+use Rattle.clap_debug_cli.specs.declared.answer.Answer.{Answer}
+use Rattle.clap_debug_cli.specs.declared.answer.Answer.TheVariants.{ProgramRefused, LogRefused, LogOver, Migrated}
 use Rattle.clap_debug_cli.specs.Causes.{IsFitAnswer, IsStoredAnswer, IsLogAnswer, IsMigrateAnswer}
 use Rattle.clap_debug_cli.specs.declared.answer.LogRefusal.TheVariants.{Form, OtherProgram, Unfit}
 use Rattle.clap_debug_cli.proofs.OneFiles.{one_log, log_or_fault}
-use Rattle.clap_debug_cli.proofs.OnePrograms.{one_code, one_refusal, refused_no_code}
+use Rattle.tc_compile.proofs.OnePrograms.{one_code, one_refusal, refused_no_code}
 
 module _ (code : Code) (log : Log) where
   -- the least name that has a fault is one name, with one fault

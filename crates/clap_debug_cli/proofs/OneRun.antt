@@ -9,10 +9,10 @@ use Rattle.tc_record.specs.declared.end.End.TheVariants as end
 use Rattle.tc_record.specs.declared.end.Which.{Which}
 use Rattle.clap_debug_cli.specs.Recorded.{HasFailed, HasEnded, FailsSo, EndsSo, end_status, run_of}
 use Rattle.clap_debug_cli.specs.Answers.{ending_status}
-use Rattle.clap_debug_cli.specs.declared.run.Ending.{Ending}
-use Rattle.clap_debug_cli.specs.declared.run.Ending.TheVariants.{Finished, Deadlock, StepLimit, Over}
-use Rattle.clap_debug_cli.specs.declared.run.Failure.{Failure}
-use Rattle.clap_debug_cli.proofs.OnePrograms.{one_code}
+use Rattle.clap_debug_cli.specs.declared.answer.Ending.{Ending}
+use Rattle.clap_debug_cli.specs.declared.answer.Ending.TheVariants.{Finished, Deadlock, StepLimit, Over}
+use Rattle.clap_debug_cli.specs.declared.answer.Failure.{Failure}
+use Rattle.tc_compile.proofs.OnePrograms.{one_code}
 
 module _ {B : Type 0} (code : Code) (run : Ended B) where
   failed_once : (f g : Failure) → HasFailed code run f → HasFailed code run g → f ≡ g

@@ -1,7 +1,8 @@
 -- Which answers have a status.
 use Rattle.std.proofs.Common.{◌≡◌, ◌≢◌, ◌≤◌, ◌⊎◌, inl, inr, refl, sym, ap, arith, ℕ, List}
-use Rattle.clap_debug_cli.specs.Answers.{Answer, Usage, ReadFault, TooLong, ProgramRefused, LogRefused, ScheduleRefused, Replayed}
-use Rattle.clap_debug_cli.specs.Answers.{RunEnded, LogOver, WriteFault, NoMemory, status_of, verdict_status, ending_status}
+use Rattle.clap_debug_cli.specs.Answers.{status_of, verdict_status, ending_status}
+use Rattle.clap_debug_cli.specs.declared.answer.Answer.{Answer}
+use Rattle.clap_debug_cli.specs.declared.answer.Answer.TheVariants.{Usage, ReadFault, TooLong, ProgramRefused, LogRefused, ScheduleRefused, Replayed, RunEnded, LogOver, WriteFault, NoMemory}
 use Rattle.tc_parser.specs.declared.fault.TextFault.{TextFault}
 use Rattle.schedule_replay.specs.declared.verdict.Verdict.{Verdict}
 use Rattle.clap_debug_cli.specs.declared.answer.LogRefusal.{LogRefusal}
@@ -9,8 +10,8 @@ use Rattle.schedule_replay.specs.declared.verdict.Verdict.TheVariants as verdict
 use Rattle.clap_debug_cli.specs.declared.answer.Excess.{Excess}
 use Rattle.clap_debug_cli.specs.declared.input.Input.{Input}
 use Rattle.tc_record.specs.declared.end.Which.{Which}
-use Rattle.clap_debug_cli.specs.declared.run.Ending.{Ending}
-use Rattle.clap_debug_cli.specs.declared.run.Ending.TheVariants.{Finished, Deadlock, StepLimit, Over}
+use Rattle.clap_debug_cli.specs.declared.answer.Ending.{Ending}
+use Rattle.clap_debug_cli.specs.declared.answer.Ending.TheVariants.{Finished, Deadlock, StepLimit, Over}
 
 pub verdict_status-le : (v : Verdict) → verdict_status v ≤ 1
 verdict_status-le verdict.Reproduces = omega arith

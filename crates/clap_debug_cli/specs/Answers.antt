@@ -2,49 +2,38 @@
 use Rattle.std.specs.Prelude.{ℕ, ◌+◌, List, ◌++◌, codes}
 use Rattle.std.specs.Fmt.{decimal}
 use Rattle.tc_base.specs.Names.{name_text}
-use Rattle.tc_code.specs.Code.{Code}
 use Rattle.tc_code.specs.Listing.{listing_of}
 use Rattle.tc_machine.specs.Why.{why_text}
-use Rattle.clap_debug_cli.specs.Inputs.{limit_of, input_text}
-use Rattle.clap_debug_cli.specs.Programs.{refusal_line}
-use Rattle.tc_parser.specs.declared.fault.TextFault.{TextFault}
-use Rattle.schedule_replay.specs.declared.verdict.Verdict.{Verdict}
+use Rattle.path_walk.specs.Misfits.{misfit_text}
+use Rattle.tc_parser.specs.Faults.{text_fault_text}
 use Rattle.tc_record.specs.Ends.{limit_of as most_of}
 use Rattle.tc_record.specs.declared.end.Which.{Which}
 use Rattle.tc_record.specs.declared.end.Which.TheVariants.{Threads, Depth, Steps}
+use Rattle.schedule_replay.specs.declared.verdict.Verdict.{Verdict}
+use Rattle.schedule_replay.specs.declared.verdict.Verdict.TheVariants as verdict
+use Rattle.clap_debug_cli.specs.Inputs.{limit_of, input_text}
+use Rattle.clap_debug_cli.specs.declared.answer.Answer.{Answer}
+use Rattle.clap_debug_cli.specs.declared.answer.Answer.TheVariants.{
+  Usage,
+  ReadFault,
+  TooLong,
+  ProgramRefused,
+  LogRefused,
+  ScheduleRefused,
+  Listed,
+  Replayed,
+  RunFailed,
+  RunEnded,
+  LogOver,
+  Migrated,
+  WriteFault,
+  NoMemory,
+}
+use Rattle.clap_debug_cli.specs.declared.answer.Ending.{Ending}
+use Rattle.clap_debug_cli.specs.declared.answer.Ending.TheVariants.{Finished, Deadlock, StepLimit, Over}
+use Rattle.clap_debug_cli.specs.declared.answer.Failure.{Failure}
 use Rattle.clap_debug_cli.specs.declared.answer.LogRefusal.{LogRefusal}
 use Rattle.clap_debug_cli.specs.declared.answer.LogRefusal.TheVariants.{Form, OtherProgram, Unfit}
-use Rattle.clap_debug_cli.specs.declared.answer.Excess.{Excess}
-use Rattle.path_walk.specs.declared.fault.Misfit.{Misfit}
-use Rattle.path_walk.specs.declared.fault.Misfit.TheVariants.{Missing, Stranger, OutcomesShort, OutcomesLeft, PastExit, NotASite}
-use Rattle.schedule_replay.specs.declared.verdict.Verdict.TheVariants as verdict
-use Rattle.clap_debug_cli.specs.declared.input.Input.{Input}
-use Rattle.clap_debug_cli.specs.declared.run.Ending.{Ending}
-use Rattle.clap_debug_cli.specs.declared.run.Ending.TheVariants.{Finished, Deadlock, StepLimit, Over}
-use Rattle.clap_debug_cli.specs.declared.run.Failure.{Failure}
-
-pub data Answer : Type 0 where
-  -- the words aren't taken
-  Usage : Answer
-  -- an input couldn't be read
-  ReadFault : (name : List ℕ) → Answer
-  -- an input has more bytes than its limit
-  TooLong : (input : Input) → Answer
-  -- an input is none of its kind
-  ProgramRefused : (fault : TextFault) → Answer
-  LogRefused : (refusal : LogRefusal) → Answer
-  ScheduleRefused : (line : ℕ) → Answer
-  Listed : (code : Code) → Answer
-  Replayed : (verdict : Verdict) → Answer
-  -- a recorded run failed, or ended otherwise
-  RunFailed : (failure : Failure) → Answer
-  RunEnded : (ending : Ending) → Answer
-  -- a log has more than it may have, or its text in format 2 was kept
-  LogOver : (excess : Excess) → Answer
-  Migrated : Answer
-  -- a result couldn't be kept under this name
-  WriteFault : (name : List ℕ) → Answer
-  NoMemory : Answer
 
 abbrev pub verdict_line : Verdict → List ℕ
 verdict_line verdict.Reproduces = codes "reproduces\n"
@@ -73,14 +62,6 @@ ending_line Deadlock = codes "deadlock\n"
 ending_line (StepLimit moves) = codes "no failure in " ++ (decimal moves ++ codes " moves\n")
 ending_line (Over which) = over_line which (most_of which + 1)
 
-abbrev pub misfit_text : Misfit → List ℕ
-misfit_text Missing = codes "Missing"
-misfit_text Stranger = codes "Stranger"
-misfit_text OutcomesShort = codes "OutcomesShort"
-misfit_text OutcomesLeft = codes "OutcomesLeft"
-misfit_text PastExit = codes "PastExit"
-misfit_text NotASite = codes "NotASite"
-
 -- where the log's form breaks, or that it is another program's, or what is wrong with one of its threads
 abbrev pub log_refusal_text : LogRefusal → List ℕ
 log_refusal_text (Form offset) = codes "form at " ++ decimal offset
@@ -103,7 +84,7 @@ line_of Usage = usage_text
 line_of (ReadFault name) = codes "read fault: " ++ (name ++ codes "\n")
 line_of (TooLong i) = codes "limit " ++ (input_text i ++
     (codes "-bytes " ++ (decimal (limit_of i + 1) ++ (codes " of " ++ (decimal (limit_of i) ++ codes "\n")))))
-line_of (ProgramRefused r) = refusal_line r
+line_of (ProgramRefused r) = codes "program refused: " ++ (text_fault_text r ++ codes "\n")
 line_of (LogRefused r) = codes "log refused: " ++ (log_refusal_text r ++ codes "\n")
 line_of (ScheduleRefused n) = codes "schedule refused: line " ++ (decimal n ++ codes "\n")
 line_of (Listed code) = listing_of code

@@ -1,11 +1,19 @@
 -- What a call of the program answers, over what the shelf and the sink tell before and after it.
-use Rattle.std.specs.Prelude.{◌≡◌, ◌≢◌, ℕ, ◌≤◌, ◌⊎◌, List, length, Option, None, IfSome}
+use Rattle.std.specs.Prelude.{◌≡◌, ◌≢◌, ℕ, ◌≤◌, ◌⊎◌, List, length, Option, Some, None, IfSome}
 use Rattle.tc_code.specs.Code.{Code}
 use Rattle.tc_base.specs.declared.model.Model.{Model}
-use Rattle.tc_io.specs.Outside.{Files, ShelfTells, SinkTells, Wrote, WrotePart, KeptPart, bytes_at, put_under}
+use Rattle.tc_io.specs.Outside.{Files, ShelfTells, SinkTells, Writing, Wrote, WrotePart, KeptPart, bytes_at, put_under}
 use Rattle.clap_debug_words.specs.Calls.{Called, Lists, Replays, Records, Migrates, call_of}
-use Rattle.clap_debug_cli.specs.Answers.{
-  Answer,
+use Rattle.clap_debug_cli.specs.Answers.{ending_status, line_of, status_of}
+use Rattle.clap_debug_cli.specs.Causes.{IsCause, IsAnswerTo, IsWorkOf, IsResult, IsReplayed, IsLogRefused, IsScheduleRefused, IsMigrateAnswer}
+use Rattle.clap_debug_cli.specs.Inputs.{Texts, GaveAll, inputs_of, limit_of, IsTooLong}
+use Rattle.clap_debug_cli.specs.Migrated.{IsMigrated}
+use Rattle.tc_compile.specs.Programs.{IsCodeOf, IsRefusal}
+use Rattle.clap_debug_cli.specs.Recorded.{FailsSo, EndsSo, end_status, run_of}
+use Rattle.tc_parser.specs.declared.fault.TextFault.{TextFault}
+use Rattle.schedule_replay.specs.declared.verdict.Verdict.{Verdict}
+use Rattle.clap_debug_cli.specs.declared.answer.Answer.{Answer}
+use Rattle.clap_debug_cli.specs.declared.answer.Answer.TheVariants.{
   Usage,
   ReadFault,
   TooLong,
@@ -20,26 +28,16 @@ use Rattle.clap_debug_cli.specs.Answers.{
   Migrated,
   WriteFault,
   NoMemory,
-  ending_status,
-  line_of,
-  status_of,
 }
-use Rattle.clap_debug_cli.specs.Causes.{IsCause, IsAnswerTo, IsWorkOf, IsResult, IsReplayed, IsLogRefused, IsScheduleRefused, IsMigrateAnswer}
-use Rattle.clap_debug_cli.specs.Inputs.{Texts, GaveAll, inputs_of, limit_of, IsTooLong}
-use Rattle.clap_debug_cli.specs.Migrated.{IsMigrated}
-use Rattle.clap_debug_cli.specs.Programs.{IsCodeOf, IsRefusal}
-use Rattle.clap_debug_cli.specs.Recorded.{FailsSo, EndsSo, end_status, run_of}
-use Rattle.tc_parser.specs.declared.fault.TextFault.{TextFault}
-use Rattle.schedule_replay.specs.declared.verdict.Verdict.{Verdict}
 use Rattle.clap_debug_cli.specs.declared.answer.LogRefusal.{LogRefusal}
 use Rattle.schedule_replay.specs.declared.verdict.Verdict.TheVariants as verdict
 use Rattle.tc_record.specs.declared.end.Which.{Which}
 use Rattle.clap_debug_cli.specs.declared.answer.Excess.{Excess}
 use Rattle.clap_debug_cli.specs.declared.input.Input.{Input}
 use Rattle.clap_debug_cli.specs.declared.input.Input.TheVariants as input
-use Rattle.clap_debug_cli.specs.declared.run.Ending.{Ending}
-use Rattle.clap_debug_cli.specs.declared.run.Ending.TheVariants.{StepLimit, Over}
-use Rattle.clap_debug_cli.specs.declared.run.Failure.{Failure}
+use Rattle.clap_debug_cli.specs.declared.answer.Ending.{Ending}
+use Rattle.clap_debug_cli.specs.declared.answer.Ending.TheVariants.{StepLimit, Over}
+use Rattle.clap_debug_cli.specs.declared.answer.Failure.{Failure}
 
 -- the answer's line stands at the end of what was written
 abbrev pub Puts : SinkTells → SinkTells → Answer → Type 0
@@ -102,9 +100,12 @@ pub record CallAnswers (words : List (List ℕ)) (old new : ShelfTells) (status 
       ⊎ ((which : Which) × IsCause words old new (RunEnded (Over which)) × Puts before after (RunEnded (Over which)))
       ⊎ ((e : Excess) × IsCause words old new (LogOver e) × Puts before after (LogOver e))
   pub read_fault : status ≡ 7 → (name : List ℕ) × IsCause words old new (ReadFault name) × Puts before after (ReadFault name)
-  -- a keep failed, or a put did
+  -- a keep failed, or a put did, of the answer or of the line that there is no memory for it
   pub write_fault : status ≡ 8 → ((name : List ℕ) × IsCause words old new (WriteFault name) × PutsPart before after (WriteFault name))
-      ⊎ ((a : Answer) × IsCause words old new a × FailsToPut before after a)
+      ⊎ ((a : Answer) × IsCause words old new a × (FailsToPut before after a ⊎ FailsToPut before after NoMemory))
+  -- where a keep failed the status is 8 whatever follows, and no more is written than `write fault:` and the name
+  pub failed_keep : new.faults ≢ old.faults → (name : List ℕ) → new.last_fault ≡ Some (Writing name)
+      → (status ≡ 8) × IsCause words old new (WriteFault name) × PutsPart before after (WriteFault name)
   pub no_memory : status ≡ 9 → PutsAtMostNoMemory before after
   -- in all other cases an answer was put with its status, and has its cause
   pub answer : (status ≡ 8 → ⊥) → (status ≡ 9 → ⊥) → (a : Answer) × IsCause words old new a × (status ≡ status_of a) × Puts before after a

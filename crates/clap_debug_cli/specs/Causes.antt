@@ -1,5 +1,5 @@
 -- Why an answer is given: what the words are, what the shelf did, and what the bytes that it gave say.
-use Rattle.std.specs.Prelude.{◌≡◌, ℕ, List, [], ◌∷◌, Some, None, IsSomeAnd}
+use Rattle.std.specs.Prelude.{◌≡◌, ◌⊎◌, ℕ, ◌≤◌, List, [], ◌∷◌, length, Some, None, IsSomeAnd}
 use Rattle.tc_base.specs.declared.model.Model.{Model}
 use Rattle.tc_base.specs.Buffers.{buffer_of}
 use Rattle.tc_base.specs.Logs.{Log}
@@ -11,8 +11,14 @@ use Rattle.schedule_file.specs.Faults.{BreaksAt as ScheduleBreaksAt}
 use Rattle.schedule_replay.specs.Verdicts.{IsVerdict}
 use Rattle.path_walk.specs.Fits.{Fits, IsFirst}
 use Rattle.clap_debug_words.specs.Calls.{Called, Lists, Replays, Records, Migrates, call_of}
-use Rattle.clap_debug_cli.specs.Answers.{
-  Answer,
+use Rattle.clap_debug_cli.specs.Files.{IsLog, IsOfOther, Schedule, IsSchedule}
+use Rattle.clap_debug_cli.specs.Inputs.{Texts, inputs_of, AreWithin, IsTooLong, GaveAll, FailsToRead, PassesLimit}
+use Rattle.tc_compile.specs.Programs.{IsCodeOf, IsRefusal}
+use Rattle.clap_debug_cli.specs.Recorded.{FailsSo, EndsSo, IsRecorded, most_log_bytes}
+use Rattle.clap_debug_cli.specs.Migrated.{IsMigrated, excess_of}
+use Rattle.schedule_replay.specs.declared.verdict.Verdict.{Verdict}
+use Rattle.clap_debug_cli.specs.declared.answer.Answer.{Answer}
+use Rattle.clap_debug_cli.specs.declared.answer.Answer.TheVariants.{
   Usage,
   ReadFault,
   TooLong,
@@ -28,12 +34,6 @@ use Rattle.clap_debug_cli.specs.Answers.{
   WriteFault,
   NoMemory,
 }
-use Rattle.clap_debug_cli.specs.Files.{IsLog, IsOfOther, Schedule, IsSchedule}
-use Rattle.clap_debug_cli.specs.Inputs.{Texts, inputs_of, AreWithin, IsTooLong, GaveAll, FailsToRead, PassesLimit}
-use Rattle.clap_debug_cli.specs.Programs.{IsCodeOf, IsRefusal}
-use Rattle.clap_debug_cli.specs.Recorded.{FailsSo, EndsSo, IsRecorded}
-use Rattle.clap_debug_cli.specs.Migrated.{IsMigrated, excess_of}
-use Rattle.schedule_replay.specs.declared.verdict.Verdict.{Verdict}
 use Rattle.clap_debug_cli.specs.declared.answer.LogRefusal.{LogRefusal}
 use Rattle.clap_debug_cli.specs.declared.answer.LogRefusal.TheVariants.{Form, OtherProgram, Unfit}
 
@@ -121,10 +121,10 @@ abbrev pub IsAnswerTo : Called → Texts → Answer → Type 0
 IsAnswerTo call t (TooLong i) = IsTooLong (inputs_of call) t i
 IsAnswerTo call t a = AreWithin (inputs_of call) t × IsWorkOf call t a
 
--- what a command may keep of its inputs: `record` the text of the log of a run that failed, `migrate` that of the log in format 2
+-- what a command may keep of its inputs: `record` the text of the log of a run that failed, `migrate` that of the log in format 2, which isn't long
 abbrev pub IsResult : Called → Texts → List ℕ → Type 0
 IsResult (Records _ _ model seed steps) (program ∷ []) text = IsRecorded program model seed steps text
-IsResult (Migrates _ _ _) (program ∷ log ∷ []) text = IsMigrated program log text
+IsResult (Migrates _ _ _) (program ∷ log ∷ []) text = IsMigrated program log text × (length text ≤ most_log_bytes)
 IsResult _ _ text = ⊥
 
 -- the name under which a command keeps it, and whether this is that name
@@ -147,11 +147,15 @@ DoesWith call t _ old new = new ≡ old
 abbrev pub FailsToKeep : Called → Texts → ShelfTells → ShelfTells → List ℕ → Type 0
 FailsToKeep call t old new name = IsOutput call name × (text : List ℕ) × IsResult call t text × KeptPart old new name text
 
+-- nothing was kept, and no fault was counted
+abbrev pub HeldStill : ShelfTells → ShelfTells → Type 0
+HeldStill old new = (new.held ≡ old.held) × (new.faults ≡ old.faults)
+
 -- why an answer is given to a call
 abbrev pub IsCauseOf : Called → ShelfTells → ShelfTells → Answer → Type 0
 IsCauseOf call old new (ReadFault name) = FailsToRead (inputs_of call) old new name
 IsCauseOf call old new (TooLong i) = PassesLimit (inputs_of call) old new i
-IsCauseOf call old new NoMemory = Unit {0}
+IsCauseOf call old new NoMemory = HeldStill old new
 IsCauseOf call old new (WriteFault name) =
     (t : Texts) × (s : ShelfTells) × GaveAll (inputs_of call) old s t × AreWithin (inputs_of call) t × FailsToKeep call t s new name
 IsCauseOf call old new a = (t : Texts) × (s : ShelfTells) × GaveAll (inputs_of call) old s t × IsAnswerTo call t a × DoesWith call t a s new
@@ -159,5 +163,5 @@ IsCauseOf call old new a = (t : Texts) × (s : ShelfTells) × GaveAll (inputs_of
 -- why an answer is given to words
 abbrev pub IsCause : List (List ℕ) → ShelfTells → ShelfTells → Answer → Type 0
 IsCause words old new Usage = (call_of words ≡ None) × (new ≡ old)
-IsCause words old new NoMemory = Unit {0}
+IsCause words old new NoMemory = (new ≡ old) ⊎ IsSomeAnd (call_of words) (λ call. IsCauseOf call old new NoMemory)
 IsCause words old new a = IsSomeAnd (call_of words) (λ call. IsCauseOf call old new a)

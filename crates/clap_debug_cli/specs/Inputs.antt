@@ -1,5 +1,6 @@
 -- The files that a command reads, and what becomes of their fetches.
-use Rattle.std.specs.Prelude.{◌≡◌, ◌⊎◌, ℕ, ◌+◌, ◌<◌, ◌≤◌, List, [], ◌∷◌, length, map, codes}
+use Rattle.std.specs.Prelude.{◌≡◌, ◌⊎◌, ℕ, ◌<◌, ◌≤◌, List, [], ◌∷◌, length, map, codes}
+use Rattle.tc_base.specs.declared.limits.TheConstants.{PROGRAM_BYTES, LOG_BYTES, SCHEDULE_BYTES}
 use Rattle.tc_io.specs.Outside.{Files, ShelfTells, Gave, FailedToGive, WasTooLong, bytes_at}
 use Rattle.clap_debug_words.specs.Calls.{Called, Lists, Replays, Records, Migrates}
 use Rattle.clap_debug_cli.specs.declared.input.Input.{Input}
@@ -7,9 +8,9 @@ use Rattle.clap_debug_cli.specs.declared.input.Input.TheVariants.{Program, Log, 
 
 -- the most bytes of an input
 abbrev pub limit_of : Input → ℕ
-limit_of Program = 65536
-limit_of Log = 4194304
-limit_of Schedule = 67108864
+limit_of Program = PROGRAM_BYTES
+limit_of Log = LOG_BYTES
+limit_of Schedule = SCHEDULE_BYTES
 
 abbrev pub input_text : Input → List ℕ
 input_text Program = codes "program"

@@ -1,4 +1,3 @@
-pub mod Programs
 pub mod Files
 pub mod Inputs
 pub mod Recorded
@@ -6,7 +5,4 @@ pub mod Migrated
 pub mod Answers
 pub mod Causes
 pub mod Call
-pub mod Held
-pub mod Fetched
-pub mod Judged
-pub mod Ran
+pub mod helpers

@@ -9,7 +9,7 @@ use Rattle.tc_record.specs.Ends.{limit_of}
 use Rattle.tc_record.specs.declared.end.Which.{Which}
 use Rattle.tc_record.specs.declared.end.Which.TheVariants.{Threads, Depth}
 use Rattle.clap_debug_cli.specs.Files.{IsLog, IsOfOther}
-use Rattle.clap_debug_cli.specs.Programs.{IsCodeOf}
+use Rattle.tc_compile.specs.Programs.{IsCodeOf}
 use Rattle.clap_debug_cli.specs.Recorded.{with_digest}
 use Rattle.clap_debug_cli.specs.declared.answer.Excess.{Excess}
 

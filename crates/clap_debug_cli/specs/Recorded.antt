@@ -12,12 +12,10 @@ use Rattle.tc_record.specs.Logged.{IsLogOf}
 use Rattle.tc_record.specs.Seeded.{Ended, seeded_run}
 use Rattle.tc_record.specs.declared.end.End.{End}
 use Rattle.tc_record.specs.declared.end.End.TheVariants as end
-use Rattle.clap_debug_cli.specs.Inputs.{limit_of}
-use Rattle.clap_debug_cli.specs.Programs.{IsCodeOf}
-use Rattle.clap_debug_cli.specs.declared.input.Input.TheVariants as input
-use Rattle.clap_debug_cli.specs.declared.run.Ending.{Ending}
-use Rattle.clap_debug_cli.specs.declared.run.Ending.TheVariants.{Finished, Deadlock, StepLimit, Over}
-use Rattle.clap_debug_cli.specs.declared.run.Failure.{Failure}
+use Rattle.tc_compile.specs.Programs.{IsCodeOf}
+use Rattle.clap_debug_cli.specs.declared.answer.Ending.{Ending}
+use Rattle.clap_debug_cli.specs.declared.answer.Ending.TheVariants.{Finished, Deadlock, StepLimit, Over}
+use Rattle.clap_debug_cli.specs.declared.answer.Failure.{Failure}
 
 -- the run of a code by moves that a seed chooses, under a memory model
 abbrev pub run_of : (model : Model) → Code → (seed steps : ℕ) → Ended (BufferOf model)
@@ -41,6 +39,10 @@ HasEnded run (Over which) = run.end ≡ end.Over which
 abbrev pub with_digest : List ℕ → Log → StoredLog
 with_digest program log = record { digest = Some (sha256 program); log = log }
 
+-- the most bytes of the text of a log of a run, about half of those that a log may have
+abbrev pub most_log_bytes : ℕ
+most_log_bytes = 2097385
+
 -- the text of the log of a run that failed, with the program's digest: the moves of the run reproduce that log
 pub record IsLogText {B : Type 0} (ops : BufferOps B) (model : Model) (program : List ℕ) (code : Code) (run : Ended B) (text : List ℕ) : Type 0 where
   pub log : Log
@@ -49,8 +51,7 @@ pub record IsLogText {B : Type 0} (ops : BufferOps B) (model : Model) (program :
   pub reproduced : Reproduces ops code log run.moves
   pub has_text : HasText (with_digest program log)
   pub is_text : text ≡ log_text (with_digest program log)
-  -- it can be read again
-  pub within : length text ≤ limit_of input.Log
+  pub short : length text ≤ most_log_bytes
 
 -- the run of the program that the text is failed so
 abbrev pub FailsSo : List ℕ → Model → (seed steps : ℕ) → Failure → Type 0

@@ -1,4 +1,4 @@
-//! Answers: the line and the status of each.
+//! Answers: what they are, and the line and the status of each.
 ghost use Rattle.std.specs.Prelude.{◌≡◌, IfOk, IsOkAnd, string_bytes};
 ghost use Rattle.clap_debug_cli.specs.Inputs.{input_text};
 ghost use Rattle.clap_debug_cli.specs.Answers.{
@@ -7,7 +7,6 @@ ghost use Rattle.clap_debug_cli.specs.Answers.{
   verdict_line,
   verdict_status,
   log_refusal_text,
-  misfit_text,
   over_line,
   usage_text,
   which_text,
@@ -15,19 +14,53 @@ ghost use Rattle.clap_debug_cli.specs.Answers.{
   ending_line,
   ending_status,
 };
-ghost use Rattle.clap_debug_cli.specs.Answers as plain;
-ghost use Rattle.clap_debug_cli.specs.Held.{plain_answer};
+ghost use Rattle.clap_debug_cli.specs.declared.answer.Answer.TheVariants as answer;
 
-use crate::input::{Input, Missing};
-use crate::program::refusal_line;
-use crate::run::{Ending, Failure};
-use path_walk::Misfit;
+use crate::input::Input;
+use path_log::LogFault;
+use path_walk::{Misfit, WalkFault};
+use schedule_file::ScheduleFault;
 use schedule_replay::Verdict;
 use std::alloc::{AllocError, Global};
+use std::fmt;
+use std::marker::Model;
 use tc_base::ThreadName;
 use tc_code::{Code, listing};
+use tc_compile::CompileFault;
 use tc_parser::TextFault;
-use tc_record::Which;
+use tc_record::{SeededFault, Which};
+
+/// The name of a file, which contracts see as its bytes.
+#[derive(Drop)]
+pub(crate) struct FileName<'a> {
+    text: &'a str,
+}
+
+impl<'a> Model for FileName<'a> {
+    ghost use Rattle.std.specs.Prelude.{List, ℕ};
+
+    ghost Value = { List ℕ };
+
+    ghost view = { λ n. n.text.now };
+}
+
+impl<'a> FileName<'a> {
+    pub(crate) fn new(text: &'a str) -> FileName<'a>
+        ensures { result ≡ text.now }
+    {
+        FileName { text }
+    }
+}
+
+impl<'a> fmt::Display for FileName<'a> {
+    ghost use Rattle.std.specs.Prelude.{Some};
+
+    ghost output = { λ n. Some n };
+
+    fn fmt<W: fmt::Write>(&self, f: &mut fmt::Formatter<W>) -> fmt::Result {
+        f.write_str(self.text)
+    }
+}
 
 /// Why a log isn't taken.
 #[derive(Debug, Drop)]
@@ -47,13 +80,37 @@ pub(crate) struct Excess {
     pub(crate) number: usize,
 }
 
+/// A failure of a run.
+#[derive(Debug, Drop)]
+pub(crate) struct Failure {
+    /// The thread that failed.
+    pub(crate) name: ThreadName,
+    /// The line of its failing instruction, from 1.
+    pub(crate) line: u32,
+    /// How many moves were made, drains too.
+    pub(crate) moves: usize,
+}
+
+/// How a run ended in which no thread failed.
+#[derive(Clone, Copy, Debug, PartialEq, Eq)]
+pub(crate) enum Ending {
+    /// Every thread exited.
+    Finished,
+    /// No move was enabled, and not every thread had exited.
+    Deadlock,
+    /// It made as many moves as it might.
+    StepLimit(usize),
+    /// It had one more of these than it might.
+    Over(Which),
+}
+
 /// What is answered.
 #[derive(Drop)]
 pub(crate) enum Answer<'a> {
     /// The words aren't taken.
     Usage,
     /// The file of this name couldn't be read.
-    ReadFault(&'a str),
+    ReadFault(FileName<'a>),
     /// This file has more bytes than its limit.
     TooLong(Input),
     /// The first file is no program.
@@ -75,23 +132,89 @@ pub(crate) enum Answer<'a> {
     /// The log is kept in format 2.
     Migrated,
     /// A result couldn't be kept under this name.
-    WriteFault(&'a str),
+    WriteFault(FileName<'a>),
     /// There is no memory.
     NoMemory,
 }
 
-impl<'a> From<Missing<'a>> for Answer<'a> {
+impl<'a> From<CompileFault> for Answer<'a> {
     ghost use Rattle.std.specs.Prelude.{◌≡◌};
-    ghost use Rattle.clap_debug_cli.specs.Held.{missing_answer};
+    ghost use Rattle.clap_debug_cli.specs.helpers.Faults.{compile_answer};
 
-    ghost from_gives = { λ missing answer. answer ≡ missing_answer missing };
+    ghost from_gives = { λ fault answer. answer ≡ compile_answer fault };
 
-    fn from(missing: Missing<'a>) -> Self {
-        match missing {
-            Missing::Read(name) => Answer::ReadFault(name),
-            Missing::TooLong(input) => Answer::TooLong(input),
-            Missing::Memory => Answer::NoMemory,
+    fn from(fault: CompileFault) -> Self {
+        match fault {
+            CompileFault::Refused(fault) => Answer::ProgramRefused(fault),
+            CompileFault::Memory => Answer::NoMemory,
         }
+    }
+}
+
+impl<'a> From<LogFault> for Answer<'a> {
+    ghost use Rattle.std.specs.Prelude.{◌≡◌};
+    ghost use Rattle.clap_debug_cli.specs.helpers.Faults.{log_answer};
+
+    ghost from_gives = { λ fault answer. answer ≡ log_answer fault };
+
+    fn from(fault: LogFault) -> Self {
+        match fault {
+            LogFault::Form(offset) => Answer::LogRefused(LogRefusal::Form(offset)),
+            LogFault::Memory => Answer::NoMemory,
+        }
+    }
+}
+
+impl<'a> From<ScheduleFault> for Answer<'a> {
+    ghost use Rattle.std.specs.Prelude.{◌≡◌};
+    ghost use Rattle.clap_debug_cli.specs.helpers.Faults.{schedule_answer};
+
+    ghost from_gives = { λ fault answer. answer ≡ schedule_answer fault };
+
+    fn from(fault: ScheduleFault) -> Self {
+        match fault {
+            ScheduleFault::Form(line) => Answer::ScheduleRefused(line),
+            ScheduleFault::Memory => Answer::NoMemory,
+        }
+    }
+}
+
+impl<'a> From<WalkFault> for Answer<'a> {
+    ghost use Rattle.std.specs.Prelude.{◌≡◌};
+    ghost use Rattle.clap_debug_cli.specs.helpers.Faults.{walk_answer};
+
+    ghost from_gives = { λ fault answer. answer ≡ walk_answer fault };
+
+    fn from(fault: WalkFault) -> Self {
+        match fault {
+            WalkFault::Unfit(name, misfit) => Answer::LogRefused(LogRefusal::Unfit(name, misfit)),
+            WalkFault::Memory => Answer::NoMemory,
+        }
+    }
+}
+
+impl<'a> From<SeededFault> for Answer<'a> {
+    ghost use Rattle.std.specs.Prelude.{◌≡◌};
+    ghost use Rattle.clap_debug_cli.specs.helpers.Faults.{seeded_answer};
+
+    ghost from_gives = { λ fault answer. answer ≡ seeded_answer fault };
+
+    fn from(fault: SeededFault) -> Self {
+        match fault {
+            SeededFault::Limit(which, _, _) => Answer::RunEnded(Ending::Over(which)),
+            SeededFault::Memory => Answer::NoMemory,
+        }
+    }
+}
+
+impl<'a> From<AllocError> for Answer<'a> {
+    ghost use Rattle.std.specs.Prelude.{◌≡◌};
+    ghost use Rattle.clap_debug_cli.specs.declared.answer.Answer.TheVariants.{NoMemory};
+
+    ghost from_gives = { λ _ answer. answer ≡ NoMemory };
+
+    fn from(_error: AllocError) -> Self {
+        Answer::NoMemory
     }
 }
 
@@ -107,14 +230,14 @@ const USAGE: &str = concat!(
 
 /// What is written.
 pub(crate) fn line(alloc: Global, answer: &Answer) -> Result<Vec<u8>, AllocError>
-    ensures { IfOk result (λ text. text.items ≡ line_of (plain_answer answer.now)) }
+    ensures { IfOk result (λ text. text.items ≡ line_of answer.now) }
 {
     match answer {
         Answer::Listed(code) => listing(alloc, code),
         Answer::Usage => bytes(usage(alloc)),
         Answer::ReadFault(name) => bytes(format!(in alloc; "read fault: {name}\n")),
         Answer::TooLong(input) => bytes(limit_line(alloc, *input)),
-        Answer::ProgramRefused(fault) => bytes(refusal_line(alloc, *fault)),
+        Answer::ProgramRefused(fault) => bytes(format!(in alloc; "program refused: {fault}\n")),
         Answer::LogRefused(refusal) => bytes(log_refusal_line(alloc, refusal)),
         Answer::ScheduleRefused(line) => bytes(format!(in alloc;
             "schedule refused: line {line}\n"
@@ -143,7 +266,7 @@ fn usage(alloc: Global) -> Result<String, AllocError>
 }
 
 fn log_refusal_line(alloc: Global, refusal: &LogRefusal) -> Result<String, AllocError>
-    ensures { IfOk result (λ text. string_bytes text ≡ line_of (plain.LogRefused refusal.now)) }
+    ensures { IfOk result (λ text. string_bytes text ≡ line_of (answer.LogRefused refusal.now)) }
 {
     let refusal = log_refusal_text(alloc, refusal)?;
     format!(in alloc; "log refused: {refusal}\n")
@@ -155,28 +278,12 @@ fn log_refusal_text(alloc: Global, refusal: &LogRefusal) -> Result<String, Alloc
     match refusal {
         LogRefusal::Form(offset) => format!(in alloc; "form at {offset}"),
         LogRefusal::OtherProgram => String::from_str(alloc, "other program"),
-        LogRefusal::Unfit(name, misfit) => {
-            let misfit = misfit_text(*misfit);
-            format!(in alloc; "{misfit} {name}")
-        }
-    }
-}
-
-fn misfit_text(misfit: Misfit) -> &'static str
-    ensures { result.now ≡ misfit_text misfit }
-{
-    match misfit {
-        Misfit::Missing => "Missing",
-        Misfit::Stranger => "Stranger",
-        Misfit::OutcomesShort => "OutcomesShort",
-        Misfit::OutcomesLeft => "OutcomesLeft",
-        Misfit::PastExit => "PastExit",
-        Misfit::NotASite => "NotASite",
+        LogRefusal::Unfit(name, misfit) => format!(in alloc; "{misfit} {name}"),
     }
 }
 
 fn limit_line(alloc: Global, input: Input) -> Result<String, AllocError>
-    ensures { IfOk result (λ text. string_bytes text ≡ line_of (plain.TooLong input)) }
+    ensures { IfOk result (λ text. string_bytes text ≡ line_of (answer.TooLong input)) }
 {
     let limit = input.limit();
     let past = limit + 1;
@@ -244,7 +351,7 @@ fn which_text(which: Which) -> &'static str
 
 /// The status that the call ends with.
 pub(crate) fn status(answer: &Answer) -> u8
-    ensures { result ≡ status_of (plain_answer answer.now) }
+    ensures { result ≡ status_of answer.now }
 {
     match answer {
         Answer::Listed(_) => 0,

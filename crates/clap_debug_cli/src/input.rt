@@ -1,11 +1,17 @@
-//! The files that come in.
-ghost use Rattle.std.specs.Prelude.{◌≡◌, IfOk, IfErr};
-ghost use Rattle.tc_io.specs.Outside.{Gave};
+//! The files that come in, and what they say.
+ghost use Rattle.std.specs.Prelude.{◌≡◌, ◌≤◌, length, IfOk, IfErr, OnOk};
+ghost use Rattle.tc_base.specs.declared.limits.TheConstants.{PROGRAM_BYTES};
+ghost use Rattle.tc_compile.specs.Programs.{IsCodeOf};
+ghost use Rattle.clap_debug_cli.specs.Files.{IsLog, IsOfOther};
 ghost use Rattle.clap_debug_cli.specs.Inputs.{limit_of, wanted, GaveInput};
-ghost use Rattle.clap_debug_cli.specs.Fetched.{IsWhyMissing};
+ghost use Rattle.clap_debug_cli.specs.helpers.Refused.{IsWhyMissing, IsWhyUnread, IsWhyOther};
 
+use crate::answer::{Answer, FileName, LogRefusal};
+use path_log::{Log, program_digest, read_log};
 use std::alloc::Global;
 use tc_base::limits::{LOG_BYTES, PROGRAM_BYTES, SCHEDULE_BYTES};
+use tc_code::Code;
+use tc_compile::compile;
 use tc_io::{FetchFault, Shelf};
 
 /// One of the files.
@@ -29,32 +35,49 @@ impl Input {
     }
 }
 
-/// Why a file couldn't be had.
-#[derive(Drop)]
-pub(crate) enum Missing<'a> {
-    /// The one of this name couldn't be read.
-    Read(&'a str),
-    /// This one has more bytes than its limit.
-    TooLong(Input),
-    /// There is no memory.
-    Memory,
-}
-
-/// Fetches a file.
+/// The bytes of a file.
 pub(crate) fn fetch<'a, H: Shelf>(
     alloc: Global,
     shelf: &mut H,
     input: Input,
     name: &'a str,
-) -> Result<Vec<u8>, Missing<'a>>
+) -> Result<Vec<u8>, Answer<'a>>
     ensures gave { IfOk result (λ bytes. GaveInput (wanted input name.now) (H.tells shelf.old) (H.tells shelf.new) bytes.items) }
     ensures missing { IfErr result (IsWhyMissing (wanted input name.now) (H.tells shelf.old) (H.tells shelf.new)) }
-    ensures kept { (H.tells shelf.new).held ≡ (H.tells shelf.old).held }
 {
     match shelf.fetch(alloc, name, input.limit()) {
         Ok(bytes) => Ok(bytes),
-        Err(FetchFault::Failed) => Err(Missing::Read(name)),
-        Err(FetchFault::TooLong) => Err(Missing::TooLong(input)),
-        Err(FetchFault::Memory) => Err(Missing::Memory),
+        Err(FetchFault::Failed) => Err(Answer::ReadFault(FileName::new(name))),
+        Err(FetchFault::TooLong) => Err(Answer::TooLong(input)),
+        Err(FetchFault::Memory) => Err(Answer::NoMemory),
+    }
+}
+
+/// The code of a program, and a log. Of the files that aren't of their forms the first is told.
+pub(crate) fn read_both<'a>(
+    alloc: Global,
+    program: &[u8],
+    log: &[u8],
+) -> Result<(Code, Log), Answer<'a>>
+    requires { length program.now ≤ PROGRAM_BYTES }
+    ensures code { IfOk result (λ both. IsCodeOf program.now both.0) }
+    ensures log { IfOk result (λ both. IsLog log.now both.1) }
+    ensures answer { IfErr result (IsWhyUnread program.now log.now) }
+{
+    let code = compile(alloc, program)?;
+    let log = read_log(alloc, log)?;
+    Ok((code, log))
+}
+
+/// Tests that a log isn't of another program. One of format 1 may be of any.
+pub(crate) fn of_program<'a>(program: &[u8], log: &Log) -> Result<(), Answer<'a>>
+    ensures same { OnOk result (IsOfOther program.now log.now → ⊥) }
+    ensures other { IfErr result (IsWhyOther program.now log.now) }
+{
+    match log.digest() {
+        Some(digest) if *digest != program_digest(program) => Err(Answer::LogRefused(
+            LogRefusal::OtherProgram,
+        )),
+        _ => Ok(()),
     }
 }

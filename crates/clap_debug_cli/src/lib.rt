@@ -1,25 +1,23 @@
 //! The top call: from the words and the files that come in to the line and the status that go out.
 #![tactic(auto)]
 
-ghost use Rattle.std.specs.Prelude.{◌≡◌, ◌≤◌, ℕ, List, Some, None, length, map, string_bytes};
+ghost use Rattle.std.specs.Prelude.{◌≡◌, ◌≤◌, ℕ, List, Some, length, map, string_bytes};
 ghost use Rattle.sha2.specs.Sha256.{sha256};
 ghost use Rattle.path_log.specs.Texts.{StoredLog};
-ghost use Rattle.clap_debug_words.specs.Calls.{call_of, plain_call};
-ghost use Rattle.clap_debug_cli.specs.Answers as spec;
+ghost use Rattle.clap_debug_words.specs.Calls.{plain_call};
+ghost use Rattle.clap_debug_cli.specs.declared.answer.Answer.TheVariants.{NoMemory};
 ghost use Rattle.clap_debug_cli.specs.Causes.{IsCause, IsCauseOf};
 ghost use Rattle.clap_debug_cli.specs.Call.{IfTold, Says, SaysNoMore, CallAnswers, ToldAnswers, CommandAnswers};
 ghost use Rattle.clap_debug_cli.specs.Files.{IsLog};
-ghost use Rattle.clap_debug_cli.specs.Inputs.{limit_of, texts_under};
+ghost use Rattle.clap_debug_cli.specs.Inputs.{texts_under};
 ghost use Rattle.clap_debug_cli.specs.Migrated.{IsMigrated};
-ghost use Rattle.clap_debug_cli.specs.Recorded.{with_digest};
-ghost use Rattle.clap_debug_cli.specs.declared.input.Input.TheVariants.{Log};
-ghost use Rattle.clap_debug_cli.specs.Held.{plain_answer, KeptNothing};
+ghost use Rattle.clap_debug_cli.specs.Recorded.{most_log_bytes, with_digest};
+ghost use Rattle.clap_debug_cli.specs.helpers.Refused.{IsEither};
 
 mod answer;
 mod commands;
 mod input;
 mod migrate;
-mod program;
 mod replay;
 mod run;
 
@@ -57,29 +55,34 @@ pub fn migrating_keeps_the_log()
     // A log that has the digest stays as it is.
     ensures whole { (program log text : List ℕ) (run : StoredLog) → IsMigrated program log text → IsLog log run → run.digest ≡ Some (sha256 program)
         → text ≡ log }
-    // The text isn't too long for a log's.
-    ensures short { (program log text : List ℕ) → IsMigrated program log text → length text ≤ limit_of Log }
+    // The text isn't too long for a log's: it has at most half of the bytes that a log may have.
+    ensures short { (program log text : List ℕ) → IsMigrated program log text → length text ≤ most_log_bytes }
 {}
 
 /// What is answered to the words.
 fn answered<'a, H: Shelf>(alloc: Global, words: &'a [String], shelf: &mut H) -> Answer<'a>
-    ensures cause { IsCause (map string_bytes words.now) (H.tells shelf.old) (H.tells shelf.new) (plain_answer result) }
-    ensures unused { call_of (map string_bytes words.now) ≡ None → H.tells shelf.new ≡ H.tells shelf.old }
-    ensures kept { KeptNothing (plain_answer result) (H.tells shelf.old) (H.tells shelf.new) }
+    ensures { IsCause (map string_bytes words.now) (H.tells shelf.old) (H.tells shelf.new) result }
 {
-    match call_of(alloc, words) {
-        Ok(Some(call)) => answer_to(alloc, shelf, call),
-        Ok(None) => Answer::Usage,
-        Err(_) => Answer::NoMemory,
+    let call = match call_of(alloc, words) {
+        Ok(Some(call)) => call,
+        Ok(None) => return Answer::Usage,
+        Err(_) => return Answer::NoMemory,
+    };
+    match answer_to(alloc, shelf, call) {
+        Ok(answer) => answer,
+        Err(answer) => answer,
     }
 }
 
 /// What is answered to a call.
-fn answer_to<'a, H: Shelf>(alloc: Global, shelf: &mut H, call: Call<'a>) -> Answer<'a>
-    ensures cause { IsCauseOf (plain_call call.entry) (H.tells shelf.old) (H.tells shelf.new) (plain_answer result) }
-    ensures kept { KeptNothing (plain_answer result) (H.tells shelf.old) (H.tells shelf.new) }
+fn answer_to<'a, H: Shelf>(
+    alloc: Global,
+    shelf: &mut H,
+    call: Call<'a>,
+) -> Result<Answer<'a>, Answer<'a>>
+    ensures { IsEither result (IsCauseOf (plain_call call.entry) (H.tells shelf.old) (H.tells shelf.new)) }
 {
-    let answer = match call {
+    match call {
         Call::List { program } => list_program(alloc, shelf, program),
         Call::Replay {
             program,
@@ -94,16 +97,12 @@ fn answer_to<'a, H: Shelf>(alloc: Global, shelf: &mut H, call: Call<'a>) -> Answ
             steps,
         } => record_run(alloc, shelf, program, log, model, seed, steps),
         Call::Migrate { program, log, out } => migrate_log(alloc, shelf, program, log, out),
-    };
-    match answer {
-        Ok(answer) => answer,
-        Err(missing) => missing.into(),
     }
 }
 
 /// Puts the line of an answer, and gives the status.
 fn say<K: Sink>(alloc: Global, answer: &Answer, sink: &mut K) -> u8
-    ensures { Says (plain_answer answer.now) result (K.tells sink.old) (K.tells sink.new) }
+    ensures { Says answer.now result (K.tells sink.old) (K.tells sink.new) }
 {
     let Ok(text) = line(alloc, answer) else {
         return say_no_more(answer, sink);
@@ -117,7 +116,7 @@ fn say<K: Sink>(alloc: Global, answer: &Answer, sink: &mut K) -> u8
 
 /// Puts that there is no memory for the line, but nothing after a failed keep.
 fn say_no_more<K: Sink>(answer: &Answer, sink: &mut K) -> u8
-    ensures { SaysNoMore (plain_answer answer.now) result (K.tells sink.old) (K.tells sink.new) }
+    ensures { SaysNoMore answer.now result (K.tells sink.old) (K.tells sink.new) }
 {
     match answer {
         Answer::WriteFault(_) => 8,
@@ -127,7 +126,7 @@ fn say_no_more<K: Sink>(answer: &Answer, sink: &mut K) -> u8
 
 /// Puts that there is no memory.
 fn say_no_memory<K: Sink>(sink: &mut K) -> u8
-    ensures { SaysNoMore spec.NoMemory result (K.tells sink.old) (K.tells sink.new) }
+    ensures { SaysNoMore NoMemory result (K.tells sink.old) (K.tells sink.new) }
 {
     match sink.put(b"no memory\n") {
         Ok(()) | Err(PutFault::Memory) => 9,

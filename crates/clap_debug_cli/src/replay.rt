@@ -1,29 +1,41 @@
 //! Replaying a schedule under the memory model that it names.
-ghost use Rattle.std.specs.Prelude.{IfOk, IsTrue, ◌↔◌};
+ghost use Rattle.std.specs.Prelude.{◌≤◌, length, IfOk, IfErr};
 ghost use Rattle.tc_base.specs.Buffers.{buffer_of};
+ghost use Rattle.tc_base.specs.declared.limits.TheConstants.{PROGRAM_BYTES};
 ghost use Rattle.schedule_replay.specs.Verdicts.{IsVerdict};
-ghost use Rattle.clap_debug_cli.specs.Files.{IsOfOther};
+ghost use Rattle.clap_debug_cli.specs.Causes.{IsReplayed, IsReplayAnswer};
+ghost use Rattle.clap_debug_cli.specs.helpers.Refused.{Refuses};
 
-use path_log::{Log, program_digest};
-use schedule_file::Schedule;
+use crate::answer::Answer;
+use crate::input::{of_program, read_both};
+use path_log::Log;
+use schedule_file::{Schedule, read_schedule};
 use schedule_replay::{Verdict, replay};
 use std::alloc::{AllocError, Global};
 use store_buffers::{PsoModel, Sc, TsoModel};
 use tc_base::Model;
 use tc_code::Code;
 
-/// Whether a log has the digest of a program, and it isn't this one's. A log of format 1 has none.
-pub(crate) fn is_of_other(program: &[u8], log: &Log) -> bool
-    ensures { IsTrue result ↔ IsOfOther program.now log.now }
+/// The verdict on a schedule.
+pub(crate) fn replayed<'a>(
+    alloc: Global,
+    program: &[u8],
+    log: &[u8],
+    schedule: &[u8],
+) -> Result<Verdict, Answer<'a>>
+    requires { length program.now ≤ PROGRAM_BYTES }
+    ensures verdict { IfOk result (IsReplayed program.now log.now schedule.now) }
+    ensures answer { IfErr result (Refuses (IsReplayAnswer program.now log.now schedule.now)) }
 {
-    match log.digest() {
-        Some(digest) => *digest != program_digest(program),
-        None => false,
-    }
+    let (code, log) = read_both(alloc, program, log)?;
+    let schedule = read_schedule(alloc, schedule)?;
+    of_program(program, &log)?;
+    let verdict = replay_under(alloc, &code, &log, &schedule)?;
+    Ok(verdict)
 }
 
 /// The first verdict on the schedule that holds.
-pub(crate) fn replay_under(
+fn replay_under(
     alloc: Global,
     code: &Code,
     log: &Log,

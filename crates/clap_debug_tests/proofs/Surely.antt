@@ -3,16 +3,16 @@ use Rattle.std.proofs.Common.{◌≡◌, ap, arith, ℕ, List, Option, Some, Non
 use Rattle.std.specs.Option.{IsSomeAnd}
 use Rattle.tc_io.specs.Outside.{ShelfTells, SinkTells}
 use Rattle.clap_debug_words.specs.Calls.{Called}
-use Rattle.clap_debug_cli.specs.Answers.{Answer, WriteFault}
 use Rattle.clap_debug_cli.specs.Causes.{IsCauseOf}
 use Rattle.clap_debug_cli.specs.Call.{FailsToPut}
-use Rattle.clap_debug_cli.specs.Inputs.{inputs_of, FailsToRead}
-use Rattle.clap_debug_cli.proofs.Faults.{counts_one, keep_counts_one}
+use Rattle.clap_debug_cli.specs.declared.answer.Answer.{Answer}
+use Rattle.clap_debug_cli.specs.declared.answer.Answer.TheVariants.{ReadFault, WriteFault}
+use Rattle.clap_debug_cli.proofs.Faults.{fetch_counts_one, keep_counts_one}
 
-pub never_fails_to_read : (o : Option Called) (old new : ShelfTells) (name : List ℕ) → IsSomeAnd o (λ call. FailsToRead (inputs_of call) old new name)
+pub never_fails_to_read : (o : Option Called) (old new : ShelfTells) (name : List ℕ) → IsSomeAnd o (λ call. IsCauseOf call old new (ReadFault name))
     → old.faults ≡ 0 → new.faults ≡ 0 → ⊥
 never_fails_to_read None old new name f none still = absurd f
-never_fails_to_read (Some call) old new name f none still = let counted = counts_one (inputs_of call) old new name f in omega (arith, counted, none, still)
+never_fails_to_read (Some call) old new name f none still = let counted = fetch_counts_one call old new name f in omega (arith, counted, none, still)
 
 pub never_fails_to_keep : (o : Option Called) (old new : ShelfTells) (name : List ℕ) → IsSomeAnd o (λ call. IsCauseOf call old new (WriteFault name))
     → old.faults ≡ 0 → new.faults ≡ 0 → ⊥

@@ -1,5 +1,4 @@
 use Rattle.std.proofs.Common.{map, string_bytes}
-use Rattle.clap_debug_cli.specs.Held.{plain_answer}
 use Rattle.clap_debug_cli.proofs.Calls.{call_answers, told_answers, command_answers}
 use Rattle.clap_debug_cli.proofs.clap_debug.Goals as goal
 
@@ -8,22 +7,21 @@ returns-clause-call g c =
     let words = map string_bytes c.args.words.now in
     let old = g.H.Shelf.tells c.args.shelf.now in
     let new = g.H.Shelf.tells c.answered-answer.new.shelf in
-    let answered = c.answered-answer.ensures in
-    call_answers words old new (plain_answer c.answered-answer.result) c.say.result (g.K.Sink.tells c.args.sink.now) (g.K.Sink.tells c.say.new.sink)
-    answered.cause c.say.ensures answered.unused answered.kept
+    call_answers words old new c.answered-answer.result c.say.result (g.K.Sink.tells c.args.sink.now) (g.K.Sink.tells c.say.new.sink)
+    c.answered-answer.ensures c.say.ensures
 
 pub returns-clause-told : goal.returns-clause-told
 returns-clause-told g c =
     let words = map string_bytes c.args.words.now in
     let old = g.H.Shelf.tells c.args.shelf.now in
     let new = g.H.Shelf.tells c.answered-answer.new.shelf in
-    told_answers words old new (plain_answer c.answered-answer.result) c.say.result (g.K.Sink.tells c.args.sink.now) (g.K.Sink.tells c.say.new.sink)
-    c.answered-answer.ensures.cause c.say.ensures
+    told_answers words old new c.answered-answer.result c.say.result (g.K.Sink.tells c.args.sink.now) (g.K.Sink.tells c.say.new.sink)
+    c.answered-answer.ensures c.say.ensures
 
 pub returns-clause-command : goal.returns-clause-command
 returns-clause-command g c =
     let words = map string_bytes c.args.words.now in
     let old = g.H.Shelf.tells c.args.shelf.now in
     let new = g.H.Shelf.tells c.answered-answer.new.shelf in
-    command_answers words old new (plain_answer c.answered-answer.result) c.say.result (g.K.Sink.tells c.args.sink.now) (g.K.Sink.tells c.say.new.sink)
-    c.answered-answer.ensures.cause c.say.ensures
+    command_answers words old new c.answered-answer.result c.say.result (g.K.Sink.tells c.args.sink.now) (g.K.Sink.tells c.say.new.sink)
+    c.answered-answer.ensures c.say.ensures

@@ -1,11 +1,19 @@
-use Rattle.std.proofs.Common.{subst}
-use Rattle.clap_debug_cli.specs.Held.{plain_answer}
-use Rattle.clap_debug_cli.specs.Judged.{IsListedSo}
-use Rattle.clap_debug_cli.proofs.Causes.{list_cause}
+use Rattle.std.proofs.Common.{rules, refl, [], ◌∷◌}
+use Rattle.clap_debug_words.specs.Calls.{Lists}
+use Rattle.clap_debug_cli.proofs.Causes.{uncoded_list, work_cause}
 use Rattle.clap_debug_cli.proofs.commands.list_program.Goals as goal
 
-pub returns-clause-cause : goal.returns-clause-cause
-returns-clause-cause g c =
-    let answer = plain_answer c.listed.result in
-    list_cause c.args.program.now (g.H.Shelf.tells c.args.shelf.now) (g.H.Shelf.tells c.fetch.new.shelf) c.in_ok-program.program.items answer
-    c.in_ok-program.ensures.gave (subst (λ program. IsListedSo program answer) c.deref.ensures.value c.listed.ensures)
+pub returns-in_err-code : goal.returns-in_err-code
+returns-in_err-code g c =
+    let program = c.in_ok-program.program.items in
+    let gave = c.in_ok-program.ensures.gave in
+    let new = g.H.Shelf.tells c.fetch.new.shelf in
+    let why = work_cause (Lists c.args.program.now) (program ∷ []) (g.H.Shelf.tells c.args.shelf.now) new (new, gave, refl) (gave.0, tt) _
+    (uncoded_list program _ (rw c.deref.ensures.value at c.in_err-code.ensures.refused)) in
+    search rules
+
+pub returns : goal.returns
+returns g c =
+    let gave = c.in_ok-program.ensures.gave in
+    let new = g.H.Shelf.tells c.fetch.new.shelf in
+    (c.in_ok-program.program.items ∷ [], new, (new, gave, refl), ((gave.0, tt), rw c.deref.ensures.value at c.in_ok-code.ensures.found), refl)

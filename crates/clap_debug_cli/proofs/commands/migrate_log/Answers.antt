@@ -1,46 +1,65 @@
-use Rattle.std.proofs.Common.{rules, subst, [], ◌∷◌}
-use Rattle.clap_debug_cli.specs.Answers.{Migrated}
-use Rattle.clap_debug_cli.specs.Held.{plain_answer}
+use Rattle.std.proofs.Common.{rules, refl, [], ◌∷◌}
+use Rattle.clap_debug_words.specs.Calls.{Migrates}
 use Rattle.clap_debug_cli.specs.Inputs.{wanted}
-use Rattle.clap_debug_cli.specs.Judged.{IsWhyNot}
 use Rattle.clap_debug_cli.specs.Migrated.{IsMigrated}
-use Rattle.clap_debug_cli.specs.Ran.{KeepsSo}
 use Rattle.clap_debug_cli.specs.declared.input.Input.TheVariants as input
-use Rattle.clap_debug_cli.proofs.Causes.{migrated_cause, unmigrated_cause}
-use Rattle.clap_debug_cli.proofs.Fetches.{missing_first, missing_later}
+use Rattle.clap_debug_cli.proofs.Causes.{unkept_cause, work_cause}
+use Rattle.clap_debug_cli.proofs.Fetches.{missing_cause, missing_first, missing_later}
+use Rattle.clap_debug_cli.proofs.Migrations.{kept_short, migrated_answer}
 use Rattle.clap_debug_cli.proofs.commands.migrate_log.Goals as goal
 
-pub returns-in_err-log-clause-missing : goal.returns-in_err-log-clause-missing
-returns-in_err-log-clause-missing g c =
+pub returns-in_err-log : goal.returns-in_err-log
+returns-in_err-log g c =
     let tells = g.H.Shelf.tells in
+    let call = Migrates c.args.program.now c.args.log.now c.args.out.now in
     let program = wanted input.Program c.args.program.now in
     let log = wanted input.Log c.args.log.now in
-    let why = missing_later program (log ∷ []) (tells c.args.shelf.now) (tells c.fetch.new.shelf) (tells c.fetch-2.new.shelf) _ _
-    c.in_ok-program.ensures.gave
-    (missing_first log [] (tells c.fetch.new.shelf) (tells c.fetch-2.new.shelf) _ c.in_err-log.ensures.missing) in
+    let why = missing_cause call (tells c.args.shelf.now) (tells c.fetch-2.new.shelf) _
+    (missing_later program (log ∷ []) (tells c.args.shelf.now) (tells c.fetch.new.shelf) (tells c.fetch-2.new.shelf) _ _ c.in_ok-program.ensures.gave
+    (missing_first log [] (tells c.fetch.new.shelf) (tells c.fetch-2.new.shelf) _ c.in_err-log.ensures.missing)) in
     search rules
 
-pub returns-in-Ok-clause-cause : goal.returns-in-Ok-clause-cause
-returns-in-Ok-clause-cause g c =
+pub returns-in_err-text : goal.returns-in_err-text
+returns-in_err-text g c =
     let tells = g.H.Shelf.tells in
-    let program = c.in_ok-program.program.items in
-    let log = c.in_ok-log.log.items in
-    let text = c.in-Ok.text.items in
-    let answer = plain_answer c.keep_result.result in
-    migrated_cause c.args.program.now c.args.log.now c.args.out.now (tells c.args.shelf.now) (tells c.fetch.new.shelf) (tells c.fetch-2.new.shelf) program log
-    c.in_ok-program.ensures.gave c.in_ok-log.ensures.gave (tells c.keep_result.new.shelf) text
-    (subst (λ l. IsMigrated program l text) c.deref-2.ensures.value
-    (subst (λ p. IsMigrated p c.deref-2.result.now text) c.deref.ensures.value c.in-Ok.ensures.text)) answer
-    (subst (λ t. KeepsSo c.args.out.now t Migrated (tells c.fetch-2.new.shelf) (tells c.keep_result.new.shelf) answer) c.deref-in-Ok.ensures.value
-    c.keep_result.ensures)
+    let call = Migrates c.args.program.now c.args.log.now c.args.out.now in
+    let one = c.in_ok-program.ensures.gave in
+    let two = c.in_ok-log.ensures.gave in
+    let new = tells c.fetch-2.new.shelf in
+    let why = work_cause call (c.in_ok-program.program.items ∷ c.in_ok-log.log.items ∷ []) (tells c.args.shelf.now) new
+    (tells c.fetch.new.shelf, one, (new, two, refl)) (one.0, (two.0, tt)) _
+    (rw (c.deref.ensures.value, c.deref-2.ensures.value) at c.in_err-text.ensures.answer) in
+    search rules
 
-pub returns-clause-cause : goal.returns-clause-cause
-returns-clause-cause g c =
+pub returns-in_err-keep : goal.returns-in_err-keep
+returns-in_err-keep g c =
+    let tells = g.H.Shelf.tells in
+    let call = Migrates c.args.program.now c.args.log.now c.args.out.now in
+    let program = c.in_ok-program.program.items in
+    let log = c.in_ok-log.log.items in
+    let text = c.in_ok-text.text.items in
+    let one = c.in_ok-program.ensures.gave in
+    let two = c.in_ok-log.ensures.gave in
+    let s = tells c.fetch-2.new.shelf in
+    let is : IsMigrated program log text = rw (c.deref.ensures.value, c.deref-2.ensures.value) at c.in_ok-text.ensures.text in
+    let why = unkept_cause call (program ∷ log ∷ []) (tells c.args.shelf.now) s (tells c.fetch.new.shelf, one, (s, two, refl)) (one.0, (two.0, tt))
+    (tells c.keep.new.shelf) c.args.out.now text refl (is, kept_short program log text is) _
+    (rw c.deref-3.ensures.value at c.in_err-keep.ensures.unkept) in
+    search rules
+
+pub returns : goal.returns
+returns g c =
     let tells = g.H.Shelf.tells in
     let program = c.in_ok-program.program.items in
     let log = c.in_ok-log.log.items in
-    let answer = plain_answer c.in-Err.answer in
-    unmigrated_cause c.args.program.now c.args.log.now c.args.out.now (tells c.args.shelf.now) (tells c.fetch.new.shelf) (tells c.fetch-2.new.shelf) program log
-    c.in_ok-program.ensures.gave c.in_ok-log.ensures.gave answer
-    (subst (λ l. IsWhyNot program l answer) c.deref-2.ensures.value
-    (subst (λ p. IsWhyNot p c.deref-2.result.now answer) c.deref.ensures.value c.in-Err.ensures.answer))
+    let text = c.in_ok-text.text.items in
+    let one = c.in_ok-program.ensures.gave in
+    let two = c.in_ok-log.ensures.gave in
+    let s = tells c.fetch-2.new.shelf in
+    let is : IsMigrated program log text = rw (c.deref.ensures.value, c.deref-2.ensures.value) at c.in_ok-text.ensures.text in (
+      program ∷ log ∷ [],
+      s,
+      (tells c.fetch.new.shelf, one, (s, two, refl)),
+      ((one.0, (two.0, tt)), migrated_answer program log text is),
+      (c.args.out.now, text, refl, (is, kept_short program log text is), rw c.deref-3.ensures.value at c.in_ok-keep.ensures.kept),
+    )

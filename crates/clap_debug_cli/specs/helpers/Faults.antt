@@ -1,0 +1,35 @@
+-- What is answered to a fault of a call below.
+use Rattle.path_log.specs.declared.fault.LogFault.{LogFault}
+use Rattle.path_log.specs.declared.fault.LogFault.TheVariants as log
+use Rattle.path_walk.specs.declared.fault.WalkFault.{WalkFault}
+use Rattle.path_walk.specs.declared.fault.WalkFault.TheVariants as walk
+use Rattle.schedule_file.specs.declared.fault.ScheduleFault.{ScheduleFault}
+use Rattle.schedule_file.specs.declared.fault.ScheduleFault.TheVariants as schedule
+use Rattle.tc_compile.specs.declared.fault.CompileFault.{CompileFault}
+use Rattle.tc_compile.specs.declared.fault.CompileFault.TheVariants as compile
+use Rattle.tc_record.specs.declared.seeded.SeededFault.{SeededFault}
+use Rattle.tc_record.specs.declared.seeded.SeededFault.TheVariants as seeded
+use Rattle.clap_debug_cli.specs.declared.answer.Answer.{Answer}
+use Rattle.clap_debug_cli.specs.declared.answer.Answer.TheVariants.{ProgramRefused, LogRefused, ScheduleRefused, RunEnded, NoMemory}
+use Rattle.clap_debug_cli.specs.declared.answer.LogRefusal.TheVariants.{Form, Unfit}
+use Rattle.clap_debug_cli.specs.declared.answer.Ending.TheVariants.{Over}
+
+abbrev pub compile_answer : CompileFault → Answer
+compile_answer (compile.Refused fault) = ProgramRefused fault
+compile_answer compile.Memory = NoMemory
+
+abbrev pub log_answer : LogFault → Answer
+log_answer (log.Form offset) = LogRefused (Form offset)
+log_answer log.Memory = NoMemory
+
+abbrev pub schedule_answer : ScheduleFault → Answer
+schedule_answer (schedule.Form line) = ScheduleRefused line
+schedule_answer schedule.Memory = NoMemory
+
+abbrev pub walk_answer : WalkFault → Answer
+walk_answer (walk.Unfit name misfit) = LogRefused (Unfit name misfit)
+walk_answer walk.Memory = NoMemory
+
+abbrev pub seeded_answer : SeededFault → Answer
+seeded_answer (seeded.Limit which _ _) = RunEnded (Over which)
+seeded_answer seeded.Memory = NoMemory

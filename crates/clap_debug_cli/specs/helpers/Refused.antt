@@ -1,0 +1,74 @@
+-- Answers in place of a result: why a file can't be had, why there is nothing to keep, and why it isn't kept.
+use Rattle.std.specs.Prelude.{◌≡◌, ℕ, List, Result, MatchResult}
+use Rattle.path_log.specs.Faults.{BreaksAt}
+use Rattle.path_log.specs.Texts.{StoredLog}
+use Rattle.tc_code.specs.Code.{Code}
+use Rattle.tc_compile.specs.Programs.{IsCodeOf, IsRefusal}
+use Rattle.tc_io.specs.Outside.{ShelfTells, FailedToGive, WasTooLong, KeptPart}
+use Rattle.tc_record.specs.Seeded.{Ended}
+use Rattle.clap_debug_cli.specs.Causes.{HeldStill}
+use Rattle.clap_debug_cli.specs.Files.{IsOfOther}
+use Rattle.clap_debug_cli.specs.Inputs.{Wanted, limit_of}
+use Rattle.clap_debug_cli.specs.Recorded.{HasEnded}
+use Rattle.clap_debug_cli.specs.declared.answer.Answer.{Answer}
+use Rattle.clap_debug_cli.specs.declared.answer.Answer.TheVariants.{
+  ReadFault,
+  TooLong,
+  ProgramRefused,
+  LogRefused,
+  ScheduleRefused,
+  Listed,
+  Replayed,
+  RunEnded,
+  LogOver,
+  WriteFault,
+  NoMemory,
+}
+use Rattle.clap_debug_cli.specs.declared.answer.LogRefusal.TheVariants.{Form, OtherProgram}
+
+-- either is an answer of which this holds
+abbrev pub IsEither : Result Answer Answer → (Answer → Type 0) → Type 0
+IsEither result P = MatchResult result P P
+
+-- an input can't be had
+abbrev pub IsWhyMissing : Wanted → ShelfTells → ShelfTells → Answer → Type 0
+IsWhyMissing w old new (ReadFault name) = (name ≡ w.name) × FailedToGive old new name (limit_of w.input)
+IsWhyMissing w old new (TooLong i) = (i ≡ w.input) × WasTooLong old new w.name (limit_of w.input)
+IsWhyMissing w old new NoMemory = HeldStill old new
+IsWhyMissing w old new _ = ⊥
+
+-- there is no memory, or this holds of the answer, with which nothing is kept
+abbrev pub Refuses : (Answer → Type 0) → Answer → Type 0
+Refuses P NoMemory = Unit {0}
+Refuses P (ProgramRefused r) = P (ProgramRefused r)
+Refuses P (LogRefused r) = P (LogRefused r)
+Refuses P (ScheduleRefused line) = P (ScheduleRefused line)
+Refuses P (Listed code) = P (Listed code)
+Refuses P (Replayed v) = P (Replayed v)
+Refuses P (RunEnded e) = P (RunEnded e)
+Refuses P (LogOver e) = P (LogOver e)
+Refuses P _ = ⊥
+
+-- a program and a log aren't of their forms
+abbrev pub IsWhyUnread : (program log : List ℕ) → Answer → Type 0
+IsWhyUnread program log NoMemory = Unit {0}
+IsWhyUnread program log (ProgramRefused r) = IsRefusal program r
+IsWhyUnread program log (LogRefused (Form offset)) = (code : Code) × IsCodeOf program code × BreaksAt log offset
+IsWhyUnread program log _ = ⊥
+
+-- the log is of another program
+abbrev pub IsWhyOther : (program : List ℕ) → StoredLog → Answer → Type 0
+IsWhyOther program run (LogRefused OtherProgram) = IsOfOther program run
+IsWhyOther program run _ = ⊥
+
+-- a run of no failure
+abbrev pub IsEndOf : {B : Type 0} → Ended B → Answer → Type 0
+IsEndOf run NoMemory = Unit {0}
+IsEndOf run (RunEnded e) = HasEnded run e
+IsEndOf run _ = ⊥
+
+-- a result wasn't kept under its name
+abbrev pub IsWhyUnkept : (name text : List ℕ) → ShelfTells → ShelfTells → Answer → Type 0
+IsWhyUnkept name text old new NoMemory = new ≡ old
+IsWhyUnkept name text old new (WriteFault lost) = (lost ≡ name) × KeptPart old new name text
+IsWhyUnkept name text old new _ = ⊥
