@@ -1,0 +1,53 @@
+#!/usr/bin/env python3
+"""Sums the processor time of a gate by crate, while it runs.
+
+  bench/gate.py rt ci          runs the words, and prints the table of docs/GATE.md once they have ended
+
+A process is looked at each second, so what lives shorter isn't counted. Times of other gates on the machine are counted too."""
+import os, re, subprocess, sys, time
+
+TICKS = os.sysconf("SC_CLK_TCK")
+
+
+def words_of(pid):
+    with open(f"/proc/{pid}/cmdline", "rb") as it:
+        return it.read().decode(errors="replace").split("\0")
+
+
+def look(seen):
+    """Notes the time of each process of a prover, by its crate and by what it is at."""
+    for pid in filter(str.isdigit, os.listdir("/proc")):
+        try:
+            with open(f"/proc/{pid}/stat", encoding="utf-8", errors="replace") as it:
+                comm, rest = re.match(r"\d+ \((.*)\) (.*)", it.read(), re.S).groups()
+            rest = rest.split()
+            # A prover's kernel has no words of its own.
+            words = words_of(rest[1] if comm == "antt-kernel" else pid)
+            if "--crate-name" not in words:
+                continue
+            at = os.readlink(f"/proc/{pid}/cwd")
+            part = "edits" if "/rt-edit" in at else "tests" if "--test" in words else "proof"
+            name = words[words.index("--crate-name") + 1]
+            seen[pid, rest[19]] = (name, part, (int(rest[11]) + int(rest[12])) / TICKS)
+        except (OSError, AttributeError, IndexError):
+            continue
+
+
+def main():
+    seen, run = {}, subprocess.Popen(sys.argv[1:])
+    while run.poll() is None:
+        look(seen)
+        time.sleep(1)
+    sums = {}
+    for name, part, seconds in seen.values():
+        row = sums.setdefault(name, {})
+        row[part] = row.get(part, 0) + seconds / 60
+    for name in sorted(sums):
+        cells = (f"{sums[name].get(part, 0):.1f}" if sums[name].get(part, 0) >= 0.05 else "" for part in ("proof", "tests", "edits"))
+        print(f"| `{name}` | {' | '.join(cells)} |")
+    print(f"all: {sum(sum(row.values()) for row in sums.values()):.0f} processor minutes")
+    return run.returncode
+
+
+if __name__ == "__main__":
+    sys.exit(main())
