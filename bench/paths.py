@@ -1,8 +1,9 @@
 #!/usr/bin/env python3
-"""Writes a row of paths_rows: a log in hex and its program, whose threads go round a loop and fail at its end.
+"""Writes a row of test_parts: a log in hex and its program, whose threads go round a loop and fail at its end.
 
   paths.py loop STEPS [CHILDREN]    loads, stores and expressions
   paths.py long STEPS [CHILDREN]    expressions of as many operators as may stand in one
+  paths.py --sizes ..               walked and executed, and not walked alone
 
 The thread, or each of so many children of main, goes round as often as fits into so many steps, at most 65535.
 """
@@ -32,6 +33,8 @@ def main(kind, steps, children=0):
     else:
         program, threads = f"main {loop}", [path([], *way)]
     log = b"CLPL\0\1\0" + bytes([len(threads), 0]) + b"".join(threads)
-    print(f"{log.hex().upper()} : int x; int a[8]; {program}")
+    part = "sizes" if "--sizes" in sys.argv else "walk"
+    print("group a loop")
+    print(f"{part} {log.hex().upper()} : int x; int a[8]; {program} => ?")
 
-main(*sys.argv[1:])
+main(*(word for word in sys.argv[1:] if word != "--sizes"))

@@ -1,5 +1,5 @@
 #!/usr/bin/env python3
-"""Writes a clause list as a row of cdcl_rows: of a DIMACS file, pigeons COUNT, or random VARIABLES SEED.
+"""Writes a clause list as a row of test_parts: of a DIMACS file, pigeons COUNT, or random VARIABLES SEED.
 
     bench/rows.py bench/clauses/lock3.sc.cnf.gz > row
     bench/rows.py random 200 0 --dimacs > list.cnf
@@ -59,4 +59,5 @@ if "--dimacs" in sys.argv:
     for clause in clauses:
         print(*clause, 0)
 else:
-    print(f"clauses {variables} :", *(f"{' '.join(map(str, clause))} 0" for clause in clauses), ": 10000000")
+    print("group a list")
+    print(f"search {variables} :", *(f"{' '.join(map(str, clause))} 0" for clause in clauses), ": 10000000 => closed")
