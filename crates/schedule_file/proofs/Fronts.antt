@@ -172,9 +172,10 @@ pub name_takes : (bytes : List ℕ) (n : Name) (rest : List ℕ) → name_at byt
 unfolding name_at
 name_takes bytes n rest e =
     let a = bind_some (behind (codes "0") bytes) (children_at DEPTH) (n, rest) e in
-    let t = children_takes DEPTH a.0 n rest a.2 in
-    (behind_takes (codes "0") bytes a.0 a.1 ∙ ap (λ (x : List ℕ). 48 ∷ x) t.parts,
-        and_from (leb (length n) DEPTH) (list_all is_child n) (le-leb _ _ t.few) t.each)
+    let t = children_takes DEPTH a.0 n rest a.2 in (
+      behind_takes (codes "0") bytes a.0 a.1 ∙ ap (λ (x : List ℕ). 48 ∷ x) t.parts,
+      and_from (leb (length n) DEPTH) (list_all is_child n) (le-leb _ _ t.few) t.each,
+    )
 
 -- Children read one after the other.
 
