@@ -1,23 +1,23 @@
 use Rattle.std.proofs.Common.{refl, inl, inr}
 use Rattle.tc_io.specs.Mem.{sure_sink_tells}
-use Rattle.clap_debug_cli.specs.declared.answer.Answer.TheVariants.{NoMemory}
-use Rattle.clap_debug_tests.proofs.Surely.{never_fails_to_read, never_fails_to_keep, never_fails_to_put}
+use Rattle.clap_debug_cli.proofs.Faults.{fetch_counts_one, keep_counts_one}
+use Rattle.clap_debug_tests.proofs.Surely.{never_fails, never_fails_to_put}
 use Rattle.clap_debug_tests.proofs.clap_debug_surely.Goals as goal
 
 pub returns-clause-no_read_fault : goal.returns-clause-no_read_fault
 returns-clause-no_read_fault c seven =
     let fault = c.clap_debug.ensures.call.read_fault seven in
-    never_fails_to_read _ _ _ fault.0 fault.1 refl refl
+    never_fails fetch_counts_one _ _ _ fault.0 fault.1 refl refl
 
 pub returns-clause-no_write_fault : goal.returns-clause-no_write_fault
 returns-clause-no_write_fault c eight =
     elim (c.clap_debug.ensures.call.write_fault eight) [
-      | inl lost ↦ never_fails_to_keep _ _ _ lost.0 lost.1 refl refl
+      | inl lost ↦ never_fails keep_counts_one _ _ _ lost.0 lost.1 refl refl
       | inr failed ↦
           let old = sure_sink_tells c.args.sink.now in
           let new = sure_sink_tells c.clap_debug.new.sink in
           elim failed.2 [
-            | inl f ↦ never_fails_to_put failed.0 old new f refl refl
-            | inr f ↦ never_fails_to_put NoMemory old new f refl refl
+            | inl f ↦ never_fails_to_put _ old new f refl refl
+            | inr f ↦ never_fails_to_put _ old new f refl refl
           ]
     ]
