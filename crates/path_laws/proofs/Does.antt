@@ -1,7 +1,6 @@
 -- What a move makes of the threads, and of the failure.
-use Rattle.std.proofs.Common.{◌≡◌, ◌≢◌, ◌∙◌, inl, inr, ℕ, ◌≤◌, ◌<◌, ℤ, pos, Bool, true, false, List, [], ◌++◌, Option, Some, None}
-use Rattle.std.proofs.Common.{refl, sym, ap, subst, arith, append-nil, bytes_eq, true≢false, slice_set}
-use Rattle.std.specs.Prelude.{if◌then◌else◌}
+use Rattle.std.proofs.Common.{◌≡◌, ◌≢◌, ◌∙◌, inl, inr, ℕ, ◌≤◌, ◌<◌, ℤ, Bool, true, false, List, [], ◌++◌, Option, Some, None}
+use Rattle.std.proofs.Common.{refl, sym, ap, subst, arith, append-nil, bytes_eq, true≢false}
 use Rattle.std.specs.FinMap as fin
 use Rattle.std.proofs.lemmas.Option.{none-some}
 use Rattle.tc_base.specs.Buffers.{BufferOps}
@@ -15,7 +14,7 @@ use Rattle.tc_code.specs.Code.{Code}
 use Rattle.tc_code.specs.declared.instr.Instr.{Instr}
 use Rattle.tc_code.specs.declared.instr.Instr.TheVariants.{Signal}
 use Rattle.tc_code.specs.Run.{IsReached}
-use Rattle.tc_code.specs.Step.{request, local_after, instr_of, perform, with_thread, woken, step}
+use Rattle.tc_code.specs.Step.{request, local_after, instr_of, perform, woken, step}
 use Rattle.tc_code.specs.Step as machine
 use Rattle.tc_base.proofs.Names.{same_true, same_refl}
 use Rattle.run_laws.proofs.Changes.{is_fail}
@@ -24,6 +23,7 @@ use Rattle.run_laws.proofs.Steps.{Went, step_went, none_failed}
 use Rattle.run_history.specs.History.{taken}
 use Rattle.run_history.specs.Locals.{after_step}
 use Rattle.run_laws.proofs.Basics.{by_bool}
+use Rattle.run_history.proofs.Shared.{store_as}
 use Rattle.run_history.proofs.Threads.{own, with_born, performed_threads, find, steps_by, Its_own, Its_child, Another}
 use Rattle.path_laws.specs.Prefixes.{fails_by}
 use Rattle.path_laws.proofs.Local.{moves}
@@ -71,16 +71,9 @@ step_goes_on t i Fail v = record { steps = omega arith; more = []; outcomes = sy
 step_goes_on t i _ v = moved_on t i v
 
 module _ {B : Type 0} (ops : BufferOps B) (code : Code) where
-  -- the state after a store, by whether there are buffers
-  abbrev the_store : State B → Name → Thread B → Instr → ℕ → ℤ → Bool → State B
-  the_store s n t i c v b =
-      if b
-      then with_thread s n (record { local = local_after t.local i (pos 0); buffer = ops.issue t.buffer c v })
-      else record (machine.did ops s n t i) { memory = slice_set s.memory c v }
-
   -- what a request makes of the failure
   pub failed_is : (s : State B) (n : Name) (t : Thread B) (i : Instr) (r : Request) → s.failed ≡ None → (perform ops code s n t i r).failed ≡ failed_after r n
-  failed_is s n t i (Write c v) going = by_bool (λ b. (the_store s n t i c v b).failed ≡ None) ops.buffered going going
+  failed_is s n t i (Write c v) going = by_bool (λ b. (store_as ops code s n t i c v b).failed ≡ None) ops.buffered going going
   failed_is s n t i Fail going = refl
   failed_is s n t i _ going = going
 

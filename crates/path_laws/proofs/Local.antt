@@ -15,7 +15,7 @@ use Rattle.tc_code.specs.declared.instr.Instr.{Instr}
 use Rattle.tc_code.specs.declared.instr.Instr.TheVariants.{Branch, Goto, Lock, Unlock, Sleep, Wake}
 use Rattle.tc_code.specs.declared.instr.Instr.TheVariants.{Create, Join, Exit}
 use Rattle.tc_code.specs.Step.{child_number, branched, local_after, is_nonzero, value_in}
-use Rattle.path_walk.specs.Steps.{Step, Onward, onward, places_from, step_at, steps_at, is_site}
+use Rattle.path_walk.specs.Steps.{Step, Onward, onward, places_from, step_at, steps_at}
 use Rattle.path_walk.specs.Steps as path
 use Rattle.path_walk.specs.Fits.{starts, started}
 use Rattle.path_walk.specs.Marks.{Marks, Marked, unmarked, marked, marked_from, marked_steps}

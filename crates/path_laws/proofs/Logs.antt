@@ -28,7 +28,8 @@ use Rattle.path_walk.specs.Events.{is_impossible}
 use Rattle.path_walk.specs.Paths.{is_dead, paths_of}
 use Rattle.path_walk.specs.declared.fault.Misfit.{Misfit}
 use Rattle.path_walk.specs.declared.fault.Misfit.TheVariants as misfit
-use Rattle.path_walk.proofs.Faults.{option_is, there, not_there, HasParent, parent_of, function_of_child, walked_there, no_child, nobody, by_path}
+use Rattle.tc_base.proofs.Names.{HasParent, parent_of}
+use Rattle.path_walk.proofs.Faults.{option_is, there, not_there, function_of_child, walked_there, no_child, nobody, by_path}
 use Rattle.run_laws.proofs.Main.{main_is_there}
 use Rattle.run_laws.proofs.Created.{reached_is_created}
 use Rattle.path_walk.proofs.Drafts.{under_own}

@@ -22,7 +22,7 @@ use Rattle.tc_code.specs.declared.instr.Instr.TheVariants.{Signal, Create, Ready
 use Rattle.tc_code.specs.Lawful.{IsLawful}
 use Rattle.tc_code.specs.Run.{IsReached}
 use Rattle.tc_code.specs.Step.{request, site, holds, handle_of, can_be_joined, stepped, local_after, arguments_of, instr_of, allows}
-use Rattle.tc_code.specs.Step.{drains_first, perform, with_thread, born, woken, opening}
+use Rattle.tc_code.specs.Step.{drains_first, perform, born, woken, opening}
 use Rattle.tc_code.specs.Step as machine
 use Rattle.path_log.proofs.Lists.{get_front, get_seam}
 use Rattle.path_walk.specs.Steps.{onward, places_from, steps_at, is_site}
@@ -113,6 +113,11 @@ step_told code t i r v ps along at asks =
     ap₂ (λ f n. places_from code f n 0 u.outcomes) (same_function t i r v) steps
     ∙ ap (places_from code t.function (suc t.steps) 0) led.outcomes
     ∙ more.places
+
+-- a site begins no thread
+pub site_starts_none : (b : Bool) (f : ℕ) → site b ≡ Start f → ⊥
+site_starts_none true f e = cc
+site_starts_none false f e = cc
 
 module _ (code : Code) where
   -- a thread failed at a site that is false, and stayed there
@@ -297,10 +302,6 @@ module _ {B : Type 0} (ops : BufferOps B) (code : Code) (lawful : IsLawful code)
         ap (λ xs. beq (can_be_joined (slice_index_or xs k Unset)) false) marks.handles
         ∙ passes_beq (can_be_joined (handle_of t.local k)) (site_is_true (can_be_joined (handle_of t.local k)) passes)
     run_possible i passes may = refl
-
-  site_starts_none : (b : Bool) (f : ℕ) → site b ≡ Start f → ⊥
-  site_starts_none true f e = cc
-  site_starts_none false f e = cc
 
   create_is : (t : Local) (i : Instr) (f : ℕ) → request t i ≡ Start f → starts i ≡ Some f
   create_is t (Create h g es) f e = let same : g ≡ f = cc in ap (λ k. Some k) same

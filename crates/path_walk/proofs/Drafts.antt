@@ -10,7 +10,7 @@ use Rattle.std.specs.Result.{result_err, result_unwrap_or}
 use Rattle.std.specs.declared.cmp.Ordering.TheVariants.{Less}
 use Rattle.std.proofs.Math.Bool.{or-false}
 use Rattle.std.proofs.Math.Seq.{take-length}
-use Rattle.std.proofs.lemmas.List.{map-append, length-append, length-take, take_more}
+use Rattle.std.proofs.lemmas.List.{map-append, length-append, take_more}
 use Rattle.std.proofs.lemmas.Bool.{cases_lt, eqb-true}
 use Rattle.std.proofs.lemmas.List.Sums.{fold-append}
 use Rattle.std.proofs.lemmas.Option.{none-some, slice_get_read}
@@ -31,7 +31,8 @@ use Rattle.path_walk.specs.declared.fault.WalkFault.TheVariants.{Unfit}
 use Rattle.tc_base.proofs.Names.{between, less_true, up_to, child_is_above, later_child, same_true, same_refl}
 use Rattle.path_log.proofs.Lists.{split_at}
 use Rattle.path_log.proofs.Rising.{own_path, lesser_is_older, none_under}
-use Rattle.path_walk.proofs.Faults.{option_is, there, not_there, HasParent, parent_of, function_of_child, walked_there, no_child, missing, nobody}
+use Rattle.tc_base.proofs.Names.{HasParent, parent_of}
+use Rattle.path_walk.proofs.Faults.{option_is, there, not_there, function_of_child, walked_there, no_child, missing, nobody}
 use Rattle.path_walk.proofs.Faults.{stranger, by_path, fitting}
 
 -- whether a thread is the one that failed

@@ -23,20 +23,6 @@ there o x e = subst IsSome (sym e) refl
 pub not_there : {X : Type 0} (o : Option X) → o ≡ None → IsSome o → ⊥
 not_there o e h = true≢false (sym h ∙ ap is_some e)
 
--- a name is main's, or that of a child
-pub record HasParent (n : Name) : Type 0 where
-  pub parent : Name
-  pub number : ℕ
-  pub name : n ≡ child parent number
-
-pub parent_of : (n : Name) → (n ≡ []) ⊎ HasParent n
-parent_of [] = inl refl
-parent_of (a ∷ n) =
-    elim (parent_of n) [
-      | inl e ↦ inr (record { parent = []; number = a; name = ap (λ m. a ∷ m) e })
-      | inr h ↦ inr (record { parent = a ∷ h.parent; number = h.number; name = ap (λ m. a ∷ m) h.name })
-    ]
-
 then_same : (o : Option ℕ) → option_and_then (λ g. Some g) o ≡ o
 then_same None = refl
 then_same (Some g) = refl

@@ -17,7 +17,7 @@ use Rattle.tc_base.specs.declared.request.Request.TheVariants.{Read, Exchange, C
 use Rattle.tc_code.specs.declared.instr.Instr.{Instr}
 use Rattle.tc_code.specs.declared.instr.Instr.TheVariants.{Inside, Holds, Signal, Ready, Assert, Nonzero, InRange}
 use Rattle.tc_code.specs.Code.{Code}
-use Rattle.tc_code.specs.Step.{request, site, instr_of, in_memory, loaded, drains_first, is_let, allows, perform, waiting_on, woken, step, move_of}
+use Rattle.tc_code.specs.Step.{request, site, instr_of, loaded, drains_first, is_let, allows, perform, woken, step, move_of}
 use Rattle.tc_code.specs.Step.{run_of, wake_of, drain_of, opening}
 use Rattle.tc_code.specs.Step as machine
 use Rattle.tc_code.specs.Run.{run}

@@ -19,7 +19,7 @@ use Rattle.tc_code.specs.declared.instr.Instr.{Instr}
 use Rattle.tc_code.specs.declared.instr.Instr.TheVariants.{Inside, Holds, Signal, Ready, Assert, Nonzero, InRange}
 use Rattle.tc_code.specs.Code.{Code}
 use Rattle.tc_code.specs.Lawful.{IsLawful}
-use Rattle.tc_code.specs.Step.{request, site, instr_of, waiting_on, step, opening}
+use Rattle.tc_code.specs.Step.{request, site, instr_of, step, opening}
 use Rattle.tc_code.specs.Step as machine
 use Rattle.tc_code.specs.Run.{IsReached, run_from, run}
 use Rattle.tc_code.proofs.Facts.{opening_is_reached, step_is_reached}

@@ -15,7 +15,7 @@ use Rattle.tc_base.specs.declared.request.Request.TheVariants.{Silent, Write, Ba
 use Rattle.tc_code.specs.declared.instr.Instr.{Instr}
 use Rattle.tc_code.specs.declared.instr.Instr.TheVariants.{Inside, Branch, Holds, Signal, Create, Ready, Assert, Nonzero, InRange, Exit}
 use Rattle.tc_code.specs.Code.{Code}
-use Rattle.tc_code.specs.Step.{request, site, stepped, local_after, arguments_of, instr_of, perform, with_thread, born, woken, opening}
+use Rattle.tc_code.specs.Step.{request, site, local_after, arguments_of, perform, with_thread, born, woken, opening}
 use Rattle.tc_code.specs.Step as machine
 use Rattle.tc_code.specs.Run.{IsReached}
 use Rattle.run_laws.proofs.Basics.{by_bool}

@@ -1,10 +1,11 @@
 -- Threads are those that threads created.
-use Rattle.std.proofs.Common.{◌≡◌, ◌≢◌, ◌↔◌, ◌∙◌, inl, inr, ℕ, ◌+◌, ◌≤◌, length, [], ◌∷◌, IsSome, Option, Some, None, refl, ap, sym, subst, arith}
+use Rattle.std.proofs.Common.{◌≡◌, ◌≢◌, ◌↔◌, ◌∙◌, inl, inr, ℕ, ◌+◌, ◌≤◌, IsSome, Option, Some, None, refl, ap, sym, subst, arith}
 use Rattle.std.specs.Option.{option_map_or}
 use Rattle.std.specs.FinMap as fin
 use Rattle.std.proofs.lemmas.List.{same_from_push}
 use Rattle.std.proofs.lemmas.Option.{none-some}
 use Rattle.tc_base.specs.Names.{Name, ByName, main, child, by_name}
+use Rattle.tc_base.proofs.Names.{HasParent, parent_of}
 use Rattle.tc_base.specs.Buffers.{BufferOps}
 use Rattle.tc_base.specs.States.{Thread, State}
 use Rattle.tc_base.specs.declared.moves.Move.{Move}
@@ -20,21 +21,13 @@ use Rattle.run_laws.proofs.Names.{same_or_apart, get_put, get_put_apart, stays_a
 use Rattle.run_laws.proofs.Steps.{holds_in_reached}
 use Rattle.run_laws.proofs.Changes.{Goes, Went_on, Stayed, step_changes}
 
--- a name is that of a child
-record HasParent (n : Name) : Type 0 where
-  parent : Name
-  number : ℕ
-  name : n ≡ child parent number
-
--- and stays so with one more number in front
-longer : (a : ℕ) (n : Name) → HasParent n → HasParent (a ∷ n)
-longer a n h = record { parent = a ∷ h.parent; number = h.number; name = ap (λ m. a ∷ m) h.name }
-
 -- each name but main is that of a child
 has_parent : (n : Name) → n ≢ main → HasParent n
-has_parent [] other = absurd (other refl)
-has_parent (a ∷ []) other = record { parent = main; number = a; name = refl }
-has_parent (a ∷ b ∷ n) other = longer a (b ∷ n) (has_parent (b ∷ n) (λ e. omega (arith, ap length e)))
+has_parent n other =
+    elim (parent_of n) [
+      | inl e ↦ absurd (other e)
+      | inr h ↦ h
+    ]
 
 module _ {B : Type 0} where
   -- how many children a thread has created, 0 where there is none

@@ -18,7 +18,7 @@ use Rattle.tc_base.specs.declared.request.Request.TheVariants.{Silent, Write, Ba
 use Rattle.tc_code.specs.declared.instr.Instr.{Instr}
 use Rattle.tc_code.specs.declared.instr.Instr.TheVariants.{Signal}
 use Rattle.tc_code.specs.Code.{Code}
-use Rattle.tc_code.specs.Step.{request, perform, born, woken, opening}
+use Rattle.tc_code.specs.Step.{perform, born, woken, opening}
 use Rattle.tc_code.specs.Step as machine
 use Rattle.tc_code.specs.Run.{IsReached}
 use Rattle.run_laws.proofs.Names.{same_self, same_other, is_same, same_or_apart, get_put_cases}

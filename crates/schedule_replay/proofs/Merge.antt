@@ -1,39 +1,5 @@
 -- A log's threads and a run's, taken together in the order of their names.
-use Rattle.std.proofs.Common.{
-  ◌≡◌,
-  ◌<◌,
-  ◌≤◌,
-  ◌+◌,
-  ℕ,
-  zero,
-  suc,
-  Bool,
-  true,
-  false,
-  cond,
-  ltb,
-  ◌&&◌,
-  T,
-  List,
-  [],
-  ◌∷◌,
-  length,
-  map,
-  drop,
-  get_or,
-  Option,
-  Some,
-  None,
-  refl,
-  sym,
-  ap,
-  ◌∙◌,
-  subst,
-  arith,
-  inl,
-  inr,
-  bytes_eq,
-}
+use Rattle.std.proofs.Common.{◌≡◌, ◌<◌, ◌≤◌, ◌+◌, ℕ, zero, suc, Bool, true, false, cond, ltb, T, List, [], ◌∷◌, length, map, drop, get_or, Option, Some, None, refl, sym, ap, ◌∙◌, subst, arith, inl, inr, bytes_eq}
 use Rattle.std.specs.Prelude.{option_map}
 use Rattle.std.specs.Cmp.{booleans_Decides}
 use Rattle.std.specs.Cmp.Lexicographic.{pointwise_decides}
@@ -48,6 +14,7 @@ use Rattle.std.proofs.lemmas.Cmp.{nat_list_cmp_total}
 use Rattle.std.proofs.lemmas.List.{drop_more, drop_all, length-map}
 use Rattle.std.proofs.lemmas.Option.{none-some, same_Some}
 use Rattle.std.proofs.lemmas.Map.Text.{is_eq-slice_cmp}
+use Rattle.tc_base.proofs.Bools.{first_T, second_T}
 use Rattle.tc_base.specs.Names.{Name, by_name}
 use Rattle.tc_base.proofs.Names.{same_name, itself, between, turned, less_true, equal_of}
 use Rattle.path_log.proofs.Rising.{rises_behind, none_below, under_first}
@@ -62,14 +29,6 @@ less_T : (o : Ordering) → T (is_lt o) → o ≡ Less
 less_T Less h = refl
 less_T Equal h = absurd h
 less_T Greater h = absurd h
-
-first_T : (a b : Bool) → T (a && b) → T a
-first_T true b h = tt
-first_T false b h = absurd h
-
-second_T : (a b : Bool) → T (a && b) → T b
-second_T true b h = h
-second_T false b h = absurd h
 
 -- A path is told by a test.
 

@@ -7,6 +7,7 @@ use Rattle.std.specs.declared.cmp.Ordering.{Ordering}
 use Rattle.std.specs.declared.cmp.Ordering.TheVariants.{Less, Equal, Greater}
 use Rattle.std.proofs.lemmas.Cmp.{nat_list_cmp_total}
 use Rattle.std.proofs.lemmas.Map.Lookups.{exact_bytes}
+use Rattle.std.proofs.lemmas.Option.{same_Some}
 use Rattle.tc_base.specs.Names.{Name}
 use Rattle.tc_base.specs.Buffers.{BufferOps}
 use Rattle.tc_base.specs.States.{State}
@@ -23,9 +24,6 @@ use Rattle.schedule_replay.specs.Verdicts.{StopsAt, IsFirstToDiffer, IsVerdict}
 use Rattle.schedule_replay.specs.helpers.Judged.{IsJudged}
 use Rattle.schedule_replay.specs.declared.verdict.Verdict.{Verdict}
 use Rattle.schedule_replay.specs.declared.verdict.Verdict.TheVariants as verdict
-
-some_of : {A : Type 0} (x y : A) → Some x ≡ Some y → x ≡ y
-some_of x y e = cc
 
 none_of_not : {A : Type 0} (o : Option A) → (IsSome o → ⊥) → o ≡ None
 none_of_not None h = refl
@@ -54,25 +52,25 @@ module _ {B : Type 0} (ops : BufferOps B) where
         → run_from ops code from b ≡ Some s → run_from ops code from c ≡ Some t → why ops code s m ≡ Some q
         → why ops code t n ≡ Some r → (length b ≡ length c) × (q ≡ r)
     one_stop from [] [] m n x y s t q r e ls lt sq tr =
-        let states : s ≡ t = some_of s t (sym ls ∙ lt) in
+        let states : s ≡ t = same_Some s t (sym ls ∙ lt) in
         let moves : m ≡ n = cc in
-        (refl, some_of q r (sym sq ∙ ap (λ u. why ops code u m) states ∙ ap (why ops code t) moves ∙ tr))
+        (refl, same_Some q r (sym sq ∙ ap (λ u. why ops code u m) states ∙ ap (why ops code t) moves ∙ tr))
     one_stop from [] (k ∷ c) m n x y s t q r e ls lt sq tr =
         let here : m ≡ k = cc in
         let made = made_first _ c t lt in
-        let stuck = not_made from k q (ap (why ops code from) (sym here) ∙ ap (λ u. why ops code u m) (some_of from s ls) ∙ sq) in
+        let stuck = not_made from k q (ap (why ops code from) (sym here) ∙ ap (λ u. why ops code u m) (same_Some from s ls) ∙ sq) in
         cc (made.1, stuck)
     one_stop from (k ∷ b) [] m n x y s t q r e ls lt sq tr =
         let here : n ≡ k = cc in
         let made = made_first _ b s ls in
-        let stuck = not_made from k r (ap (why ops code from) (sym here) ∙ ap (λ u. why ops code u n) (some_of from t lt) ∙ tr) in
+        let stuck = not_made from k r (ap (why ops code from) (sym here) ∙ ap (λ u. why ops code u n) (same_Some from t lt) ∙ tr) in
         cc (made.1, stuck)
     one_stop from (k ∷ b) (j ∷ c) m n x y s t q r e ls lt sq tr =
         let here : k ≡ j = cc in
         let rest : b ++ m ∷ x ≡ c ++ n ∷ y = cc in
         let first = made_first _ b s ls in
         let second = made_first _ c t lt in
-        let same : first.0 ≡ second.0 = some_of _ _ (sym first.1 ∙ ap (step ops code from) here ∙ second.1) in
+        let same : first.0 ≡ second.0 = same_Some _ _ (sym first.1 ∙ ap (step ops code from) here ∙ second.1) in
         let deeper = one_stop second.0 b c m n x y s t q r rest (subst (λ u. run_from ops code u b ≡ Some s) same first.2) second.2 sq tr in
         (ap (λ k. suc k) deeper.0, deeper.1)
 
@@ -111,7 +109,7 @@ module _ {B : Type 0} (ops : BufferOps B) where
   one_judgement s log verdict.NoFailure (verdict.OtherPath n) f g = absurd (not_none s.failed (failing_of log) f g.0)
   one_judgement s log (verdict.OtherFailure n) verdict.Reproduces f g = absurd (f.1 g.0)
   one_judgement s log (verdict.OtherFailure n) verdict.NoFailure f g = cc (f.0, g)
-  one_judgement s log (verdict.OtherFailure m) (verdict.OtherFailure n) f g = ap (λ k. verdict.OtherFailure k) (some_of m n (sym f.0 ∙ g.0))
+  one_judgement s log (verdict.OtherFailure m) (verdict.OtherFailure n) f g = ap (λ k. verdict.OtherFailure k) (same_Some m n (sym f.0 ∙ g.0))
   one_judgement s log (verdict.OtherFailure n) (verdict.OtherPath m) f g = absurd (f.1 g.0)
   one_judgement s log (verdict.OtherPath n) verdict.Reproduces f g = absurd (f.1.differs (g.1 n))
   one_judgement s log (verdict.OtherPath n) verdict.NoFailure f g = absurd (not_none s.failed (failing_of log) g f.0)
@@ -136,7 +134,7 @@ module _ {B : Type 0} (ops : BufferOps B) where
 
   both_led : (code : Code) (log : Log) (moves : List Move) (v w : Verdict) → Led code log moves v → Led code log moves w → v ≡ w
   both_led code log moves v w f g =
-      one_judgement f.state log v w f.judged (subst (λ s. IsJudged s log w) (some_of g.state f.state (sym g.leads ∙ f.leads)) g.judged)
+      one_judgement f.state log v w f.judged (subst (λ s. IsJudged s log w) (same_Some g.state f.state (sym g.leads ∙ f.leads)) g.judged)
 
   pub one_verdict : (code : Code) (log : Log) (moves : List Move) (v w : Verdict) → IsVerdict ops code log moves v → IsVerdict ops code log moves w → v ≡ w
   one_verdict code log moves (verdict.Stops k q) (verdict.Stops j r) f g =

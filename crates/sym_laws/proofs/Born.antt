@@ -1,5 +1,5 @@
 -- A thread at its beginning, beside the execution of its path.
-use Rattle.std.proofs.Common.{◌≡◌, ◌∙◌, ℕ, ◌+◌, ◌-◌, ◌<◌, ℤ, List, [], ◌∷◌, ◌++◌, map, length, take, get_or, Bool, true, false}
+use Rattle.std.proofs.Common.{◌≡◌, ◌∙◌, ℕ, ◌+◌, ◌-◌, ◌<◌, ℤ, List, [], ◌∷◌, ◌++◌, map, length, take, get_or, true, false}
 use Rattle.std.proofs.Common.{Option, Some, refl, ap, sym, subst, arith, bytes_eq}
 use Rattle.std.specs.Prelude.{slice_get, unwrap_or}
 use Rattle.std.specs.List.{flat_map, find}
@@ -14,11 +14,12 @@ use Rattle.tc_code.specs.Code.{Code}
 use Rattle.tc_code.specs.declared.instr.Instr.{Instr}
 use Rattle.tc_code.specs.declared.instr.Instr.TheVariants.{Inside, Create, Holds, Ready, Assert, Nonzero, InRange}
 use Rattle.tc_code.specs.Lawful.{IsLawful}
-use Rattle.tc_code.specs.Step.{request, site, ints_of, arguments_of}
+use Rattle.tc_code.specs.Step.{request, ints_of, arguments_of}
 use Rattle.run_laws.proofs.Names.{child_apart}
 use Rattle.run_history.specs.History.{Deed, Did}
 use Rattle.run_history.specs.Locals.{after_step as thread_after, born_local}
 use Rattle.path_log.specs.Texts.{is_log}
+use Rattle.path_laws.proofs.States.{site_starts_none}
 use Rattle.path_walk.specs.Fits.{function_of}
 use Rattle.path_walk.specs.Paths.{Walk, walk_of, paths_of}
 use Rattle.tc_base.proofs.Names.{same_refl}
@@ -42,19 +43,15 @@ use Rattle.sym_laws.proofs.Beside.{IsDone}
 use Rattle.sym_laws.proofs.Executed.{IsFoundAt, found_at_place, course_of, whole as found_from}
 use Rattle.sym_laws.proofs.Follows.{Follows, GoesOnPath, FoundAt, found_at_log, walks, walk_at, asked_more, others_asked, begins_at, done, next_is}
 
-not_start : (b : Bool) (f : ℕ) → site b ≡ Start f → ⊥
-not_start true f e = cc
-not_start false f e = cc
-
 -- a create hands over its arguments
 gives_arguments : (t : Local) (i : Instr) (f : ℕ) → request t i ≡ Start f → given_by t i ≡ arguments_of t i ∷ []
 gives_arguments t (Create h g es) f e = refl
-gives_arguments t (Inside len x) f e = absurd (not_start _ f e)
-gives_arguments t (Holds k) f e = absurd (not_start _ f e)
-gives_arguments t (Ready k) f e = absurd (not_start _ f e)
-gives_arguments t (Assert x) f e = absurd (not_start _ f e)
-gives_arguments t (Nonzero x) f e = absurd (not_start _ f e)
-gives_arguments t (InRange x) f e = absurd (not_start _ f e)
+gives_arguments t (Inside len x) f e = absurd (site_starts_none _ f e)
+gives_arguments t (Holds k) f e = absurd (site_starts_none _ f e)
+gives_arguments t (Ready k) f e = absurd (site_starts_none _ f e)
+gives_arguments t (Assert x) f e = absurd (site_starts_none _ f e)
+gives_arguments t (Nonzero x) f e = absurd (site_starts_none _ f e)
+gives_arguments t (InRange x) f e = absurd (site_starts_none _ f e)
 gives_arguments t i f e = absurd cc
 
 -- what gives one element is one

@@ -1,4 +1,5 @@
 pub mod Bits
+pub mod Bools
 pub mod Wraps
 pub mod Ints
 pub mod Names

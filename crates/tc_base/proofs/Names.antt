@@ -86,3 +86,17 @@ apart_less m n e = sym (is_eq-slice_cmp m n) ∙ ap is_eq e
 
 pub apart_above : (m n : Name) → by_name n m ≡ Less → bytes_eq m n ≡ false
 apart_above m n e = sym (is_eq-slice_cmp m n) ∙ ap is_eq (nat_list_cmp_total.antisymm m n ∙ ap ordering_reverse e)
+
+-- a name is main's, or that of a child
+pub record HasParent (n : Name) : Type 0 where
+  pub parent : Name
+  pub number : ℕ
+  pub name : n ≡ child parent number
+
+pub parent_of : (n : Name) → (n ≡ []) ⊎ HasParent n
+parent_of [] = inl refl
+parent_of (a ∷ n) =
+    elim (parent_of n) [
+      | inl e ↦ inr (record { parent = []; number = a; name = ap (λ m. a ∷ m) e })
+      | inr h ↦ inr (record { parent = a ∷ h.parent; number = h.number; name = ap (λ m. a ∷ m) h.name })
+    ]

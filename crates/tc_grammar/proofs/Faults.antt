@@ -34,8 +34,8 @@ use Rattle.tc_lexer.specs.declared.token.Keyword.TheVariants as keyword
 use Rattle.tc_tree.specs.declared.word.Word.{Word}
 use Rattle.tc_tree.specs.declared.word.Word.TheVariants.{Keyword as AKeyword}
 use Rattle.tc_tree.specs.Grammar.{Program, AreOf, IsSpelled, Begins, IsSyntaxFault, globals_then, threads_then, body_then}
-use Rattle.tc_syntax.specs.helpers.Reading.{Expected, Globals, first, skips, step, may_end, at_end, fault}
-use Rattle.tc_syntax.proofs.Stands.{Stands, StandsAfter, StandsThen, first_more, skip_more}
+use Rattle.tc_syntax.specs.helpers.Reading.{Expected, Globals, skips, step, may_end, at_end, fault}
+use Rattle.tc_syntax.proofs.Stands.{Stands, StandsAfter, skip_more}
 use Rattle.tc_syntax.proofs.Places.{one_more, are_of, is_syntax_fault}
 
 -- ---- one fault

@@ -177,7 +177,9 @@ mutual
   statements_same Nil (Cons b ys) p q r s g h is = absurd (no_end b p r (statements_then ys (AnEnd q ∷ s)) (sym is))
   statements_same (Cons a xs) Nil p q r s g h is = absurd (no_end a q s (statements_then xs (AnEnd p ∷ r)) is)
   statements_same (Cons a xs) (Cons b ys) p q r s g h is =
-      let first = statement_same a b (statements_then xs (AnEnd p ∷ r)) (statements_then ys (AnEnd q ∷ s)) g.0 h.0 (statements_begin xs (AnEnd p ∷ r) refl) (statements_begin ys (AnEnd q ∷ s) refl) is in
+      let more = statements_then xs (AnEnd p ∷ r) in
+      let other = statements_then ys (AnEnd q ∷ s) in
+      let first = statement_same a b more other g.0 h.0 (statements_begin xs (AnEnd p ∷ r) refl) (statements_begin ys (AnEnd q ∷ s) refl) is in
       let others = statements_same xs ys p q r s g.1 h.1 first.1 in
       (cc, others.1, others.2)
 

@@ -308,7 +308,8 @@ module _ (language : ℕ) (least : 1 ≤ language) where
     | inr fault ↦ faulty language text tokens (Syntax (place_at text tokens fault.0)) read (nested, parted, (fault.0, fault.1, refl))
   ]
 
-  by_stretch : (text : List ℕ) (tokens : List Token) (o : Option ℕ) → AreTokens language text tokens → IsNested tokens → long_stretch tokens ≡ o → Answer language text
+  by_stretch : (text : List ℕ) (tokens : List Token) (o : Option ℕ) → AreTokens language text tokens → IsNested tokens → long_stretch tokens ≡ o
+      → Answer language text
   by_stretch text tokens None read nested is = by_words text tokens read nested is
   by_stretch text tokens (Some n) read nested is = faulty language text tokens (Count Stretch n) read (nested, is)
 

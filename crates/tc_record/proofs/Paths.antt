@@ -13,6 +13,7 @@ use Rattle.std.specs.Cmp.Lexicographic.{slice_cmp}
 use Rattle.std.specs.FinMap as fin
 use Rattle.std.specs.FinMap.Entries.{below_all}
 use Rattle.std.proofs.lemmas.Map.Text.{is_eq-slice_cmp}
+use Rattle.tc_base.proofs.Bools.{first_T, second_T}
 use Rattle.tc_base.specs.Names.{Name}
 use Rattle.tc_base.specs.States.{Thread, State}
 use Rattle.tc_base.specs.Logs.{Path, ThreadPath, failing_of, path_under}
@@ -27,14 +28,6 @@ use Rattle.run_laws.proofs.Names.{tells_names}
 use Rattle.tc_base.proofs.Names.{same_true}
 use Rattle.tc_record.specs.Logged.{IsLogOf}
 use Rattle.tc_record.specs.helpers.Paths.{path_at, named_path, FailsThere}
-
-first_T : (a b : Bool) → T (a && b) → T a
-first_T true b h = tt
-first_T false b h = absurd h
-
-second_T : (a b : Bool) → T (a && b) → T b
-second_T true b h = h
-second_T false b h = absurd h
 
 both_true : (a b : Bool) → T a → b ≡ true → (a && b) ≡ true
 both_true true b h e = e

@@ -1,31 +1,13 @@
 -- Helpers: what the readers answer.
-use Rattle.std.specs.Prelude.{◌≡◌, ℕ, ◌<◌, ◌≤◌, List, [], ◌∷◌, ◌++◌, length, map, Option, Some, None, option_map, Bool, true, false}
+use Rattle.std.specs.Prelude.{◌≡◌, ℕ, ◌<◌, ◌≤◌, List, [], ◌∷◌, ◌++◌, length, Option, Some, None, Bool, true, false}
 use Rattle.tc_base.specs.declared.place.Place.{Place}
 use Rattle.tc_lexer.specs.declared.token.Keyword.TheVariants.{Int, Mutex, Cond, Tid}
 use Rattle.tc_lexer.specs.declared.token.Sign.TheVariants.{OpenParen, CloseParen, OpenBrace, Semicolon}
 use Rattle.tc_tree.specs.declared.program.Initial.{Initial}
-use Rattle.tc_tree.specs.declared.statement.Statement.{Statement as TreeStatement}
-use Rattle.tc_tree.specs.declared.statement.Block.{Block}
-use Rattle.tc_tree.specs.declared.statement.Branch.{Branch}
-use Rattle.tc_tree.specs.Grammar.{
-  Expression,
-  expression_then,
-  tightness,
-  IsGrouped,
-  Statement,
-  Statements,
-  Otherwise,
-  statement_then,
-  statements_then,
-  IsWell,
-  AreWell,
-  Body,
-  Thread,
-  initial_then,
-}
+use Rattle.tc_tree.specs.Grammar.{Expression, expression_then, tightness, IsGrouped, Statement, statement_then, statements_then, IsWell, AreWell, Body, Thread, initial_then}
 use Rattle.tc_tree.specs.declared.word.Word.TheVariants.{Sign as ASign, Keyword as AKeyword, End as AnEnd}
 use Rattle.tc_tree.specs.declared.word.Word.{Word}
-use Rattle.tc_tree.specs.Seen.{SeenBlock, SeenBranch, statement_of, statements_of, block_of, branch_of, otherwise_of}
+use Rattle.tc_tree.specs.Seen.{SeenBlock, SeenBranch}
 use Rattle.tc_syntax.specs.declared.reader.Stop.{Stop}
 use Rattle.tc_syntax.specs.declared.reader.Stop.TheVariants.{Memory, Left}
 use Rattle.tc_syntax.specs.helpers.Reading.{Expected, Operand, Operators, Statements as MoreStatements, Globals, fault, next_level, statement}

@@ -5,11 +5,15 @@ use Rattle.clap_debug_cli.proofs.run.recorded.Goals as goal
 
 pub returns-in-Sc-clause-failure : goal.returns-in-Sc-clause-failure
 returns-in-Sc-clause-failure c =
-    rw c.in-Sc.is (IfOk-weaker c.recorded_under.result _ _ (λ both h. (c.in_ok-code.code, c.in_ok-code.ensures.found, h)) c.recorded_under.ensures.failure)
+    rw c.in-Sc.is
+    (IfOk-weaker c.recorded_under.result _ _ (λ both h. (c.in_ok-code.code, c.in_ok-code.ensures.found, h))
+    c.recorded_under.ensures.failure)
 
 pub returns-in-Sc-clause-text : goal.returns-in-Sc-clause-text
 returns-in-Sc-clause-text c =
-    rw c.in-Sc.is (IfOk-weaker c.recorded_under.result _ _ (λ both h. (c.in_ok-code.code, c.in_ok-code.ensures.found, h)) c.recorded_under.ensures.text)
+    rw c.in-Sc.is
+    (IfOk-weaker c.recorded_under.result _ _ (λ both h. (c.in_ok-code.code, c.in_ok-code.ensures.found, h))
+    c.recorded_under.ensures.text)
 
 pub returns-in-Sc-clause-answer : goal.returns-in-Sc-clause-answer
 returns-in-Sc-clause-answer c =
@@ -19,11 +23,15 @@ returns-in-Sc-clause-answer c =
 
 pub returns-in-Tso-clause-failure : goal.returns-in-Tso-clause-failure
 returns-in-Tso-clause-failure c =
-    rw c.in-Tso.is (IfOk-weaker c.recorded_under-in-Tso.result _ _ (λ both h. (c.in_ok-code.code, c.in_ok-code.ensures.found, h)) c.recorded_under-in-Tso.ensures.failure)
+    rw c.in-Tso.is
+    (IfOk-weaker c.recorded_under-in-Tso.result _ _ (λ both h. (c.in_ok-code.code, c.in_ok-code.ensures.found, h))
+    c.recorded_under-in-Tso.ensures.failure)
 
 pub returns-in-Tso-clause-text : goal.returns-in-Tso-clause-text
 returns-in-Tso-clause-text c =
-    rw c.in-Tso.is (IfOk-weaker c.recorded_under-in-Tso.result _ _ (λ both h. (c.in_ok-code.code, c.in_ok-code.ensures.found, h)) c.recorded_under-in-Tso.ensures.text)
+    rw c.in-Tso.is
+    (IfOk-weaker c.recorded_under-in-Tso.result _ _ (λ both h. (c.in_ok-code.code, c.in_ok-code.ensures.found, h))
+    c.recorded_under-in-Tso.ensures.text)
 
 pub returns-in-Tso-clause-answer : goal.returns-in-Tso-clause-answer
 returns-in-Tso-clause-answer c =
@@ -33,11 +41,15 @@ returns-in-Tso-clause-answer c =
 
 pub returns-clause-failure : goal.returns-clause-failure
 returns-clause-failure c =
-    rw c.in-Pso.is (IfOk-weaker c.recorded_under-in-Pso.result _ _ (λ both h. (c.in_ok-code.code, c.in_ok-code.ensures.found, h)) c.recorded_under-in-Pso.ensures.failure)
+    rw c.in-Pso.is
+    (IfOk-weaker c.recorded_under-in-Pso.result _ _ (λ both h. (c.in_ok-code.code, c.in_ok-code.ensures.found, h))
+    c.recorded_under-in-Pso.ensures.failure)
 
 pub returns-clause-text : goal.returns-clause-text
 returns-clause-text c =
-    rw c.in-Pso.is (IfOk-weaker c.recorded_under-in-Pso.result _ _ (λ both h. (c.in_ok-code.code, c.in_ok-code.ensures.found, h)) c.recorded_under-in-Pso.ensures.text)
+    rw c.in-Pso.is
+    (IfOk-weaker c.recorded_under-in-Pso.result _ _ (λ both h. (c.in_ok-code.code, c.in_ok-code.ensures.found, h))
+    c.recorded_under-in-Pso.ensures.text)
 
 pub returns-clause-answer : goal.returns-clause-answer
 returns-clause-answer c =

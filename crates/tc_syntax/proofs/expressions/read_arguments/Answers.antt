@@ -1,6 +1,5 @@
 use Rattle.std.proofs.Common.{[], ◌∷◌, ◌∙◌}
 use Rattle.std.proofs.lemmas.Result.{err_from_is_err_and}
-use Rattle.std.proofs.lemmas.List.{map-append}
 use Rattle.tc_lexer.specs.declared.token.Sign.TheVariants.{CloseParen}
 use Rattle.tc_syntax.specs.helpers.Reading.{Just, Operand, Operators, Arguments, Others}
 use Rattle.tc_syntax.proofs.Stacks.{goes, at_once}

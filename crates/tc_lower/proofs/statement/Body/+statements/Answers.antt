@@ -145,7 +145,8 @@ write-returns-in_ok-assert-in-Assert t c =
     let old = c.args.self.now in
     let mid : Body = record { code = c.assert.new.self; lines = old.lines } in
     let seen = ap statement_of c.in-Assert.is ∙ assert_seen c.in-Assert.place c.in-Assert.condition in
-    let added : IsAdded old.code mid.code (asserted (plain_scope c.args.scope) (length c.args.self.now.code.draft) c.args.self.now.code.free c.in-Assert.condition) = c.in_ok-assert-in-Assert.ensures in
+    let made = asserted (plain_scope c.args.scope) (length c.args.self.now.code.draft) c.args.self.now.code.free c.in-Assert.condition in
+    let added : IsAdded old.code mid.code made = c.in_ok-assert-in-Assert.ensures in
     subst (λ s. OnOk c.mark-in-Assert.result (IsWritten old c.mark-in-Assert.new.self (lowered (plain_scope c.args.scope) (length c.args.self.now.code.draft)
     c.args.self.now.code.free s))) (sym seen)
     (marked old mid c.mark-in-Assert.new.self (asserted (plain_scope c.args.scope) (length c.args.self.now.code.draft) c.args.self.now.code.free
