@@ -2,6 +2,7 @@
 #![tactic(auto)]
 
 pub mod arith;
+mod failing;
 mod handle;
 pub mod limits;
 mod model;
@@ -11,6 +12,7 @@ mod place;
 mod request;
 
 pub use arith::{BinOp, UnOp};
+pub use failing::Failing;
 pub use handle::Handle;
 pub use model::Model;
 pub use moves::Move;

@@ -1,15 +1,19 @@
 -- What later crates cite of code and of its runs.
-use Rattle.std.specs.Prelude.{◌≡◌, ℕ, Bool, true, false, List, [], ◌∷◌, ◌++◌, Option, Some, None, refl, option_and_then, slice_get, if◌then◌else◌}
+use Rattle.std.specs.Prelude.{◌≡◌, ℕ, Bool, true, false, List, [], ◌∷◌, ◌++◌, Option, Some, None, refl, option_and_then, option_map, slice_get, IsSomeAnd}
+use Rattle.std.specs.Prelude.{if◌then◌else◌}
 use Rattle.std.proofs.Common.{ap, subst, ◌∙◌}
 use Rattle.std.proofs.lemmas.Option.{none-some, same_Some, option_and_then_some}
 use Rattle.tc_base.specs.Buffers.{BufferOps}
+use Rattle.tc_base.specs.Logs.{ThreadPath, Log, place_in, failing_of}
 use Rattle.tc_base.specs.States.{Local, State}
+use Rattle.tc_base.specs.declared.failing.Failing.{Failing}
+use Rattle.tc_base.specs.declared.failing.Failing.TheVariants as failing
 use Rattle.tc_base.specs.declared.moves.Move.{Move}
 use Rattle.tc_code.specs.declared.instr.Instr.{Instr}
 use Rattle.tc_code.specs.Code.{Code, instr_at}
 use Rattle.tc_code.specs.Lawful.{IsLawful, IsLawfulFunction}
 use Rattle.tc_code.specs.Step.{instr_of, step, opening}
-use Rattle.tc_code.specs.Run.{run_from, IsReached}
+use Rattle.tc_code.specs.Run.{run_from, IsReached, EndsAs}
 use Rattle.tc_code.specs.declared.code.Func.{Func}
 
 -- an instruction at its place, in a lawful function
@@ -73,3 +77,16 @@ module _ {B : Type 0} (ops : BufferOps B) (code : Code) where
   pub step_is_reached : (s u : State B) (m : Move) → step ops code s m ≡ Some u → IsReached ops code s → IsReached ops code u
   step_is_reached s u m one r =
       record { moves = r.moves ++ m ∷ []; leads = run_from-step (opening ops code) s u r.moves m r.leads one }
+
+  -- who failed at the end of a run that ends as a log says is the log's failing thread, if it has one
+  failed_there : (s : State B) (o : Option ThreadPath) → IsSomeAnd o (λ t. s.failed ≡ Some t.name) → s.failed ≡ option_map (λ t. t.name) o
+  failed_there s None h = absurd h
+  failed_there s (Some t) h = h
+
+  pub failed_as_logged : (log : Log) (s : State B) → EndsAs ops code log.failing log.threads s → s.failed ≡ failing_of log
+  failed_as_logged log s ends = by log.failing ends
+    where
+      by : (f : Failing) → EndsAs ops code f log.threads s
+          → s.failed ≡ option_and_then (λ k. option_map (λ (t : ThreadPath). t.name) (slice_get log.threads k)) (place_in f)
+      by (failing.Thread k) h = failed_there s (slice_get log.threads k) h
+      by failing.Deadlock h = h.unfailed

@@ -1,10 +1,12 @@
 -- Runs of the machine, and what they reproduce.
-use Rattle.std.specs.Prelude.{◌≡◌, List, [], ◌∷◌, Option, Some, option_and_then, option_map, IsSomeAnd}
+use Rattle.std.specs.Prelude.{◌≡◌, List, [], ◌∷◌, Bool, false, Option, Some, None, option_and_then, option_map, slice_get, IsSomeAnd}
 use Rattle.std.specs.FinMap as map
 use Rattle.tc_base.specs.Names.{Name}
 use Rattle.tc_base.specs.Buffers.{BufferOps}
 use Rattle.tc_base.specs.States.{Thread, State}
-use Rattle.tc_base.specs.Logs.{Path, Log, failing_of, path_under}
+use Rattle.tc_base.specs.Logs.{Path, ThreadPath, Log, path_under}
+use Rattle.tc_base.specs.declared.failing.Failing.{Failing}
+use Rattle.tc_base.specs.declared.failing.Failing.TheVariants as failing
 use Rattle.tc_base.specs.declared.moves.Move.{Move}
 use Rattle.tc_code.specs.Code.{Code}
 use Rattle.tc_code.specs.Step.{step, opening}
@@ -16,6 +18,12 @@ path_of t = record { outcomes = t.local.outcomes; steps = t.local.steps }
 -- the path of the thread of a name, if there is one
 abbrev pub path_in : {B : Type 0} → State B → Name → Option Path
 path_in s n = option_map path_of (map.get s.threads n)
+
+-- the thread of a name is there, and it hasn't exited
+pub record IsLeft {B : Type 0} (s : State B) (n : Name) : Type 0 where
+  pub thread : Thread B
+  pub there : map.get s.threads n ≡ Some thread
+  pub going : thread.local.has_exited ≡ false
 
 module _ {B : Type 0} (ops : BufferOps B) (code : Code) where
   -- the steps in turn from a state, and nothing as soon as one is nothing
@@ -31,9 +39,20 @@ module _ {B : Type 0} (ops : BufferOps B) (code : Code) where
     pub moves : List Move
     pub leads : run moves ≡ Some s
 
-  -- the moves lead to the log's failure, and each thread goes as it went in the log
+  -- a deadlock: no thread has failed, no move is enabled, and some thread hasn't exited
+  pub record IsStuck (s : State B) : Type 0 where
+    pub unfailed : s.failed ≡ None
+    pub still : (m : Move) → step ops code s m ≡ None
+    pub left : (n : Name) × IsLeft s n
+
+  -- the thread at a place has failed; or nothing can go on
+  abbrev pub EndsAs : Failing → List ThreadPath → State B → Type 0
+  EndsAs (failing.Thread k) threads s = IsSomeAnd (slice_get threads k) (λ t. s.failed ≡ Some t.name)
+  EndsAs failing.Deadlock threads s = IsStuck s
+
+  -- the moves lead to the end that the log tells of, and each thread goes as it went in the log
   pub record Reproduces (log : Log) (moves : List Move) : Type 0 where
     pub state : State B
     pub leads : run moves ≡ Some state
-    pub failing : IsSomeAnd (failing_of log) (λ n. state.failed ≡ Some n)
+    pub ends : EndsAs log.failing log.threads state
     pub paths : (n : Name) → path_in state n ≡ path_under n log.threads
