@@ -125,7 +125,7 @@ clause-sound : (v : Valuation) (n vars : ℕ) (kept : KeptClauses) (lits : List 
 clause-sound v n vars kept lits hints h p = clause-step v n vars kept lits hints (is_within vars lits) (clause_true v lits) refl h p
 
 -- the kept clauses are true, and no empty clause was added
-pub record IsSound (v : Valuation) (s : Checking) : Type 0 where
+pub record StaysTrue (v : Valuation) (s : Checking) : Type 0 where
   pub kept : AreTrue v s.kept
   pub open' : s.closed ≢ true
 
@@ -133,8 +133,8 @@ not-nil : (v : Valuation) (lits : List ℤ) → clause_true v lits ≡ true → 
 not-nil v [] t = absurd (cc)
 not-nil v (l ∷ lits) t = refl
 
-judged-sound : (v : Valuation) (s : Checking) (l : Line) (o : Option CheckFault) → line_fault (s.line + 1) s.vars s.kept l ≡ o → IsSound v s
-    → IsSound v (judged o s l)
+judged-sound : (v : Valuation) (s : Checking) (l : Line) (o : Option CheckFault) → line_fault (s.line + 1) s.vars s.kept l ≡ o → StaysTrue v s
+    → StaysTrue v (judged o s l)
 judged-sound v s (Add lits hints) None e h =
     let t : clause_true v lits ≡ true = clause-sound v (s.line + 1) s.vars s.kept lits hints h.kept e in
     let f : is_nil lits ≡ false = not-nil v lits t in
@@ -145,16 +145,16 @@ judged-sound v s (Add lits hints) None e h =
 judged-sound v s (Delete ns) None e h = record { kept = AreTrue-without v s.kept ns h.kept; open' = h.open' }
 judged-sound v s l (Some f) e h = record { kept = AreTrue-empty v; open' = h.open' }
 
-after-step : (v : Valuation) (s : Checking) (l : Line) (b : Bool) → IsSound v s
-    → IsSound v (if b then s else judged (line_fault (s.line + 1) s.vars s.kept l) s l)
+after-step : (v : Valuation) (s : Checking) (l : Line) (b : Bool) → StaysTrue v s
+    → StaysTrue v (if b then s else judged (line_fault (s.line + 1) s.vars s.kept l) s l)
 after-step v s l true h = h
 after-step v s l false h = judged-sound v s l (line_fault (s.line + 1) s.vars s.kept l) refl h
 
-lines-sound : (v : Valuation) (s : Checking) (lines : List Line) → IsSound v s → IsSound v (fold after s lines)
+lines-sound : (v : Valuation) (s : Checking) (lines : List Line) → StaysTrue v s → StaysTrue v (fold after s lines)
 lines-sound v s [] h = h
 lines-sound v s (l ∷ lines) h = lines-sound v (after s l) lines (after-step v s l (is_some s.fault) h)
 
-start-sound : (v : Valuation) (s : Checking) (cs : List (List ℤ)) → satisfies v cs ≡ true → IsSound v s → IsSound v (fold keep s cs)
+start-sound : (v : Valuation) (s : Checking) (cs : List (List ℤ)) → satisfies v cs ≡ true → StaysTrue v s → StaysTrue v (fold keep s cs)
 start-sound v s [] t h = h
 start-sound v s (c ∷ cs) t h =
     start-sound v (keep s c) cs (and_parts (clause_true v c) _ t).1
@@ -167,6 +167,6 @@ closed-true None false e = absurd (cc)
 
 pub closed-means-unsatisfiable : ClosedMeansUnsatisfiable
 closed-means-unsatisfiable f lines e v t =
-    let s : IsSound v (fold after (start f) lines) = lines-sound v (start f) lines
+    let s : StaysTrue v (fold after (start f) lines) = lines-sound v (start f) lines
     (start-sound v (opening f.vars) f.clauses t (record { kept = AreTrue-empty v; open' = λ e. cc })) in
     s.open' (closed-true (fold after (start f) lines).fault (fold after (start f) lines).closed e)

@@ -228,16 +228,16 @@ module _ (language : ℕ) (least : 1 ≤ language) where
 -- ---- programs
 
 -- whatever stands where these are expected makes the words before it a program's
-abbrev Fits : List Expected → List Word → Type 0
-Fits s before = (ws : List Word) → Stands s ws → (p : Program) × IsWellProgram p × (before ++ ws ≡ program_words p)
+abbrev Completes : List Expected → List Word → Type 0
+Completes s before = (ws : List Word) → Stands s ws → (p : Program) × IsWellProgram p × (before ++ ws ≡ program_words p)
 
-fits_more : (s s' : List Expected) (w : Word) (before : List Word) → step s w ≡ Some s' → Fits s before → Fits s' (before ++ w ∷ [])
-fits_more s s' w before e fits ws d =
+completes_more : (s s' : List Expected) (w : Word) (before : List Word) → step s w ≡ Some s' → Completes s before → Completes s' (before ++ w ∷ [])
+completes_more s s' w before e fits ws d =
     let g = fits (w ∷ ws) (one_more s w ws (subst (λ (o : Option (List Expected)). StandsAfter o ws) (sym e) d)) in
     (g.0, g.1, append_assoc before (w ∷ []) ws ∙ g.2)
 
-fits_start : Fits (Globals ∷ []) []
-fits_start ws (gs, ts, main, rest, gts, gm, is, nil) = (
+completes_start : Completes (Globals ∷ []) []
+completes_start ws (gs, ts, main, rest, gts, gm, is, nil) = (
   record { globals = gs; threads = ts; main = main },
   (gts, gm),
   is
@@ -265,7 +265,7 @@ record Cut (language : ℕ) (s : List Expected) (before ws : List Word) (left : 
   refused : (w : Word) (after more : List Word) → rest ≡ w ∷ after → fault (Some s) (front ++ w ∷ more) ≡ Some (suc (length more))
 
 module _ (language : ℕ) (least : 1 ≤ language) where
-  fits_begins : (s : List Expected) (before : List Word) → are_early s ≡ true → AreOf language before → Fits s before → Begins language before
+  fits_begins : (s : List Expected) (before : List Word) → are_early s ≡ true → AreOf language before → Completes s before → Begins language before
   fits_begins s before early own fits =
       let f = finish s in
       let g = fits f.0 f.1 in
@@ -276,7 +276,7 @@ module _ (language : ℕ) (least : 1 ≤ language) where
       }
 
   cut_here : (s : List Expected) (before : List Word) (w : Word) (ws : List Word) (left : ℕ) → step s w ≡ None → suc (length ws) ≡ left → are_early s ≡ true
-      → AreOf language before → Fits s before
+      → AreOf language before → Completes s before
       → Cut language s before (w ∷ ws) left
   cut_here s before w ws left e n early own fits = record {
     front = [];
@@ -302,7 +302,7 @@ module _ (language : ℕ) (least : 1 ≤ language) where
   }
 
   cut : (s : List Expected) (before ws : List Word) (left : ℕ) → fault (Some s) ws ≡ Some left → are_early s ≡ true → AreOf language before → AreOf language ws
-      → Fits s before → Cut language s before ws left
+      → Completes s before → Cut language s before ws left
   cut s before [] left e early own all fits = record {
     front = [];
     rest = [];
@@ -319,7 +319,7 @@ module _ (language : ℕ) (least : 1 ≤ language) where
             (cut some.0 (before ++ w ∷ []) ws left (subst (λ (o : Option (List Expected)). fault o ws ≡ Some left) some.1 e)
             (subst (λ (o : Option (List Expected)). early_after o ≡ true) some.1 (step_early s w early))
             (of_append language before (w ∷ []) own (all.0, tt)) all.1
-            (fits_more s some.0 w before some.1 fits))
+            (completes_more s some.0 w before some.1 fits))
       ]
 
   never : (front : List Word) (w : Word) → ((more : List Word) → fault (Some (Globals ∷ [])) (front ++ w ∷ more) ≡ Some (suc (length more)))
@@ -357,7 +357,7 @@ module _ (language : ℕ) (least : 1 ≤ language) where
   pub is_syntax_fault : (ws : List Word) (left : ℕ) → AreOf language ws → fault (Some (Globals ∷ [])) ws ≡ Some left
       → (left ≤ length ws) × IsSyntaxFault language ws (length ws - left)
   is_syntax_fault ws left all e =
-      let c = cut (Globals ∷ []) [] ws left e refl tt all fits_start in
+      let c = cut (Globals ∷ []) [] ws left e refl tt all completes_start in
       let size : length ws ≡ length c.front + left = ap length c.whole ∙ length-append c.front c.rest ∙ ap (λ (n : ℕ). length c.front + n) c.count in
       let place : length ws - left ≡ length c.front = omega (arith, size) in
       let at_front = fault_at c.front c.rest c.begins c.refused
