@@ -31,7 +31,8 @@ module _ {B : Type 0} (ops : BufferOps B) (code : Code) where
       history_from-append (opening ops code) s [] ms (m ∷ []) leads
       ∙ ap (λ o. option_map_or (λ x. history ops code ms ++ deed_of ops code s (history ops code ms) m) o (history ops code ms)) one
 
-  one_deed : (s u : State B) (h : List Deed) (m : Move) → Went ops code s u m → length (deed_of ops code s h m) ≡ 1
+  -- each move does one deed
+  pub one_deed : (s u : State B) (h : List Deed) (m : Move) → Went ops code s u m → length (deed_of ops code s h m) ≡ 1
   one_deed s u h (move.Run n) g =
       ap (λ o. length (option_map_or (λ t. by_instr ops code t (did ops code s n t)) o [])) g.there
       ∙ ap (λ o. length (option_map_or (λ i. did ops code s n g.thread (request g.thread.local i) ∷ []) o [])) g.at

@@ -1,13 +1,16 @@
 -- A thread has exited exactly where its last instruction was an exit.
-use Rattle.std.proofs.Common.{◌≡◌, ◌∙◌, ℕ, ◌+◌, ◌-◌, ◌<◌, length, List, [], Bool, true, false, IsTrue}
+use Rattle.std.proofs.Common.{◌≡◌, ◌∙◌, ℕ, ◌+◌, ◌-◌, ◌<◌, length, List, [], Bool, true, false, IsTrue, None, if◌then◌else◌}
 use Rattle.std.proofs.Common.{Some, refl, ap, sym, subst, arith, ℤ, slice_get, inl, inr}
+use Rattle.std.specs.Prelude.{option_and_then}
+use Rattle.std.specs.FinMap as fin
 use Rattle.std.proofs.lemmas.Bool.{false≢true, true≢false, cases_lt, true_from_ne_false}
-use Rattle.std.proofs.lemmas.Option.{same_Some, option_and_then_some, slice_get_within}
+use Rattle.std.proofs.lemmas.Option.{same_Some, option_and_then_some, slice_get_within, slice_get_cases}
+use Rattle.tc_base.specs.Names.{Name}
 use Rattle.tc_base.specs.Buffers.{BufferOps}
-use Rattle.tc_base.specs.States.{Local, State}
+use Rattle.tc_base.specs.States.{Local, Thread, State}
 use Rattle.tc_code.specs.declared.instr.Instr.{Instr}
 use Rattle.tc_code.specs.declared.instr.Instr.TheVariants.{Branch, Exit}
-use Rattle.tc_code.specs.Code.{Code}
+use Rattle.tc_code.specs.Code.{Code, instr_at}
 use Rattle.tc_code.specs.Lawful.{IsLawfulFunction, IsLawful}
 use Rattle.tc_code.specs.declared.code.Func.{Func}
 use Rattle.tc_code.specs.Step.{local_after, instr_of, born}
@@ -18,6 +21,11 @@ use Rattle.run_laws.specs.Whole.{AllThreads}
 use Rattle.run_laws.proofs.Basics.{unless}
 use Rattle.run_laws.proofs.After.{Leads, branch_is, after_has, place_after}
 use Rattle.run_laws.proofs.AllThreads.{Keeps, all_in_reached}
+use Rattle.run_laws.proofs.Whole.{reached_is_whole}
+
+-- what is below the length is there
+there_below : (is : List Instr) (k : ℕ) → k < length is → (i : Instr) × (slice_get is k ≡ Some i)
+there_below is k within = elim ((slice_get_cases is k).1) [ inl at ↦ (at.0, at.2) | inr past ↦ absurd (omega (arith, within, past.0)) ]
 
 abbrev is_exit : Instr → Bool
 is_exit Exit = true
@@ -96,8 +104,22 @@ module _ {B : Type 0} (ops : BufferOps B) (code : Code) where
       option_and_then_some (λ g. slice_get g.instrs p.place) (slice_get code.functions t.function) Exit p.exit
       (λ g there at. omega (arith, p.next, h.below g not_yet there, (lawful.functions t.function g there).only p.place at))
 
+  all_exit : (s : State B) → IsLawful code → IsReached ops code s → AllThreads (Exits code) s.threads
+  all_exit s lawful = all_in_reached ops code (Exits code) (λ v r. keeps_exits lawful v) (born_exits _ [] lawful) s
+
   -- a thread of lawful code has exited exactly where its last instruction was an exit
   pub exited_past_exit : (s : State B) → IsLawful code → IsReached ops code s → AllThreads (ExitedPastExit code) s.threads
   exited_past_exit s lawful reached n t there =
-      let h = all_in_reached ops code (Exits code) (λ v r. keeps_exits lawful v) (born_exits _ [] lawful) s reached n t there in
-      (h.past, λ p. true_from_ne_false _ (not_below t.local p lawful h))
+      let h = all_exit s lawful reached n t there in (h.past, λ p. true_from_ne_false _ (not_below t.local p lawful h))
+
+  -- one that hasn't exited is at an instruction
+  pub has_next : (s : State B) → IsLawful code → IsReached ops code s → (n : Name) (t : Thread B) → fin.get s.threads n ≡ Some t
+      → t.local.has_exited ≡ false → (i : Instr) × (instr_of code t.local ≡ Some i)
+  has_next s lawful reached n t there going =
+      let whole = (reached_is_whole ops code s lawful reached).threads n t there in
+      let within = (all_exit s lawful reached n t there).below whole.function going whole.there in
+      let at = there_below whole.function.instrs t.local.instruction within in (
+        at.0,
+        ap (λ b. if b then None else instr_at code t.local.function t.local.instruction) going
+            ∙ ap (option_and_then (λ f. slice_get f.instrs t.local.instruction)) whole.there ∙ at.1,
+      )

@@ -1,12 +1,16 @@
 -- Names of threads, and what is in a map under them.
-use Rattle.std.proofs.Common.{◌≡◌, ◌≢◌, ◌∙◌, ◌⊎◌, inl, inr, ℕ, length, Bool, true, false, cond, IsSome, Some, refl, ap, sym, subst, arith, true≢false}
+use Rattle.std.proofs.Common.{◌≡◌, ◌≢◌, ◌∙◌, ◌⊎◌, inl, inr, ℕ, ◌==◌, List, [], ◌∷◌, length, Bool, true, false, ◌||◌, cond, IsTrue, IsSome, Some}
+use Rattle.std.proofs.Common.{refl, ap, sym, subst, arith, true≢false}
+use Rattle.std.specs.List.{list_any}
 use Rattle.std.specs.FinMap as fin
+use Rattle.std.specs.FinSet as set
 use Rattle.std.proofs.lemmas.Cmp.{nat_list_cmp_total, eq_by_cmp_equiv}
 use Rattle.std.proofs.lemmas.List.{length_push}
 use Rattle.std.proofs.lemmas.Map.Lookups.{exact_bytes}
 use Rattle.std.proofs.lemmas.Map.Views.{tells_apart}
 use Rattle.std.proofs.lemmas.Option.{same_Some}
-use Rattle.tc_base.specs.Names.{Name, ByName, main, child}
+use Rattle.tc_base.specs.Names.{Name, ByName, main, child, by_name}
+use Rattle.tc_code.specs.Step.{NameSet}
 use Rattle.run_laws.specs.Alone.{same}
 
 -- what the map says of two names, case by case
@@ -80,3 +84,15 @@ child_apart n k e = omega (arith, length_push n k, ap length e)
 -- no child is main
 pub child_not_main : (n : Name) (k : ℕ) → child n k ≢ main
 child_not_main n k e = omega (arith, length_push n k, ap length e)
+
+-- a set of names that isn't empty has one
+first_in : (ns : NameSet) (qs : List Name) → set.items ns ≡ qs → (set.len ns == 0) ≡ false → (u : Name) × IsTrue (set.contains ns u)
+first_in ns [] is some =
+    let none = set.same_set nat_list_cmp_total exact_bytes ns set.empty
+    (λ q. set.contains-items ns q ∙ ap (list_any (same q)) is ∙ sym (set.contains-empty by_name q)) in
+    absurd (true≢false (sym (ap (λ s. set.len s == 0) none ∙ ap (λ k. k == 0) (set.len-empty by_name)) ∙ some))
+first_in ns (q ∷ qs) is some =
+    (q, set.contains-items ns q ∙ ap (list_any (same q)) is ∙ ap (λ b. b || list_any (same q) qs) (same_self q q refl))
+
+pub some_in : (ns : NameSet) → (set.len ns == 0) ≡ false → (u : Name) × IsTrue (set.contains ns u)
+some_in ns some = first_in ns (set.items ns) refl some

@@ -4,4 +4,5 @@ pub mod In
 pub mod Issues
 pub mod Nothing
 pub mod Own
+pub mod Stuck
 pub mod Turns

@@ -11,7 +11,7 @@ ghost use Rattle.tc_base.specs.States.{State, Thread};
 ghost use Rattle.tc_base.specs.declared.model.Model.{Model};
 ghost use Rattle.tc_base.specs.declared.moves.Move.{Move};
 ghost use Rattle.tc_code.specs.Code.{Code};
-ghost use Rattle.tc_code.specs.Run.{run, IsReached};
+ghost use Rattle.tc_code.specs.Run.{run, IsReached, IsStuck};
 ghost use Rattle.tc_code.specs.Step.{step};
 ghost use Rattle.store_buffers.specs.Laws.{Laws};
 ghost use Rattle.store_buffers.specs.Pending.{Binding, Stands, stores};
@@ -30,6 +30,12 @@ pub fn buffers_are_told<B>()
 pub fn nothing_is_buffered<B>()
     ensures { (ops : BufferOps B) (model : Model) (bound : Binding) (code : Code) (s : State B) (n : Name) (t : Thread B)
         → Laws ops model bound → ops.buffered ≡ false → IsReached ops code s → fin.get s.threads n ≡ Some t → HoldsNothing ops t.buffer }
+{}
+
+/// Where nothing can go on every buffer is empty: the oldest store of a thread may always drain.
+pub fn stuck_buffers_are_empty<B>()
+    ensures { (ops : BufferOps B) (model : Model) (bound : Binding) (code : Code) (s : State B) (n : Name) (t : Thread B)
+        → Laws ops model bound → IsReached ops code s → IsStuck ops code s → fin.get s.threads n ≡ Some t → ops.is_empty t.buffer ≡ true }
 {}
 
 /// Thread, step and kind name a deed: no two have the same.

@@ -1,14 +1,15 @@
 -- The oldest store of a form.
-use Rattle.std.proofs.Common.{◌≡◌, ℕ, ◌==◌, nat_eq, Bool, true, false, cond, Option, Some, None, List, [], ◌∷◌, ◌++◌, filter, refl, sym, ap, ◌∙◌, subst}
+use Rattle.std.proofs.Common.{◌≡◌, inl, inr, ℕ, ◌==◌, nat_eq, Bool, true, false, cond, Option, Some, None, List, [], ◌∷◌, ◌++◌, filter}
+use Rattle.std.proofs.Common.{refl, sym, ap, ◌∙◌, subst}
 use Rattle.std.specs.Option.{option_eq}
 use Rattle.std.proofs.lemmas.Bool.{false≢true, or_parts}
 use Rattle.std.proofs.lemmas.List.Elements.{filter-append}
 use Rattle.std.specs.Cmp.{nat_eq_equiv}
 use Rattle.tc_base.specs.Buffers.{Entry, BufferOps}
 use Rattle.tc_base.specs.declared.model.Model.{Model}
-use Rattle.store_buffers.specs.Pending.{Pending, Store, Bar, stores, has_bar, Binding, waits, form_of, stores_by, Drains}
+use Rattle.store_buffers.specs.Pending.{Pending, Store, Bar, stores, has_bar, Binding, waits, form_of, stores_by, Drains, Stands}
 use Rattle.store_buffers.specs.Laws.{Laws}
-use Rattle.store_buffers.specs.helpers.Lists.{stores-append}
+use Rattle.store_buffers.specs.helpers.Lists.{stores-append, first_store, waits_for_none}
 
 -- two stores of one form are bound
 bound_by_form : (bound : Binding) → ((b : Bool) → bound true b ≡ true) → (bound false false ≡ true → bound false true ≡ true)
@@ -51,3 +52,16 @@ oldest ops model bound ps older newer form e laws d =
     ap (stores_by bound form) d.there
     ∙ subst (λ f. stores_by bound f (older ++ Store e ∷ newer) ≡ e ∷ stores_by bound f newer) d.by_form
     (oldest_by bound laws.same_cell laws.barred older newer e d.is_free)
+
+-- the oldest store may always drain: where nothing may, none is pending
+pub nothing_drains : {B : Type 0} (ops : BufferOps B) (model : Model) (bound : Binding) (b : B) (ps : List Pending) → Laws ops model bound → Stands ops b ps
+    → ((form : Option ℕ) → ops.may_drain b form ≡ false) → stores ps ≡ []
+nothing_drains ops model bound b ps laws stands none =
+    elim (first_store ps) [
+      | inl f ↦
+          let form = form_of bound f.store.cell in
+          let free = waits_for_none bound f.older f.store.cell f.first in
+          let out = laws.drain_stands b ps form f.older f.store f.newer stands (record { there = f.there; by_form = refl; is_free = free }) in
+          absurd (false≢true (sym (none form) ∙ out.may))
+      | inr nothing ↦ nothing
+    ]

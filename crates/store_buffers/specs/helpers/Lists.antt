@@ -1,9 +1,10 @@
 -- Lists of pending stores and bars.
-use Rattle.std.proofs.Common.{◌≡◌, ℕ, ℤ, ◌==◌, true, Option, Some, None, List, [], ◌∷◌, ◌++◌, if◌then◌else◌, refl, sym, ap, ◌∙◌}
+use Rattle.std.proofs.Common.{◌≡◌, ◌⊎◌, inl, inr, ℕ, ℤ, ◌==◌, true, false, Option, Some, None, List, [], ◌∷◌, ◌++◌, if◌then◌else◌}
+use Rattle.std.proofs.Common.{refl, sym, ap, ◌∙◌}
 use Rattle.std.specs.Option.{option_or}
 use Rattle.std.proofs.lemmas.Bool.{false≢true}
 use Rattle.tc_base.specs.Buffers.{Entry, BufferOps, newest, is_nil}
-use Rattle.store_buffers.specs.Pending.{Pending, Store, Bar, stores, Stands, put}
+use Rattle.store_buffers.specs.Pending.{Pending, Store, Bar, stores, Binding, waits, Stands, put}
 use Rattle.std.proofs.lemmas.List.Sums.{fold-append}
 use Rattle.std.specs.Cmp.{nat_eq_equiv}
 use Rattle.tc_base.proofs.Options.{or_none}
@@ -20,6 +21,30 @@ not_nil (x ∷ xs) y ys e = cc
 pub nil_is : {A : Type 0} (xs : List A) → is_nil xs ≡ true → xs ≡ []
 nil_is [] e = refl
 nil_is (x ∷ xs) e = absurd (false≢true e)
+
+-- the first store of a list
+pub record FirstStore (ps : List Pending) : Type 0 where
+  pub older : List Pending
+  pub store : Entry
+  pub newer : List Pending
+  pub there : ps ≡ older ++ Store store ∷ newer
+  pub first : stores older ≡ []
+
+pub first_store : (ps : List Pending) → FirstStore ps ⊎ (stores ps ≡ [])
+first_store [] = inr refl
+first_store (Store e ∷ ps) = inl (record { older = []; store = e; newer = ps; there = refl; first = refl })
+first_store (Bar ∷ ps) =
+    elim (first_store ps) [
+      | inl f ↦
+          inl (record { older = Bar ∷ f.older; store = f.store; newer = f.newer; there = ap (λ qs. Bar ∷ qs) f.there; first = f.first })
+      | inr none ↦ inr none
+    ]
+
+-- where no store is pending, nothing waits
+pub waits_for_none : (bound : Binding) (ps : List Pending) (c : ℕ) → stores ps ≡ [] → waits bound ps c ≡ false
+waits_for_none bound [] c none = refl
+waits_for_none bound (Store e ∷ ps) c none = cc
+waits_for_none bound (Bar ∷ ps) c none = waits_for_none bound ps c none
 
 pub store_there : (older : List Pending) (e : Entry) (newer : List Pending) → stores (older ++ Store e ∷ newer) ≡ [] → ⊥
 store_there older e newer none = not_nil (stores older) e (stores newer) (sym (stores-append older (Store e ∷ newer)) ∙ none)
