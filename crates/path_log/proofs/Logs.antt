@@ -1,18 +1,21 @@
 -- A text is that of one log, or breaks the form at one offset.
-use Rattle.std.proofs.Common.{◌≡◌, ◌<◌, ◌≤◌, ◌+◌, ℕ, suc, Bool, true, leb, ltb, eqb, List, [], ◌∷◌, ◌++◌, length, Option, Some, None, Ok, Err, refl, sym, ap}
+use Rattle.std.proofs.Common.{◌≡◌, ◌<◌, ◌≤◌, ◌+◌, ℕ, suc, Bool, true, ◌&&◌, leb, ltb, eqb, List, [], ◌∷◌, ◌++◌, length, Option, Some, None, Ok, Err, refl, sym, ap}
 use Rattle.std.proofs.Common.{◌∙◌, subst, arith, append_assoc, inl, inr, ◌^◌, lit<}
 use Rattle.std.specs.Prelude.{codes, bytes_eq, is_some, IfSome}
 use Rattle.std.specs.List.{flat_map, list_all}
-use Rattle.std.proofs.lemmas.Bool.{and_parts, and_from, cases_lt, le-leb, leb-true, lt-ltb, ltb-true, eqb-true, eq-eqb}
+use Rattle.std.proofs.lemmas.Bool.{and_parts, and_from, cases_Bool, cases_lt, le-leb, leb-true, lt-ltb, ltb-true, eqb-true, eq-eqb, ne_eqb}
 use Rattle.std.proofs.lemmas.List.{append-nil, nil_from_length}
 use Rattle.std.proofs.lemmas.Slice.Eq.{bytes_eq-Decides}
 use Rattle.byteorder.specs.Endian.{big_bytes}
 use Rattle.tc_base.specs.Logs.{ThreadPath}
+use Rattle.tc_base.specs.declared.failing.Failing.{Failing}
+use Rattle.tc_base.specs.declared.failing.Failing.TheVariants.{Thread, Deadlock}
 use Rattle.tc_base.specs.declared.model.Model.{Model}
 use Rattle.tc_base.specs.declared.model.Model.TheVariants.{Sc, Tso, Pso}
-use Rattle.path_log.specs.Texts.{StoredLog, AreBytes, HasText, is_log, is_digest, is_thread, is_within, rises_from, thread_text, model_code, head_text}
-use Rattle.path_log.specs.Texts.{log_text}
-use Rattle.path_log.specs.Fields.{Place, done, behind, ◌such◌, ◌>>=◌, field, byte, two, model_of, model, digest_in, head, threads, body, ended, whole}
+use Rattle.path_log.specs.Texts.{StoredLog, AreBytes, HasText, is_log, is_digest, is_thread, is_there, has_ending, is_within, rises_from}
+use Rattle.path_log.specs.Texts.{thread_text, model_code, head_text, ending_code, log_text}
+use Rattle.path_log.specs.Fields.{Place, done, behind, ◌such◌, ◌>>=◌, field, byte, two, model_of, model, digest_in, head, ending_of, ending, threads, body, ended}
+use Rattle.path_log.specs.Fields.{whole}
 use Rattle.path_log.specs.Faults.{BreaksAt}
 use Rattle.path_log.specs.declared.fault.LogFault.{LogFault}
 use Rattle.path_log.specs.declared.fault.LogFault.TheVariants.{Form, Memory}
@@ -175,49 +178,92 @@ head_again digest m rest offset h =
           ∙ ap (λ (r : Read (Option (List ℕ))). behind r (λ digest. done (digest, m))) last.read_is)));
     }
 
+-- How the run ended.
+
+ending_again_of : (code : ℕ) → ending_code (ending_of code) ≡ code
+ending_again_of code = elim (cases_Bool (eqb code 255)) [
+  | inl is ↦ rw is (sym (eqb-true code 255 is))
+  | inr other ↦ rw other refl
+]
+
+ending_is : (failing : Failing) (count : ℕ) → is_there failing count ≡ true → count ≤ 255 → ending_of (ending_code failing) ≡ failing
+ending_is (Thread k) count there few = let lt = ltb-true k count there in rw (ne_eqb k 255 (λ e. omega arith)) refl
+ending_is Deadlock count there few = refl
+
+abbrev passes : Bool → ℕ → Failing → Bool
+passes both count failing = has_ending both failing && is_there failing count
+
+abbrev one_byte : Place → Read Failing
+one_byte = byte >>= λ code. done (ending_of code)
+
+pub there_of : (both : Bool) (count : ℕ) (place : Place) (x : Failing × Place) → ending both count place ≡ Ok x → is_there x.0 count ≡ true
+there_of both count place x e =
+    let a = such_passes one_byte (passes both count) place x e in (and_parts (has_ending both x.0) (is_there x.0 count) a.1).1
+
+ending_takes : (both : Bool) (count : ℕ) (place : Place) (x : Failing × Place) → AreBytes place.1 → ending both count place ≡ Ok x
+    → Takes place.1 (ending_code x.0 ∷ []) x.1.1 × (has_ending both x.0 ≡ true) × (is_there x.0 count ≡ true)
+ending_takes both count place x h e =
+    let a = such_passes one_byte (passes both count) place x e in
+    let rules = and_parts (has_ending both x.0) (is_there x.0 count) a.1 in
+    let b = behind_ok (byte place) (λ code. done (ending_of code)) x a.0 in
+    let code = byte_takes place b.0 h b.1 in
+    let made : Takes place.1 (ending_code (ending_of b.0.0) ∷ []) b.0.1.1 = subst (λ (c : ℕ). Takes place.1 (c
+    ∷ []) b.0.1.1) (sym (ending_again_of b.0.0)) code.0 in
+    (subst (λ (y : Failing × Place). Takes place.1 (ending_code y.0 ∷ []) y.1.1) (read_is (ending_of b.0.0, b.0.1) x b.2) made, rules.0, rules.1)
+
+ending_again : (both : Bool) (count : ℕ) (failing : Failing) (rest : List ℕ) (offset : ℕ) → has_ending both failing ≡ true → is_there failing count ≡ true
+    → count ≤ 255 → ending both count (offset, ending_code failing ∷ rest) ≡ Ok (failing, (offset + 1, rest))
+ending_again both count failing rest offset has there few =
+    let read = ap (λ (r : Read ℕ). behind r (λ code. done (ending_of code))) (byte_again (ending_code failing) rest offset)
+    ∙ ap (λ (f : Failing). whole_read (f, (offset + 1, rest))) (ending_is failing count there few) in
+    such_again one_byte (passes both count) (offset, ending_code failing ∷ rest) failing (offset + 1, rest) read
+    (and_from (has_ending both failing) (is_there failing count) has there)
+
 -- The body.
 
-abbrev stored : Option (List ℕ) × Model → ℕ → List ThreadPath → StoredLog
+abbrev stored : Option (List ℕ) × Model → Failing → List ThreadPath → StoredLog
 stored h failing ts = record { digest = h.0; log = record { model = h.1; failing = failing; threads = ts } }
 
 -- the threads that were read make a log
-pub are_a_log : (as_runs : Bool) (m : Model) (count failing : ℕ) (place after : Place) (ts : List ThreadPath) → failing < count
+pub are_a_log : (as_runs : Bool) (m : Model) (count : ℕ) (failing : Failing) (place after : Place) (ts : List ThreadPath) → is_there failing count ≡ true
     → threads as_runs count None place ≡ Ok (ts, after) → is_log (record { model = m; failing = failing; threads = ts }) ≡ true
-are_a_log as_runs m count failing place after ts lt e =
+are_a_log as_runs m count failing place after ts there e =
     let rises = threads_rise as_runs count None place (ts, after) e in
-    let len = rises.1 in
-    and_from (rises_from None ts) (ltb failing (length ts)) rises.0 (lt-ltb failing (length ts) (omega arith))
+    and_from (rises_from None ts) (is_there failing (length ts)) rises.0 (subst (λ (n : ℕ). is_there failing n ≡ true) (sym rises.1) there)
 
 body_takes : (place : Place) (x : StoredLog × Place) → AreBytes place.1 → body place ≡ Ok x → Takes place.1 (log_text x.0) x.1.1 × HasText x.0
 unfolding body
 body_takes place x h e =
-    let a = behind_ok (head place) (λ h. (byte such is_within 1 255) >>= λ count. (byte such (λ index. ltb index count)) >>= λ failing.
+    let a = behind_ok (head place) (λ h. (byte such is_within 1 255) >>= λ count. ending (is_some h.0) count >>= λ failing.
     threads (is_some h.0) count None >>= λ ts. done (stored h failing ts)) x e in
-    let b = behind_ok ((byte such is_within 1 255) a.0.1) (λ count. (byte such (λ index. ltb index count)) >>= λ failing.
+    let b = behind_ok ((byte such is_within 1 255) a.0.1) (λ count. ending (is_some a.0.0.0) count >>= λ failing.
     threads (is_some a.0.0.0) count None >>= λ ts. done (stored a.0.0 failing ts)) x a.2 in
-    let c = behind_ok ((byte such (λ index. ltb index b.0.0)) b.0.1) (λ failing. threads (is_some a.0.0.0) b.0.0 None >>= λ ts. done (stored a.0.0 failing ts))
-    x b.2 in
+    let c = behind_ok (ending (is_some a.0.0.0) b.0.0 b.0.1) (λ failing. threads (is_some a.0.0.0) b.0.0 None >>= λ ts. done (stored a.0.0 failing ts)) x b.2 in
     let d = behind_ok (threads (is_some a.0.0.0) b.0.0 None c.0.1) (λ ts. done (stored a.0.0 c.0.0 ts)) x c.2 in
     let t0 = head_takes place a.0 h a.1 in
     let t1 = byte_takes a.0.1 b.0 t0.0.are (such_passes byte (is_within 1 255) a.0.1 b.0 b.1).0 in
-    let below = such_passes byte (λ index. ltb index b.0.0) b.0.1 c.0 c.1 in
-    let t2 = byte_takes b.0.1 c.0 t1.0.are below.0 in
+    let t2 = ending_takes (is_some a.0.0.0) b.0.0 b.0.1 c.0 t1.0.are c.1 in
     let t3 = threads_take (is_some a.0.0.0) b.0.0 None c.0.1 d.0 t2.0.are d.1 in
     let len = (threads_rise (is_some a.0.0.0) b.0.0 None c.0.1 d.0 d.1).1 in
     let few : b.0.0 < 256 = t1.1 in
     let text = flat_map (thread_text (is_some a.0.0.0)) d.0.0 in
     let counted : Takes a.0.1.1 (length d.0.0 ∷ []) b.0.1.1 = subst (λ (n : ℕ). Takes a.0.1.1 (n ∷ []) b.0.1.1) (sym len) t1.0 in
-    let last_two = Takes-then b.0.1.1 (c.0.0 ∷ []) c.0.1.1 text d.0.1.1 t2.0 t3.0 in
-    let last_three = Takes-then a.0.1.1 (length d.0.0 ∷ []) b.0.1.1 (c.0.0 ∷ text) d.0.1.1 counted last_two in
-    let all = Takes-then place.1 (head_text a.0.0.0 a.0.0.1) a.0.1.1 (length d.0.0 ∷ c.0.0 ∷ text) d.0.1.1 t0.0 last_three in
+    let last_two = Takes-then b.0.1.1 (ending_code c.0.0 ∷ []) c.0.1.1 text d.0.1.1 t2.0 t3.0 in
+    let last_three = Takes-then a.0.1.1 (length d.0.0 ∷ []) b.0.1.1 (ending_code c.0.0 ∷ text) d.0.1.1 counted last_two in
+    let all = Takes-then place.1 (head_text a.0.0.0 a.0.0.1) a.0.1.1 (length d.0.0 ∷ ending_code c.0.0 ∷ text) d.0.1.1 t0.0 last_three in
     subst (λ (y : StoredLog × Place). Takes place.1 (log_text y.0) y.1.1 × HasText y.0) (read_is (stored a.0.0 c.0.0 d.0.0, d.0.1) x d.2) (
       all,
       record {
-        is_log = are_a_log (is_some a.0.0.0) a.0.0.1 b.0.0 c.0.0 c.0.1 d.0.1 d.0.0 (ltb-true c.0.0 b.0.0 below.1) d.1;
+        is_log = are_a_log (is_some a.0.0.0) a.0.0.1 b.0.0 c.0.0 c.0.1 d.0.1 d.0.0 t2.2 d.1;
         is_of_format = and_from (leb (length d.0.0) 255) (list_all is_thread d.0.0) (le-leb (length d.0.0) 255 (omega arith)) t3.1;
+        has_ending = t2.1;
         is_digest = t0.1;
       },
     )
+
+some_there : (failing : Failing) (count : ℕ) → is_there failing count ≡ true → 0 < count
+some_there (Thread k) count there = let lt = ltb-true k count there in omega arith
+some_there Deadlock count there = ltb-true 0 count there
 
 body_again : (s : StoredLog) (rest : List ℕ) (offset : ℕ) → HasText s → ReadsAs (body (offset, log_text s ++ rest)) s rest
 unfolding body
@@ -225,30 +271,29 @@ body_again s rest offset h =
     let ts = s.log.threads in
     let failing = s.log.failing in
     let count = length ts in
-    let is = and_parts (rises_from None ts) (ltb failing count) h.is_log in
-    let below = ltb-true failing count is.1 in
+    let is = and_parts (rises_from None ts) (is_there failing count) h.is_log in
+    let some = some_there failing count is.1 in
     let format = and_parts (leb count 255) (list_all is_thread ts) h.is_of_format in
     let few = leb-true count 255 format.0 in
     let as_runs = is_some s.digest in
     let text = flat_map (thread_text as_runs) ts in
-    let behind_head = count ∷ failing ∷ (text ++ rest) in
+    let code = ending_code failing in
+    let behind_head = count ∷ code ∷ (text ++ rest) in
     let split : log_text s ++ rest ≡ head_text s.digest s.log.model
-    ++ behind_head = append_assoc (head_text s.digest s.log.model) (count ∷ failing ∷ text) rest in
+    ++ behind_head = append_assoc (head_text s.digest s.log.model) (count ∷ code ∷ text) rest in
     let first = head_again s.digest s.log.model behind_head offset h.is_digest in
-    let second = such_again byte (is_within 1 255) (first.end, behind_head) count (first.end + 1, failing ∷ (text ++ rest))
-    (byte_again count (failing ∷ (text ++ rest)) first.end) (within_again 1 255 count (omega arith) few) in
-    let third = such_again byte (λ index. ltb index count) (first.end + 1, failing ∷ (text ++ rest)) failing (first.end + 1 + 1, text ++ rest)
-    (byte_again failing (text ++ rest) (first.end + 1)) is.1 in
+    let second = such_again byte (is_within 1 255) (first.end, behind_head) count (first.end + 1, code ∷ (text ++ rest))
+    (byte_again count (code ∷ (text ++ rest)) first.end) (within_again 1 255 count (omega arith) few) in
+    let third = ending_again as_runs count failing (text ++ rest) (first.end + 1) h.has_ending is.1 few in
     let last = threads_again as_runs ts None rest (first.end + 1 + 1) is.0 format.1 in
     record {
       end = last.end;
       read_is = ap (λ (x : List ℕ). body (offset, x)) split
-          ∙ (ap (λ (r : Read (Option (List ℕ) × Model)). behind r (λ h. (byte such is_within 1 255) >>= λ count. (byte such (λ index. ltb index count)) >>= λ
-          failing.
+          ∙ (ap (λ (r : Read (Option (List ℕ) × Model)). behind r (λ h. (byte such is_within 1 255) >>= λ count. ending (is_some h.0) count >>= λ failing.
           threads (is_some h.0) count None >>= λ ts. done (stored h failing ts))) first.read_is
-          ∙ (ap (λ (r : Read ℕ). behind r (λ count. (byte such (λ index. ltb index count)) >>= λ failing.
+          ∙ (ap (λ (r : Read ℕ). behind r (λ count. ending as_runs count >>= λ failing.
           threads as_runs count None >>= λ ts. done (stored (s.digest, s.log.model) failing ts))) second
-          ∙ (ap (λ (r : Read ℕ). behind r (λ failing. threads as_runs count None >>= λ ts. done (stored (s.digest, s.log.model) failing ts))) third
+          ∙ (ap (λ (r : Read Failing). behind r (λ failing. threads as_runs count None >>= λ ts. done (stored (s.digest, s.log.model) failing ts))) third
           ∙ ap (λ (r : Read (List ThreadPath)). behind r (λ ts. done (stored (s.digest, s.log.model) failing ts))) last.read_is)));
     }
 

@@ -1,13 +1,15 @@
 -- The fields of a log's text, in their order, each with its length and its rule.
-use Rattle.std.specs.Prelude.{ℕ, zero, suc, ◌+◌, ◌-◌, ◌^◌, Bool, true, false, not, ◌==◌, nat_le, nat_lt, if◌then◌else◌, bytes_eq}
+use Rattle.std.specs.Prelude.{ℕ, zero, suc, ◌+◌, ◌-◌, ◌^◌, Bool, true, false, not, ◌&&◌, ◌==◌, nat_le, nat_lt, if◌then◌else◌, bytes_eq}
 use Rattle.std.specs.Prelude.{List, [], ◌∷◌, ◌++◌, length, take, drop, slice_index, replicate, Option, Some, None, is_some, Result, Ok, Err, codes, ◌%◌}
 use Rattle.std.specs.List.{flat_map, list_all}
 use Rattle.byteorder.specs.Endian.{big_number}
 use Rattle.tc_base.specs.Names.{Name}
 use Rattle.tc_base.specs.Logs.{ThreadPath}
+use Rattle.tc_base.specs.declared.failing.Failing.{Failing}
+use Rattle.tc_base.specs.declared.failing.Failing.TheVariants.{Thread, Deadlock}
 use Rattle.tc_base.specs.declared.model.Model.{Model}
 use Rattle.tc_base.specs.declared.model.Model.TheVariants.{Sc, Tso, Pso}
-use Rattle.path_log.specs.Texts.{StoredLog, is_above, is_within, bytes_for}
+use Rattle.path_log.specs.Texts.{StoredLog, is_above, is_within, is_there, has_ending, bytes_for}
 
 -- an offset, and the bytes from there on
 abbrev pub Place : Type 0
@@ -143,12 +145,20 @@ head = do
   digest ← digest_in format
   done (digest, m)
 
--- the head, the number of threads, the index of the one that failed, and each thread
+-- the end that a code tells of
+abbrev pub ending_of : ℕ → Failing
+ending_of code = if code == 255 then Deadlock else Thread code
+
+-- how the run of so many threads ended
+abbrev pub ending : Bool → ℕ → Fields Failing
+ending both count = (byte >>= λ code. done (ending_of code)) such (λ failing. has_ending both failing && is_there failing count)
+
+-- the head, the number of threads, how the run ended, and each thread
 unfoldable pub body : Fields StoredLog
 body = do
   h ← head
   count ← byte such is_within 1 255
-  failing ← byte such (λ index. nat_lt index count)
+  failing ← ending (is_some h.0) count
   ts ← threads (is_some h.0) count None
   done (record { digest = h.0; log = record { model = h.1; failing = failing; threads = ts } })
 

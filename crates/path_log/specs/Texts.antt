@@ -8,6 +8,8 @@ use Rattle.std.specs.Cmp.Lexicographic.{slice_cmp}
 use Rattle.byteorder.specs.Endian.{big_bytes}
 use Rattle.tc_base.specs.Names.{Name}
 use Rattle.tc_base.specs.Logs.{Log, ThreadPath}
+use Rattle.tc_base.specs.declared.failing.Failing.{Failing}
+use Rattle.tc_base.specs.declared.failing.Failing.TheVariants.{Thread, Deadlock}
 use Rattle.tc_base.specs.declared.model.Model.{Model}
 use Rattle.tc_base.specs.declared.model.Model.TheVariants.{Sc, Tso, Pso}
 
@@ -26,9 +28,14 @@ abbrev pub rises_from : Option Name → List ThreadPath → Bool
 rises_from last [] = true
 rises_from last (t ∷ ts) = is_above last t.name && rises_from (Some t.name) ts
 
--- the paths have different names, in order, and one of them is of the thread that failed
+-- of so many threads, the one that failed is there; in a deadlock some thread is
+abbrev pub is_there : Failing → ℕ → Bool
+is_there (Thread k) count = nat_lt k count
+is_there Deadlock count = nat_lt 0 count
+
+-- the paths have different names, in order, and that of the thread that failed is there, if one did
 abbrev pub is_log : Log → Bool
-is_log log = rises_from None log.threads && nat_lt log.failing (length log.threads)
+is_log log = rises_from None log.threads && is_there log.failing (length log.threads)
 
 -- Bits of a byte, the highest first.
 
@@ -85,10 +92,15 @@ abbrev pub head_text : Option (List ℕ) → Model → List ℕ
 head_text None model = codes "CLPL" ++ (big_bytes 2 1 ++ model_code model ∷ [])
 head_text (Some digest) model = codes "CLPL" ++ (big_bytes 2 2 ++ model_code model ∷ digest)
 
--- the head, the number of threads, the index of the one that failed, and each thread
+-- the index of the thread that failed, or FF
+abbrev pub ending_code : Failing → ℕ
+ending_code (Thread k) = k
+ending_code Deadlock = 255
+
+-- the head, the number of threads, how the run ended, and each thread
 abbrev pub log_text : StoredLog → List ℕ
 log_text s = head_text s.digest s.log.model
-    ++ (length s.log.threads ∷ s.log.failing ∷ flat_map (thread_text (is_some s.digest)) s.log.threads)
+    ++ (length s.log.threads ∷ ending_code s.log.failing ∷ flat_map (thread_text (is_some s.digest)) s.log.threads)
 
 -- What has a text.
 
@@ -105,6 +117,11 @@ is_thread t = (nat_le (length t.name) 255 && list_all (is_within 1 255) t.name)
 abbrev pub is_of_format : Log → Bool
 is_of_format log = nat_le (length log.threads) 255 && list_all is_thread log.threads
 
+-- format 2 has both endings, format 1 failures alone
+abbrev pub has_ending : Bool → Failing → Bool
+has_ending both (Thread k) = true
+has_ending both Deadlock = both
+
 -- a digest has 32 bytes
 abbrev pub is_digest : List ℕ → Bool
 is_digest digest = length digest == 32 && list_all (λ byte. nat_lt byte 256) digest
@@ -117,4 +134,5 @@ AreBytes bytes = (i : ℕ) → slice_index bytes i < 256
 pub record HasText (s : StoredLog) : Type 0 where
   pub is_log : IsTrue (is_log s.log)
   pub is_of_format : IsTrue (is_of_format s.log)
+  pub has_ending : IsTrue (has_ending (is_some s.digest) s.log.failing)
   pub is_digest : IfSome s.digest (λ digest. IsTrue (is_digest digest))

@@ -1,4 +1,4 @@
-//! Logs: the paths of the threads of a run that failed, as bytes.
+//! Logs: the paths of the threads of a run that failed or came to a deadlock, as bytes.
 #![tactic(auto)]
 
 mod cursor;

@@ -1,11 +1,11 @@
 //! Logs.
-ghost use Rattle.std.specs.Prelude.{◌≡◌, ◌^◌, ◌&&◌, nat_le, nat_lt, length, IsTrue, Some, option_map};
+ghost use Rattle.std.specs.Prelude.{◌≡◌, ◌^◌, ◌&&◌, nat_le, nat_lt, length, is_some, IsTrue, Some, option_map};
 ghost use Rattle.std.specs.List.{list_all};
 ghost use Rattle.tc_base.specs.Logs.{Log as PlainLog, failing_of};
-ghost use Rattle.path_log.specs.Texts.{is_digest, is_log, is_of_format, is_thread, is_within};
+ghost use Rattle.path_log.specs.Texts.{is_digest, is_log, is_of_format, has_ending, is_thread, is_within};
 
 use std::marker::Model;
-use tc_base::ThreadName;
+use tc_base::{Failing, ThreadName};
 
 /// The way that a thread went: the outcomes of its branches, and how many instructions it did.
 #[derive(Debug, Drop)]
@@ -92,15 +92,16 @@ fn have_room(threads: &[ThreadPath]) -> bool
     threads.iter().all(|thread| thread.has_room())
 }
 
-/// The path of each thread of a run that failed, in the order of their names, and which of them failed.
+/// The path of each thread of a run, in the order of their names, and how the run ended: a thread failed, or nothing
+/// could go on.
 ///
-/// The paths have different names, and there is at least that of the thread that failed. A log of format 2 has
-/// the digest of the program that ran.
+/// The paths have different names, and there is at least one, that of the thread that failed where one did. A log of
+/// format 2 has the digest of the program that ran.
 #[derive(Debug, Drop)]
 pub struct Log {
     digest: Option<[u8; 32]>,
     model: tc_base::Model,
-    failing: usize,
+    failing: Failing,
     threads: Vec<ThreadPath>,
 }
 
@@ -116,11 +117,11 @@ impl Model for Log {
 }
 
 impl Log {
-    /// The log of these paths, of which the one of that index is of the thread that failed.
+    /// The log of these paths, of a run that ended so.
     pub fn new(
         digest: Option<[u8; 32]>,
         model: tc_base::Model,
-        failing: usize,
+        failing: Failing,
         threads: Vec<ThreadPath>,
     ) -> Log
         requires { IsTrue (is_log (record { model = model; failing = failing; threads = threads.items })) }
@@ -157,9 +158,9 @@ impl Log {
         self.model
     }
 
-    /// The index of the path of the thread that failed.
-    pub fn failing(&self) -> usize
-        ensures index { result ≡ self.now.log.failing }
+    /// How the run ended.
+    pub fn failing(&self) -> Failing
+        ensures ending { result ≡ self.now.log.failing }
         ensures is_log { IsTrue (is_log self.now.log) }
     {
         self.failing
@@ -173,17 +174,23 @@ impl Log {
         self.threads.as_slice()
     }
 
-    /// Whether the log has a text: at most 255 threads, each of a name and a number of outcomes that a text has room for.
+    /// Whether the log has a text: at most 255 threads, each of a name and a number of outcomes that a text has room for,
+    /// and a digest where no thread failed.
     pub fn has_text(&self) -> bool
-        ensures { result ≡ is_of_format self.now.log }
+        ensures { result ≡ (is_of_format self.now.log && has_ending (is_some self.now.digest) self.now.log.failing) }
     {
-        self.threads.len() <= 255 && have_room(self.threads.as_slice())
+        self.threads.len() <= 255
+            && have_room(self.threads.as_slice())
+            && (self.digest.is_some() || self.failing != Failing::Deadlock)
     }
 
-    /// The thread that failed.
-    pub fn failing_name(&self) -> &ThreadName
-        ensures { failing_of self.now.log ≡ Some result.now }
+    /// The thread that failed, if one did.
+    pub fn failing_name(&self) -> Option<&ThreadName>
+        ensures { option_map (λ n. n.now) result ≡ failing_of self.now.log }
     {
-        self.threads[self.failing].name()
+        match self.failing {
+            Failing::Thread(index) => Some(self.threads[index].name()),
+            Failing::Deadlock => None,
+        }
     }
 }

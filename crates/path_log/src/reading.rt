@@ -1,9 +1,8 @@
 //! From a text to its log.
-ghost use Rattle.std.specs.Prelude.{◌≡◌, ◌<◌, nat_lt, IsTrue, IfOk, IfErr, MatchResult};
+ghost use Rattle.std.specs.Prelude.{◌≡◌, ◌<◌, IsTrue, IfOk, IfErr, MatchResult};
 ghost use Rattle.path_log.specs.Texts.{StoredLog, HasText, log_text};
 ghost use Rattle.path_log.specs.Faults.{IsFault};
 ghost use Rattle.path_log.specs.Fields as fields;
-ghost use Rattle.path_log.specs.Fields.{◌such◌};
 ghost use Rattle.path_log.specs.helpers.Reading.{Gives, place, seen};
 
 use crate::cursor::Cursor;
@@ -12,7 +11,7 @@ use crate::field::{byte, byte_within, field, two_within};
 use crate::log::Log;
 use crate::threads::threads;
 use std::alloc::Global;
-use tc_base::Model;
+use tc_base::{Failing, Model};
 
 /// The log that this text is.
 ///
@@ -48,20 +47,22 @@ fn body<'a>(alloc: Global, cursor: Cursor<'a>) -> Result<(Log, Cursor<'a>), LogF
 {
     let ((digest, model), rest) = head(cursor)?;
     let (count, rest) = byte_within(1, 255, rest)?;
-    let (failing, rest) = byte_below(count, rest)?;
-    let (paths, rest) = threads(alloc, digest.is_some(), count, rest)?;
-    Ok((Log::new(digest, model, usize::from(failing), paths), rest))
+    let has_digest = digest.is_some();
+    let (failing, rest) = ending(has_digest, count, rest)?;
+    let (paths, rest) = threads(alloc, has_digest, count, rest)?;
+    Ok((Log::new(digest, model, failing, paths), rest))
 }
 
-/// A number of one byte, below this one.
-fn byte_below<'a>(limit: u8, cursor: Cursor<'a>) -> Result<(u8, Cursor<'a>), LogFault>
-    ensures { Gives seen result ((fields.byte such (λ n. nat_lt n limit)) (place cursor.entry)) }
+/// How the run of so many threads ended, of which format 1 has failures alone.
+fn ending<'a>(both: bool, count: u8, cursor: Cursor<'a>) -> Result<(Failing, Cursor<'a>), LogFault>
+    requires { 0 < count }
+    ensures { Gives seen result (fields.ending both count (place cursor.entry)) }
 {
-    let (number, rest) = byte(cursor)?;
-    if number < limit {
-        Ok((number, rest))
-    } else {
-        Err(LogFault::Form(cursor.at))
+    let (code, rest) = byte(cursor)?;
+    match code {
+        index if index < count => Ok((Failing::Thread(usize::from(index)), rest)),
+        0xFF if both => Ok((Failing::Deadlock, rest)),
+        _ => Err(LogFault::Form(cursor.at)),
     }
 }
 

@@ -1,22 +1,23 @@
 //! From a log to its text.
-ghost use Rattle.std.specs.Prelude.{◌≡◌, ◌<◌, ◌≤◌, ◌^◌, ◌++◌, length, option_map, IfOk, OnOk, IsTrue};
+ghost use Rattle.std.specs.Prelude.{◌≡◌, ◌<◌, ◌≤◌, ◌^◌, ◌++◌, length, is_some, option_map, IfOk, OnOk, IsTrue};
 ghost use Rattle.std.specs.List.{list_all};
 ghost use Rattle.byteorder.specs.Endian.{big_bytes};
 ghost use Rattle.path_log.specs.Texts as texts;
-ghost use Rattle.path_log.specs.Texts.{is_of_format, is_thread, is_within, bytes_for};
+ghost use Rattle.path_log.specs.Texts.{is_of_format, has_ending, is_thread, is_within, bytes_for};
 
 use crate::log::{Log, ThreadPath};
 use std::alloc::{AllocError, Global};
-use tc_base::{Model, ThreadName};
+use tc_base::{Failing, Model, ThreadName};
 
 /// The text of a log, in format 2 where it has a digest, and else in format 1.
 pub fn write_log(alloc: Global, log: &Log) -> Result<Vec<u8>, AllocError>
-    requires { IsTrue (is_of_format log.now.log) }
+    requires format { IsTrue (is_of_format log.now.log) }
+    requires ending { IsTrue (has_ending (is_some log.now.digest) log.now.log.failing) }
     ensures { IfOk result (λ text. text.items ≡ texts.log_text log.now) }
 {
     let mut text = head(alloc, log.digest(), log.model())?;
     text.push(log.threads().len() as u8)?;
-    text.push(log.failing() as u8)?;
+    text.push(ending_code(log.failing()))?;
     for thread in log.threads() {
         push_thread(&mut text, log.digest().is_some(), thread)?;
     }
@@ -49,6 +50,16 @@ fn model_code(model: Model) -> u8
         Model::Sc => 0,
         Model::Tso => 1,
         Model::Pso => 2,
+    }
+}
+
+fn ending_code(failing: Failing) -> u8
+    requires { texts.ending_code failing < 2 ^ 8 }
+    ensures { result ≡ texts.ending_code failing }
+{
+    match failing {
+        Failing::Thread(index) => index as u8,
+        Failing::Deadlock => 0xFF,
     }
 }
 
