@@ -1,6 +1,6 @@
 -- A text is that of one log, or breaks the form at one offset.
-use Rattle.std.proofs.Common.{◌≡◌, ◌<◌, ◌≤◌, ◌+◌, ℕ, suc, Bool, true, ◌&&◌, leb, ltb, eqb, List, [], ◌∷◌, ◌++◌, length, Option, Some, None, Ok, Err, refl, sym, ap}
-use Rattle.std.proofs.Common.{◌∙◌, subst, arith, append_assoc, inl, inr, ◌^◌, lit<}
+use Rattle.std.proofs.Common.{◌≡◌, ◌<◌, ◌≤◌, ◌+◌, ℕ, suc, Bool, true, ◌&&◌, leb, ltb, eqb, List, [], ◌∷◌, ◌++◌, length, Option, Some, None, Ok, Err}
+use Rattle.std.proofs.Common.{refl, sym, ap, ◌∙◌, subst, arith, append_assoc, inl, inr, ◌^◌, lit<}
 use Rattle.std.specs.Prelude.{codes, bytes_eq, is_some, IfSome}
 use Rattle.std.specs.List.{flat_map, list_all}
 use Rattle.std.proofs.lemmas.Bool.{and_parts, and_from, cases_Bool, cases_lt, le-leb, leb-true, lt-ltb, ltb-true, eqb-true, eq-eqb, ne_eqb}
@@ -14,8 +14,8 @@ use Rattle.tc_base.specs.declared.model.Model.{Model}
 use Rattle.tc_base.specs.declared.model.Model.TheVariants.{Sc, Tso, Pso}
 use Rattle.path_log.specs.Texts.{StoredLog, AreBytes, HasText, is_log, is_digest, is_thread, is_there, has_ending, is_within, rises_from}
 use Rattle.path_log.specs.Texts.{thread_text, model_code, head_text, ending_code, log_text}
-use Rattle.path_log.specs.Fields.{Place, done, behind, ◌such◌, ◌>>=◌, field, byte, two, model_of, model, digest_in, head, ending_of, ending, threads, body, ended}
-use Rattle.path_log.specs.Fields.{whole}
+use Rattle.path_log.specs.Fields.{Place, done, behind, ◌such◌, ◌>>=◌, field, byte, two, model_of, model, digest_in, head, ending_of, ending, threads}
+use Rattle.path_log.specs.Fields.{body, ended, whole}
 use Rattle.path_log.specs.Faults.{BreaksAt}
 use Rattle.path_log.specs.declared.fault.LogFault.{LogFault}
 use Rattle.path_log.specs.declared.fault.LogFault.TheVariants.{Form, Memory}
