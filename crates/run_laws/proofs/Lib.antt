@@ -17,5 +17,6 @@ pub mod Makes
 pub mod Names
 pub mod Owners
 pub mod Steps
+pub mod Stuck
 pub mod Waiters
 pub mod Whole
