@@ -26,7 +26,7 @@ use Rattle.store_buffers.specs.helpers.Lists.{not_nil}
 use Rattle.run_history.specs.History.{Deed, Did, Drained, pending_issues, pending, did, woke, drained, created_by, history}
 use Rattle.run_history.specs.Told.{is_thread_in, has_exited_in, children_in, failed_in, waiting_in}
 use Rattle.run_follows.specs.Follow.{may_do_in, is_allowed_in}
-use Rattle.run_follows.specs.Follow.{OtherIs, MayFollow, AllFollow, IsOfThread, StepsAreOfThreads}
+use Rattle.run_follows.specs.Follow.{OtherIs, MayFollow, AllFollow, IsLeftIn, StepsAreOfThreads}
 use Rattle.run_pending.specs.Deeds.{name_of}
 use Rattle.run_history.specs.Locals.{asks_next}
 use Rattle.run_laws.proofs.Basics.{unless}
@@ -51,11 +51,11 @@ follow_push buffered bound code h d all none may older newer e is =
     ]
 
 -- one more step is of a thread that is there and hasn't exited
-threads_push : (h : List Deed) (n : Name) (k : ℕ) (r : Request) (v : ℤ) (o : Option Name) → StepsAreOfThreads h → IsOfThread h n
+threads_push : (h : List Deed) (n : Name) (k : ℕ) (r : Request) (v : ℤ) (o : Option Name) → StepsAreOfThreads h → IsLeftIn h n
     → StepsAreOfThreads (h ++ Did n k r v o ∷ [])
 threads_push h n k r v o all of older newer q j r' v' o' is =
     elim (last_or_before h (Did n k r v o) older (Did q j r' v' o') newer is) [
-      | inl last ↦ subst (IsOfThread older) (ap (λ x. x.thread) (ap name_of last.1)) (subst (λ g. IsOfThread g n) last.0 of)
+      | inl last ↦ subst (IsLeftIn older) (ap (λ x. x.thread) (ap name_of last.1)) (subst (λ g. IsLeftIn g n) last.0 of)
       | inr b ↦ all older b.rest q j r' v' o' b.there
     ]
 
@@ -156,14 +156,14 @@ module _ {B : Type 0} (ops : BufferOps B) (model : Model) (bound : Binding) (law
           follow = follow_push ops.buffered bound code h (did ops code s n t r) a.follow (sym a.tells.failure ∙ going)
               (step_follows s h n t i r reached here at asks may a.tells);
           threads = threads_push h n t.local.steps r _ _ a.threads
-              (record { there = thread_there s h n t i here at a.tells; goes_on = not_exited s h n t i here at a.tells });
+              (record { there = thread_there s h n t i here at a.tells; going = not_exited s h n t i here at a.tells });
         };
         waked = λ s h n u t c reached going here at empty waits a. record {
           tells = k.waked s h n u t c reached going here at empty waits a.tells;
           follow = follow_push ops.buffered bound code h (woke ops code n u t (WakeOne c)) a.follow (sym a.tells.failure ∙ going)
               (wake_follows s h n u t c reached here at empty waits a.tells);
           threads = threads_push h n t.local.steps (WakeOne c) _ _ a.threads
-              (record { there = thread_there s h n t (Signal c) here at a.tells; goes_on = not_exited s h n t (Signal c) here at a.tells });
+              (record { there = thread_there s h n t (Signal c) here at a.tells; going = not_exited s h n t (Signal c) here at a.tells });
         };
         flushed = λ s h n t form reached going here may a. record {
           tells = k.flushed s h n t form reached going here may a.tells;

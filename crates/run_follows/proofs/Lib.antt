@@ -2,3 +2,4 @@ pub mod Enabled
 pub mod Follows
 pub mod Plays
 pub mod Reproduced
+pub mod Stuck

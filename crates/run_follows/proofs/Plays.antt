@@ -57,10 +57,10 @@ wake_is_signal t (InRange x) c e = absurd (site_wakes_none _ c e)
 wake_is_signal t i c e = cc
 
 -- an instruction that asks something is there
-record AsksBy (code : Code) (t : Local) (r : Request) : Type 0 where
-  instr : Instr
-  at : instr_of code t ≡ Some instr
-  asks : request t instr ≡ r
+pub record AsksBy (code : Code) (t : Local) (r : Request) : Type 0 where
+  pub instr : Instr
+  pub at : instr_of code t ≡ Some instr
+  pub asks : request t instr ≡ r
 
 asks_by : (code : Code) (t : Local) (r : Request) (o : Option Instr) → instr_of code t ≡ o → option_map (request t) o ≡ Some r → AsksBy code t r
 asks_by code t r None at e = absurd (none-some r e)
@@ -68,26 +68,26 @@ asks_by code t r (Some i) at e = record { instr = i; at = at; asks = same_Some (
 
 module _ {B : Type 0} (ops : BufferOps B) (model : Model) (bound : Binding) (laws : Laws ops model bound) (code : Code) (lawful : IsLawful code) where
   -- and so is a thread that does
-  record Asker (s : State B) (n : Name) (r : Request) : Type 0 where
-    thread : Thread B
-    there : fin.get s.threads n ≡ Some thread
-    by : AsksBy code thread.local r
+  pub record Asker (s : State B) (n : Name) (r : Request) : Type 0 where
+    pub thread : Thread B
+    pub there : fin.get s.threads n ≡ Some thread
+    pub by : AsksBy code thread.local r
 
   asker_by : (s : State B) (n : Name) (r : Request) (o : Option (Thread B)) → fin.get s.threads n ≡ o
       → option_and_then (λ (l : Local). option_map (request l) (instr_of code l)) (option_map (λ (t : Thread B). t.local) o) ≡ Some r → Asker s n r
   asker_by s n r None there e = absurd (none-some r e)
   asker_by s n r (Some t) there e = record { thread = t; there = there; by = asks_by code t.local r (instr_of code t.local) refl e }
 
-  asker : (s : State B) (h : List Deed) (n : Name) (r : Request) → Tells ops model bound laws code s h → asks_next code h n ≡ Some r → Asker s n r
+  pub asker : (s : State B) (h : List Deed) (n : Name) (r : Request) → Tells ops model bound laws code s h → asks_next code h n ≡ Some r → Asker s n r
   asker s h n r a asks =
       asker_by s n r (fin.get s.threads n) refl
       (ap (option_and_then (λ (l : Local). option_map (request l) (instr_of code l))) (sym (a.locals n)) ∙ asks)
 
   -- a move that does a deed
-  record Plays (s : State B) (h : List Deed) (d : Deed) : Type 0 where
-    state : State B
-    goes : step ops code s (move_for bound d) ≡ Some state
-    does : deed_of ops code s h (move_for bound d) ≡ d ∷ []
+  pub record Plays (s : State B) (h : List Deed) (d : Deed) : Type 0 where
+    pub state : State B
+    pub goes : step ops code s (move_for bound d) ≡ Some state
+    pub does : deed_of ops code s h (move_for bound d) ≡ d ∷ []
 
   module _ (s : State B) (h : List Deed) (reached : IsReached ops code s) (a : Tells ops model bound laws code s h) (none : failed_in h ≡ None) where
     going : s.failed ≡ None
@@ -193,7 +193,7 @@ module _ {B : Type 0} (ops : BufferOps B) (model : Model) (bound : Binding) (law
         absurd (omega (arith, below, none_done ops code s h n a.deeds.buffers.threads here))
 
     -- so each deed that may follow is done by a move
-    plays : (d : Deed) → MayFollow ops.buffered bound code h d → Plays s h d
+    pub plays : (d : Deed) → MayFollow ops.buffered bound code h d → Plays s h d
     plays (Did n k r v o) m = plays_did n k v r o (asker s h n r a m.asks) m.number m.may m.takes m.other_is
     plays (Drained n k c v) m =
         let d = placed n k c v m in

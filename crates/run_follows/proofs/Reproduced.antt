@@ -1,16 +1,18 @@
 -- A log is reproduced where a history goes as logged.
 use Rattle.std.proofs.Common.{◌≡◌, ◌∙◌, List, Option, Some, None, refl, sym, ap, subst}
-use Rattle.std.specs.Prelude.{option_map, IsSomeAnd}
+use Rattle.std.specs.Prelude.{option_map, slice_get, IsSomeAnd}
 use Rattle.std.specs.FinMap as fin
 use Rattle.tc_base.specs.Buffers.{BufferOps}
-use Rattle.tc_base.specs.Logs.{Log, failing_of}
+use Rattle.tc_base.specs.Logs.{ThreadPath, Log}
+use Rattle.tc_base.specs.declared.failing.Failing.{Failing}
+use Rattle.tc_base.specs.declared.failing.Failing.TheVariants as failing
 use Rattle.tc_base.specs.Names.{Name}
 use Rattle.tc_base.specs.States.{Thread, State}
 use Rattle.tc_base.specs.declared.model.Model.{Model}
 use Rattle.tc_base.specs.declared.moves.Move.{Move}
 use Rattle.tc_code.specs.Code.{Code}
 use Rattle.tc_code.specs.Lawful.{IsLawful}
-use Rattle.tc_code.specs.Run.{run, Reproduces, path_of, path_in}
+use Rattle.tc_code.specs.Run.{run, EndsAs, Reproduces, path_of, path_in}
 use Rattle.store_buffers.specs.Laws.{Laws}
 use Rattle.store_buffers.specs.Pending.{Binding}
 use Rattle.run_history.specs.History.{Deed, history}
@@ -19,8 +21,9 @@ use Rattle.run_history.proofs.Frame.{holds_after}
 use Rattle.run_history.proofs.Locals.{LocalsAre, keeps_locals, opening_locals}
 use Rattle.run_history.proofs.Shared.{FailureIs, keeps_failure}
 use Rattle.run_follows.specs.Follow.{AllFollow, moves_for}
-use Rattle.run_follows.specs.Logged.{path_by, path_told, GoesAsLogged}
+use Rattle.run_follows.specs.Logged.{path_by, path_told, EndsAsIn, GoesAsLogged}
 use Rattle.run_follows.proofs.Plays.{follows_is_run}
+use Rattle.run_follows.proofs.Stuck.{stuck_is_told}
 
 module _ {B : Type 0} where
   path_of_local : (o : Option (Thread B)) → option_map path_by (option_map (λ (t : Thread B). t.local) o) ≡ option_map path_of o
@@ -36,22 +39,38 @@ module _ {B : Type 0} where
     failure_is : s.failed ≡ failed_in (history ops code ms)
     failure_is = holds_after ops code (FailureIs ops code) (keeps_failure ops code) refl ms s leads
 
-  pub reproduces_as_logged : (ops : BufferOps B) (code : Code) (log : Log) (ms : List Move) → Reproduces ops code log ms
-      → GoesAsLogged code log (history ops code ms)
-  reproduces_as_logged ops code log ms r = record {
-    failing = subst (λ o. IsSomeAnd (failing_of log) (λ n. o ≡ Some n)) (failure_is ops code ms r.state r.leads) r.failing;
+  module _ (ops : BufferOps B) (model : Model) (bound : Binding) (laws : Laws ops model bound) (code : Code) (lawful : IsLawful code) (ms : List Move)
+      (s : State B) (leads : run ops code ms ≡ Some s) (ts : List ThreadPath) where
+    abbrev h : List Deed
+    h = history ops code ms
+
+    ends_told : (f : Failing) → EndsAs ops code f ts s → EndsAsIn ops.buffered bound code f ts h
+    ends_told (failing.Thread k) e =
+        subst (λ o. IsSomeAnd (slice_get ts k) (λ (t : ThreadPath). o ≡ Some t.name)) (failure_is ops code ms s leads) e
+    ends_told failing.Deadlock e = (stuck_is_told ops model bound laws code lawful ms s leads).0 e
+
+    ends_there : (f : Failing) → EndsAsIn ops.buffered bound code f ts h → EndsAs ops code f ts s
+    ends_there (failing.Thread k) e =
+        subst (λ o. IsSomeAnd (slice_get ts k) (λ (t : ThreadPath). o ≡ Some t.name)) (sym (failure_is ops code ms s leads)) e
+    ends_there failing.Deadlock e = (stuck_is_told ops model bound laws code lawful ms s leads).1 e
+
+  pub reproduces_as_logged : (ops : BufferOps B) (model : Model) (bound : Binding) (code : Code) (log : Log) (ms : List Move) → Laws ops model bound
+      → IsLawful code → Reproduces ops code log ms → GoesAsLogged ops.buffered bound code log (history ops code ms)
+  reproduces_as_logged ops model bound code log ms laws lawful r = record {
+    ends = ends_told ops model bound laws code lawful ms r.state r.leads log.threads log.failing r.ends;
     paths = λ n. path_is ops code ms r.state r.leads n ∙ r.paths n;
   }
 
   pub deeds_reproduce : (ops : BufferOps B) (model : Model) (bound : Binding) (code : Code) (log : Log) (h : List Deed) → Laws ops model bound → IsLawful code
-      → AllFollow ops.buffered bound code h → GoesAsLogged code log h → Reproduces ops code log (moves_for bound h)
+      → AllFollow ops.buffered bound code h → GoesAsLogged ops.buffered bound code log h → Reproduces ops code log (moves_for bound h)
   deeds_reproduce ops model bound code log h laws lawful all goes =
       let p = follows_is_run ops model bound laws code lawful h all in
       let ms = moves_for bound h in
       record {
         state = p.0;
         leads = p.1;
-        failing =
-            subst (λ o. IsSomeAnd (failing_of log) (λ n. o ≡ Some n)) (ap failed_in (sym p.2) ∙ sym (failure_is ops code ms p.0 p.1)) goes.failing;
+        ends =
+            ends_there ops model bound laws code lawful ms p.0 p.1 log.threads log.failing
+            (subst (EndsAsIn ops.buffered bound code log.failing log.threads) (sym p.2) goes.ends);
         paths = λ n. sym (path_is ops code ms p.0 p.1 n) ∙ ap (λ g. path_told code g n) p.2 ∙ goes.paths n;
       }

@@ -87,14 +87,25 @@ abbrev pub AllFollow : Bool → Binding → Code → List Deed → Type 0
 AllFollow buffered bound code h =
     (older newer : List Deed) (d : Deed) → h ≡ older ++ d ∷ newer → (failed_in older ≡ None) × MayFollow buffered bound code older d
 
--- a step is one of a thread that is there and hasn't exited
-pub record IsOfThread (h : List Deed) (n : Name) : Type 0 where
-  pub there : is_thread_in h n ≡ true
-  pub goes_on : has_exited_in h n ≡ false
+-- nothing may come after a history
+abbrev pub NothingFollows : Bool → Binding → Code → List Deed → Type 0
+NothingFollows buffered bound code h = (d : Deed) → MayFollow buffered bound code h d → ⊥
 
+-- a thread of a history is there, and it hasn't exited
+pub record IsLeftIn (h : List Deed) (n : Name) : Type 0 where
+  pub there : is_thread_in h n ≡ true
+  pub going : has_exited_in h n ≡ false
+
+-- a deadlock: no thread has failed, nothing may come after, and some thread hasn't exited
+pub record IsStuckIn (buffered : Bool) (bound : Binding) (code : Code) (h : List Deed) : Type 0 where
+  pub unfailed : failed_in h ≡ None
+  pub still : NothingFollows buffered bound code h
+  pub left : (n : Name) × IsLeftIn h n
+
+-- a step is one of a thread that is there and hasn't exited
 abbrev pub StepsAreOfThreads : List Deed → Type 0
 StepsAreOfThreads h =
-    (older newer : List Deed) (n : Name) (k : ℕ) (r : Request) (took : ℤ) (other : Option Name) → h ≡ older ++ Did n k r took other ∷ newer → IsOfThread older n
+    (older newer : List Deed) (n : Name) (k : ℕ) (r : Request) (took : ℤ) (other : Option Name) → h ≡ older ++ Did n k r took other ∷ newer → IsLeftIn older n
 
 -- the moves that do what a history did; a model's drains are named by what it binds
 abbrev pub move_for : Binding → Deed → Move

@@ -1,13 +1,17 @@
 -- Histories that go as a log says.
-use Rattle.std.specs.Prelude.{◌≡◌, List, Option, Some, option_map, IsSomeAnd}
+use Rattle.std.specs.Prelude.{◌≡◌, Bool, List, Option, Some, option_map, slice_get, IsSomeAnd}
 use Rattle.std.specs.FinMap as fin
-use Rattle.tc_base.specs.Logs.{Path, Log, failing_of, path_under}
+use Rattle.tc_base.specs.Logs.{Path, ThreadPath, Log, path_under}
 use Rattle.tc_base.specs.Names.{Name}
 use Rattle.tc_base.specs.States.{Local}
+use Rattle.tc_base.specs.declared.failing.Failing.{Failing}
+use Rattle.tc_base.specs.declared.failing.Failing.TheVariants as failing
 use Rattle.tc_code.specs.Code.{Code}
+use Rattle.store_buffers.specs.Pending.{Binding}
 use Rattle.run_history.specs.History.{Deed}
 use Rattle.run_history.specs.Locals.{locals_in}
 use Rattle.run_history.specs.Told.{failed_in}
+use Rattle.run_follows.specs.Follow.{IsStuckIn}
 
 -- the path of what a thread has to itself
 abbrev pub path_by : Local → Path
@@ -17,7 +21,12 @@ path_by t = record { outcomes = t.outcomes; steps = t.steps }
 abbrev pub path_told : Code → List Deed → Name → Option Path
 path_told code h n = option_map path_by (fin.get (locals_in code h) n)
 
--- the deeds lead to the log's failure, and each thread goes as it went in the log
-pub record GoesAsLogged (code : Code) (log : Log) (h : List Deed) : Type 0 where
-  pub failing : IsSomeAnd (failing_of log) (λ n. failed_in h ≡ Some n)
+-- the thread at a place has failed; or nothing can go on
+abbrev pub EndsAsIn : Bool → Binding → Code → Failing → List ThreadPath → List Deed → Type 0
+EndsAsIn buffered bound code (failing.Thread k) threads h = IsSomeAnd (slice_get threads k) (λ t. failed_in h ≡ Some t.name)
+EndsAsIn buffered bound code failing.Deadlock threads h = IsStuckIn buffered bound code h
+
+-- the deeds lead to the end that the log tells of, and each thread goes as it went in the log
+pub record GoesAsLogged (buffered : Bool) (bound : Binding) (code : Code) (log : Log) (h : List Deed) : Type 0 where
+  pub ends : EndsAsIn buffered bound code log.failing log.threads h
   pub paths : (n : Name) → path_told code h n ≡ path_under n log.threads

@@ -12,13 +12,13 @@ ghost use Rattle.tc_base.specs.States.{State, Thread};
 ghost use Rattle.tc_base.specs.declared.model.Model.{Model};
 ghost use Rattle.tc_base.specs.declared.moves.Move.{Move};
 ghost use Rattle.tc_code.specs.Code.{Code};
-ghost use Rattle.tc_code.specs.Run.{run, Reproduces};
+ghost use Rattle.tc_code.specs.Run.{run, IsStuck, Reproduces};
 ghost use Rattle.tc_code.specs.Step.{step, request, instr_of, loaded};
 ghost use Rattle.store_buffers.specs.Laws.{Laws};
 ghost use Rattle.store_buffers.specs.Pending.{Binding};
 ghost use Rattle.run_history.specs.History.{Deed, history};
 ghost use Rattle.run_history.specs.Told.{failed_in};
-ghost use Rattle.run_follows.specs.Follow.{AllFollow, seen_in, is_allowed_in, may_wake_in, StepsAreOfThreads, moves_for, HasTurn};
+ghost use Rattle.run_follows.specs.Follow.{AllFollow, IsStuckIn, seen_in, is_allowed_in, may_wake_in, StepsAreOfThreads, moves_for, HasTurn};
 ghost use Rattle.run_follows.specs.Logged.{GoesAsLogged};
 ghost use Rattle.tc_code.specs.Lawful.{IsLawful};
 ghost use Rattle.tc_base.specs.declared.moves.Move.TheVariants as move;
@@ -82,16 +82,25 @@ pub fn what_follows_is_a_run<B>()
         → (s : State B) × (run ops code (moves_for bound h) ≡ Some s) × (history ops code (moves_for bound h) ≡ h) }
 {}
 
-/// What reproduces a log has a history that goes as logged.
+/// Nothing can go on after a run exactly where no thread has failed, nothing may come after its history, and some thread of
+/// that hasn't exited.
+pub fn stuck_is_told<B>()
+    ensures { (ops : BufferOps B) (model : Model) (bound : Binding) (code : Code) (moves : List Move) (s : State B)
+        → Laws ops model bound → IsLawful code → run ops code moves ≡ Some s
+        → IsStuck ops code s ↔ IsStuckIn ops.buffered bound code (history ops code moves) }
+{}
+
+/// What reproduces a log, of a failure or of a deadlock, has a history that goes as logged.
 pub fn reproduces_as_logged<B>()
-    ensures { (ops : BufferOps B) (code : Code) (log : Log) (moves : List Move)
-        → Reproduces ops code log moves → GoesAsLogged code log (history ops code moves) }
+    ensures { (ops : BufferOps B) (model : Model) (bound : Binding) (code : Code) (log : Log) (moves : List Move)
+        → Laws ops model bound → IsLawful code → Reproduces ops code log moves
+        → GoesAsLogged ops.buffered bound code log (history ops code moves) }
 {}
 
 /// And deeds that follow and go as logged reproduce the log, by the moves that they stand for. So some moves reproduce a
 /// log exactly where some deeds that follow go as logged.
 pub fn deeds_reproduce<B>()
     ensures { (ops : BufferOps B) (model : Model) (bound : Binding) (code : Code) (log : Log) (h : List Deed)
-        → Laws ops model bound → IsLawful code → AllFollow ops.buffered bound code h → GoesAsLogged code log h
+        → Laws ops model bound → IsLawful code → AllFollow ops.buffered bound code h → GoesAsLogged ops.buffered bound code log h
         → Reproduces ops code log (moves_for bound h) }
 {}
