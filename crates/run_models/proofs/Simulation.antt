@@ -5,12 +5,14 @@ use Rattle.std.specs.Prelude.{unwrap_or, option_and_then, option_map, if◌then�
 use Rattle.std.specs.Option.{option_map_or}
 use Rattle.std.specs.FinMap as fin
 use Rattle.std.specs.FinSet as set
-use Rattle.std.proofs.lemmas.Bool.{false≢true, cases_Bool, or_parts}
-use Rattle.std.proofs.lemmas.Option.{same_Some, option_and_then_some}
+use Rattle.std.proofs.lemmas.Bool.{false≢true, cases_Bool, or_parts, false_from_ne_true}
+use Rattle.std.proofs.lemmas.Option.{none-some, same_Some, option_and_then_some}
 use Rattle.tc_base.specs.Names.{Name, ByName, child, main, by_name}
 use Rattle.tc_base.specs.Buffers.{BufferOps, Entry}
 use Rattle.tc_base.specs.States.{Local, Thread, State}
-use Rattle.tc_base.specs.Logs.{Log}
+use Rattle.tc_base.specs.Logs.{ThreadPath, Log}
+use Rattle.tc_base.specs.declared.failing.Failing.{Failing}
+use Rattle.tc_base.specs.declared.failing.Failing.TheVariants as failing
 use Rattle.tc_base.specs.declared.model.Model.{Model}
 use Rattle.tc_base.specs.declared.moves.Move.{Move}
 use Rattle.tc_base.specs.declared.moves.Move.TheVariants as move
@@ -22,13 +24,15 @@ use Rattle.tc_code.specs.declared.instr.Instr.TheVariants.{Signal}
 use Rattle.tc_code.specs.Code.{Code}
 use Rattle.tc_code.specs.Step.{request, local_after, stepped, arguments_of, instr_of, in_memory, drains_first, is_let, with_thread}
 use Rattle.tc_code.specs.Step.{allows, loaded, done, did, stored, perform, born, waiting_on, woken, drained, step, opening}
-use Rattle.tc_code.specs.Run.{run_from, run, Reproduces, path_of}
+use Rattle.tc_code.specs.Run.{run_from, run, IsStuck, EndsAs, Reproduces, path_of}
 use Rattle.tc_code.proofs.Facts.{run_from-append}
 use Rattle.store_buffers.specs.Pending.{Pending, Store, Bar as bar, stores, Binding, waits, form_of, Stands}
 use Rattle.store_buffers.specs.Laws.{Laws}
-use Rattle.store_buffers.specs.helpers.Lists.{store_last, bar_last}
+use Rattle.store_buffers.specs.helpers.Lists.{store_last, bar_last, store_there, waits_for_none}
+use Rattle.store_buffers.proofs.Oldest.{nothing_drains}
+use Rattle.run_laws.proofs.Basics.{none_unless, some_value}
 use Rattle.run_laws.proofs.Names.{same_or_apart, get_put, get_put_apart}
-use Rattle.run_laws.proofs.Steps.{Went, step_went, none_failed}
+use Rattle.run_laws.proofs.Steps.{Ran, Woke, Drained, Went, step_went, none_failed}
 use Rattle.run_models.specs.Models.{AllowsMore, drains_at_once, move_as, moves_from, moves_as, local_of, SameButBuffers}
 use Rattle.run_laws.proofs.Makes.{makes_run, makes_wake, makes_drain}
 
@@ -45,12 +49,6 @@ waits_less bound less binds (Store e ∷ ps) c free =
     let both = or_parts _ _ free in
     ap₂ (λ x y. x || y) (not_bound _ _ (binds _ _) both.0) (waits_less bound less binds ps c both.1)
 waits_less bound less binds (bar ∷ ps) c free = waits_less bound less binds ps c free
-
--- and where no store is pending, nothing waits
-waits_for_none : (bound : Binding) (ps : List Pending) (c : ℕ) → stores ps ≡ [] → waits bound ps c ≡ false
-waits_for_none bound [] c none = refl
-waits_for_none bound (Store e ∷ ps) c none = cc
-waits_for_none bound (bar ∷ ps) c none = waits_for_none bound ps c none
 
 module _ {B C : Type 0} (ops : BufferOps B) (more : BufferOps C) where
   -- two buffers that stand for one list
@@ -392,7 +390,81 @@ module _ {B C : Type 0} (ops : BufferOps B) (more : BufferOps C) where
           record { memory = refl; owners = refl; waiters = refl; failed = refl; threads = λ n. same_local _ _ (f.alike n) },
         )
 
-    -- so it reproduces what that reproduces
+    -- where no move is enabled, none is on the other side
+    module _ (s : State B) (us : ByName (Thread C)) (all : AllAlike s.threads us) (stuck : IsStuck ops code s) where
+      -- the thread of this side that is like one of the other
+      record Twin (n : Name) (u : Thread C) : Type 0 where
+        thread : Thread B
+        there : fin.get s.threads n ≡ Some thread
+        same : thread.local ≡ u.local
+        both : Both thread.buffer u.buffer
+
+      twin_by : (n : Name) (u : Thread C) (o : Option (Thread B)) → fin.get s.threads n ≡ o → Alike o (fin.get us n) → fin.get us n ≡ Some u → Twin n u
+      twin_by n u None there none at = absurd (none-some u (sym none ∙ at))
+      twin_by n u (Some t) there is at =
+          let same = same_Some _ u (sym is.is ∙ at) in
+          record {
+            thread = t;
+            there = there;
+            same = ap (λ (x : Thread C). x.local) same;
+            both = subst (λ (x : Thread C). Both t.buffer x.buffer) same is.both;
+          }
+
+      twin : (n : Name) (u : Thread C) → fin.get us n ≡ Some u → Twin n u
+      twin n u at = twin_by n u (fin.get s.threads n) refl (all n) at
+
+      not_enabled : {X : Type 0} (m : Move) (w : State B) → step ops code s m ≡ Some w → X
+      not_enabled m w one = absurd (none-some w (sym (stuck.still m) ∙ one))
+
+      no_run : (n : Name) (w : State C) → Ran more code (as_more s us) w n → ⊥
+      no_run n w g =
+          let t = twin n g.thread g.there in
+          let at : instr_of code t.thread.local ≡ Some g.instr = ap (instr_of code) t.same ∙ g.at in
+          let r = request t.thread.local g.instr in
+          let may : IsTrue (allows ops s n t.thread r) =
+          sym (ap₂ (λ e l. (not (drains_first r) || e) && l) (same_empty t.thread.buffer g.thread.buffer t.both) (same_let s us n r all))
+          ∙ ap (λ l. allows more (as_more s us) n g.thread (request l g.instr)) t.same ∙ g.allowed in
+          not_enabled (move.Run n) _ (makes_run ops code s n t.thread stuck.unfailed t.there g.instr r at refl may)
+
+      no_wake : (n v : Name) (w : State C) → Woke more code (as_more s us) w n v → ⊥
+      no_wake n v w g =
+          let t = twin n g.thread g.there in
+          not_enabled (move.Wake n v) _
+          (makes_wake ops code s n t.thread stuck.unfailed t.there v g.condition (ap (instr_of code) t.same ∙ g.at)
+          (sym (same_empty t.thread.buffer g.thread.buffer t.both) ∙ g.empty) g.waits)
+
+      -- no store is pending here, and so none there
+      no_drain : (n : Name) (form : Option ℕ) (w : State C) → Drained more code (as_more s us) w n form → ⊥
+      no_drain n form w g =
+          let t = twin n g.thread g.there in
+          let ps = t.both.list in
+          let none = nothing_drains ops model bound t.thread.buffer ps laws t.both.here
+          (λ f. false_from_ne_true _ (λ may. not_enabled (move.Drain n f) _ (makes_drain ops code s n t.thread stuck.unfailed t.there f may))) in
+          let d = laws_more.may_drain_stands g.thread.buffer ps form t.both.there g.may in
+          store_there d.older d.store d.newer (ap stores (sym d.drains.there) ∙ none)
+
+      no_move : (m : Move) (w : State C) → Went more code (as_more s us) w m → ⊥
+      no_move (move.Run n) w g = no_run n w g
+      no_move (move.Wake n v) w g = no_wake n v w g
+      no_move (move.Drain n form) w g = no_drain n form w g
+
+      stuck_under_more : IsStuck more code (as_more s us)
+      stuck_under_more =
+          let l = stuck.left.1 in
+          let u = alike_at s.threads us stuck.left.0 l.thread all l.there in
+          record {
+            unfailed = stuck.unfailed;
+            still = λ m. none_unless _ (λ is. let v = some_value _ is in no_move m v.0 (step_went more code (as_more s us) v.0 m v.1));
+            left = (stuck.left.0, record { thread = record { local = l.thread.local; buffer = u.buffer }; there = u.is; going = l.going });
+          }
+
+    -- so a run ends as it does on the other side
+    same_end : (s : State B) (us : ByName (Thread C)) (ts : List ThreadPath) → AllAlike s.threads us → (f : Failing) → EndsAs ops code f ts s
+        → EndsAs more code f ts (as_more s us)
+    same_end s us ts all (failing.Thread k) h = h
+    same_end s us ts all failing.Deadlock stuck = stuck_under_more s us all stuck
+
+    -- and it reproduces what that reproduces
     pub reproduces_under_more : (log : Log) (ms : List Move) → Reproduces ops code log ms
         → Reproduces more code log (moves_as ops code more.buffered bound_more ms)
     reproduces_under_more log ms r =
@@ -400,6 +472,6 @@ module _ {B C : Type 0} (ops : BufferOps B) (more : BufferOps C) where
         record {
           state = as_more r.state f.threads;
           leads = f.leads;
-          failing = r.failing;
+          ends = same_end r.state f.threads log.threads f.alike log.failing r.ends;
           paths = λ n. same_path _ _ (f.alike n) ∙ r.paths n;
         }

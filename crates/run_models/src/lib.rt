@@ -22,7 +22,8 @@ pub fn runs_under_more<B, C>()
         → (u : State C) × (run more code (moves_as ops code more.buffered less moves) ≡ Some u) × SameButBuffers s u }
 {}
 
-/// So what reproduces a log under one model does so under each that allows more.
+/// So what reproduces a log under one model does so under each that allows more, whether the log is of a failure or of a
+/// deadlock: where nothing can go on no store is pending, so none is under the other model, and no more is enabled there.
 pub fn reproduces_under_more<B, C>()
     ensures { (ops : BufferOps B) (model : Model) (bound : Binding) (more : BufferOps C) (other : Model) (less : Binding)
         → Laws ops model bound → Laws more other less → AllowsMore ops bound more less
@@ -30,14 +31,15 @@ pub fn reproduces_under_more<B, C>()
         → Reproduces more code log (moves_as ops code more.buffered less moves) }
 {}
 
-/// What reproduces a log under sequential consistency does so under total store order, with each store drained at
-/// once.
+/// What reproduces a log, of a failure or of a deadlock, under sequential consistency does so under total store order, with
+/// each store drained at once.
 pub fn sequential_under_total()
     ensures { (code : Code) (log : Log) (moves : List Move)
         → Reproduces no_buffer code log moves → Reproduces fifo_buffer code log (drained_at_once code moves) }
 {}
 
-/// What reproduces a log under total store order does so under partial store order, with the cell of each drain named.
+/// What reproduces a log, of a failure or of a deadlock, under total store order does so under partial store order, with the
+/// cell of each drain named.
 pub fn total_under_partial()
     ensures { (code : Code) (log : Log) (moves : List Move)
         → Reproduces fifo_buffer code log moves → Reproduces cell_buffer code log (with_cells code moves) }
