@@ -1,0 +1,3 @@
+pub mod Blocked
+pub mod Drained
+pub mod Stuck

@@ -1,0 +1,49 @@
+-- What blocks threads where nothing may come after a history.
+use Rattle.std.specs.Prelude.{◌≡◌, ◌⊎◌, ℕ, ℤ, Bool, true, false, Option, Some, None, IsSome, IsTrue, List}
+use Rattle.std.specs.FinSet as set
+use Rattle.tc_base.specs.Names.{Name, child}
+use Rattle.tc_base.specs.Buffers.{is_nil}
+use Rattle.tc_base.specs.declared.request.Request.{Request}
+use Rattle.tc_base.specs.declared.request.Request.TheVariants.{Acquire, EndWait, Await}
+use Rattle.tc_code.specs.Code.{Code}
+use Rattle.store_buffers.specs.Pending.{stores, Binding}
+use Rattle.run_history.specs.History.{Deed, Did, pending}
+use Rattle.run_history.specs.Locals.{asks_next}
+use Rattle.run_history.specs.Told.{owner_in, waiting_in, has_exited_in, failed_in}
+use Rattle.run_follows.specs.Follow.{MayFollow, IsLeftIn}
+
+-- no store of a thread is pending
+abbrev pub HasDrained : Bool → List Deed → Name → Type 0
+HasDrained buffered h n = is_nil (stores (pending buffered h n)) ≡ true
+
+-- no store is pending
+abbrev pub AllDrained : Bool → List Deed → Type 0
+AllDrained buffered h = (n : Name) → HasDrained buffered h n
+
+-- no step of a thread may come after a history
+abbrev pub NoStepFollows : Bool → Binding → Code → List Deed → Name → Type 0
+NoStepFollows buffered bound code h n = (k : ℕ) (r : Request) (took : ℤ) (other : Option Name) → MayFollow buffered bound code h (Did n k r took other) → ⊥
+
+-- a request is blocked: of a mutex that somebody owns; of the end of a wait, while the thread waits or somebody owns the mutex; of a child that hasn't exited
+abbrev pub IsBlockedIn : List Deed → Name → Request → Type 0
+IsBlockedIn h n (Acquire m) = IsSome (owner_in h m)
+IsBlockedIn h n (EndWait c m) = IsTrue (set.contains (waiting_in h c) n) ⊎ IsSome (owner_in h m)
+IsBlockedIn h n (Await k) = has_exited_in h (child n k) ≡ false
+IsBlockedIn h n _ = ⊥
+
+-- what a thread asks next is blocked
+pub record IsBlockedNext (code : Code) (h : List Deed) (n : Name) : Type 0 where
+  pub request : Request
+  pub asks : asks_next code h n ≡ Some request
+  pub blocked : IsBlockedIn h n request
+
+-- each thread that hasn't exited is blocked
+abbrev pub AllAreBlocked : Code → List Deed → Type 0
+AllAreBlocked code h = (n : Name) → IsLeftIn h n → IsBlockedNext code h n
+
+-- a deadlock, by what blocks the threads: no thread has failed, no store is pending, some thread hasn't exited, and each such is blocked
+pub record IsDeadlockIn (buffered : Bool) (code : Code) (h : List Deed) : Type 0 where
+  pub unfailed : failed_in h ≡ None
+  pub drained : AllDrained buffered h
+  pub left : (n : Name) × IsLeftIn h n
+  pub blocked : AllAreBlocked code h
