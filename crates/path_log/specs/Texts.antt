@@ -119,8 +119,9 @@ is_of_format log = nat_le (length log.threads) 255 && list_all is_thread log.thr
 
 -- format 2 has both endings, format 1 failures alone
 abbrev pub has_ending : Bool → Failing → Bool
-has_ending both (Thread k) = true
-has_ending both Deadlock = both
+has_ending true failing = true
+has_ending false (Thread k) = true
+has_ending false Deadlock = false
 
 -- a digest has 32 bytes
 abbrev pub is_digest : List ℕ → Bool
