@@ -1,5 +1,5 @@
 -- A list of deeds of which each may come after those before it is the history of a run.
-use Rattle.std.proofs.Common.{◌<◌, ◌≡◌, ◌∙◌, ℕ, ◌+◌, ℤ, pos, Bool, true, false, ◌&&◌, List, [], ◌∷◌, ◌++◌, append_assoc, append-nil}
+use Rattle.std.proofs.Common.{◌<◌, ◌≡◌, ◌∙◌, ℕ, ◌+◌, ℤ, pos, true, false, ◌&&◌, List, [], ◌∷◌, ◌++◌, append_assoc, append-nil}
 use Rattle.std.proofs.Common.{Option, Some, None, refl, sym, ap, ap₂, subst, arith}
 use Rattle.std.specs.Prelude.{option_map, option_and_then}
 use Rattle.std.specs.Option.{option_map_or}
@@ -16,10 +16,10 @@ use Rattle.tc_base.specs.declared.moves.Move.TheVariants as move
 use Rattle.tc_base.specs.declared.request.Request.{Request}
 use Rattle.tc_base.specs.declared.request.Request.TheVariants.{Silent, WakeOne, Start}
 use Rattle.tc_code.specs.declared.instr.Instr.{Instr}
-use Rattle.tc_code.specs.declared.instr.Instr.TheVariants.{Inside, Holds, Signal, Ready, Assert, Nonzero, InRange}
+use Rattle.tc_code.specs.declared.instr.Instr.TheVariants.{Signal}
 use Rattle.tc_code.specs.Code.{Code}
 use Rattle.tc_code.specs.Lawful.{IsLawful}
-use Rattle.tc_code.specs.Step.{request, site, instr_of, step, opening}
+use Rattle.tc_code.specs.Step.{request, instr_of, step, opening}
 use Rattle.tc_code.specs.Step as machine
 use Rattle.tc_code.specs.Run.{IsReached, run_from, run}
 use Rattle.tc_code.proofs.Facts.{opening_is_reached, step_is_reached}
@@ -36,25 +36,11 @@ use Rattle.run_pending.proofs.In.{In, all_in, in_at}
 use Rattle.run_pending.proofs.Turns.{split_by_steps}
 use Rattle.run_pending.proofs.Buffers.{deed_is}
 use Rattle.run_laws.proofs.Asks.{AsksOf, next_asks_within}
+use Rattle.run_laws.proofs.Stuck.{signals}
 use Rattle.run_follows.proofs.Enabled.{Tells, keeps_tells, opening_tells, empty_told, taken_told, allowed_told}
 use Rattle.run_history.proofs.Threads.{number_is, none_done, children_are}
 use Rattle.run_history.proofs.Frame.{kept_by_step}
 use Rattle.run_laws.proofs.Makes.{makes_run, makes_wake, makes_drain}
-
--- only a signal asks to wake
-site_wakes_none : (b : Bool) (c : ℕ) → site b ≡ WakeOne c → ⊥
-site_wakes_none true c e = cc
-site_wakes_none false c e = cc
-
-wake_is_signal : (t : Local) (i : Instr) (c : ℕ) → request t i ≡ WakeOne c → i ≡ Signal c
-wake_is_signal t (Signal d) c e = let same : d ≡ c = cc in ap Signal same
-wake_is_signal t (Inside len x) c e = absurd (site_wakes_none _ c e)
-wake_is_signal t (Holds m) c e = absurd (site_wakes_none _ c e)
-wake_is_signal t (Ready v) c e = absurd (site_wakes_none _ c e)
-wake_is_signal t (Assert x) c e = absurd (site_wakes_none _ c e)
-wake_is_signal t (Nonzero x) c e = absurd (site_wakes_none _ c e)
-wake_is_signal t (InRange x) c e = absurd (site_wakes_none _ c e)
-wake_is_signal t i c e = cc
 
 -- an instruction that asks something is there
 pub record AsksBy (code : Code) (t : Local) (r : Request) : Type 0 where
@@ -123,7 +109,7 @@ module _ {B : Type 0} (ops : BufferOps B) (model : Model) (bound : Binding) (law
           → k ≡ steps_in h n → v ≡ pos 0 → Plays s h (Did n k (WakeOne c) v (Some u))
       plays_wake c u x may number takes =
           let t = x.thread in
-          let signal = wake_is_signal t.local x.by.instr c x.by.asks in
+          let signal = signals t.local x.by.instr c x.by.asks in
           let at : instr_of code t.local ≡ Some (Signal c) = x.by.at ∙ ap Some signal in
           let within = next_asks_within ops code s n t (Signal c) lawful reached x.there at in
           let both = and_parts (is_nil (stores (pending ops.buffered h n))) (set.contains (waiting_in h c) u) may in

@@ -31,7 +31,7 @@ site_wakes_none true c e = cc
 site_wakes_none false c e = cc
 
 -- only a signal asks that a thread is woken
-signals : (t : Local) (i : Instr) (c : _) → request t i ≡ WakeOne c → i ≡ Signal c
+pub signals : (t : Local) (i : Instr) (c : _) → request t i ≡ WakeOne c → i ≡ Signal c
 signals t (Signal d) c e = cc
 signals t (Inside len x) c e = absurd (site_wakes_none _ c e)
 signals t (Holds m) c e = absurd (site_wakes_none _ c e)
