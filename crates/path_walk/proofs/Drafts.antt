@@ -1,29 +1,31 @@
 -- The threads of a log, told one after another.
 use Rattle.std.proofs.Common.{◌≡◌, ◌∙◌, ◌⊎◌, inl, inr, ℕ, zero, suc, ◌+◌, ◌-◌, ◌≤◌, ◌<◌, Bool, true, false, cond, ◌||◌}
 use Rattle.std.proofs.Common.{List, [], ◌∷◌, ◌++◌, length, map, take, drop, get_or, slice_index, sum, ◌==◌}
-use Rattle.std.proofs.Common.{IsSome, Option, Some, None, Result, Ok, Err, refl, sym, ap, ap₂, subst, arith, true≢false, bytes_eq}
+use Rattle.std.proofs.Common.{IsSome, Option, Some, None, Result, Ok, Err, refl, sym, ap, subst, arith, true≢false, bytes_eq}
 use Rattle.std.specs.Prelude.{is_some, option_and_then, slice_get, unwrap_or, IfSome, IfOk, OnOk, IfErr}
 use Rattle.std.specs.List.{list_any}
-use Rattle.std.specs.Option.{option_map_or}
 use Rattle.std.specs.Ordering.{is_lt}
 use Rattle.std.specs.Result.{result_err, result_unwrap_or}
 use Rattle.std.specs.declared.cmp.Ordering.TheVariants.{Less}
 use Rattle.std.proofs.Math.Bool.{or-false}
 use Rattle.std.proofs.Math.Seq.{take-length}
 use Rattle.std.proofs.lemmas.List.{map-append, length-append, take_more}
-use Rattle.std.proofs.lemmas.Bool.{cases_lt, eqb-true}
+use Rattle.std.proofs.lemmas.Bool.{cases_lt, eqb-true, ltb-true}
 use Rattle.std.proofs.lemmas.List.Sums.{fold-append}
 use Rattle.std.proofs.lemmas.Option.{none-some, slice_get_read}
 use Rattle.tc_base.specs.Names.{Name, child, by_name}
-use Rattle.tc_base.specs.Logs.{Log, Path, ThreadPath, failing_of, path_under}
+use Rattle.tc_base.specs.Logs.{Log, Path, ThreadPath, path_under}
+use Rattle.tc_base.specs.declared.failing.Failing.{Failing}
+use Rattle.tc_base.specs.declared.failing.Failing.TheVariants as failing
 use Rattle.tc_code.specs.Code.{Code}
-use Rattle.path_log.specs.Texts.{rises_from}
+use Rattle.path_log.specs.Texts.{rises_from, is_there}
 use Rattle.path_walk.specs.Steps.{steps_at, places_of}
-use Rattle.path_walk.specs.Fits.{started, fails_in, places_in, child_function, function_of, misfit_of, IsFault, Fits}
-use Rattle.path_walk.specs.Paths.{Walk, walk_of, function_in, steps_in, operators_in, is_dead, counted, Paths, paths_of}
+use Rattle.path_walk.specs.Fits.{started, ending_of, places_in, child_function, function_of, misfit_of, IsFault, Fits}
+use Rattle.path_walk.specs.Paths.{Walk, have_exited, walk_of, function_in, steps_in, operators_in, is_dead, counted, Paths, paths_of}
 use Rattle.path_walk.specs.helpers.Accounts.{Account, account_by, mapped}
 use Rattle.path_walk.specs.helpers.Drafts.{Draft, IsMissing, IsAtLeast, IsAbsentChild, IsFirstAbsent, IsNext, IsDraft, first_fault, least}
 use Rattle.path_walk.specs.helpers.Drafts.{added, no_draft, started_at, paths_by, finished, finished_by}
+use Rattle.path_walk.specs.declared.ending.Ending.{Ending}
 use Rattle.path_walk.specs.declared.fault.Misfit.{Misfit}
 use Rattle.path_walk.specs.declared.fault.Misfit.TheVariants as misfit
 use Rattle.path_walk.specs.declared.fault.WalkFault.{WalkFault}
@@ -35,9 +37,10 @@ use Rattle.tc_base.proofs.Names.{HasParent, parent_of}
 use Rattle.path_walk.proofs.Faults.{option_is, there, not_there, function_of_child, walked_there, no_child, missing, nobody}
 use Rattle.path_walk.proofs.Faults.{stranger, by_path, fitting}
 
--- whether a thread is the one that failed
-pub fails_is : (log : Log) (n m x y : Name) → failing_of log ≡ Some m → x ≡ n → y ≡ m → bytes_eq x y ≡ fails_in log n
-fails_is log n m x y failing own other = ap₂ bytes_eq own other ∙ sym (ap (λ o. option_map_or (bytes_eq n) o false) failing)
+-- a log has a thread
+pub has_thread : (failing : Failing) (count : ℕ) → is_there failing count ≡ true → 0 < count
+has_thread (failing.Thread k) count h = let within = ltb-true k count h in omega (arith, within)
+has_thread failing.Deadlock count h = ltb-true 0 count h
 
 -- where a mapped answer comes from
 pub mapped_ok : {X Y : Type 0} (f : X → Y) (r : Result X Misfit) (y : Y) → mapped f r ≡ Ok y → (x : X) × (r ≡ Ok x) × (f x ≡ y)
@@ -365,11 +368,11 @@ module _ (code : Code) (log : Log) where
         ∙ none_named p done (ap (list_any (λ (w : Walk). bytes_eq p w.name)) (sym draft.threads) ∙ none))
 
     -- a fault of its path is its fault
-    pub path_fault : (f : ℕ) (m : Misfit) → function_of code log t.name ≡ Some f → places_of code f (fails_in log t.name) t.path ≡ Err m
+    pub path_fault : (f : ℕ) (m : Misfit) → function_of code log t.name ≡ Some f → places_of code f (ending_of log t.name) t.path ≡ Err m
         → misfit_of code log t.name ≡ Some m
     path_fault f m e err = by_path code log t.name f t.path e next_path ∙ ap result_err err
 
-    module _ (f : ℕ) (ps : List ℕ) (e : function_of code log t.name ≡ Some f) (fits : places_of code f (fails_in log t.name) t.path ≡ Ok ps) where
+    module _ (f : ℕ) (ps : List ℕ) (e : function_of code log t.name ≡ Some f) (fits : places_of code f (ending_of log t.name) t.path ≡ Ok ps) where
       walked_is : (g : ℕ) → g ≡ f → places_in code log t.name g ≡ ps
       walked_is g same =
           ap (places_in code log t.name) same ∙ ap (λ r. result_unwrap_or r []) (walked_there code log t.name f t.path next_path ∙ fits)
@@ -382,11 +385,11 @@ module _ (code : Code) (log : Log) where
           ap (λ g. steps_at code g (places_in code log t.name g)) function_is
           ∙ ap (steps_at code f) (walked_is f refl)
 
-      account_is : account_by code (fails_in log t.name) t (function_in code log t) (places_in code log t.name (function_in code log t))
-          ≡ account_by code (fails_in log t.name) t f ps
+      account_is : account_by code (ending_of log t.name) t (function_in code log t) (places_in code log t.name (function_in code log t))
+          ≡ account_by code (ending_of log t.name) t f ps
       account_is =
-          ap (λ g. account_by code (fails_in log t.name) t g (places_in code log t.name g)) function_is
-          ∙ ap (account_by code (fails_in log t.name) t f) (walked_is f refl)
+          ap (λ g. account_by code (ending_of log t.name) t g (places_in code log t.name g)) function_is
+          ∙ ap (account_by code (ending_of log t.name) t f) (walked_is f refl)
 
       own_fits : misfit_of code log t.name ≡ None
       own_fits = by_path code log t.name f t.path e next_path ∙ ap result_err fits
@@ -453,7 +456,7 @@ module _ (code : Code) (log : Log) where
             least_is (IsMissing code log with_it) d.missing found (if_some d.missing missing_more draft.missing) (if_some found missing_own absent.absent)
 
         abbrev account : Account
-        account = account_by code (fails_in log t.name) t f ps
+        account = account_by code (ending_of log t.name) t f ps
 
         longer : length (d.threads ++ account.walk ∷ []) ≡ suc (length d.threads)
         longer = omega (arith, length-append d.threads (account.walk ∷ []))
@@ -511,19 +514,19 @@ module _ (code : Code) (log : Log) where
     stranger_fault e none is =
         own_name misfit.Stranger e is (stranger code log t.name t.path (ap (function_of code log) (sym name) ∙ none) (next_path d t draft next))
 
-    pub unfit_fault : (f : ℕ) (fails : Bool) (m : Misfit) (e : WalkFault) → function_of code log n ≡ Some f → fails ≡ fails_in log n
-        → places_of code f fails t.path ≡ Err m → e ≡ first_fault d.missing n m → IsFault code log e
-    unfit_fault f fails m e function fail err is =
+    pub unfit_fault : (f : ℕ) (ending : Ending) (m : Misfit) (e : WalkFault) → function_of code log n ≡ Some f → ending ≡ ending_of log n
+        → places_of code f ending t.path ≡ Err m → e ≡ first_fault d.missing n m → IsFault code log e
+    unfit_fault f ending m e function ends err is =
         own_name m e is (path_fault d t draft next f m (ap (function_of code log) (sym name) ∙ function)
-        (ap (λ b. places_of code f b t.path) (ap (fails_in log) (sym name) ∙ sym fail) ∙ err))
+        (ap (λ b. places_of code f b t.path) (ap (ending_of log) (sym name) ∙ sym ends) ∙ err))
 
-    pub follows : (f : ℕ) (fails : Bool) (ps : List ℕ) (c : Account) (found : Option Name) (u : Draft) → function_of code log n ≡ Some f
-        → fails ≡ fails_in log n → places_of code f fails t.path ≡ Ok ps → account_by code fails t f ps ≡ c → length c.walk.events ≤ 65536
+    pub follows : (f : ℕ) (ending : Ending) (ps : List ℕ) (c : Account) (found : Option Name) (u : Draft) → function_of code log n ≡ Some f
+        → ending ≡ ending_of log n → places_of code f ending t.path ≡ Ok ps → account_by code ending t f ps ≡ c → length c.walk.events ≤ 65536
         → IsFirstAbsent log c.walk.name (length c.started) found → u ≡ added d c found → IsDraft code log u × (length u.threads ≡ length d.threads + 1)
-    follows f fails ps c found u function fail fits is few absent now =
-        let same : fails ≡ fails_in log t.name = fail ∙ ap (fails_in log) name in
-        let account : c ≡ account_by code (fails_in log t.name) t f ps = sym is ∙ ap (λ b. account_by code b t f ps) same in
-        let fits' : places_of code f (fails_in log t.name) t.path ≡ Ok ps = ap (λ b. places_of code f b t.path) (sym same) ∙ fits in
+    follows f ending ps c found u function ends fits is few absent now =
+        let same : ending ≡ ending_of log t.name = ends ∙ ap (ending_of log) name in
+        let account : c ≡ account_by code (ending_of log t.name) t f ps = sym is ∙ ap (λ b. account_by code b t f ps) same in
+        let fits' : places_of code f (ending_of log t.name) t.path ≡ Ok ps = ap (λ b. places_of code f b t.path) (sym same) ∙ fits in
         let absent' = subst (λ (x : Account). IsFirstAbsent log x.walk.name (length x.started) found) account absent in
         let few' = subst (λ (x : Account). length x.walk.events ≤ 65536) account few in
         let new = now ∙ ap (λ (x : Account). added d x found) account in (
@@ -551,23 +554,23 @@ module _ (code : Code) (log : Log) where
         clear (take (length d.threads) log.threads) draft.fit draft.main r
         (λ p at h. subst (λ ts. IsSome (path_under p ts)) (sym whole) h) unmissed
 
-    paths_are : (failing : ℕ) → failing ≡ log.failing
+    paths_are : (failing : Failing) → failing ≡ log.failing
         → paths_by d failing ≡ paths_of code log
     paths_are failing e = λ i. record {
       failing = e i;
       threads = (draft.threads ∙ ap (map (walk_of code log)) whole) i;
       events = (draft.events ∙ ap (λ ts. sum (map (λ (x : ThreadPath). length (walk_of code log x).events) ts)) whole) i;
       operators = (draft.operators ∙ ap (λ ts. counted (sum (map (operators_in code log) ts))) whole) i;
-      dead = (draft.dead ∙ ap (list_any (is_dead code log)) whole) i;
+      dead = (draft.dead ∙ ap (list_any (is_dead code log)) whole) i || have_exited (e i) ((draft.threads ∙ ap (map (walk_of code log)) whole) i);
     }
 
-    fits_by : (o : Option Name) → ((r : Name) → IsMissing code log (take (length d.threads) log.threads) r → IsAtLeast o r) → (failing : ℕ) → (r : Paths)
+    fits_by : (o : Option Name) → ((r : Name) → IsMissing code log (take (length d.threads) log.threads) r → IsAtLeast o r) → (failing : Failing) → (r : Paths)
         → finished_by o d failing ≡ Ok r → Fits code log × (paths_by d failing ≡ r)
     fits_by None least failing r h = ((λ q. clear_whole q (least q)), cc)
     fits_by (Some q) least failing r h = absurd cc
 
     fault_by : (o : Option Name) → IfSome o (IsMissing code log (take (length d.threads) log.threads))
-        → ((r : Name) → IsMissing code log (take (length d.threads) log.threads) r → IsAtLeast o r) → (failing : ℕ) (e : WalkFault)
+        → ((r : Name) → IsMissing code log (take (length d.threads) log.threads) r → IsAtLeast o r) → (failing : Failing) (e : WalkFault)
         → finished_by o d failing ≡ Err e → IsFault code log e
     fault_by None missing least failing e h = absurd cc
     fault_by (Some q) missing least failing e h =

@@ -9,7 +9,7 @@ use Rattle.tc_base.specs.Names.{Name, child}
 use Rattle.tc_base.specs.Logs.{Log, Path, path_under}
 use Rattle.tc_code.specs.Code.{Code}
 use Rattle.path_walk.specs.Steps.{steps_at, places_of}
-use Rattle.path_walk.specs.Fits.{started, fails_in, walked, child_function, function_below, function_of, unless_absent, misfit_of}
+use Rattle.path_walk.specs.Fits.{started, ending_of, walked, child_function, function_below, function_of, unless_absent, misfit_of}
 use Rattle.path_walk.specs.declared.fault.Misfit.TheVariants as misfit
 
 -- what an option is
@@ -48,10 +48,10 @@ module _ (code : Code) (log : Log) where
   function_of_child p k = below_child [] (length code.functions - 1) p k
 
   pub walked_absent : (n : Name) (f : ℕ) → path_under n log.threads ≡ None → walked code log n f ≡ Err misfit.Missing
-  walked_absent n f e = ap (λ o. option_map_or (places_of code f (fails_in log n)) o (Err misfit.Missing)) e
+  walked_absent n f e = ap (λ o. option_map_or (places_of code f (ending_of log n)) o (Err misfit.Missing)) e
 
-  pub walked_there : (n : Name) (f : ℕ) (p : Path) → path_under n log.threads ≡ Some p → walked code log n f ≡ places_of code f (fails_in log n) p
-  walked_there n f p e = ap (λ o. option_map_or (places_of code f (fails_in log n)) o (Err misfit.Missing)) e
+  pub walked_there : (n : Name) (f : ℕ) (p : Path) → path_under n log.threads ≡ Some p → walked code log n f ≡ places_of code f (ending_of log n) p
+  walked_there n f p e = ap (λ o. option_map_or (places_of code f (ending_of log n)) o (Err misfit.Missing)) e
 
   none_started : (n : Name) (f k : ℕ) → path_under n log.threads ≡ None → child_function code log n f k ≡ None
   none_started n f zero e = refl
@@ -80,7 +80,7 @@ module _ (code : Code) (log : Log) where
   stranger n p e here = fault_by n None e ∙ ap (λ o. cond (is_some o) (Some misfit.Stranger) None) here
 
   pub by_path : (n : Name) (f : ℕ) (p : Path) → function_of code log n ≡ Some f → path_under n log.threads ≡ Some p
-      → misfit_of code log n ≡ result_err (places_of code f (fails_in log n) p)
+      → misfit_of code log n ≡ result_err (places_of code f (ending_of log n) p)
   by_path n f p e here = fault_by n (Some f) e ∙ ap result_err (walked_there n f p here)
 
   -- a thread of the log that has no fault has a function

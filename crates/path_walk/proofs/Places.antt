@@ -5,16 +5,20 @@ use Rattle.std.proofs.Common.{IsSome, refl, sym, ap, subst, arith, append_assoc,
 use Rattle.std.specs.List.{filter_map, cons_option}
 use Rattle.std.specs.Option.{option_map_or}
 use Rattle.std.proofs.lemmas.List.{length-drop, length-map}
+use Rattle.tc_base.specs.Logs.{Path}
 use Rattle.tc_code.specs.Code.{Code, instr_at}
 use Rattle.tc_code.specs.declared.instr.Instr.{Instr}
-use Rattle.path_walk.specs.Steps.{Onward, onward, before, places_from, Step, step_at, steps_at, ends_at_site, at_site}
+use Rattle.path_walk.specs.Steps.{Onward, onward, before, places_from, end_from, standing, Step, step_at, steps_at}
+use Rattle.path_walk.specs.Steps.{ends_at_site, can_block, ended}
 use Rattle.path_walk.specs.Fits.{starts, started}
 use Rattle.path_walk.specs.Marks.{Marks, unmarked, marked, marked_from, marked_steps}
 use Rattle.path_walk.specs.Events.{event_of, events_of}
+use Rattle.path_walk.specs.declared.ending.Ending.{Ending}
+use Rattle.path_walk.specs.declared.ending.Ending.TheVariants.{Fails, Rests, Open}
 use Rattle.path_walk.specs.declared.event.Event.{Event}
 use Rattle.path_walk.specs.helpers.Accounts.{prefixed}
 use Rattle.path_walk.specs.declared.fault.Misfit.{Misfit}
-use Rattle.path_walk.specs.declared.fault.Misfit.TheVariants.{OutcomesShort, OutcomesLeft, PastExit, NotASite}
+use Rattle.path_walk.specs.declared.fault.Misfit.TheVariants.{OutcomesShort, OutcomesLeft, PastExit, NotASite, NotBlocked}
 
 -- the places from an instruction on, if there is one
 abbrev from_instr : Code → ℕ → ℕ → ℕ → List Bool → Option Instr → Result (List ℕ) Misfit
@@ -41,6 +45,20 @@ step_more code f zero m k os i on less e leads = absurd (omega arith)
 step_more code f (suc n) m k os i on less e leads =
     let same : n ≡ m = omega arith in
     ap (from_instr code f n k os) e ∙ ap (from_onward code f n k) leads ∙ ap (λ x. before k (places_from code f x on.place on.outcomes)) same
+
+-- where the rest leads
+pub end_more : (code : Code) (f n m k : ℕ) (os : List Bool) (i : Instr) (on : Onward) → n ≡ m + 1 → instr_at code f k ≡ Some i → onward k i os ≡ Some on
+    → end_from code f n k os ≡ end_from code f m on.place on.outcomes
+end_more code f zero m k os i on less at leads = absurd (omega arith)
+end_more code f (suc n) m k os i on less at leads =
+    let same : n ≡ m = omega arith in
+    ap (λ o. option_map_or (λ j. option_map_or (λ (w : Onward). end_from code f n w.place w.outcomes) (onward k j os) k) o k) at
+    ∙ ap (λ o. option_map_or (λ (w : Onward). end_from code f n w.place w.outcomes) o k) leads
+    ∙ ap (λ x. end_from code f x on.place on.outcomes) same
+
+pub end_here : (code : Code) (f n k : ℕ) (os : List Bool) → n ≡ 0 → end_from code f n k os ≡ k
+end_here code f zero k os e = refl
+end_here code f (suc n) k os e = absurd (omega arith)
 
 pub prefixed_before : (front : List ℕ) (k : ℕ) (r : Result (List ℕ) Misfit) → prefixed front (before k r) ≡ prefixed (front ++ k ∷ []) r
 prefixed_before front k (Ok places) = ap Ok (sym (append_assoc front (k ∷ []) places))
@@ -118,15 +136,17 @@ count code f (suc n) k os ps h =
 abbrev the_ok : List ℕ → Result (List ℕ) Misfit
 the_ok places = Ok places
 
-site_kept : (b : Bool) (places ps : List ℕ) → cond b (the_ok places) (Err NotASite) ≡ Ok ps → the_ok places ≡ Ok ps
-site_kept true places ps h = h
-site_kept false places ps h = absurd cc
+if_kept : (b : Bool) (places ps : List ℕ) (m : Misfit) → cond b (the_ok places) (Err m) ≡ Ok ps → the_ok places ≡ Ok ps
+if_kept true places ps m h = h
+if_kept false places ps m h = absurd cc
 
-pub fits_from : (code : Code) (f : ℕ) (fails : Bool) (r : Result (List ℕ) Misfit) (ps : List ℕ) → at_site code f fails r ≡ Ok ps → r ≡ Ok ps
-fits_from code f true (Ok places) ps h = site_kept (ends_at_site code f places) places ps h
-fits_from code f true (Err e) ps h = absurd cc
-fits_from code f false (Ok places) ps h = h
-fits_from code f false (Err e) ps h = absurd cc
+pub fits_from : (code : Code) (f : ℕ) (ending : Ending) (path : Path) (r : Result (List ℕ) Misfit) (ps : List ℕ) → ended code f ending path r ≡ Ok ps
+    → r ≡ Ok ps
+fits_from code f Fails path (Ok places) ps h = if_kept (ends_at_site code f places) places ps NotASite h
+fits_from code f Rests path (Ok places) ps h = if_kept (option_map_or can_block (standing code f path) true) places ps NotBlocked h
+fits_from code f Fails path (Err e) ps h = absurd cc
+fits_from code f Rests path (Err e) ps h = absurd cc
+fits_from code f Open path r ps h = h
 
 -- What is told of steps isn't longer than they.
 

@@ -1,5 +1,5 @@
 -- What the steps of a thread ask of memory and of the other threads.
-use Rattle.std.specs.Prelude.{ℕ, ◌+◌, List, [], ◌∷◌, map, Bool, false, ◌==◌, Option, Some, None, option_map, unwrap_or, slice_get, sum}
+use Rattle.std.specs.Prelude.{ℕ, ◌+◌, ◌-◌, length, List, [], ◌∷◌, map, Bool, false, ◌==◌, Option, Some, None, option_map, unwrap_or, slice_get, sum}
 use Rattle.std.specs.Prelude.{if◌then◌else◌}
 use Rattle.std.specs.List.{filter_map, cons_option}
 use Rattle.std.specs.Option.{option_map_or}
@@ -14,6 +14,8 @@ use Rattle.path_walk.specs.Marks.{Marks, Marked, has_mutex, handle_in}
 use Rattle.path_walk.specs.declared.event.Event.{Event}
 use Rattle.path_walk.specs.declared.event.EventKind.{EventKind}
 use Rattle.path_walk.specs.declared.event.EventKind.TheVariants as kind
+use Rattle.path_walk.specs.declared.event.Blocked.{Blocked}
+use Rattle.path_walk.specs.declared.event.Blocked.TheVariants as blocked
 use Rattle.path_walk.specs.declared.event.Region.{Region}
 use Rattle.path_walk.specs.declared.event.Sleep.{Sleep as Wait}
 use Rattle.path_walk.specs.declared.event.Link.{Link}
@@ -85,6 +87,17 @@ sleep_by step next _ = None
 abbrev pub sleeps_of : List Event → List Wait
 sleeps_of [] = []
 sleeps_of (e ∷ es) = cons_option (sleep_by e.step (slice_get es 0) e.kind) (sleeps_of es)
+
+-- the step of the last of some sleeps, and 0 where there is none
+abbrev pub last_sleep : List Wait → ℕ
+last_sleep sleeps = option_map_or (λ s. s.step) (slice_get sleeps (length sleeps - 1)) 0
+
+-- what a thread is blocked at that stands at an instruction, by the sleeps that it has begun
+abbrev pub blocked_at : Marks → List Wait → Instr → Option Blocked
+blocked_at t sleeps (Lock m) = Some (blocked.Lock m)
+blocked_at t sleeps (Wake c m) = Some (blocked.Wake c m (last_sleep sleeps))
+blocked_at t sleeps (Join h) = Some (blocked.Join (child_number (handle_in t h)))
+blocked_at t sleeps _ = None
 
 -- a create or a join at a step, with the number of the child
 abbrev pub create_by : ℕ → EventKind → Option Link

@@ -1,5 +1,5 @@
 -- Which logs fit the code, and what is wrong with those that don't.
-use Rattle.std.specs.Prelude.{◌≡◌, ℕ, zero, suc, ◌-◌, List, [], ◌∷◌, length, Bool, true, false, Option, Some, None, is_some, option_and_then, slice_get}
+use Rattle.std.specs.Prelude.{◌≡◌, ℕ, zero, suc, ◌-◌, List, [], ◌∷◌, length, Bool, true, Option, Some, None, is_some, option_and_then, slice_get}
 use Rattle.std.specs.Prelude.{if◌then◌else◌, bytes_eq, Result, Err}
 use Rattle.std.specs.List.{filter_map}
 use Rattle.std.specs.Option.{option_map_or}
@@ -10,7 +10,9 @@ use Rattle.tc_base.specs.Logs.{Log, failing_of, path_under}
 use Rattle.tc_code.specs.Code.{Code}
 use Rattle.tc_code.specs.declared.instr.Instr.{Instr}
 use Rattle.tc_code.specs.declared.instr.Instr.TheVariants.{Create}
-use Rattle.path_walk.specs.Steps.{Step, steps_at, places_of}
+use Rattle.path_walk.specs.Steps.{Step, is_failing, steps_at, places_of}
+use Rattle.path_walk.specs.declared.ending.Ending.{Ending}
+use Rattle.path_walk.specs.declared.ending.Ending.TheVariants.{Fails, Rests, Open}
 use Rattle.path_walk.specs.declared.fault.Misfit.{Misfit}
 use Rattle.path_walk.specs.declared.fault.Misfit.TheVariants as misfit
 use Rattle.path_walk.specs.declared.fault.WalkFault.{WalkFault}
@@ -25,14 +27,21 @@ starts _ = None
 abbrev pub started : List Step → List ℕ
 started steps = filter_map (λ s. starts s.instr) steps
 
--- whether the thread of a name is the one that failed
+-- how the path of the thread of a name ends, by the thread that failed: where none did, all of them rest
+abbrev pub ending_by : Option Name → Name → Ending
+ending_by failed n = option_map_or (λ m. if bytes_eq n m then Fails else Open) failed Rests
+
+abbrev pub ending_of : Log → Name → Ending
+ending_of log n = ending_by (failing_of log) n
+
+-- whether it is the thread that failed
 abbrev pub fails_in : Log → Name → Bool
-fails_in log n = option_map_or (bytes_eq n) (failing_of log) false
+fails_in log n = is_failing (ending_of log n)
 
 module _ (code : Code) (log : Log) where
   -- the places of the steps of the thread of a name that does a function
   abbrev pub walked : Name → ℕ → Result (List ℕ) Misfit
-  walked n f = option_map_or (places_of code f (fails_in log n)) (path_under n log.threads) (Err misfit.Missing)
+  walked n f = option_map_or (places_of code f (ending_of log n)) (path_under n log.threads) (Err misfit.Missing)
 
   -- the same, and none where something is wrong
   abbrev pub places_in : Name → ℕ → List ℕ

@@ -38,6 +38,11 @@ marked t (Join h) = record t { handles = slice_set t.handles h (Joined (child_nu
 marked t Stbar = record t { bars = t.bars + 1 }
 marked t _ = t
 
+-- what steps make of them
+abbrev pub marks_after : Marks → List Step → Marks
+marks_after m [] = m
+marks_after m (s ∷ steps) = marks_after (marked m s.instr) steps
+
 -- a step with its number, whether it fails, and what the steps before it made
 pub record Marked : Type 0 where
   pub number : ℕ

@@ -1,7 +1,7 @@
 -- The names of what may be wrong with a thread of a log.
 use Rattle.std.specs.Prelude.{ℕ, List, codes}
 use Rattle.path_walk.specs.declared.fault.Misfit.{Misfit}
-use Rattle.path_walk.specs.declared.fault.Misfit.TheVariants.{Missing, Stranger, OutcomesShort, OutcomesLeft, PastExit, NotASite}
+use Rattle.path_walk.specs.declared.fault.Misfit.TheVariants.{Missing, Stranger, OutcomesShort, OutcomesLeft, PastExit, NotASite, NotBlocked}
 
 abbrev pub misfit_text : Misfit → List ℕ
 misfit_text Missing = codes "Missing"
@@ -10,3 +10,4 @@ misfit_text OutcomesShort = codes "OutcomesShort"
 misfit_text OutcomesLeft = codes "OutcomesLeft"
 misfit_text PastExit = codes "PastExit"
 misfit_text NotASite = codes "NotASite"
+misfit_text NotBlocked = codes "NotBlocked"

@@ -1,13 +1,19 @@
 -- The ways of all threads of a log.
-use Rattle.std.specs.Prelude.{◌≡◌, ℕ, ◌-◌, ◌^◌, List, map, length, Bool, sum, min, unwrap_or}
-use Rattle.std.specs.List.{list_any}
+use Rattle.std.specs.Prelude.{◌≡◌, ℕ, ◌-◌, ◌^◌, List, map, length, Bool, false, ◌||◌, sum, min, Option, None, is_none, unwrap_or, option_and_then}
+use Rattle.std.specs.List.{list_all, list_any}
 use Rattle.tc_base.specs.Names.{Name}
 use Rattle.tc_base.specs.Logs.{ThreadPath, Log}
+use Rattle.tc_base.specs.declared.failing.Failing.{Failing}
+use Rattle.tc_base.specs.declared.failing.Failing.TheVariants.{Thread, Deadlock}
 use Rattle.tc_code.specs.Code.{Code}
-use Rattle.path_walk.specs.Steps.{Step, steps_at}
-use Rattle.path_walk.specs.Fits.{fails_in, places_in, function_of, Fits}
-use Rattle.path_walk.specs.Marks.{marked_steps}
-use Rattle.path_walk.specs.Events.{events_of, regions_of, sleeps_of, creates_of, joins_of, is_impossible, operators_of}
+use Rattle.tc_code.specs.declared.instr.Instr.{Instr}
+use Rattle.path_walk.specs.Steps.{Step, is_failing, steps_at, standing}
+use Rattle.path_walk.specs.Fits.{fails_in, ending_of, places_in, function_of, Fits}
+use Rattle.path_walk.specs.Marks.{Marks, unmarked, marks_after, marked_steps}
+use Rattle.path_walk.specs.Events.{events_of, regions_of, sleeps_of, creates_of, joins_of, blocked_at, is_impossible, operators_of}
+use Rattle.path_walk.specs.declared.ending.Ending.{Ending}
+use Rattle.path_walk.specs.declared.ending.Ending.TheVariants.{Rests}
+use Rattle.path_walk.specs.declared.event.Blocked.{Blocked}
 use Rattle.path_walk.specs.declared.event.Event.{Event}
 use Rattle.path_walk.specs.declared.event.Region.{Region}
 use Rattle.path_walk.specs.declared.event.Sleep.{Sleep}
@@ -27,10 +33,12 @@ pub record Walk : Type 0 where
   pub sleeps : List Sleep
   pub creates : List Link
   pub joins : List Link
+  -- what it is blocked at, where it rests and hasn't exited
+  pub blocked : Option Blocked
 
 pub record Paths : Type 0 where
-  -- the place of the thread that failed
-  pub failing : ℕ
+  -- the place of the thread that failed, if one did
+  pub failing : Failing
   pub threads : List Walk
   -- how many events the threads have together, and how many operators stand in the instructions of their steps
   pub events : ℕ
@@ -42,10 +50,17 @@ pub record Paths : Type 0 where
 abbrev pub counted : ℕ → ℕ
 counted n = min n (2 ^ 64 - 1)
 
--- the way of a thread that does a function, by whether it failed and the places of its steps
-abbrev pub walk_by : Code → Bool → ThreadPath → ℕ → List ℕ → Walk
-walk_by code fails t f places =
-    let events = events_of code f (marked_steps code f fails (steps_at code f places)) in
+-- what a thread is blocked at whose path ends so, with these marks and sleeps, at an instruction if it hasn't exited
+abbrev pub blocked_after : Ending → Marks → List Sleep → Option Instr → Option Blocked
+blocked_after Rests t sleeps at = option_and_then (blocked_at t sleeps) at
+blocked_after _ t sleeps at = None
+
+-- the way of a thread that does a function, by how its path ends and the places of its steps
+abbrev pub walk_by : Code → Ending → ThreadPath → ℕ → List ℕ → Walk
+walk_by code ending t f places =
+    let steps = steps_at code f places in
+    let events = events_of code f (marked_steps code f (is_failing ending) steps) in
+    let sleeps = sleeps_of events in
     record {
       name = t.name;
       function = f;
@@ -53,10 +68,16 @@ walk_by code fails t f places =
       places = places;
       events = events;
       regions = regions_of events;
-      sleeps = sleeps_of events;
+      sleeps = sleeps;
       creates = creates_of events;
       joins = joins_of events;
+      blocked = blocked_after ending (marks_after (unmarked code f) steps) sleeps (standing code f t.path);
     }
+
+-- whether it is a deadlock in which every thread has exited: that is none
+abbrev pub have_exited : Failing → List Walk → Bool
+have_exited (Thread k) walks = false
+have_exited Deadlock walks = list_all (λ w. is_none w.blocked) walks
 
 -- Of a log that fits, each thread has a function and places; what stands for them elsewhere says nothing.
 module _ (code : Code) (log : Log) where
@@ -67,7 +88,7 @@ module _ (code : Code) (log : Log) where
   steps_in t = steps_at code (function_in t) (places_in code log t.name (function_in t))
 
   abbrev pub walk_of : ThreadPath → Walk
-  walk_of t = walk_by code (fails_in log t.name) t (function_in t) (places_in code log t.name (function_in t))
+  walk_of t = walk_by code (ending_of log t.name) t (function_in t) (places_in code log t.name (function_in t))
 
   -- whether the path of a thread alone tells that no run goes so
   abbrev pub is_dead : ThreadPath → Bool
@@ -82,7 +103,7 @@ module _ (code : Code) (log : Log) where
     threads = map walk_of log.threads;
     events = sum (map (λ t. length (walk_of t).events) log.threads);
     operators = counted (sum (map operators_in log.threads));
-    dead = list_any is_dead log.threads;
+    dead = list_any is_dead log.threads || have_exited log.failing (map walk_of log.threads);
   }
 
 -- paths of some log that fits the code

@@ -5,9 +5,11 @@ use Rattle.std.specs.Option.{option_map_or}
 use Rattle.tc_base.specs.Logs.{Path}
 use Rattle.tc_code.specs.Code.{Code, instr_at}
 use Rattle.tc_code.specs.declared.instr.Instr.{Instr}
-use Rattle.tc_code.specs.declared.instr.Instr.TheVariants.{Branch, Goto, Inside, Holds, Ready, Assert, Nonzero, InRange, Exit}
+use Rattle.tc_code.specs.declared.instr.Instr.TheVariants.{Branch, Goto, Inside, Holds, Lock, Wake, Ready, Join, Assert, Nonzero, InRange, Exit}
+use Rattle.path_walk.specs.declared.ending.Ending.{Ending}
+use Rattle.path_walk.specs.declared.ending.Ending.TheVariants.{Fails, Rests}
 use Rattle.path_walk.specs.declared.fault.Misfit.{Misfit}
-use Rattle.path_walk.specs.declared.fault.Misfit.TheVariants.{OutcomesShort, OutcomesLeft, PastExit, NotASite}
+use Rattle.path_walk.specs.declared.fault.Misfit.TheVariants.{OutcomesShort, OutcomesLeft, PastExit, NotASite, NotBlocked}
 
 -- where a thread goes on, and the outcomes that are left for it
 pub record Onward : Type 0 where
@@ -40,6 +42,21 @@ places_from code f (suc n) k outcomes =
     (λ i. option_map_or (λ on. before k (places_from code f n on.place on.outcomes)) (onward k i outcomes) (Err OutcomesShort))
     (instr_at code f k) (Err PastExit)
 
+-- whether a thread fails in the last step of its path
+abbrev pub is_failing : Ending → Bool
+is_failing Fails = true
+is_failing _ = false
+
+-- the place to which so many steps from a place lead, with these outcomes
+abbrev pub end_from : Code → ℕ → ℕ → ℕ → List Bool → ℕ
+end_from code f zero k outcomes = k
+end_from code f (suc n) k outcomes =
+    option_map_or (λ i. option_map_or (λ on. end_from code f n on.place on.outcomes) (onward k i outcomes) k) (instr_at code f k) k
+
+-- the instruction at which a thread stands that went a path through a function; none stands behind an exit
+abbrev pub standing : Code → ℕ → Path → Option Instr
+standing code f path = instr_at code f (end_from code f path.steps 0 path.outcomes)
+
 -- a step: its instruction, and the place of that in the function
 pub record Step : Type 0 where
   pub place : ℕ
@@ -67,11 +84,19 @@ is_site _ = false
 abbrev pub ends_at_site : Code → ℕ → List ℕ → Bool
 ends_at_site code f places = option_map_or (λ k. is_site (step_at code f k).instr) (slice_get places (length places - 1)) false
 
--- a thread that failed did so at a site
-abbrev pub at_site : Code → ℕ → Bool → Result (List ℕ) Misfit → Result (List ℕ) Misfit
-at_site code f true (Ok places) = if ends_at_site code f places then Ok places else Err NotASite
-at_site code f _ found = found
+-- whether a thread may have to wait for others at an instruction
+abbrev pub can_block : Instr → Bool
+can_block (Lock m) = true
+can_block (Wake c m) = true
+can_block (Join h) = true
+can_block _ = false
 
--- the places of the steps of a thread that does a function, by its path and whether it failed; or what is wrong with the path
-abbrev pub places_of : Code → ℕ → Bool → Path → Result (List ℕ) Misfit
-places_of code f fails path = at_site code f fails (places_from code f path.steps 0 path.outcomes)
+-- a thread that fails does so at a site; one that rests has exited, or stands where it can be blocked
+abbrev pub ended : Code → ℕ → Ending → Path → Result (List ℕ) Misfit → Result (List ℕ) Misfit
+ended code f Fails path (Ok places) = if ends_at_site code f places then Ok places else Err NotASite
+ended code f Rests path (Ok places) = if option_map_or can_block (standing code f path) true then Ok places else Err NotBlocked
+ended code f _ path found = found
+
+-- the places of the steps of a thread that does a function, by its path and how that ends; or what is wrong with the path
+abbrev pub places_of : Code → ℕ → Ending → Path → Result (List ℕ) Misfit
+places_of code f ending path = ended code f ending path (places_from code f path.steps 0 path.outcomes)

@@ -1,14 +1,18 @@
 //! All that is told of one thread.
 ghost use Rattle.std.specs.Prelude.{◌≡◌, ◌<◌, ◌^◌, length, IfOk};
+ghost use Rattle.tc_code.specs.Code.{instr_at};
 ghost use Rattle.path_walk.specs.Fits.{starts, started};
+ghost use Rattle.path_walk.specs.Paths.{blocked_after};
 ghost use Rattle.path_walk.specs.Steps.{steps_at, places_of};
 ghost use Rattle.path_walk.specs.helpers.Accounts.{Gives, mapped, account_by};
 
-use crate::Walk;
-use crate::follow::{FollowFault, follow};
+use crate::ending::Ending;
+use crate::follow::{FollowFault, Followed, follow};
+use crate::marks::Marks;
 use crate::operators::operators;
 use crate::parts::{creates, joins, regions, sleeps};
-use crate::tell::tell;
+use crate::tell::{Told, tell};
+use crate::{Blocked, Sleep, Walk};
 use path_log::ThreadPath;
 use std::alloc::{AllocError, Global};
 use std::marker::Model;
@@ -80,30 +84,52 @@ fn started_by(
     Ok(Started { functions })
 }
 
-/// All that is told of a thread that does a function, by its path and whether it failed.
+/// What a thread is blocked at whose path ends so, with these marks and sleeps, at a place.
+fn blocked(
+    code: &Code,
+    function: usize,
+    ending: Ending,
+    end: usize,
+    marks: &Marks,
+    sleeps: &[Sleep],
+) -> Option<Blocked>
+    ensures { result ≡ blocked_after ending marks.now sleeps.now (instr_at code.now function end) }
+{
+    match ending {
+        Ending::Rests => marks.blocked(code.instr(function, end)?, sleeps),
+        _ => None,
+    }
+}
+
+/// All that is told of a thread that does a function, by its path and how that ends.
 pub fn account_of(
     alloc: Global,
     code: &Code,
     function: usize,
-    fails: bool,
+    ending: Ending,
     path: &ThreadPath,
 ) -> Result<Account, FollowFault>
     ensures told { Gives (λ c. record { walk = c.walk; started = c.started; operators = c.operators; dead = c.dead }) result
-        (mapped (account_by code.now fails path.now function) (places_of code.now function fails path.now.path)) }
+        (mapped (account_by code.now ending path.now function) (places_of code.now function ending path.now.path)) }
     ensures few { IfOk result (λ c. (length c.started < 2 ^ 16) × (length c.walk.events < 2 ^ 16)) }
 {
-    let places = follow(alloc, code, function, fails, path)?;
-    let told = tell(alloc, code, function, fails, &places)?;
-    let events = told.events;
+    let Followed { places, end } = follow(alloc, code, function, ending, path)?;
+    let Told {
+        events,
+        dead,
+        marks,
+    } = tell(alloc, code, function, ending == Ending::Fails, &places)?;
     let started = started_by(alloc, code, function, &places)?;
     let operators = operators(alloc, code, function, &places)?;
+    let sleeps = sleeps(alloc, &events)?;
     let walk = Walk {
         name: path.name().clone()?,
         function,
         outcomes: Vec::from_slice(alloc, path.outcomes())?,
         places,
         regions: regions(alloc, &events)?,
-        sleeps: sleeps(alloc, &events)?,
+        blocked: blocked(code, function, ending, end, &marks, &sleeps),
+        sleeps,
         creates: creates(alloc, &events)?,
         joins: joins(alloc, &events)?,
         events,
@@ -112,6 +138,6 @@ pub fn account_of(
         walk,
         started,
         operators,
-        dead: told.dead,
+        dead,
     })
 }

@@ -1,22 +1,24 @@
 //! What is told of the first threads of a log.
 ghost use Rattle.std.specs.Prelude.{◌≡◌, ℕ, ◌+◌, ◌<◌, ◌≤◌, ◌^◌, length, Option, Some, IfOk, OnOk, IfErr};
-ghost use Rattle.std.specs.Prelude.{IfSome, IfNone, is_some, slice_get, true, false, bytes_eq};
-ghost use Rattle.std.specs.List.{list_any};
+ghost use Rattle.std.specs.Prelude.{IfSome, IfNone, is_none, is_some, slice_get, true, false, bytes_eq, if◌then◌else◌};
+ghost use Rattle.std.specs.List.{list_all, list_any};
 ghost use Rattle.tc_base.specs.Names.{Name as PlainName};
 ghost use Rattle.tc_base.specs.Logs.{Log as PlainLog, ThreadPath as PlainPath, path_under};
 ghost use Rattle.tc_base.specs.declared.limits.TheConstants.{THREADS};
-ghost use Rattle.path_walk.specs.Fits.{function_of, IsFault, Fits};
-ghost use Rattle.path_walk.specs.Paths.{paths_of};
+ghost use Rattle.path_walk.specs.Fits.{ending_of, function_of, IsFault, Fits};
+ghost use Rattle.path_walk.specs.Paths.{have_exited, paths_of};
+ghost use Rattle.path_walk.specs.declared.ending.Ending.TheVariants.{Fails, Open};
 ghost use Rattle.path_walk.specs.helpers.Drafts as helper;
 ghost use Rattle.path_walk.specs.helpers.Drafts.{IsDraft, IsNext, IsFirstAbsent, first_fault, added, no_draft};
 
 use crate::account::{Account, Started, account_of};
+use crate::ending::Ending;
 use crate::follow::FollowFault;
 use crate::{Misfit, Paths, Walk, WalkFault};
 use path_log::{Log, ThreadPath};
 use std::alloc::{AllocError, Global};
 use std::marker::Model;
-use tc_base::ThreadName;
+use tc_base::{Failing, ThreadName};
 use tc_code::Code;
 
 /// What is told of the first threads of a log.
@@ -57,6 +59,27 @@ fn has_thread(log: &Log, name: &ThreadName) -> bool
     false
 }
 
+/// How the path of the thread of a name ends.
+fn ending_of(log: &Log, name: &ThreadName) -> Ending
+    ensures { result ≡ ending_of log.now.log name.now }
+{
+    match log.failing_name() {
+        Some(failing) => ending_by(name, failing),
+        None => Ending::Rests,
+    }
+}
+
+/// How the path of a thread ends in a log of a failure.
+fn ending_by(name: &ThreadName, failing: &ThreadName) -> Ending
+    ensures { result ≡ if bytes_eq name.now failing.now then Fails else Open }
+{
+    if name.children() == failing.children() {
+        Ending::Fails
+    } else {
+        Ending::Open
+    }
+}
+
 /// The first of so many children of a thread that isn't in the log.
 fn first_absent(
     alloc: Global,
@@ -85,6 +108,23 @@ fn least(first: Option<ThreadName>, second: Option<ThreadName>) -> Option<Thread
         (Some(a), None) => Some(a),
         (None, other) => other,
     }
+}
+
+/// Whether it is a deadlock in which every thread has exited.
+fn have_exited(failing: Failing, threads: &[Walk]) -> bool
+    ensures { result ≡ have_exited failing threads.now }
+{
+    match failing {
+        Failing::Thread(_) => false,
+        Failing::Deadlock => all_exited(threads),
+    }
+}
+
+/// Whether every thread has exited, in a log of a deadlock.
+fn all_exited(threads: &[Walk]) -> bool
+    ensures { result ≡ list_all (λ w. is_none w.blocked) threads.now }
+{
+    threads.iter().all(|thread| thread.has_exited())
 }
 
 /// The place of the thread of a name among some.
@@ -197,8 +237,7 @@ impl Draft {
         let Some(function) = self.function_of(code, name) else {
             return Err(self.first_fault(name, Misfit::Stranger)?);
         };
-        let fails = name.children() == log.failing_name().children();
-        match account_of(alloc, code, function, fails, thread) {
+        match account_of(alloc, code, function, ending_of(log, name), thread) {
             Ok(account) => Ok(self.add(alloc, log, account)?),
             Err(FollowFault::Unfit(misfit)) => Err(self.first_fault(name, misfit)?),
             Err(FollowFault::Memory) => Err(WalkFault::Memory),
@@ -206,7 +245,7 @@ impl Draft {
     }
 
     /// The paths of a log of which all threads are told, or the fault of the least child that isn't in it.
-    pub fn finish(self, failing: usize) -> Result<Paths, WalkFault>
+    pub fn finish(self, failing: Failing) -> Result<Paths, WalkFault>
         ensures { result ≡ helper.finished self failing }
     {
         let Draft {
@@ -221,10 +260,10 @@ impl Draft {
             Some(name) => Err(WalkFault::Unfit(name, Misfit::Missing)),
             None => Ok(Paths {
                 failing,
+                dead: dead || have_exited(failing, &threads),
                 threads,
                 events,
                 operators,
-                dead,
             }),
         }
     }

@@ -72,6 +72,26 @@ pub struct Sleep {
     pub wake: Option<usize>,
 }
 
+/// What a thread is blocked at in a deadlock: the call that doesn't return.
+#[derive(Clone, Copy, Debug)]
+pub enum Blocked {
+    /// A lock, as of `pthread_mutex_lock`: a thread has the mutex, maybe this one.
+    Lock {
+        mutex: u32,
+    },
+    /// The second half of a wait, as of `pthread_cond_wait`: nothing wakes the thread from the sleep that it began in that
+    /// step, or a thread has the mutex.
+    Wake {
+        condition: u32,
+        mutex: u32,
+        sleep: usize,
+    },
+    /// A join, as of `pthread_join`: the child of that number, from 1, hasn't exited. It is 0 where there is none.
+    Join {
+        child: u32,
+    },
+}
+
 /// A step of a thread that creates or joins a child.
 #[derive(Clone, Copy, Debug)]
 pub struct Link {

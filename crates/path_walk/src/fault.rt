@@ -23,6 +23,9 @@ pub enum Misfit {
     PastExit,
     /// It is the thread that failed, and its last step is at no site, or it has none.
     NotASite,
+    /// No thread failed, and it neither has exited nor stands where it could be blocked: at a lock, the second half of a wait
+    /// or a join.
+    NotBlocked,
 }
 
 impl Misfit {
@@ -37,6 +40,7 @@ impl Misfit {
             Misfit::OutcomesLeft => "OutcomesLeft",
             Misfit::PastExit => "PastExit",
             Misfit::NotASite => "NotASite",
+            Misfit::NotBlocked => "NotBlocked",
         }
     }
 }

@@ -1,10 +1,13 @@
 //! The places of the steps of one thread, by its path.
-ghost use Rattle.std.specs.Prelude.{◌≡◌, ◌+◌, ◌<◌, ◌≤◌, ◌^◌, length, drop, option_map, OnSome, IfOk};
-ghost use Rattle.path_walk.specs.Steps.{onward, branched, is_site, step_at, ends_at_site, places_from, places_of};
+ghost use Rattle.std.specs.Prelude.{◌≡◌, ◌+◌, ◌<◌, ◌≤◌, ◌^◌, length, drop, true, option_map, OnSome, IfOk};
+ghost use Rattle.tc_code.specs.Code.{instr_at};
+ghost use Rattle.std.specs.Option.{option_map_or};
+ghost use Rattle.path_walk.specs.Steps.{onward, branched, is_site, can_block, step_at, ends_at_site, places_from, end_from, places_of};
 ghost use Rattle.path_walk.specs.helpers.Accounts.{Gives, position_of};
 ghost use Rattle.path_walk.specs.declared.follow.FollowFault.TheVariants.{Memory};
 
 use crate::Misfit;
+use crate::ending::Ending;
 use path_log::ThreadPath;
 use std::alloc::{AllocError, AllocFailed, Global};
 use tc_code::{Code, Instr};
@@ -87,6 +90,26 @@ fn is_site(instr: &Instr) -> bool
     )
 }
 
+/// Whether a thread may have to wait for others at an instruction.
+fn can_block(instr: &Instr) -> bool
+    ensures { result ≡ can_block instr.now }
+{
+    matches!(
+        instr,
+        Instr::Lock { .. } | Instr::Wake { .. } | Instr::Join { .. }
+    )
+}
+
+/// Whether a thread that stands at a place has exited, since no instruction is there, or can be blocked.
+fn can_rest(code: &Code, function: usize, place: usize) -> bool
+    ensures { result ≡ option_map_or can_block (instr_at code.now function place) true }
+{
+    match code.instr(function, place) {
+        Some(instr) => can_block(instr),
+        None => true,
+    }
+}
+
 /// Whether there is a step, and the last is at a site.
 fn ends_at_site(code: &Code, function: usize, places: &[usize]) -> bool
     ensures { result ≡ ends_at_site code.now function places.now }
@@ -100,15 +123,23 @@ fn ends_at_site(code: &Code, function: usize, places: &[usize]) -> bool
     }
 }
 
-/// The places of the steps of a path through a function.
-fn places(
+/// The places of the steps of a path through a function, and the place to which they lead.
+#[derive(Drop)]
+pub struct Followed {
+    pub places: Vec<usize>,
+    pub end: usize,
+}
+
+/// The steps of a path through a function.
+fn steps(
     alloc: Global,
     code: &Code,
     function: usize,
     path: &ThreadPath,
-) -> Result<Vec<usize>, FollowFault>
-    ensures told { Gives (λ v. v.items) result (places_from code.now function path.now.path.steps 0 path.now.path.outcomes) }
-    ensures few { IfOk result (λ v. length v.items < 2 ^ 16) }
+) -> Result<Followed, FollowFault>
+    ensures told { Gives (λ w. w.places.items) result (places_from code.now function path.now.path.steps 0 path.now.path.outcomes) }
+    ensures end { IfOk result (λ w. w.end ≡ end_from code.now function path.now.path.steps 0 path.now.path.outcomes) }
+    ensures few { IfOk result (λ w. length w.places.items < 2 ^ 16) }
 {
     let outcomes = path.outcomes();
     let mut places = Vec::new(alloc);
@@ -126,23 +157,32 @@ fn places(
     if at.used < outcomes.len() {
         return Err(FollowFault::Unfit(Misfit::OutcomesLeft));
     }
-    Ok(places)
+    Ok(Followed {
+        places,
+        end: at.place,
+    })
 }
 
-/// The places of the steps of a thread that does a function, by its path and whether it failed.
+/// The steps of a thread that does a function, by its path and how that ends.
 pub fn follow(
     alloc: Global,
     code: &Code,
     function: usize,
-    fails: bool,
+    ending: Ending,
     path: &ThreadPath,
-) -> Result<Vec<usize>, FollowFault>
-    ensures told { Gives (λ v. v.items) result (places_of code.now function fails path.now.path) }
-    ensures few { IfOk result (λ v. length v.items < 2 ^ 16) }
+) -> Result<Followed, FollowFault>
+    ensures told { Gives (λ w. w.places.items) result (places_of code.now function ending path.now.path) }
+    ensures end { IfOk result (λ w. w.end ≡ end_from code.now function path.now.path.steps 0 path.now.path.outcomes) }
+    ensures few { IfOk result (λ w. length w.places.items < 2 ^ 16) }
 {
-    let places = places(alloc, code, function, path)?;
-    if fails && !ends_at_site(code, function, &places) {
-        return Err(FollowFault::Unfit(Misfit::NotASite));
+    let way = steps(alloc, code, function, path)?;
+    match ending {
+        Ending::Fails if !ends_at_site(code, function, &way.places) => {
+            Err(FollowFault::Unfit(Misfit::NotASite))
+        }
+        Ending::Rests if !can_rest(code, function, way.end) => {
+            Err(FollowFault::Unfit(Misfit::NotBlocked))
+        }
+        _ => Ok(way),
     }
-    Ok(places)
 }

@@ -3,6 +3,7 @@
 
 mod account;
 mod draft;
+mod ending;
 mod event;
 mod fault;
 mod follow;
@@ -13,7 +14,7 @@ mod paths;
 mod tell;
 mod whole;
 
-pub use event::{Event, EventKind, Link, Region, Sleep};
+pub use event::{Blocked, Event, EventKind, Link, Region, Sleep};
 pub use fault::{Misfit, WalkFault};
 pub use paths::{Paths, Walk};
 pub use whole::walk;

@@ -3,9 +3,9 @@ ghost use Rattle.std.specs.Prelude.{◌≡◌, ◌+◌, ◌<◌, ◌^◌, IfOk, 
 ghost use Rattle.tc_base.specs.declared.handle.Handle.{Handle};
 ghost use Rattle.tc_code.specs.Step as step;
 ghost use Rattle.path_walk.specs.Marks.{unmarked, has_mutex, handle_in, marked};
-ghost use Rattle.path_walk.specs.Events.{asks, kind_with, excludes};
+ghost use Rattle.path_walk.specs.Events.{asks, kind_with, excludes, last_sleep, blocked_at};
 
-use crate::EventKind;
+use crate::{Blocked, EventKind, Sleep};
 use std::alloc::{AllocError, Global};
 use std::marker::Model;
 use tc_base::Handle;
@@ -108,6 +108,24 @@ impl Marks {
         }
     }
 
+    /// What a thread is blocked at that stands at an instruction, by the sleeps that it has begun.
+    pub fn blocked(&self, instr: &Instr, sleeps: &[Sleep]) -> Option<Blocked>
+        ensures { result ≡ blocked_at self.now sleeps.now instr.now }
+    {
+        match instr {
+            Instr::Lock { mutex } => Some(Blocked::Lock { mutex: *mutex }),
+            Instr::Wake { condition, mutex } => Some(Blocked::Wake {
+                condition: *condition,
+                mutex: *mutex,
+                sleep: last_sleep(sleeps),
+            }),
+            Instr::Join { handle } => Some(Blocked::Join {
+                child: child_number(self.handle(*handle)),
+            }),
+            _ => None,
+        }
+    }
+
     /// Does a step.
     pub fn apply(&mut self, instr: &Instr)
         requires children { self.old.children + 1 < 2 ^ 32 }
@@ -182,6 +200,16 @@ impl Marks {
     {
         let joined = Handle::Joined(child_number(self.handle(handle)));
         self.set(handle, joined);
+    }
+}
+
+/// The step of the last of some sleeps, and 0 where there is none.
+fn last_sleep(sleeps: &[Sleep]) -> usize
+    ensures { result ≡ last_sleep sleeps.now }
+{
+    match sleeps.last() {
+        Some(sleep) => sleep.step,
+        None => 0,
     }
 }
 

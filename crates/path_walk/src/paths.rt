@@ -1,9 +1,9 @@
 //! Paths of threads, each with what it tells.
-ghost use Rattle.std.specs.Prelude.{◌≡◌};
+ghost use Rattle.std.specs.Prelude.{◌≡◌, is_none};
 
-use crate::{Event, Link, Region, Sleep};
+use crate::{Blocked, Event, Link, Region, Sleep};
 use std::marker::Model;
-use tc_base::ThreadName;
+use tc_base::{Failing, ThreadName};
 
 /// The way of one thread.
 #[derive(Debug, Drop)]
@@ -17,6 +17,7 @@ pub struct Walk {
     pub(crate) sleeps: Vec<Sleep>,
     pub(crate) creates: Vec<Link>,
     pub(crate) joins: Vec<Link>,
+    pub(crate) blocked: Option<Blocked>,
 }
 
 impl Model for Walk {
@@ -34,6 +35,7 @@ impl Model for Walk {
       sleeps = w.sleeps.items;
       creates = w.creates.items;
       joins = w.joins.items;
+      blocked = w.blocked;
     } };
 }
 
@@ -100,12 +102,26 @@ impl Walk {
     {
         self.joins.as_slice()
     }
+
+    /// Whether it has exited, in a log of a deadlock that fits.
+    pub(crate) fn has_exited(&self) -> bool
+        ensures { result ≡ is_none self.now.blocked }
+    {
+        self.blocked.is_none()
+    }
+
+    /// What it is blocked at, in a log of a deadlock, unless it has exited; none in a log of a failure.
+    pub fn blocked(&self) -> Option<Blocked>
+        ensures { result ≡ self.now.blocked }
+    {
+        self.blocked
+    }
 }
 
 /// The ways of all threads of a log, in the order of their names.
 #[derive(Debug, Drop)]
 pub struct Paths {
-    pub(crate) failing: usize,
+    pub(crate) failing: Failing,
     pub(crate) threads: Vec<Walk>,
     pub(crate) events: usize,
     pub(crate) operators: u64,
@@ -127,8 +143,8 @@ impl Model for Paths {
 }
 
 impl Paths {
-    /// The place of the thread that failed.
-    pub fn failing(&self) -> usize
+    /// The place of the thread that failed, or that none did.
+    pub fn failing(&self) -> Failing
         ensures { result ≡ self.now.failing }
     {
         self.failing
@@ -157,7 +173,8 @@ impl Paths {
     }
 
     /// Whether the paths alone tell that no run goes so: some step takes a mutex that its thread has, or a test of a
-    /// mutex or a thread variable passes where it is false, or fails where it is true.
+    /// mutex or a thread variable passes where it is false, or fails where it is true; or all threads have exited, and the
+    /// log is of a deadlock.
     pub fn dead(&self) -> bool
         ensures { result ≡ self.now.dead }
     {

@@ -3,7 +3,7 @@ ghost use Rattle.std.specs.Prelude.{◌≡◌, ℕ, ◌<◌, ◌≤◌, ◌^◌,
 ghost use Rattle.std.specs.List.{All, list_any};
 ghost use Rattle.tc_code.specs.Code.{instr_at};
 ghost use Rattle.path_walk.specs.Steps.{steps_at};
-ghost use Rattle.path_walk.specs.Marks.{marked_steps};
+ghost use Rattle.path_walk.specs.Marks.{unmarked, marks_after, marked_steps};
 ghost use Rattle.path_walk.specs.Events.{events_of, is_impossible};
 
 use crate::Event;
@@ -18,6 +18,8 @@ pub struct Told {
     pub events: Vec<Event>,
     /// Whether the path alone tells that no run goes so.
     pub dead: bool,
+    /// What they made of the thread's mutexes and thread variables.
+    pub marks: Marks,
 }
 
 /// What the steps of a thread tell.
@@ -34,6 +36,7 @@ pub fn tell(
         ≡ events_of code.now function (marked_steps code.now function fails (steps_at code.now function places.now))) }
     ensures dead { IfOk result (λ t. t.dead
         ≡ list_any is_impossible (marked_steps code.now function fails (steps_at code.now function places.now))) }
+    ensures marks { IfOk result (λ t. t.marks ≡ marks_after (unmarked code.now function) (steps_at code.now function places.now)) }
 {
     let mut marks = Marks::at_start(alloc, code, function)?;
     let mut events = Vec::new(alloc);
@@ -55,5 +58,9 @@ pub fn tell(
         dead = dead || marks.excludes(instr, fails_here);
         marks.apply(instr);
     }
-    Ok(Told { events, dead })
+    Ok(Told {
+        events,
+        dead,
+        marks,
+    })
 }

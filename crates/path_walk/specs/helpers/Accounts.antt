@@ -3,11 +3,12 @@ use Rattle.std.specs.Prelude.{◌≡◌, ℕ, List, ◌++◌, drop, map, sum, Bo
 use Rattle.std.specs.List.{list_any}
 use Rattle.tc_base.specs.Logs.{ThreadPath}
 use Rattle.tc_code.specs.Code.{Code}
-use Rattle.path_walk.specs.Steps.{Onward, steps_at}
+use Rattle.path_walk.specs.Steps.{Onward, is_failing, steps_at}
 use Rattle.path_walk.specs.Fits.{started}
 use Rattle.path_walk.specs.Marks.{marked_steps}
 use Rattle.path_walk.specs.Events.{operators_of, is_impossible}
 use Rattle.path_walk.specs.Paths.{Walk, counted, walk_by}
+use Rattle.path_walk.specs.declared.ending.Ending.{Ending}
 use Rattle.path_walk.specs.declared.fault.Misfit.{Misfit}
 use Rattle.path_walk.specs.declared.follow.FollowFault.{FollowFault}
 use Rattle.path_walk.specs.declared.follow.FollowFault.TheVariants.{Unfit, Memory}
@@ -40,12 +41,12 @@ pub record Account : Type 0 where
   pub operators : ℕ
   pub dead : Bool
 
-abbrev pub account_by : Code → Bool → ThreadPath → ℕ → List ℕ → Account
-account_by code fails t f places = record {
-  walk = walk_by code fails t f places;
+abbrev pub account_by : Code → Ending → ThreadPath → ℕ → List ℕ → Account
+account_by code ending t f places = record {
+  walk = walk_by code ending t f places;
   started = started (steps_at code f places);
   operators = counted (sum (map (λ s. operators_of s.instr) (steps_at code f places)));
-  dead = list_any is_impossible (marked_steps code f fails (steps_at code f places));
+  dead = list_any is_impossible (marked_steps code f (is_failing ending) (steps_at code f places));
 }
 
 abbrev pub mapped : {X Y : Type 0} → (X → Y) → Result X Misfit → Result Y Misfit

@@ -5,10 +5,11 @@ use Rattle.std.specs.List.{list_any}
 use Rattle.std.specs.Ordering.{is_lt}
 use Rattle.tc_base.specs.Names.{Name, child, by_name}
 use Rattle.tc_base.specs.Logs.{Log, ThreadPath, path_under}
+use Rattle.tc_base.specs.declared.failing.Failing.{Failing}
 use Rattle.tc_code.specs.Code.{Code}
 use Rattle.path_log.specs.Texts.{rises_from}
 use Rattle.path_walk.specs.Fits.{started, function_of, misfit_of}
-use Rattle.path_walk.specs.Paths.{Walk, Paths, counted, walk_of, steps_in, operators_in, is_dead}
+use Rattle.path_walk.specs.Paths.{Walk, Paths, counted, have_exited, walk_of, steps_in, operators_in, is_dead}
 use Rattle.path_walk.specs.declared.fault.Misfit.{Misfit}
 use Rattle.path_walk.specs.declared.fault.Misfit.TheVariants.{Missing}
 use Rattle.path_walk.specs.declared.fault.WalkFault.{WalkFault}
@@ -102,13 +103,19 @@ started_at started place zero = None
 started_at started place (suc k) = option_and_then (λ functions. slice_get functions k) (slice_get started place)
 
 -- the paths of a whole draft
-abbrev pub paths_by : Draft → ℕ → Paths
-paths_by d failing = record { failing = failing; threads = d.threads; events = d.events; operators = d.operators; dead = d.dead }
+abbrev pub paths_by : Draft → Failing → Paths
+paths_by d failing = record {
+  failing = failing;
+  threads = d.threads;
+  events = d.events;
+  operators = d.operators;
+  dead = d.dead || have_exited failing d.threads;
+}
 
 -- they, or the fault of the least child that isn't in the log
-abbrev pub finished_by : Option Name → Draft → ℕ → Result Paths WalkFault
+abbrev pub finished_by : Option Name → Draft → Failing → Result Paths WalkFault
 finished_by None d failing = Ok (paths_by d failing)
 finished_by (Some n) d failing = Err (Unfit n Missing)
 
-abbrev pub finished : Draft → ℕ → Result Paths WalkFault
+abbrev pub finished : Draft → Failing → Result Paths WalkFault
 finished d failing = finished_by d.missing d failing
