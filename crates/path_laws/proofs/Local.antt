@@ -3,7 +3,6 @@ use Rattle.std.proofs.Common.{◌≡◌, ◌∙◌, ℕ, zero, suc, ◌+◌, ℤ
 use Rattle.std.proofs.Common.{Some, Result, Ok, refl, sym, ap, ap₂, subst, arith, append-nil, slice_set, slice_index_or}
 use Rattle.std.specs.Prelude.{unwrap_or}
 use Rattle.std.specs.List.{list_any, cons_option}
-use Rattle.std.specs.Option.{option_map_or}
 use Rattle.std.proofs.Math.Bool.{and-true, and-false, or-false}
 use Rattle.std.proofs.lemmas.Bool.{eqb-true}
 use Rattle.std.proofs.lemmas.List.{map-append, length-append}
@@ -15,15 +14,15 @@ use Rattle.tc_code.specs.declared.instr.Instr.{Instr}
 use Rattle.tc_code.specs.declared.instr.Instr.TheVariants.{Branch, Goto, Lock, Unlock, Sleep, Wake}
 use Rattle.tc_code.specs.declared.instr.Instr.TheVariants.{Create, Join, Exit}
 use Rattle.tc_code.specs.Step.{child_number, branched, local_after, is_nonzero, value_in}
-use Rattle.path_walk.specs.Steps.{Step, Onward, onward, places_from, step_at, steps_at}
+use Rattle.path_walk.specs.Steps.{Step, Onward, onward, places_from, end_from, step_at, steps_at}
 use Rattle.path_walk.specs.Steps as path
 use Rattle.path_walk.specs.Fits.{starts, started}
-use Rattle.path_walk.specs.Marks.{Marks, Marked, unmarked, marked, marked_from, marked_steps}
+use Rattle.path_walk.specs.Marks.{Marks, Marked, unmarked, marked, marks_after, marked_from, marked_steps}
 use Rattle.path_walk.specs.Events.{excludes, is_impossible}
-use Rattle.path_walk.proofs.Places.{unrolled, step_more}
+use Rattle.path_walk.proofs.Places.{unrolled, step_more, end_more}
 use Rattle.run_history.proofs.Lists.{filter_map-push}
 use Rattle.path_walk.specs.declared.fault.Misfit.{Misfit}
-use Rattle.path_laws.specs.Along.{end_from, marks_after, HasMarks, IsAlong}
+use Rattle.path_laws.specs.Along.{HasMarks, IsAlong}
 
 -- where an instruction leads with more outcomes behind
 branched_more : (next to : ℕ) (os more : List Bool) (on : Onward) → path.branched next to os ≡ Some on
@@ -52,12 +51,10 @@ abbrev the_step : Step → Step
 the_step s = s
 
 module _ (code : Code) (f : ℕ) where
-  -- the end of a path of one step and more
-  end_more : (n k : ℕ) (os : List Bool) (i : Instr) (on : Onward) → instr_at code f k ≡ Some i → onward k i os ≡ Some on
+  -- a path of one step and more
+  end_next : (n k : ℕ) (os : List Bool) (i : Instr) (on : Onward) → instr_at code f k ≡ Some i → onward k i os ≡ Some on
       → end_from code f (suc n) k os ≡ end_from code f n on.place on.outcomes
-  end_more n k os i on at leads =
-      ap (λ o. option_map_or (λ j. option_map_or (λ (w : Onward). end_from code f n w.place w.outcomes) (onward k j os) k) o k) at
-      ∙ ap (λ o. option_map_or (λ (w : Onward). end_from code f n w.place w.outcomes) o k) leads
+  end_next n k os i on at leads = let same : suc n ≡ n + 1 = omega arith in end_more code f (suc n) n k os i on same at leads
 
   places_more : (n k : ℕ) (os : List Bool) (i : Instr) (on : Onward) → instr_at code f k ≡ Some i → onward k i os ≡ Some on
       → places_from code f (suc n) k os ≡ path.before k (places_from code f n on.place on.outcomes)
@@ -79,19 +76,19 @@ module _ (code : Code) (f : ℕ) where
       let leads' : onward k i more ≡ Some (record { place = to; outcomes = [] }) = ap (λ x. onward x i more) end ∙ leads in
       record {
         places = places_more zero k more i _ at' leads' ∙ ap the_ok (ap₂ (λ x xs. xs ++ x ∷ []) end none);
-        end = end_more zero k more i _ at' leads';
+        end = end_next zero k more i _ at' leads';
       }
   one_more zero k (o ∷ os) more ps e i to told end at leads = absurd cc
   one_more (suc n) k os more ps e i to told end at leads =
       let u = unrolled code f n k os ps told in
-      let rest = one_more n u.next.place u.next.outcomes more u.rest e i to u.told (sym (end_more n k os u.instr u.next u.at u.leads) ∙ end) at leads in
+      let rest = one_more n u.next.place u.next.outcomes more u.rest e i to u.told (sym (end_next n k os u.instr u.next u.at u.leads) ∙ end) at leads in
       let on = onward_more k u.instr os more u.next u.leads in
       record {
         places =
             places_more (suc n) k (os ++ more) u.instr _ u.at on
             ∙ ap (path.before k) rest.places
             ∙ ap (λ xs. the_ok (xs ++ e ∷ [])) (sym u.all);
-        end = end_more (suc n) k (os ++ more) u.instr _ u.at on ∙ rest.end;
+        end = end_next (suc n) k (os ++ more) u.instr _ u.at on ∙ rest.end;
       }
 
 -- What an instruction that doesn't fail does to the path.

@@ -1,42 +1,56 @@
 -- A log that some moves reproduce.
-use Rattle.std.proofs.Common.{◌≡◌, ◌∙◌, ◌⊎◌, inl, inr, ℕ, zero, suc, ◌-◌, Bool, true, false, ◌||◌, cond, List, [], ◌∷◌, ◌++◌, length}
-use Rattle.std.proofs.Common.{IsSome, Some, None, Result, Ok, Err, refl, sym, ap, ap₂, arith, append-nil}
-use Rattle.std.specs.Prelude.{slice_get, unwrap_or, option_and_then, option_map}
+use Rattle.std.proofs.Common.{◌≡◌, ◌∙◌, ◌⊎◌, inl, inr, ℕ, zero, suc, ◌-◌, Bool, true, false, ◌||◌, cond, List, [], ◌∷◌, ◌++◌, length, map, get_or}
+use Rattle.std.proofs.Common.{IsSome, Option, Some, None, Result, Ok, Err, refl, sym, ap, ap₂, subst, arith, append-nil, bytes_eq, true≢false}
+use Rattle.std.specs.Prelude.{slice_get, unwrap_or, option_and_then, option_map, is_none, IsSomeAnd}
 use Rattle.std.specs.FinMap as fin
-use Rattle.std.specs.List.{list_any, cons_option}
+use Rattle.std.specs.List.{list_all, list_any, cons_option}
 use Rattle.std.specs.Option.{option_map_or}
 use Rattle.std.specs.Result.{result_unwrap_or, result_err}
 use Rattle.std.proofs.lemmas.List.{length-append}
-use Rattle.std.proofs.lemmas.Option.{slice_get_within}
+use Rattle.std.proofs.lemmas.List.Folds.{list_all_at}
+use Rattle.std.proofs.lemmas.Option.{none-some, same_Some, option_and_then_some, slice_get-get_or, slice_get-map, slice_get_past, slice_get_within}
 use Rattle.tc_base.specs.Names.{Name, child}
 use Rattle.tc_base.specs.Buffers.{BufferOps}
-use Rattle.tc_base.specs.Logs.{Log, ThreadPath, path_under}
+use Rattle.tc_base.specs.Logs.{Log, Path, ThreadPath, path_under}
 use Rattle.tc_base.specs.States.{Local, Thread, State}
+use Rattle.tc_base.specs.declared.failing.Failing.{Failing}
+use Rattle.tc_base.specs.declared.failing.Failing.TheVariants as failing
+use Rattle.tc_base.specs.declared.model.Model.{Model}
 use Rattle.tc_base.specs.declared.moves.Move.{Move}
-use Rattle.tc_code.specs.Code.{Code, instr_at}
 use Rattle.tc_base.specs.declared.request.Request.TheVariants.{Fail}
-use Rattle.tc_code.specs.Step.{request}
+use Rattle.tc_base.proofs.Names.{HasParent, parent_of, same_true}
+use Rattle.tc_code.specs.Code.{Code, instr_at}
+use Rattle.tc_code.specs.Step.{request, site}
 use Rattle.tc_code.proofs.Facts.{at_its_place}
 use Rattle.tc_code.specs.declared.instr.Instr.{Instr}
-use Rattle.tc_code.specs.declared.instr.Instr.TheVariants.{Create, Exit}
+use Rattle.tc_code.specs.declared.instr.Instr.TheVariants.{Inside, Holds, Lock, Wake, Create, Ready, Join, Assert, Nonzero, InRange, Exit}
 use Rattle.tc_code.specs.Lawful.{IsLawful}
-use Rattle.tc_code.specs.Run.{Reproduces, IsReached, path_of}
-use Rattle.path_walk.specs.Steps.{step_at, steps_at, is_site, ends_at_site, at_site, places_from, places_of}
-use Rattle.path_walk.specs.Fits.{starts, started, fails_in, places_in, child_function, function_of, Fits}
-use Rattle.path_walk.specs.Marks.{marked_steps}
-use Rattle.path_walk.specs.Events.{is_impossible}
-use Rattle.path_walk.specs.Paths.{is_dead, paths_of}
+use Rattle.tc_code.specs.Run.{Reproduces, EndsAs, IsStuck, IsReached, path_of}
+use Rattle.store_buffers.specs.Laws.{Laws}
+use Rattle.store_buffers.specs.Pending.{Binding}
+use Rattle.path_walk.specs.Steps.{step_at, steps_at, is_failing, is_site, can_block, ends_at_site, standing, ended, places_of}
+use Rattle.path_walk.specs.Fits.{starts, started, ending_by, ending_of, fails_in, places_in, child_function, function_of, Fits}
+use Rattle.path_walk.specs.Marks.{Marks, unmarked, marks_after, marked_steps}
+use Rattle.path_walk.specs.Events.{is_impossible, blocked_at}
+use Rattle.path_walk.specs.Paths.{Walk, blocked_after, have_exited, walk_of, function_in, steps_in, is_dead, paths_of}
+use Rattle.path_walk.specs.declared.ending.Ending.{Ending}
+use Rattle.path_walk.specs.declared.ending.Ending.TheVariants.{Fails, Rests, Open}
+use Rattle.path_walk.specs.declared.event.Sleep.{Sleep as Wait}
 use Rattle.path_walk.specs.declared.fault.Misfit.{Misfit}
 use Rattle.path_walk.specs.declared.fault.Misfit.TheVariants as misfit
-use Rattle.tc_base.proofs.Names.{HasParent, parent_of}
 use Rattle.path_walk.proofs.Faults.{option_is, there, not_there, function_of_child, walked_there, no_child, nobody, by_path}
-use Rattle.run_laws.proofs.Main.{main_is_there}
-use Rattle.run_laws.proofs.Created.{reached_is_created}
 use Rattle.path_walk.proofs.Drafts.{under_own}
-use Rattle.path_laws.specs.Prefixes.{fails_by}
+use Rattle.run_laws.specs.Laws.{IsPastExit}
+use Rattle.run_laws.proofs.Created.{reached_is_created}
+use Rattle.run_laws.proofs.Exits.{exited_past_exit, has_next}
+use Rattle.run_laws.proofs.Main.{main_is_there}
+use Rattle.run_laws.proofs.Stuck.{may_wait, stuck_waits}
+use Rattle.run_pending.proofs.Stuck.{stuck_is_drained}
 use Rattle.path_log.proofs.Lists.{get_seam}
+use Rattle.path_laws.specs.Along.{IsAlong}
+use Rattle.path_laws.specs.Prefixes.{fails_by}
 use Rattle.path_laws.proofs.Functions as functions
-use Rattle.path_laws.proofs.Prefixes.{fails_as, thread_path}
+use Rattle.path_laws.proofs.Prefixes.{failing_by, ends_as, fails_as, thread_path}
 use Rattle.path_laws.proofs.Local.{still_possible, started_push, marks_here}
 use Rattle.path_laws.proofs.States.{Stands, stands_places, fail_is_site, fail_possible, AllKnown, reached_known}
 
@@ -53,14 +67,90 @@ site_starts : (t : Local) (i : Instr) → request t i ≡ Fail → starts i ≡ 
 site_starts t (Create h f es) e = absurd cc
 site_starts t i e = refl
 
+not_all : {X : Type 0} (p : X → Bool) (xs : List X) (i : ℕ) (x : X) → slice_get xs i ≡ Some x → p x ≡ false → list_all p xs ≡ false
+not_all p xs i x at fails =
+    let within = slice_get_within xs i x at in
+    list_all_at p xs i x within (ap p (same_Some (get_or xs i x) x (sym (slice_get-get_or xs i x within) ∙ at)) ∙ fails)
+
+-- where nobody failed all paths rest
+none_failed : (failed : Option Name) (n : Name) → ending_by failed n ≡ Rests → failed ≡ None
+none_failed None n e = refl
+none_failed (Some m) n e = absurd (by (bytes_eq n m) e)
+  where
+    by : (b : Bool) → cond b Fails Open ≡ Rests → ⊥
+    by true e = cc
+    by false e = cc
+
+-- a thread waits only where it can be blocked
+site_waits : (b : Bool) → may_wait (site b) ≡ false
+site_waits true = refl
+site_waits false = refl
+
+waiting_blocks : (t : Local) (i : Instr) → may_wait (request t i) ≡ true → can_block i ≡ true
+waiting_blocks t (Lock m) h = refl
+waiting_blocks t (Wake c m) h = refl
+waiting_blocks t (Join k) h = refl
+waiting_blocks t (Inside len x) h = absurd (true≢false (sym h ∙ site_waits _))
+waiting_blocks t (Holds m) h = absurd (true≢false (sym h ∙ site_waits _))
+waiting_blocks t (Ready k) h = absurd (true≢false (sym h ∙ site_waits _))
+waiting_blocks t (Assert x) h = absurd (true≢false (sym h ∙ site_waits _))
+waiting_blocks t (Nonzero x) h = absurd (true≢false (sym h ∙ site_waits _))
+waiting_blocks t (InRange x) h = absurd (true≢false (sym h ∙ site_waits _))
+waiting_blocks t i h = absurd (true≢false (sym h))
+
+-- it is blocked there
+blocks_some : (t : Marks) (sleeps : List Wait) (i : Instr) → can_block i ≡ true → is_none (blocked_at t sleeps i) ≡ false
+blocks_some t sleeps (Lock m) h = refl
+blocks_some t sleeps (Wake c m) h = refl
+blocks_some t sleeps (Join k) h = refl
+blocks_some t sleeps i h = absurd (true≢false (sym h))
+
+blocked_there : (e : Ending) (t : Marks) (sleeps : List Wait) (o : Option Instr) (i : Instr) → e ≡ Rests → o ≡ Some i → can_block i ≡ true
+    → is_none (blocked_after e t sleeps o) ≡ false
+blocked_there e t sleeps o i rests at h = ap₂ (λ x y. is_none (blocked_after x t sleeps y)) rests at ∙ blocks_some t sleeps i h
+
+-- no instruction stands behind an exit
+none_behind_exit : (code : Code) (t : Local) → IsLawful code → IsPastExit code t → instr_at code t.function t.instruction ≡ None
+none_behind_exit code t lawful past =
+    option_and_then_some (λ g. slice_get g.instrs past.place) (slice_get code.functions t.function) Exit past.exit
+    (λ g there at.
+    let last = (lawful.functions t.function g there).only past.place at in
+    ap (option_and_then (λ f. slice_get f.instrs t.instruction)) there ∙ slice_get_past g.instrs t.instruction (omega (arith, last, past.next)))
+
+-- the thread of a name, and its place
+pub record HasPlace (n : Name) (way : Path) (ts : List ThreadPath) : Type 0 where
+  pub place : ℕ
+  pub thread : ThreadPath
+  pub there : slice_get ts place ≡ Some thread
+  pub name : thread.name ≡ n
+  pub path : thread.path ≡ way
+
+pub place_of : (n : Name) (path : Path) (ts : List ThreadPath) → path_under n ts ≡ Some path → HasPlace n path ts
+place_of n path [] h = absurd (none-some path h)
+place_of n path (t ∷ ts) h = by (bytes_eq n t.name) refl h (λ g. place_of n path ts g)
+  where
+    by : (b : Bool) → bytes_eq n t.name ≡ b → cond b (Some t.path) (path_under n ts) ≡ Some path → (path_under n ts ≡ Some path → HasPlace n path ts)
+        → HasPlace n path (t ∷ ts)
+    by true same h later = record { place = 0; thread = t; there = refl; name = sym (same_true n t.name same); path = same_Some t.path path h }
+    by false other h later =
+        let rest = later h in
+        record { place = suc rest.place; thread = rest.thread; there = rest.there; name = rest.name; path = rest.path }
+
 abbrev the_ok : List ℕ → Result (List ℕ) Misfit
 the_ok ps = Ok ps
 
 module _ (code : Code) where
-  -- what stands is told by the path, and whether the thread failed
-  sited : (b : Bool) (t : Local) (ps : List ℕ) → Stands code b t ps → at_site code t.function b (places_from code t.function t.steps 0 t.outcomes) ≡ Ok ps
-  sited false t ps h = ap (at_site code t.function false) (stands_places code false t ps h)
-  sited true t ps h =
+  abbrev went : Local → Path
+  went t = record { outcomes = t.outcomes; steps = t.steps }
+
+  -- what stands is told by the path, and how that ends
+  ended_so : (e : Ending) (t : Local) (ps : List ℕ) → Stands code (is_failing e) t ps
+      → (e ≡ Rests → option_map_or can_block (standing code t.function (went t)) true ≡ true) → places_of code t.function e (went t) ≡ Ok ps
+  ended_so Open t ps h rests = stands_places code false t ps h
+  ended_so Rests t ps h rests =
+      ap (ended code t.function Rests (went t)) (stands_places code false t ps h)
+      ∙ ap (λ b. cond b (the_ok ps) (Err misfit.NotBlocked)) (rests refl)
+  ended_so Fails t ps h rests =
       let k = h.before.instruction in
       let f = h.before.function in
       let function : t.function ≡ f = ap (λ (x : Local). x.function) h.is in
@@ -70,7 +160,7 @@ module _ (code : Code) where
       ∙ ap (λ o. option_map_or (λ j. is_site (step_at code f j).instr) o false) (get_end h.front k)
       ∙ ap (λ o. is_site (unwrap_or o Exit)) at
       ∙ fail_is_site h.before h.instr h.asks in
-      ap (at_site code t.function true) (stands_places code true t ps h)
+      ap (ended code t.function Fails (went t)) (stands_places code true t ps h)
       ∙ ap (λ b. cond b (the_ok ps) (Err misfit.NotASite)) ends
 
   -- it has created as many children as it says
@@ -95,7 +185,8 @@ module _ (code : Code) where
       ∙ still_possible code h.before h.before h.instr h.front h.along at true
       (fail_possible h.before (marks_here code h.before h.before h.instr h.front h.along at) h.instr h.asks h.along.marks)
 
-  module _ {B : Type 0} (ops : BufferOps B) (lawful : IsLawful code) (log : Log) (moves : List Move) (r : Reproduces ops code log moves) where
+  module _ {B : Type 0} (ops : BufferOps B) (model : Model) (bound : Binding) (laws : Laws ops model bound) (lawful : IsLawful code) (log : Log)
+      (moves : List Move) (r : Reproduces ops code log moves) where
     abbrev s : State B
     s = r.state
 
@@ -108,11 +199,58 @@ module _ (code : Code) where
     no_path : (n : Name) → fin.get s.threads n ≡ None → path_under n log.threads ≡ None
     no_path n none = sym (r.paths n) ∙ ap (option_map path_of) none
 
+    -- a thread of a deadlock that hasn't exited stands where it can be blocked
+    record IsBlocked (t : Local) : Type 0 where
+      instr : Instr
+      at : standing code t.function (went t) ≡ Some instr
+      blocks : can_block instr ≡ true
+
+    module _ (stuck : IsStuck ops code s) (n : Name) (t : Thread B) (there : fin.get s.threads n ≡ Some t) where
+      standing_there : standing code t.local.function (went t.local) ≡ instr_at code t.local.function t.local.instruction
+      standing_there =
+          let k = known n t there in
+          let along : IsAlong code t.local k.places = subst (λ o. Stands code (fails_by o n) t.local k.places) stuck.unfailed k.stands in
+          ap (instr_at code t.local.function) along.end
+
+      is_blocked : t.local.has_exited ≡ false → IsBlocked t.local
+      is_blocked going =
+          let next = has_next ops code s lawful reached n t there going in
+          let waits = stuck_waits ops code s n t next.0 stuck.unfailed stuck.still there next.1
+          (stuck_is_drained ops model bound code s n t laws reached stuck there) in
+          record {
+            instr = next.0;
+            at = standing_there ∙ at_its_place code t.local next.0 next.1;
+            blocks = waiting_blocks t.local next.0 waits.1;
+          }
+
+      -- so it rests
+      may_rest : option_map_or can_block (standing code t.local.function (went t.local)) true ≡ true
+      may_rest = by t.local.has_exited refl
+        where
+          by : (b : Bool) → t.local.has_exited ≡ b → option_map_or can_block (standing code t.local.function (went t.local)) true ≡ true
+          by true gone =
+              ap (λ o. option_map_or can_block o true)
+              (standing_there ∙ none_behind_exit code t.local lawful ((exited_past_exit ops code s lawful reached n t there).0 gone))
+          by false going = let b = is_blocked going in ap (λ o. option_map_or can_block o true) b.at ∙ b.blocks
+
+    stuck_if : s.failed ≡ None → IsStuck ops code s
+    stuck_if none = by log.failing r.ends
+      where
+        failed_one : (o : Option ThreadPath) → IsSomeAnd o (λ t. s.failed ≡ Some t.name) → IsStuck ops code s
+        failed_one None h = absurd h
+        failed_one (Some t) h = absurd (none-some t.name (sym none ∙ h))
+
+        by : (f : Failing) → EndsAs ops code f log.threads s → IsStuck ops code s
+        by (failing.Thread k) h = failed_one (slice_get log.threads k) h
+        by failing.Deadlock h = h
+
     placed : (n : Name) (t : Thread B) (there : fin.get s.threads n ≡ Some t)
-        → places_of code t.local.function (fails_in log n) (path_of t) ≡ Ok (known n t there).places
+        → places_of code t.local.function (ending_of log n) (path_of t) ≡ Ok (known n t there).places
     placed n t there =
-        ap (λ b. places_of code t.local.function b (path_of t)) (fails_as ops code log moves r n)
-        ∙ sited (fails_by s.failed n) t.local (known n t there).places (known n t there).stands
+        let k = known n t there in
+        ap (λ e. places_of code t.local.function e (path_of t)) (ends_as ops code log moves r n)
+        ∙ ended_so (ending_by s.failed n) t.local k.places (subst (λ b. Stands code b t.local k.places) (sym (failing_by s.failed n)) k.stands)
+        (λ rests. may_rest (stuck_if (none_failed s.failed n rests)) n t there)
 
     places_are : (n : Name) (t : Thread B) (there : fin.get s.threads n ≡ Some t) → places_in code log n t.local.function ≡ (known n t there).places
     places_are n t there =
@@ -188,6 +326,32 @@ module _ (code : Code) where
               ∙ alive (fails_by s.failed t.name) x.local (known t.name x is.1).places (known t.name x is.1).stands
         ]
 
+    -- a thread of a deadlock that is left is blocked
+    left_is_blocked : IsStuck ops code s → list_all (λ (w : Walk). is_none w.blocked) (map (walk_of code log) log.threads) ≡ false
+    left_is_blocked stuck =
+        let n = stuck.left.0 in
+        let left = stuck.left.1 in
+        let t = left.thread in
+        let p = place_of n (path_of t) log.threads (thread_path ops code log moves r n t left.there) in
+        let q = p.thread in
+        let b = is_blocked stuck n t left.there left.going in
+        let function : function_in code log q ≡ t.local.function =
+        ap (λ m. unwrap_or (function_of code log m) 0) p.name ∙ ap (λ o. unwrap_or o 0) (function_is n t left.there) in
+        not_all (λ (w : Walk). is_none w.blocked) (map (walk_of code log) log.threads) p.place (walk_of code log q)
+        (slice_get-map (walk_of code log) log.threads p.place ∙ ap (option_map (walk_of code log)) p.there)
+        (blocked_there (ending_of log q.name) (marks_after (unmarked code (function_in code log q)) (steps_in code log q)) (walk_of code log q).sleeps
+        (standing code (function_in code log q) q.path) b.instr
+        (ends_as ops code log moves r q.name ∙ ap (λ o. ending_by o q.name) stuck.unfailed)
+        (ap₂ (standing code) function p.path ∙ b.at) b.blocks)
+
+    -- so not all have exited
+    not_all_exited : have_exited log.failing (map (walk_of code log) log.threads) ≡ false
+    not_all_exited = by log.failing r.ends
+      where
+        by : (f : Failing) → EndsAs ops code f log.threads s → have_exited f (map (walk_of code log) log.threads) ≡ false
+        by (failing.Thread k) h = refl
+        by failing.Deadlock h = left_is_blocked h
+
     -- and no path tells that no run goes so
     pub reproduced_alive : (paths_of code log).dead ≡ false
-    reproduced_alive = any_none (is_dead code log) log.threads (λ i t at. alive_under t (under_own log.threads i t at))
+    reproduced_alive = ap₂ ◌||◌ (any_none (is_dead code log) log.threads (λ i t at. alive_under t (under_own log.threads i t at))) not_all_exited

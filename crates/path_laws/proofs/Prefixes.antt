@@ -1,28 +1,28 @@
 -- Runs in which each thread has gone the first part of its path in a log.
 use Rattle.std.proofs.Common.{◌≡◌, ◌∙◌, ℕ, zero, suc, ◌+◌, ◌≤◌, ◌<◌, Bool, true, false, ◌==◌, ◌&&◌, List, [], ◌∷◌, ◌++◌, length, take, drop}
-use Rattle.std.proofs.Common.{Option, Some, None, Result, Ok, Err, refl, sym, ap, ap₂, subst, arith, append-nil, append_assoc, bytes_eq}
-use Rattle.std.specs.Prelude.{option_map, option_and_then, IsSomeAnd}
+use Rattle.std.proofs.Common.{Option, Some, None, Result, Ok, Err, refl, sym, ap, ap₂, subst, arith, append-nil, append_assoc, bytes_eq, cond}
+use Rattle.std.specs.Prelude.{option_map, option_and_then}
 use Rattle.std.specs.FinMap as fin
-use Rattle.std.specs.Option.{option_map_or}
 use Rattle.std.specs.Result.{result_err, result_unwrap_or}
 use Rattle.std.proofs.Math.Bool.{and-true}
 use Rattle.std.proofs.lemmas.Bool.{eqb-true, eq-eqb}
 use Rattle.std.proofs.lemmas.List.{take-append-drop}
 use Rattle.std.proofs.lemmas.Option.{none-some, same_Some, option_and_then_some}
 use Rattle.tc_base.specs.Buffers.{BufferOps}
-use Rattle.tc_base.specs.Logs.{Log, Path, failing_of, path_under}
+use Rattle.tc_base.specs.Logs.{Log, Path, path_under}
 use Rattle.tc_base.specs.Names.{Name}
 use Rattle.tc_base.specs.States.{Local, Thread, State}
 use Rattle.tc_base.specs.declared.moves.Move.{Move}
 use Rattle.tc_base.specs.declared.request.Request.{Request}
 use Rattle.tc_code.specs.Code.{Code, instr_at}
-use Rattle.tc_code.proofs.Facts.{at_its_place, run_from-append, step_is_reached}
+use Rattle.tc_code.proofs.Facts.{at_its_place, failed_as_logged, run_from-append, step_is_reached}
 use Rattle.tc_code.specs.declared.instr.Instr.{Instr}
 use Rattle.tc_code.specs.Lawful.{IsLawful}
 use Rattle.tc_code.specs.Run.{run, run_from, Reproduces, IsReached, path_of}
 use Rattle.tc_code.specs.Step.{step, opening}
-use Rattle.path_walk.specs.Steps.{Onward, onward, places_from, places_of}
-use Rattle.path_walk.specs.Fits.{fails_in, places_in, function_of, Fits}
+use Rattle.path_walk.specs.Steps.{Onward, onward, is_failing, places_from, places_of}
+use Rattle.path_walk.specs.Fits.{ending_by, ending_of, fails_in, places_in, function_of, Fits}
+use Rattle.path_walk.specs.declared.ending.Ending.TheVariants.{Fails, Open}
 use Rattle.path_walk.proofs.Faults.{walked_there, by_path}
 use Rattle.path_walk.proofs.Places.{unrolled, count, fits_from}
 use Rattle.run_laws.proofs.Changes.{is_fail}
@@ -78,15 +78,23 @@ module _ {B : Type 0} (ops : BufferOps B) (code : Code) (log : Log) where
 
 -- What reproduces a log.
 
--- who failed is the thread that the log names
-same_failing : (o failed : Option Name) → IsSomeAnd o (λ n. failed ≡ Some n) → o ≡ failed
-same_failing None failed h = absurd h
-same_failing (Some m) failed h = sym h
+-- a path ends in a failure exactly where its thread is the one that failed
+pub failing_by : (failed : Option Name) (n : Name) → is_failing (ending_by failed n) ≡ fails_by failed n
+failing_by None n = refl
+failing_by (Some m) n = by (bytes_eq n m)
+  where
+    by : (b : Bool) → is_failing (cond b Fails Open) ≡ b
+    by true = refl
+    by false = refl
 
 module _ {B : Type 0} (ops : BufferOps B) (code : Code) (log : Log) (moves : List Move) (r : Reproduces ops code log moves) where
-  -- a thread has failed exactly where it fails in the log
+  -- a thread's path ends in the log as it did
+  pub ends_as : (n : Name) → ending_of log n ≡ ending_by r.state.failed n
+  ends_as n = ap (λ o. ending_by o n) (sym (failed_as_logged ops code log r.state r.ends))
+
+  -- it has failed exactly where it fails in the log
   pub fails_as : (n : Name) → fails_in log n ≡ fails_by r.state.failed n
-  fails_as n = ap (λ o. option_map_or (bytes_eq n) o false) (same_failing (failing_of log) r.state.failed r.failing)
+  fails_as n = ap is_failing (ends_as n) ∙ failing_by r.state.failed n
 
   -- its path in the log is that which it went
   pub thread_path : (n : Name) (t : Thread B) → fin.get r.state.threads n ≡ Some t → path_under n log.threads ≡ Some (path_of t)
@@ -163,9 +171,9 @@ module _ {B : Type 0} (ops : BufferOps B) (code : Code) (lawful : IsLawful code)
     whole_path n t there function =
         let o = on n t there in
         let f = t.local.function in
-        let fit = places_of code f (fails_in log n) o.path in
+        let fit = places_of code f (ending_of log n) o.path in
         let fine = is_ok fit [] (sym (by_path code log n f o.path function o.there) ∙ fits n) in
-        fits_from code f (fails_in log n) (places_from code f o.path.steps 0 o.path.outcomes) (places_in code log n f)
+        fits_from code f (ending_of log n) o.path (places_from code f o.path.steps 0 o.path.outcomes) (places_in code log n f)
         (fine ∙ ap (λ r. Ok (result_unwrap_or r [])) (sym (walked_there code log n f o.path o.there)))
 
     -- its places so far are the first of that path

@@ -1,24 +1,12 @@
 -- A thread of a run, and its path so far.
-use Rattle.std.specs.Prelude.{◌≡◌, ℕ, zero, suc, List, [], ◌∷◌, length, Bool, false, Ok}
+use Rattle.std.specs.Prelude.{◌≡◌, ℕ, List, length, false, Ok}
 use Rattle.std.specs.List.{list_any}
-use Rattle.std.specs.Option.{option_map_or}
 use Rattle.tc_base.specs.States.{Local}
-use Rattle.tc_code.specs.Code.{Code, instr_at}
-use Rattle.path_walk.specs.Steps.{Step, onward, places_from, steps_at}
+use Rattle.tc_code.specs.Code.{Code}
+use Rattle.path_walk.specs.Steps.{places_from, end_from, steps_at}
 use Rattle.path_walk.specs.Fits.{started}
-use Rattle.path_walk.specs.Marks.{Marks, unmarked, marked, marked_steps}
+use Rattle.path_walk.specs.Marks.{Marks, unmarked, marks_after, marked_steps}
 use Rattle.path_walk.specs.Events.{is_impossible}
-
--- the place to which so many steps from a place lead, with these outcomes
-abbrev pub end_from : Code → ℕ → ℕ → ℕ → List Bool → ℕ
-end_from code f zero k outcomes = k
-end_from code f (suc n) k outcomes =
-    option_map_or (λ i. option_map_or (λ on. end_from code f n on.place on.outcomes) (onward k i outcomes) k) (instr_at code f k) k
-
--- what steps make of mutexes and thread variables
-abbrev pub marks_after : Marks → List Step → Marks
-marks_after m [] = m
-marks_after m (s ∷ steps) = marks_after (marked m s.instr) steps
 
 -- a thread has what the marks say
 pub record HasMarks (t : Local) (m : Marks) : Type 0 where

@@ -11,10 +11,13 @@ ghost use Rattle.tc_base.specs.Buffers.{BufferOps};
 ghost use Rattle.tc_base.specs.Logs.{Log, ThreadPath};
 ghost use Rattle.tc_base.specs.Names.{Name};
 ghost use Rattle.tc_base.specs.States.{State, Thread};
+ghost use Rattle.tc_base.specs.declared.model.Model.{Model};
 ghost use Rattle.tc_base.specs.declared.moves.Move.{Move};
 ghost use Rattle.tc_code.specs.Code.{Code};
 ghost use Rattle.tc_code.specs.Lawful.{IsLawful};
 ghost use Rattle.tc_code.specs.Run.{run, Reproduces, IsReached};
+ghost use Rattle.store_buffers.specs.Laws.{Laws};
+ghost use Rattle.store_buffers.specs.Pending.{Binding};
 ghost use Rattle.run_history.specs.History.{history};
 ghost use Rattle.path_walk.specs.Fits.{Fits};
 ghost use Rattle.path_walk.specs.Paths.{paths_of, walk_of};
@@ -30,16 +33,17 @@ pub fn threads_go_along<B>()
         → (places : List ℕ) × IsAlong code t.local places }
 {}
 
-/// A log that some moves reproduce fits the code, under every memory model.
+/// A log that some moves reproduce fits the code, under every memory model: in a deadlock each thread that hasn't exited
+/// stands where it can be blocked, since the oldest store of a buffer may always drain.
 pub fn reproduced_logs_fit<B>()
-    ensures { (ops : BufferOps B) (code : Code) (log : Log) (moves : List Move)
-        → IsLawful code → Reproduces ops code log moves → Fits code log }
+    ensures { (ops : BufferOps B) (model : Model) (bound : Binding) (code : Code) (log : Log) (moves : List Move)
+        → Laws ops model bound → IsLawful code → Reproduces ops code log moves → Fits code log }
 {}
 
 /// Where the paths of a log are dead, no moves reproduce it, under any memory model.
 pub fn dead_logs_are_not_reproduced<B>()
-    ensures { (ops : BufferOps B) (code : Code) (log : Log) (moves : List Move)
-        → IsLawful code → (paths_of code log).dead ≡ true → Reproduces ops code log moves → ⊥ }
+    ensures { (ops : BufferOps B) (model : Model) (bound : Binding) (code : Code) (log : Log) (moves : List Move)
+        → Laws ops model bound → IsLawful code → (paths_of code log).dead ≡ true → Reproduces ops code log moves → ⊥ }
 {}
 
 /// Moves that reproduce a log lead each thread along its path: after the first of them each thread has gone the first
