@@ -1,8 +1,10 @@
 -- The execution of all threads of paths.
-use Rattle.std.specs.Prelude.{ℕ, ◌-◌, ◌==◌, Option, Some, None, List, [], ◌∷◌, ◌++◌, length, take, fold, slice_get, bytes_eq, if◌then◌else◌}
+use Rattle.std.specs.Prelude.{ℕ, ◌-◌, ◌==◌, Bool, false, Option, Some, None, List, [], ◌∷◌, ◌++◌, length, take, fold, slice_get, bytes_eq, if◌then◌else◌}
 use Rattle.std.specs.List.{find, last_or}
 use Rattle.std.specs.Option.{option_map_or}
 use Rattle.tc_base.specs.Names.{Name}
+use Rattle.tc_base.specs.declared.failing.Failing.{Failing}
+use Rattle.tc_base.specs.declared.failing.Failing.TheVariants as failing
 use Rattle.tc_code.specs.Code.{Code}
 use Rattle.tc_code.specs.Step.{ints_of}
 use Rattle.path_walk.specs.Paths.{Walk, Paths}
@@ -41,9 +43,14 @@ handed_to courses parent number = option_map_or (handed_by number) (find (λ c. 
 abbrev pub arguments_for : List Course → Name → List ℕ
 arguments_for courses n = option_map_or (handed_to courses (take (length n - 1) n)) (last_or None n) []
 
+-- whether the thread of a number is the one that failed
+abbrev pub has_failed : Failing → ℕ → Bool
+has_failed (failing.Thread k) number = number == k
+has_failed failing.Deadlock number = false
+
 -- the number of the step in which a thread fails, if it does
 abbrev pub fails_at : Paths → ℕ → Walk → Option ℕ
-fails_at paths number w = if number == paths.failing then Some (length w.places - 1) else None
+fails_at paths number w = if has_failed paths.failing number then Some (length w.places - 1) else None
 
 -- a thread with its first slots, loads and nodes
 abbrev pub thread_started : Code → Executed → Walk → Doing

@@ -11,6 +11,7 @@ use crate::thread::{Thread, ints_of};
 use path_walk::{Paths, Walk};
 use std::alloc::{AllocError, Global};
 use sym_terms::{Id, Terms};
+use tc_base::Failing;
 use tc_code::Code;
 
 /// Executes the paths of all threads, in their order, with a term in place of each value.
@@ -78,10 +79,9 @@ fn add_thread(
 fn fails_at(paths: &Paths, number: usize, walk: &Walk) -> Option<usize>
     ensures { result ≡ spec.fails_at paths.now number walk.now }
 {
-    if number == paths.failing() {
-        Some(walk.places().len().saturating_sub(1))
-    } else {
-        None
+    match paths.failing() {
+        Failing::Thread(place) if place == number => Some(walk.places().len().saturating_sub(1)),
+        _ => None,
     }
 }
 
