@@ -30,7 +30,7 @@ use Rattle.sym_terms.specs.Terms.{AreTerms}
 use Rattle.sym_terms.specs.declared.node.Node.{Node}
 use Rattle.sym_exec.specs.Making.{Grows}
 use Rattle.sym_exec.specs.Thread.{Doing, after_step, after_all}
-use Rattle.sym_exec.specs.Executed.{fails_at, thread_started, thread_done}
+use Rattle.sym_exec.specs.Executed.{has_failed, fails_at, thread_started, thread_done}
 use Rattle.sym_exec.specs.Alone.{slots_by, asked_by, asked_in, outcome_by}
 use Rattle.sym_exec.specs.declared.symbolic.Access.{Access}
 use Rattle.sym_exec.proofs.Grown.{grows_both}
@@ -185,7 +185,7 @@ module _ (code : Code) (log : Log) (nodes : List Node) (lawful : IsLawful code) 
 
       passes : not (is_fail (request t i)) ≡ site_wanted (fails_of j p) d.steps
       passes =
-          fails_as_wanted (j == log.failing) (is_fail (request t i)) t.steps (length (walk p).places) p.path.steps (ap length places_are ∙ goes.long)
+          fails_as_wanted (has_failed log.failing j) (is_fail (request t i)) t.steps (length (walk p).places) p.path.steps (ap length places_are ∙ goes.long)
           goes.within (goes.fails ∙ ap (λ b. b && t.steps + 1 == p.path.steps) (failing_is log is j p there))
           ∙ ap (site_wanted (fails_of j p)) (sym follows.steps)
 

@@ -1,36 +1,21 @@
 -- Threads of a log, and their names.
-use Rattle.std.proofs.Common.{◌≡◌, ◌∙◌, ◌⊎◌, inl, inr, ℕ, suc, ◌<◌, Bool, true, false, cond, ◌==◌, List, [], ◌∷◌, length}
-use Rattle.std.proofs.Common.{Option, Some, None, refl, sym, ap, subst, arith, bytes_eq, get_or}
-use Rattle.std.specs.Prelude.{slice_get, nat_lt, option_map}
-use Rattle.std.specs.Option.{option_map_or}
+use Rattle.std.proofs.Common.{◌≡◌, ◌∙◌, ◌⊎◌, inl, inr, ℕ, ◌<◌, Bool, true, false, ◌==◌, length}
+use Rattle.std.proofs.Common.{Some, None, refl, sym, ap, subst, arith, bytes_eq, get_or}
+use Rattle.std.specs.Prelude.{slice_get, nat_lt, option_and_then, option_map}
 use Rattle.std.specs.declared.cmp.Ordering.TheVariants.{Less}
 use Rattle.std.proofs.lemmas.Bool.{and_parts, ltb-true}
-use Rattle.std.proofs.lemmas.Option.{none-some, same_Some, slice_get-get_or}
-use Rattle.tc_base.specs.Names.{Name, child, by_name}
-use Rattle.tc_base.specs.Logs.{Log, Path, ThreadPath, path_under}
-use Rattle.path_log.specs.Texts.{rises_from, is_log}
+use Rattle.std.proofs.lemmas.Option.{same_Some, slice_get-get_or}
+use Rattle.tc_base.specs.Names.{child, by_name}
+use Rattle.tc_base.specs.Logs.{Log, ThreadPath, place_in}
+use Rattle.tc_base.specs.declared.failing.Failing.{Failing}
+use Rattle.tc_base.specs.declared.failing.Failing.TheVariants as failing
+use Rattle.path_log.specs.Texts.{rises_from, is_there, is_log}
 use Rattle.path_log.proofs.Rising.{rise as rise_in}
-use Rattle.path_walk.specs.Fits.{fails_in}
-use Rattle.tc_base.proofs.Names.{between, not_itself, child_is_above, apart_less, apart_above, same_true, same_refl}
-
--- the thread of a name, and its place
-pub record HasPlace (n : Name) (way : Path) (ts : List ThreadPath) : Type 0 where
-  pub place : ℕ
-  pub thread : ThreadPath
-  pub there : slice_get ts place ≡ Some thread
-  pub name : thread.name ≡ n
-  pub path : thread.path ≡ way
-
-pub place_of : (n : Name) (path : Path) (ts : List ThreadPath) → path_under n ts ≡ Some path → HasPlace n path ts
-place_of n path [] h = absurd (none-some path h)
-place_of n path (t ∷ ts) h = by (bytes_eq n t.name) refl h (λ g. place_of n path ts g)
-  where
-    by : (b : Bool) → bytes_eq n t.name ≡ b → cond b (Some t.path) (path_under n ts) ≡ Some path → (path_under n ts ≡ Some path → HasPlace n path ts)
-        → HasPlace n path (t ∷ ts)
-    by true same h later = record { place = 0; thread = t; there = refl; name = sym (same_true n t.name same); path = same_Some t.path path h }
-    by false other h later =
-        let rest = later h in
-        record { place = suc rest.place; thread = rest.thread; there = rest.there; name = rest.name; path = rest.path }
+use Rattle.path_walk.specs.Fits.{ending_by, fails_in}
+use Rattle.path_walk.specs.Steps.{is_failing}
+use Rattle.path_laws.proofs.Prefixes.{failing_by}
+use Rattle.sym_exec.specs.Executed.{has_failed}
+use Rattle.tc_base.proofs.Names.{between, not_itself, child_is_above, apart_less, apart_above, same_refl}
 
 order : (j k : ℕ) → (j < k) ⊎ ((j ≡ k) ⊎ (k < j))
 order j k = by (nat_lt j k) refl (nat_lt k j) refl
@@ -44,7 +29,7 @@ order j k = by (nat_lt j k) refl (nat_lt k j) refl
 module _ (log : Log) (is : is_log log ≡ true) where
   pub rise : (j k : ℕ) (a b : ThreadPath) → j < k → slice_get log.threads j ≡ Some a → slice_get log.threads k ≡ Some b → by_name a.name b.name ≡ Less
   rise j k a b lt at bt =
-      rise_in None log.threads j k a b (and_parts (rises_from None log.threads) (nat_lt log.failing (length log.threads)) is).0 lt at bt
+      rise_in None log.threads j k a b (and_parts (rises_from None log.threads) _ is).0 lt at bt
 
   -- a name has one place
   pub one_place : (j k : ℕ) (a b : ThreadPath) → slice_get log.threads j ≡ Some a → slice_get log.threads k ≡ Some b → a.name ≡ b.name → j ≡ k
@@ -80,30 +65,32 @@ module _ (log : Log) (is : is_log log ≡ true) where
   others_before j k a b lt at bt = apart_less a.name b.name (rise j k a b lt at bt)
 
   -- the thread that failed is that of its place
-  pub failing_is : (j : ℕ) (p : ThreadPath) → slice_get log.threads j ≡ Some p → fails_in log p.name ≡ (j == log.failing)
-  failing_is j p at = by (slice_get log.threads log.failing) refl
+  pub failing_is : (j : ℕ) (p : ThreadPath) → slice_get log.threads j ≡ Some p → fails_in log p.name ≡ has_failed log.failing j
+  failing_is j p at = by log.failing (and_parts (rises_from None log.threads) _ is).1
     where
-      within : log.failing < length log.threads
-      within = ltb-true log.failing (length log.threads) (and_parts (rises_from None log.threads) (nat_lt log.failing (length log.threads)) is).1
-
-      tested : (q : ThreadPath) → slice_get log.threads log.failing ≡ Some q → bytes_eq p.name q.name ≡ (j == log.failing)
-      tested q qt =
-          elim (order j log.failing) [
+      same_place : (k : ℕ) (q : ThreadPath) → slice_get log.threads k ≡ Some q → bytes_eq p.name q.name ≡ (j == k)
+      same_place k q qt =
+          elim (order j k) [
             | inl lt ↦
-                let not : (j == log.failing) ≡ false = grind (arith, lt) in
-                apart_less p.name q.name (rise j log.failing p q lt at qt) ∙ sym not
+                let not : (j == k) ≡ false = grind (arith, lt) in
+                apart_less p.name q.name (rise j k p q lt at qt) ∙ sym not
             | inr more ↦
                 elim more [
                   | inl e ↦
                       let same : p ≡ q = same_Some p q (sym at ∙ ap (slice_get log.threads) e ∙ qt) in
-                      let yes : (j == log.failing) ≡ true = grind (arith, e) in
+                      let yes : (j == k) ≡ true = grind (arith, e) in
                       subst (λ (x : ThreadPath). bytes_eq p.name x.name ≡ true) same (same_refl p.name) ∙ sym yes
                   | inr gt ↦
-                      let not : (j == log.failing) ≡ false = grind (arith, gt) in
-                      apart_above p.name q.name (rise log.failing j q p gt qt at) ∙ sym not
+                      let not : (j == k) ≡ false = grind (arith, gt) in
+                      apart_above p.name q.name (rise k j q p gt qt at) ∙ sym not
                 ]
           ]
 
-      by : (o : Option ThreadPath) → slice_get log.threads log.failing ≡ o → fails_in log p.name ≡ (j == log.failing)
-      by None none = absurd (none-some (get_or log.threads log.failing p) (sym none ∙ slice_get-get_or log.threads log.failing p within))
-      by (Some q) qt = ap (λ o. option_map_or (bytes_eq p.name) (option_map (λ (x : ThreadPath). x.name) o) false) qt ∙ tested q qt
+      by : (f : Failing) → is_there f (length log.threads) ≡ true
+          → is_failing (ending_by (option_and_then (λ k. option_map (λ (x : ThreadPath). x.name) (slice_get log.threads k)) (place_in f)) p.name) ≡ has_failed f j
+      by (failing.Thread k) within =
+          let q = get_or log.threads k p in
+          let there : slice_get log.threads k ≡ Some q = slice_get-get_or log.threads k p (ltb-true k (length log.threads) within) in
+          ap (λ o. is_failing (ending_by (option_map (λ (x : ThreadPath). x.name) o) p.name)) there
+          ∙ failing_by (Some q.name) p.name ∙ same_place k q there
+      by failing.Deadlock some = refl

@@ -36,7 +36,8 @@ use Rattle.sym_exec.specs.Executed.{Executed}
 use Rattle.path_laws.specs.Prefixes.{AreOnPaths}
 use Rattle.sym_laws.specs.Valued.{AgreesWith, found}
 use Rattle.sym_laws.proofs.Lists.{in_front}
-use Rattle.sym_laws.proofs.Names.{place_of, one_place}
+use Rattle.path_laws.proofs.Logs.{place_of}
+use Rattle.sym_laws.proofs.Names.{one_place}
 use Rattle.sym_laws.proofs.Follows.{GoesOnPath}
 use Rattle.sym_laws.proofs.Moves.{AllFollow, all_follow, drained_follow, opening_follows}
 

@@ -1,7 +1,7 @@
 -- Moves that reproduce a log do all steps of its paths.
 use Rattle.std.proofs.Common.{◌≡◌, ◌∙◌, inl, inr, ℕ, suc, ℤ, List, [], ◌∷◌, ◌++◌, length, take, drop, Option, Some, None, true}
 use Rattle.std.proofs.Common.{refl, ap, sym, subst, arith, append-nil}
-use Rattle.std.specs.Prelude.{slice_get, unwrap_or, option_map, nat_lt}
+use Rattle.std.specs.Prelude.{slice_get, unwrap_or, option_map}
 use Rattle.std.specs.List.{flat_map}
 use Rattle.std.specs.FinMap as fin
 use Rattle.std.proofs.lemmas.Bool.{and_parts}
@@ -21,7 +21,6 @@ use Rattle.path_walk.specs.Fits.{Fits, places_in}
 use Rattle.path_walk.specs.Paths.{walk_of, paths_of}
 use Rattle.path_log.proofs.Rising.{own_path}
 use Rattle.path_laws.specs.Prefixes.{AreOnPaths}
-use Rattle.path_laws.proofs.Logs.{reproduced_fits}
 use Rattle.path_laws.proofs.Prefixes.{beginnings_on, so_far}
 use Rattle.sym_terms.specs.Terms.{AreTerms}
 use Rattle.sym_terms.specs.declared.node.Node.{Node}
@@ -40,20 +39,17 @@ own_under : (log : Log) → is_log log ≡ true → (j : ℕ) (p : ThreadPath) �
 own_under log is j p at =
     let split = split_at log.threads j p at in
     let rises : rises_from None (take j log.threads ++ p ∷ drop (suc j) log.threads) ≡ true =
-    ap (rises_from None) (sym split) ∙ (and_parts (rises_from None log.threads) (nat_lt log.failing (length log.threads)) is).0 in
+    ap (rises_from None) (sym split) ∙ (and_parts (rises_from None log.threads) _ is).0 in
     ap (path_under p.name) split ∙ own_path p (drop (suc j) log.threads) None (take j log.threads) rises
 
 module _ {B : Type 0} (ops : BufferOps B) (code : Code) (log : Log) (nodes : List Node) (loads : List ℤ) (ints : PassesInts ops)
-    (lawful : IsLawful code) (is : is_log log ≡ true) (terms : AreTerms nodes) (moves : List Move) (r : Reproduces ops code log moves)
-    (agrees : AgreesWith (found code log nodes).symbolic loads (history ops code moves)) where
+    (lawful : IsLawful code) (is : is_log log ≡ true) (fits : Fits code log) (terms : AreTerms nodes) (moves : List Move)
+    (r : Reproduces ops code log moves) (agrees : AgreesWith (found code log nodes).symbolic loads (history ops code moves)) where
   abbrev s : State B
   s = r.state
 
   abbrev h : List Deed
   h = history ops code moves
-
-  fits : Fits code log
-  fits = reproduced_fits code ops lawful log moves r
 
   on : AreOnPaths log s
   on = beginnings_on ops code log moves [] s (subst (Reproduces ops code log) (sym (append-nil moves)) r) r.leads

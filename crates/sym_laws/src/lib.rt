@@ -33,11 +33,11 @@ pub fn runs_have_values<B>()
         → HaveValues code log nodes loads (history ops code moves) s }
 {}
 
-/// Moves that reproduce a log do all of its paths: then all tests come out as they are wanted, and each thread asked of
+/// Moves that reproduce a log that fits do all of its paths: then all tests come out as they are wanted, and each thread asked of
 /// cells what all of its accesses ask.
 pub fn reproduced_paths_are_met<B>()
     ensures { (ops : BufferOps B) (code : Code) (log : Log) (nodes : List Node) (loads : List ℤ) (moves : List Move) (c : Course)
-        → PassesInts ops → IsLawful code → is_log log ≡ true → AreTerms nodes → Reproduces ops code log moves
+        → PassesInts ops → IsLawful code → is_log log ≡ true → Fits code log → AreTerms nodes → Reproduces ops code log moves
         → AgreesWith (found code log nodes).symbolic loads (history ops code moves)
         → IsOneOf c (found code log nodes).symbolic.threads → IsMet (found code log nodes).nodes loads (history ops code moves) c }
 {}
