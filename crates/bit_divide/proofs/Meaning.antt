@@ -16,24 +16,15 @@ use Rattle.bit_words.proofs.Meaning.{all_grown, chosen_words_mean, words-mean, i
 use Rattle.bit_arith.specs.Sums.{zeros}
 use Rattle.bit_arith.proofs.Meaning.{all_inverted}
 use Rattle.bit_arith.proofs.Values.{value_below, value_split, value_zeros, digit_small}
-use Rattle.bit_divide.specs.Quotients.{shifted_in, Divided, divided_place, divided}
+use Rattle.bit_shift.specs.Shifts.{shifted_in}
+use Rattle.bit_shift.proofs.Meaning.{chosen_values}
+use Rattle.bit_divide.specs.Quotients.{Divided, divided_place, divided}
 use Rattle.bit_divide.specs.Laws.{DivisionMeans}
 
-first_word : (ps qs : List Bool) → length qs ≡ length ps → at_places (λ p q. p) ps qs ≡ ps
-first_word [] qs e = refl
-first_word (p ∷ ps) [] e = absurd (omega (arith, e))
-first_word (p ∷ ps) (q ∷ qs) e = ap (λ k. p ∷ k) (first_word ps qs (omega (arith, e)))
-
-second_word : (ps qs : List Bool) → length qs ≡ length ps → at_places (λ p q. q) ps qs ≡ qs
-second_word [] [] e = refl
-second_word [] (q ∷ qs) e = absurd (omega (arith, e))
-second_word (p ∷ ps) [] e = absurd (omega (arith, e))
-second_word (p ∷ ps) (q ∷ qs) e = ap (λ k. q ∷ k) (second_word ps qs (omega (arith, e)))
-
-pub chosen_value : (c : Bool) (ps qs : List Bool) → length qs ≡ length ps
+chosen_value : (c : Bool) (ps qs : List Bool) → length qs ≡ length ps
     → number_of (at_places (λ p q. if c then p else q) ps qs) ≡ (if c then number_of ps else number_of qs)
-chosen_value true ps qs e = ap number_of (first_word ps qs e)
-chosen_value false ps qs e = ap number_of (second_word ps qs e)
+chosen_value true ps qs e = ap number_of (chosen_values true ps qs e)
+chosen_value false ps qs e = ap number_of (chosen_values false ps qs e)
 
 -- nothing is lost where the remainder doubles
 no_top : (p next t low : ℕ) → next + p * t ≡ low → low < p → next ≡ low

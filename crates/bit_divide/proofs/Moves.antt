@@ -1,26 +1,12 @@
--- A word with a bit more below its lowest.
+-- The places of a division.
 use Rattle.std.proofs.Common.{◌≡◌, ℕ, suc, zero, ◌+◌, ◌-◌, ◌*◌, ◌<◌, ◌≤◌, List, [], ◌∷◌, ◌++◌, ℤ, refl, ap, sym, ◌∙◌, arith, length, take, drop, set, get_or, length-set}
-use Rattle.std.proofs.lemmas.List.{drop_all, take_all, get_or-take, get_or-set_same, take-set}
-use Rattle.std.proofs.Math.Seq.{take-append_seam}
+use Rattle.std.proofs.lemmas.List.{get_or-take, get_or-set_same, take-set}
 use Rattle.std.proofs.Math.Nat.{mul-add, mul-one}
 use Rattle.cnf_core.specs.Clauses.{Formula}
 use Rattle.bit_gates.specs.Folded.{Made, IsLarger}
 use Rattle.bit_words.specs.Words.{Walked}
-use Rattle.bit_words.proofs.Loops.{split_here, join_here, drop_here}
-use Rattle.bit_divide.specs.Quotients.{shifted_in, Divided, divided_place, divided}
-
-pub shifted_more : (all xs : List ℤ) (i : ℕ) (next here : ℤ) → all ≡ take i xs ++ (next ∷ drop i xs) → i < length xs → here ≡ get_or xs i here
-    → all ≡ take (i + 1) (set xs i next) ++ (here ∷ drop (i + 1) (set xs i next))
-shifted_more all xs i next here h p e =
-    h ∙ ap (λ k. take i xs ++ (next ∷ k)) (split_here xs i here p e) ∙ join_here xs (here ∷ drop (i + 1) xs) i next p
-    ∙ ap (λ k. take (i + 1) (set xs i next) ++ (here ∷ k)) (sym (drop_here xs i next))
-
-pub shifted_all : (old xs : List ℤ) (i : ℕ) (bit next : ℤ) → bit ∷ old ≡ take i xs ++ (next ∷ drop i xs) → length xs ≤ i → length xs ≡ length old
-    → xs ≡ shifted_in bit old
-shifted_all old xs i bit next h p e =
-    let whole : bit ∷ old ≡ xs ++ (next ∷ []) =
-    h ∙ ap (λ k. take i xs ++ (next ∷ k)) (drop_all i xs p) ∙ ap (λ k. k ++ (next ∷ [])) (take_all i xs p) in
-    sym (ap (λ k. take k (bit ∷ old)) (sym e) ∙ ap (take (length xs)) whole ∙ take-append_seam xs (next ∷ []))
+use Rattle.bit_words.proofs.Loops.{split_here, drop_here}
+use Rattle.bit_divide.specs.Quotients.{Divided, divided_place, divided}
 
 take_less : (j : ℕ) (xs : List ℤ) → take j (take (j + 1) xs) ≡ take j xs
 take_less j xs = ap (λ k. take j (take k xs)) (let n : j + 1 ≡ suc j = omega arith in n) ∙ less j xs

@@ -1,13 +1,10 @@
 -- A restoring divider.
-use Rattle.std.specs.Prelude.{true, List, [], ◌∷◌, ℤ, length, take}
+use Rattle.std.specs.Prelude.{true, List, [], ◌∷◌, ℤ, length}
 use Rattle.cnf_core.specs.Clauses.{Formula}
 use Rattle.bit_gates.specs.Folded.{Made, constant}
 use Rattle.bit_words.specs.Words.{Walked, added, chosen_words, inverted}
 use Rattle.bit_arith.specs.Sums.{zeros}
-
--- a word with a bit more below its lowest, and without its highest
-abbrev pub shifted_in : ℤ → List ℤ → List ℤ
-shifted_in bit ls = take (length ls) (bit ∷ ls)
+use Rattle.bit_shift.specs.Shifts.{shifted_in}
 
 -- what a division has: what remains, and the quotient
 pub record Divided : Type 0 where

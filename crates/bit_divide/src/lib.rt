@@ -6,9 +6,10 @@ ghost use Rattle.cnf_core.specs.Clauses.{var_of};
 ghost use Rattle.bit_gates.specs.Folded.{HasRoom, IsLarger};
 ghost use Rattle.bit_words.specs.Words.{AreWithin, inverted};
 ghost use Rattle.bit_divide.specs.Laws.{DivisionMeans};
-ghost use Rattle.bit_divide.specs.Quotients.{shifted_in, divided_place, divided, division};
+ghost use Rattle.bit_divide.specs.Quotients.{divided_place, divided, division};
 
 use bit_gates::constant;
+use bit_shift::shift_in;
 use bit_words::{add_words, choose_words, invert};
 use cnf_core::{Cnf, Lit};
 use std::alloc::AllocError;
@@ -17,18 +18,6 @@ use std::alloc::AllocError;
 pub fn division_means()
     ensures { DivisionMeans }
 {}
-
-/// A bit below the lowest: the highest goes.
-fn shift_in(word: &mut [Lit], bit: Lit)
-    ensures { word.new ≡ shifted_in bit word.old }
-{
-    let mut next = bit;
-    for place in 0..word.len() {
-        let here = word[place];
-        word[place] = next;
-        next = here;
-    }
-}
 
 /// One place: the remainder takes a bit of the dividend, and the divisor is taken off where it goes in. The quotient's bit.
 fn divide_place<const W: usize>(

@@ -1,7 +1,7 @@
 use Rattle.std.proofs.Common.{arith}
 use Rattle.std.proofs.lemmas.Grind.{common_steps}
-use Rattle.bit_divide.proofs.Moves.{shifted_more, shifted_all}
-use Rattle.bit_divide.proofs.shift_in.Goals as goal
+use Rattle.bit_shift.proofs.Moves.{shifted_more, shifted_all}
+use Rattle.bit_shift.proofs.shift_in.Goals as goal
 
 pub loop-place-preserved : goal.loop-place-preserved
 loop-place-preserved c = record {

@@ -1,5 +1,5 @@
 use Rattle.std.proofs.Common.{◌≡◌, ◌++◌, ◌∷◌, take, drop, length}
-use Rattle.bit_divide.proofs.shift_in.Given as goal
+use Rattle.bit_shift.proofs.shift_in.Given as goal
 
 abbrev pub invariant-loop-place : goal.invariant-loop-place
 invariant-loop-place l = record {
