@@ -1,6 +1,6 @@
 -- A log that some moves reproduce.
 use Rattle.std.proofs.Common.{◌≡◌, ◌∙◌, ◌⊎◌, inl, inr, ℕ, zero, suc, ◌-◌, Bool, true, false, ◌||◌, cond, List, [], ◌∷◌, ◌++◌, length, map, get_or}
-use Rattle.std.proofs.Common.{IsSome, Option, Some, None, Result, Ok, Err, refl, sym, ap, ap₂, subst, arith, append-nil, bytes_eq, true≢false}
+use Rattle.std.proofs.Common.{IsSome, Option, Some, None, Result, Ok, Err, refl, sym, ap, ap₂, subst, arith, append-nil, bytes_eq}
 use Rattle.std.specs.Prelude.{slice_get, unwrap_or, option_and_then, option_map, is_none, IsSomeAnd}
 use Rattle.std.specs.FinMap as fin
 use Rattle.std.specs.List.{list_all, list_any, cons_option}
@@ -8,7 +8,7 @@ use Rattle.std.specs.Option.{option_map_or}
 use Rattle.std.specs.Result.{result_unwrap_or, result_err}
 use Rattle.std.proofs.lemmas.List.{length-append}
 use Rattle.std.proofs.lemmas.List.Folds.{list_all_at}
-use Rattle.std.proofs.lemmas.Option.{none-some, same_Some, option_and_then_some, slice_get-get_or, slice_get-map, slice_get_past, slice_get_within}
+use Rattle.std.proofs.lemmas.Option.{none-some, same_Some, slice_get-get_or, slice_get-map, slice_get_within}
 use Rattle.tc_base.specs.Names.{Name, child}
 use Rattle.tc_base.specs.Buffers.{BufferOps}
 use Rattle.tc_base.specs.Logs.{Log, Path, ThreadPath, path_under}
@@ -20,35 +20,34 @@ use Rattle.tc_base.specs.declared.moves.Move.{Move}
 use Rattle.tc_base.specs.declared.request.Request.TheVariants.{Fail}
 use Rattle.tc_base.proofs.Names.{HasParent, parent_of, same_true}
 use Rattle.tc_code.specs.Code.{Code, instr_at}
-use Rattle.tc_code.specs.Step.{request, site}
+use Rattle.tc_code.specs.Step.{request}
 use Rattle.tc_code.proofs.Facts.{at_its_place}
 use Rattle.tc_code.specs.declared.instr.Instr.{Instr}
-use Rattle.tc_code.specs.declared.instr.Instr.TheVariants.{Inside, Holds, Lock, Wake, Create, Ready, Join, Assert, Nonzero, InRange, Exit}
+use Rattle.tc_code.specs.declared.instr.Instr.TheVariants.{Create, Exit}
 use Rattle.tc_code.specs.Lawful.{IsLawful}
 use Rattle.tc_code.specs.Run.{Reproduces, EndsAs, IsStuck, IsReached, path_of}
 use Rattle.store_buffers.specs.Laws.{Laws}
 use Rattle.store_buffers.specs.Pending.{Binding}
 use Rattle.path_walk.specs.Steps.{step_at, steps_at, is_failing, is_site, can_block, ends_at_site, standing, ended, places_of}
 use Rattle.path_walk.specs.Fits.{starts, started, ending_by, ending_of, fails_in, places_in, child_function, function_of, Fits}
-use Rattle.path_walk.specs.Marks.{Marks, unmarked, marks_after, marked_steps}
-use Rattle.path_walk.specs.Events.{is_impossible, blocked_at}
-use Rattle.path_walk.specs.Paths.{Walk, blocked_after, have_exited, walk_of, function_in, steps_in, is_dead, paths_of}
+use Rattle.path_walk.specs.Marks.{unmarked, marks_after, marked_steps}
+use Rattle.path_walk.specs.Events.{is_impossible}
+use Rattle.path_walk.specs.Paths.{Walk, have_exited, walk_of, function_in, steps_in, is_dead, paths_of}
 use Rattle.path_walk.specs.declared.ending.Ending.{Ending}
 use Rattle.path_walk.specs.declared.ending.Ending.TheVariants.{Fails, Rests, Open}
-use Rattle.path_walk.specs.declared.event.Sleep.{Sleep as Wait}
 use Rattle.path_walk.specs.declared.fault.Misfit.{Misfit}
 use Rattle.path_walk.specs.declared.fault.Misfit.TheVariants as misfit
 use Rattle.path_walk.proofs.Faults.{option_is, there, not_there, function_of_child, walked_there, no_child, nobody, by_path}
 use Rattle.path_walk.proofs.Drafts.{under_own}
-use Rattle.run_laws.specs.Laws.{IsPastExit}
 use Rattle.run_laws.proofs.Created.{reached_is_created}
 use Rattle.run_laws.proofs.Exits.{exited_past_exit, has_next}
 use Rattle.run_laws.proofs.Main.{main_is_there}
-use Rattle.run_laws.proofs.Stuck.{may_wait, stuck_waits}
+use Rattle.run_laws.proofs.Stuck.{stuck_waits}
 use Rattle.run_pending.proofs.Stuck.{stuck_is_drained}
 use Rattle.path_log.proofs.Lists.{get_seam}
 use Rattle.path_laws.specs.Along.{IsAlong}
 use Rattle.path_laws.specs.Prefixes.{fails_by}
+use Rattle.path_laws.proofs.Blocked.{waits_where_blocked, blocked_there, none_behind_exit}
 use Rattle.path_laws.proofs.Functions as functions
 use Rattle.path_laws.proofs.Prefixes.{failing_by, ends_as, fails_as, thread_path}
 use Rattle.path_laws.proofs.Local.{still_possible, started_push, marks_here}
@@ -80,42 +79,6 @@ none_failed (Some m) n e = absurd (by (bytes_eq n m) e)
     by : (b : Bool) → cond b Fails Open ≡ Rests → ⊥
     by true e = cc
     by false e = cc
-
--- a thread waits only where it can be blocked
-site_waits : (b : Bool) → may_wait (site b) ≡ false
-site_waits true = refl
-site_waits false = refl
-
-waiting_blocks : (t : Local) (i : Instr) → may_wait (request t i) ≡ true → can_block i ≡ true
-waiting_blocks t (Lock m) h = refl
-waiting_blocks t (Wake c m) h = refl
-waiting_blocks t (Join k) h = refl
-waiting_blocks t (Inside len x) h = absurd (true≢false (sym h ∙ site_waits _))
-waiting_blocks t (Holds m) h = absurd (true≢false (sym h ∙ site_waits _))
-waiting_blocks t (Ready k) h = absurd (true≢false (sym h ∙ site_waits _))
-waiting_blocks t (Assert x) h = absurd (true≢false (sym h ∙ site_waits _))
-waiting_blocks t (Nonzero x) h = absurd (true≢false (sym h ∙ site_waits _))
-waiting_blocks t (InRange x) h = absurd (true≢false (sym h ∙ site_waits _))
-waiting_blocks t i h = absurd (true≢false (sym h))
-
--- it is blocked there
-blocks_some : (t : Marks) (sleeps : List Wait) (i : Instr) → can_block i ≡ true → is_none (blocked_at t sleeps i) ≡ false
-blocks_some t sleeps (Lock m) h = refl
-blocks_some t sleeps (Wake c m) h = refl
-blocks_some t sleeps (Join k) h = refl
-blocks_some t sleeps i h = absurd (true≢false (sym h))
-
-blocked_there : (e : Ending) (t : Marks) (sleeps : List Wait) (o : Option Instr) (i : Instr) → e ≡ Rests → o ≡ Some i → can_block i ≡ true
-    → is_none (blocked_after e t sleeps o) ≡ false
-blocked_there e t sleeps o i rests at h = ap₂ (λ x y. is_none (blocked_after x t sleeps y)) rests at ∙ blocks_some t sleeps i h
-
--- no instruction stands behind an exit
-none_behind_exit : (code : Code) (t : Local) → IsLawful code → IsPastExit code t → instr_at code t.function t.instruction ≡ None
-none_behind_exit code t lawful past =
-    option_and_then_some (λ g. slice_get g.instrs past.place) (slice_get code.functions t.function) Exit past.exit
-    (λ g there at.
-    let last = (lawful.functions t.function g there).only past.place at in
-    ap (option_and_then (λ f. slice_get f.instrs t.instruction)) there ∙ slice_get_past g.instrs t.instruction (omega (arith, last, past.next)))
 
 -- the thread of a name, and its place
 pub record HasPlace (n : Name) (way : Path) (ts : List ThreadPath) : Type 0 where
@@ -220,7 +183,7 @@ module _ (code : Code) where
           record {
             instr = next.0;
             at = standing_there ∙ at_its_place code t.local next.0 next.1;
-            blocks = waiting_blocks t.local next.0 waits.1;
+            blocks = sym (waits_where_blocked t.local next.0) ∙ waits.1;
           }
 
       -- so it rests
