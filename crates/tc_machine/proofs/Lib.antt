@@ -1,5 +1,6 @@
 pub mod Can
 pub mod Drains
+pub mod Exits
 pub mod Listing
 pub mod Reasons
 pub mod Within

@@ -1,11 +1,12 @@
 -- Moves that are listed one after another, and that no enabled one is left out.
 use Rattle.std.proofs.Common.{◌≡◌, ◌+◌, ◌<◌, ◌≤◌, ◌&&◌, inl, inr, ℕ, zero, suc, List, [], ◌∷◌, ◌++◌, length, take, get_or, map, cond, Bool}
-use Rattle.std.proofs.Common.{true, false, Option, Some, None, refl, ap, sym, subst, ◌∙◌, append_assoc, arith}
-use Rattle.std.specs.List.{All, filter, flat_map, range_with_len, Contains}
+use Rattle.std.proofs.Common.{true, false, Option, Some, None, refl, ap, sym, subst, ◌∙◌, append_assoc, arith, true≢false}
+use Rattle.std.specs.Prelude.{◌==◌, slice_get}
+use Rattle.std.specs.List.{All, filter, flat_map, list_all, range_with_len, Contains}
 use Rattle.std.specs.Option.{is_some, IsSome}
 use Rattle.std.specs.FinMap as fin
 use Rattle.std.specs.FinSet as set
-use Rattle.std.proofs.lemmas.Bool.{false≢true}
+use Rattle.std.proofs.lemmas.Bool.{false≢true, eqb-true}
 use Rattle.std.proofs.lemmas.List.{get_or_default, map-append, take_more}
 use Rattle.std.proofs.lemmas.List.Elements.{All-head, All-tail, filter-append, Contains-append_left, Contains-append_right}
 use Rattle.std.proofs.lemmas.Map.Views.{Contains-from_any}
@@ -25,7 +26,9 @@ use Rattle.tc_code.specs.Lawful.{IsLawful}
 use Rattle.tc_code.specs.Run.{IsReached}
 use Rattle.tc_code.specs.Step.{step, wake_of, woken, drain_of, drained, move_of, instr_of, waiting_on}
 use Rattle.std.proofs.lemmas.Bool.{and_parts}
-use Rattle.run_laws.proofs.Basics.{unless, some_value}
+use Rattle.run_laws.proofs.Basics.{none_unless, unless, some_value}
+use Rattle.tc_machine.specs.Moves as choice
+use Rattle.tc_machine.specs.declared.choice.Choice.{Choice}
 use Rattle.tc_machine.specs.Moves.{is_enabled, steps_of, drains_of, moves_of, enabled_moves}
 use Rattle.tc_threads.proofs.ByName.{tied}
 use Rattle.tc_machine.proofs.Drains.{same_or_more, passing_forms}
@@ -210,3 +213,47 @@ module _ {B : Type 0} (ops : BufferOps B) (model : Model) (bound : Binding) (law
   every_enabled_move_is_listed m h =
       let after = some_value (step ops code s m) h in
       listed_move m after.0 (unless (is_some s.failed) _ after.0 after.1).1 h
+
+-- Moves that are listed are enabled.
+
+listed_filter : (p : Move → Bool) (ms : List Move) → list_all p (filter p ms) ≡ true
+listed_filter p [] = refl
+listed_filter p (m ∷ ms) = passing (p m) refl (listed_filter p ms)
+  where
+    passing : (b : Bool) → p m ≡ b → list_all p (filter p ms) ≡ true → list_all p (cond b (m ∷ filter p ms) (filter p ms)) ≡ true
+    passing true e h = ap (λ b. b && list_all p (filter p ms)) e ∙ h
+    passing false e h = h
+
+listed_both : (p : Move → Bool) (xs ys : List Move) → list_all p xs ≡ true → list_all p ys ≡ true → list_all p (xs ++ ys) ≡ true
+listed_both p [] ys h k = k
+listed_both p (x ∷ xs) ys h k =
+    let parts = and_parts (p x) (list_all p xs) h in
+    ap (λ b. b && list_all p (xs ++ ys)) parts.0 ∙ listed_both p xs ys parts.1 k
+
+listed_all : {X : Type 0} (p : Move → Bool) (f : X → List Move) (xs : List X) → ((x : X) → list_all p (f x) ≡ true) → list_all p (flat_map f xs) ≡ true
+listed_all p f [] h = refl
+listed_all p f (x ∷ xs) h = listed_both p (f x) (flat_map f xs) (h x) (listed_all p f xs h)
+
+listed_at : (p : Move → Bool) (ms : List Move) (i : ℕ) (m : Move) → list_all p ms ≡ true → slice_get ms i ≡ Some m → p m ≡ true
+listed_at p [] i m h e = absurd (none-some m e)
+listed_at p (x ∷ ms) zero m h e = subst (λ y. p y ≡ true) (same_Some x m e) (and_parts (p x) (list_all p ms) h).0
+listed_at p (x ∷ ms) (suc i) m h e = listed_at p ms i m (and_parts (p x) (list_all p ms) h).1 e
+
+module _ {B : Type 0} (ops : BufferOps B) (code : Code) (s : State B) where
+  pub listed_is_enabled : (i : ℕ) (m : Move) → slice_get (enabled_moves ops code s) i ≡ Some m → IsSome (step ops code s m)
+  listed_is_enabled i m e =
+      listed_at (is_enabled ops code s) (enabled_moves ops code s) i m
+      (listed_all (is_enabled ops code s) (moves_of ops code s) (fin.keys s.threads) (λ n. listed_filter (is_enabled ops code s) (steps_of ops code s n
+      ++ drains_of ops code s n))) e
+
+  -- so where some move is listed, some move is enabled
+  pub some_is_enabled : (choices : List Choice) → map choice.move_of choices ≡ enabled_moves ops code s → (length choices == 0) ≡ false
+      → (m : Move) × IsSome (step ops code s m)
+  some_is_enabled [] is some = absurd (true≢false some)
+  some_is_enabled (x ∷ xs) is some = (choice.move_of x, listed_is_enabled 0 (choice.move_of x) (ap (λ ms. slice_get ms 0) (sym is)))
+
+  -- and where none is left out and none is listed, none is enabled
+  pub none_is_enabled : (choices : List Choice) → ((m : Move) → IsSome (step ops code s m) → Contains (map choice.move_of choices) m)
+      → (length choices == 0) ≡ true → (m : Move) → step ops code s m ≡ None
+  none_is_enabled [] all none m = none_unless (step ops code s m) (λ enabled. let c = all m enabled in omega (arith, c.1))
+  none_is_enabled (x ∷ xs) all none m = absurd (omega (arith, eqb-true (length (x ∷ xs)) 0 none))

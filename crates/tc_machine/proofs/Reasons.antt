@@ -1,5 +1,5 @@
 -- A move is enabled exactly where there is no reason against it.
-use Rattle.std.proofs.Common.{◌≡◌, ◌↔◌, Bool, true, false, None, Some, refl, IsSome, IsNone, rules, subst, sym}
+use Rattle.std.proofs.Common.{◌≡◌, ◌↔◌, Bool, true, false, None, Some, refl, IsSome, IsNone, is_some, cond, rules, ap, subst, sym, ◌∙◌}
 use Rattle.std.proofs.lemmas.Bool.{false≢true}
 use Rattle.tc_base.specs.Buffers.{BufferOps}
 use Rattle.tc_base.specs.States.{State}
@@ -7,8 +7,9 @@ use Rattle.tc_base.specs.declared.moves.Move.{Move}
 use Rattle.tc_code.specs.Code.{Code}
 use Rattle.tc_code.specs.Step.{step}
 use Rattle.tc_machine.specs.Moves.{is_enabled}
-use Rattle.tc_machine.specs.Why.{why}
+use Rattle.tc_machine.specs.Why.{why, why_not}
 use Rattle.tc_machine.specs.declared.why.Why.{Why}
+use Rattle.tc_machine.specs.declared.why.Why.TheVariants.{Stopped}
 
 module _ {B : Type 0} (ops : BufferOps B) (code : Code) (s : State B) (m : Move) where
   -- no reason, and a state
@@ -26,5 +27,10 @@ module _ {B : Type 0} (ops : BufferOps B) (code : Code) (s : State B) (m : Move)
   -- and where there is one it isn't
   pub disabled_with_reason : (w : Why) → why ops code s m ≡ Some w → is_enabled ops code s m ≡ false
   disabled_with_reason w h = reason_stays _ refl w h
+
+  -- where no thread has failed yet, and nothing else stands against it
+  pub enabled_while_running : s.failed ≡ None → why_not ops code s m ≡ None → IsSome (step ops code s m)
+  enabled_while_running running e =
+      no_reason_where_enabled.0 (subst IsNone (sym (ap (λ f. cond (is_some f) (Some Stopped) (why_not ops code s m)) running ∙ e)) refl)
 
 pub ruleset reasons = (enabled_without_reason, disabled_with_reason)

@@ -1,3 +1,4 @@
+pub mod Exits
 pub mod Moves
 pub mod Why
 pub mod helpers

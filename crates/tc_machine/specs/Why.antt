@@ -14,6 +14,8 @@ use Rattle.tc_code.specs.Code.{Code}
 use Rattle.tc_base.specs.declared.request.Request.{Request}
 use Rattle.tc_base.specs.declared.request.Request.TheVariants.{Acquire, EndWait, WakeOne, Await}
 use Rattle.tc_code.specs.Step.{request, instr_of, drains_first, waiting_on, is_free, child_has_exited}
+use Rattle.tc_machine.specs.declared.fault.StepFault.{StepFault}
+use Rattle.tc_machine.specs.declared.fault.StepFault.TheVariants.{NotEnabled, Memory}
 use Rattle.tc_machine.specs.declared.why.Why.{Why}
 use Rattle.tc_machine.specs.declared.why.Why.TheVariants.{Stopped, NoThread, Exited, NotDrained, NotWoken, Held, NotEnded, WaiterNeeded, WrongWaiter, NoEntry}
 
@@ -78,3 +80,8 @@ module _ {B : Type 0} (ops : BufferOps B) where
   -- the first reason for which the move isn't enabled, and none where it is; after a failure no move is
   abbrev pub why : Code → State B → Move → Option Why
   why code s m = if is_some s.failed then Some Stopped else why_not code s m
+
+-- the reason for which a move wasn't made, and none where there was no memory for it
+abbrev pub reason_of : StepFault → Option Why
+reason_of (NotEnabled w) = Some w
+reason_of Memory = None

@@ -2,6 +2,7 @@
 #![tactic(auto)]
 
 mod choice;
+mod fault;
 pub mod laws;
 mod listed;
 mod machine;
@@ -9,8 +10,9 @@ mod state;
 mod why;
 
 pub use choice::Choice;
+pub use fault::StepFault;
 pub use listed::{choices, moves};
-pub use machine::{enabled, step};
+pub use machine::{enabled, step, try_step};
 pub use state::{State, start};
 pub use tc_threads::{Outcomes, ThreadNames};
 pub use why::Why;

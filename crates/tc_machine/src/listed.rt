@@ -30,7 +30,6 @@ pub fn moves<M: MemoryModel>(
     // No enabled move is left out.
     ensures all { IfOk result (λ moves. (m : AnyMove) → IsSome (step M.ops code.now state.now m) → Contains moves.items m) }
 {
-    recall_lawful(code);
     let choices = choices(alloc, code, state)?;
     let mut found = Vec::new(alloc);
     for choice in choices.iter() {
@@ -46,8 +45,11 @@ pub fn choices<'a, M: MemoryModel>(
     state: &'a State<M>,
 ) -> Result<Vec<Choice<'a>>, AllocError>
     requires reached { IsReached M.ops code.now state.now }
-    ensures { IfOk result (λ choices. map move_of choices.items ≡ enabled_moves M.ops code.now state.now) }
+    ensures listed { IfOk result (λ choices. map move_of choices.items ≡ enabled_moves M.ops code.now state.now) }
+    // No enabled move is left out.
+    ensures all { IfOk result (λ choices. (m : AnyMove) → IsSome (step M.ops code.now state.now m) → Contains (map move_of choices.items) m) }
 {
+    recall_lawful(code);
     let mut found = Vec::new(alloc);
     for (name, thread) in state.entries() {
         push_moves(alloc, &mut found, code, state, name, thread)?;

@@ -2,21 +2,24 @@
 ghost use Rattle.std.specs.Prelude.{◌≡◌, IsSome, Option, Some, None, OnOk, OnErr, IfOk, IfErr, IsTrue, MatchResult};
 ghost use Rattle.std.specs.FinMap as map;
 ghost use Rattle.tc_base.specs.States as states;
-ghost use Rattle.tc_code.specs.declared.instr.Instr as flat;
+ghost use Rattle.tc_code.specs.declared.instr.Instr as instr;
+ghost use Rattle.tc_code.specs.declared.instr.Instr.TheVariants as flat;
 ghost use Rattle.tc_code.specs.Lawful.{IsLawful};
 ghost use Rattle.tc_code.specs.Run.{IsReached};
-ghost use Rattle.tc_code.specs.Step.{step, instr_of, request};
+ghost use Rattle.tc_code.specs.Step.{step, request};
 ghost use Rattle.tc_machine.specs.Moves.{move_of};
+ghost use Rattle.tc_machine.specs.helpers.CanDo.{DoesNext};
 ghost use Rattle.tc_machine.specs.helpers.Movers.{mover};
-ghost use Rattle.tc_machine.specs.Why.{why, why_at, why_doing, why_undrained, why_unmet, why_unwoken};
+ghost use Rattle.tc_machine.specs.Why.{reason_of, why, why_at, why_doing, why_undrained, why_unmet, why_unwoken};
 ghost use Rattle.run_laws.specs.Counters.{CountersAreBelowLast};
 
 use crate::choice::Choice;
+use crate::fault::StepFault;
 use crate::state::State;
 use crate::why::Why;
 use std::alloc::{AllocError, Global};
 use store_buffers::MemoryModel;
-use tc_base::{Move, ThreadName};
+use tc_base::{Move, Request, ThreadName};
 use tc_code::{Code, Instr};
 use tc_threads::{Thread, drains_first};
 
@@ -31,10 +34,15 @@ pub fn enabled<M: MemoryModel>(code: &Code, state: &State<M>, m: &Move) -> Resul
         return Err(Why::Stopped);
     }
     match m {
-        Move::Run(name) => may_run(code, state, name, find(state, name)?),
-        Move::Wake(name, waiter) => may_wake(code, state, name, waiter, find(state, name)?),
-        Move::Drain(name, form) => may_drain(state, name, *form, find(state, name)?),
+        Move::Run(name) => {
+            may_run(code, state, name, find(state, name)?)?;
+        }
+        Move::Wake(name, waiter) => {
+            may_wake(code, state, name, waiter, find(state, name)?)?;
+        }
+        Move::Drain(name, form) => may_drain(state, name, *form, find(state, name)?)?,
     }
+    Ok(())
 }
 
 /// Whether a move of this thread is enabled, and the first reason why not.
@@ -54,47 +62,55 @@ pub(crate) fn allowed<M: MemoryModel>(
         return Err(Why::Stopped);
     }
     match choice {
-        Choice::Run(name) => may_run(code, state, name, thread),
-        Choice::Wake(name, waiter) => may_wake(code, state, name, waiter, thread),
-        Choice::Drain(name, form) => may_drain(state, name, form, thread),
+        Choice::Run(name) => {
+            may_run(code, state, name, thread)?;
+        }
+        Choice::Wake(name, waiter) => {
+            may_wake(code, state, name, waiter, thread)?;
+        }
+        Choice::Drain(name, form) => may_drain(state, name, form, thread)?,
     }
+    Ok(())
 }
 
-/// Whether a thread can do the instruction at its place.
-fn may_run<M: MemoryModel>(
-    code: &Code,
+/// The instruction at a thread's place and what it asks, where the thread can do it.
+fn may_run<'a, M: MemoryModel>(
+    code: &'a Code,
     state: &State<M>,
     name: &ThreadName,
     thread: &Thread<M>,
-) -> Result<(), Why>
+) -> Result<(&'a Instr, Request), Why>
     requires reached { IsReached M.ops code.now state.now }
     requires there { map.get state.now.threads name.now ≡ Some thread.now }
-    ensures { let reason = λ (t : states.Thread M.Buffer) (i : flat.Instr). why_unmet M.ops state.now name.now t (request t.local i) in
+    ensures why { let reason = λ (t : states.Thread M.Buffer) (i : instr.Instr). why_unmet M.ops state.now name.now t (request t.local i) in
         MatchResult result
         (λ _. why_doing M.ops code.now state.now name.now reason ≡ None)
         (λ w. why_doing M.ops code.now state.now name.now reason ≡ Some w) }
+    ensures asked { IfOk result (λ next. DoesNext code.now thread.now.local next.0.now × (next.1 ≡ request thread.now.local next.0.now)) }
 {
     let instr = next(code, state, name, thread)?;
     let request = thread.request(instr);
     if drains_first(request) && !thread.is_drained() {
         return Err(Why::NotDrained);
     }
-    state.lets(name, request)
+    state.lets(name, request)?;
+    Ok((instr, request))
 }
 
-/// Whether a thread can signal, and wake another.
-fn may_wake<M: MemoryModel>(
-    code: &Code,
+/// The signal at a thread's place and its condition, where the thread can wake another.
+fn may_wake<'a, M: MemoryModel>(
+    code: &'a Code,
     state: &State<M>,
     name: &ThreadName,
     waiter: &ThreadName,
     thread: &Thread<M>,
-) -> Result<(), Why>
+) -> Result<(&'a Instr, u32), Why>
     requires reached { IsReached M.ops code.now state.now }
     requires there { map.get state.now.threads name.now ≡ Some thread.now }
-    ensures { MatchResult result
+    ensures why { MatchResult result
         (λ _. why_doing M.ops code.now state.now name.now (why_unwoken M.ops state.now waiter.now) ≡ None)
         (λ w. why_doing M.ops code.now state.now name.now (why_unwoken M.ops state.now waiter.now) ≡ Some w) }
+    ensures signal { IfOk result (λ next. DoesNext code.now thread.now.local next.0.now × (next.0.now ≡ flat.Signal next.1)) }
 {
     let instr = next(code, state, name, thread)?;
     match instr {
@@ -102,7 +118,7 @@ fn may_wake<M: MemoryModel>(
             if !thread.is_drained() {
                 Err(Why::NotDrained)
             } else if state.waiting_on(*condition).contains(waiter) {
-                Ok(())
+                Ok((instr, *condition))
             } else {
                 Err(Why::WrongWaiter)
             }
@@ -147,9 +163,8 @@ fn next<'a, M: MemoryModel>(
     thread: &Thread<M>,
 ) -> Result<&'a Instr, Why>
     requires there { map.get state.now.threads name.now ≡ Some thread.now }
-    ensures instr { IfOk result (λ i. instr_of code.now thread.now.local ≡ Some i.now) }
-    ensures lawful { OnOk result (IsLawful code.now) }
-    ensures err { IfErr result (λ w. (reason : states.Thread M.Buffer → flat.Instr → Option Why)
+    ensures instr { IfOk result (λ i. DoesNext code.now thread.now.local i.now) }
+    ensures err { IfErr result (λ w. (reason : states.Thread M.Buffer → instr.Instr → Option Why)
         → why_doing M.ops code.now state.now name.now reason ≡ Some w) }
 {
     thread.instr(code).ok_or(Why::Exited)
@@ -168,72 +183,93 @@ pub fn step<M: MemoryModel>(
     ensures ok { OnOk result (step M.ops code.now state.old m.now ≡ Some state.new) }
     ensures err { OnErr result (state.new ≡ state.old) }
 {
-    match m {
-        Move::Run(name) => run(alloc, code, state, name),
-        Move::Wake(name, waiter) => wake(code, state, name, waiter),
-        Move::Drain(name, form) => {
-            drain(code, state, name, *form);
-            Ok(())
-        }
+    match try_step(alloc, code, state, m) {
+        Ok(()) => Ok(()),
+        Err(StepFault::Memory) => Err(AllocError),
+        Err(StepFault::NotEnabled(_)) => unreachable!(),
     }
 }
 
-/// A thread does the instruction at its place.
+/// Does a move, where it is enabled. Where it isn't, or memory is refused, the state stays as it was.
+pub fn try_step<M: MemoryModel>(
+    alloc: Global,
+    code: &Code,
+    state: &mut State<M>,
+    m: &Move,
+) -> Result<(), StepFault>
+    requires reached { IsReached M.ops code.now state.old }
+    requires counters { CountersAreBelowLast state.old }
+    ensures ok { OnOk result (step M.ops code.now state.old m.now ≡ Some state.new) }
+    ensures err { OnErr result (state.new ≡ state.old) }
+    // Memory is refused only where there is no reason against the move.
+    ensures why { IfErr result (λ fault. why M.ops code.now state.old m.now ≡ reason_of fault) }
+{
+    if state.failed().is_some() {
+        return Err(StepFault::NotEnabled(Why::Stopped));
+    }
+    match m {
+        Move::Run(name) => run(alloc, code, state, name),
+        Move::Wake(name, waiter) => wake(code, state, name, waiter),
+        Move::Drain(name, form) => drain(code, state, name, *form),
+    }
+}
+
+/// A thread does the instruction at its place, where it can.
+#[tactic(auto, using(crate::proofs::Reasons::reasons))]
 fn run<M: MemoryModel>(
     alloc: Global,
     code: &Code,
     state: &mut State<M>,
     name: &ThreadName,
-) -> Result<(), AllocError>
+) -> Result<(), StepFault>
     requires reached { IsReached M.ops code.now state.old }
-    requires enabled { IsSome (step M.ops code.now state.old (Move.Run name.now)) }
     requires counters { CountersAreBelowLast state.old }
+    requires running { state.old.failed ≡ None }
     ensures ok { OnOk result (step M.ops code.now state.old (Move.Run name.now) ≡ Some state.new) }
     ensures err { OnErr result (state.new ≡ state.old) }
+    ensures why { IfErr result (λ fault. why M.ops code.now state.old (Move.Run name.now) ≡ reason_of fault) }
 {
-    let Some(thread) = state.thread(name) else {
-        unreachable!()
-    };
-    let Some(instr) = thread.instr(code) else {
-        unreachable!()
-    };
-    let request = thread.request(instr);
-    state.perform(alloc, code, name, instr, request)
+    let (instr, request) = may_run(code, state, name, find(state, name)?)?;
+    Ok(state.perform(alloc, code, name, instr, request)?)
 }
 
-/// A thread signals, and wakes another.
+/// A thread signals, and wakes another, where it can.
+#[tactic(auto, using(crate::proofs::Reasons::reasons))]
 fn wake<M: MemoryModel>(
     code: &Code,
     state: &mut State<M>,
     name: &ThreadName,
     waiter: &ThreadName,
-) -> Result<(), AllocError>
+) -> Result<(), StepFault>
     requires reached { IsReached M.ops code.now state.old }
-    requires enabled { IsSome (step M.ops code.now state.old (Move.Wake name.now waiter.now)) }
     requires counters { CountersAreBelowLast state.old }
+    requires running { state.old.failed ≡ None }
     ensures ok { OnOk result (step M.ops code.now state.old (Move.Wake name.now waiter.now) ≡ Some state.new) }
     ensures err { OnErr result (state.new ≡ state.old) }
+    ensures why { IfErr result (λ fault. why M.ops code.now state.old (Move.Wake name.now waiter.now) ≡ reason_of fault) }
 {
-    let Some(thread) = state.thread(name) else {
-        unreachable!()
-    };
-    let Some(instr) = thread.instr(code) else {
-        unreachable!()
-    };
-    let Instr::Signal { condition } = instr else {
-        unreachable!()
-    };
-    state.wake(name, waiter, instr, *condition)
+    let (instr, condition) = may_wake(code, state, name, waiter, find(state, name)?)?;
+    Ok(state.wake(name, waiter, instr, condition)?)
 }
 
-/// A buffered store of a thread reaches memory.
-fn drain<M: MemoryModel>(code: &Code, state: &mut State<M>, name: &ThreadName, form: Option<u32>)
+/// A buffered store of a thread reaches memory, where it can.
+#[tactic(auto, using(crate::proofs::Reasons::reasons))]
+fn drain<M: MemoryModel>(
+    code: &Code,
+    state: &mut State<M>,
+    name: &ThreadName,
+    form: Option<u32>,
+) -> Result<(), StepFault>
     requires reached { IsReached M.ops code.now state.old }
-    requires enabled { IsSome (step M.ops code.now state.old (Move.Drain name.now form)) }
-    ensures { step M.ops code.now state.old (Move.Drain name.now form) ≡ Some state.new }
+    requires running { state.old.failed ≡ None }
+    ensures ok { OnOk result (step M.ops code.now state.old (Move.Drain name.now form) ≡ Some state.new) }
+    ensures err { OnErr result (state.new ≡ state.old) }
+    ensures why { IfErr result (λ fault. why M.ops code.now state.old (Move.Drain name.now form) ≡ reason_of fault) }
 {
     recall_lawful(code);
+    may_drain(state, name, form, find(state, name)?)?;
     state.drain(name, form);
+    Ok(())
 }
 
 /// A code is lawful by its type: so each buffered store is to a cell that is there.

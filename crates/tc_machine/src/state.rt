@@ -8,6 +8,7 @@ ghost use Rattle.tc_code.specs.declared.instr.Instr.TheVariants as flat;
 ghost use Rattle.tc_code.specs.Step.{opening, perform, did, loaded, stored, drained, stepped, with_thread, woken, waiting_on};
 ghost use Rattle.tc_code.specs.Step as plain;
 ghost use Rattle.tc_threads.specs.CanDo.{CanAdvance, HasRoom, is_branch};
+ghost use Rattle.tc_machine.specs.Exits.{has_exited, all_have_exited};
 ghost use Rattle.tc_machine.specs.helpers.CanDo.{AsksIn, CanPerform};
 ghost use Rattle.tc_machine.specs.Why.{why_let, why_taken};
 
@@ -117,11 +118,22 @@ impl<M: MemoryModel> State<M> {
         Some(self.thread(name)?.local().outcomes())
     }
 
-    /// Whether a thread has exited.
-    pub fn has_exited(&self, name: &ThreadName) -> Option<bool>
-        ensures { result ≡ option_map (λ t. t.local.has_exited) (map.get self.now.threads name.now) }
+    /// Whether every thread has exited.
+    pub fn all_have_exited(&self) -> bool
+        ensures { result ≡ all_have_exited self.now }
     {
-        Some(self.thread(name)?.local().has_exited())
+        let names = self.threads().as_slice();
+        names.iter().all(|name| self.has_exited(name))
+    }
+
+    /// Whether a thread is there and has exited.
+    fn has_exited(&self, name: &ThreadName) -> bool
+        ensures { result ≡ has_exited self.now name.now }
+    {
+        match self.thread(name) {
+            Some(thread) => thread.local().has_exited(),
+            None => false,
+        }
     }
 
     /// The function that a thread runs, and the instruction there that it does next, by their numbers.

@@ -1,14 +1,22 @@
 -- No promise speaks of this file: what a state needs for a thread to do an instruction.
-use Rattle.std.specs.Prelude.{◌≡◌, ◌+◌, length, IsTrue, None}
+use Rattle.std.specs.Prelude.{◌≡◌, ◌+◌, ◌<◌, ◌^◌, length, IsTrue, Some, None}
 use Rattle.std.specs.FinMap as fin
 use Rattle.tc_base.specs.Names.{Name, child}
-use Rattle.tc_base.specs.States.{Thread, State}
+use Rattle.tc_base.specs.States.{Local, Thread, State}
 use Rattle.tc_base.specs.declared.request.Request.{Request}
 use Rattle.tc_base.specs.declared.request.Request.TheVariants.{Silent}
 use Rattle.tc_code.specs.declared.instr.Instr.{Instr}
 use Rattle.tc_code.specs.Code.{Code}
+use Rattle.tc_code.specs.Lawful.{IsLawful}
+use Rattle.tc_code.specs.Step.{instr_of}
 use Rattle.run_laws.specs.helpers.Asks.{AsksWithin}
 use Rattle.tc_threads.specs.CanDo.{CanDo, Starts, is_branch}
+
+-- lawful code has the instruction at the thread's place, and a place after it
+pub record DoesNext (code : Code) (t : Local) (i : Instr) : Type 0 where
+  pub lawful : IsLawful code
+  pub at : instr_of code t ≡ Some i
+  pub room : t.instruction + 1 < 2 ^ 64
 
 module _ {B : Type 0} where
   -- what is asked for is there

@@ -9,15 +9,16 @@ use Rattle.tc_machine.proofs.machine.wake.Goals as goal
 
 pub wake-requires-clause-can : goal.wake-requires-clause-can
 wake-requires-clause-can g c =
-    subst (λ o. IfSome o (λ t. (code : Code) × CanDo code t.local c.in-Some-instr.instr.now)) c.in-Some.ensures (
+    let does = c.in_ok-instr.ensures.signal.0 in
+    subst (λ o. IfSome o (λ t. (code : Code) × CanDo code t.local c.in_ok-instr.instr.now)) (sym c.in_ok-find.ensures.thread) (
       c.args.code.now,
-      can_do g.M.MemoryModel.ops c.args.code.now c.args.state.now c.args.name.now c.in-Some.thread.now
-          c.in-Some-instr.instr.now c.in-Some-instr.ensures.lawful c.requires.reached (sym c.in-Some.ensures)
-          (sym c.in-Some-instr.ensures.next) c.requires.counters c.in-Some-instr.ensures.room,
+      can_do g.M.MemoryModel.ops c.args.code.now c.args.state.now c.args.name.now c.in_ok-find.field-0.now
+          c.in_ok-instr.instr.now does.lawful c.requires.reached c.in_ok-find.ensures.thread does.at c.requires.counters does.room,
     )
 
 pub wake-requires-clause-there : goal.wake-requires-clause-there
 wake-requires-clause-there g c =
-    subst (λ i. AsksIn c.args.state.now (request c.in-Some.thread.now.local i)) c.in-Signal.is
-    (asked_is_there g.M.MemoryModel.ops c.args.code.now c.args.state.now c.args.name.now c.in-Some.thread.now
-    c.in-Some-instr.instr.now c.in-Some-instr.ensures.lawful c.requires.reached (sym c.in-Some.ensures) (sym c.in-Some-instr.ensures.next))
+    let does = c.in_ok-instr.ensures.signal.0 in
+    subst (λ i. AsksIn c.args.state.now (request c.in_ok-find.field-0.now.local i)) c.in_ok-instr.ensures.signal.1
+    (asked_is_there g.M.MemoryModel.ops c.args.code.now c.args.state.now c.args.name.now c.in_ok-find.field-0.now
+    c.in_ok-instr.instr.now does.lawful c.requires.reached c.in_ok-find.ensures.thread does.at)
