@@ -1,3 +1,4 @@
 pub mod Merge
 pub mod Plays
+pub mod Stuck
 pub mod OneVerdict

@@ -21,7 +21,7 @@ use Rattle.path_log.proofs.Rising.{rises_behind, none_below, under_first}
 use Rattle.tc_base.specs.States.{Thread, State}
 use Rattle.tc_base.specs.Logs.{Path, ThreadPath, Log, path_under}
 use Rattle.tc_code.specs.Run.{path_of, path_in}
-use Rattle.path_log.specs.Texts.{is_above, rises_from, is_log}
+use Rattle.path_log.specs.Texts.{is_above, rises_from, is_there, is_log}
 use Rattle.schedule_replay.specs.Verdicts.{GoesAsLogged, IsFirstToDiffer}
 use Rattle.schedule_replay.specs.helpers.Judged.{IsFirstOther, is_path, by_order, other_at}
 
@@ -332,7 +332,7 @@ module _ {B : Type 0} where
   module _ (s : State B) (log : Log) (names : List Name) (threads : List ThreadPath) (keys : names ≡ fin.keys s.threads) (logged : threads ≡ log.threads)
       (lawful : is_log log ≡ true) where
     rising : rise log.threads ≡ true
-    rising = (and_parts (rises_from None log.threads) (ltb log.failing (length log.threads)) lawful).0
+    rising = (and_parts (rises_from None log.threads) (is_there log.failing (length log.threads)) lawful).0
 
     as_many : length names ≡ length (fin.entries s.threads)
     as_many = ap length keys ∙ length-map (fin.entries s.threads) (λ e. e.0)

@@ -14,7 +14,7 @@ use Rattle.run_laws.specs.Counters.{CountersAreBelowLast}
 use Rattle.run_laws.proofs.Counts.{counters_below_last}
 use Rattle.tc_base.specs.Logs.{Log}
 use Rattle.schedule_file.specs.Schedules.{most_lines}
-use Rattle.schedule_replay.specs.Verdicts.{StopsAt, IsVerdict}
+use Rattle.schedule_replay.specs.Verdicts.{StopsAt, IsVerdictAt, IsVerdict}
 use Rattle.schedule_replay.proofs.OneVerdict.{one_verdict}
 use Rattle.schedule_replay.specs.helpers.Judged.{IsJudged}
 use Rattle.schedule_replay.specs.declared.verdict.Verdict.{Verdict}
@@ -56,20 +56,22 @@ module _ {B : Type 0} (ops : BufferOps B) (code : Code) (moves : List Move) (i :
   pub counts : length moves < most_lines → CountersAreBelowLast s
   counts few = counters_below_last ops code (take i moves) s leads (omega (arith, few, taken moves i lt))
 
--- the verdict on the state that all moves led to is the verdict on them
-pub verdict_of : {B : Type 0} (ops : BufferOps B) (code : Code) (log : Log) (moves : List Move) (s : State B) → run ops code moves ≡ Some s → (v : Verdict)
-    → IsJudged s log v → IsVerdict ops code log moves v
-verdict_of ops code log moves s leads verdict.Reproduces judged = record { state = s; leads = leads; failing = judged.0; paths = judged.1 }
-verdict_of ops code log moves s leads (verdict.Stops _ _) judged = absurd judged
-verdict_of ops code log moves s leads verdict.NoFailure judged = (s, leads, judged)
-verdict_of ops code log moves s leads (verdict.OtherFailure n) judged = (s, leads, judged)
-verdict_of ops code log moves s leads (verdict.OtherPath n) judged = (s, leads, judged)
+module _ {B : Type 0} (ops : BufferOps B) (code : Code) (log : Log) where
+  -- another end is judged so
+  pub judged_so : (s : State B) (v : Verdict) → IsVerdictAt ops code s log v → IsJudged ops code s log v
+  judged_so s verdict.Reproduces h = absurd h
+  judged_so s v h = h
 
--- moves that reproduce are judged so
-pub only_reproduced : {B : Type 0} (ops : BufferOps B) (code : Code) (log : Log) (moves : List Move) (s : State B) → run ops code moves ≡ Some s
-    → Reproduces ops code log moves → (v : Verdict) → IsJudged s log v → v ≡ verdict.Reproduces
-only_reproduced ops code log moves s leads reproduces v judged =
-    one_verdict ops code log moves v verdict.Reproduces (verdict_of ops code log moves s leads v judged) reproduces
+  -- the verdict on the state that all moves led to is the verdict on them
+  pub verdict_of : (moves : List Move) (s : State B) → run ops code moves ≡ Some s → (v : Verdict) → IsJudged ops code s log v → IsVerdict ops code log moves v
+  verdict_of moves s leads verdict.Reproduces judged = record { state = s; leads = leads; ends = judged.0; paths = judged.1 }
+  verdict_of moves s leads (verdict.Stops _ _) judged = absurd judged
+  verdict_of moves s leads v judged = (s, leads, judged)
+
+  -- moves that reproduce are judged so
+  pub only_reproduced : (moves : List Move) (s : State B) → run ops code moves ≡ Some s → Reproduces ops code log moves → (v : Verdict)
+      → IsJudged ops code s log v → v ≡ verdict.Reproduces
+  only_reproduced moves s leads reproduces v judged = one_verdict ops code log moves v verdict.Reproduces (verdict_of moves s leads v judged) reproduces
 
 -- all of the moves were made
 pub all_made : {B : Type 0} (ops : BufferOps B) (code : Code) (moves : List Move) (i : ℕ) (s : State B) → length moves ≤ i

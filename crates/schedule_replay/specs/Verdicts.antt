@@ -1,23 +1,21 @@
 -- What a replay says of a schedule.
-use Rattle.std.specs.Prelude.{◌≡◌, ℕ, ◌+◌, List, ◌∷◌, ◌++◌, length, Some, None, IsSomeAnd}
+use Rattle.std.specs.Prelude.{◌≡◌, ◌⊎◌, ℕ, ◌+◌, List, ◌∷◌, ◌++◌, length, Some, None, IsSome}
 use Rattle.std.specs.declared.cmp.Ordering.TheVariants.{Less}
 use Rattle.tc_base.specs.Names.{Name, by_name}
 use Rattle.tc_base.specs.Buffers.{BufferOps}
 use Rattle.tc_base.specs.States.{State}
-use Rattle.tc_base.specs.Logs.{Log, failing_of, path_under}
+use Rattle.tc_base.specs.Logs.{Log, place_in, failing_of, path_under}
+use Rattle.tc_base.specs.declared.failing.Failing.TheVariants.{Deadlock}
 use Rattle.tc_base.specs.declared.moves.Move.{Move}
 use Rattle.tc_code.specs.Code.{Code}
-use Rattle.tc_code.specs.Run.{run, path_in, Reproduces}
+use Rattle.tc_code.specs.Run.{run, path_in, IsLeft, EndsAs, Reproduces}
+use Rattle.tc_code.specs.Step.{step}
 use Rattle.tc_machine.specs.Why.{why}
 use Rattle.tc_machine.specs.declared.why.Why.{Why}
 use Rattle.schedule_replay.specs.declared.verdict.Verdict.{Verdict}
 use Rattle.schedule_replay.specs.declared.verdict.Verdict.TheVariants as verdict
 
 module _ {B : Type 0} where
-  -- the thread that failed is the log's
-  abbrev pub FailsAsLogged : State B → Log → Type 0
-  FailsAsLogged s log = IsSomeAnd (failing_of log) (λ n. s.failed ≡ Some n)
-
   -- the thread's path in the run is its path in the log, or it is in neither
   abbrev pub GoesAsLogged : State B → Log → Name → Type 0
   GoesAsLogged s log n = path_in s n ≡ path_under n log.threads
@@ -27,14 +25,19 @@ module _ {B : Type 0} where
     pub differs : ¬ (GoesAsLogged s log n)
     pub least : (m : Name) → by_name m n ≡ Less → GoesAsLogged s log m
 
+module _ {B : Type 0} (ops : BufferOps B) (code : Code) where
+  -- some move is enabled, or no thread is left
+  abbrev pub GoesOn : State B → Type 0
+  GoesOn s = ((m : Move) × IsSome (step ops code s m)) ⊎ ((n : Name) → ¬ (IsLeft s n))
+
   -- the verdict on the state that all moves lead to
   abbrev pub IsVerdictAt : State B → Log → Verdict → Type 0
-  IsVerdictAt s log verdict.NoFailure = s.failed ≡ None
-  IsVerdictAt s log (verdict.OtherFailure n) = (s.failed ≡ Some n) × ¬ (FailsAsLogged s log)
-  IsVerdictAt s log (verdict.OtherPath n) = FailsAsLogged s log × IsFirstToDiffer s log n
+  IsVerdictAt s log verdict.NoFailure = IsSome (place_in log.failing) × (s.failed ≡ None)
+  IsVerdictAt s log (verdict.OtherFailure n) = (s.failed ≡ Some n) × ¬ (failing_of log ≡ Some n)
+  IsVerdictAt s log verdict.NotStuck = (log.failing ≡ Deadlock) × (s.failed ≡ None) × GoesOn s
+  IsVerdictAt s log (verdict.OtherPath n) = EndsAs ops code log.failing log.threads s × IsFirstToDiffer s log n
   IsVerdictAt s log _ = ⊥
 
-module _ {B : Type 0} (ops : BufferOps B) (code : Code) where
   -- the move of this number, from 1, is the first that isn't enabled, for this reason
   pub record StopsAt (moves : List Move) (number : ℕ) (reason : Why) : Type 0 where
     pub before : List Move

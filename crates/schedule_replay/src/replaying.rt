@@ -1,8 +1,9 @@
 //! Replaying a schedule.
-ghost use Rattle.std.specs.Prelude.{◌≡◌, IfOk, option_map};
-ghost use Rattle.tc_code.specs.Run.{Reproduces, path_in};
-ghost use Rattle.schedule_replay.specs.Verdicts.{IsVerdict};
-ghost use Rattle.schedule_replay.specs.helpers.Judged.{IsJudged, IsFirstOther, is_path, other_at};
+ghost use Rattle.std.specs.Prelude.{◌≡◌, IfOk, None, option_map};
+ghost use Rattle.std.specs.Bool.{MatchBool};
+ghost use Rattle.tc_code.specs.Run.{IsReached, IsStuck, Reproduces, path_in};
+ghost use Rattle.schedule_replay.specs.Verdicts.{GoesOn, IsVerdict};
+ghost use Rattle.schedule_replay.specs.helpers.Judged.{IsJudged, IsOtherEnd, IsFirstOther, is_path, other_at};
 
 use crate::verdict::Verdict;
 use path_log::{Log, ThreadPath};
@@ -10,9 +11,9 @@ use schedule_file::Schedule;
 use std::alloc::{AllocError, Global};
 use std::cmp::Ordering;
 use store_buffers::MemoryModel;
-use tc_base::ThreadName;
+use tc_base::{Failing, ThreadName};
 use tc_code::Code;
-use tc_machine::{State, enabled, start, step};
+use tc_machine::{State, StepFault, choices, start, try_step};
 
 /// The first verdict on a schedule's moves that holds under a memory model.
 ///
@@ -28,26 +29,67 @@ pub fn replay<M: MemoryModel>(
 {
     let mut state = start::<M>(alloc, code)?;
     for (i, m) in schedule.moves.iter().enumerate() {
-        if let Err(why) = enabled(code, &state, m) {
-            return Ok(Verdict::Stops(i + 1, why));
+        match try_step(alloc, code, &mut state, m) {
+            Ok(()) => {}
+            Err(StepFault::NotEnabled(why)) => return Ok(Verdict::Stops(i + 1, why)),
+            Err(StepFault::Memory) => return Err(AllocError),
         }
-        step(alloc, code, &mut state, m)?;
     }
-    judge(log, &state)
+    judge(alloc, code, log, &state)
 }
 
 /// The verdict on the state that all moves led to.
-fn judge<M: MemoryModel>(log: &Log, state: &State<M>) -> Result<Verdict, AllocError>
-    ensures { IfOk result (IsJudged state.now log.now.log) }
+fn judge<M: MemoryModel>(
+    alloc: Global,
+    code: &Code,
+    log: &Log,
+    state: &State<M>,
+) -> Result<Verdict, AllocError>
+    requires reached { IsReached M.ops code.now state.now }
+    ensures { IfOk result (IsJudged M.ops code.now state.now log.now.log) }
 {
-    match state.failed() {
-        None => Ok(Verdict::NoFailure),
-        Some(name) if name != log.failing_name() => Ok(Verdict::OtherFailure(name.clone()?)),
-        Some(_) => match first_other(log, state) {
-            Some(name) => Ok(Verdict::OtherPath(name.clone()?)),
-            None => Ok(Verdict::Reproduces),
-        },
+    if let Some(verdict) = other_end(alloc, code, log, state)? {
+        return Ok(verdict);
     }
+    match first_other(log, state) {
+        Some(name) => Ok(Verdict::OtherPath(name.clone()?)),
+        None => Ok(Verdict::Reproduces),
+    }
+}
+
+/// The verdict on a state at which the run doesn't end as the log says.
+fn other_end<M: MemoryModel>(
+    alloc: Global,
+    code: &Code,
+    log: &Log,
+    state: &State<M>,
+) -> Result<Option<Verdict>, AllocError>
+    requires reached { IsReached M.ops code.now state.now }
+    ensures { IfOk result (IsOtherEnd M.ops code.now state.now log.now.log) }
+{
+    match (state.failed(), log.failing()) {
+        (Some(name), _) if log.failing_name() == Some(name) => Ok(None),
+        (Some(name), _) => Ok(Some(Verdict::OtherFailure(name.clone()?))),
+        (None, Failing::Thread(_)) => Ok(Some(Verdict::NoFailure)),
+        (None, Failing::Deadlock) if is_stuck(alloc, code, state)? => Ok(None),
+        (None, Failing::Deadlock) => Ok(Some(Verdict::NotStuck)),
+    }
+}
+
+/// Whether nothing can go on where no thread has failed, and some thread is left.
+fn is_stuck<M: MemoryModel>(
+    alloc: Global,
+    code: &Code,
+    state: &State<M>,
+) -> Result<bool, AllocError>
+    requires reached { IsReached M.ops code.now state.now }
+    requires unfailed { state.now.failed ≡ None }
+    ensures { IfOk result (λ stuck. MatchBool stuck (IsStuck M.ops code.now state.now) (GoesOn M.ops code.now state.now)) }
+{
+    if state.all_have_exited() {
+        return Ok(false);
+    }
+    Ok(choices(alloc, code, state)?.is_empty())
 }
 
 /// The least name whose path in the run isn't that in the log.

@@ -1,42 +1,14 @@
--- The log of a run that fails within its limits is of the format.
-use Rattle.std.proofs.Common.{
-  ◌≡◌,
-  ◌∙◌,
-  ◌&&◌,
-  ◌||◌,
-  ℕ,
-  zero,
-  suc,
-  ◌+◌,
-  ◌≤◌,
-  ◌^◌,
-  ℤ,
-  pos,
-  Bool,
-  true,
-  false,
-  List,
-  [],
-  ◌∷◌,
-  ◌++◌,
-  map,
-  length,
-  Option,
-  Some,
-  None,
-  IsSome,
-}
+-- The log of a run that ends within its limits is of the format.
+use Rattle.std.proofs.Common.{◌≡◌, ◌∙◌, ◌&&◌, ℕ, zero, suc, ◌+◌, ◌≤◌, ◌^◌, ℤ, pos, Bool, true, false, List, [], ◌∷◌, ◌++◌, map, length, Option, Some, None, IsSome}
 use Rattle.std.proofs.Common.{refl, ap, sym, subst, arith}
 use Rattle.std.specs.Prelude.{slice_get, nat_lt, nat_le}
-use Rattle.std.specs.List.{list_any, list_all}
+use Rattle.std.specs.List.{list_all}
 use Rattle.std.specs.Option.{option_map_or}
 use Rattle.std.specs.FinMap as fin
-use Rattle.std.specs.Cmp.{eq_by_cmp_equiv}
-use Rattle.std.proofs.lemmas.Bool.{ltb-false, lt-ltb, le-leb, and_parts, and_from, or_right}
-use Rattle.std.proofs.lemmas.Cmp.{nat_list_cmp_total}
+use Rattle.std.proofs.lemmas.Bool.{ltb-false, lt-ltb, le-leb, and_parts, and_from}
 use Rattle.std.proofs.lemmas.List.{length_push, length-map}
-use Rattle.std.proofs.lemmas.Option.{none-some, same_Some}
 use Rattle.tc_base.specs.Names.{Name}
+use Rattle.tc_base.specs.declared.limits.TheConstants.{THREADS, DEPTH, STEPS}
 use Rattle.tc_base.specs.Buffers.{BufferOps}
 use Rattle.tc_base.specs.States.{Local, Thread, State}
 use Rattle.tc_base.specs.Logs.{Path, ThreadPath}
@@ -48,14 +20,16 @@ use Rattle.tc_code.specs.Code.{Code}
 use Rattle.tc_code.specs.Step.{local_after, instr_of, request, born, is_nonzero, value_in}
 use Rattle.tc_code.specs.Run.{IsReached, path_of}
 use Rattle.path_log.specs.Texts.{is_within, is_thread}
-use Rattle.run_laws.specs.Alone.{Alone, same, after_request, goes_on, after_steps, taken_from}
+use Rattle.run_laws.specs.Alone.{Alone, after_request, goes_on, after_steps, taken_from}
 use Rattle.run_laws.proofs.After.{branch_is}
 use Rattle.run_laws.proofs.Basics.{some_is, some_value}
 use Rattle.run_laws.proofs.Begun.{threads_live_alone}
 use Rattle.run_laws.proofs.Created.{reached_is_created}
 use Rattle.tc_record.specs.Ends.{has_many_steps}
 use Rattle.tc_record.specs.helpers.Paths.{named_path}
-use Rattle.tc_record.proofs.Ends.{IsWithin, none_passes}
+use Rattle.tc_machine.proofs.Exits.{listed_there}
+use Rattle.tc_record.specs.helpers.Paths.{IsWithin}
+use Rattle.tc_record.proofs.Ends.{none_passes}
 use Rattle.tc_record.proofs.Reached.{children_fit}
 
 -- A thread has no more outcomes than steps.
@@ -99,11 +73,6 @@ all_map : {X : Type 0} (p : ThreadPath → Bool) (f : X → ThreadPath) (xs : Li
 all_map p f [] h = refl
 all_map p f (x ∷ xs) h = and_from _ _ (h 0 x refl) (all_map p f xs (λ i y e. h (suc i) y e))
 
-some_passes : {X : Type 0} (p : X → Bool) (xs : List X) (i : ℕ) (x : X) → slice_get xs i ≡ Some x → p x ≡ true → list_any p xs ≡ true
-some_passes p [] i x e h = absurd (none-some x e)
-some_passes p (y ∷ ys) zero x e h = ap (λ b. b || list_any p ys) (subst (λ z. p z ≡ true) (sym (same_Some y x e)) h)
-some_passes p (y ∷ ys) (suc i) x e h = or_right (p y) (list_any p ys) (some_passes p ys i x e h)
-
 module _ {B : Type 0} (ops : BufferOps B) (code : Code) (s : State B) (r : IsReached ops code s) where
   outcomes_fit : (n : Name) (t : Thread B) → fin.get s.threads n ≡ Some t → length t.local.outcomes ≤ t.local.steps
   outcomes_fit n t there =
@@ -113,9 +82,9 @@ module _ {B : Type 0} (ops : BufferOps B) (code : Code) (s : State B) (r : IsRea
       let most = steps_outcomes code t.local.steps start in
       omega (arith, ap (λ (u : Local). length u.outcomes) alone.1, most)
 
-  -- the threads are at most 16
+  -- the threads are no more than may be
   abbrev Few : Type 0
-  Few = fin.len s.threads ≤ 16
+  Few = fin.len s.threads ≤ THREADS
 
   -- the numbers of a thread's name are those of creates
   numbers_fit : Few → (k : ℕ) (n : Name) → length n ≤ k → IsSome (fin.get s.threads n) → list_all (is_within 1 255) n ≡ true
@@ -131,13 +100,13 @@ module _ {B : Type 0} (ops : BufferOps B) (code : Code) (s : State B) (r : IsRea
       subst (λ m. list_all (is_within 1 255) m ≡ true) (sym c.name) (all_push (is_within 1 255) c.parent c.number parent (and_from _ _ low high))
 
   -- the path of a thread that is there has a text
-  thread_fits : Few → (n : Name) (t : Thread B) → fin.get s.threads n ≡ Some t → nat_lt 8 (length n) ≡ false → has_many_steps s n ≡ false
+  thread_fits : Few → (n : Name) (t : Thread B) → fin.get s.threads n ≡ Some t → nat_lt DEPTH (length n) ≡ false → has_many_steps s n ≡ false
       → is_thread (named_path s n) ≡ true
   thread_fits few n t there depth steps =
-      let short = ltb-false 8 (length n) depth in
+      let short = ltb-false DEPTH (length n) depth in
       let numbers = numbers_fit few (length n) n (omega arith) (some_is _ t there) in
-      let most : t.local.steps ≤ 65535 =
-      ltb-false 65535 t.local.steps (sym (ap (λ (o : Option (Thread B)). option_map_or (λ u. nat_lt 65535 u.local.steps) o false) there) ∙ steps) in
+      let most : t.local.steps ≤ STEPS =
+      ltb-false STEPS t.local.steps (sym (ap (λ (o : Option (Thread B)). option_map_or (λ u. nat_lt STEPS u.local.steps) o false) there) ∙ steps) in
       let own = outcomes_fit n t there in
       let fits : nat_lt t.local.steps (2 ^ 16) && nat_lt (length t.local.outcomes) (2 ^ 16) ≡ true =
       and_from _ _ (lt-ltb t.local.steps (2 ^ 16) (omega (arith, most))) (lt-ltb (length t.local.outcomes) (2 ^ 16) (omega (arith, own, most))) in
@@ -145,19 +114,14 @@ module _ {B : Type 0} (ops : BufferOps B) (code : Code) (s : State B) (r : IsRea
       (subst (λ (p : Path). (nat_lt p.steps (2 ^ 16) && nat_lt (length p.outcomes) (2 ^ 16)) ≡ true)
       (sym (ap (λ (o : Option (Thread B)). option_map_or path_of o (record { outcomes = []; steps = 0 })) there)) fits)
 
-  -- a name that is listed is of a thread
-  listed_there : (i : ℕ) (n : Name) → slice_get (fin.keys s.threads) i ≡ Some n → IsSome (fin.get s.threads n)
-  listed_there i n e =
-      fin.contains_key-keys s.threads n ∙ some_passes (same n) (fin.keys s.threads) i n e ((eq_by_cmp_equiv nat_list_cmp_total).refl n)
-
   -- the log of the state is of the format
   pub of_format : IsWithin s → (threads : List ThreadPath) → threads ≡ map (named_path s) (fin.keys s.threads)
       → (nat_le (length threads) 255 && list_all is_thread threads) ≡ true
   of_format within threads is =
-      let count = ltb-false 16 (length (fin.keys s.threads)) within.threads in
+      let count = ltb-false THREADS (length (fin.keys s.threads)) within.threads in
       let few : Few = omega (arith, count, fin.len-entries s.threads, length-map (fin.entries s.threads) (λ e. e.0)) in
       let paths : list_all is_thread (map (named_path s) (fin.keys s.threads)) ≡ true = all_map is_thread (named_path s) (fin.keys s.threads) (λ i n e.
-      let t = some_value (fin.get s.threads n) (listed_there i n e) in
+      let t = some_value (fin.get s.threads n) (listed_there s i n e) in
       thread_fits few n t.0 t.1 (none_passes _ (fin.keys s.threads) i n within.depth e) (none_passes _ (fin.keys s.threads) i n within.steps e)) in
       and_from _ _ (subst (λ (ts : List ThreadPath). nat_le (length ts) 255 ≡ true) (sym is)
       (le-leb _ 255 (omega (arith, count, length-map (fin.keys s.threads) (named_path s)))))
@@ -165,12 +129,12 @@ module _ {B : Type 0} (ops : BufferOps B) (code : Code) (s : State B) (r : IsRea
 
   -- and it is small
   pub small : IsWithin s → (threads : List ThreadPath) → threads ≡ map (named_path s) (fin.keys s.threads)
-      → (nat_le (length threads) 16 && list_all (λ (t : ThreadPath). nat_le (length t.name) 8) threads) ≡ true
+      → (nat_le (length threads) THREADS && list_all (λ (t : ThreadPath). nat_le (length t.name) DEPTH) threads) ≡ true
   small within threads is =
-      let count = ltb-false 16 (length (fin.keys s.threads)) within.threads in
-      let shallow : list_all (λ (t : ThreadPath). nat_le (length t.name) 8) (map (named_path s) (fin.keys s.threads)) ≡ true =
-      all_map (λ t. nat_le (length t.name) 8) (named_path s) (fin.keys s.threads) (λ i n e.
-      le-leb (length n) 8 (ltb-false 8 (length n) (none_passes _ (fin.keys s.threads) i n within.depth e))) in
-      and_from _ _ (subst (λ (ts : List ThreadPath). nat_le (length ts) 16 ≡ true) (sym is)
-      (le-leb _ 16 (omega (arith, count, length-map (fin.keys s.threads) (named_path s)))))
-      (subst (λ (ts : List ThreadPath). list_all (λ (t : ThreadPath). nat_le (length t.name) 8) ts ≡ true) (sym is) shallow)
+      let count = ltb-false THREADS (length (fin.keys s.threads)) within.threads in
+      let shallow : list_all (λ (t : ThreadPath). nat_le (length t.name) DEPTH) (map (named_path s) (fin.keys s.threads)) ≡ true =
+      all_map (λ t. nat_le (length t.name) DEPTH) (named_path s) (fin.keys s.threads) (λ i n e.
+      le-leb (length n) DEPTH (ltb-false DEPTH (length n) (none_passes _ (fin.keys s.threads) i n within.depth e))) in
+      and_from _ _ (subst (λ (ts : List ThreadPath). nat_le (length ts) THREADS ≡ true) (sym is)
+      (le-leb _ THREADS (omega (arith, count, length-map (fin.keys s.threads) (named_path s)))))
+      (subst (λ (ts : List ThreadPath). list_all (λ (t : ThreadPath). nat_le (length t.name) DEPTH) ts ≡ true) (sym is) shallow)

@@ -1,11 +1,12 @@
 -- The paths of a state's threads are those of its log.
 use Rattle.std.proofs.Common.{◌≡◌, ◌∙◌, ◌&&◌, ◌||◌, ℕ, suc, Bool, true, false, cond, T, List, [], ◌∷◌, map, Option, Some, None, refl, ap, sym, subst}
 use Rattle.std.proofs.Common.{◌<◌, ◌≤◌, IsSome, inl, inr, length, true≢false, arith}
-use Rattle.std.proofs.lemmas.Bool.{lt-ltb, and_from}
-use Rattle.std.proofs.lemmas.Option.{slice_get-map, slice_get_within, slice_get_read}
+use Rattle.std.proofs.lemmas.Bool.{lt-ltb, ltb-true, and_from, and_parts}
+use Rattle.std.proofs.lemmas.List.{length-map}
+use Rattle.std.proofs.lemmas.Option.{slice_get-map, slice_get_cases, slice_get_within, slice_get_read}
 use Rattle.std.proofs.lemmas.Cmp.{nat_list_cmp_total}
 use Rattle.std.specs.Cmp.{eq_by_cmp_equiv}
-use Rattle.std.specs.Option.{option_map_or, IsSomeAnd}
+use Rattle.std.specs.Option.{option_map_or, option_and_then, IsSomeAnd}
 use Rattle.std.specs.Prelude.{slice_get, slice_index_or, option_map, is_some, bytes_eq, nat_lt}
 use Rattle.std.specs.List.{list_any}
 use Rattle.std.specs.Ordering.{nat_cmp, is_lt}
@@ -16,18 +17,21 @@ use Rattle.std.proofs.lemmas.Map.Text.{is_eq-slice_cmp}
 use Rattle.tc_base.proofs.Bools.{first_T, second_T}
 use Rattle.tc_base.specs.Names.{Name}
 use Rattle.tc_base.specs.States.{Thread, State}
-use Rattle.tc_base.specs.Logs.{Path, ThreadPath, failing_of, path_under}
+use Rattle.tc_base.specs.Logs.{Path, ThreadPath, place_in, failing_of, path_under}
+use Rattle.tc_base.specs.declared.failing.Failing.{Failing}
+use Rattle.tc_base.specs.declared.failing.Failing.TheVariants as failing
 use Rattle.tc_base.specs.declared.model.Model.{Model}
 use Rattle.tc_base.specs.Buffers.{BufferOps}
 use Rattle.tc_base.specs.declared.moves.Move.{Move}
 use Rattle.tc_code.specs.Code.{Code}
-use Rattle.tc_code.specs.Run.{path_of, path_in, run, Reproduces}
-use Rattle.path_log.specs.Texts.{StoredLog, is_above, rises_from, is_log}
+use Rattle.tc_code.specs.Run.{path_of, path_in, run, IsStuck, EndsAs, Reproduces}
+use Rattle.path_log.specs.Texts.{StoredLog, is_above, rises_from, is_there, is_log}
 use Rattle.run_laws.specs.Alone.{same}
+use Rattle.run_laws.proofs.Basics.{some_is}
 use Rattle.run_laws.proofs.Names.{tells_names}
 use Rattle.tc_base.proofs.Names.{same_true}
 use Rattle.tc_record.specs.Logged.{IsLogOf}
-use Rattle.tc_record.specs.helpers.Paths.{path_at, named_path, FailsThere}
+use Rattle.tc_record.specs.helpers.Paths.{path_at, named_path, EndsBy, HasThreads}
 
 both_true : (a b : Bool) → T a → b ≡ true → (a && b) ≡ true
 both_true true b h e = e
@@ -80,10 +84,10 @@ other_numbers m n h = elim (tells_names n m) [
 ]
 
 -- a name that was found stands at its place
-pub found_at : (names : List Name) (i : ℕ) (n item : Name) (o : Option Name) → i < length names → item ≡ slice_index_or names i item → bytes_eq item n ≡ true
-    → o ≡ Some n → slice_get names i ≡ o
-found_at names i n item o lt is same some =
-    slice_get_read names (length names) i item refl lt is ∙ ap (λ m. Some m) (same_true item n same) ∙ sym some
+pub found_at : (names : List Name) (i : ℕ) (n item : Name) → i < length names → item ≡ slice_index_or names i item → bytes_eq item n ≡ true
+    → slice_get names i ≡ Some n
+found_at names i n item lt is same =
+    slice_get_read names (length names) i item refl lt is ∙ ap (λ m. Some m) (same_true item n same)
 
 none_same : (n : Name) (names : List Name) → ((k : ℕ) → k < length names → bytes_eq (slice_index_or names k []) n ≡ false) →
     list_any (same n) names ≡ false
@@ -92,11 +96,10 @@ none_same n (m ∷ names) h =
     ap (λ b. b || list_any (same n) names) (other_numbers m n (h 0 (omega arith))) ∙ none_same n names (λ k lt. h (suc k) (omega (arith, lt)))
 
 -- a thread that is there is found
-pub is_found : {B : Type 0} (s : State B) (n : Name) (names : List Name) (i : ℕ) → FailsThere s → s.failed ≡ Some n → names ≡ fin.keys s.threads
+pub is_found : {B : Type 0} (s : State B) (n : Name) (names : List Name) (i : ℕ) → IsSome (fin.get s.threads n) → names ≡ fin.keys s.threads
     → length names ≤ i → ((k : ℕ) → k < i → bytes_eq (slice_index_or names k []) n ≡ false) → ⊥
-is_found s n names i there fails are all none =
-    let some : IsSome (fin.get s.threads n) = subst (λ o. IsSomeAnd o (λ m. IsSome (fin.get s.threads m))) fails there in
-    true≢false (sym some ∙ fin.contains_key-keys s.threads n ∙ ap (list_any (same n)) (sym are)
+is_found s n names i there are all none =
+    true≢false (sym there ∙ fin.contains_key-keys s.threads n ∙ ap (list_any (same n)) (sym are)
     ∙ none_same n names (λ k lt. none k (omega (arith, lt, all))))
 
 module _ {B : Type 0} (s : State B) where
@@ -111,53 +114,71 @@ module _ {B : Type 0} (s : State B) where
       ∙ ap (λ b. cond b (Some (path_at s n)) None) (fin.contains_key-keys s.threads n)
       ∙ sym (under_names (path_at s) n (fin.keys s.threads))
 
+  own_name : (o : Option Name) → option_map (λ (t : ThreadPath). t.name) (option_map (named_path s) o) ≡ o
+  own_name None = refl
+  own_name (Some n) = refl
+
+  own_path_there : (o : Option Name) → IsSome o → IsSome (option_map (named_path s) o)
+  own_path_there None h = h
+  own_path_there (Some n) h = refl
+
   -- where a name stands among the threads, its path stands among theirs
-  pub failing_same : (model : Model) (i : ℕ) → slice_get (fin.keys s.threads) i ≡ s.failed
-      → failing_of (record { model = model; failing = i; threads = map (named_path s) (fin.keys s.threads) }) ≡ s.failed
-  failing_same model i e =
+  failing_same : (model : Model) (f : Failing) → EndsBy s f
+      → failing_of (record { model = model; failing = f; threads = map (named_path s) (fin.keys s.threads) }) ≡ s.failed
+  failing_same model (failing.Thread i) e =
       ap (option_map (λ (t : ThreadPath). t.name)) (slice_get-map (named_path s) (fin.keys s.threads) i)
-      ∙ own_name (slice_get (fin.keys s.threads) i) ∙ e
-    where
-      own_name : (o : Option Name) → option_map (λ (t : ThreadPath). t.name) (option_map (named_path s) o) ≡ o
-      own_name None = refl
-      own_name (Some n) = refl
+      ∙ own_name (slice_get (fin.keys s.threads) i) ∙ e.1
+  failing_same model failing.Deadlock e = sym e
+
+  failing_there : (f : Failing) → EndsBy s f → 0 < length (fin.keys s.threads) → is_there f (length (map (named_path s) (fin.keys s.threads))) ≡ true
+  failing_there (failing.Thread i) e some =
+      let there = slice_get-map (named_path s) (fin.keys s.threads) i ∙ ap (option_map (named_path s)) e.1 in
+      below _ i _ there (own_path_there s.failed e.0)
+  failing_there failing.Deadlock e some = lt-ltb 0 _ (omega (arith, some, length-map (fin.keys s.threads) (named_path s)))
 
   -- so that is a log
-  pub is_log_there : (model : Model) (i : ℕ) (threads : List ThreadPath) → IsSome s.failed → slice_get (fin.keys s.threads) i ≡ s.failed
-      → threads ≡ map (named_path s) (fin.keys s.threads) → is_log (record { model = model; failing = i; threads = threads }) ≡ true
-  is_log_there model i threads some e is =
-      let there = slice_get-map (named_path s) (fin.keys s.threads) i ∙ ap (option_map (named_path s)) e in
-      subst (λ (ts : List ThreadPath). is_log (record { model = model; failing = i; threads = ts }) ≡ true) (sym is)
-      (and_from _ _ paths_rise (below _ i _ there (mapped s.failed some)))
-    where
-      mapped : (o : Option Name) → IsSome o → IsSome (option_map (named_path s) o)
-      mapped None h = h
-      mapped (Some n) h = refl
+  pub is_log_there : (model : Model) (f : Failing) (threads : List ThreadPath) → HasThreads s → EndsBy s f
+      → threads ≡ map (named_path s) (fin.keys s.threads) → is_log (record { model = model; failing = f; threads = threads }) ≡ true
+  is_log_there model f threads has e is =
+      subst (λ (ts : List ThreadPath). is_log (record { model = model; failing = f; threads = ts }) ≡ true) (sym is)
+      (and_from _ _ paths_rise (failing_there f e has.some))
 
   -- and it is the state's
-  pub log_there : (under : Model) (stored : StoredLog) (model : Model) (i : ℕ) (threads : List ThreadPath)
-      → stored ≡ record { digest = None; log = record { model = model; failing = i; threads = threads } } → model ≡ under
-      → slice_get (fin.keys s.threads) i ≡ s.failed → threads ≡ map (named_path s) (fin.keys s.threads) → IsLogOf under s stored
-  log_there under stored model i threads e same fails is =
+  pub log_there : (under : Model) (stored : StoredLog) (model : Model) (f : Failing) (threads : List ThreadPath)
+      → stored ≡ record { digest = None; log = record { model = model; failing = f; threads = threads } } → model ≡ under
+      → EndsBy s f → threads ≡ map (named_path s) (fin.keys s.threads) → IsLogOf under s stored
+  log_there under stored model f threads e same ends is =
       subst (IsLogOf under s) (sym e) (record {
         digest = refl;
         model = same;
         failing =
-            ap (λ (ts : List ThreadPath). failing_of (record { model = model; failing = i; threads = ts })) is
-            ∙ failing_same model i fails;
+            ap (λ (ts : List ThreadPath). failing_of (record { model = model; failing = f; threads = ts })) is
+            ∙ failing_same model f ends;
         paths = λ n. paths_same n ∙ sym (ap (path_under n) is);
       })
 
--- moves that led to a state in which a thread has failed reproduce its log
-pub reproduced : {B : Type 0} (ops : BufferOps B) (code : Code) (s : State B) (under : Model) (stored : StoredLog) (moves : List Move)
-    → run ops code moves ≡ Some s → IsSome s.failed → IsLogOf under s stored → Reproduces ops code stored.log moves
-reproduced ops code s under stored moves leads some is = record {
-  state = s;
-  leads = leads;
-  failing = subst (λ o. IsSomeAnd o (λ n. s.failed ≡ Some n)) (sym is.failing) (itself s.failed some);
-  paths = is.paths;
-}
-  where
-    itself : (o : Option Name) → IsSome o → IsSomeAnd o (λ n. o ≡ Some n)
-    itself None h = absurd (true≢false (sym h))
-    itself (Some n) h = refl
+module _ {B : Type 0} (ops : BufferOps B) (code : Code) (s : State B) where
+  named : (o : Option ThreadPath) → IsSome o → option_map (λ (t : ThreadPath). t.name) o ≡ s.failed → IsSomeAnd o (λ t. s.failed ≡ Some t.name)
+  named None some e = absurd (true≢false (sym some))
+  named (Some t) some e = sym e
+
+  -- the run ended as its log says
+  ends_as : (f : Failing) (ts : List ThreadPath) → option_and_then (λ k. option_map (λ (t : ThreadPath). t.name) (slice_get ts k)) (place_in f) ≡ s.failed
+      → is_there f (length ts) ≡ true → (s.failed ≡ None → IsStuck ops code s) → EndsAs ops code f ts s
+  ends_as (failing.Thread k) ts same there stuck =
+      elim ((slice_get_cases ts k).1) [
+        | inl at ↦ named (slice_get ts k) (some_is _ at.0 at.2) same
+        | inr past ↦ absurd (omega (arith, ltb-true k (length ts) there, past.0))
+      ]
+  ends_as failing.Deadlock ts same there stuck = stuck (sym same)
+
+  -- moves that led to a state at which a thread has failed or nothing can go on reproduce its log
+  pub reproduced : (under : Model) (stored : StoredLog) (moves : List Move) → run ops code moves ≡ Some s → (s.failed ≡ None → IsStuck ops code s)
+      → is_log stored.log ≡ true → IsLogOf under s stored → Reproduces ops code stored.log moves
+  reproduced under stored moves leads stuck lawful is = record {
+    state = s;
+    leads = leads;
+    ends = ends_as stored.log.failing stored.log.threads is.failing
+        (and_parts (rises_from None stored.log.threads) (is_there stored.log.failing (length stored.log.threads)) lawful).1 stuck;
+    paths = is.paths;
+  }

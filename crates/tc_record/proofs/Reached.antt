@@ -1,7 +1,8 @@
 -- What holds in each state that a run reaches.
-use Rattle.std.proofs.Common.{◌≡◌, ◌∙◌, ◌⊎◌, inl, inr, ℕ, ◌+◌, ◌-◌, ◌≤◌, cond, [], length}
+use Rattle.std.proofs.Common.{◌≡◌, ◌∙◌, ◌⊎◌, inl, inr, ℕ, ◌+◌, ◌-◌, ◌<◌, ◌≤◌, Bool, true, cond, List, [], ◌∷◌, length, true≢false}
 use Rattle.std.proofs.Common.{Option, Some, None, IsSome, refl, ap, sym, subst, arith}
 use Rattle.std.specs.Option.{is_some, IfSome, IsSomeAnd}
+use Rattle.std.specs.List.{list_any}
 use Rattle.std.specs.FinMap as fin
 use Rattle.std.specs.Ordering.{nat_cmp}
 use Rattle.std.specs.Cmp.Lexicographic.{slice_cmp}
@@ -27,8 +28,9 @@ use Rattle.run_laws.proofs.Names.{get_put, get_put_cases, get_put_apart, child_a
 use Rattle.run_laws.proofs.Steps.{Went, step_went, none_failed, holds_in_reached}
 use Rattle.run_laws.proofs.Changes.{Goes, Went_on, Stayed, step_changes}
 use Rattle.run_laws.proofs.Created.{child_is_new}
-use Rattle.run_laws.proofs.Main.{thread_stays}
-use Rattle.tc_record.specs.helpers.Paths.{FailsThere}
+use Rattle.run_laws.specs.Alone.{same}
+use Rattle.run_laws.proofs.Main.{main_is_there, thread_stays}
+use Rattle.tc_record.specs.helpers.Paths.{HasThreads}
 
 module _ {B : Type 0} (ops : BufferOps B) (code : Code) where
   -- The thread that has failed is there.
@@ -68,9 +70,16 @@ module _ {B : Type 0} (ops : BufferOps B) (code : Code) where
       none-some_is some = cc
   some_and (Some n) P some h = h
 
-  pub fails_there : (s : State B) → IsReached ops code s → IsSome s.failed → FailsThere s
-  fails_there s r some =
-      some_and s.failed _ some (holds_in_reached ops code FailedIsThere tt (λ v u m w one h. failed_there v u m one) s r)
+  -- a name that is listed is one of some
+  some_listed : (p : Name → Bool) (ns : List Name) → list_any p ns ≡ true → 0 < length ns
+  some_listed p [] h = absurd (true≢false (sym h))
+  some_listed p (n ∷ ns) h = omega arith
+
+  pub has_threads : (s : State B) → IsReached ops code s → HasThreads s
+  has_threads s r = record {
+    some = some_listed (same main) (fin.keys s.threads) (sym (fin.contains_key-keys s.threads main) ∙ main_is_there ops code s r);
+    failed = holds_in_reached ops code FailedIsThere tt (λ v u m w one h. failed_there v u m one) s r;
+  }
 
   -- The thread that has failed is at its failing instruction.
 

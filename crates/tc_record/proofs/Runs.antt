@@ -1,14 +1,7 @@
 -- Seeded runs, turn by turn.
-use Rattle.std.proofs.Common.{◌≡◌, ◌∙◌, ◌&&◌, ℕ, zero, suc, ◌+◌, ◌-◌, ◌<◌, ◌%◌, Bool, true, false, cond, List, [], ◌∷◌, ◌++◌, length, append_assoc, append-nil}
-use Rattle.std.proofs.Common.{Option, Some, None, IsSome, refl, ap, sym, subst, arith}
-use Rattle.std.specs.Prelude.{slice_get, slice_index_or, map, option_map}
-use Rattle.std.specs.List.{filter, flat_map, list_all}
+use Rattle.std.proofs.Common.{◌≡◌, ◌∙◌, ℕ, zero, suc, ◌+◌, ◌-◌, ◌<◌, List, [], ◌∷◌, ◌++◌, append_assoc, append-nil}
+use Rattle.std.proofs.Common.{Option, Some, None, IsSome, refl, ap, sym, arith}
 use Rattle.std.specs.Option.{option_map_or}
-use Rattle.std.proofs.lemmas.Bool.{and_parts}
-use Rattle.std.proofs.lemmas.Nat.{mod_below}
-use Rattle.std.proofs.lemmas.Option.{none-some, same_Some, slice_get_read, slice_get-map}
-use Rattle.std.proofs.lemmas.List.{length-map, nil_from_length}
-use Rattle.std.specs.FinMap as fin
 use Rattle.rand_core.specs.Steps.{stream_of, first_words}
 use Rattle.rand_core.specs.Stream.{Stream, next_u64}
 use Rattle.rand_core.proofs.StepsLemmas.{next_u64-stream_of}
@@ -18,8 +11,7 @@ use Rattle.tc_base.specs.States.{State}
 use Rattle.tc_base.specs.declared.moves.Move.{Move}
 use Rattle.tc_code.specs.Code.{Code}
 use Rattle.tc_code.specs.Step.{step, opening}
-use Rattle.tc_machine.specs.declared.choice.Choice.{Choice}
-use Rattle.tc_machine.specs.Moves.{move_of, is_enabled, steps_of, drains_of, moves_of, enabled_moves}
+use Rattle.tc_machine.proofs.Listing.{listed_is_enabled}
 use Rattle.tc_record.specs.declared.end.End.{End}
 use Rattle.tc_record.specs.declared.end.End.TheVariants as end
 use Rattle.tc_record.specs.Ends.{end_at, end_without_moves}
@@ -41,31 +33,6 @@ words_of_seed (suc k) seed =
     ap (λ (p : ℕ × Stream). p.0 ∷ words k p.1) (next_u64-stream_of splitmix_steps seed)
     ∙ ap (λ ws. (mix_u64 seed).0 ∷ ws) (words_of_seed k (mix_u64 seed).1)
 
--- Moves that are listed are enabled.
-
-listed_filter : (p : Move → Bool) (ms : List Move) → list_all p (filter p ms) ≡ true
-listed_filter p [] = refl
-listed_filter p (m ∷ ms) = passing (p m) refl (listed_filter p ms)
-  where
-    passing : (b : Bool) → p m ≡ b → list_all p (filter p ms) ≡ true → list_all p (cond b (m ∷ filter p ms) (filter p ms)) ≡ true
-    passing true e h = ap (λ b. b && list_all p (filter p ms)) e ∙ h
-    passing false e h = h
-
-listed_both : (p : Move → Bool) (xs ys : List Move) → list_all p xs ≡ true → list_all p ys ≡ true → list_all p (xs ++ ys) ≡ true
-listed_both p [] ys h k = k
-listed_both p (x ∷ xs) ys h k =
-    let parts = and_parts (p x) (list_all p xs) h in
-    ap (λ b. b && list_all p (xs ++ ys)) parts.0 ∙ listed_both p xs ys parts.1 k
-
-listed_all : {X : Type 0} (p : Move → Bool) (f : X → List Move) (xs : List X) → ((x : X) → list_all p (f x) ≡ true) → list_all p (flat_map f xs) ≡ true
-listed_all p f [] h = refl
-listed_all p f (x ∷ xs) h = listed_both p (f x) (flat_map f xs) (h x) (listed_all p f xs h)
-
-listed_at : (p : Move → Bool) (ms : List Move) (i : ℕ) (m : Move) → list_all p ms ≡ true → slice_get ms i ≡ Some m → p m ≡ true
-listed_at p [] i m h e = absurd (none-some m e)
-listed_at p (x ∷ ms) zero m h e = subst (λ y. p y ≡ true) (same_Some x m e) (and_parts (p x) (list_all p ms) h).0
-listed_at p (x ∷ ms) (suc i) m h e = listed_at p ms i m (and_parts (p x) (list_all p ms) h).1 e
-
 -- Ended runs.
 
 module _ {B : Type 0} where
@@ -81,35 +48,9 @@ module _ {B : Type 0} where
   behind_either ms u (Some e) r = refl
 
 module _ {B : Type 0} (ops : BufferOps B) (code : Code) where
-  -- a move that is listed is enabled
-  pub listed_is_enabled : (s : State B) (i : ℕ) (m : Move) → slice_get (enabled_moves ops code s) i ≡ Some m → IsSome (step ops code s m)
-  listed_is_enabled s i m e =
-      listed_at (is_enabled ops code s) (enabled_moves ops code s) i m
-      (listed_all (is_enabled ops code s) (moves_of ops code s) (fin.keys s.threads) (λ n. listed_filter (is_enabled ops code s) (steps_of ops code s n
-      ++ drains_of ops code s n))) e
-
-  -- the move at the place that a word gives is the chosen one
-  pub picked : (s : State B) (items : List Choice) (i word : ℕ) (x : Choice) (m : Move) → map move_of items ≡ enabled_moves ops code s
-      → i ≡ word % length items → 0 < length items → x ≡ slice_index_or items i x → m ≡ move_of x → Some m ≡ chosen ops code s word
-  picked s items i word x m listed place some is same =
-      let here : slice_get items i ≡ Some x =
-      slice_get_read items (length items) i x refl (subst (λ k. k < length items) (sym place) (mod_below word (length items) some)) is in
-      let picks : slice_get (map move_of items) i ≡ Some m =
-      slice_get-map move_of items i ∙ ap (option_map move_of) here ∙ ap (λ n. Some n) (sym same) in
-      sym (subst (λ ms. slice_get ms (word % length ms) ≡ Some m) listed
-      (subst (λ k. slice_get (map move_of items) (word % k) ≡ Some m) (sym (length-map items move_of))
-      (subst (λ k. slice_get (map move_of items) k ≡ Some m) place picks)))
-
-  -- and none is, where no move is listed
-  pub picked_none : (s : State B) (items : List Choice) (word : ℕ) → map move_of items ≡ enabled_moves ops code s → length items ≡ 0
-      → None ≡ chosen ops code s word
-  picked_none s items word listed none =
-      let empty : enabled_moves ops code s ≡ [] = sym listed ∙ ap (map move_of) (nil_from_length items none) in
-      sym (ap (λ ms. slice_get ms (word % length ms)) empty)
-
   -- what is chosen is enabled
   pub chosen_is_enabled : (s : State B) (word : ℕ) (m : Move) → Some m ≡ chosen ops code s word → IsSome (step ops code s m)
-  chosen_is_enabled s word m is = listed_is_enabled s _ m (sym is)
+  chosen_is_enabled s word m is = listed_is_enabled ops code s _ m (sym is)
 
   -- a turn in which no move is enabled
   pub turn_without_moves : (s : State B) (before : List Move) (word : ℕ) → None ≡ chosen ops code s word

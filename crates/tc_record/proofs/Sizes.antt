@@ -7,10 +7,11 @@ use Rattle.std.specs.Bool.{beq}
 use Rattle.std.proofs.lemmas.Bool.{leb-true, ltb-true, and_parts, eqb-true}
 use Rattle.std.proofs.lemmas.List.{length-append}
 use Rattle.byteorder.specs.Endian.{big_bytes}
+use Rattle.tc_base.specs.declared.limits.TheConstants.{THREADS, DEPTH}
 use Rattle.tc_base.specs.Logs.{Log, ThreadPath}
 use Rattle.tc_base.specs.declared.model.Model.{Model}
-use Rattle.path_log.specs.Texts.{runs_behind, runs_text, thread_text, head_text, log_text, is_thread, is_of_format, is_digest}
-use Rattle.tc_record.specs.Logged.{is_small}
+use Rattle.path_log.specs.Texts.{runs_behind, runs_text, thread_text, head_text, ending_code, log_text, is_thread, is_of_format, is_digest}
+use Rattle.tc_record.specs.Logged.{is_small, most_log_bytes}
 
 one_more : (b : Bool) (n k : ℕ) (xs ys : List ℕ) → length xs ≤ k → length ys ≤ k → length (cond b xs (n ∷ ys)) ≤ k + 1
 one_more true n k xs ys h g = omega (arith, h)
@@ -36,11 +37,11 @@ runs_size [] = omega arith
 runs_size (first ∷ others) = omega (arith, pairs (runs_behind first 1 others), runs_few first 1 others)
 
 -- the text of a small thread
-thread_size : (t : ThreadPath) → IsTrue (is_thread t) → IsTrue (nat_le (length t.name) 8) → length (thread_text true t) ≤ 131084
+thread_size : (t : ThreadPath) → IsTrue (is_thread t) → IsTrue (nat_le (length t.name) DEPTH) → length (thread_text true t) ≤ 131084
 thread_size t fits shallow =
     let counts = and_parts (nat_lt t.path.steps (2 ^ 16)) _ (and_parts (nat_le (length t.name) 255 && _) _ fits).1 in
     let few = ltb-true (length t.path.outcomes) (2 ^ 16) counts.1 in
-    let short = leb-true (length t.name) 8 shallow in
+    let short = leb-true (length t.name) DEPTH shallow in
     let runs = runs_text t.path.outcomes in
     let counted = big_bytes 2 (length t.path.outcomes) in
     let steps = big_bytes 2 t.path.steps in
@@ -54,24 +55,24 @@ thread_size t fits shallow =
       length-append counted runs,
     )
 
-threads_size : (ts : List ThreadPath) → IsTrue (list_all is_thread ts) → IsTrue (list_all (λ (t : ThreadPath). nat_le (length t.name) 8) ts)
+threads_size : (ts : List ThreadPath) → IsTrue (list_all is_thread ts) → IsTrue (list_all (λ (t : ThreadPath). nat_le (length t.name) DEPTH) ts)
     → length (flat_map (thread_text true) ts) ≤ length ts * 131084
 threads_size [] fits shallow = omega arith
 threads_size (t ∷ ts) fits shallow =
     let f = and_parts (is_thread t) _ fits in
-    let s = and_parts (nat_le (length t.name) 8) _ shallow in
+    let s = and_parts (nat_le (length t.name) DEPTH) _ shallow in
     omega (arith, length-append (thread_text true t) (flat_map (thread_text true) ts), thread_size t f.0 s.0, threads_size ts f.1 s.1)
 
 head_size : (digest : List ℕ) (model : Model) → length digest ≡ 32 → length (head_text (Some digest) model) ≡ 39
 head_size digest model e = omega (arith, e)
 
 pub recorded_size : (digest : List ℕ) (log : Log) → IsTrue (is_digest digest) → IsTrue (is_of_format log) → IsTrue (is_small log)
-    → length (log_text (record { digest = Some digest; log = log })) ≤ 2097385
+    → length (log_text (record { digest = Some digest; log = log })) ≤ most_log_bytes
 recorded_size digest log d fits small =
     let long = eqb-true (length digest) 32 (and_parts (length digest == 32) _ d).0 in
     let all = (and_parts (nat_le (length log.threads) 255) _ fits).1 in
-    let s = and_parts (nat_le (length log.threads) 16) _ small in
-    let count = leb-true (length log.threads) 16 s.0 in
+    let s = and_parts (nat_le (length log.threads) THREADS) _ small in
+    let count = leb-true (length log.threads) THREADS s.0 in
     let threads = threads_size log.threads all s.1 in
-    let rest = length log.threads ∷ log.failing ∷ flat_map (thread_text true) log.threads in
+    let rest = length log.threads ∷ ending_code log.failing ∷ flat_map (thread_text true) log.threads in
     omega (arith, count, threads, head_size digest log.model long, length-append (head_text (Some digest) log.model) rest)

@@ -1,11 +1,12 @@
 -- What ends a run.
 use Rattle.std.specs.Prelude.{ℕ, Bool, false, nat_lt, is_some, length, Option, Some, None, if◌then◌else◌}
-use Rattle.std.specs.List.{list_any, list_all}
+use Rattle.std.specs.List.{list_any}
 use Rattle.std.specs.Option.{option_map_or}
 use Rattle.std.specs.FinMap as fin
 use Rattle.tc_base.specs.declared.limits.TheConstants.{THREADS, DEPTH, STEPS}
 use Rattle.tc_base.specs.Names.{Name}
-use Rattle.tc_base.specs.States.{Local, State}
+use Rattle.tc_base.specs.States.{State}
+use Rattle.tc_machine.specs.Exits.{all_have_exited}
 use Rattle.tc_record.specs.declared.end.Which.{Which}
 use Rattle.tc_record.specs.declared.end.Which.TheVariants.{Threads, Depth, Steps}
 use Rattle.tc_record.specs.declared.end.End.{End}
@@ -18,15 +19,9 @@ limit_of Depth = DEPTH
 limit_of Steps = STEPS
 
 module _ {B : Type 0} (s : State B) where
-  -- what the thread of a name has to itself passes a test
-  abbrev pub passes : (Local → Bool) → Name → Bool
-  passes test n = option_map_or (λ t. test t.local) (fin.get s.threads n) false
-
+  -- the thread of a name has done more instructions than it may
   abbrev pub has_many_steps : Name → Bool
-  has_many_steps n = passes (λ t. nat_lt (limit_of Steps) t.steps) n
-
-  abbrev pub has_exited : Name → Bool
-  has_exited n = passes (λ t. t.has_exited) n
+  has_many_steps n = option_map_or (λ t. nat_lt (limit_of Steps) t.local.steps) (fin.get s.threads n) false
 
   -- more creates than may lead from main to some thread
   abbrev pub some_is_deep : Bool
@@ -34,9 +29,6 @@ module _ {B : Type 0} (s : State B) where
 
   abbrev pub some_has_many_steps : Bool
   some_has_many_steps = list_any has_many_steps (fin.keys s.threads)
-
-  abbrev pub all_have_exited : Bool
-  all_have_exited = list_all has_exited (fin.keys s.threads)
 
   -- after a move: the first test that stands
   abbrev pub end_at : Option End
@@ -49,4 +41,4 @@ module _ {B : Type 0} (s : State B) where
 
   -- where no move is enabled
   abbrev pub end_without_moves : End
-  end_without_moves = if all_have_exited then Finished else Deadlock
+  end_without_moves = if all_have_exited s then Finished else Deadlock

@@ -1,5 +1,5 @@
 -- Logs of states.
-use Rattle.std.specs.Prelude.{◌≡◌, None, Bool, ◌&&◌, nat_le, length}
+use Rattle.std.specs.Prelude.{◌≡◌, ℕ, None, Bool, ◌&&◌, nat_le, length}
 use Rattle.std.specs.List.{list_all}
 use Rattle.tc_base.specs.declared.limits.TheConstants.{THREADS, DEPTH}
 use Rattle.tc_base.specs.Names.{Name}
@@ -9,7 +9,7 @@ use Rattle.tc_base.specs.declared.model.Model.{Model}
 use Rattle.tc_code.specs.Run.{path_in}
 use Rattle.path_log.specs.Texts.{StoredLog}
 
--- the log has the thread that failed and the path of each thread, and it names no program
+-- the log has the thread that failed, if one did, and the path of each thread, and it names no program
 pub record IsLogOf {B : Type 0} (under : Model) (s : State B) (stored : StoredLog) : Type 0 where
   pub digest : stored.digest ≡ None
   pub model : stored.log.model ≡ under
@@ -19,3 +19,7 @@ pub record IsLogOf {B : Type 0} (under : Model) (s : State B) (stored : StoredLo
 -- the log has at most so many threads as a run may have, to none of which more creates lead than may
 abbrev pub is_small : Log → Bool
 is_small log = nat_le (length log.threads) THREADS && list_all (λ t. nat_le (length t.name) DEPTH) log.threads
+
+-- the most bytes that the text of such a log has: 39 of the head, two counts, and 131,084 of each thread
+abbrev pub most_log_bytes : ℕ
+most_log_bytes = 2097385

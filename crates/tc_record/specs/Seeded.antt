@@ -59,7 +59,7 @@ module _ {B : Type 0} (ops : BufferOps B) (code : Code) where
 abbrev pub IsAnswer : {B : Type 0} → Model → Ended B → Result Seeded SeededFault → Type 0
 IsAnswer model run (Ok (Failed log moves)) = (run.end ≡ end.Failed) × (moves.items ≡ run.moves) × IsLogOf model run.state log
 IsAnswer model run (Ok (Finished moves)) = (run.end ≡ end.Finished) × (moves.items ≡ run.moves)
-IsAnswer model run (Ok (Deadlock moves)) = (run.end ≡ end.Deadlock) × (moves.items ≡ run.moves)
+IsAnswer model run (Ok (Deadlock log moves)) = (run.end ≡ end.Deadlock) × (moves.items ≡ run.moves) × IsLogOf model run.state log
 IsAnswer model run (Ok (StepLimit moves)) = (run.end ≡ end.StepLimit) × (moves.items ≡ run.moves)
 IsAnswer model run (Err (Limit which found most)) = (run.end ≡ end.Over which) × (found ≡ limit_of which + 1) × (most ≡ limit_of which)
 IsAnswer model run (Err Memory) = Unit {0}
@@ -69,16 +69,18 @@ abbrev pub IsRecordOf : {B : Type 0} → Model → Code → Ended B → Result R
 IsRecordOf model code run (Ok (recorded.Failed log moves line)) =
     (run.end ≡ end.Failed) × (moves.items ≡ run.moves) × IsLogOf model run.state log × (failing_line code run.state ≡ Some line)
 IsRecordOf model code run (Ok (recorded.Finished moves)) = (run.end ≡ end.Finished) × (moves.items ≡ run.moves)
-IsRecordOf model code run (Ok (recorded.Deadlock moves)) = (run.end ≡ end.Deadlock) × (moves.items ≡ run.moves)
+IsRecordOf model code run (Ok (recorded.Deadlock log moves)) = (run.end ≡ end.Deadlock) × (moves.items ≡ run.moves) × IsLogOf model run.state log
 IsRecordOf model code run (Ok (recorded.StepLimit moves)) = (run.end ≡ end.StepLimit) × (moves.items ≡ run.moves)
 IsRecordOf model code run (Err (Limit which found most)) = (run.end ≡ end.Over which) × (found ≡ limit_of which + 1) × (most ≡ limit_of which)
 IsRecordOf model code run (Err Memory) = Unit {0}
 
--- a fact of the log and the moves of a run that failed
-abbrev pub IfFailed : Result Seeded SeededFault → (StoredLog → List Move → Type 0) → Type 0
-IfFailed (Ok (Failed log moves)) P = P log moves.items
-IfFailed _ P = Unit {0}
+-- a fact of the log and the moves of a run that has a log: it failed, or came to a deadlock
+abbrev pub IfLogged : Result Seeded SeededFault → (StoredLog → List Move → Type 0) → Type 0
+IfLogged (Ok (Failed log moves)) P = P log moves.items
+IfLogged (Ok (Deadlock log moves)) P = P log moves.items
+IfLogged _ P = Unit {0}
 
 abbrev pub IfRecorded : Result Recorded SeededFault → (StoredLog → List Move → Type 0) → Type 0
 IfRecorded (Ok (recorded.Failed log moves line)) P = P log moves.items
+IfRecorded (Ok (recorded.Deadlock log moves)) P = P log moves.items
 IfRecorded _ P = Unit {0}

@@ -4,7 +4,6 @@ ghost use Rattle.tc_record.specs.Ends as ends;
 ghost use Rattle.tc_record.specs.Ends.{limit_of};
 
 use store_buffers::MemoryModel;
-use tc_base::ThreadName;
 use tc_base::limits::{DEPTH, STEPS, THREADS};
 use tc_machine::State;
 
@@ -88,23 +87,9 @@ fn some_has_many_steps<M: MemoryModel>(state: &State<M>) -> bool
 pub(crate) fn end_without_moves<M: MemoryModel>(state: &State<M>) -> End
     ensures { result ≡ ends.end_without_moves state.now }
 {
-    if all_have_exited(state) {
+    if state.all_have_exited() {
         End::Finished
     } else {
         End::Deadlock
     }
-}
-
-/// Whether every thread has exited.
-fn all_have_exited<M: MemoryModel>(state: &State<M>) -> bool
-    ensures { result ≡ ends.all_have_exited state.now }
-{
-    let names = state.threads().as_slice();
-    names.iter().all(|name| has_exited(state, name))
-}
-
-fn has_exited<M: MemoryModel>(state: &State<M>, name: &ThreadName) -> bool
-    ensures { result ≡ ends.has_exited state.now name.now }
-{
-    state.has_exited(name).unwrap_or(false)
 }

@@ -1,31 +1,32 @@
-//! The log of a run that failed.
-ghost use Rattle.std.specs.Prelude.{◌≡◌, IfOk, Some, None, false, map, slice_get};
+//! The log of a run that failed or came to a deadlock.
+ghost use Rattle.std.specs.Prelude.{◌≡◌, IfOk, IsSome, IfSome, IsTrue, Some, false, map, slice_get};
 ghost use Rattle.std.specs.FinMap as fin;
-ghost use Rattle.tc_record.specs.Ends.{end_at, has_many_steps};
+ghost use Rattle.path_log.specs.Texts.{is_log};
+ghost use Rattle.tc_record.specs.Ends.{has_many_steps};
 ghost use Rattle.tc_record.specs.Logged.{IsLogOf};
-ghost use Rattle.tc_record.specs.declared.end.End.TheVariants as end;
-ghost use Rattle.tc_record.specs.helpers.Paths.{named_path, FailsThere};
+ghost use Rattle.tc_record.specs.helpers.Paths.{named_path, EndsBy, HasThreads, IsWithin};
 
 use path_log::{Log, ThreadPath};
 use std::alloc::{AllocError, Global};
 use store_buffers::MemoryModel;
-use tc_base::ThreadName;
+use tc_base::{Failing, ThreadName};
 use tc_machine::State;
 
-/// The log of a state in which a thread has failed.
+/// The log of the state at which a run ended: a thread has failed, or nothing can go on.
 pub(crate) fn log_of<M: MemoryModel>(alloc: Global, state: &State<M>) -> Result<Log, AllocError>
-    requires within { end_at state.now ≡ Some end.Failed }
-    requires there { FailsThere state.now }
+    requires within { IsWithin state.now }
+    requires there { HasThreads state.now }
     ensures log { IfOk result (λ log. IsLogOf M.MODEL state.now log) }
+    ensures is_log { IfOk result (λ log. IsTrue (is_log log.log)) }
     ensures threads { IfOk result (λ log. log.log.threads ≡ map (named_path state.now) (fin.keys state.now.threads)) }
 {
     let threads = paths(alloc, state)?;
-    Ok(Log::new(None, M::MODEL, failing_index(state), threads))
+    Ok(Log::new(None, M::MODEL, ending(state), threads))
 }
 
 /// The path of each thread.
 fn paths<M: MemoryModel>(alloc: Global, state: &State<M>) -> Result<Vec<ThreadPath>, AllocError>
-    requires within { end_at state.now ≡ Some end.Failed }
+    requires within { IsWithin state.now }
     ensures { IfOk result (λ paths. paths.items ≡ map (named_path state.now) (fin.keys state.now.threads)) }
 {
     let mut paths = Vec::new(alloc);
@@ -52,16 +53,24 @@ fn path_of<M: MemoryModel>(
     Ok(ThreadPath::new(name.clone()?, steps as u16, outcomes))
 }
 
-/// The place of the thread that has failed, in the order of the names.
-fn failing_index<M: MemoryModel>(state: &State<M>) -> usize
-    requires { FailsThere state.now }
-    ensures { slice_get (fin.keys state.now.threads) result ≡ state.now.failed }
+/// How the run ended.
+fn ending<M: MemoryModel>(state: &State<M>) -> Failing
+    requires { IfSome state.now.failed (λ n. IsSome (fin.get state.now.threads n)) }
+    ensures { EndsBy state.now result }
 {
-    let Some(failed) = state.failed() else {
-        unreachable!()
-    };
+    match state.failed() {
+        Some(name) => Failing::Thread(index_of(state, name)),
+        None => Failing::Deadlock,
+    }
+}
+
+/// The place of a thread, in the order of the names.
+fn index_of<M: MemoryModel>(state: &State<M>, thread: &ThreadName) -> usize
+    requires { IsSome (fin.get state.now.threads thread.now) }
+    ensures { slice_get (fin.keys state.now.threads) result ≡ Some thread.now }
+{
     for (index, name) in state.threads().as_slice().iter().enumerate() {
-        if name == failed {
+        if name == thread {
             return index;
         }
     }

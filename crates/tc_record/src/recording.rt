@@ -1,14 +1,15 @@
 //! Making a seeded run.
-ghost use Rattle.std.specs.Prelude.{◌≡◌, ◌≤◌, ◌<◌, ◌+◌, ◌^◌, length, IfOk, Some, IsTrue};
+ghost use Rattle.std.specs.Prelude.{◌≡◌, ◌≤◌, ◌<◌, ◌+◌, ◌^◌, length, IfOk, Some, None, IsNone, IsTrue};
+ghost use Rattle.tc_base.specs.declared.moves.Move.{Move as AnyMove};
 ghost use Rattle.tc_code.specs.Run.{IsReached, Reproduces, run};
+ghost use Rattle.tc_code.specs.Step as plain;
 ghost use Rattle.path_log.specs.Texts.{is_of_format};
 ghost use Rattle.path_walk.specs.Fits.{Fits};
-ghost use Rattle.tc_record.specs.Ends as ends;
 ghost use Rattle.tc_record.specs.Logged.{is_small};
 ghost use Rattle.tc_record.specs.Seeded as spec;
-ghost use Rattle.tc_record.specs.Seeded.{seeded_run, IsAnswer, IfFailed, IsRecordOf, IfRecorded};
+ghost use Rattle.tc_record.specs.Seeded.{seeded_run, IsAnswer, IfLogged, IsRecordOf, IfRecorded};
 ghost use Rattle.tc_record.specs.helpers.Recorded.{without_line};
-ghost use Rattle.tc_record.specs.helpers.Turns.{IsTurn};
+ghost use Rattle.tc_record.specs.helpers.Turns.{IsTurn, IsEndAt};
 
 use crate::end::{End, end_at, end_without_moves};
 use crate::failing::line_of;
@@ -34,13 +35,13 @@ pub fn run_seeded<M: MemoryModel>(
     steps: u32,
 ) -> Result<Seeded, SeededFault>
     ensures answer { IsAnswer M.MODEL (seeded_run M.ops code.now seed steps) result }
-    // The log of a run that fails is reproduced by the moves that were made, and it has a text.
-    ensures reproduced { IfFailed result (λ stored moves. Reproduces M.ops code.now stored.log moves) }
-    ensures of_format { IfFailed result (λ stored moves. IsTrue (is_of_format stored.log)) }
+    // The log of a run that fails or comes to a deadlock is reproduced by the moves that were made, and a text has room for it.
+    ensures reproduced { IfLogged result (λ stored moves. Reproduces M.ops code.now stored.log moves) }
+    ensures of_format { IfLogged result (λ stored moves. IsTrue (is_of_format stored.log)) }
     // It is within the limits of recorded runs.
-    ensures small { IfFailed result (λ stored moves. IsTrue (is_small stored.log)) }
+    ensures small { IfLogged result (λ stored moves. IsTrue (is_small stored.log)) }
     // It fits the code.
-    ensures fits { IfFailed result (λ stored moves. Fits code.now stored.log) }
+    ensures fits { IfLogged result (λ stored moves. Fits code.now stored.log) }
 {
     drop_line(record_run::<M>(alloc, code, seed, steps))
 }
@@ -52,7 +53,7 @@ fn drop_line(recorded: Result<Recorded, SeededFault>) -> Result<Seeded, SeededFa
     match recorded {
         Ok(Recorded::Failed(log, moves, _)) => Ok(Seeded::Failed(log, moves)),
         Ok(Recorded::Finished(moves)) => Ok(Seeded::Finished(moves)),
-        Ok(Recorded::Deadlock(moves)) => Ok(Seeded::Deadlock(moves)),
+        Ok(Recorded::Deadlock(log, moves)) => Ok(Seeded::Deadlock(log, moves)),
         Ok(Recorded::StepLimit(moves)) => Ok(Seeded::StepLimit(moves)),
         Err(fault) => Err(fault),
     }
@@ -66,7 +67,7 @@ pub fn record_run<M: MemoryModel>(
     steps: u32,
 ) -> Result<Recorded, SeededFault>
     ensures answer { IsRecordOf M.MODEL code.now (seeded_run M.ops code.now seed steps) result }
-    // The log of a run that fails is reproduced by the moves that were made, and it has a text.
+    // The log of a run that fails or comes to a deadlock is reproduced by the moves that were made, and a text has room for it.
     ensures reproduced { IfRecorded result (λ stored moves. Reproduces M.ops code.now stored.log moves) }
     ensures of_format { IfRecorded result (λ stored moves. IsTrue (is_of_format stored.log)) }
     // It is within the limits of recorded runs.
@@ -98,10 +99,11 @@ fn turn<M: MemoryModel>(
 ) -> Result<Option<End>, AllocError>
     requires leads { run M.ops code.now made.old.items ≡ Some state.old }
     requires few { length made.old.items + 1 < 2 ^ 32 }
+    requires going { IsEndAt M.ops code.now state.old None }
     ensures turn { IfOk result (λ end. IsTurn M.ops code.now state.old state.new made.old.items made.new.items word end) }
     ensures leads { IfOk result (λ _. run M.ops code.now made.new.items ≡ Some state.new) }
     ensures counted { IfOk result (λ _. length made.new.items ≤ length made.old.items + 1) }
-    ensures failed { IfOk result (λ end. end ≡ Some End.Failed → ends.end_at state.new ≡ Some End.Failed) }
+    ensures ends { IfOk result (IsEndAt M.ops code.now state.new) }
 {
     let Some(m) = chosen(alloc, code, state, word)? else {
         return Ok(Some(end_without_moves(state)));
@@ -119,7 +121,8 @@ fn chosen<M: MemoryModel>(
     word: u64,
 ) -> Result<Option<Move>, AllocError>
     requires reached { IsReached M.ops code.now state.now }
-    ensures { IfOk result (λ m. m ≡ spec.chosen M.ops code.now state.now word) }
+    ensures chosen { IfOk result (λ m. m ≡ spec.chosen M.ops code.now state.now word) }
+    ensures still { IfOk result (λ m. IsNone m → (any : AnyMove) → plain.step M.ops code.now state.now any ≡ None) }
 {
     let choices = choices(alloc, code, state)?;
     if choices.is_empty() {
@@ -138,7 +141,7 @@ fn answer<M: MemoryModel>(
     end: End,
 ) -> Result<Recorded, SeededFault>
     requires leads { run M.ops code.now made.items ≡ Some state.now }
-    requires failed { end ≡ End.Failed → ends.end_at state.now ≡ Some End.Failed }
+    requires ends { IsEndAt M.ops code.now state.now (Some end) }
     ensures answer { IsRecordOf M.MODEL code.now (record { moves = made.items; state = state.now; end = end }) result }
     ensures reproduced { IfRecorded result (λ stored moves. Reproduces M.ops code.now stored.log moves) }
     ensures of_format { IfRecorded result (λ stored moves. IsTrue (is_of_format stored.log)) }
@@ -148,7 +151,7 @@ fn answer<M: MemoryModel>(
         End::Over(which) => Err(SeededFault::Limit(which, which.limit() + 1, which.limit())),
         End::Failed => Ok(Recorded::Failed(log_of(alloc, state)?, made, line_of(code, state))),
         End::Finished => Ok(Recorded::Finished(made)),
-        End::Deadlock => Ok(Recorded::Deadlock(made)),
+        End::Deadlock => Ok(Recorded::Deadlock(log_of(alloc, state)?, made)),
         End::StepLimit => Ok(Recorded::StepLimit(made)),
     }
 }

@@ -14,8 +14,8 @@ pub enum Seeded {
     Failed(Log, Vec<Move>),
     /// Every thread exited.
     Finished(Vec<Move>),
-    /// No move was enabled, and not every thread had exited.
-    Deadlock(Vec<Move>),
+    /// No move was enabled, and not every thread had exited. The log, which the moves reproduce, has no digest.
+    Deadlock(Log, Vec<Move>),
     /// It made as many moves as it might.
     StepLimit(Vec<Move>),
 }
@@ -27,8 +27,8 @@ pub enum Recorded {
     Failed(Log, Vec<Move>, u32),
     /// Every thread exited.
     Finished(Vec<Move>),
-    /// No move was enabled, and not every thread had exited.
-    Deadlock(Vec<Move>),
+    /// No move was enabled, and not every thread had exited. The log, which the moves reproduce, has no digest.
+    Deadlock(Log, Vec<Move>),
     /// It made as many moves as it might.
     StepLimit(Vec<Move>),
 }

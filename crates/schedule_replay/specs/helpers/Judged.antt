@@ -7,8 +7,10 @@ use Rattle.std.specs.declared.cmp.Ordering.TheVariants.{Less, Equal, Greater}
 use Rattle.tc_base.specs.Names.{Name, by_name}
 use Rattle.tc_base.specs.States.{State}
 use Rattle.tc_base.specs.Logs.{Path, ThreadPath, Log}
-use Rattle.tc_code.specs.Run.{path_in}
-use Rattle.schedule_replay.specs.Verdicts.{FailsAsLogged, GoesAsLogged, IsFirstToDiffer, IsVerdictAt}
+use Rattle.tc_base.specs.Buffers.{BufferOps}
+use Rattle.tc_code.specs.Code.{Code}
+use Rattle.tc_code.specs.Run.{path_in, EndsAs}
+use Rattle.schedule_replay.specs.Verdicts.{GoesAsLogged, IsFirstToDiffer, IsVerdictAt}
 use Rattle.schedule_replay.specs.declared.verdict.Verdict.{Verdict}
 use Rattle.schedule_replay.specs.declared.verdict.Verdict.TheVariants as verdict
 
@@ -22,12 +24,21 @@ by_order Less x y z = x
 by_order Equal x y z = y
 by_order Greater x y z = z
 
-module _ {B : Type 0} where
-  -- the verdict on a state
-  abbrev pub IsJudged : State B → Log → Verdict → Type 0
-  IsJudged s log verdict.Reproduces = FailsAsLogged s log × ((n : Name) → GoesAsLogged s log n)
-  IsJudged s log v = IsVerdictAt s log v
+module _ {B : Type 0} (ops : BufferOps B) (code : Code) (s : State B) (log : Log) where
+  abbrev pub EndsAsLogged : Type 0
+  EndsAsLogged = EndsAs ops code log.failing log.threads s
 
+  -- the verdict on a state
+  abbrev pub IsJudged : Verdict → Type 0
+  IsJudged verdict.Reproduces = EndsAsLogged × ((n : Name) → GoesAsLogged s log n)
+  IsJudged v = IsVerdictAt ops code s log v
+
+  -- the verdict where the run ends in another way than the log says, and none where it ends so
+  abbrev pub IsOtherEnd : Option Verdict → Type 0
+  IsOtherEnd None = EndsAsLogged
+  IsOtherEnd (Some v) = IsVerdictAt ops code s log v
+
+module _ {B : Type 0} where
   -- the least name whose path differs, if one does
   abbrev pub IsFirstOther : State B → Log → Option Name → Type 0
   IsFirstOther s log None = (n : Name) → GoesAsLogged s log n

@@ -1,11 +1,15 @@
--- The paths of the threads of a state.
-use Rattle.std.specs.Prelude.{[], IsSome, IsSomeAnd}
+-- The paths of the threads of a state, and what is known of these where a log is made.
+use Rattle.std.specs.Prelude.{◌≡◌, ◌<◌, [], false, nat_lt, length, slice_get, None, IsSome, IfSome}
 use Rattle.std.specs.Option.{option_map_or}
 use Rattle.std.specs.FinMap as fin
 use Rattle.tc_base.specs.Names.{Name}
 use Rattle.tc_base.specs.States.{State}
 use Rattle.tc_base.specs.Logs.{Path, ThreadPath}
+use Rattle.tc_base.specs.declared.failing.Failing.{Failing}
+use Rattle.tc_base.specs.declared.failing.Failing.TheVariants.{Thread, Deadlock}
 use Rattle.tc_code.specs.Run.{path_of}
+use Rattle.tc_record.specs.Ends.{limit_of, some_is_deep, some_has_many_steps}
+use Rattle.tc_record.specs.declared.end.Which.TheVariants.{Threads}
 
 module _ {B : Type 0} (s : State B) where
   -- the path of the thread of a name, and one of no step where there is none
@@ -16,6 +20,18 @@ module _ {B : Type 0} (s : State B) where
   abbrev pub named_path : Name → ThreadPath
   named_path n = record { name = n; path = path_at n }
 
-  -- a thread that is there has failed
-  abbrev pub FailsThere : Type 0
-  FailsThere = IsSomeAnd s.failed (λ n. IsSome (fin.get s.threads n))
+  -- the state is within each limit
+  pub record IsWithin : Type 0 where
+    pub threads : nat_lt (limit_of Threads) (length (fin.keys s.threads)) ≡ false
+    pub depth : some_is_deep s ≡ false
+    pub steps : some_has_many_steps s ≡ false
+
+  -- some thread is there, and so is the one that has failed, if one has
+  pub record HasThreads : Type 0 where
+    pub some : 0 < length (fin.keys s.threads)
+    pub failed : IfSome s.failed (λ n. IsSome (fin.get s.threads n))
+
+  -- the thread that has this place among all has failed, or none has
+  abbrev pub EndsBy : Failing → Type 0
+  EndsBy (Thread k) = IsSome s.failed × (slice_get (fin.keys s.threads) k ≡ s.failed)
+  EndsBy Deadlock = s.failed ≡ None

@@ -9,6 +9,6 @@ use Rattle.tc_record.specs.declared.seeded.SeededFault.{SeededFault}
 abbrev pub without_line : Result Recorded SeededFault → Result Seeded SeededFault
 without_line (Ok (recorded.Failed log moves line)) = Ok (Failed log moves)
 without_line (Ok (recorded.Finished moves)) = Ok (Finished moves)
-without_line (Ok (recorded.Deadlock moves)) = Ok (Deadlock moves)
+without_line (Ok (recorded.Deadlock log moves)) = Ok (Deadlock log moves)
 without_line (Ok (recorded.StepLimit moves)) = Ok (StepLimit moves)
 without_line (Err fault) = Err fault

@@ -1,14 +1,24 @@
--- A turn of a seeded run.
-use Rattle.std.specs.Prelude.{◌≡◌, ℕ, List, ◌∷◌, Option}
+-- A turn of a seeded run, and what ends it.
+use Rattle.std.specs.Prelude.{◌≡◌, ℕ, List, ◌∷◌, Option, Some, None, IsSome}
 use Rattle.std.specs.Option.{option_map_or}
 use Rattle.tc_base.specs.Buffers.{BufferOps}
 use Rattle.tc_base.specs.States.{State}
 use Rattle.tc_base.specs.declared.moves.Move.{Move}
 use Rattle.tc_code.specs.Code.{Code}
+use Rattle.tc_code.specs.Run.{IsStuck}
 use Rattle.tc_record.specs.declared.end.End.{End}
+use Rattle.tc_record.specs.declared.end.End.TheVariants as end
 use Rattle.tc_record.specs.Seeded.{ended, behind, seeded_from}
+use Rattle.tc_record.specs.helpers.Paths.{IsWithin}
 
 module _ {B : Type 0} (ops : BufferOps B) (code : Code) where
+  -- what is known of the state at which a run ends so, or from which it goes on
+  abbrev pub IsEndAt : State B → Option End → Type 0
+  IsEndAt s None = IsWithin s × (s.failed ≡ None)
+  IsEndAt s (Some end.Failed) = IsWithin s × IsSome s.failed
+  IsEndAt s (Some end.Deadlock) = IsWithin s × IsStuck ops code s
+  IsEndAt s _ = Unit {0}
+
   -- After a turn with a word the run that it began ends so, or goes on so, whatever words follow.
   abbrev pub IsTurn : (s u : State B) (before after : List Move) → ℕ → Option End → Type 0
   IsTurn s u before after word end = (words : List ℕ) → behind before (seeded_from ops code s (word ∷ words))

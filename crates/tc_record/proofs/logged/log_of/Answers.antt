@@ -1,14 +1,12 @@
 use Rattle.std.proofs.Common.{rules}
-use Rattle.tc_record.proofs.Ends.{within}
 use Rattle.tc_record.proofs.Paths.{is_log_there, log_there}
 use Rattle.tc_record.proofs.logged.log_of.Goals as goal
 
 pub new-requires : goal.new-requires
 new-requires g c =
-    is_log_there c.args.state.now c.MODEL.result c.failing_index.result c.in_ok-threads.threads.items (within c.args.state.now c.requires.within).failed
-    c.failing_index.ensures c.in_ok-threads.ensures
+    is_log_there c.args.state.now c.MODEL.result c.ending.result c.in_ok-threads.threads.items c.requires.there c.ending.ensures c.in_ok-threads.ensures
 
 pub returns-clause-log : goal.returns-clause-log
 returns-clause-log g c =
-    log_there c.args.state.now g.M.MemoryModel.MODEL _ c.MODEL.result c.failing_index.result c.in_ok-threads.threads.items c.new.ensures (search rules)
-    c.failing_index.ensures c.in_ok-threads.ensures
+    log_there c.args.state.now g.M.MemoryModel.MODEL _ c.MODEL.result c.ending.result c.in_ok-threads.threads.items c.new.ensures (search rules)
+    c.ending.ensures c.in_ok-threads.ensures

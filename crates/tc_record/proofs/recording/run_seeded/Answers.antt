@@ -3,7 +3,7 @@ use Rattle.path_log.specs.Texts.{is_of_format}
 use Rattle.path_walk.specs.Fits.{Fits}
 use Rattle.tc_code.specs.Run.{Reproduces}
 use Rattle.tc_record.specs.Logged.{is_small}
-use Rattle.tc_record.specs.Seeded.{seeded_run, IsAnswer, IfFailed}
+use Rattle.tc_record.specs.Seeded.{seeded_run, IsAnswer, IfLogged}
 use Rattle.tc_record.proofs.Fitting.{answer_stands, fact_stands}
 use Rattle.tc_record.proofs.recording.run_seeded.Goals as goal
 
@@ -15,20 +15,20 @@ returns-clause-answer g c =
 
 pub returns-clause-reproduced : goal.returns-clause-reproduced
 returns-clause-reproduced g c =
-    subst (λ r. IfFailed r (λ stored moves. Reproduces g.M.MemoryModel.ops c.args.code.now stored.log moves)) (sym c.drop_line.ensures)
+    subst (λ r. IfLogged r (λ stored moves. Reproduces g.M.MemoryModel.ops c.args.code.now stored.log moves)) (sym c.drop_line.ensures)
     (fact_stands _ c.record_run.result c.record_run.ensures.reproduced)
 
 pub returns-clause-of_format : goal.returns-clause-of_format
 returns-clause-of_format g c =
-    subst (λ r. IfFailed r (λ stored moves. IsTrue (is_of_format stored.log))) (sym c.drop_line.ensures)
+    subst (λ r. IfLogged r (λ stored moves. IsTrue (is_of_format stored.log))) (sym c.drop_line.ensures)
     (fact_stands _ c.record_run.result c.record_run.ensures.of_format)
 
 pub returns-clause-small : goal.returns-clause-small
 returns-clause-small g c =
-    subst (λ r. IfFailed r (λ stored moves. IsTrue (is_small stored.log))) (sym c.drop_line.ensures)
+    subst (λ r. IfLogged r (λ stored moves. IsTrue (is_small stored.log))) (sym c.drop_line.ensures)
     (fact_stands _ c.record_run.result c.record_run.ensures.small)
 
 pub returns-clause-fits : goal.returns-clause-fits
 returns-clause-fits g c =
-    subst (λ r. IfFailed r (λ stored moves. Fits c.args.code.now stored.log)) (sym c.drop_line.ensures)
+    subst (λ r. IfLogged r (λ stored moves. Fits c.args.code.now stored.log)) (sym c.drop_line.ensures)
     (fact_stands _ c.record_run.result c.record_run.ensures.fits)
