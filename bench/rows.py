@@ -1,5 +1,5 @@
 #!/usr/bin/env python3
-"""Writes a clause list as a row of test_parts: of a DIMACS file, pigeons COUNT, or random VARIABLES SEED.
+"""Writes a clause list as a row of test_solver: of a DIMACS file, pigeons COUNT, or random VARIABLES SEED.
 
     bench/rows.py bench/clauses/lock3.sc.cnf.gz > row
     bench/rows.py random 200 0 --dimacs > list.cnf

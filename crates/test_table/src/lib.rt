@@ -1,9 +1,10 @@
 //! Tables of rows, as they are read from standard input.
 //!
 //! Module `calls` says how a table of calls of the program is written, module `parts` how one of parts of it is, and
-//! module `text` how both write bytes.
+//! module `text` how both write bytes. Module `answers` tells many answers of one row.
 #![tactic(auto)]
 
+pub mod answers;
 pub mod calls;
 pub mod parts;
 pub mod text;

@@ -1,0 +1,99 @@
+//! Arithmetic, names and the generator of seeded runs.
+use anyhow::{Context, Result, bail};
+use rand_core::{Rng, SeedableRng};
+use rand_xoshiro::SplitMix64;
+use std::alloc::Global;
+use std::fmt::Write;
+use tc_base::arith::{binary, unary};
+use tc_base::{BinOp, ThreadName, UnOp};
+
+/// The operator over one value that is written so.
+pub(crate) fn unary_of(sign: &str) -> Result<UnOp> {
+    Ok(match sign {
+        "-" => UnOp::Neg,
+        "!" => UnOp::Not,
+        "~" => UnOp::Inv,
+        _ => bail!("no operator over one value"),
+    })
+}
+
+/// The operator over two values that is written so.
+pub(crate) fn binary_of(sign: &str) -> Result<BinOp> {
+    Ok(match sign {
+        "+" => BinOp::Add,
+        "-" => BinOp::Sub,
+        "*" => BinOp::Mul,
+        "/" => BinOp::Div,
+        "%" => BinOp::Rem,
+        "&" => BinOp::And,
+        "|" => BinOp::Or,
+        "^" => BinOp::Xor,
+        "<<" => BinOp::Shl,
+        ">>" => BinOp::Shr,
+        "==" => BinOp::Eq,
+        "!=" => BinOp::Ne,
+        "<" => BinOp::Lt,
+        "<=" => BinOp::Le,
+        ">" => BinOp::Gt,
+        ">=" => BinOp::Ge,
+        _ => bail!("no operator over two values"),
+    })
+}
+
+/// The value of an operator over numbers.
+pub(crate) fn arith(alloc: Global, given: &str) -> Result<String> {
+    let mut words = given.split(' ');
+    let value = match (words.next(), words.next(), words.next()) {
+        (Some(sign), Some(a), None) => unary(unary_of(sign)?, a.parse()?),
+        (Some(a), Some(sign), Some(b)) => binary(binary_of(sign)?, a.parse()?, b.parse()?),
+        _ => bail!("no operator with its numbers"),
+    };
+    Ok(format!(in alloc; "{value}")?)
+}
+
+/// The name that these numbers of children lead to.
+fn name_of(alloc: Global, children: &str) -> Result<ThreadName> {
+    let mut name = ThreadName::main(alloc);
+    for word in children.split_whitespace() {
+        let child = word.parse::<u32>()?;
+        if child == 0 {
+            bail!("children are numbered from 1");
+        }
+        name = name.child(child)?;
+    }
+    Ok(name)
+}
+
+/// How a copy of a name is printed.
+pub(crate) fn name(alloc: Global, given: &str) -> Result<String> {
+    let copy = name_of(alloc, given)?.clone()?;
+    let mut children = String::new(alloc);
+    for child in copy.children() {
+        write!(children, " {child}")?;
+    }
+    if children.trim() != given {
+        bail!("other children");
+    }
+    Ok(format!(in alloc; "{copy}")?)
+}
+
+/// How two names are ordered.
+pub(crate) fn order(alloc: Global, given: &str) -> Result<String> {
+    let (a, b) = given.split_once(':').context("one name")?;
+    let (a, b) = (name_of(alloc, a)?, name_of(alloc, b)?);
+    let order = a.partial_cmp(&b).context("no order")?;
+    if order.is_eq() != (a == b) {
+        bail!("equal by one, and not by the other");
+    }
+    Ok(format!(in alloc; "{order:?}")?)
+}
+
+/// The first words of the generator.
+pub(crate) fn seeded(alloc: Global, given: &str) -> Result<String> {
+    let mut rng = SplitMix64::seed_from_u64(given.parse()?);
+    let mut words = String::new(alloc);
+    for _ in 0..5 {
+        write!(words, "{:016x} ", rng.next_u64())?;
+    }
+    Ok(String::from_str(alloc, words.trim_end())?)
+}

@@ -1,0 +1,100 @@
+//! Schedules and logs.
+use anyhow::{Context, Result, bail};
+use path_log::{Log, LogFault, ThreadPath, program_digest, read_log, write_log};
+use schedule_file::{Schedule, ScheduleFault, read_schedule, write_schedule};
+use std::alloc::{AllocError, Global};
+use std::fmt::Write;
+use tc_base::Move;
+use test_table::answers::Answers;
+
+/// A move as it is written in a schedule.
+pub(crate) fn move_text(alloc: Global, m: &Move) -> Result<String, AllocError> {
+    match m {
+        Move::Run(name) => format!(in alloc; "r {name}"),
+        Move::Wake(name, waiter) => format!(in alloc; "w {name} {waiter}"),
+        Move::Drain(name, None) => format!(in alloc; "d {name}"),
+        Move::Drain(name, Some(cell)) => format!(in alloc; "d {name} {cell}"),
+    }
+}
+
+/// The model and the moves of a text, once they have been written as the text again; or its fault.
+pub(crate) fn schedule(alloc: Global, text: &[u8]) -> Result<String> {
+    let schedule = match read_schedule(alloc, text) {
+        Ok(schedule) => schedule,
+        Err(fault) => return Ok(format!(in alloc; "{fault}")?),
+    };
+    if write_schedule(alloc, &schedule)?.as_slice() != text {
+        bail!("another text was written");
+    }
+    let mut told = format!(in alloc; "{}", schedule.model)?;
+    for m in &schedule.moves {
+        write!(told, ", {}", move_text(alloc, m)?)?;
+    }
+    Ok(told)
+}
+
+/// What each beginning of a text is answered.
+pub(crate) fn cut_schedule(alloc: Global, text: &[u8]) -> Result<String> {
+    let mut answers = Answers::new(alloc);
+    for len in 0..text.len() {
+        answers.push(schedule(alloc, &text[..len])?)?;
+    }
+    answers.told(alloc)
+}
+
+/// The bytes that hex digits write, blanks between them left out.
+pub(crate) fn hex_bytes(alloc: Global, hex: &str) -> Result<Vec<u8>> {
+    let mut bytes = Vec::new(alloc);
+    for word in hex.split_whitespace() {
+        bytes.extend_from_slice(hex::decode(alloc, word.as_bytes())?.as_slice())?;
+    }
+    Ok(bytes)
+}
+
+/// The log of a text, once it was written as the text again.
+fn log_of(alloc: Global, text: &[u8]) -> Result<Result<Log, LogFault>> {
+    let log = match read_log(alloc, text) {
+        Ok(log) => log,
+        Err(fault) => return Ok(Err(fault)),
+    };
+    if write_log(alloc, &log)?.as_slice() != text {
+        bail!("another text was written");
+    }
+    Ok(Ok(log))
+}
+
+/// How many threads a log has, or its fault.
+pub(crate) fn log(alloc: Global, hex: &str) -> Result<String> {
+    match log_of(alloc, hex_bytes(alloc, hex)?.as_slice())? {
+        Ok(log) => Ok(format!(in alloc; "{} threads", log.threads().len())?),
+        Err(fault) => Ok(format!(in alloc; "{fault}")?),
+    }
+}
+
+/// The parts of a log.
+pub(crate) fn paths(alloc: Global, hex: &str) -> Result<String> {
+    let log = log_of(alloc, hex_bytes(alloc, hex)?.as_slice())??;
+    let mut text = format!(in alloc; "{}", log.model())?;
+    if let Some(digest) = log.digest() {
+        write!(text, " {:02x}..{:02x}", digest[0], digest[31])?;
+    }
+    write!(text, ", {} fails", log.failing_name())?;
+    for path in log.threads() {
+        text.push_str(path_text(alloc, path)?.as_str())?;
+    }
+    Ok(text)
+}
+
+/// The steps of a thread and its outcomes.
+fn path_text(alloc: Global, path: &ThreadPath) -> Result<String, AllocError> {
+    let mut text = format!(in alloc; "; {} after {}", path.name(), path.steps())?;
+    for outcome in path.outcomes() {
+        text.push_str(if *outcome { " 1" } else { " 0" })?;
+    }
+    Ok(text)
+}
+
+/// The digest of a text.
+pub(crate) fn digest(alloc: Global, text: &[u8]) -> Result<String> {
+    Ok(hex::encode(alloc, program_digest(text).as_slice())?)
+}

@@ -1,0 +1,100 @@
+//! Moves of the machine, made one after another from the start.
+ghost use Rattle.std.specs.Prelude.{◌<◌, length, IfOk};
+ghost use Rattle.tc_code.specs.Run.{IsReached};
+
+use crate::files::move_text;
+use crate::text::code_of;
+use anyhow::{Context, Result, bail};
+use schedule_file::read_schedule;
+use std::alloc::{AllocError, Global};
+use std::fmt::Write;
+use store_buffers::{MemoryModel, PsoModel, Sc, TsoModel};
+use tc_base::{Move, ThreadName};
+use tc_code::Code;
+use tc_machine::{State, Why, enabled, moves, start, step};
+
+/// What is told of the end of the moves of a row.
+pub(crate) fn moved(alloc: Global, given: &str) -> Result<String> {
+    let (head, program) = given.split_once(" : ").context("no program")?;
+    let (model, schedule) = head.split_once(' ').context("no moves")?;
+    let code = code_of(alloc, program.as_bytes())?;
+    let moves = moves_of(alloc, schedule)?;
+    match model {
+        "sc" => played::<Sc>(alloc, &code, &moves),
+        "tso" => played::<TsoModel>(alloc, &code, &moves),
+        "pso" => played::<PsoModel>(alloc, &code, &moves),
+        _ => bail!("no such model"),
+    }
+}
+
+/// The moves of a schedule, written as its model and its moves with commas between them.
+fn moves_of(alloc: Global, schedule: &str) -> Result<Vec<Move>> {
+    let mut text = String::from_str(alloc, "clap-schedule 1 ")?;
+    for line in schedule.split(',') {
+        writeln!(text, "{line}")?;
+    }
+    Ok(read_schedule(alloc, text.as_bytes())?.moves)
+}
+
+/// Where a list of moves led, and the move that wasn't enabled, by its number from 1, if there was one.
+#[derive(Drop)]
+struct End<M: MemoryModel> {
+    state: State<M>,
+    stop: Option<(usize, Why)>,
+}
+
+/// What is told of the end of these moves.
+fn played<M: MemoryModel>(alloc: Global, code: &Code, made: &[Move]) -> Result<String> {
+    if made.len() >= 100 {
+        bail!("too many moves");
+    }
+    let End { state, stop } = play::<M>(alloc, code, made)?;
+    if let Some((number, why)) = stop {
+        return Ok(format!(in alloc; "stops at move {number}: {why}")?);
+    }
+    let mut text = String::new(alloc);
+    for m in &moves(alloc, code, &state)? {
+        write!(text, "{}; ", move_text(alloc, m)?)?;
+    }
+    for name in state.threads().as_slice() {
+        text.push_str(thread_text(alloc, &state, name)?.as_str())?;
+    }
+    Ok(String::from_str(alloc, text.trim_end())?)
+}
+
+/// Makes these moves in turn, up to the first that isn't enabled.
+fn play<M: MemoryModel>(alloc: Global, code: &Code, made: &[Move]) -> Result<End<M>, AllocError>
+    requires { length made.now < 100 }
+    ensures { IfOk result (λ end. IsReached M.ops code.now end.state) }
+{
+    let mut state = start::<M>(alloc, code)?;
+    for k in 0..made.len() {
+        let m = &made[k];
+        if let Err(why) = enabled(code, &state, m) {
+            return Ok(End {
+                state,
+                stop: Some((k + 1, why)),
+            });
+        }
+        step(alloc, code, &mut state, m)?;
+    }
+    Ok(End { state, stop: None })
+}
+
+/// The name of a thread, its function and the instruction there, its steps and its outcomes.
+fn thread_text<M: MemoryModel>(
+    alloc: Global,
+    state: &State<M>,
+    name: &ThreadName,
+) -> Result<String, AllocError> {
+    let (function, place) = state.place_of(name).unwrap_or((0, 0));
+    let steps = state.steps_of(name).unwrap_or(0);
+    let mut text = format!(in alloc; "{name} at {function}.{place} after {steps}")?;
+    if let Some(outcomes) = state.outcomes_of(name) {
+        for outcome in outcomes.as_slice() {
+            text.push_str(if *outcome { " 1" } else { " 0" })?;
+        }
+    }
+    text.push_str(" ")?;
+    Ok(text)
+}

@@ -1,0 +1,226 @@
+//! Searches, whose every answer and derivation is checked.
+use crate::lists::{pigeons, random, read};
+use anyhow::{Context, Result, bail};
+use cdcl_core::{Progress, Search, Solved, solve_cnf};
+use cnf_core::{Assignment, Cnf, satisfies};
+use refute_check::{Checked, Derivation, Line, check};
+use std::alloc::{AllocError, Global};
+use std::fmt::Write;
+
+/// What a run of a search comes to.
+#[derive(Clone, Copy, PartialEq, Eq)]
+enum Came {
+    Satisfied,
+    Closed,
+    Paused(u32),
+}
+
+/// The most clauses that may be learnt.
+const MOST: u32 = 10_000_000;
+
+/// A run of a search, whose answer and derivation are checked.
+fn run(alloc: Global, cnf: &Cnf, search: &mut Search, conflicts: u32) -> Result<Came> {
+    if conflicts == 0 || conflicts > MOST - search.added() {
+        bail!("so many clauses can't be learnt");
+    }
+    let progress = search.run(alloc, conflicts)?;
+    let Ok(checked) = check(alloc, cnf, search.derivation()) else {
+        bail!("a line doesn't pass");
+    };
+    let came = match &progress {
+        Progress::Sat(values) if is_satisfied(cnf, values) => Came::Satisfied,
+        Progress::Sat(_) => bail!("a wrong assignment"),
+        Progress::Closed => Came::Closed,
+        Progress::Paused => Came::Paused(search.added()),
+    };
+    if (came == Came::Closed) != (checked == Checked::Closed) {
+        bail!("closed by one, and open by the other");
+    }
+    Ok(came)
+}
+
+/// Whether an assignment has as many values as the list has variables, and satisfies it.
+fn is_satisfied(cnf: &Cnf, assignment: &Assignment) -> bool {
+    cnf.vars() as usize == assignment.vars() && satisfies(cnf, assignment)
+}
+
+/// Whether any assignment satisfies a list over few variables.
+fn is_satisfiable(alloc: Global, cnf: &Cnf) -> Result<bool> {
+    if cnf.vars() > 12 {
+        bail!("too many variables to try all");
+    }
+    for all in 0..1u32 << cnf.vars() {
+        let mut values = Vec::new(alloc);
+        for variable in 0..cnf.vars() {
+            values.push(all >> variable & 1 == 1)?;
+        }
+        if is_satisfied(cnf, &Assignment::new(values)) {
+            return Ok(true);
+        }
+    }
+    Ok(false)
+}
+
+/// The runs of one search.
+fn all_runs(alloc: Global, cnf: &Cnf, runs: &str) -> Result<String> {
+    let mut search = Search::new(alloc, cnf)?;
+    let mut told = String::new(alloc);
+    for word in runs.split_whitespace() {
+        if !told.is_empty() {
+            told.push_str(", ")?;
+        }
+        let came = run(alloc, cnf, &mut search, word.parse::<u32>()?)?;
+        told.push_str(tell(alloc, came)?.as_str())?;
+    }
+    Ok(told)
+}
+
+fn tell(alloc: Global, came: Came) -> Result<String, AllocError> {
+    match came {
+        Came::Satisfied => String::from_str(alloc, "satisfied"),
+        Came::Closed => String::from_str(alloc, "closed"),
+        Came::Paused(added) => format!(in alloc; "paused at {added}"),
+    }
+}
+
+/// The clauses of a row, and what stands behind them.
+fn parts_of(alloc: Global, given: &str) -> Result<(Cnf, &str)> {
+    let (variables, rest) = given.split_once(" :").context("no clauses")?;
+    let (literals, rest) = rest.split_once(": ").context("nothing behind them")?;
+    Ok((read(alloc, variables.parse()?, literals)?, rest))
+}
+
+pub(crate) fn search(alloc: Global, given: &str) -> Result<String> {
+    let (cnf, runs) = parts_of(alloc, given)?;
+    all_runs(alloc, &cnf, runs)
+}
+
+pub(crate) fn pigeon_runs(alloc: Global, given: &str) -> Result<String> {
+    let (count, runs) = given.split_once(" : ").context("no runs")?;
+    all_runs(alloc, &pigeons(alloc, count.parse()?)?, runs)
+}
+
+/// How many clauses of the list are deleted, and what the checker says of the lines.
+fn lines_text(alloc: Global, cnf: &Cnf, derivation: &Derivation) -> Result<String> {
+    let mut lost = 0u32;
+    for line in derivation.lines() {
+        if let Line::Delete(numbers) = line {
+            for number in numbers.as_slice() {
+                if *number as usize <= cnf.len() {
+                    lost = lost.saturating_add(1);
+                }
+            }
+        }
+    }
+    let checked = check(alloc, cnf, derivation);
+    Ok(format!(in alloc; "{lost} clauses of the list deleted, {checked:?}")?)
+}
+
+/// How many lines add a clause.
+fn added(derivation: &Derivation) -> u32 {
+    let mut added = 0u32;
+    for line in derivation.lines() {
+        if let Line::Add(..) = line {
+            added = added.saturating_add(1);
+        }
+    }
+    added
+}
+
+/// What `solve_cnf` answers.
+fn solved(alloc: Global, cnf: &Cnf, budget: &str) -> Result<Solved> {
+    let budget = budget.parse::<u32>()?;
+    if budget == 0 || budget > MOST {
+        bail!("so many clauses can't be learnt");
+    }
+    Ok(solve_cnf(alloc, cnf, budget)?)
+}
+
+/// The values that `solve_cnf` gives, as literals that are true.
+pub(crate) fn values(alloc: Global, given: &str) -> Result<String> {
+    let (cnf, budget) = parts_of(alloc, given)?;
+    let Solved::Sat(values) = solved(alloc, &cnf, budget)? else {
+        bail!("no values");
+    };
+    let mut text = String::new(alloc);
+    for (place, value) in values.into_values().iter().enumerate() {
+        let sign = if *value { "" } else { "-" };
+        write!(text, "{sign}{} ", place + 1)?;
+    }
+    Ok(String::from_str(alloc, text.trim_end())?)
+}
+
+/// What `solve_cnf` answers: how many values, or what lines.
+pub(crate) fn solve(alloc: Global, given: &str) -> Result<String> {
+    let (cnf, budget) = parts_of(alloc, given)?;
+    match solved(alloc, &cnf, budget)? {
+        Solved::Sat(values) => {
+            let right = is_satisfied(&cnf, &values);
+            let count = values.into_values().len();
+            Ok(format!(in alloc; "satisfied {right}, {count} values")?)
+        }
+        Solved::Unsat(derivation) => {
+            let lines = lines_text(alloc, &cnf, &derivation)?;
+            Ok(format!(in alloc; "unsatisfiable, {lines}")?)
+        }
+        Solved::Spent(derivation) => {
+            let lines = lines_text(alloc, &cnf, &derivation)?;
+            Ok(format!(in alloc; "spent, {} lines added, {lines}", added(&derivation))?)
+        }
+    }
+}
+
+/// So many lists, each against every assignment: how many are satisfiable.
+pub(crate) fn random_lists(alloc: Global, given: &str) -> Result<String> {
+    let (seed, sizes) = given.split_once(' ').context("no count")?;
+    let mut seed = seed.parse::<u64>()?;
+    let [count, variables, clauses] = sizes_of(sizes)?;
+    let mut satisfied = 0u32;
+    for _ in 0..count {
+        if is_right(alloc, &random(alloc, &mut seed, variables, clauses)?)? {
+            satisfied = satisfied.saturating_add(1);
+        }
+    }
+    Ok(format!(in alloc; "{satisfied} satisfiable")?)
+}
+
+/// How many lists, variables and clauses.
+fn sizes_of(words: &str) -> Result<[u32; 3]> {
+    let (count, rest) = words.split_once(' ').context("no variables")?;
+    let (variables, clauses) = rest.split_once(' ').context("no clauses")?;
+    Ok([count.parse()?, variables.parse()?, clauses.parse()?])
+}
+
+/// Whether a list is satisfiable, once the search, in steps and at once, says the same.
+fn is_right(alloc: Global, cnf: &Cnf) -> Result<bool> {
+    let is_so = is_satisfiable(alloc, cnf)?;
+    if is_so_in_steps(alloc, cnf)? != is_so {
+        bail!("a wrong answer");
+    }
+    if is_so_at_once(alloc, cnf)? != is_so {
+        bail!("a wrong answer at once");
+    }
+    Ok(is_so)
+}
+
+/// Whether a search that learns one clause in each run finds a list satisfiable.
+fn is_so_in_steps(alloc: Global, cnf: &Cnf) -> Result<bool> {
+    let mut search = Search::new(alloc, cnf)?;
+    for _ in 0..1000 {
+        let came = run(alloc, cnf, &mut search, 1)?;
+        if came == Came::Satisfied || came == Came::Closed {
+            return Ok(came == Came::Satisfied);
+        }
+    }
+    bail!("no answer")
+}
+
+/// Whether a list is found satisfiable at once.
+fn is_so_at_once(alloc: Global, cnf: &Cnf) -> Result<bool> {
+    match &solve_cnf(alloc, cnf, 1000)? {
+        Solved::Sat(values) if is_satisfied(cnf, values) => Ok(true),
+        Solved::Sat(_) => bail!("a wrong assignment at once"),
+        Solved::Unsat(_) => Ok(false),
+        Solved::Spent(_) => bail!("no answer at once"),
+    }
+}

@@ -1,0 +1,47 @@
+//! Answers to one part after another of something long, told in short.
+use anyhow::Result;
+use std::alloc::Global;
+use std::fmt::Write;
+
+/// Answers, of which equal ones that follow one another are counted.
+#[derive(Drop)]
+pub struct Answers {
+    last: String,
+    count: u32,
+    text: String,
+}
+
+impl Answers {
+    /// None yet.
+    pub fn new(alloc: Global) -> Answers {
+        Answers {
+            last: String::new(alloc),
+            count: 0,
+            text: String::new(alloc),
+        }
+    }
+
+    /// One answer more.
+    pub fn push(&mut self, answer: String) -> Result<()> {
+        if self.count == 0 || answer != self.last {
+            self.flush()?;
+            self.last = answer;
+        }
+        self.count = self.count.saturating_add(1);
+        Ok(())
+    }
+
+    fn flush(&mut self) -> Result<()> {
+        if self.count > 0 {
+            write!(self.text, "{} x {}; ", self.count, self.last)?;
+        }
+        self.count = 0;
+        Ok(())
+    }
+
+    /// All of them.
+    pub fn told(mut self, alloc: Global) -> Result<String> {
+        self.flush()?;
+        Ok(String::from_str(alloc, self.text.trim_end())?)
+    }
+}
