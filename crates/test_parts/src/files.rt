@@ -78,7 +78,10 @@ pub(crate) fn paths(alloc: Global, hex: &str) -> Result<String> {
     if let Some(digest) = log.digest() {
         write!(text, " {:02x}..{:02x}", digest[0], digest[31])?;
     }
-    write!(text, ", {} fails", log.failing_name())?;
+    match log.failing_name() {
+        Some(name) => write!(text, ", {name} fails")?,
+        None => text.push_str(", deadlock")?,
+    }
     for path in log.threads() {
         text.push_str(path_text(alloc, path)?.as_str())?;
     }

@@ -21,8 +21,8 @@
 //! - `schedule`: a text; its model and moves, or the fault;
 //! - `cut-schedule`: a text; what each of its beginnings is answered, from the shortest, equal answers counted;
 //! - `log`: hex digits; how many threads the log has, or the fault;
-//! - `paths`: hex digits; the log's model, the first and the last byte of its digest, the failing thread, and each thread's
-//!   steps and outcomes;
+//! - `paths`: hex digits; the log's model, the first and the last byte of its digest, the failing thread or that there is a
+//!   deadlock, and each thread's steps and outcomes;
 //! - `digest`: a text; its digest;
 //! - `moves`: a model of the machine, a schedule's model and moves with `,` between them : a program; the moves that are
 //!   enabled then, and each thread's name, function and instruction, steps and outcomes; or the first move that isn't

@@ -7,11 +7,12 @@ use crate::files::hex_bytes;
 use crate::text::code_of;
 use anyhow::{Context, Result, bail};
 use path_log::{Log, read_log};
-use path_walk::{Event, Link, Paths, Region, Sleep, Walk, walk};
+use path_walk::{Blocked, Event, Link, Paths, Region, Sleep, Walk, walk};
 use std::alloc::{AllocError, Global};
 use std::fmt::Write;
 use sym_exec::{Symbolic, execute};
 use sym_terms::Terms;
+use tc_base::Failing;
 use tc_base::limits::THREADS;
 use tc_code::Code;
 
@@ -63,12 +64,17 @@ pub(crate) fn ways(alloc: Global, given: &str) -> Result<String> {
 fn all_ways(alloc: Global, paths: &Paths) -> Result<String> {
     let mut text = told(alloc, paths)?;
     for (index, walk) in paths.threads().iter().enumerate() {
-        text.push_str(places_text(alloc, walk, index == paths.failing())?.as_str())?;
+        text.push_str(places_text(
+            alloc,
+            walk,
+            paths.failing() == Failing::Thread(index),
+        )?.as_str())?;
         text.push_str(events_text(alloc, walk.events())?.as_str())?;
         text.push_str(regions_text(alloc, walk.regions())?.as_str())?;
         text.push_str(sleeps_text(alloc, walk.sleeps())?.as_str())?;
         text.push_str(links_text(alloc, "create", walk.creates())?.as_str())?;
         text.push_str(links_text(alloc, "join", walk.joins())?.as_str())?;
+        text.push_str(blocked_text(alloc, walk.blocked())?.as_str())?;
     }
     Ok(text)
 }
@@ -84,6 +90,14 @@ fn places_text(alloc: Global, walk: &Walk, fails: bool) -> Result<String, AllocE
         write!(text, " {place}")?;
     }
     Ok(text)
+}
+
+/// What a thread is blocked at, if it is.
+fn blocked_text(alloc: Global, blocked: Option<Blocked>) -> Result<String, AllocError> {
+    match blocked {
+        Some(blocked) => format!(in alloc; "\n  blocked: {blocked:?}"),
+        None => Ok(String::new(alloc)),
+    }
 }
 
 fn events_text(alloc: Global, events: &[Event]) -> Result<String, AllocError> {
