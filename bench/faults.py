@@ -35,6 +35,7 @@ BEFORE = b"what stood there\n"
 RUNS = [
     ("record p.tc new.log --model tso --seed 1", "buffering", "new.log"),
     ("record p.tc new.log", "first", "new.log"),
+    ("record p.tc new.log --seed 1", "deadlock", "new.log"),
     ("migrate p.tc p.log new.log", "first", "new.log"),
     ("replay p.tc p.log p.sched", "passing", None),
     ("list p.tc", "increments", None),

@@ -7,7 +7,7 @@ use Rattle.tc_io.specs.Outside.{Files, Reading, Writing, ShelfTells, SinkTells, 
 use Rattle.clap_debug_words.specs.Calls.{Called, Lists, Replays, Records, Migrates, call_of}
 use Rattle.clap_debug_cli.specs.Answers.{status_of, verdict_status, ending_status}
 use Rattle.clap_debug_cli.specs.declared.answer.Answer.{Answer}
-use Rattle.clap_debug_cli.specs.declared.answer.Answer.TheVariants.{Usage, ReadFault, TooLong, ProgramRefused, LogRefused, ScheduleRefused, Listed, Replayed, RunFailed, RunEnded, LogOver, Migrated, WriteFault, NoMemory}
+use Rattle.clap_debug_cli.specs.declared.answer.Answer.TheVariants.{Usage, ReadFault, TooLong, ProgramRefused, LogRefused, ScheduleRefused, Listed, Replayed, Recorded, RunEnded, LogOver, Migrated, WriteFault, NoMemory}
 use Rattle.clap_debug_cli.specs.Causes.{IsCause, IsCauseOf, IsListAnswer, IsLogRefused, IsScheduleRefused, IsReplayAnswer, IsRecordAnswer, IsReplayed}
 use Rattle.clap_debug_cli.specs.Causes.{IsWorkOf, IsAnswerTo, IsOutput, KeepsResult, IsMigrateAnswer}
 use Rattle.clap_debug_cli.specs.Call.{
@@ -33,7 +33,7 @@ use Rattle.clap_debug_cli.specs.Call.{
 }
 use Rattle.clap_debug_cli.specs.Inputs.{Texts, GaveAll, inputs_of, texts_under, limit_of, IsTooLong}
 use Rattle.tc_compile.specs.Programs.{IsCodeOf, IsRefusal}
-use Rattle.clap_debug_cli.specs.Recorded.{FailsSo, EndsSo, end_status, run_of}
+use Rattle.clap_debug_cli.specs.Recorded.{ComesTo, EndsSo, end_status, run_of}
 use Rattle.clap_debug_cli.specs.Migrated.{IsMigrated}
 use Rattle.tc_parser.specs.declared.fault.TextFault.{TextFault}
 use Rattle.schedule_replay.specs.declared.verdict.Verdict.{Verdict}
@@ -44,18 +44,15 @@ use Rattle.clap_debug_cli.specs.declared.answer.Excess.{Excess}
 use Rattle.clap_debug_cli.specs.declared.input.Input.{Input}
 use Rattle.clap_debug_cli.specs.declared.input.Input.TheVariants as input
 use Rattle.clap_debug_cli.specs.declared.answer.Ending.{Ending}
-use Rattle.clap_debug_cli.specs.declared.answer.Ending.TheVariants.{StepLimit, Over}
-use Rattle.clap_debug_cli.specs.declared.answer.Ending.TheVariants as ending
-use Rattle.tc_record.specs.declared.end.End.TheVariants as end
-use Rattle.clap_debug_cli.specs.declared.answer.Failure.{Failure}
+use Rattle.clap_debug_cli.specs.declared.answer.Ending.TheVariants.{Finished, StepLimit, Over}
+use Rattle.clap_debug_cli.specs.declared.answer.Outcome.{Outcome}
 use Rattle.clap_debug_cli.proofs.Fetches.{failed_still, gave_all, given_still, not_within, passed_still, passes_told}
 use Rattle.clap_debug_cli.proofs.Migrations.{migrated_answer, migrated_text}
 use Rattle.clap_debug_cli.proofs.OneAnswer.{one_answer}
 use Rattle.tc_compile.proofs.OnePrograms.{one_code, refused_no_code}
-use Rattle.clap_debug_cli.proofs.OneRun.{ended_status}
+use Rattle.clap_debug_cli.proofs.OneRun.{ended_status, outcome_status}
 use Rattle.clap_debug_cli.proofs.Statuses.{is_usage, is_program_refused, is_log_refused, is_schedule_refused, is_limit, is_read_fault, is_write_fault}
-use Rattle.clap_debug_cli.proofs.Statuses.{is_no_memory, is_step_limit, no_ending}
-use Rattle.clap_debug_cli.proofs.Statuses.{is_reproduces, is_other}
+use Rattle.clap_debug_cli.proofs.Statuses.{is_no_memory, is_finished, is_step_limit, no_ending, is_reproduces, is_other}
 
 -- what the words ask for is known
 called_of : (P : Called → Type 0) (o : Option Called) (call : Called) → o ≡ Some call → P call → IsSomeAnd o P
@@ -139,7 +136,7 @@ wrote_of call old new NoMemory c rose name last = absurd (rose c.1)
 wrote_of call old new (WriteFault n) c rose name last =
     let e : Some (Writing n) ≡ Some (Writing name) = sym (ap (λ x. x.last_fault) c.4.3.2) ∙ last in
     cc
-wrote_of call old new (RunFailed f) c rose name last =
+wrote_of call old new (Recorded o) c rose name last =
     absurd (rose (ap (λ x. x.faults) c.4.4 ∙ (given_still (inputs_of call) old c.1 c.0 c.2).1))
 wrote_of call old new Migrated c rose name last = absurd (rose (ap (λ x. x.faults) c.4.4 ∙ (given_still (inputs_of call) old c.1 c.0 c.2).1))
 wrote_of call old new _ c rose name last = absurd (rose (ap (λ x. x.faults) c.4 ∙ (given_still (inputs_of call) old c.1 c.0 c.2).1))
@@ -156,12 +153,12 @@ if_called (Some call) P h = h call refl
 
 -- answers with which a result is kept
 abbrev Keeps : Answer → Type 0
-Keeps (RunFailed _) = Unit {0}
+Keeps (Recorded _) = Unit {0}
 Keeps Migrated = Unit {0}
 Keeps _ = ⊥
 
 keeps_status : (b : Answer) → Keeps b → status_of b ≡ 0
-keeps_status (RunFailed f) k = refl
+keeps_status (Recorded o) k = refl
 keeps_status Migrated k = refl
 keeps_status _ k = absurd k
 
@@ -297,7 +294,7 @@ module _ (words : List (List ℕ)) (old new : ShelfTells) (a : Answer) (status :
     called_cause b c = called_now (λ c. IsCauseOf c old new b) (call_of words) call taken c
 
     what_is_kept : (b : Answer) → IsCause words old new b → IsKept b
-    what_is_kept (RunFailed f) c = inl tt
+    what_is_kept (Recorded o) c = inl tt
     what_is_kept Migrated c = inl tt
     what_is_kept (WriteFault name) c = inr (inl (name, refl))
     what_is_kept Usage c = inr (inr (ap (λ x. x.held) c.1))
@@ -315,7 +312,7 @@ module _ (words : List (List ℕ)) (old new : ShelfTells) (a : Answer) (status :
     -- what was kept is a result
     kept_result : (b : Answer) → Keeps b → IsCause words old new b
         → (t : Texts) × (s : ShelfTells) × GaveAll (inputs_of call) old s t × KeepsResult call t s new
-    kept_result (RunFailed f) k c = let d = called_cause (RunFailed f) c in (d.0, d.1, d.2, d.4)
+    kept_result (Recorded o) k c = let d = called_cause (Recorded o) c in (d.0, d.1, d.2, d.4)
     kept_result Migrated k c = let d = called_cause Migrated c in (d.0, d.1, d.2, d.4)
     kept_result _ k c = absurd k
 
@@ -354,7 +351,7 @@ module _ (words : List (List ℕ)) (old new : ShelfTells) (a : Answer) (status :
 
       -- status 0 is that of a result
       zero_keeps : (b : Answer) → IsCause words old new b → status_of b ≡ 0 → Keeps b
-      zero_keeps (RunFailed f) c h = tt
+      zero_keeps (Recorded o) c h = tt
       zero_keeps Migrated c h = tt
       zero_keeps (Listed code) c h = let d = called_cause (Listed code) c in absurd (no_listing call name output d.0 code d.3.1)
       zero_keeps (Replayed v) c h = let d = called_cause (Replayed v) c in absurd (no_verdict call name output d.0 v d.3.1)
@@ -611,31 +608,32 @@ module _ (p l program : List ℕ) (model : Model) (seed steps : ℕ) (a : Answer
       let w = plain_at Asked (program ∷ []) a status j k says known seven eight nine in
       (sym w.0, w.1, work_of Asked (program ∷ []) a w.2 (λ e. six (w.0 ∙ e)))
 
-  failed_run : (b : Answer) → IsRecordAnswer program model seed steps b → status_of b ≡ 0 → (f : Failure) × (b ≡ RunFailed f)
-  failed_run (RunFailed f) w h = (f, refl)
-  failed_run (RunEnded e) w h = absurd (no_ending e 0 h (λ x. omega (arith, x)) (λ x. omega (arith, x)) (λ x. omega (arith, x)))
-  failed_run (ProgramRefused r) w h = absurd (omega (arith, h))
-  failed_run _ w h = absurd w
+  recorded_run : (b : Answer) → IsRecordAnswer program model seed steps b → status_of b ≡ 0 → (o : Outcome) × (b ≡ Recorded o)
+  recorded_run (Recorded o) w h = (o, refl)
+  recorded_run (RunEnded e) w h = absurd (no_ending e 0 h (λ x. omega (arith, x)) (λ x. omega (arith, x)) (λ x. omega (arith, x)))
+  recorded_run (ProgramRefused r) w h = absurd (omega (arith, h))
+  recorded_run _ w h = absurd w
 
   ended_run : (b : Answer) → IsRecordAnswer program model seed steps b → (status_of b ≡ 1) ⊎ (status_of b ≡ 10) → (e : Ending) × (b ≡ RunEnded e)
   ended_run (RunEnded e) w h = (e, refl)
-  ended_run (RunFailed f) w (inl h) = absurd (omega (arith, h))
-  ended_run (RunFailed f) w (inr h) = absurd (omega (arith, h))
+  ended_run (Recorded o) w (inl h) = absurd (omega (arith, h))
+  ended_run (Recorded o) w (inr h) = absurd (omega (arith, h))
   ended_run (ProgramRefused r) w (inl h) = absurd (omega (arith, h))
   ended_run (ProgramRefused r) w (inr h) = absurd (omega (arith, h))
   ended_run _ w h = absurd w
 
-  run_failed_at : status ≡ 0 → (f : Failure) × FailsSo program model seed steps f × Puts j k (RunFailed f)
-  run_failed_at h =
+  run_recorded_at : status ≡ 0 → (o : Outcome) × ComesTo program model seed steps o × Puts j k (Recorded o)
+  run_recorded_at h =
       let w = own_answer (λ e. omega (arith, h, e)) (λ e. omega (arith, h, e)) (λ e. omega (arith, h, e)) (λ e. omega (arith, h, e)) in
-      let e = failed_run a w.2 (w.0 ∙ h) in
+      let e = recorded_run a w.2 (w.0 ∙ h) in
       (e.0, subst (IsRecordAnswer program model seed steps) e.1 w.2, subst (Puts j k) e.1 w.1)
 
-  run_ended_at : status ≡ 1 → (e : Ending) × (ending_status e ≡ 1) × EndsSo program model seed steps e × Puts j k (RunEnded e)
-  run_ended_at h =
+  run_finished_at : status ≡ 1 → EndsSo program model seed steps Finished × Puts j k (RunEnded Finished)
+  run_finished_at h =
       let w = own_answer (λ e. omega (arith, h, e)) (λ e. omega (arith, h, e)) (λ e. omega (arith, h, e)) (λ e. omega (arith, h, e)) in
       let e = ended_run a w.2 (inl (w.0 ∙ h)) in
-      (e.0, sym (ap status_of e.1) ∙ w.0 ∙ h, subst (IsRecordAnswer program model seed steps) e.1 w.2, subst (Puts j k) e.1 w.1)
+      let both = e.1 ∙ ap (λ x. RunEnded x) (is_finished e.0 (sym (ap status_of e.1) ∙ w.0 ∙ h)) in
+      (subst (IsRecordAnswer program model seed steps) both w.2, subst (Puts j k) both w.1)
 
   text_refused_at : status ≡ 3 → (r : TextFault) × IsRefusal program r × Puts j k (ProgramRefused r)
   text_refused_at h =
@@ -654,8 +652,9 @@ module _ (p l program : List ℕ) (model : Model) (seed steps : ℕ) (a : Answer
   -- the status of an answer to a program is that of its run
   run_status : (code : Code) → IsCodeOf program code → length program ≤ limit_of input.Program → (b : Answer) → IsAnswerTo Asked (program ∷ []) b
       → status_of b ≡ end_status (run_of model code seed steps).end
-  run_status code is short (RunFailed f) w =
-      ap end_status (sym (subst (λ c. (run_of model c seed steps).end ≡ end.Failed) (one_code program w.1.0 code w.1.1 is) w.1.2.ended))
+  run_status code is short (Recorded o) w =
+      sym (subst (λ c. end_status (run_of model c seed steps).end ≡ 0) (one_code program w.1.0 code w.1.1 is)
+      (outcome_status w.1.0 (run_of model w.1.0 seed steps) o w.1.2))
   run_status code is short (RunEnded e) w =
       sym (subst (λ c. end_status (run_of model c seed steps).end ≡ ending_status e) (one_code program w.1.0 code w.1.1 is)
       (ended_status w.1.0 (run_of model w.1.0 seed steps) e w.1.2))
@@ -671,13 +670,12 @@ module _ (p l program : List ℕ) (model : Model) (seed steps : ℕ) (a : Answer
   OfRecord n = (n ≡ 0) ⊎ (n ≡ 1) ⊎ (n ≡ 3) ⊎ (n ≡ 10) ⊎ IsStatus n 6
 
   ending_alone : (e : Ending) → OfRecord (ending_status e)
-  ending_alone ending.Finished = inr (inl refl)
-  ending_alone ending.Deadlock = inr (inl refl)
+  ending_alone Finished = inr (inl refl)
   ending_alone (StepLimit n) = inr (inr (inr (inl refl)))
   ending_alone (Over which) = inr (inr (inr (inr (inl refl))))
 
   answer_alone : (b : Answer) → IsAnswerTo Asked (program ∷ []) b → OfRecord (status_of b)
-  answer_alone (RunFailed f) w = inl refl
+  answer_alone (Recorded o) w = inl refl
   answer_alone (RunEnded e) w = ending_alone e
   answer_alone (ProgramRefused r) w = inr (inr (inl refl))
   answer_alone (TooLong i) w = inr (inr (inr (inr (inl refl))))
@@ -690,8 +688,8 @@ module _ (p l program : List ℕ) (model : Model) (seed steps : ℕ) (a : Answer
 
   record_answers : RecordAnswers program model seed steps status j k
   record_answers = record {
-    failed = run_failed_at;
-    ended = run_ended_at;
+    recorded = run_recorded_at;
+    finished = run_finished_at;
     refused = text_refused_at;
     goes_on = goes_on_at;
     exactly = exactly_run;
@@ -710,7 +708,7 @@ module _ (p l o program log : List ℕ) (a : Answer) (status : ℕ) (j k : SinkT
   is_migrated Migrated w h = refl
   is_migrated (Listed _) w h = absurd w.2.2.1
   is_migrated (Replayed _) w h = absurd w.2.2.1
-  is_migrated (RunFailed _) w h = absurd w.2.2.1
+  is_migrated (Recorded _) w h = absurd w.2.2.1
   is_migrated (RunEnded _) w h = absurd w.2.2.1
   is_migrated _ w h = absurd (omega (arith, h))
 

@@ -19,7 +19,7 @@ use Rattle.clap_debug_cli.specs.declared.answer.Answer.TheVariants.{
   TooLong,
   ProgramRefused,
   LogRefused,
-  RunFailed,
+  Recorded,
   Migrated,
   WriteFault,
   NoMemory,
@@ -55,7 +55,7 @@ module _ (call : Called) (t : Texts) (old s : ShelfTells) (gave : GaveAll (input
   -- nothing was kept
   pub work_cause : (a : Answer) → Refuses (IsWorkOf call t) a → IsCauseOf call old s a
   work_cause NoMemory h = given_still (inputs_of call) old s t gave
-  work_cause (RunFailed _) h = absurd h
+  work_cause (Recorded _) h = absurd h
   work_cause Migrated h = absurd h
   work_cause Usage h = absurd h
   work_cause (ReadFault _) h = absurd h

@@ -11,14 +11,14 @@ use Rattle.sha2.specs.Sha256.{sha256, digest_bytes}
 use Rattle.sha2.proofs.Facts256.{length-sha256}
 use Rattle.tc_base.specs.Logs.{Log, ThreadPath}
 use Rattle.path_log.specs.Texts.{StoredLog, is_digest, log_text}
-use Rattle.tc_record.specs.Logged.{is_small}
+use Rattle.tc_record.specs.Logged.{is_small, most_log_bytes}
 use Rattle.tc_record.specs.declared.end.Which.TheVariants.{Threads, Depth}
 use Rattle.tc_record.proofs.Sizes.{recorded_size}
 use Rattle.clap_debug_cli.specs.declared.answer.Answer.TheVariants.{Migrated}
 use Rattle.clap_debug_cli.specs.Causes.{IsMigrateAnswer}
 use Rattle.clap_debug_cli.specs.Files.{IsLog}
 use Rattle.clap_debug_cli.specs.Migrated.{IsMigrated, excess, excess_of, too_deep}
-use Rattle.clap_debug_cli.specs.Recorded.{most_log_bytes, with_digest}
+use Rattle.clap_debug_cli.specs.Recorded.{with_digest}
 use Rattle.clap_debug_cli.proofs.OneFiles.{one_log}
 
 -- what is kept is an answer, and an answer is kept
@@ -93,7 +93,7 @@ module _ (program log text : List ℕ) (m : IsMigrated program log text) where
     -- the text is that of the log with the program's digest
     pub kept_log : IsLog text (with_digest program run.log)
     kept_log = record {
-      has_text = record { is_log = is.has_text.is_log; is_of_format = is.has_text.is_of_format; is_digest = sha256_is program };
+      has_text = record { is_log = is.has_text.is_log; is_of_format = is.has_text.is_of_format; has_ending = refl; is_digest = sha256_is program };
       text = text_is;
     }
 

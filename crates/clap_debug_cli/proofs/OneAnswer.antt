@@ -13,7 +13,7 @@ use Rattle.schedule_replay.proofs.OneVerdict.{one_verdict}
 use Rattle.clap_debug_words.specs.Calls.{Called, Lists, Replays, Records, Migrates}
 use Rattle.clap_debug_cli.specs.Files.{IsOfOther, Schedule}
 use Rattle.clap_debug_cli.specs.declared.answer.Answer.{Answer}
-use Rattle.clap_debug_cli.specs.declared.answer.Answer.TheVariants.{TooLong, ProgramRefused, LogRefused, ScheduleRefused, Listed, Replayed, RunFailed, RunEnded}
+use Rattle.clap_debug_cli.specs.declared.answer.Answer.TheVariants.{TooLong, ProgramRefused, LogRefused, ScheduleRefused, Listed, Replayed, Recorded, RunEnded}
 use Rattle.clap_debug_cli.specs.Causes.{IsListAnswer, IsRecordAnswer, IsReplayed, IsLogRefused, IsScheduleRefused, IsReplayAnswer, IsWorkOf, IsAnswerTo}
 use Rattle.clap_debug_cli.specs.Inputs.{Texts, inputs_of}
 use Rattle.tc_compile.specs.Programs.{IsRefusal}
@@ -23,7 +23,7 @@ use Rattle.clap_debug_cli.proofs.Fetches.{not_within, one_too_long}
 use Rattle.clap_debug_cli.proofs.OneMigration.{one_migrate_answer}
 use Rattle.clap_debug_cli.proofs.OneFiles.{one_log, log_or_fault, one_schedule, schedule_or_fault}
 use Rattle.tc_compile.proofs.OnePrograms.{one_code, one_refusal, refused_no_code}
-use Rattle.clap_debug_cli.proofs.OneRun.{one_failure, one_ending, failed_or_ended}
+use Rattle.clap_debug_cli.proofs.OneRun.{one_outcome, one_ending, recorded_or_ended}
 
 -- the verdict on what a schedule does with a log
 abbrev IsJudged : Code → StoredLog → Schedule → Verdict → Type 0
@@ -97,16 +97,16 @@ module _ (program log schedule : List ℕ) where
 module _ (program : List ℕ) (model : Model) (seed steps : ℕ) where
   one_record_answer : (a b : Answer) → IsRecordAnswer program model seed steps a → IsRecordAnswer program model seed steps b → a ≡ b
   one_record_answer (ProgramRefused r) (ProgramRefused q) f g = ap (λ x. ProgramRefused x) (one_refusal program r q f g)
-  one_record_answer (ProgramRefused r) (RunFailed y) f g = absurd (refused_no_code program r g.0 f g.1)
+  one_record_answer (ProgramRefused r) (Recorded y) f g = absurd (refused_no_code program r g.0 f g.1)
   one_record_answer (ProgramRefused r) (RunEnded y) f g = absurd (refused_no_code program r g.0 f g.1)
-  one_record_answer (RunFailed x) (ProgramRefused q) f g = absurd (refused_no_code program q f.0 g f.1)
-  one_record_answer (RunFailed x) (RunFailed y) f g = ap (λ z. RunFailed z) (one_failure program model seed steps x y f g)
-  one_record_answer (RunFailed x) (RunEnded y) f g = absurd (failed_or_ended program model seed steps x y f g)
+  one_record_answer (Recorded x) (ProgramRefused q) f g = absurd (refused_no_code program q f.0 g f.1)
+  one_record_answer (Recorded x) (Recorded y) f g = ap (λ z. Recorded z) (one_outcome program model seed steps x y f g)
+  one_record_answer (Recorded x) (RunEnded y) f g = absurd (recorded_or_ended program model seed steps x y f g)
   one_record_answer (RunEnded x) (ProgramRefused q) f g = absurd (refused_no_code program q f.0 g f.1)
-  one_record_answer (RunEnded x) (RunFailed y) f g = absurd (failed_or_ended program model seed steps y x g f)
+  one_record_answer (RunEnded x) (Recorded y) f g = absurd (recorded_or_ended program model seed steps y x g f)
   one_record_answer (RunEnded x) (RunEnded y) f g = ap (λ z. RunEnded z) (one_ending program model seed steps x y f g)
   one_record_answer (ProgramRefused _) _ f g = absurd g
-  one_record_answer (RunFailed _) _ f g = absurd g
+  one_record_answer (Recorded _) _ f g = absurd g
   one_record_answer (RunEnded _) _ f g = absurd g
   one_record_answer _ b f g = absurd f
 

@@ -11,29 +11,31 @@ use Rattle.clap_debug_cli.specs.declared.answer.Excess.{Excess}
 use Rattle.clap_debug_cli.specs.declared.input.Input.{Input}
 use Rattle.tc_record.specs.declared.end.Which.{Which}
 use Rattle.clap_debug_cli.specs.declared.answer.Ending.{Ending}
-use Rattle.clap_debug_cli.specs.declared.answer.Ending.TheVariants.{Finished, Deadlock, StepLimit, Over}
+use Rattle.clap_debug_cli.specs.declared.answer.Ending.TheVariants.{Finished, StepLimit, Over}
 
 pub verdict_status-le : (v : Verdict) → verdict_status v ≤ 1
 verdict_status-le verdict.Reproduces = omega arith
 verdict_status-le _ = omega arith
 
--- a run that ends without a failure has one of three statuses
+-- a run without a log has one of three statuses
 pub no_ending : (e : Ending) (k : ℕ) → ending_status e ≡ k → (k ≡ 1 → ⊥) → (k ≡ 6 → ⊥) → (k ≡ 10 → ⊥) → ⊥
 no_ending Finished k h one six ten = one (sym h)
-no_ending Deadlock k h one six ten = one (sym h)
 no_ending (StepLimit n) k h one six ten = ten (sym h)
 no_ending (Over which) k h one six ten = six (sym h)
+
+pub is_finished : (e : Ending) → ending_status e ≡ 1 → e ≡ Finished
+is_finished Finished h = refl
+is_finished (StepLimit n) h = absurd (omega (arith, h))
+is_finished (Over which) h = absurd (omega (arith, h))
 
 pub is_over : (e : Ending) → ending_status e ≡ 6 → (which : Which) × (e ≡ Over which)
 is_over (Over which) h = (which, refl)
 is_over Finished h = absurd (omega (arith, h))
-is_over Deadlock h = absurd (omega (arith, h))
 is_over (StepLimit n) h = absurd (omega (arith, h))
 
 pub is_step_limit : (e : Ending) → ending_status e ≡ 10 → (n : ℕ) × (e ≡ StepLimit n)
 is_step_limit (StepLimit n) h = (n, refl)
 is_step_limit Finished h = absurd (omega (arith, h))
-is_step_limit Deadlock h = absurd (omega (arith, h))
 is_step_limit (Over which) h = absurd (omega (arith, h))
 
 pub is_usage : (a : Answer) → status_of a ≡ 2 → a ≡ Usage

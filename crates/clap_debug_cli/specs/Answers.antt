@@ -22,7 +22,7 @@ use Rattle.clap_debug_cli.specs.declared.answer.Answer.TheVariants.{
   ScheduleRefused,
   Listed,
   Replayed,
-  RunFailed,
+  Recorded,
   RunEnded,
   LogOver,
   Migrated,
@@ -30,8 +30,10 @@ use Rattle.clap_debug_cli.specs.declared.answer.Answer.TheVariants.{
   NoMemory,
 }
 use Rattle.clap_debug_cli.specs.declared.answer.Ending.{Ending}
-use Rattle.clap_debug_cli.specs.declared.answer.Ending.TheVariants.{Finished, Deadlock, StepLimit, Over}
+use Rattle.clap_debug_cli.specs.declared.answer.Ending.TheVariants.{Finished, StepLimit, Over}
 use Rattle.clap_debug_cli.specs.declared.answer.Failure.{Failure}
+use Rattle.clap_debug_cli.specs.declared.answer.Outcome.{Outcome}
+use Rattle.clap_debug_cli.specs.declared.answer.Outcome.TheVariants.{Failed, Deadlock}
 use Rattle.clap_debug_cli.specs.declared.answer.LogRefusal.{LogRefusal}
 use Rattle.clap_debug_cli.specs.declared.answer.LogRefusal.TheVariants.{Form, OtherProgram, Unfit}
 
@@ -39,6 +41,7 @@ abbrev pub verdict_line : Verdict → List ℕ
 verdict_line verdict.Reproduces = codes "reproduces\n"
 verdict_line (verdict.Stops n reason) = codes "stops at move " ++ (decimal n ++ (codes ": " ++ (why_text reason ++ codes "\n")))
 verdict_line verdict.NoFailure = codes "no failure\n"
+verdict_line verdict.NotStuck = codes "not stuck\n"
 verdict_line (verdict.OtherFailure n) = codes "other failure " ++ (name_text n ++ codes "\n")
 verdict_line (verdict.OtherPath n) = codes "other path " ++ (name_text n ++ codes "\n")
 
@@ -56,9 +59,12 @@ over_line which number = codes "limit " ++ (which_text which ++
 abbrev pub failure_line : Failure → List ℕ
 failure_line f = codes "failed " ++ (name_text f.name ++ (codes " line " ++ (decimal f.line ++ (codes " after " ++ (decimal f.moves ++ codes " moves\n")))))
 
+abbrev pub outcome_line : Outcome → List ℕ
+outcome_line (Failed f) = failure_line f
+outcome_line (Deadlock moves) = codes "deadlock after " ++ (decimal moves ++ codes " moves\n")
+
 abbrev pub ending_line : Ending → List ℕ
 ending_line Finished = codes "finished\n"
-ending_line Deadlock = codes "deadlock\n"
 ending_line (StepLimit moves) = codes "no failure in " ++ (decimal moves ++ codes " moves\n")
 ending_line (Over which) = over_line which (most_of which + 1)
 
@@ -89,7 +95,7 @@ line_of (LogRefused r) = codes "log refused: " ++ (log_refusal_text r ++ codes "
 line_of (ScheduleRefused n) = codes "schedule refused: line " ++ (decimal n ++ codes "\n")
 line_of (Listed code) = listing_of code
 line_of (Replayed v) = verdict_line v
-line_of (RunFailed f) = failure_line f
+line_of (Recorded o) = outcome_line o
 line_of (RunEnded e) = ending_line e
 line_of (LogOver e) = over_line e.which e.number
 line_of Migrated = codes "migrated\n"
@@ -102,7 +108,6 @@ verdict_status _ = 1
 
 abbrev pub ending_status : Ending → ℕ
 ending_status Finished = 1
-ending_status Deadlock = 1
 ending_status (StepLimit _) = 10
 ending_status (Over _) = 6
 
@@ -110,7 +115,7 @@ ending_status (Over _) = 6
 abbrev pub status_of : Answer → ℕ
 status_of (Listed _) = 0
 status_of (Replayed v) = verdict_status v
-status_of (RunFailed _) = 0
+status_of (Recorded _) = 0
 status_of Migrated = 0
 status_of (RunEnded e) = ending_status e
 status_of Usage = 2

@@ -4,12 +4,12 @@ use Rattle.tc_code.specs.Code.{Code}
 use Rattle.tc_base.specs.declared.model.Model.{Model}
 use Rattle.tc_io.specs.Outside.{Files, ShelfTells, SinkTells, Writing, Wrote, WrotePart, KeptPart, bytes_at, put_under}
 use Rattle.clap_debug_words.specs.Calls.{Called, Lists, Replays, Records, Migrates, call_of}
-use Rattle.clap_debug_cli.specs.Answers.{ending_status, line_of, status_of}
+use Rattle.clap_debug_cli.specs.Answers.{line_of, status_of}
 use Rattle.clap_debug_cli.specs.Causes.{IsCause, IsAnswerTo, IsWorkOf, IsResult, IsReplayed, IsLogRefused, IsScheduleRefused, IsMigrateAnswer}
 use Rattle.clap_debug_cli.specs.Inputs.{Texts, GaveAll, inputs_of, limit_of, IsTooLong}
 use Rattle.clap_debug_cli.specs.Migrated.{IsMigrated}
 use Rattle.tc_compile.specs.Programs.{IsCodeOf, IsRefusal}
-use Rattle.clap_debug_cli.specs.Recorded.{FailsSo, EndsSo, end_status, run_of}
+use Rattle.clap_debug_cli.specs.Recorded.{ComesTo, EndsSo, end_status, run_of}
 use Rattle.tc_parser.specs.declared.fault.TextFault.{TextFault}
 use Rattle.schedule_replay.specs.declared.verdict.Verdict.{Verdict}
 use Rattle.clap_debug_cli.specs.declared.answer.Answer.{Answer}
@@ -22,7 +22,7 @@ use Rattle.clap_debug_cli.specs.declared.answer.Answer.TheVariants.{
   ScheduleRefused,
   Listed,
   Replayed,
-  RunFailed,
+  Recorded,
   RunEnded,
   LogOver,
   Migrated,
@@ -35,9 +35,8 @@ use Rattle.tc_record.specs.declared.end.Which.{Which}
 use Rattle.clap_debug_cli.specs.declared.answer.Excess.{Excess}
 use Rattle.clap_debug_cli.specs.declared.input.Input.{Input}
 use Rattle.clap_debug_cli.specs.declared.input.Input.TheVariants as input
-use Rattle.clap_debug_cli.specs.declared.answer.Ending.{Ending}
-use Rattle.clap_debug_cli.specs.declared.answer.Ending.TheVariants.{StepLimit, Over}
-use Rattle.clap_debug_cli.specs.declared.answer.Failure.{Failure}
+use Rattle.clap_debug_cli.specs.declared.answer.Ending.TheVariants.{Finished, StepLimit, Over}
+use Rattle.clap_debug_cli.specs.declared.answer.Outcome.{Outcome}
 
 -- the answer's line stands at the end of what was written
 abbrev pub Puts : SinkTells → SinkTells → Answer → Type 0
@@ -145,8 +144,8 @@ pub record ReplayAnswers (program log schedule : List ℕ) (status : ℕ) (befor
 
 -- the answers of `record` to a program that the shelf tells of, by status
 pub record RecordAnswers (program : List ℕ) (model : Model) (seed steps : ℕ) (status : ℕ) (before after : SinkTells) : Type 0 where
-  pub failed : status ≡ 0 → (f : Failure) × FailsSo program model seed steps f × Puts before after (RunFailed f)
-  pub ended : status ≡ 1 → (e : Ending) × (ending_status e ≡ 1) × EndsSo program model seed steps e × Puts before after (RunEnded e)
+  pub recorded : status ≡ 0 → (o : Outcome) × ComesTo program model seed steps o × Puts before after (Recorded o)
+  pub finished : status ≡ 1 → EndsSo program model seed steps Finished × Puts before after (RunEnded Finished)
   pub refused : status ≡ 3 → (r : TextFault) × IsRefusal program r × Puts before after (ProgramRefused r)
   pub goes_on : status ≡ 10 → (moves : ℕ) × EndsSo program model seed steps (StepLimit moves) × Puts before after (RunEnded (StepLimit moves))
   -- of a program that isn't too long, the status is that of its run

@@ -14,9 +14,10 @@ use Rattle.clap_debug_words.specs.Calls.{Called, Lists, Replays, Records, Migrat
 use Rattle.clap_debug_cli.specs.Files.{IsLog, IsOfOther, Schedule, IsSchedule}
 use Rattle.clap_debug_cli.specs.Inputs.{Texts, inputs_of, AreWithin, IsTooLong, GaveAll, FailsToRead, PassesLimit}
 use Rattle.tc_compile.specs.Programs.{IsCodeOf, IsRefusal}
-use Rattle.clap_debug_cli.specs.Recorded.{FailsSo, EndsSo, IsRecorded, most_log_bytes}
+use Rattle.clap_debug_cli.specs.Recorded.{ComesTo, EndsSo, IsRecorded}
 use Rattle.clap_debug_cli.specs.Migrated.{IsMigrated, excess_of}
 use Rattle.schedule_replay.specs.declared.verdict.Verdict.{Verdict}
+use Rattle.tc_record.specs.Logged.{most_log_bytes}
 use Rattle.clap_debug_cli.specs.declared.answer.Answer.{Answer}
 use Rattle.clap_debug_cli.specs.declared.answer.Answer.TheVariants.{
   Usage,
@@ -27,7 +28,7 @@ use Rattle.clap_debug_cli.specs.declared.answer.Answer.TheVariants.{
   ScheduleRefused,
   Listed,
   Replayed,
-  RunFailed,
+  Recorded,
   RunEnded,
   LogOver,
   Migrated,
@@ -80,7 +81,7 @@ IsReplayAnswer program log schedule _ = ⊥
 -- the answer of `record` to a program
 abbrev pub IsRecordAnswer : (program : List ℕ) → Model → (seed steps : ℕ) → Answer → Type 0
 IsRecordAnswer program model seed steps (ProgramRefused r) = IsRefusal program r
-IsRecordAnswer program model seed steps (RunFailed f) = FailsSo program model seed steps f
+IsRecordAnswer program model seed steps (Recorded o) = ComesTo program model seed steps o
 IsRecordAnswer program model seed steps (RunEnded e) = EndsSo program model seed steps e
 IsRecordAnswer program model seed steps _ = ⊥
 
@@ -121,7 +122,7 @@ abbrev pub IsAnswerTo : Called → Texts → Answer → Type 0
 IsAnswerTo call t (TooLong i) = IsTooLong (inputs_of call) t i
 IsAnswerTo call t a = AreWithin (inputs_of call) t × IsWorkOf call t a
 
--- what a command may keep of its inputs: `record` the text of the log of a run that failed, `migrate` that of the log in format 2, which isn't long
+-- what a command may keep of its inputs: `record` the text of the log of a run that failed or came to a deadlock, `migrate` that of the log in format 2, which isn't long
 abbrev pub IsResult : Called → Texts → List ℕ → Type 0
 IsResult (Records _ _ model seed steps) (program ∷ []) text = IsRecorded program model seed steps text
 IsResult (Migrates _ _ _) (program ∷ log ∷ []) text = IsMigrated program log text × (length text ≤ most_log_bytes)
@@ -137,9 +138,9 @@ IsOutput _ name = ⊥
 abbrev pub KeepsResult : Called → Texts → ShelfTells → ShelfTells → Type 0
 KeepsResult call t old new = (name : List ℕ) × (text : List ℕ) × IsOutput call name × IsResult call t text × Kept old new name text
 
--- what a command does to the shelf once it has its inputs: with the failure of a run, and with a log in format 2, it keeps a result, and else nothing
+-- what a command does to the shelf once it has its inputs: with a run that has a log, and with a log in format 2, it keeps a result, and else nothing
 abbrev pub DoesWith : Called → Texts → Answer → ShelfTells → ShelfTells → Type 0
-DoesWith call t (RunFailed _) old new = KeepsResult call t old new
+DoesWith call t (Recorded _) old new = KeepsResult call t old new
 DoesWith call t Migrated old new = KeepsResult call t old new
 DoesWith call t _ old new = new ≡ old
 

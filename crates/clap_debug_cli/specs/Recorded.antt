@@ -1,21 +1,25 @@
--- Recorded runs of a program: how one ended, and the text of the log of one that failed.
+-- Recorded runs of a program: how one ended, and the text of its log where it failed or came to a deadlock.
 use Rattle.std.specs.Prelude.{◌≡◌, ℕ, ◌≤◌, List, length, Some, None}
 use Rattle.sha2.specs.Sha256.{sha256}
 use Rattle.tc_base.specs.Buffers.{BufferOf, BufferOps, buffer_of}
 use Rattle.tc_base.specs.Logs.{Log}
+use Rattle.tc_base.specs.declared.failing.Failing.{Failing}
+use Rattle.tc_base.specs.declared.failing.Failing.TheVariants as failing
 use Rattle.tc_base.specs.declared.model.Model.{Model}
 use Rattle.tc_code.specs.Code.{Code}
 use Rattle.tc_code.specs.Run.{Reproduces}
 use Rattle.path_log.specs.Texts.{StoredLog, HasText, log_text}
 use Rattle.tc_record.specs.Failing.{failing_line}
-use Rattle.tc_record.specs.Logged.{IsLogOf}
+use Rattle.tc_record.specs.Logged.{IsLogOf, most_log_bytes}
 use Rattle.tc_record.specs.Seeded.{Ended, seeded_run}
 use Rattle.tc_record.specs.declared.end.End.{End}
 use Rattle.tc_record.specs.declared.end.End.TheVariants as end
 use Rattle.tc_compile.specs.Programs.{IsCodeOf}
 use Rattle.clap_debug_cli.specs.declared.answer.Ending.{Ending}
-use Rattle.clap_debug_cli.specs.declared.answer.Ending.TheVariants.{Finished, Deadlock, StepLimit, Over}
+use Rattle.clap_debug_cli.specs.declared.answer.Ending.TheVariants.{Finished, StepLimit, Over}
 use Rattle.clap_debug_cli.specs.declared.answer.Failure.{Failure}
+use Rattle.clap_debug_cli.specs.declared.answer.Outcome.{Outcome}
+use Rattle.clap_debug_cli.specs.declared.answer.Outcome.TheVariants.{Failed, Deadlock}
 
 -- the run of a code by moves that a seed chooses, under a memory model
 abbrev pub run_of : (model : Model) → Code → (seed steps : ℕ) → Ended (BufferOf model)
@@ -28,10 +32,14 @@ pub record HasFailed {B : Type 0} (code : Code) (run : Ended B) (f : Failure) : 
   pub line : failing_line code run.state ≡ Some f.line
   pub moves : f.moves ≡ length run.moves
 
--- the run ended so, and no thread had failed
+-- the run came to an end of which its log tells
+abbrev pub HasOutcome : {B : Type 0} → Code → Ended B → Outcome → Type 0
+HasOutcome code run (Failed f) = HasFailed code run f
+HasOutcome code run (Deadlock moves) = (run.end ≡ end.Deadlock) × (moves ≡ length run.moves)
+
+-- the run ended so, and has no log
 abbrev pub HasEnded : {B : Type 0} → Ended B → Ending → Type 0
 HasEnded run Finished = run.end ≡ end.Finished
-HasEnded run Deadlock = run.end ≡ end.Deadlock
 HasEnded run (StepLimit moves) = (run.end ≡ end.StepLimit) × (moves ≡ length run.moves)
 HasEnded run (Over which) = run.end ≡ end.Over which
 
@@ -39,25 +47,26 @@ HasEnded run (Over which) = run.end ≡ end.Over which
 abbrev pub with_digest : List ℕ → Log → StoredLog
 with_digest program log = record { digest = Some (sha256 program); log = log }
 
--- the most bytes of the text of a log of a run, about half of those that a log may have
-abbrev pub most_log_bytes : ℕ
-most_log_bytes = 2097385
+-- the end of the run that a log tells of
+abbrev pub told_end : Failing → End
+told_end (failing.Thread _) = end.Failed
+told_end failing.Deadlock = end.Deadlock
 
--- the text of the log of a run that failed, with the program's digest: the moves of the run reproduce that log
+-- the text of the log of a run that failed or came to a deadlock, with the program's digest: the moves of the run reproduce that log
 pub record IsLogText {B : Type 0} (ops : BufferOps B) (model : Model) (program : List ℕ) (code : Code) (run : Ended B) (text : List ℕ) : Type 0 where
   pub log : Log
-  pub failed : run.end ≡ end.Failed
+  pub tells : run.end ≡ told_end log.failing
   pub is : IsLogOf model run.state (record { digest = None; log = log })
   pub reproduced : Reproduces ops code log run.moves
   pub has_text : HasText (with_digest program log)
   pub is_text : text ≡ log_text (with_digest program log)
   pub short : length text ≤ most_log_bytes
 
--- the run of the program that the text is failed so
-abbrev pub FailsSo : List ℕ → Model → (seed steps : ℕ) → Failure → Type 0
-FailsSo program model seed steps f = (code : Code) × IsCodeOf program code × HasFailed code (run_of model code seed steps) f
+-- the run of the program that the text is came to this end, of which its log tells
+abbrev pub ComesTo : List ℕ → Model → (seed steps : ℕ) → Outcome → Type 0
+ComesTo program model seed steps o = (code : Code) × IsCodeOf program code × HasOutcome code (run_of model code seed steps) o
 
--- it ended so
+-- it ended so, and has no log
 abbrev pub EndsSo : List ℕ → Model → (seed steps : ℕ) → Ending → Type 0
 EndsSo program model seed steps e = (code : Code) × IsCodeOf program code × HasEnded (run_of model code seed steps) e
 
@@ -69,7 +78,7 @@ IsRecorded program model seed steps text =
 -- the status of a run that ended
 abbrev pub end_status : End → ℕ
 end_status end.Failed = 0
+end_status end.Deadlock = 0
 end_status end.Finished = 1
-end_status end.Deadlock = 1
 end_status (end.Over _) = 6
 end_status end.StepLimit = 10

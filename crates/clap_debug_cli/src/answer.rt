@@ -11,6 +11,7 @@ ghost use Rattle.clap_debug_cli.specs.Answers.{
   usage_text,
   which_text,
   failure_line,
+  outcome_line,
   ending_line,
   ending_status,
 };
@@ -91,13 +92,20 @@ pub(crate) struct Failure {
     pub(crate) moves: usize,
 }
 
-/// How a run ended in which no thread failed.
+/// How a run ended of which the log is kept.
+#[derive(Debug, Drop)]
+pub(crate) enum Outcome {
+    /// A thread failed.
+    Failed(Failure),
+    /// After so many moves, drains too, none was enabled, and not every thread had exited.
+    Deadlock(usize),
+}
+
+/// How a run ended of which there is no log.
 #[derive(Clone, Copy, Debug, PartialEq, Eq)]
 pub(crate) enum Ending {
     /// Every thread exited.
     Finished,
-    /// No move was enabled, and not every thread had exited.
-    Deadlock,
     /// It made as many moves as it might.
     StepLimit(usize),
     /// It had one more of these than it might.
@@ -123,9 +131,9 @@ pub(crate) enum Answer<'a> {
     Listed(Code),
     /// The verdict on the schedule.
     Replayed(Verdict),
-    /// The recorded run failed, and its log is kept.
-    RunFailed(Failure),
-    /// The recorded run ended without a failure.
+    /// The recorded run came to this end, and its log is kept.
+    Recorded(Outcome),
+    /// The recorded run ended otherwise.
     RunEnded(Ending),
     /// The log has more of something than it may have.
     LogOver(Excess),
@@ -243,7 +251,7 @@ pub(crate) fn line(alloc: Global, answer: &Answer) -> Result<Vec<u8>, AllocError
             "schedule refused: line {line}\n"
         )),
         Answer::Replayed(verdict) => bytes(verdict_line(alloc, verdict)),
-        Answer::RunFailed(failure) => bytes(failure_line(alloc, failure)),
+        Answer::Recorded(outcome) => bytes(outcome_line(alloc, outcome)),
         Answer::RunEnded(ending) => bytes(ending_line(alloc, *ending)),
         Answer::LogOver(excess) => bytes(over_line(alloc, excess.which, excess.number as u64)),
         Answer::Migrated => bytes(String::from_str(alloc, "migrated\n")),
@@ -308,6 +316,7 @@ fn verdict_line(alloc: Global, verdict: &Verdict) -> Result<String, AllocError>
         Verdict::Reproduces => String::from_str(alloc, "reproduces\n"),
         Verdict::Stops(number, why) => format!(in alloc; "stops at move {number}: {why}\n"),
         Verdict::NoFailure => String::from_str(alloc, "no failure\n"),
+        Verdict::NotStuck => String::from_str(alloc, "not stuck\n"),
         Verdict::OtherFailure(name) => format!(in alloc; "other failure {name}\n"),
         Verdict::OtherPath(name) => format!(in alloc; "other path {name}\n"),
     }
@@ -320,12 +329,20 @@ fn failure_line(alloc: Global, failure: &Failure) -> Result<String, AllocError>
     format!(in alloc; "failed {name} line {line} after {moves} moves\n")
 }
 
+fn outcome_line(alloc: Global, outcome: &Outcome) -> Result<String, AllocError>
+    ensures { IfOk result (λ text. string_bytes text ≡ outcome_line outcome.now) }
+{
+    match outcome {
+        Outcome::Failed(failure) => failure_line(alloc, failure),
+        Outcome::Deadlock(moves) => format!(in alloc; "deadlock after {moves} moves\n"),
+    }
+}
+
 fn ending_line(alloc: Global, ending: Ending) -> Result<String, AllocError>
     ensures { IfOk result (λ text. string_bytes text ≡ ending_line ending) }
 {
     match ending {
         Ending::Finished => String::from_str(alloc, "finished\n"),
-        Ending::Deadlock => String::from_str(alloc, "deadlock\n"),
         Ending::StepLimit(moves) => format!(in alloc; "no failure in {moves} moves\n"),
         Ending::Over(which) => over_line(alloc, which, which.limit() + 1),
     }
@@ -357,7 +374,7 @@ pub(crate) fn status(answer: &Answer) -> u8
         Answer::Listed(_) => 0,
         Answer::Replayed(Verdict::Reproduces) => 0,
         Answer::Replayed(_) => 1,
-        Answer::RunFailed(_) => 0,
+        Answer::Recorded(_) => 0,
         Answer::Migrated => 0,
         Answer::RunEnded(ending) => ending_status(*ending),
         Answer::Usage => 2,
@@ -376,7 +393,7 @@ fn ending_status(ending: Ending) -> u8
     ensures { result ≡ ending_status ending }
 {
     match ending {
-        Ending::Finished | Ending::Deadlock => 1,
+        Ending::Finished => 1,
         Ending::Over(_) => 6,
         Ending::StepLimit(_) => 10,
     }

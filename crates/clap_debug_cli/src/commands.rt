@@ -28,7 +28,7 @@ pub(crate) fn list_program<'a, H: Shelf>(
     Ok(Answer::Listed(code))
 }
 
-/// `replay PROGRAM LOG SCHEDULE`: whether the schedule leads to the failure of the log.
+/// `replay PROGRAM LOG SCHEDULE`: whether the schedule leads to the failure or the deadlock of the log.
 pub(crate) fn replay_schedule<'a, H: Shelf>(
     alloc: Global,
     shelf: &mut H,
@@ -45,7 +45,8 @@ pub(crate) fn replay_schedule<'a, H: Shelf>(
     Ok(Answer::Replayed(verdict))
 }
 
-/// `record PROGRAM LOG`: how a run of the program by moves that a seed chooses ends. The log of one that fails is kept.
+/// `record PROGRAM LOG`: how a run of the program by moves that a seed chooses ends. The log of one that fails or comes
+/// to a deadlock is kept.
 pub(crate) fn record_run<'a, H: Shelf>(
     alloc: Global,
     shelf: &mut H,
@@ -58,9 +59,9 @@ pub(crate) fn record_run<'a, H: Shelf>(
     ensures { IsEither result (IsCauseOf (Records program.now log.now model seed steps) (H.tells shelf.old) (H.tells shelf.new)) }
 {
     let program = fetch(alloc, shelf, Input::Program, program)?;
-    let (failure, text) = recorded(alloc, &program, model, seed, steps)?;
+    let (outcome, text) = recorded(alloc, &program, model, seed, steps)?;
     keep(alloc, shelf, log, &text)?;
-    Ok(Answer::RunFailed(failure))
+    Ok(Answer::Recorded(outcome))
 }
 
 /// `migrate PROGRAM LOG OUT`: keeps the log in format 2, with the digest of the program.

@@ -4,6 +4,7 @@
 ghost use Rattle.std.specs.Prelude.{◌≡◌, ◌≤◌, ℕ, List, Some, length, map, string_bytes};
 ghost use Rattle.sha2.specs.Sha256.{sha256};
 ghost use Rattle.path_log.specs.Texts.{StoredLog};
+ghost use Rattle.tc_record.specs.Logged.{most_log_bytes};
 ghost use Rattle.clap_debug_words.specs.Calls.{plain_call};
 ghost use Rattle.clap_debug_cli.specs.declared.answer.Answer.TheVariants.{NoMemory};
 ghost use Rattle.clap_debug_cli.specs.Causes.{IsCause, IsCauseOf};
@@ -11,13 +12,14 @@ ghost use Rattle.clap_debug_cli.specs.Call.{IfTold, Says, SaysNoMore, CallAnswer
 ghost use Rattle.clap_debug_cli.specs.Files.{IsLog};
 ghost use Rattle.clap_debug_cli.specs.Inputs.{texts_under};
 ghost use Rattle.clap_debug_cli.specs.Migrated.{IsMigrated};
-ghost use Rattle.clap_debug_cli.specs.Recorded.{most_log_bytes, with_digest};
+ghost use Rattle.clap_debug_cli.specs.Recorded.{with_digest};
 ghost use Rattle.clap_debug_cli.specs.helpers.Refused.{IsEither};
 
 mod answer;
 mod commands;
 mod input;
 mod migrate;
+mod output;
 mod replay;
 mod run;
 
@@ -47,7 +49,7 @@ pub fn clap_debug<H: Shelf, K: Sink>(
     say(alloc, &answer, sink)
 }
 
-/// What `migrate` keeps is the log with the program's digest: the same model, failing thread and paths are read back from it.
+/// What `migrate` keeps is the log with the program's digest: the same model, ending and paths are read back from it.
 pub fn migrating_keeps_the_log()
     ensures kept { (program log text : List ℕ) (run : StoredLog) → IsMigrated program log text → IsLog log run → IsLog text (with_digest program run.log) }
     ensures again { (program log text : List ℕ) (run again : StoredLog) → IsMigrated program log text → IsLog log run → IsLog text again

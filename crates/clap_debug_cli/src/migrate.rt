@@ -8,7 +8,8 @@ ghost use Rattle.clap_debug_cli.specs.helpers.Refused.{Refuses};
 
 use crate::answer::{Answer, Excess};
 use crate::input::{of_program, read_both};
-use path_log::{Log, ThreadPath, program_digest, write_log};
+use crate::output::text_with_digest;
+use path_log::{Log, ThreadPath};
 use path_walk::walk;
 use std::alloc::Global;
 use tc_base::limits::{DEPTH, THREADS};
@@ -24,8 +25,7 @@ pub(crate) fn migrated<'a>(alloc: Global, program: &[u8], log: &[u8]) -> Result<
     let (code, log) = read_both(alloc, program, log)?;
     of_program(program, &log)?;
     fit(alloc, &code, &log)?;
-    let log = log.with_digest(&program_digest(program));
-    let text = write_log(alloc, &log)?;
+    let text = text_with_digest(alloc, program, log)?;
     Ok(text)
 }
 

@@ -3,11 +3,11 @@ ghost use Rattle.std.specs.Prelude.{◌≤◌, length, IfOk, IfErr};
 ghost use Rattle.tc_base.specs.declared.limits.TheConstants.{PROGRAM_BYTES};
 ghost use Rattle.tc_record.specs.Seeded.{seeded_run};
 ghost use Rattle.clap_debug_cli.specs.Causes.{IsRecordAnswer};
-ghost use Rattle.clap_debug_cli.specs.Recorded.{FailsSo, HasFailed, IsLogText, IsRecorded};
+ghost use Rattle.clap_debug_cli.specs.Recorded.{HasOutcome, IsLogText, ComesTo, IsRecorded};
 ghost use Rattle.clap_debug_cli.specs.helpers.Refused.{IsEndOf, Refuses};
 
-use crate::answer::{Answer, Ending, Failure};
-use path_log::{program_digest, write_log};
+use crate::answer::{Answer, Ending, Failure, Outcome};
+use crate::output::text_with_digest;
 use std::alloc::Global;
 use store_buffers::{MemoryModel, PsoModel, Sc, TsoModel};
 use tc_base::Model;
@@ -15,17 +15,17 @@ use tc_code::Code;
 use tc_compile::compile;
 use tc_record::{Recorded, record_run};
 
-/// The failure of the run of a program by moves that a seed chooses under a memory model, at most so many, and the text
-/// of its log.
+/// The failure or deadlock of the run of a program by moves that a seed chooses under a memory model, at most so many,
+/// and the text of its log.
 pub(crate) fn recorded<'a>(
     alloc: Global,
     program: &[u8],
     model: Model,
     seed: u64,
     steps: u32,
-) -> Result<(Failure, Vec<u8>), Answer<'a>>
+) -> Result<(Outcome, Vec<u8>), Answer<'a>>
     requires { length program.now ≤ PROGRAM_BYTES }
-    ensures failure { IfOk result (λ both. FailsSo program.now model seed steps both.0) }
+    ensures outcome { IfOk result (λ both. ComesTo program.now model seed steps both.0) }
     ensures text { IfOk result (λ both. IsRecorded program.now model seed steps both.1.items) }
     ensures answer { IfErr result (Refuses (IsRecordAnswer program.now model seed steps)) }
 {
@@ -37,28 +37,30 @@ pub(crate) fn recorded<'a>(
     }
 }
 
-/// The failure of the run of a code, and the text of its log, with the digest of the program.
+/// The failure or deadlock of the run of a code, and the text of its log, with the digest of the program.
 fn recorded_under<'a, M: MemoryModel>(
     alloc: Global,
     program: &[u8],
     code: &Code,
     seed: u64,
     steps: u32,
-) -> Result<(Failure, Vec<u8>), Answer<'a>>
-    ensures failure { IfOk result (λ both. HasFailed code.now (seeded_run M.ops code.now seed steps) both.0) }
+) -> Result<(Outcome, Vec<u8>), Answer<'a>>
+    ensures outcome { IfOk result (λ both. HasOutcome code.now (seeded_run M.ops code.now seed steps) both.0) }
     ensures text { IfOk result (λ both. IsLogText M.ops M.MODEL program.now code.now (seeded_run M.ops code.now seed steps) both.1.items) }
     ensures answer { IfErr result (IsEndOf (seeded_run M.ops code.now seed steps)) }
 {
     match record_run::<M>(alloc, code, seed, steps)? {
         Recorded::Failed(log, moves, line) => {
-            let name = log.failing_name().clone()?;
-            let log = log.with_digest(&program_digest(program));
-            let text = write_log(alloc, &log)?;
+            let name = log.failing_name().unwrap().clone()?;
+            let text = text_with_digest(alloc, program, log)?;
             let moves = moves.len();
-            Ok((Failure { name, line, moves }, text))
+            Ok((Outcome::Failed(Failure { name, line, moves }), text))
+        }
+        Recorded::Deadlock(log, moves) => {
+            let text = text_with_digest(alloc, program, log)?;
+            Ok((Outcome::Deadlock(moves.len()), text))
         }
         Recorded::Finished(_) => Err(Answer::RunEnded(Ending::Finished)),
-        Recorded::Deadlock(_) => Err(Answer::RunEnded(Ending::Deadlock)),
         Recorded::StepLimit(moves) => Err(Answer::RunEnded(Ending::StepLimit(moves.len()))),
     }
 }

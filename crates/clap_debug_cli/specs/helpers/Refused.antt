@@ -61,7 +61,7 @@ abbrev pub IsWhyOther : (program : List ℕ) → StoredLog → Answer → Type 0
 IsWhyOther program run (LogRefused OtherProgram) = IsOfOther program run
 IsWhyOther program run _ = ⊥
 
--- a run of no failure
+-- a run without a log
 abbrev pub IsEndOf : {B : Type 0} → Ended B → Answer → Type 0
 IsEndOf run NoMemory = Unit {0}
 IsEndOf run (RunEnded e) = HasEnded run e

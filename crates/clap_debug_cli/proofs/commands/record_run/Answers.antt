@@ -3,14 +3,14 @@ use Rattle.clap_debug_words.specs.Calls.{Records}
 use Rattle.clap_debug_cli.proofs.Causes.{unkept_cause, work_cause}
 use Rattle.clap_debug_cli.proofs.commands.record_run.Goals as goal
 
-pub returns-in_err-failure : goal.returns-in_err-failure
-returns-in_err-failure g c =
+pub returns-in_err-outcome : goal.returns-in_err-outcome
+returns-in_err-outcome g c =
     let tells = g.H.Shelf.tells in
     let call = Records c.args.program.now c.args.log.now c.args.model c.args.seed c.args.steps in
     let gave = c.in_ok-program.ensures.gave in
     let new = tells c.fetch.new.shelf in
     let why = work_cause call (c.in_ok-program.program.items ∷ []) (tells c.args.shelf.now) new (new, gave, refl) (gave.0, tt) _
-    (rw c.deref.ensures.value at c.in_err-failure.ensures.answer) in
+    (rw c.deref.ensures.value at c.in_err-outcome.ensures.answer) in
     search rules
 
 pub returns-in_err-keep : goal.returns-in_err-keep
@@ -20,7 +20,7 @@ returns-in_err-keep g c =
     let gave = c.in_ok-program.ensures.gave in
     let s = tells c.fetch.new.shelf in
     let why = unkept_cause call (c.in_ok-program.program.items ∷ []) (tells c.args.shelf.now) s (s, gave, refl) (gave.0, tt) (tells c.keep.new.shelf)
-    c.args.log.now c.in_ok-failure.text.items refl (rw c.deref.ensures.value at c.in_ok-failure.ensures.text) _
+    c.args.log.now c.in_ok-outcome.text.items refl (rw c.deref.ensures.value at c.in_ok-outcome.ensures.text) _
     (rw c.deref-2.ensures.value at c.in_err-keep.ensures.unkept) in
     search rules
 
@@ -28,16 +28,16 @@ pub returns : goal.returns
 returns g c =
     let gave = c.in_ok-program.ensures.gave in
     let s = g.H.Shelf.tells c.fetch.new.shelf in
-    let text = c.in_ok-failure.text.items in (
+    let text = c.in_ok-outcome.text.items in (
       c.in_ok-program.program.items ∷ [],
       s,
       (s, gave, refl),
-      ((gave.0, tt), rw c.deref.ensures.value at c.in_ok-failure.ensures.failure),
+      ((gave.0, tt), rw c.deref.ensures.value at c.in_ok-outcome.ensures.outcome),
       (
         c.args.log.now,
         text,
         refl,
-        rw c.deref.ensures.value at c.in_ok-failure.ensures.text,
+        rw c.deref.ensures.value at c.in_ok-outcome.ensures.text,
         rw c.deref-2.ensures.value at c.in_ok-keep.ensures.kept,
       ),
     )

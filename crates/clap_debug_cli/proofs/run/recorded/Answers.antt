@@ -3,11 +3,11 @@ use Rattle.tc_base.specs.declared.model.Model.TheVariants.{Sc, Tso, Pso}
 use Rattle.clap_debug_cli.proofs.Ran.{end_of}
 use Rattle.clap_debug_cli.proofs.run.recorded.Goals as goal
 
-pub returns-in-Sc-clause-failure : goal.returns-in-Sc-clause-failure
-returns-in-Sc-clause-failure c =
+pub returns-in-Sc-clause-outcome : goal.returns-in-Sc-clause-outcome
+returns-in-Sc-clause-outcome c =
     rw c.in-Sc.is
     (IfOk-weaker c.recorded_under.result _ _ (λ both h. (c.in_ok-code.code, c.in_ok-code.ensures.found, h))
-    c.recorded_under.ensures.failure)
+    c.recorded_under.ensures.outcome)
 
 pub returns-in-Sc-clause-text : goal.returns-in-Sc-clause-text
 returns-in-Sc-clause-text c =
@@ -21,11 +21,11 @@ returns-in-Sc-clause-answer c =
     (IfErr-weaker c.recorded_under.result _ _ (end_of c.args.program.now Sc c.in_ok-code.code c.args.seed c.args.steps c.in_ok-code.ensures.found)
     c.recorded_under.ensures.answer)
 
-pub returns-in-Tso-clause-failure : goal.returns-in-Tso-clause-failure
-returns-in-Tso-clause-failure c =
+pub returns-in-Tso-clause-outcome : goal.returns-in-Tso-clause-outcome
+returns-in-Tso-clause-outcome c =
     rw c.in-Tso.is
     (IfOk-weaker c.recorded_under-in-Tso.result _ _ (λ both h. (c.in_ok-code.code, c.in_ok-code.ensures.found, h))
-    c.recorded_under-in-Tso.ensures.failure)
+    c.recorded_under-in-Tso.ensures.outcome)
 
 pub returns-in-Tso-clause-text : goal.returns-in-Tso-clause-text
 returns-in-Tso-clause-text c =
@@ -39,11 +39,11 @@ returns-in-Tso-clause-answer c =
     (IfErr-weaker c.recorded_under-in-Tso.result _ _ (end_of c.args.program.now Tso c.in_ok-code.code c.args.seed c.args.steps c.in_ok-code.ensures.found)
     c.recorded_under-in-Tso.ensures.answer)
 
-pub returns-clause-failure : goal.returns-clause-failure
-returns-clause-failure c =
+pub returns-clause-outcome : goal.returns-clause-outcome
+returns-clause-outcome c =
     rw c.in-Pso.is
     (IfOk-weaker c.recorded_under-in-Pso.result _ _ (λ both h. (c.in_ok-code.code, c.in_ok-code.ensures.found, h))
-    c.recorded_under-in-Pso.ensures.failure)
+    c.recorded_under-in-Pso.ensures.outcome)
 
 pub returns-clause-text : goal.returns-clause-text
 returns-clause-text c =

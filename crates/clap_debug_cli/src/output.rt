@@ -1,0 +1,21 @@
+//! Logs that are kept.
+ghost use Rattle.std.specs.Prelude.{◌≡◌, IfOk, IsTrue};
+ghost use Rattle.path_log.specs.Texts.{HasText, is_of_format, log_text};
+ghost use Rattle.clap_debug_cli.specs.Recorded.{with_digest};
+
+use path_log::{Log, program_digest, write_log};
+use std::alloc::{AllocError, Global};
+
+/// The text of a log in format 2, with the digest of the program.
+pub(crate) fn text_with_digest(
+    alloc: Global,
+    program: &[u8],
+    log: Log,
+) -> Result<Vec<u8>, AllocError>
+    requires { IsTrue (is_of_format log.log) }
+    ensures has_text { HasText (with_digest program.now log.log) }
+    ensures text { IfOk result (λ text. text.items ≡ log_text (with_digest program.now log.log)) }
+{
+    let log = log.with_digest(&program_digest(program));
+    write_log(alloc, &log)
+}
