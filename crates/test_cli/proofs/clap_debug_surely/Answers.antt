@@ -1,8 +1,8 @@
 use Rattle.std.proofs.Common.{refl, inl, inr}
 use Rattle.tc_io.specs.Mem.{sure_sink_tells}
 use Rattle.clap_debug_cli.proofs.Faults.{fetch_counts_one, keep_counts_one}
-use Rattle.clap_debug_tests.proofs.Surely.{never_fails, never_fails_to_put}
-use Rattle.clap_debug_tests.proofs.clap_debug_surely.Goals as goal
+use Rattle.test_cli.proofs.Surely.{never_fails, never_fails_to_put}
+use Rattle.test_cli.proofs.clap_debug_surely.Goals as goal
 
 pub returns-clause-no_read_fault : goal.returns-clause-no_read_fault
 returns-clause-no_read_fault c seven =
