@@ -1,0 +1,5 @@
+pub mod Worlds
+pub mod Reads
+pub mod Formulas
+pub mod Truth
+pub mod Orders

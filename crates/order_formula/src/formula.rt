@@ -1,0 +1,175 @@
+//! Formulas.
+ghost use Rattle.std.specs.Prelude.{◌≡◌, ◌++◌, [], ◌∷◌, ◌^◌, ◌-◌, min, map, sum, OnOk, OnErr};
+ghost use Rattle.order_formula.specs.Formulas.{body_nodes, case_nodes, nodes_of};
+ghost use Rattle.order_formula.specs.Orders.{ConjunctIsIn, Grows, with_conjunct};
+
+use crate::{Group, Literal, Order, Read};
+use std::alloc::{AllocError, Global};
+use std::marker::Model;
+
+/// Literals that hold together.
+#[derive(Debug, Drop)]
+pub struct Case {
+    literals: Vec<Literal>,
+}
+
+impl Model for Case {
+    ghost use Rattle.std.specs.Prelude.{List};
+    ghost use Rattle.order_formula.specs.declared.literal.Literal.{Literal};
+
+    ghost Value = { List Literal };
+
+    ghost view = { λ c. c.literals.items };
+}
+
+impl Case {
+    /// That all these literals hold.
+    pub fn new(literals: Vec<Literal>) -> Case
+        ensures { result ≡ literals.items }
+    {
+        Case { literals }
+    }
+
+    /// Its literals.
+    pub fn literals(&self) -> &[Literal]
+        ensures { result.now ≡ self.now }
+    {
+        self.literals.as_slice()
+    }
+}
+
+/// Cases of which at least one holds.
+#[derive(Debug, Drop)]
+pub struct Cases {
+    cases: Vec<Case>,
+}
+
+impl Model for Cases {
+    ghost use Rattle.std.specs.Prelude.{List};
+    ghost use Rattle.order_formula.specs.declared.literal.Literal.{Literal};
+
+    ghost Value = { List (List Literal) };
+
+    ghost view = { λ c. c.cases.items };
+}
+
+impl Cases {
+    /// That one of these cases holds.
+    pub fn new(cases: Vec<Case>) -> Cases
+        ensures { result ≡ cases.items }
+    {
+        Cases { cases }
+    }
+
+    /// The cases.
+    pub fn as_slice(&self) -> &[Case]
+        ensures { result.now ≡ self.now }
+    {
+        self.cases.as_slice()
+    }
+}
+
+/// What a conjunct says.
+#[derive(Debug, Drop)]
+pub enum Body {
+    /// One of the cases holds. What is always so has a case without literals, and what never is so has no case.
+    Any(Cases),
+    /// A load takes the value that it is to take.
+    Read(Read),
+}
+
+/// A part of a formula that is true by itself.
+#[derive(Debug, Drop)]
+pub struct Conjunct {
+    /// The rules that it belongs to.
+    pub group: Group,
+    /// What it says.
+    pub body: Body,
+}
+
+/// Conjuncts that are all true.
+#[derive(Debug, Drop)]
+pub struct Formula {
+    conjuncts: Vec<Conjunct>,
+}
+
+impl Model for Formula {
+    ghost use Rattle.std.specs.Prelude.{List};
+    ghost use Rattle.order_formula.specs.declared.formula.Conjunct.{Conjunct};
+
+    ghost Value = { List Conjunct };
+
+    ghost view = { λ f. f.conjuncts.items };
+}
+
+impl Formula {
+    /// The formula without conjuncts, which is true.
+    pub fn empty(alloc: Global) -> Formula
+        ensures { result ≡ [] }
+    {
+        Formula {
+            conjuncts: Vec::new(alloc),
+        }
+    }
+
+    /// One conjunct more, the last. The order takes what it asks. Refused for want of memory the formula is as before, and the
+    /// order has at most more questions.
+    pub fn push(&mut self, conjunct: Conjunct, order: &mut Order) -> Result<(), AllocError>
+        requires { ConjunctIsIn order.old conjunct }
+        ensures added { OnOk result (self.new ≡ self.old ++ conjunct ∷ []) }
+        ensures asked { OnOk result (order.new ≡ with_conjunct order.old conjunct) }
+        ensures refused { OnErr result (self.new ≡ self.old) }
+        ensures grows { Grows order.old order.new }
+    {
+        order.ask(&conjunct)?;
+        Ok(self.conjuncts.push(conjunct)?)
+    }
+
+    /// The conjuncts, in order.
+    pub fn conjuncts(&self) -> &[Conjunct]
+        ensures { result.now ≡ self.now }
+    {
+        self.conjuncts.as_slice()
+    }
+
+    /// How many nodes it has: its conjuncts, their cases, the literals of these, and the candidates of what is read; the
+    /// greatest number where there are more.
+    pub fn nodes(&self) -> u64
+        ensures { result ≡ min (nodes_of self.now) (2 ^ 64 - 1) }
+    {
+        let mut count: u64 = 0;
+        for conjunct in self.conjuncts() {
+            count = count
+                .saturating_add(conjunct.body.nodes())
+                .saturating_add(1);
+        }
+        count
+    }
+}
+
+impl Body {
+    /// Its nodes.
+    fn nodes(&self) -> u64
+        ensures { result ≡ min (body_nodes self.now) (2 ^ 64 - 1) }
+    {
+        match self {
+            Body::Any(cases) => cases.nodes(),
+            Body::Read(read) => read.candidates().len() as u64,
+        }
+    }
+}
+
+impl Cases {
+    /// The nodes of all cases.
+    fn nodes(&self) -> u64
+        ensures { result ≡ min (sum (map case_nodes self.now)) (2 ^ 64 - 1) }
+    {
+        let mut count: u64 = 0;
+        for case in self.as_slice() {
+            count = count
+                .saturating_add(case.literals().len() as u64)
+                .saturating_add(1);
+        }
+        count
+    }
+}
