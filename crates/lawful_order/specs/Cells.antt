@@ -1,0 +1,20 @@
+-- Whether two accesses are to one cell, and what their cell has at the start. Arrays lie apart from each other and from the cells
+-- that are told by number, and all elements of one begin alike.
+use Rattle.std.specs.Prelude.{ℤ, pos, List, get_or, Bool, false, ◌&&◌, ◌==◌}
+use Rattle.std.specs.Ordering.{int_eq}
+use Rattle.tc_code.specs.Code.{Code}
+use Rattle.sym_terms.specs.Values.{value_of}
+use Rattle.sym_terms.specs.declared.node.Node.{Node}
+use Rattle.sym_exec.specs.declared.symbolic.Cell.{Cell}
+use Rattle.sym_exec.specs.declared.symbolic.Cell.TheVariants.{Fixed, Element}
+use Rattle.order_formula.specs.Worlds.{World}
+
+-- elements of an array are one cell where their indexes are equal, by the values that the world's loads take
+abbrev pub is_same_cell : List Node → World → Cell → Cell → Bool
+is_same_cell nodes w (Fixed c) (Fixed d) = c == d
+is_same_cell nodes w (Element f m i) (Element g n j) = f == g && int_eq (value_of nodes w.loads i) (value_of nodes w.loads j)
+is_same_cell nodes w _ _ = false
+
+abbrev pub value_at_start : Code → Cell → ℤ
+value_at_start code (Fixed c) = get_or code.memory c (pos 0)
+value_at_start code (Element f m i) = get_or code.memory f (pos 0)

@@ -1,0 +1,21 @@
+-- Threads begin after their create, and a join comes after the thread's end.
+use Rattle.std.specs.Prelude.{◌≡◌, ℕ}
+use Rattle.path_walk.specs.Paths.{Paths}
+use Rattle.path_walk.specs.declared.event.Event.{Event}
+use Rattle.path_walk.specs.declared.event.EventKind.TheVariants as kind
+use Rattle.path_walk.specs.declared.event.Link.{Link}
+use Rattle.order_formula.specs.Worlds.{World}
+use Rattle.lawful_order.specs.Events.{HasEvent, Creates, Joins, IsChild, IsBefore}
+
+module _ (paths : Paths) (w : World) where
+  -- the thread has exited before a step of another thread
+  pub record HasExited (c t step : ℕ) : Type 0 where
+    pub exit : Event
+    pub there : HasEvent paths c exit
+    pub exits : exit.kind ≡ kind.Exit
+    pub before : IsBefore paths w c exit.step t step
+
+  pub record ChildrenPart : Type 0 where
+    pub created : (t c : ℕ) (l : Link) (x : Event) → Creates paths t l → IsChild paths t l.child c → HasEvent paths c x
+        → IsBefore paths w t l.step c x.step
+    pub joined : (t : ℕ) (l : Link) → Joins paths t l → (c : ℕ) × IsChild paths t l.child c × HasExited c t l.step

@@ -1,0 +1,65 @@
+-- The events and sleeps of paths, by number, and where a world has them.
+use Rattle.std.specs.Prelude.{◌≡◌, ℕ, ◌+◌, ◌<◌, ◌==◌, ◌&&◌, List, [], ◌∷◌, ◌++◌, map, Option, Some, slice_get, get_or, None}
+use Rattle.std.specs.List.{Contains, position_or_len}
+use Rattle.tc_base.specs.Names.{child}
+use Rattle.path_walk.specs.Paths.{Walk, Paths}
+use Rattle.path_walk.specs.declared.event.Event.{Event}
+use Rattle.path_walk.specs.declared.event.Region.{Region}
+use Rattle.path_walk.specs.declared.event.Sleep.{Sleep}
+use Rattle.path_walk.specs.declared.event.Link.{Link}
+use Rattle.order_formula.specs.Worlds.{World, position}
+
+-- something of a thread, which is told by its place among the paths' threads
+pub record Of (X : Type 0) : Type 0 where
+  pub thread : ℕ
+  pub it : X
+
+-- what each thread has, one thread after another
+abbrev pub all_from : {X : Type 0} → (Walk → List X) → ℕ → List Walk → List (Of X)
+all_from has t [] = []
+all_from has t (w ∷ ws) = map (λ x. record { thread = t; it = x }) (has w) ++ all_from has (t + 1) ws
+
+-- all events, and all sleeps: what stands at a place has that number
+abbrev pub all_events : Paths → List (Of Event)
+all_events paths = all_from (λ w. w.events) 0 paths.threads
+
+abbrev pub all_sleeps : Paths → List (Of Sleep)
+all_sleeps paths = all_from (λ w. w.sleeps) 0 paths.threads
+
+-- the number of the event that is a thread's step of that number
+abbrev pub number_of : Paths → (thread step : ℕ) → ℕ
+number_of paths t k = position_or_len (λ e. e.thread == t && e.it.step == k) (all_events paths)
+
+-- what a thread of the paths has
+module _ (paths : Paths) (t : ℕ) where
+  abbrev pub Has : {X : Type 0} → (Walk → List X) → X → Type 0
+  Has has x = (w : Walk) × (slice_get paths.threads t ≡ Some w) × Contains (has w) x
+
+  abbrev pub HasEvent : Event → Type 0
+  HasEvent = Has (λ w. w.events)
+
+  abbrev pub HasRegion : Region → Type 0
+  HasRegion = Has (λ w. w.regions)
+
+  abbrev pub Creates : Link → Type 0
+  Creates = Has (λ w. w.creates)
+
+  abbrev pub Joins : Link → Type 0
+  Joins = Has (λ w. w.joins)
+
+-- a thread is another's child of a number
+abbrev pub IsChild : Paths → (parent number thread : ℕ) → Type 0
+IsChild paths t k c =
+    (p : Walk) × (q : Walk) × (slice_get paths.threads t ≡ Some p) × (slice_get paths.threads c ≡ Some q) × (q.name ≡ child p.name k)
+
+-- where a world has a thread's step, and that one step comes before another
+module _ (paths : Paths) (w : World) where
+  abbrev pub place_of : (thread step : ℕ) → ℕ
+  place_of t k = position w (number_of paths t k)
+
+  abbrev pub IsBefore : (t k u j : ℕ) → Type 0
+  IsBefore t k u j = place_of t k < place_of u j
+
+-- the event that ends a sleep, if one does
+abbrev pub ender_of : World → ℕ → Option ℕ
+ender_of w sleep = get_or w.enders sleep None

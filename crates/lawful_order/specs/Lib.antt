@@ -1,0 +1,10 @@
+pub mod Events
+pub mod Cells
+pub mod Memory
+pub mod Reads
+pub mod Children
+pub mod Mutexes
+pub mod Conditions
+pub mod Tests
+pub mod Stuck
+pub mod Lawful

@@ -1,0 +1,15 @@
+-- A mutex is had by one thread at a time.
+use Rattle.std.specs.Prelude.{◌≡◌, ◌⊎◌, ◌≢◌, ℕ, Some}
+use Rattle.path_walk.specs.Paths.{Paths}
+use Rattle.path_walk.specs.declared.event.Region.{Region}
+use Rattle.order_formula.specs.Worlds.{World}
+use Rattle.lawful_order.specs.Events.{HasRegion, IsBefore}
+
+module _ (paths : Paths) (w : World) where
+  -- the mutex is left at the end of one region before it is taken at the start of the other; an open region has no end
+  abbrev pub IsLeftBefore : (t : ℕ) → Region → (u : ℕ) → Region → Type 0
+  IsLeftBefore t r u s = (k : ℕ) × (r.to ≡ Some k) × IsBefore paths w t k u s.«from»
+
+  pub record MutexPart : Type 0 where
+    pub exclusive : (t u : ℕ) (r s : Region) → HasRegion paths t r → HasRegion paths u s → r.mutex ≡ s.mutex
+        → (t ≢ u) ⊎ (r.«from» ≢ s.«from») → IsLeftBefore t r u s ⊎ IsLeftBefore u s t r

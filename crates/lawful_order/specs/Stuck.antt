@@ -1,0 +1,37 @@
+-- Of the log of a deadlock: no thread that hasn't exited can go on at the end.
+use Rattle.std.specs.Prelude.{◌≡◌, ◌⊎◌, ℕ, Option, Some, None, slice_get}
+use Rattle.path_walk.specs.Paths.{Walk, Paths}
+use Rattle.path_walk.specs.declared.event.Blocked.{Blocked}
+use Rattle.path_walk.specs.declared.event.Blocked.TheVariants.{Lock, Wake, Join}
+use Rattle.path_walk.specs.declared.event.Event.{Event}
+use Rattle.path_walk.specs.declared.event.EventKind.TheVariants as kind
+use Rattle.path_walk.specs.declared.event.Region.{Region}
+use Rattle.path_walk.specs.declared.event.Sleep.{Sleep}
+use Rattle.order_formula.specs.Worlds.{World}
+use Rattle.lawful_order.specs.Events.{Of, HasEvent, HasRegion, IsChild, all_sleeps, ender_of}
+
+module _ (paths : Paths) (w : World) where
+  -- a region of the mutex is open, so that its thread, which may have exited, has it at the end
+  pub record IsHeld (mutex : ℕ) : Type 0 where
+    pub thread : ℕ
+    pub region : Region
+    pub there : HasRegion paths thread region
+    pub of : region.mutex ≡ mutex
+    pub lasts : region.to ≡ None
+
+  -- nothing ends the sleep that a thread's step began
+  abbrev pub SleepsOn : (t step : ℕ) → Type 0
+  SleepsOn t k = (s : ℕ) (x : Of Sleep) → slice_get (all_sleeps paths) s ≡ Some x → x.thread ≡ t → x.it.step ≡ k → ender_of w s ≡ None
+
+  -- a thread's child hasn't exited
+  abbrev pub RunsOn : (t child : ℕ) → Type 0
+  RunsOn t k = (c : ℕ) (x : Event) → IsChild paths t k c → HasEvent paths c x → x.kind ≡ kind.Exit → ⊥
+
+  abbrev pub CannotGoOn : ℕ → Blocked → Type 0
+  CannotGoOn t (Lock m) = IsHeld m
+  CannotGoOn t (Wake c m k) = IsHeld m ⊎ SleepsOn t k
+  CannotGoOn t (Join k) = RunsOn t k
+
+  -- each thread of the log of a deadlock that hasn't exited is blocked at something
+  pub record StuckPart : Type 0 where
+    pub stuck : (t : ℕ) (q : Walk) (b : Blocked) → slice_get paths.threads t ≡ Some q → q.blocked ≡ Some b → CannotGoOn t b

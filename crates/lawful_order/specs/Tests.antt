@@ -1,0 +1,13 @@
+-- Every branch and every site comes out as the paths have it.
+use Rattle.std.specs.Prelude.{◌≡◌, ℕ, List, Some, slice_get}
+use Rattle.std.specs.List.{Contains}
+use Rattle.sym_terms.specs.declared.node.Node.{Node}
+use Rattle.sym_exec.specs.Alone.{outcome_by}
+use Rattle.sym_exec.specs.Executed.{Course, Symbolic}
+use Rattle.sym_exec.specs.declared.symbolic.Test.{Test}
+use Rattle.order_formula.specs.Worlds.{World}
+
+module _ (symbolic : Symbolic) (nodes : List Node) (w : World) where
+  pub record PathPart : Type 0 where
+    pub tests : (t : ℕ) (c : Course) (x : Test) → slice_get symbolic.threads t ≡ Some c → Contains c.tests x
+        → outcome_by nodes w.loads x ≡ x.wanted
