@@ -1,2 +1,3 @@
 pub mod Sources
 pub mod Last
+pub mod Asked

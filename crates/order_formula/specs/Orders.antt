@@ -1,6 +1,6 @@
 -- What a formula asks of the order of events, each question kept once.
-use Rattle.std.specs.Prelude.{◌≡◌, ℕ, ◌<◌, ◌≤◌, min, max, List, [], ◌++◌, fold, Bool, ◌&&◌, ◌==◌}
-use Rattle.std.specs.List.{All, IsDistinct, position_or_len}
+use Rattle.std.specs.Prelude.{◌≡◌, ℕ, ◌<◌, ◌≤◌, min, max, List, [], ◌++◌, fold, Bool, IsTrue, ◌&&◌, ◌==◌}
+use Rattle.std.specs.List.{All, IsDistinct, list_any, position_or_len}
 use Rattle.indexmap.specs.IndexSet.{insert_key}
 use Rattle.order_formula.specs.declared.order.Pair.{Pair}
 use Rattle.order_formula.specs.declared.order.Choice.{Choice}
@@ -100,6 +100,26 @@ module _ (o : Order) where
 
   abbrev pub ConjunctIsIn : Conjunct → Type 0
   ConjunctIsIn c = BodyIsIn c.body
+
+-- a part of a formula was asked: its pairs and choices are among the order's
+module _ (o : Order) where
+  abbrev pub AtomIsAsked : Atom → Type 0
+  AtomIsAsked (Before first second) = IsTrue (list_any (same_pair (pair_of first second)) o.pairs)
+  AtomIsAsked (Ends sleep by) = IsTrue (list_any (same_choice (record { sleep = sleep; by = by })) o.choices)
+  AtomIsAsked (Test _) = Unit {0}
+
+  abbrev pub LiteralIsAsked : Literal → Type 0
+  LiteralIsAsked l = AtomIsAsked l.atom
+
+  abbrev pub BodyIsAsked : Body → Type 0
+  BodyIsAsked (body.Any cases) = All (All LiteralIsAsked) cases
+  BodyIsAsked (body.Read _) = Unit {0}
+
+  abbrev pub ConjunctIsAsked : Conjunct → Type 0
+  ConjunctIsAsked c = BodyIsAsked c.body
+
+  abbrev pub IsAsked : List Conjunct → Type 0
+  IsAsked formula = All ConjunctIsAsked formula
 
 -- the same questions as before, each with its number, and maybe more
 pub record Grows (old new : Order) : Type 0 where
