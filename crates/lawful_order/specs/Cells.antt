@@ -1,5 +1,5 @@
 -- Whether two accesses are to one cell, and what their cell has at the start. Arrays lie apart from each other and from the cells
--- that are told by number, and all elements of one begin alike.
+-- that are told by number, and begin with 0 in each element.
 use Rattle.std.specs.Prelude.{ℤ, pos, List, get_or, Bool, false, ◌&&◌, ◌==◌}
 use Rattle.std.specs.Ordering.{int_eq}
 use Rattle.tc_code.specs.Code.{Code}
@@ -17,4 +17,4 @@ is_same_cell nodes w _ _ = false
 
 abbrev pub value_at_start : Code → Cell → ℤ
 value_at_start code (Fixed c) = get_or code.memory c (pos 0)
-value_at_start code (Element f m i) = get_or code.memory f (pos 0)
+value_at_start code (Element f m i) = pos 0

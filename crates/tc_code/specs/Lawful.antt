@@ -1,7 +1,7 @@
 -- Lawful code: what it keeps.
 use Rattle.std.specs.Prelude.{◌≡◌, ℕ, zero, suc, ◌+◌, ◌-◌, ◌<◌, ◌≤◌, List, [], ◌∷◌, length, nat_lt, nat_le, ◌==◌}
-use Rattle.std.specs.Prelude.{Bool, true, false, not, ◌&&◌, IsTrue, Option, Some, None, slice_get}
-use Rattle.std.specs.List.{All, list_all}
+use Rattle.std.specs.Prelude.{Bool, true, false, not, ◌&&◌, ◌||◌, pos, IsTrue, Option, Some, None, slice_get}
+use Rattle.std.specs.List.{All, list_all, list_any}
 use Rattle.std.specs.Option.{option_map_or}
 use Rattle.tc_base.specs.Arith.{IsInt}
 use Rattle.tc_base.specs.declared.limits.TheConstants.{CELLS}
@@ -44,6 +44,29 @@ names_what_is code f (Cas k c e new) = nat_lt k f.ints && nat_lt c (length code.
 names_what_is code f Fence = true
 names_what_is code f Stbar = true
 names_what_is code f Exit = true
+
+-- an array: its first cell, and how many it has
+pub record Array : Type 0 where
+  pub first : ℕ
+  pub length : ℕ
+
+-- whether a cell is none of an array's
+abbrev pub is_outside : ℕ → Array → Bool
+is_outside c a = nat_lt c a.first || nat_le (a.first + a.length) c
+
+-- whether these cells are one of the arrays
+abbrev pub is_array : List Array → (first length : ℕ) → Bool
+is_array arrays first n = list_any (λ a. a.first == first && a.length == n) arrays
+
+-- whether the cell that an instruction names by number is no array's, and the array that it names is one
+abbrev pub keeps_apart : List Array → Instr → Bool
+keeps_apart arrays (Load k c) = list_all (is_outside c) arrays
+keeps_apart arrays (LoadAt k a len i) = is_array arrays a len
+keeps_apart arrays (Store c e) = list_all (is_outside c) arrays
+keeps_apart arrays (StoreAt a len i e) = is_array arrays a len
+keeps_apart arrays (Swap k c e) = list_all (is_outside c) arrays
+keeps_apart arrays (Cas k c e new) = list_all (is_outside c) arrays
+keeps_apart arrays _ = true
 
 -- the expressions of an instruction
 abbrev pub exprs_of : Instr → List Expr
@@ -176,9 +199,18 @@ pub record HasMain (code : Code) : Type 0 where
   pub there : slice_get code.functions (length code.functions - 1) ≡ Some main
   pub params : main.params ≡ 0
 
+-- memory has arrays and single cells: arrays lie one after another, begin with 0 in each element, and are named whole
+pub record HasArrays (code : Code) : Type 0 where
+  pub arrays : List Array
+  pub apart : (j k : ℕ) (a b : Array) → slice_get arrays j ≡ Some a → slice_get arrays k ≡ Some b → j < k → a.first + a.length ≤ b.first
+  pub zero : (j k : ℕ) (a : Array) → slice_get arrays j ≡ Some a → k < a.length → slice_get code.memory (a.first + k) ≡ Some (pos 0)
+  pub named : (f k : ℕ) (g : Func) (i : Instr) → slice_get code.functions f ≡ Some g → slice_get g.instrs k ≡ Some i
+      → IsTrue (keeps_apart arrays i)
+
 pub record IsLawful (code : Code) : Type 0 where
   pub cells : length code.memory ≤ CELLS
   -- each cell has an int at the start
   pub ints : All IsInt code.memory
   pub functions : (f : ℕ) (g : Func) → slice_get code.functions f ≡ Some g → IsLawfulFunction code g
+  pub arrays : HasArrays code
   pub main : HasMain code

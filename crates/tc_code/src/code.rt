@@ -27,6 +27,7 @@ pub struct Func {
 /// Lawful code, in which
 /// - each instruction has its line;
 /// - memory has at most `CELLS` cells, and ints in them, as each number of an expression is one;
+/// - arrays lie apart from each other and from the cells that are named by number, and begin with 0 in each element;
 /// - all that an instruction names is there;
 /// - a child's function has as many parameters as it is given arguments, and parameters are slots;
 /// - a mutex is left, and a wait begins, directly after the test that the thread holds the mutex;
