@@ -15,7 +15,7 @@ module _ (paths : Paths) (w : World) where
     pub exits : exit.kind ≡ kind.Exit
     pub before : IsBefore paths w c exit.step t step
 
-  pub record ChildrenPart : Type 0 where
-    pub created : (t c : ℕ) (l : Link) (x : Event) → Creates paths t l → IsChild paths t l.child c → HasEvent paths c x
+  pub record ChildRule (c : ℕ) : Type 0 where
+    pub created : (t : ℕ) (l : Link) (x : Event) → Creates paths t l → IsChild paths t l.child c → HasEvent paths c x
         → IsBefore paths w t l.step c x.step
-    pub joined : (t : ℕ) (l : Link) → Joins paths t l → (c : ℕ) × IsChild paths t l.child c × HasExited c t l.step
+    pub joined : (t : ℕ) (l : Link) → Joins paths t l → IsChild paths t l.child c → HasExited c t l.step

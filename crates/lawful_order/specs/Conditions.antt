@@ -39,14 +39,14 @@ module _ (paths : Paths) (w : World) where
     pub begun : place_of paths w x.thread x.it.step < position w g
     pub lasts : (h : ℕ) → ender_of w s ≡ Some h → position w h < position w g → ⊥
 
-  pub record ConditionPart : Type 0 where
-    -- what ends a sleep is a signal or a broadcast of its condition, and then it waits
-    pub ends : (s c g : ℕ) (x : Of Sleep) → IsSleep s x c → ender_of w s ≡ Some g → (IsSignal g c ⊎ IsBroadcast g c) × Waits s x g
+  pub record ConditionRule (c : ℕ) : Type 0 where
+    -- what ends a sleep comes when it has begun
+    pub ends : (s g : ℕ) (x : Of Sleep) → IsSleep s x c → ender_of w s ≡ Some g → place_of paths w x.thread x.it.step < position w g
     -- before a thread wakes something has ended its sleep
-    pub wakes : (s c k : ℕ) (x : Of Sleep) → IsSleep s x c → x.it.wake ≡ Some k
+    pub wakes : (s k : ℕ) (x : Of Sleep) → IsSleep s x c → x.it.wake ≡ Some k
         → (g : ℕ) × (ender_of w s ≡ Some g) × (position w g < place_of paths w x.thread k)
     -- a signal ends one sleep at most, and one where a sleep waits
-    pub one : (s r c g : ℕ) → IsSignal g c → ender_of w s ≡ Some g → ender_of w r ≡ Some g → s ≡ r
-    pub some : (s c g : ℕ) (x : Of Sleep) → IsSignal g c → IsSleep s x c → Waits s x g → (r : ℕ) × (ender_of w r ≡ Some g)
+    pub one : (s r g : ℕ) → IsSignal g c → ender_of w s ≡ Some g → ender_of w r ≡ Some g → s ≡ r
+    pub some : (s g : ℕ) (x : Of Sleep) → IsSignal g c → IsSleep s x c → Waits s x g → (r : ℕ) × (ender_of w r ≡ Some g)
     -- a broadcast ends each sleep that waits
-    pub each : (s c g : ℕ) (x : Of Sleep) → IsBroadcast g c → IsSleep s x c → Waits s x g → ender_of w s ≡ Some g
+    pub each : (s g : ℕ) (x : Of Sleep) → IsBroadcast g c → IsSleep s x c → Waits s x g → ender_of w s ≡ Some g

@@ -1,35 +1,41 @@
 -- Lawful orders of paths under a memory model: those of the runs that go along the paths.
-use Rattle.std.specs.Prelude.{◌≡◌, Bool, List, length}
+use Rattle.std.specs.Prelude.{◌≡◌, ◌⊎◌, ℕ, Bool, List, length, Some}
 use Rattle.tc_code.specs.Code.{Code}
 use Rattle.path_walk.specs.Paths.{Paths}
+use Rattle.path_walk.specs.declared.event.Sleep.{Sleep}
 use Rattle.store_buffers.specs.Pending.{Binding}
 use Rattle.sym_terms.specs.declared.node.Node.{Node}
 use Rattle.sym_exec.specs.Executed.{Symbolic}
 use Rattle.order_formula.specs.Worlds.{World}
-use Rattle.lawful_order.specs.Events.{all_events, all_sleeps}
-use Rattle.lawful_order.specs.Memory.{MemoryPart}
-use Rattle.lawful_order.specs.Reads.{ReadPart}
-use Rattle.lawful_order.specs.Children.{ChildrenPart}
-use Rattle.lawful_order.specs.Mutexes.{MutexPart}
-use Rattle.lawful_order.specs.Conditions.{ConditionPart}
-use Rattle.lawful_order.specs.Tests.{PathPart}
-use Rattle.lawful_order.specs.Stuck.{StuckPart}
+use Rattle.order_formula.specs.declared.group.Group.{Group}
+use Rattle.order_formula.specs.declared.group.Group.TheVariants.{Own, Child, Read, Mutex, Condition, Test, Stuck}
+use Rattle.lawful_order.specs.Events.{Of, all_events, all_sleeps, ender_of}
+use Rattle.lawful_order.specs.Memory.{OwnRule}
+use Rattle.lawful_order.specs.Reads.{ReadRule}
+use Rattle.lawful_order.specs.Children.{ChildRule}
+use Rattle.lawful_order.specs.Mutexes.{MutexRule}
+use Rattle.lawful_order.specs.Conditions.{ConditionRule, IsSleep, IsSignal, IsBroadcast}
+use Rattle.lawful_order.specs.Tests.{TestRule}
+use Rattle.lawful_order.specs.Stuck.{StuckRule}
 
--- a world of the events, loads and sleeps of paths
+-- a world of the events, loads and sleeps of paths; what ends a sleep is a signal or a broadcast of its condition
 pub record IsWorldOf (paths : Paths) (symbolic : Symbolic) (w : World) : Type 0 where
   pub events : length w.positions ≡ length (all_events paths)
   pub loads : length w.loads ≡ symbolic.loads
   pub sleeps : length w.enders ≡ length (all_sleeps paths)
+  pub enders : (s g c : ℕ) (x : Of Sleep) → IsSleep paths w s x c → ender_of w s ≡ Some g → IsSignal paths w g c ⊎ IsBroadcast paths w g c
 
-pub record SyncPart (paths : Paths) (w : World) : Type 0 where
-  pub children : ChildrenPart paths w
-  pub mutexes : MutexPart paths w
-  pub conditions : ConditionPart paths w
+module _ (buffered : Bool) (bound : Binding) (code : Code) (paths : Paths) (symbolic : Symbolic) (nodes : List Node) (w : World) where
+  -- the rules of a group
+  abbrev pub MeetsRule : Group → Type 0
+  MeetsRule (Own t) = OwnRule buffered bound paths symbolic nodes w t
+  MeetsRule (Child t) = ChildRule paths w t
+  MeetsRule (Read t line) = ReadRule code paths symbolic nodes w t line
+  MeetsRule (Mutex m) = MutexRule paths w m
+  MeetsRule (Condition c) = ConditionRule paths w c
+  MeetsRule (Test t line) = TestRule symbolic nodes w t line
+  MeetsRule (Stuck t) = StuckRule paths w t
 
-pub record IsLawful (buffered : Bool) (bound : Binding) (code : Code) (paths : Paths)
-    (symbolic : Symbolic) (nodes : List Node) (w : World) : Type 0 where
-  pub memory : MemoryPart buffered bound paths symbolic nodes w
-  pub read : ReadPart code paths symbolic nodes w
-  pub sync : SyncPart paths w
-  pub path : PathPart symbolic nodes w
-  pub stuck : StuckPart paths w
+  -- an order is lawful where it meets all rules
+  pub record IsLawful : Type 0 where
+    pub meets : (g : Group) → MeetsRule g

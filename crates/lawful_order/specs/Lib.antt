@@ -8,3 +8,4 @@ pub mod Conditions
 pub mod Tests
 pub mod Stuck
 pub mod Lawful
+pub mod Whole

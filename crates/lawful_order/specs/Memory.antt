@@ -45,9 +45,9 @@ module _ (buffered : Bool) (bound : Binding) (paths : Paths) (symbolic : Symboli
   is_kept t x y =
       not (is_pending x.kind) || (not (may_overtake y.kind) || is_store y.kind && bound (same_cell t x y) (not (x.bars == y.bars)))
 
-  pub record MemoryPart : Type 0 where
-    pub own : (t : ℕ) (x y : Event) → HasEvent paths t x → HasEvent paths t y → x.step < y.step → is_kept t x y ≡ true
+  pub record OwnRule (t : ℕ) : Type 0 where
+    pub own : (x y : Event) → HasEvent paths t x → HasEvent paths t y → x.step < y.step → is_kept t x y ≡ true
         → IsBefore paths w t x.step t y.step
     -- after the failing event nothing comes but stores that are pending for good
-    pub last : (t u : ℕ) (x f : Event) → HasEvent paths t x → HasEvent paths u f → f.kind ≡ kind.Fail → x.kind ≢ kind.Fail
+    pub last : (u : ℕ) (x f : Event) → HasEvent paths t x → HasEvent paths u f → f.kind ≡ kind.Fail → x.kind ≢ kind.Fail
         → is_pending x.kind ≡ false → IsBefore paths w t x.step u f.step

@@ -10,6 +10,6 @@ module _ (paths : Paths) (w : World) where
   abbrev pub IsLeftBefore : (t : ℕ) → Region → (u : ℕ) → Region → Type 0
   IsLeftBefore t r u s = (k : ℕ) × (r.to ≡ Some k) × IsBefore paths w t k u s.«from»
 
-  pub record MutexPart : Type 0 where
-    pub exclusive : (t u : ℕ) (r s : Region) → HasRegion paths t r → HasRegion paths u s → r.mutex ≡ s.mutex
+  pub record MutexRule (m : ℕ) : Type 0 where
+    pub exclusive : (t u : ℕ) (r s : Region) → HasRegion paths t r → HasRegion paths u s → r.mutex ≡ m → s.mutex ≡ m
         → (t ≢ u) ⊎ (r.«from» ≢ s.«from») → IsLeftBefore t r u s ⊎ IsLeftBefore u s t r

@@ -4,13 +4,14 @@ use Rattle.std.specs.Prelude.{◌≡◌, ◌⊎◌, ℕ, ◌<◌, List, IsSome, 
 use Rattle.std.specs.List.{Contains}
 use Rattle.tc_code.specs.Code.{Code}
 use Rattle.path_walk.specs.Paths.{Paths}
+use Rattle.path_walk.specs.declared.event.Event.{Event}
 use Rattle.sym_terms.specs.declared.node.Node.{Node}
 use Rattle.sym_exec.specs.Alone.{Asked, asked_in}
 use Rattle.sym_exec.specs.Executed.{Course, Symbolic}
 use Rattle.sym_exec.specs.declared.symbolic.Access.{Access}
 use Rattle.order_formula.specs.Worlds.{World}
 use Rattle.lawful_order.specs.Cells.{is_same_cell, value_at_start}
-use Rattle.lawful_order.specs.Events.{IsBefore}
+use Rattle.lawful_order.specs.Events.{HasEvent, IsBefore}
 
 abbrev pub HasAccess : Symbolic → ℕ → Access → Type 0
 HasAccess symbolic t a = (c : Course) × (slice_get symbolic.threads t ≡ Some c) × Contains c.accesses a
@@ -38,6 +39,7 @@ module _ (code : Code) (paths : Paths) (symbolic : Symbolic) (nodes : List Node)
     pub sees : (u : ℕ) (b : Access) → Sees t a u b → ⊥
     pub takes : (asks a).takes ≡ Some (value_at_start code a.cell)
 
-  pub record ReadPart : Type 0 where
-    pub loads : (t : ℕ) (a : Access) → HasAccess symbolic t a → IsSome a.takes
+  -- of the loads of a thread's events of a line
+  pub record ReadRule (t line : ℕ) : Type 0 where
+    pub loads : (a : Access) (x : Event) → HasAccess symbolic t a → IsSome a.takes → HasEvent paths t x → x.step ≡ a.step → x.line ≡ line
         → ((u : ℕ) × (b : Access) × TakesFrom t a u b) ⊎ TakesFirst t a

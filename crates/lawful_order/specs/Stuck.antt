@@ -32,6 +32,6 @@ module _ (paths : Paths) (w : World) where
   CannotGoOn t (Wake c m k) = IsHeld m ⊎ SleepsOn t k
   CannotGoOn t (Join k) = RunsOn t k
 
-  -- each thread of the log of a deadlock that hasn't exited is blocked at something
-  pub record StuckPart : Type 0 where
-    pub stuck : (t : ℕ) (q : Walk) (b : Blocked) → slice_get paths.threads t ≡ Some q → q.blocked ≡ Some b → CannotGoOn t b
+  -- a thread of the log of a deadlock that hasn't exited is blocked at something
+  pub record StuckRule (t : ℕ) : Type 0 where
+    pub stuck : (q : Walk) (b : Blocked) → slice_get paths.threads t ≡ Some q → q.blocked ≡ Some b → CannotGoOn t b

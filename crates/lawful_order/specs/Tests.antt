@@ -8,6 +8,6 @@ use Rattle.sym_exec.specs.declared.symbolic.Test.{Test}
 use Rattle.order_formula.specs.Worlds.{World}
 
 module _ (symbolic : Symbolic) (nodes : List Node) (w : World) where
-  pub record PathPart : Type 0 where
-    pub tests : (t : ℕ) (c : Course) (x : Test) → slice_get symbolic.threads t ≡ Some c → Contains c.tests x
+  pub record TestRule (t line : ℕ) : Type 0 where
+    pub tests : (c : Course) (x : Test) → slice_get symbolic.threads t ≡ Some c → Contains c.tests x → x.line ≡ line
         → outcome_by nodes w.loads x ≡ x.wanted

@@ -3,3 +3,4 @@ pub mod Reads
 pub mod Formulas
 pub mod Truth
 pub mod Orders
+pub mod Groups
