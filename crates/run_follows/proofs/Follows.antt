@@ -39,7 +39,7 @@ use Rattle.run_history.proofs.Threads.{number_is, children_are}
 use Rattle.run_history.proofs.Frame.{Keeps, holds_after}
 
 -- one more deed may follow
-follow_push : (buffered : Bool) (bound : Binding) (code : Code) (h : List Deed) (d : Deed) → AllFollow buffered bound code h → failed_in h ≡ None
+pub follow_push : (buffered : Bool) (bound : Binding) (code : Code) (h : List Deed) (d : Deed) → AllFollow buffered bound code h → failed_in h ≡ None
     → MayFollow buffered bound code h d → AllFollow buffered bound code (h ++ d ∷ [])
 follow_push buffered bound code h d all none may older newer e is =
     elim (last_or_before h d older e newer is) [
@@ -66,7 +66,7 @@ threads_still h n k c v all older newer q j r' v' o' is =
       | inr b ↦ all older b.rest q j r' v' o' b.there
     ]
 
-nothing_follows : (buffered : Bool) (bound : Binding) (code : Code) → AllFollow buffered bound code []
+pub nothing_follows : (buffered : Bool) (bound : Binding) (code : Code) → AllFollow buffered bound code []
 nothing_follows buffered bound code older newer e is = absurd (not_nil older e newer (sym is))
 
 module _ {B : Type 0} (ops : BufferOps B) (model : Model) (bound : Binding) (laws : Laws ops model bound) (code : Code) (lawful : IsLawful code) where

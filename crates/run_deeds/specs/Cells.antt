@@ -1,0 +1,12 @@
+-- The cells of requests.
+use Rattle.std.specs.Prelude.{ℕ, Option, Some, None}
+use Rattle.tc_base.specs.declared.request.Request.{Request}
+use Rattle.tc_base.specs.declared.request.Request.TheVariants.{Read, Write, Exchange, CompareExchange}
+
+-- the cell that a request asks for, if it asks for one
+abbrev pub cell_of : Request → Option ℕ
+cell_of (Read c) = Some c
+cell_of (Write c v) = Some c
+cell_of (Exchange c v) = Some c
+cell_of (CompareExchange c e v) = Some c
+cell_of _ = None
