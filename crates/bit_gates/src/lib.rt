@@ -8,6 +8,7 @@ ghost use Rattle.std.specs.Prelude.{◌≡◌, ◌<◌, ◌≤◌, IfOk, OnOk, B
 ghost use Rattle.cnf_core.specs.Clauses.{var_of};
 ghost use Rattle.bit_gates.specs.Folded.{constant, both, either, differing, folded, chosen, HasRoom, IsLarger};
 ghost use Rattle.bit_gates.specs.Laws.{GatesMean};
+ghost use Rattle.bit_gates.specs.Extended.{GatesExtend};
 
 use cnf_core::{Cnf, Gate, Lit};
 use std::alloc::AllocError;
@@ -15,6 +16,11 @@ use std::alloc::AllocError;
 /// What a gate makes is a literal that has the gate's value wherever the clauses are satisfied.
 pub fn gates_mean()
     ensures { GatesMean }
+{}
+
+/// Gates add definitions alone: what satisfied the clauses before satisfies them with some values of the new variables.
+pub fn gates_extend()
+    ensures { GatesExtend }
 {}
 
 /// The literal that is always true, or always false.

@@ -122,7 +122,7 @@ one-var (negsuc n) (negsuc m) h e = inl (ap neg_ℤ (ap pos e))
 not-equal : (a b : ℤ) → int_eq a b ≡ false → a ≡ b → ⊥
 not-equal a b f e = let t : int_eq a b ≡ true = (signed_Decides a b).1 e in cc
 
-above : (a b : ℤ) → 0 < var_of a → int_eq a b ≡ false → int_eq a (neg_ℤ b) ≡ false → nat_lt (var_of a) (var_of b) ≡ false → var_of b < var_of a
+pub above : (a b : ℤ) → 0 < var_of a → int_eq a b ≡ false → int_eq a (neg_ℤ b) ≡ false → nat_lt (var_of a) (var_of b) ≡ false → var_of b < var_of a
 above a b h p q r =
     let n : var_of b ≤ var_of a = omega (arith, ltb-false) in
     elim (eq-or-lt_of_le n) [
@@ -197,19 +197,19 @@ clauses_for-mean v n Or a b ha hb =
 clauses_for-mean v n Xor a b ha hb = xor_clauses-mean v a b (pos (suc n)) ha hb (omega arith)
 
 -- values that agree on the first variables give literals, clauses and lists over these the same value
-literal_true-agree : (n : ℕ) (v w : Valuation) (l : ℤ) → Agree n v w → var_of l ≤ n → literal_true v l ≡ literal_true w l
+pub literal_true-agree : (n : ℕ) (v w : Valuation) (l : ℤ) → Agree n v w → var_of l ≤ n → literal_true v l ≡ literal_true w l
 literal_true-agree n v w (pos zero) h b = refl
 literal_true-agree n v w (pos (suc k)) h b = h (suc k) b
 literal_true-agree n v w (negsuc k) h b = ap not (h (suc k) b)
 
-clause_true-agree : (n : ℕ) (v w : Valuation) (c : List ℤ) → Agree n v w → is_within n c ≡ true → clause_true v c ≡ clause_true w c
+pub clause_true-agree : (n : ℕ) (v w : Valuation) (c : List ℤ) → Agree n v w → is_within n c ≡ true → clause_true v c ≡ clause_true w c
 clause_true-agree n v w [] h b = refl
 clause_true-agree n v w (l ∷ c) h b =
     let e : literal_true v l ≡ literal_true w l = literal_true-agree n v w l h (leb-true (var_of l) n (and_parts (nat_le (var_of l) n) _ b).0) in
     let f : clause_true v c ≡ clause_true w c = clause_true-agree n v w c h (and_parts (nat_le (var_of l) n) _ b).1 in
     cc
 
-satisfies-agree : (n : ℕ) (v w : Valuation) (cs : List (List ℤ)) → Agree n v w → list_all (is_within n) cs ≡ true → satisfies v cs ≡ satisfies w cs
+pub satisfies-agree : (n : ℕ) (v w : Valuation) (cs : List (List ℤ)) → Agree n v w → list_all (is_within n) cs ≡ true → satisfies v cs ≡ satisfies w cs
 satisfies-agree n v w [] h b = refl
 satisfies-agree n v w (c ∷ cs) h b =
     let e : clause_true v c ≡ clause_true w c = clause_true-agree n v w c h (and_parts (is_within n c) _ b).0 in
@@ -307,7 +307,7 @@ pub record IsGateOver (n : ℕ) (g : Wired) : Type 0 where
   pub second-positive : 0 < var_of g.second
   pub second-within : var_of g.second ≤ n
 
-gate_over : (n : ℕ) (g : Wired) (rest : Bool) → (is_over n g.first && is_over n g.second && rest) ≡ true → IsGateOver n g
+pub gate_over : (n : ℕ) (g : Wired) (rest : Bool) → (is_over n g.first && is_over n g.second && rest) ≡ true → IsGateOver n g
 gate_over n g rest h =
     let both : (is_over n g.first && is_over n g.second) ≡ true = (and_parts (is_over n g.first && is_over n g.second) rest h).0 in
     let f : is_over n g.first ≡ true = (and_parts (is_over n g.first) _ both).0 in
@@ -322,7 +322,7 @@ gate_over n g rest h =
 gate-means : (v : Valuation) (n : ℕ) (g : Wired) → IsGateOver n g → satisfies v (gate_clauses n g) ≡ same (v (suc n)) (value_of v g)
 gate-means v n g o = clauses_for-mean v n g.gate g.first g.second o.first-positive o.second-positive
 
-IsOver-gate : (f : Formula) (g : Wired) → IsGateOver f.vars g → IsOver f → IsOver (after_gate f g)
+pub IsOver-gate : (f : Formula) (g : Wired) → IsGateOver f.vars g → IsOver f → IsOver (after_gate f g)
 IsOver-gate f g o h =
     list_all-append (is_within (suc f.vars)) f.clauses (gate_clauses f.vars g)
     ∙ and_from _ _ (within-more f.vars f.clauses h) (within-clauses (suc f.vars) (gate_clauses f.vars g)
