@@ -15,7 +15,7 @@ pub record Of (X : Type 0) : Type 0 where
   pub it : X
 
 -- what each thread has, one thread after another
-abbrev pub all_from : {X : Type 0} → (Walk → List X) → ℕ → List Walk → List (Of X)
+abbrev pub all_from : {W X : Type 0} → (W → List X) → ℕ → List W → List (Of X)
 all_from has t [] = []
 all_from has t (w ∷ ws) = map (λ x. record { thread = t; it = x }) (has w) ++ all_from has (t + 1) ws
 

@@ -1,0 +1,114 @@
+-- What threads have, one thread after another, and the numbers of steps.
+use Rattle.std.proofs.Common.{◌≡◌, ◌∙◌, ℕ, zero, suc, ◌+◌, ◌<◌, ◌⊎◌, inl, inr, Bool, true, false, not, cond, ◌&&◌, ◌==◌, List, [], ◌∷◌, ◌++◌, map}
+use Rattle.std.proofs.Common.{length, get_or, Some, refl, sym, ap, subst, arith, append_assoc}
+use Rattle.std.specs.Prelude.{slice_get}
+use Rattle.std.specs.List.{Contains, position_or_len}
+use Rattle.std.proofs.lemmas.Bool.{false≢true}
+use Rattle.std.proofs.lemmas.List.{append-nil}
+use Rattle.std.proofs.lemmas.List.Sums.{passes_at_first}
+use Rattle.std.proofs.lemmas.List.Elements.{Contains-append_left, Contains-append_right, Contains-append_cases}
+use Rattle.tc_base.proofs.Bools.{first_T, second_T}
+use Rattle.path_walk.specs.Paths.{Walk, Paths}
+use Rattle.path_walk.specs.declared.event.Event.{Event}
+use Rattle.lawful_order.specs.Events.{Of, Has, HasEvent, all_from, all_events, number_of}
+use Rattle.lawful_order.specs.Whole.{HasStep}
+use Rattle.order_events.proofs.Lists.{of_nil, of_cons, in_map, of_map}
+
+-- a thread more, the last
+pub all_from_push : {W X : Type 0} (has : W → List X) (t : ℕ) (ws : List W) (w : W)
+    → all_from has t (ws ++ w ∷ []) ≡ all_from has t ws ++ map (λ x. record { thread = t + length ws; it = x }) (has w)
+all_from_push has t [] w =
+    append-nil _ ∙ ap (λ n. map (λ x. record { thread = n; it = x }) (has w)) (let e : t ≡ t + 0 = omega arith in e)
+all_from_push has t (v ∷ ws) w =
+    let own = map (λ x. record { thread = t; it = x }) (has v) in
+    let same : t + 1 + length ws ≡ t + length (v ∷ ws) = omega arith in
+    ap (λ zs. own ++ zs) (all_from_push has (t + 1) ws w ∙ ap (λ n. all_from has (t + 1) ws ++ map (λ x. record { thread = n; it = x }) (has w)) same)
+    ∙ sym (append_assoc own (all_from has (t + 1) ws) (map (λ x. record { thread = t + length (v ∷ ws); it = x }) (has w)))
+
+-- what a thread has is there
+pub in_all_from : {W X : Type 0} (has : W → List X) (t u n : ℕ) (ws : List W) (w : W) (x : X) → slice_get ws u ≡ Some w → Contains (has w) x → t + u ≡ n
+    → Contains (all_from has t ws) (record { thread = n; it = x })
+in_all_from has t u n [] w x at i sum = cc
+in_all_from {W} {X} has t zero n (v ∷ ws) w x at i sum =
+    let same : v ≡ w = cc in
+    let here : t ≡ n = omega (arith, sum) in
+    Contains-append_left (map (λ y. record { thread = t; it = y }) (has v)) (all_from has (t + 1) ws) (record { thread = n; it = x })
+    (subst (λ m. Contains (map (λ y. record { thread = t; it = y }) (has v)) (record { thread = m; it = x })) here
+    (in_map (λ y. record { thread = t; it = y }) x (has v) (subst (λ z. Contains (has z) x) (sym same) i)))
+in_all_from has t (suc u) n (v ∷ ws) w x at i sum =
+    Contains-append_right (map (λ y. record { thread = t; it = y }) (has v)) (all_from has (t + 1) ws) (record { thread = n; it = x })
+    (in_all_from has (t + 1) u n ws w x at i (omega (arith, sum)))
+
+-- and nothing else
+pub record IsOfThread {W X : Type 0} (has : W → List X) (t : ℕ) (ws : List W) (x : Of X) : Type 0 where
+  pub place : ℕ
+  pub owner : W
+  pub at : slice_get ws place ≡ Some owner
+  pub thread : t + place ≡ x.thread
+  pub among : Contains (has owner) x.it
+
+pub of_all_from : {W X : Type 0} (has : W → List X) (t : ℕ) (ws : List W) (x : Of X) → Contains (all_from has t ws) x → IsOfThread has t ws x
+of_all_from has t [] x i = absurd (of_nil x i)
+of_all_from {W} {X} has t (v ∷ ws) x i =
+    elim (Contains-append_cases (map (λ y. record { thread = t; it = y }) (has v)) (all_from has (t + 1) ws) x i) [
+      | inl here ↦ own (of_map (λ y. record { thread = t; it = y }) x (has v) here)
+      | inr rest ↦ later (of_all_from has (t + 1) ws x rest)
+    ]
+  where
+    own : ((y : X) × Contains (has v) y × (record { thread = t; it = y } ≡ x)) → IsOfThread has t (v ∷ ws) x
+    own o = record {
+      place = 0;
+      owner = v;
+      at = refl;
+      thread = omega (arith, ap (λ (z : Of X). z.thread) o.2);
+      among = subst (λ y. Contains (has v) y) (ap (λ (z : Of X). z.it) o.2) o.1;
+    }
+    later : IsOfThread has (t + 1) ws x → IsOfThread has t (v ∷ ws) x
+    later o = record { place = suc o.place; owner = o.owner; at = o.at; thread = omega (arith, o.thread); among = o.among }
+
+-- where an element passes, a first one does
+pub first_within : {X : Type 0} (p : X → Bool) (xs : List X) (x : X) → Contains xs x → p x ≡ true → position_or_len p xs < length xs
+first_within p [] x i hit = absurd (of_nil x i)
+first_within {X} p (z ∷ zs) x i hit = by (p z) refl
+  where
+    by : (b : Bool) → p z ≡ b → cond (not b) (1 + position_or_len p zs) 0 < length (z ∷ zs)
+    by true is = omega arith
+    by false is = elim (of_cons x z zs i) [
+      | inl same ↦ absurd (false≢true (sym is ∙ ap p same ∙ hit))
+      | inr rest ↦ omega (arith, first_within p zs x rest hit)
+    ]
+
+abbrev pub is_step : ℕ → ℕ → Of Event → Bool
+is_step t k e = e.thread == t && e.it.step == k
+
+same_number : (a b : ℕ) → (a == b) ≡ true → a ≡ b
+same_number a b e = grind (arith, e)
+
+is_own : (t k : ℕ) (e : Of Event) → e.thread ≡ t → e.it.step ≡ k → is_step t k e ≡ true
+is_own t k e one two = grind (arith, one, two)
+
+-- the number of a step that is an event
+pub has_number : (paths : Paths) (t k : ℕ) → HasStep paths t k → number_of paths t k < length (all_events paths)
+has_number paths t k s =
+    let h = s.1 in
+    first_within (is_step t k) (all_events paths) (record { thread = t; it = s.0 })
+    (in_all_from (λ w. w.events) 0 t t paths.threads h.0 s.0 h.1 h.2 (omega arith)) (is_own t k (record { thread = t; it = s.0 }) refl s.2)
+
+-- what stands there is the step's event
+pub is_step_at : (paths : Paths) (t k : ℕ) (d : Of Event) → number_of paths t k < length (all_events paths)
+    → is_step t k (get_or (all_events paths) (number_of paths t k) d) ≡ true
+is_step_at paths t k d within = passes_at_first (is_step t k) (all_events paths) d within
+
+pub one_step : (paths : Paths) (t k u j : ℕ) → HasStep paths t k → number_of paths t k ≡ number_of paths u j → (t ≡ u) × (k ≡ j)
+one_step paths t k u j s same =
+    let d : Of Event = record { thread = t; it = s.0 } in
+    let e = get_or (all_events paths) (number_of paths t k) d in
+    let within = has_number paths t k s in
+    let mine : is_step t k e ≡ true = is_step_at paths t k d within in
+    let other : is_step u j e ≡ true =
+      subst (λ n. is_step u j (get_or (all_events paths) n d) ≡ true) (sym same)
+      (is_step_at paths u j d (subst (λ n. n < length (all_events paths)) same within)) in (
+      sym (same_number e.thread t (first_true (e.thread == t) (e.it.step == k) mine)) ∙ same_number e.thread u (first_true (e.thread == u) (e.it.step == j) other),
+      sym (same_number e.it.step k (second_true (e.thread == t) (e.it.step == k) mine))
+      ∙ same_number e.it.step j (second_true (e.thread == u) (e.it.step == j) other),
+    )

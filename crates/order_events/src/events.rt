@@ -1,0 +1,104 @@
+//! The events of all threads.
+ghost use Rattle.std.specs.Prelude.{◌≡◌, ◌≤◌, ◌++◌, ◌==◌, ◌&&◌, ◌+◌, ◌<◌, ◌^◌, length, map, IfOk, OnOk};
+ghost use Rattle.std.specs.List.{position_or_len};
+ghost use Rattle.tc_base.specs.declared.limits.TheConstants.{EVENTS};
+ghost use Rattle.lawful_order.specs.Events.{all_events, all_from};
+
+use path_walk::{Event, Paths, Walk};
+use std::alloc::{AllocError, Global};
+use std::marker::Model;
+
+/// An event of a thread, which is told by its place among the threads of the paths.
+#[derive(Clone, Copy, Debug)]
+pub struct Placed {
+    /// The thread.
+    pub thread: usize,
+    /// The event.
+    pub event: Event,
+}
+
+impl Model for Placed {
+    ghost use Rattle.lawful_order.specs.Events.{Of};
+    ghost use Rattle.path_walk.specs.declared.event.Event.{Event};
+
+    ghost Value = { Of Event };
+
+    ghost view = { λ p. record { thread = p.thread; it = p.event } };
+}
+
+/// All events, one thread after another, and those of a thread by their steps: what stands at a place has that number. There
+/// are at most `EVENTS`.
+#[derive(Debug, Drop)]
+pub struct Events {
+    all: Vec<Placed>,
+}
+
+impl Model for Events {
+    ghost use Rattle.std.specs.Prelude.{List, length, ◌≤◌};
+    ghost use Rattle.tc_base.specs.declared.limits.TheConstants.{EVENTS};
+    ghost use Rattle.lawful_order.specs.Events.{Of};
+    ghost use Rattle.path_walk.specs.declared.event.Event.{Event};
+
+    ghost Value = { List (Of Event) };
+
+    ghost view = { λ e. e.all.items };
+
+    ghost invariant = { λ e. length e.all.items ≤ EVENTS };
+}
+
+impl Events {
+    /// The events of paths.
+    pub fn of(alloc: Global, paths: &Paths) -> Result<Events, AllocError>
+        requires { length (all_events paths.now) ≤ EVENTS }
+        ensures { IfOk result (λ events. events ≡ all_events paths.now) }
+    {
+        let mut all = Vec::new(alloc);
+        push_walks(&mut all, paths.threads())?;
+        Ok(Events { all })
+    }
+
+    /// All of them.
+    pub fn all(&self) -> &[Placed]
+        ensures events { result.now ≡ self.now }
+        ensures few { length self.now ≤ EVENTS }
+    {
+        self.all.as_slice()
+    }
+
+    /// The number of the event that is a thread's step; the number of all events, where no event is.
+    pub fn number(&self, thread: usize, step: usize) -> u32
+        ensures { result ≡ position_or_len (λ e. e.thread == thread && e.it.step == step) self.now }
+    {
+        let mut number: u32 = 0;
+        for placed in self.all() {
+            if placed.thread == thread && placed.event.step == step {
+                return number;
+            }
+            number += 1;
+        }
+        number
+    }
+}
+
+/// The events of threads, the first of which has place 0.
+fn push_walks(all: &mut Vec<Placed>, threads: &[Walk]) -> Result<(), AllocError>
+    ensures { OnOk result (all.new.items ≡ all.old.items ++ all_from (λ w. w.events) 0 threads.now) }
+{
+    for (thread, walk) in threads.iter().enumerate() {
+        push_events(all, thread, walk.events())?;
+    }
+    Ok(())
+}
+
+/// The events of a thread.
+fn push_events(all: &mut Vec<Placed>, thread: usize, events: &[Event]) -> Result<(), AllocError>
+    ensures { OnOk result (all.new.items ≡ all.old.items ++ map (λ x. record { thread = thread; it = x }) events.now) }
+{
+    for event in events {
+        all.push(Placed {
+            thread,
+            event: *event,
+        })?;
+    }
+    Ok(())
+}

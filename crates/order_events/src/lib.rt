@@ -1,0 +1,10 @@
+//! The events and sleeps of paths, each with its number.
+#![tactic(auto)]
+
+mod events;
+mod laws;
+mod sleeps;
+
+pub use events::{Events, Placed};
+pub use laws::{numbers_differ, paths_are_whole, steps_have_numbers};
+pub use sleeps::{PlacedSleep, Sleeps};

@@ -1,0 +1,86 @@
+//! The sleeps of all threads.
+ghost use Rattle.std.specs.Prelude.{◌≡◌, ◌++◌, map, IfOk, OnOk};
+ghost use Rattle.lawful_order.specs.Events.{all_sleeps, all_from};
+
+use path_walk::{Paths, Sleep, Walk};
+use std::alloc::{AllocError, Global};
+use std::marker::Model;
+
+/// A sleep of a thread, which is told by its place among the threads of the paths.
+#[derive(Clone, Copy, Debug)]
+pub struct PlacedSleep {
+    /// The thread.
+    pub thread: usize,
+    /// The sleep.
+    pub sleep: Sleep,
+}
+
+impl Model for PlacedSleep {
+    ghost use Rattle.lawful_order.specs.Events.{Of};
+    ghost use Rattle.path_walk.specs.declared.event.Sleep.{Sleep};
+
+    ghost Value = { Of Sleep };
+
+    ghost view = { λ p. record { thread = p.thread; it = p.sleep } };
+}
+
+/// All sleeps, one thread after another, and those of a thread by their steps: what stands at a place has that number.
+#[derive(Debug, Drop)]
+pub struct Sleeps {
+    all: Vec<PlacedSleep>,
+}
+
+impl Model for Sleeps {
+    ghost use Rattle.std.specs.Prelude.{List};
+    ghost use Rattle.lawful_order.specs.Events.{Of};
+    ghost use Rattle.path_walk.specs.declared.event.Sleep.{Sleep};
+
+    ghost Value = { List (Of Sleep) };
+
+    ghost view = { λ s. s.all.items };
+}
+
+impl Sleeps {
+    /// The sleeps of paths.
+    pub fn of(alloc: Global, paths: &Paths) -> Result<Sleeps, AllocError>
+        ensures { IfOk result (λ sleeps. sleeps ≡ all_sleeps paths.now) }
+    {
+        let mut all = Vec::new(alloc);
+        push_walks(&mut all, paths.threads())?;
+        Ok(Sleeps { all })
+    }
+
+    /// All of them.
+    pub fn all(&self) -> &[PlacedSleep]
+        ensures { result.now ≡ self.now }
+    {
+        self.all.as_slice()
+    }
+}
+
+/// The sleeps of threads, the first of which has place 0.
+fn push_walks(all: &mut Vec<PlacedSleep>, threads: &[Walk]) -> Result<(), AllocError>
+    ensures { OnOk result (all.new.items ≡ all.old.items ++ all_from (λ w. w.sleeps) 0 threads.now) }
+{
+    for (thread, walk) in threads.iter().enumerate() {
+        push_sleeps(all, thread, walk.sleeps())?;
+    }
+    Ok(())
+}
+
+/// The sleeps of a thread.
+fn push_sleeps(
+    all: &mut Vec<PlacedSleep>,
+    thread: usize,
+    sleeps: &[Sleep],
+) -> Result<(), AllocError>
+    ensures { OnOk result (all.new.items ≡ all.old.items ++ map (λ x. record { thread = thread; it = x }) sleeps.now) }
+{
+    for sleep in sleeps {
+        all.push(PlacedSleep {
+            thread,
+            sleep: *sleep,
+        })?;
+    }
+    Ok(())
+}
