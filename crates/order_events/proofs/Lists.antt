@@ -101,15 +101,17 @@ in_filter_map {X} {Y} h x y (z ∷ zs) i gives = elim (of_cons x z zs i) [
     further None j = j
     further (Some a) j = in_back y a (filter_map h zs) j
 
-pub of_filter_map : {X Y : Type 0} (h : X → Option Y) (y : Y) (xs : List X) → Contains (filter_map h xs) y → (x : X) × Contains xs x × (h x ≡ Some y)
+-- an element of which a function gives something
+abbrev Giver : {X Y : Type 0} → (X → Option Y) → Y → List X → Type 0
+Giver {X} h y xs = (x : X) × Contains xs x × (h x ≡ Some y)
+
+pub of_filter_map : {X Y : Type 0} (h : X → Option Y) (y : Y) (xs : List X) → Contains (filter_map h xs) y → Giver h y xs
 of_filter_map h y [] i = absurd (of_nil y i)
 of_filter_map {X} {Y} h y (z ∷ zs) i = by (h z) refl i (of_filter_map h y zs)
   where
-    abbrev Given : List X → Type 0
-    Given xs = (x : X) × Contains xs x × (h x ≡ Some y)
-    behind : Given zs → Given (z ∷ zs)
+    behind : Giver h y zs → Giver h y (z ∷ zs)
     behind o = (o.0, in_back o.0 z zs o.1, o.2)
-    by : (o : Option Y) → h z ≡ o → Contains (cons_option o (filter_map h zs)) y → (Contains (filter_map h zs) y → Given zs) → Given (z ∷ zs)
+    by : (o : Option Y) → h z ≡ o → Contains (cons_option o (filter_map h zs)) y → (Contains (filter_map h zs) y → Giver h y zs) → Giver h y (z ∷ zs)
     by None is j rest = behind (rest j)
     by (Some a) is j rest = elim (of_cons y a (filter_map h zs) j) [
       | inl same ↦ (z, in_front z zs, is ∙ ap (λ b. Some b) same)
