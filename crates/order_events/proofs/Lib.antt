@@ -1,3 +1,3 @@
 pub mod Lists
-pub mod Placed
+pub mod Numbers
 pub mod Whole

@@ -1,15 +1,18 @@
 -- The paths of a log are whole.
-use Rattle.std.proofs.Common.{◌≡◌, ◌∙◌, ℕ, zero, suc, ◌+◌, ◌<◌, ◌⊎◌, inl, inr, Bool, true, false, cond, List, [], ◌∷◌, ◌++◌, map, length, sum}
-use Rattle.std.proofs.Common.{Option, Some, None, refl, sym, ap, subst, arith}
+use Rattle.std.proofs.Common.{◌≡◌, ◌∙◌, ℕ, zero, suc, ◌+◌, ◌<◌, inl, inr, Bool, true, false, cond, List, [], ◌∷◌, map, length, sum}
+use Rattle.std.proofs.Common.{Option, Some, None, refl, sym, ap, subst, arith, ◌&&◌, ◌==◌, ◌≤◌, length-append}
+use Rattle.std.proofs.lemmas.List.{length-map}
+use Rattle.std.proofs.lemmas.List.Sums.{sum_by-cons}
 use Rattle.std.specs.Prelude.{slice_get, option_map}
 use Rattle.std.specs.List.{Contains, filter_map, cons_option}
-use Rattle.std.proofs.lemmas.Option.{none-some, same_Some, slice_get-map}
+use Rattle.std.specs.Option.{option_map_or}
+use Rattle.std.proofs.lemmas.Option.{none-some, same_Some}
 use Rattle.tc_base.specs.Logs.{Log, ThreadPath}
 use Rattle.tc_code.specs.Code.{Code}
 use Rattle.path_walk.specs.Fits.{ending_of, places_in}
 use Rattle.path_walk.specs.Steps.{Step, is_failing, steps_at}
-use Rattle.path_walk.specs.Marks.{Marks, Marked, unmarked, marked, marked_from, marked_steps}
-use Rattle.path_walk.specs.Events.{event_of, events_of, kind_with, takes, leaves, left_at, region_of, regions_of, sleep_by, sleeps_of, create_by, creates_of, join_by, joins_of}
+use Rattle.path_walk.specs.Marks.{Marks, Marked, unmarked, marked, marked_from}
+use Rattle.path_walk.specs.Events.{event_of, kind_with, takes, leaves, left_at, regions_of, sleep_by, sleeps_of, create_by, creates_of, join_by, joins_of}
 use Rattle.path_walk.specs.Paths.{Walk, Paths, ArePaths, paths_of, walk_of, function_in}
 use Rattle.path_walk.specs.declared.event.Event.{Event}
 use Rattle.path_walk.specs.declared.event.EventKind.{EventKind}
@@ -17,7 +20,7 @@ use Rattle.path_walk.specs.declared.event.EventKind.TheVariants as kind
 use Rattle.path_walk.specs.declared.event.Region.{Region}
 use Rattle.path_walk.specs.declared.event.Sleep.{Sleep}
 use Rattle.path_walk.specs.declared.event.Link.{Link}
-use Rattle.lawful_order.specs.Events.{Of, Has, HasEvent, all_from, all_events}
+use Rattle.lawful_order.specs.Events.{Of, Has, all_from}
 use Rattle.lawful_order.specs.Whole.{HasStep, AreWhole}
 use Rattle.order_events.proofs.Lists.{of_nil, of_cons, in_front, in_back, of_filter_map}
 
@@ -35,17 +38,11 @@ first_of e es = (e, in_front e es, refl)
 
 left_is_step : (m k : ℕ) (es : List Event) → left_at m es ≡ Some k → IsStepOf es k
 left_is_step m k [] is = absurd (none-some k is)
-left_is_step m k (e ∷ es) is = by (option_leaves e.kind) is
+left_is_step m k (e ∷ es) is = by (option_map_or (λ l. l == m) (leaves e.kind) false) is (left_is_step m k es)
   where
-    option_leaves : EventKind → Bool
-    option_leaves x = by_option (leaves x)
-      where
-        by_option : Option ℕ → Bool
-        by_option None = false
-        by_option (Some l) = l == m
-    by : (b : Bool) → cond b (Some e.step) (left_at m es) ≡ Some k → IsStepOf (e ∷ es) k
-    by true h = subst (λ n. IsStepOf (e ∷ es) n) (same_Some e.step k h) (first_of e es)
-    by false h = one_more e es k (left_is_step m k es h)
+    by : (b : Bool) → cond b (Some e.step) (left_at m es) ≡ Some k → (left_at m es ≡ Some k → IsStepOf es k) → IsStepOf (e ∷ es) k
+    by true h later = subst (λ n. IsStepOf (e ∷ es) n) (same_Some e.step k h) (first_of e es)
+    by false h later = one_more e es k (later h)
 
 record IsRegionOf (es : List Event) (r : Region) : Type 0 where
   taken : IsStepOf es r.«from»
@@ -56,7 +53,7 @@ region_more e es r o = record { taken = one_more e es r.«from» o.taken; left =
 
 regions_are : (es : List Event) (r : Region) → Contains (regions_of es) r → IsRegionOf es r
 regions_are [] r i = absurd (of_nil r i)
-regions_are (e ∷ es) r i = by (takes e.kind) i
+regions_are (e ∷ es) r i = by (takes e.kind) i (regions_are es r)
   where
     new : (m : ℕ) → record { mutex = m; «from» = e.step; to = left_at m es } ≡ r → IsRegionOf (e ∷ es) r
     new m same = record {
@@ -64,11 +61,11 @@ regions_are (e ∷ es) r i = by (takes e.kind) i
       left = λ k to. one_more e es k (left_is_step m k es (ap (λ (s : Region). s.to) same ∙ to));
     }
     by : (o : Option ℕ) → Contains (cons_option (option_map (λ m. record { mutex = m; «from» = e.step; to = left_at m es }) o) (regions_of es)) r
-        → IsRegionOf (e ∷ es) r
-    by None j = region_more e es r (regions_are es r j)
-    by (Some m) j = elim (of_cons r (record { mutex = m; «from» = e.step; to = left_at m es }) (regions_of es) j) [
+        → (Contains (regions_of es) r → IsRegionOf es r) → IsRegionOf (e ∷ es) r
+    by None j later = region_more e es r (later j)
+    by (Some m) j later = elim (of_cons r (record { mutex = m; «from» = e.step; to = left_at m es }) (regions_of es) j) [
       | inl same ↦ new m same
-      | inr rest ↦ region_more e es r (regions_are es r rest)
+      | inr rest ↦ region_more e es r (later rest)
     ]
 
 record IsSleepOf (es : List Event) (s : Sleep) : Type 0 where
@@ -84,7 +81,7 @@ next_is_step (e ∷ es) k is = subst (λ n. IsStepOf (e ∷ es) n) (same_Some e.
 
 sleeps_are : (es : List Event) (s : Sleep) → Contains (sleeps_of es) s → IsSleepOf es s
 sleeps_are [] s i = absurd (of_nil s i)
-sleeps_are (e ∷ es) s i = by (sleep_by e.step (slice_get es 0) e.kind) refl i
+sleeps_are (e ∷ es) s i = by (sleep_by e.step (slice_get es 0) e.kind) refl i (sleeps_are es s)
   where
     new : (x : Sleep) → sleep_by e.step (slice_get es 0) e.kind ≡ Some x → x ≡ s → IsSleepOf (e ∷ es) s
     new x is same = of_kind e.kind is
@@ -113,11 +110,12 @@ sleeps_are (e ∷ es) s i = by (sleep_by e.step (slice_get es 0) e.kind) refl i
         of_kind kind.Fence h = absurd (none-some x h)
         of_kind kind.Exit h = absurd (none-some x h)
         of_kind kind.Fail h = absurd (none-some x h)
-    by : (o : Option Sleep) → sleep_by e.step (slice_get es 0) e.kind ≡ o → Contains (cons_option o (sleeps_of es)) s → IsSleepOf (e ∷ es) s
-    by None is j = sleep_more e es s (sleeps_are es s j)
-    by (Some x) is j = elim (of_cons s x (sleeps_of es) j) [
+    by : (o : Option Sleep) → sleep_by e.step (slice_get es 0) e.kind ≡ o → Contains (cons_option o (sleeps_of es)) s
+        → (Contains (sleeps_of es) s → IsSleepOf es s) → IsSleepOf (e ∷ es) s
+    by None is j later = sleep_more e es s (later j)
+    by (Some x) is j later = elim (of_cons s x (sleeps_of es) j) [
       | inl same ↦ new x is same
-      | inr rest ↦ sleep_more e es s (sleeps_are es s rest)
+      | inr rest ↦ sleep_more e es s (later rest)
     ]
 
 create_is_step : (k : EventKind) (step : ℕ) (l : Link) → create_by step k ≡ Some l → step ≡ l.step
@@ -173,27 +171,25 @@ rise_earlier : (n m : ℕ) (es : List Event) → n ≤ m → RiseFrom m es → R
 rise_earlier n m [] up r = tt
 rise_earlier n m (e ∷ es) up r = (omega (arith, up, r.0), r.1)
 
+step_is : (o : Option EventKind) (e : Event) (k l bars : ℕ) → option_map (λ x. record { step = k; line = l; kind = x; bars = bars }) o ≡ Some e → k ≡ e.step
+step_is None e k l bars h = absurd (none-some e h)
+step_is (Some x) e k l bars h = ap (λ (y : Event). y.step) (same_Some _ e h)
+
+event_rises : (code : Code) (f k : ℕ) (m : Marked) (es : List Event) → m.number ≡ k → RiseFrom (k + 1) es → RiseFrom k (cons_option (event_of code f m) es)
+event_rises code f k m es at rest = by (event_of code f m) refl
+  where
+    by : (o : Option Event) → event_of code f m ≡ o → RiseFrom k (cons_option o es)
+    by None is = rise_earlier k (k + 1) es (omega arith) rest
+    by (Some e) is =
+        let same : m.number ≡ e.step = step_is (kind_with m.marks m.step.instr m.fails) e m.number _ m.marks.bars is in
+        (omega (arith, same, at), subst (λ n. RiseFrom (n + 1) es) (sym at ∙ same) rest)
+
 events_rise : (code : Code) (f : ℕ) (fails : Bool) (k : ℕ) (t : Marks) (steps : List Step)
     → RiseFrom k (filter_map (event_of code f) (marked_from fails k t steps))
 events_rise code f fails k t [] = tt
-events_rise code f fails k t (s ∷ steps) = by (event_of code f first) refl
-  where
-    first : Marked
-    first = record { number = k; step = s; fails = fails && length steps == 0; marks = t }
-    rest : RiseFrom (k + 1) (filter_map (event_of code f) (marked_from fails (k + 1) (marked t s.instr) steps))
-    rest = events_rise code f fails (k + 1) (marked t s.instr) steps
-    step_is : (o : Option EventKind) (e : Event) (l : ℕ)
-        → option_map (λ x. record { step = k; line = l; kind = x; bars = t.bars }) o ≡ Some e → k ≡ e.step
-    step_is None e l h = absurd (none-some e h)
-    step_is (Some x) e l h = ap (λ (y : Event). y.step) (same_Some _ e h)
-    by : (o : Option Event) → event_of code f first ≡ o
-        → RiseFrom k (cons_option o (filter_map (event_of code f) (marked_from fails (k + 1) (marked t s.instr) steps)))
-    by None is = rise_earlier k (k + 1) _ (omega arith) rest
-    by (Some e) is =
-        let same : k ≡ e.step = step_is (kind_with t s.instr (fails && length steps == 0)) e _ is in (
-          omega (arith, same),
-          subst (λ n. RiseFrom (n + 1) (filter_map (event_of code f) (marked_from fails (k + 1) (marked t s.instr) steps))) same rest,
-        )
+events_rise code f fails k t (s ∷ steps) =
+    event_rises code f k (record { number = k; step = s; fails = fails && length steps == 0; marks = t })
+    (filter_map (event_of code f) (marked_from fails (k + 1) (marked t s.instr) steps)) refl (events_rise code f fails (k + 1) (marked t s.instr) steps)
 
 rise_above : (n k : ℕ) (es : List Event) (x : Event) → RiseFrom n es → slice_get es k ≡ Some x → n ≤ x.step
 rise_above n k [] x r at = absurd (none-some x at)
@@ -239,12 +235,10 @@ counted : (code : Code) (log : Log) (t : ℕ) (ts : List ThreadPath)
 counted code log t [] = refl
 counted code log t (u ∷ ts) =
     let own = (walk_of code log u).events in
-    omega (
-      arith,
-      counted code log (t + 1) ts,
-      length-append (map (λ x. record { thread = t; it = x }) own) (all_from (λ w. w.events) (t + 1) (map (walk_of code log) ts)),
-      length-map own (λ x. record { thread = t; it = x }),
-    )
+    let placed : List (Of Event) = map (λ x. record { thread = t; it = x }) own in
+    let long : length placed ≡ length own = length-map own (λ x. record { thread = t; it = x }) in
+    let later = all_from (λ w. w.events) (t + 1) (map (walk_of code log) ts) in
+    sum_by-cons (λ n. n) (length own) (map (λ (x : ThreadPath). length (walk_of code log x).events) ts) ∙ ap (λ n. length own + n) (counted code log (t + 1) ts) ∙ ap (λ n. n + length later) (sym long) ∙ sym (length-append placed later)
 
 whole_of : (code : Code) (log : Log) → AreWhole (paths_of code log)
 whole_of code log = record {

@@ -9,7 +9,7 @@ use std::alloc::{AllocError, Global};
 use std::marker::Model;
 
 /// An event of a thread, which is told by its place among the threads of the paths.
-#[derive(Clone, Copy, Debug)]
+#[derive(Debug, Drop)]
 pub struct Placed {
     /// The thread.
     pub thread: usize,

@@ -7,7 +7,7 @@ use std::alloc::{AllocError, Global};
 use std::marker::Model;
 
 /// A sleep of a thread, which is told by its place among the threads of the paths.
-#[derive(Clone, Copy, Debug)]
+#[derive(Debug, Drop)]
 pub struct PlacedSleep {
     /// The thread.
     pub thread: usize,

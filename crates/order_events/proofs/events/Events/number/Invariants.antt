@@ -1,4 +1,4 @@
-use Rattle.std.proofs.Common.{◌≡◌, ◌==◌, ◌&&◌, false, ℕ, ◌<◌, take}
+use Rattle.std.proofs.Common.{◌≡◌, ◌==◌, ◌&&◌, false, take}
 use Rattle.std.specs.List.{list_any}
 use Rattle.order_events.proofs.events.Events.number.Given as goal
 

@@ -1,16 +1,15 @@
 -- What threads have, one thread after another, and the numbers of steps.
-use Rattle.std.proofs.Common.{◌≡◌, ◌∙◌, ℕ, zero, suc, ◌+◌, ◌<◌, ◌⊎◌, inl, inr, Bool, true, false, not, cond, ◌&&◌, ◌==◌, List, [], ◌∷◌, ◌++◌, map}
-use Rattle.std.proofs.Common.{length, get_or, Some, refl, sym, ap, subst, arith, append_assoc}
+use Rattle.std.proofs.Common.{◌≡◌, ◌∙◌, ℕ, zero, suc, ◌+◌, ◌<◌, inl, inr, Bool, true, false, not, cond, ◌&&◌, ◌||◌, ◌==◌, List, [], ◌∷◌, ◌++◌, map}
+use Rattle.std.proofs.Common.{length, take, get_or, Some, refl, sym, ap, subst, arith, append_assoc}
 use Rattle.std.specs.Prelude.{slice_get}
-use Rattle.std.specs.List.{Contains, position_or_len}
-use Rattle.std.proofs.lemmas.Bool.{false≢true}
-use Rattle.std.proofs.lemmas.List.{append-nil}
+use Rattle.std.specs.List.{Contains, list_any, position_or_len}
+use Rattle.std.proofs.lemmas.Bool.{false≢true, true≢false, and_parts}
+use Rattle.std.proofs.lemmas.List.{append-nil, take_more, length-take-le}
 use Rattle.std.proofs.lemmas.List.Sums.{passes_at_first}
 use Rattle.std.proofs.lemmas.List.Elements.{Contains-append_left, Contains-append_right, Contains-append_cases}
-use Rattle.tc_base.proofs.Bools.{first_T, second_T}
-use Rattle.path_walk.specs.Paths.{Walk, Paths}
+use Rattle.path_walk.specs.Paths.{Paths}
 use Rattle.path_walk.specs.declared.event.Event.{Event}
-use Rattle.lawful_order.specs.Events.{Of, Has, HasEvent, all_from, all_events, number_of}
+use Rattle.lawful_order.specs.Events.{Of, all_from, all_events, number_of}
 use Rattle.lawful_order.specs.Whole.{HasStep}
 use Rattle.order_events.proofs.Lists.{of_nil, of_cons, in_map, of_map}
 
@@ -25,6 +24,20 @@ all_from_push has t (v ∷ ws) w =
     ap (λ zs. own ++ zs) (all_from_push has (t + 1) ws w ∙ ap (λ n. all_from has (t + 1) ws ++ map (λ x. record { thread = n; it = x }) (has w)) same)
     ∙ sym (append_assoc own (all_from has (t + 1) ws) (map (λ x. record { thread = t + length (v ∷ ws); it = x }) (has w)))
 
+-- a loop over threads goes on by one
+pub walks_on : {W X : Type 0} (has : W → List X) (ws : List W) (k : ℕ) (w : W) (old mid new : List (Of X)) (xs : List X) → k < length ws → w ≡ get_or ws k w
+    → xs ≡ has w → mid ≡ old ++ all_from has 0 (take k ws) → new ≡ mid ++ map (λ x. record { thread = k; it = x }) xs
+    → new ≡ old ++ all_from has 0 (take (k + 1) ws)
+walks_on {W} {X} has ws k w old mid new xs within at own front step =
+    let before = all_from has 0 (take k ws) in
+    let same : 0 + length (take k ws) ≡ k = omega (arith, length-take-le k ws (omega (arith, within))) in
+    let more : all_from has 0 (take (k + 1) ws) ≡ before ++ map (λ x. record { thread = k; it = x }) (has w) =
+      ap (λ vs. all_from has 0 vs) (take_more ws k w within ∙ ap (λ v. take k ws ++ v ∷ []) (sym at)) ∙ all_from_push has 0 (take k ws) w
+      ∙ ap (λ n. before ++ map (λ x. record { thread = n; it = x }) (has w)) same in
+    step ∙ ap (λ zs. zs ++ map (λ x. record { thread = k; it = x }) xs) front
+    ∙ append_assoc old before (map (λ x. record { thread = k; it = x }) xs)
+    ∙ ap (λ ys. old ++ (before ++ map (λ x. record { thread = k; it = x }) ys)) own ∙ ap (λ zs. old ++ zs) (sym more)
+
 -- what a thread has is there
 pub in_all_from : {W X : Type 0} (has : W → List X) (t u n : ℕ) (ws : List W) (w : W) (x : X) → slice_get ws u ≡ Some w → Contains (has w) x → t + u ≡ n
     → Contains (all_from has t ws) (record { thread = n; it = x })
@@ -32,11 +45,13 @@ in_all_from has t u n [] w x at i sum = cc
 in_all_from {W} {X} has t zero n (v ∷ ws) w x at i sum =
     let same : v ≡ w = cc in
     let here : t ≡ n = omega (arith, sum) in
-    Contains-append_left (map (λ y. record { thread = t; it = y }) (has v)) (all_from has (t + 1) ws) (record { thread = n; it = x })
-    (subst (λ m. Contains (map (λ y. record { thread = t; it = y }) (has v)) (record { thread = m; it = x })) here
-    (in_map (λ y. record { thread = t; it = y }) x (has v) (subst (λ z. Contains (has z) x) (sym same) i)))
-in_all_from has t (suc u) n (v ∷ ws) w x at i sum =
-    Contains-append_right (map (λ y. record { thread = t; it = y }) (has v)) (all_from has (t + 1) ws) (record { thread = n; it = x })
+    let own : Of X = record { thread = n; it = x } in
+    Contains-append_left (map (λ y. record { thread = t; it = y }) (has v)) (all_from has (t + 1) ws) own
+    (subst (λ (m : ℕ). Contains {X = Of X} (map (λ y. record { thread = t; it = y }) (has v)) (record { thread = m; it = x })) here
+    (in_map {Y = Of X} (λ y. record { thread = t; it = y }) x (has v) (subst (λ z. Contains (has z) x) (sym same) i)))
+in_all_from {W} {X} has t (suc u) n (v ∷ ws) w x at i sum =
+    let own : Of X = record { thread = n; it = x } in
+    Contains-append_right (map (λ y. record { thread = t; it = y }) (has v)) (all_from has (t + 1) ws) own
     (in_all_from has (t + 1) u n ws w x at i (omega (arith, sum)))
 
 -- and nothing else
@@ -69,14 +84,40 @@ of_all_from {W} {X} has t (v ∷ ws) x i =
 -- where an element passes, a first one does
 pub first_within : {X : Type 0} (p : X → Bool) (xs : List X) (x : X) → Contains xs x → p x ≡ true → position_or_len p xs < length xs
 first_within p [] x i hit = absurd (of_nil x i)
-first_within {X} p (z ∷ zs) x i hit = by (p z) refl
+first_within {X} p (z ∷ zs) x i hit = by (p z) refl (λ rest. first_within p zs x rest hit)
   where
-    by : (b : Bool) → p z ≡ b → cond (not b) (1 + position_or_len p zs) 0 < length (z ∷ zs)
-    by true is = omega arith
-    by false is = elim (of_cons x z zs i) [
+    by : (b : Bool) → p z ≡ b → (Contains zs x → position_or_len p zs < length zs) → cond (not b) (1 + position_or_len p zs) 0 < length (z ∷ zs)
+    by true is later = omega arith
+    by false is later = elim (of_cons x z zs i) [
       | inl same ↦ absurd (false≢true (sym is ∙ ap p same ∙ hit))
-      | inr rest ↦ omega (arith, first_within p zs x rest hit)
+      | inr rest ↦ omega (arith, later rest)
     ]
+
+-- a search stops at the first that passes, or at the end
+pub first_is : {X : Type 0} (p : X → Bool) (xs : List X) (i : ℕ) (x : X) → list_any p (take i xs) ≡ false → i < length xs → x ≡ get_or xs i x → p x ≡ true
+    → i ≡ position_or_len p xs
+first_is p [] i x none within at hit = absurd (omega (arith, within))
+first_is {X} p (z ∷ zs) zero x none within at hit = by (p z) refl
+  where
+    by : (b : Bool) → p z ≡ b → 0 ≡ cond (not b) (1 + position_or_len p zs) 0
+    by true is = refl
+    by false is = absurd (false≢true (sym is ∙ ap p (sym at) ∙ hit))
+first_is {X} p (z ∷ zs) (suc i) x none within at hit = by (p z) none (λ n. first_is p zs i x n (omega (arith, within)) at hit)
+  where
+    by : (b : Bool) → (b || list_any p (take i zs)) ≡ false → (list_any p (take i zs) ≡ false → i ≡ position_or_len p zs)
+        → suc i ≡ cond (not b) (1 + position_or_len p zs) 0
+    by true none later = absurd (true≢false none)
+    by false none later = omega (arith, later none)
+
+pub none_is : {X : Type 0} (p : X → Bool) (xs : List X) (i : ℕ) → list_any p (take i xs) ≡ false → i ≡ length xs → i ≡ position_or_len p xs
+none_is p [] i none end = end
+none_is p (z ∷ zs) zero none end = absurd (omega (arith, end))
+none_is {X} p (z ∷ zs) (suc i) none end = by (p z) none (λ n. none_is p zs i n (omega (arith, end)))
+  where
+    by : (b : Bool) → (b || list_any p (take i zs)) ≡ false → (list_any p (take i zs) ≡ false → i ≡ position_or_len p zs)
+        → suc i ≡ cond (not b) (1 + position_or_len p zs) 0
+    by true none later = absurd (true≢false none)
+    by false none later = omega (arith, later none)
 
 abbrev pub is_step : ℕ → ℕ → Of Event → Bool
 is_step t k e = e.thread == t && e.it.step == k
@@ -84,7 +125,7 @@ is_step t k e = e.thread == t && e.it.step == k
 same_number : (a b : ℕ) → (a == b) ≡ true → a ≡ b
 same_number a b e = grind (arith, e)
 
-is_own : (t k : ℕ) (e : Of Event) → e.thread ≡ t → e.it.step ≡ k → is_step t k e ≡ true
+pub is_own : (t k : ℕ) (e : Of Event) → e.thread ≡ t → e.it.step ≡ k → is_step t k e ≡ true
 is_own t k e one two = grind (arith, one, two)
 
 -- the number of a step that is an event
@@ -108,7 +149,8 @@ one_step paths t k u j s same =
     let other : is_step u j e ≡ true =
       subst (λ n. is_step u j (get_or (all_events paths) n d) ≡ true) (sym same)
       (is_step_at paths u j d (subst (λ n. n < length (all_events paths)) same within)) in (
-      sym (same_number e.thread t (first_true (e.thread == t) (e.it.step == k) mine)) ∙ same_number e.thread u (first_true (e.thread == u) (e.it.step == j) other),
-      sym (same_number e.it.step k (second_true (e.thread == t) (e.it.step == k) mine))
-      ∙ same_number e.it.step j (second_true (e.thread == u) (e.it.step == j) other),
+      sym (same_number e.thread t (and_parts (e.thread == t) (e.it.step == k) mine).0)
+      ∙ same_number e.thread u (and_parts (e.thread == u) (e.it.step == j) other).0,
+      sym (same_number e.it.step k (and_parts (e.thread == t) (e.it.step == k) mine).1)
+      ∙ same_number e.it.step j (and_parts (e.thread == u) (e.it.step == j) other).1,
     )
