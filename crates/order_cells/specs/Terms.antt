@@ -1,0 +1,23 @@
+-- The terms that accesses name.
+use Rattle.std.specs.Prelude.{ℕ, ◌<◌, List, length}
+use Rattle.std.specs.Option.{IfSome}
+use Rattle.sym_terms.specs.declared.node.Node.{Node}
+use Rattle.sym_exec.specs.Executed.{Symbolic}
+use Rattle.sym_exec.specs.declared.symbolic.Access.{Access}
+use Rattle.sym_exec.specs.declared.symbolic.Cell.{Cell}
+use Rattle.sym_exec.specs.declared.symbolic.Cell.TheVariants.{Fixed, Element}
+use Rattle.lawful_order.specs.Reads.{HasAccess}
+
+-- a cell's index is among so many terms
+abbrev pub CellIsOf : ℕ → Cell → Type 0
+CellIsOf terms (Fixed c) = Unit {0}
+CellIsOf terms (Element f m i) = i < terms
+
+-- so is what an access writes
+pub record AccessIsOf (terms : ℕ) (a : Access) : Type 0 where
+  pub cell : CellIsOf terms a.cell
+  pub writes : IfSome a.writes (λ written. written < terms)
+
+-- the terms of all accesses are of some nodes
+abbrev pub HaveTerms : List Node → Symbolic → Type 0
+HaveTerms nodes symbolic = (t : ℕ) (a : Access) → HasAccess symbolic t a → AccessIsOf (length nodes) a

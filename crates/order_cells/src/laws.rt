@@ -1,0 +1,33 @@
+//! Laws of what is known of cells. Each is a clause of a function that does nothing.
+ghost use Rattle.std.specs.Prelude.{◌≡◌, ◌++◌, ℕ, Bool, Some, List, length, is_some, is_none};
+ghost use Rattle.std.specs.List.{Contains};
+ghost use Rattle.sym_terms.specs.Terms.{AreTerms, id_of};
+ghost use Rattle.sym_terms.specs.declared.node.Node.{Node};
+ghost use Rattle.sym_exec.specs.Executed.{Symbolic};
+ghost use Rattle.sym_exec.specs.Making.{Grows};
+ghost use Rattle.sym_exec.specs.declared.symbolic.Cell.{Cell};
+ghost use Rattle.order_formula.specs.Truth.{passes_at};
+ghost use Rattle.order_formula.specs.Worlds.{World};
+ghost use Rattle.lawful_order.specs.Cells.{is_same_cell};
+ghost use Rattle.order_cells.specs.Same.{known_same, same_test};
+ghost use Rattle.order_cells.specs.Terms.{CellIsOf, HaveTerms};
+
+/// What is known of two cells holds in every world. Where nothing is known there is a test, and once its term is there the cells
+/// are one exactly where it passes.
+pub fn cells_are_told()
+    ensures known { (nodes : List Node) (w : World) (a b : Cell) (same : Bool) → known_same nodes a b ≡ Some same → is_same_cell nodes w a b ≡ same }
+    ensures either { (nodes : List Node) (a b : Cell) → is_some (same_test nodes a b) ≡ is_none (known_same nodes a b) }
+    ensures tested { (nodes : List Node) (w : World) (a b : Cell) (test : Node)
+        → AreTerms nodes → same_test nodes a b ≡ Some test → Contains nodes test → is_same_cell nodes w a b ≡ passes_at nodes w (id_of nodes test) }
+{}
+
+/// More terms change nothing of it.
+pub fn cells_stay()
+    ensures known { (nodes more : List Node) (a b : Cell) → CellIsOf (length nodes) a → CellIsOf (length nodes) b
+        → known_same (nodes ++ more) a b ≡ known_same nodes a b }
+    ensures test { (nodes more : List Node) (a b : Cell) → CellIsOf (length nodes) a → CellIsOf (length nodes) b
+        → same_test (nodes ++ more) a b ≡ same_test nodes a b }
+    ensures same { (nodes more : List Node) (w : World) (a b : Cell) → CellIsOf (length nodes) a → CellIsOf (length nodes) b
+        → is_same_cell (nodes ++ more) w a b ≡ is_same_cell nodes w a b }
+    ensures accesses { (nodes later : List Node) (symbolic : Symbolic) → Grows nodes later → HaveTerms nodes symbolic → HaveTerms later symbolic }
+{}

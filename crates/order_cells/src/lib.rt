@@ -1,0 +1,7 @@
+//! Whether two accesses are to one cell.
+#![tactic(auto)]
+
+mod cells;
+pub mod laws;
+
+pub use cells::{known_same, same_test};
