@@ -3,7 +3,7 @@
 
   bench/gate.py rt ci          runs the words, and prints the table of docs/GATE.md once they have ended
 
-A process is looked at each second, so what lives shorter isn't counted. Times of other gates on the machine are counted too."""
+A process is looked at each second, so what lives shorter isn't counted. Only the run's own processes are."""
 import os, re, subprocess, sys, time
 
 TICKS = os.sysconf("SC_CLK_TCK")
@@ -14,16 +14,27 @@ def words_of(pid):
         return it.read().decode(errors="replace").split("\0")
 
 
-def look(seen):
-    """Notes the time of each process of a prover, by its crate and by what it is at."""
+def told(pid):
+    """What the system tells of a process: its command, and then the fields from its state on."""
+    with open(f"/proc/{pid}/stat", encoding="utf-8", errors="replace") as it:
+        comm, rest = re.match(r"\d+ \((.*)\) (.*)", it.read(), re.S).groups()
+    return comm, rest.split()
+
+
+def is_below(pid, top):
+    while pid not in (top, "0", "1"):
+        pid = told(pid)[1][1]
+    return pid == top
+
+
+def look(seen, top):
+    """Notes the time of each process of a prover below the top one, by its crate and by what it is at."""
     for pid in filter(str.isdigit, os.listdir("/proc")):
         try:
-            with open(f"/proc/{pid}/stat", encoding="utf-8", errors="replace") as it:
-                comm, rest = re.match(r"\d+ \((.*)\) (.*)", it.read(), re.S).groups()
-            rest = rest.split()
+            comm, rest = told(pid)
             # A prover's kernel has no words of its own.
             words = words_of(rest[1] if comm == "antt-kernel" else pid)
-            if "--crate-name" not in words:
+            if "--crate-name" not in words or not is_below(pid, top):
                 continue
             at = os.readlink(f"/proc/{pid}/cwd")
             part = "edits" if "/rt-edit" in at else "tests" if "--test" in words else "proof"
@@ -36,7 +47,7 @@ def look(seen):
 def main():
     seen, run = {}, subprocess.Popen(sys.argv[1:])
     while run.poll() is None:
-        look(seen)
+        look(seen, str(run.pid))
         time.sleep(1)
     sums = {}
     for name, part, seconds in seen.values():

@@ -324,7 +324,7 @@ module _ (code : Code) (f : ℕ) where
       (ap (λ k. filter (before k) later) count ∙ first_events b (j + 1) (marked m x.instr) xs ys)
 
 -- two tests that mean the same
-same_test : (a b c d : ℕ) → (a ≡ b → c ≡ d) → (c ≡ d → a ≡ b) → (a == b) ≡ (c == d)
+pub same_test : (a b c d : ℕ) → (a ≡ b → c ≡ d) → (c ≡ d → a ≡ b) → (a == b) ≡ (c == d)
 same_test a b c d to back = by (a == b) refl (c == d) refl
   where
     by : (x : Bool) → (a == b) ≡ x → (y : Bool) → (c == d) ≡ y → x ≡ y

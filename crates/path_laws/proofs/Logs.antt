@@ -127,7 +127,7 @@ module _ (code : Code) where
       ∙ ap (λ b. cond b (the_ok ps) (Err misfit.NotASite)) ends
 
   -- it has created as many children as it says
-  created_count : (b : Bool) (t : Local) (ps : List ℕ) → Stands code b t ps → length (started (steps_at code t.function ps)) ≡ t.children
+  pub created_count : (b : Bool) (t : Local) (ps : List ℕ) → Stands code b t ps → length (started (steps_at code t.function ps)) ≡ t.children
   created_count false t ps h = h.children
   created_count true t ps h =
       let at = at_its_place code h.before h.instr h.at in

@@ -1,15 +1,15 @@
 -- Runs in which each thread has gone the first part of its path in a log.
 use Rattle.std.proofs.Common.{◌≡◌, ◌∙◌, ℕ, zero, suc, ◌+◌, ◌≤◌, ◌<◌, Bool, true, false, ◌==◌, ◌&&◌, List, [], ◌∷◌, ◌++◌, length, take, drop}
 use Rattle.std.proofs.Common.{Option, Some, None, Result, Ok, Err, refl, sym, ap, ap₂, subst, arith, append-nil, append_assoc, bytes_eq, cond}
-use Rattle.std.specs.Prelude.{option_map, option_and_then}
+use Rattle.std.specs.Prelude.{option_map, option_and_then, slice_get}
 use Rattle.std.specs.FinMap as fin
 use Rattle.std.specs.Result.{result_err, result_unwrap_or}
 use Rattle.std.proofs.Math.Bool.{and-true}
-use Rattle.std.proofs.lemmas.Bool.{eqb-true, eq-eqb}
+use Rattle.std.proofs.lemmas.Bool.{and_parts, eqb-true, eq-eqb}
 use Rattle.std.proofs.lemmas.List.{take-append-drop}
 use Rattle.std.proofs.lemmas.Option.{none-some, same_Some, option_and_then_some}
 use Rattle.tc_base.specs.Buffers.{BufferOps}
-use Rattle.tc_base.specs.Logs.{Log, Path, path_under}
+use Rattle.tc_base.specs.Logs.{Log, Path, ThreadPath, path_under}
 use Rattle.tc_base.specs.Names.{Name}
 use Rattle.tc_base.specs.States.{Local, Thread, State}
 use Rattle.tc_base.specs.declared.moves.Move.{Move}
@@ -20,6 +20,9 @@ use Rattle.tc_code.specs.declared.instr.Instr.{Instr}
 use Rattle.tc_code.specs.Lawful.{IsLawful}
 use Rattle.tc_code.specs.Run.{run, run_from, Reproduces, IsReached, path_of}
 use Rattle.tc_code.specs.Step.{step, opening}
+use Rattle.path_log.specs.Texts.{is_log, rises_from}
+use Rattle.path_log.proofs.Lists.{split_at}
+use Rattle.path_log.proofs.Rising.{own_path}
 use Rattle.path_walk.specs.Steps.{Onward, onward, is_failing, places_from, places_of}
 use Rattle.path_walk.specs.Fits.{ending_by, ending_of, fails_in, places_in, function_of, Fits}
 use Rattle.path_walk.specs.declared.ending.Ending.TheVariants.{Fails, Open}
@@ -70,7 +73,7 @@ module _ {B : Type 0} (ops : BufferOps B) (code : Code) (log : Log) where
   on_before_step s u m reached one on = on_before_change s u reached (none_failed ops code s u m one) (change_of ops code s u m one) on
 
   -- and before more moves
-  on_before_moves : (s u : State B) (ms : List Move) → IsReached ops code s → run_from ops code s ms ≡ Some u → AreOnPaths log u → AreOnPaths log s
+  pub on_before_moves : (s u : State B) (ms : List Move) → IsReached ops code s → run_from ops code s ms ≡ Some u → AreOnPaths log u → AreOnPaths log s
   on_before_moves s u [] reached leads on = subst (AreOnPaths log) (sym (same_Some s u leads)) on
   on_before_moves s u (m ∷ ms) reached leads on =
       option_and_then_some (λ v. run_from ops code v ms) (step ops code s m) u leads
@@ -119,10 +122,18 @@ beginnings_on ops code log first rest s r leads =
     sym (run_from-append ops code (opening ops code) first rest ∙ ap (option_and_then (λ u. run_from ops code u rest)) leads) ∙ r.leads in
     on_before_moves ops code log s r.state rest (record { moves = first; leads = leads }) later (reproduced_on ops code log (first ++ rest) r)
 
+-- the path under a thread's own name
+pub own_under : (log : Log) → is_log log ≡ true → (j : ℕ) (p : ThreadPath) → slice_get log.threads j ≡ Some p → path_under p.name log.threads ≡ Some p.path
+own_under log is j p at =
+    let split = split_at log.threads j p at in
+    let rises : rises_from None (take j log.threads ++ p ∷ drop (suc j) log.threads) ≡ true =
+    ap (rises_from None) (sym split) ∙ (and_parts (rises_from None log.threads) _ is).0 in
+    ap (path_under p.name) split ∙ own_path p (drop (suc j) log.threads) None (take j log.threads) rises
+
 -- Places.
 
 -- fewer steps by the first of the outcomes are the first of the places
-first_places : (code : Code) (f n m k : ℕ) (os more : List Bool) (ps qs : List ℕ) → n ≤ m → places_from code f n k os ≡ Ok ps
+pub first_places : (code : Code) (f n m k : ℕ) (os more : List Bool) (ps qs : List ℕ) → n ≤ m → places_from code f n k os ≡ Ok ps
     → places_from code f m k (os ++ more) ≡ Ok qs → ps ≡ take n qs
 first_places code f zero m k [] more ps qs few h g = let none : [] ≡ ps = cc in sym none
 first_places code f zero m k (o ∷ os) more ps qs few h g = absurd cc
@@ -139,7 +150,7 @@ first_places code f (suc n) (suc m) k os more ps qs few h g =
     x.all ∙ ap (λ xs. k ∷ xs) (first_places code f n m x.next.place x.next.outcomes more x.rest y.rest less x.told told) ∙ sym (ap (take (suc n)) y.all)
 
 -- what has no error is a value
-is_ok : {X E : Type 0} (r : Result X E) (d : X) → result_err r ≡ None → r ≡ Ok (result_unwrap_or r d)
+pub is_ok : {X E : Type 0} (r : Result X E) (d : X) → result_err r ≡ None → r ≡ Ok (result_unwrap_or r d)
 is_ok (Ok x) d h = refl
 is_ok (Err e) d h = absurd (none-some e (sym h))
 

@@ -303,7 +303,7 @@ module _ {B : Type 0} (ops : BufferOps B) (code : Code) (lawful : IsLawful code)
         ∙ passes_beq (can_be_joined (handle_of t.local k)) (site_is_true (can_be_joined (handle_of t.local k)) passes)
     run_possible i passes may = refl
 
-  create_is : (t : Local) (i : Instr) (f : ℕ) → request t i ≡ Start f → starts i ≡ Some f
+  pub create_is : (t : Local) (i : Instr) (f : ℕ) → request t i ≡ Start f → starts i ≡ Some f
   create_is t (Create h g es) f e = let same : g ≡ f = cc in ap (λ k. Some k) same
   create_is t (Inside len x) f e = absurd (site_starts_none _ f e)
   create_is t (Holds k) f e = absurd (site_starts_none _ f e)

@@ -1,14 +1,13 @@
 -- Moves that reproduce a log do all steps of its paths.
-use Rattle.std.proofs.Common.{◌≡◌, ◌∙◌, inl, inr, ℕ, suc, ℤ, List, [], ◌∷◌, ◌++◌, length, take, drop, Option, Some, None, true}
+use Rattle.std.proofs.Common.{◌≡◌, ◌∙◌, inl, inr, ℕ, ℤ, List, [], length, Option, Some, None, true}
 use Rattle.std.proofs.Common.{refl, ap, sym, subst, arith, append-nil}
 use Rattle.std.specs.Prelude.{slice_get, unwrap_or, option_map}
 use Rattle.std.specs.List.{flat_map}
 use Rattle.std.specs.FinMap as fin
-use Rattle.std.proofs.lemmas.Bool.{and_parts}
 use Rattle.std.proofs.lemmas.List.{length-map, take_all}
 use Rattle.std.proofs.lemmas.Option.{none-some, same_Some, slice_get_cases, slice_get_within}
 use Rattle.tc_base.specs.Buffers.{BufferOps}
-use Rattle.tc_base.specs.Logs.{Log, Path, ThreadPath, path_under}
+use Rattle.tc_base.specs.Logs.{Log, Path, ThreadPath}
 use Rattle.tc_base.specs.States.{Thread, State}
 use Rattle.tc_base.specs.declared.moves.Move.{Move}
 use Rattle.tc_code.specs.Code.{Code}
@@ -16,31 +15,21 @@ use Rattle.tc_code.specs.Lawful.{IsLawful}
 use Rattle.tc_code.specs.Run.{Reproduces, path_of}
 use Rattle.run_laws.specs.Ints.{PassesInts}
 use Rattle.run_history.specs.History.{Deed, history}
-use Rattle.path_log.specs.Texts.{is_log, rises_from}
+use Rattle.path_log.specs.Texts.{is_log}
 use Rattle.path_walk.specs.Fits.{Fits, places_in}
 use Rattle.path_walk.specs.Paths.{walk_of, paths_of}
-use Rattle.path_log.proofs.Rising.{own_path}
 use Rattle.path_laws.specs.Prefixes.{AreOnPaths}
-use Rattle.path_laws.proofs.Prefixes.{beginnings_on, so_far}
+use Rattle.path_laws.proofs.Prefixes.{beginnings_on, own_under, so_far}
 use Rattle.sym_terms.specs.Terms.{AreTerms}
 use Rattle.sym_terms.specs.declared.node.Node.{Node}
 use Rattle.sym_exec.specs.Thread.{Doing, after_all}
 use Rattle.sym_exec.specs.Executed.{Course, fails_at, thread_started, thread_done}
 use Rattle.sym_exec.specs.Alone.{outcome_by}
 use Rattle.sym_laws.specs.Valued.{IsOneOf, AgreesWith, IsMet, asked_of, found, found_before, execution}
-use Rattle.path_log.proofs.Lists.{split_at}
 use Rattle.sym_laws.proofs.Lists.{each_is}
 use Rattle.sym_laws.proofs.Executed.{course_of, counted}
 use Rattle.sym_laws.proofs.Follows.{Follows, found_at_log, walks}
 use Rattle.sym_laws.proofs.Runs.{follow_after}
-
--- the path under a thread's own name
-own_under : (log : Log) → is_log log ≡ true → (j : ℕ) (p : ThreadPath) → slice_get log.threads j ≡ Some p → path_under p.name log.threads ≡ Some p.path
-own_under log is j p at =
-    let split = split_at log.threads j p at in
-    let rises : rises_from None (take j log.threads ++ p ∷ drop (suc j) log.threads) ≡ true =
-    ap (rises_from None) (sym split) ∙ (and_parts (rises_from None log.threads) _ is).0 in
-    ap (path_under p.name) split ∙ own_path p (drop (suc j) log.threads) None (take j log.threads) rises
 
 module _ {B : Type 0} (ops : BufferOps B) (code : Code) (log : Log) (nodes : List Node) (loads : List ℤ) (ints : PassesInts ops)
     (lawful : IsLawful code) (is : is_log log ≡ true) (fits : Fits code log) (terms : AreTerms nodes) (moves : List Move)
