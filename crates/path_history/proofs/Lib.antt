@@ -1,0 +1,6 @@
+pub mod Told
+pub mod Walks
+pub mod Places
+pub mod Next
+pub mod Stays
+pub mod Logged

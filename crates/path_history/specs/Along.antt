@@ -1,0 +1,46 @@
+-- Histories along the paths of a log.
+use Rattle.std.specs.Prelude.{◌≡◌, ℕ, Bool, true, Some, List, length, slice_get}
+use Rattle.std.specs.FinMap as fin
+use Rattle.tc_base.specs.Logs.{Log}
+use Rattle.tc_base.specs.Names.{Name}
+use Rattle.tc_base.specs.States.{Local}
+use Rattle.tc_code.specs.Code.{Code}
+use Rattle.store_buffers.specs.Pending.{Binding}
+use Rattle.run_history.specs.History.{Deed}
+use Rattle.run_history.specs.Locals.{locals_in}
+use Rattle.run_history.specs.Told.{is_thread_in, steps_in, failed_in}
+use Rattle.run_follows.specs.Follow.{AllFollow}
+use Rattle.path_walk.specs.Paths.{Walk, paths_of}
+use Rattle.path_laws.specs.Prefixes.{IsOnPath}
+
+-- all threads of a history have gone the first parts of their paths in a log
+abbrev pub AreOnPathsIn : Code → Log → List Deed → Type 0
+AreOnPathsIn code log h = (n : Name) (t : Local) → fin.get (locals_in code h) n ≡ Some t → IsOnPath log (failed_in h) n t
+
+-- a history along the paths: each deed may come after those before it, and no thread leaves its path
+pub record IsAlongPaths (buffered : Bool) (bound : Binding) (code : Code) (log : Log) (h : List Deed) : Type 0 where
+  pub follow : AllFollow buffered bound code h
+  pub on : AreOnPathsIn code log h
+
+-- a thread of the paths, at a place
+abbrev pub IsThread : Code → Log → ℕ → Walk → Type 0
+IsThread code log j w = slice_get (paths_of code log).threads j ≡ Some w
+
+-- a name is that of a thread of the paths
+pub record IsNameOfThread (code : Code) (log : Log) (n : Name) : Type 0 where
+  pub place : ℕ
+  pub walk : Walk
+  pub there : IsThread code log place walk
+  pub name : walk.name ≡ n
+
+-- a thread of the paths has done all its steps
+abbrev pub HasDoneAll : List Deed → Walk → Type 0
+HasDoneAll h w = steps_in h w.name ≡ length w.places
+
+-- so have all of them
+abbrev pub AllHaveDone : Code → Log → List Deed → Type 0
+AllHaveDone code log h = (j : ℕ) (w : Walk) → IsThread code log j w → HasDoneAll h w
+
+-- and each is there
+abbrev pub AllAreThere : Code → Log → List Deed → Type 0
+AllAreThere code log h = (j : ℕ) (w : Walk) → IsThread code log j w → is_thread_in h w.name ≡ true
