@@ -36,11 +36,13 @@ use Rattle.tc_code.specs.Expr.{Expr}
 use Rattle.tc_code.specs.declared.instr.Instr.{Instr}
 use Rattle.tc_code.specs.declared.instr.Instr.TheVariants.{LoadAt, StoreAt, Inside, Unlock, Sleep, Wake, Join, Exit}
 use Rattle.tc_code.specs.Code.{Code}
-use Rattle.tc_code.specs.Lawful.{names_what_is, is_bound, target, StandsBefore, IsTarget, IsGuarded, IsLawfulFunction}
+use Rattle.tc_code.specs.Lawful as lawful
+use Rattle.tc_code.specs.Lawful.{names_what_is, keeps_apart, is_bound, target, StandsBefore, IsTarget, IsGuarded, IsLawfulFunction}
 use Rattle.tc_code.specs.declared.code.Func.{Func}
 use Rattle.tc_lower.proofs.Blocks.{Block, Lands, is_glued, block_lands, there_is}
 use Rattle.tc_lower.proofs.Ints.{AllFine, fine_append, fine_at, none}
-use Rattle.tc_lower.proofs.Parts.{IsAt, at_right, at_first, all_append, all_pass}
+use Rattle.tc_lower.proofs.Parts.{IsAt, at_right, at_first, all_append, all_pass, first_true, second_true}
+use Rattle.tc_lower.proofs.Sound.{names_apart}
 
 -- what isn't bound to the one before it for a jump's sake isn't bound
 unbound : (i : Instr) → is_glued i ≡ false → is_bound i ≡ false
@@ -143,14 +145,23 @@ module _ (code : Code) (f : Func) (body : List Instr) (whole : f.instrs ≡ body
         },
       )
 
-  pub function_is_lawful : length f.lines ≡ length f.instrs → f.params ≤ f.ints → IsTrue (list_all (names_what_is code f) body) → AllFine body
-      → IsLawfulFunction code f
-  function_is_lawful lines params named fine = record {
+  -- each instruction names what is there, and keeps the arrays apart
+  each_names : (arrays : List lawful.Array) → IsTrue (list_all (names_apart arrays code f) body) → (k : ℕ) (i : Instr) → slice_get f.instrs k ≡ Some i
+      → IsTrue (names_apart arrays code f i)
+  each_names arrays named k i there =
+      all_pass (names_apart arrays code f) f.instrs 0 (body ++ Exit ∷ []) is_at (all_append (names_apart arrays code f) body (Exit ∷ []) named refl) k i
+      (omega arith) (omega (arith, slice_get_within f.instrs k i there, size, length-append body (Exit ∷ []))) there
+
+  pub function_keeps_apart : (arrays : List lawful.Array) → IsTrue (list_all (names_apart arrays code f) body) → (k : ℕ) (i : Instr)
+      → slice_get f.instrs k ≡ Some i → IsTrue (keeps_apart arrays i)
+  function_keeps_apart arrays named k i there = first_true (keeps_apart arrays i) (names_what_is code f i) (each_names arrays named k i there)
+
+  pub function_is_lawful : (arrays : List lawful.Array) → length f.lines ≡ length f.instrs → f.params ≤ f.ints
+      → IsTrue (list_all (names_apart arrays code f) body) → AllFine body → IsLawfulFunction code f
+  function_is_lawful arrays lines params named fine = record {
     lines = lines;
     params = params;
-    names = λ k i there.
-        all_pass (names_what_is code f) f.instrs 0 (body ++ Exit ∷ []) is_at (all_append (names_what_is code f) body (Exit ∷ []) named refl) k i (omega arith)
-        (omega (arith, slice_get_within f.instrs k i there, size, length-append body (Exit ∷ []))) there;
+    names = λ k i there. second_true (keeps_apart arrays i) (names_what_is code f i) (each_names arrays named k i there);
     ints = fine_at f.instrs (subst AllFine (sym whole) (fine_append body (Exit ∷ []) fine (none, tt)));
     jump = jump_lands;
     unlock = λ k m there. block.stands k (Unlock m) (omega arith) (inside k (Unlock m) there (λ e. absurd cc)) there;

@@ -5,6 +5,7 @@ pub mod Chains
 pub mod Blocks
 pub mod Parts
 pub mod Sound
+pub mod Arrays
 pub mod Pieces
 pub mod Functions
 pub mod Programs

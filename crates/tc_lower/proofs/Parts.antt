@@ -95,13 +95,13 @@ all_pass p all s (j ∷ js) h passes k i low high there =
       )) there
     ]
 
-pub all_append : (p : Instr → Bool) (is js : List Instr) → IsTrue (list_all p is) → IsTrue (list_all p js) → IsTrue (list_all p (is ++ js))
+pub all_append : {A : Type 0} (p : A → Bool) (is js : List A) → IsTrue (list_all p is) → IsTrue (list_all p js) → IsTrue (list_all p (is ++ js))
 all_append p [] js h g = g
 all_append p (i ∷ is) js h g = both_true (p i) (list_all p (is ++ js)) (first_true (p i) (list_all p is) h)
     (all_append p is js (second_true (p i) (list_all p is) h) g)
 
 -- what follows from passing
-pub all_weaker : (p q : Instr → Bool) → ((i : Instr) → IsTrue (p i) → IsTrue (q i)) → (is : List Instr) → IsTrue (list_all p is) → IsTrue (list_all q is)
+pub all_weaker : {A : Type 0} (p q : A → Bool) → ((i : A) → IsTrue (p i) → IsTrue (q i)) → (is : List A) → IsTrue (list_all p is) → IsTrue (list_all q is)
 all_weaker p q f [] h = refl
 all_weaker p q f (i ∷ is) h =
     both_true (q i) (list_all q is) (f i (first_true (p i) (list_all p is) h)) (all_weaker p q f is (second_true (p i) (list_all p is) h))

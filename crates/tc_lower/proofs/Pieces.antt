@@ -38,7 +38,8 @@ use Rattle.tc_code.specs.declared.instr.Instr.TheVariants as instr
 use Rattle.tc_code.specs.declared.instr.Instr.{Instr}
 use Rattle.tc_code.specs.declared.instr.Instr.TheVariants.{StoreAt, Inside, Branch, Goto}
 use Rattle.tc_code.specs.Code.{Code}
-use Rattle.tc_code.specs.Lawful.{takes, names_what_is, keeps}
+use Rattle.tc_code.specs.Lawful as lawful
+use Rattle.tc_code.specs.Lawful.{takes, is_outside, is_array, keeps}
 use Rattle.tc_code.specs.declared.code.Func.{Func}
 use Rattle.tc_tree.specs.declared.expression.Name.{Name}
 use Rattle.tc_tree.specs.declared.statement.Action.{Action}
@@ -93,28 +94,28 @@ use Rattle.tc_lower.proofs.Blocks.{
   before_next,
 }
 use Rattle.tc_lower.proofs.Parts.{IsAt, at_left, at_right, at_first, at_next, all_append, all_weaker, all_pass, both_true, first_true, second_true}
-use Rattle.tc_lower.proofs.Sound.{lt_true, le_true, names_more, writes_from, keeps_earlier, block_at, stands_at, IfThere, Sound, evaluated_sound}
+use Rattle.tc_lower.proofs.Sound.{lt_true, le_true, names_more, names_apart, writes_from, keeps_earlier, block_at, stands_at, IfThere, Sound, evaluated_sound}
 
 -- instructions from a place on, with a next free slot before and after them
-pub record Piece (code : Code) (f : Func) (at free next : ℕ) (is : List Instr) : Type 0 where
+pub record Piece (arrays : List lawful.Array) (code : Code) (f : Func) (at free next : ℕ) (is : List Instr) : Type 0 where
   pub grows : free ≤ next
-  pub named : next ≤ f.ints → IsTrue (list_all (names_what_is code f) is)
+  pub named : next ≤ f.ints → IsTrue (list_all (names_apart arrays code f) is)
   pub block : (all : List Instr) → IsAt all at is → Block all at (at + length is)
 
-module _ (code : Code) (f : Func) (base : ℕ) where
-  value_piece : (at free : ℕ) (v : Evaluated) → Sound code f at free v → Piece code f at free v.free v.instrs
+module _ (arrays : List lawful.Array) (code : Code) (f : Func) (base : ℕ) where
+  value_piece : (at free : ℕ) (v : Evaluated) → Sound arrays code f at free v → Piece arrays code f at free v.free v.instrs
   value_piece at free v s = record { grows = s.grows; named = s.named; block = s.block }
 
-  no_piece : (at free : ℕ) → Piece code f at free free []
+  no_piece : (at free : ℕ) → Piece arrays code f at free free []
   no_piece at free =
       let end : at ≡ at + 0 = omega arith in
       record { grows = omega arith; named = λ few. refl; block = λ all h. block_at all at at at (at + 0) refl end (no_block all at) }
 
-  both_pieces : (at free mid next : ℕ) (is js : List Instr) → Piece code f at free mid is → Piece code f (at + length is) mid next js
-      → Piece code f at free next (is ++ js)
+  both_pieces : (at free mid next : ℕ) (is js : List Instr) → Piece arrays code f at free mid is → Piece arrays code f (at + length is) mid next js
+      → Piece arrays code f at free next (is ++ js)
   both_pieces at free mid next is js a b = record {
     grows = omega (arith, a.grows, b.grows);
-    named = λ few. all_append (names_what_is code f) is js (a.named (omega (arith, few, b.grows))) (b.named few);
+    named = λ few. all_append (names_apart arrays code f) is js (a.named (omega (arith, few, b.grows))) (b.named few);
     block = λ all h.
         let end : at + length is + length js ≡ at + length (is ++ js) = omega (arith, length-append is js) in
         block_at all at at (at + length is + length js) (at + length (is ++ js)) refl end
@@ -122,21 +123,23 @@ module _ (code : Code) (f : Func) (base : ℕ) where
   }
 
   -- one that goes with no other
-  one_piece : (at free next : ℕ) (i : Instr) → free ≤ next → (next ≤ f.ints → IsTrue (names_what_is code f i)) → is_glued i ≡ false
-      → ((all : List Instr) (k : ℕ) → May all at (at + 1) k i) → Piece code f at free next (i ∷ [])
+  one_piece : (at free next : ℕ) (i : Instr) → free ≤ next → (next ≤ f.ints → IsTrue (names_apart arrays code f i)) → is_glued i ≡ false
+      → ((all : List Instr) (k : ℕ) → May all at (at + 1) k i) → Piece arrays code f at free next (i ∷ [])
   one_piece at free next i up named unglued may = record {
     grows = up;
-    named = λ few. both_true (names_what_is code f i) true (named few) refl;
+    named = λ few. both_true (names_apart arrays code f i) true (named few) refl;
     block = λ all h. one_block all at i (at_first all at i [] h) unglued (may all);
   }
 
   -- and one that goes with the one before it
-  two_piece : (at free : ℕ) (i j : Instr) → IsTrue (names_what_is code f i) → IsTrue (names_what_is code f j) → is_glued i ≡ false
+  two_piece : (at free : ℕ) (i j : Instr) → IsTrue (names_apart arrays code f i) → IsTrue (names_apart arrays code f j) → is_glued i ≡ false
       → ((all : List Instr) (k : ℕ) → May all at (at + 2) k i)
-      → ((all : List Instr) → slice_get all at ≡ Some i → May all at (at + 2) (at + 1) j) → Piece code f at free free (i ∷ j ∷ [])
+      → ((all : List Instr) → slice_get all at ≡ Some i → May all at (at + 2) (at + 1) j) → Piece arrays code f at free free (i ∷ j ∷ [])
   two_piece at free i j i_named j_named unglued may after = record {
     grows = omega arith;
-    named = λ few. both_true (names_what_is code f i) (names_what_is code f j && true) i_named (both_true (names_what_is code f j) true j_named refl);
+    named = λ few.
+        both_true (names_apart arrays code f i) (names_apart arrays code f j && true) i_named
+        (both_true (names_apart arrays code f j) true j_named refl);
     block = λ all h.
         let first = at_first all at i (j ∷ []) h in
         two_block all at i j first (at_first all (at + 1) j [] (at_next all at i (j ∷ []) h)) unglued (may all) (after all first);
@@ -144,46 +147,51 @@ module _ (code : Code) (f : Func) (base : ℕ) where
 
   -- ---- what statements do with their values
 
-  assignment_piece : (at free : ℕ) (o : Option Thing) (e : Expr) → base ≤ free → IfThere code f base o → IsTrue (names_slots free e)
-      → Piece code f at free free (assignment o e)
+  assignment_piece : (at free : ℕ) (o : Option Thing) (e : Expr) → base ≤ free → IfThere arrays code f base o → IsTrue (names_slots free e)
+      → Piece arrays code f at free free (assignment o e)
   assignment_piece at free (Some (Slot k)) e low there named =
       one_piece at free free (instr.Set k e) (omega arith) (λ few. both_true (nat_lt k f.ints) (names_slots f.ints e)
       (lt_true k f.ints (omega (arith, few, low, there))) (names_more e free f.ints few named)) refl (λ all k. tt)
   assignment_piece at free (Some (Cell c)) e low there named =
-      one_piece at free free (instr.Store c e) (omega arith) (λ few. both_true (nat_lt c (length code.memory)) (names_slots f.ints e)
-      (lt_true c (length code.memory) there) (names_more e free f.ints few named)) refl (λ all k. tt)
+      one_piece at free free (instr.Store c e) (omega arith) (λ few.
+      both_true (list_all (is_outside c) arrays) (nat_lt c (length code.memory) && names_slots f.ints e) there.1
+      (both_true (nat_lt c (length code.memory)) (names_slots f.ints e) (lt_true c (length code.memory) there.0) (names_more e free f.ints few named)))
+      refl (λ all k. tt)
   assignment_piece at free _ e low there named = no_piece at free
 
-  swap_piece : (at free : ℕ) (o q : Option Thing) (e : Expr) → base ≤ free → IfThere code f base o → IfThere code f base q → IsTrue (names_slots free e)
-      → Piece code f at free (free + 1) (swap o q free e)
+  swap_piece : (at free : ℕ) (o q : Option Thing) (e : Expr) → base ≤ free → IfThere arrays code f base o → IfThere arrays code f base q
+      → IsTrue (names_slots free e) → Piece arrays code f at free (free + 1) (swap o q free e)
   swap_piece at free (Some (Slot k)) (Some (Cell c)) e low slot cell named =
       both_pieces at free (free + 1) (free + 1) (instr.Swap free c e ∷ []) (instr.Set k (code_expr.Slot free) ∷ [])
-      (one_piece at free (free + 1) (instr.Swap free c e) (omega arith) (λ few. both_true (nat_lt free f.ints && nat_lt c (length code.memory)) (names_slots
-      f.ints e)
-      (both_true (nat_lt free f.ints) (nat_lt c (length code.memory)) (lt_true free f.ints (omega (arith, few))) (lt_true c (length code.memory) cell))
-      (names_more e free f.ints (omega (arith, few)) named)) refl (λ all k. tt))
+      (one_piece at free (free + 1) (instr.Swap free c e) (omega arith) (λ few.
+      both_true (list_all (is_outside c) arrays) (nat_lt free f.ints && nat_lt c (length code.memory) && names_slots f.ints e) cell.1
+      (both_true (nat_lt free f.ints && nat_lt c (length code.memory)) (names_slots f.ints e)
+      (both_true (nat_lt free f.ints) (nat_lt c (length code.memory)) (lt_true free f.ints (omega (arith, few))) (lt_true c (length code.memory) cell.0))
+      (names_more e free f.ints (omega (arith, few)) named))) refl (λ all k. tt))
       (one_piece (at + 1) (free + 1) (free + 1) (instr.Set k (code_expr.Slot free)) (omega arith) (λ few. both_true (nat_lt k f.ints) (nat_lt free f.ints)
       (lt_true k f.ints (omega (arith, few, low, slot))) (lt_true free f.ints (omega (arith, few)))) refl (λ all k. tt))
   swap_piece at free _ _ e low slot cell named =
       one_piece at free (free + 1) (instr.Set free e) (omega arith) (λ few. both_true (nat_lt free f.ints) (names_slots f.ints e)
       (lt_true free f.ints (omega (arith, few))) (names_more e free f.ints (omega (arith, few)) named)) refl (λ all k. tt)
 
-  cas_piece : (at free : ℕ) (o q : Option Thing) (e new : Expr) → base ≤ free → IfThere code f base o → IfThere code f base q
-      → IsTrue (names_slots free e) → IsTrue (names_slots free new) → Piece code f at free (free + 1) (cas o q free e new)
+  cas_piece : (at free : ℕ) (o q : Option Thing) (e new : Expr) → base ≤ free → IfThere arrays code f base o → IfThere arrays code f base q
+      → IsTrue (names_slots free e) → IsTrue (names_slots free new) → Piece arrays code f at free (free + 1) (cas o q free e new)
   cas_piece at free (Some (Slot k)) (Some (Cell c)) e new low slot cell named new_named =
       both_pieces at free (free + 1) (free + 1) (instr.Cas free c e new ∷ []) (instr.Set k (code_expr.Slot free) ∷ [])
       (one_piece at free (free + 1) (instr.Cas free c e new) (omega arith) (λ few.
-      both_true (nat_lt free f.ints && nat_lt c (length code.memory) && names_slots f.ints e) (names_slots f.ints new)
+      both_true (list_all (is_outside c) arrays)
+      (nat_lt free f.ints && nat_lt c (length code.memory) && names_slots f.ints e && names_slots f.ints new) cell.1
+      (both_true (nat_lt free f.ints && nat_lt c (length code.memory) && names_slots f.ints e) (names_slots f.ints new)
       (both_true (nat_lt free f.ints && nat_lt c (length code.memory)) (names_slots f.ints e)
-      (both_true (nat_lt free f.ints) (nat_lt c (length code.memory)) (lt_true free f.ints (omega (arith, few))) (lt_true c (length code.memory) cell))
-      (names_more e free f.ints (omega (arith, few)) named)) (names_more new free f.ints (omega (arith, few)) new_named)) refl (λ all k. tt))
+      (both_true (nat_lt free f.ints) (nat_lt c (length code.memory)) (lt_true free f.ints (omega (arith, few))) (lt_true c (length code.memory) cell.0))
+      (names_more e free f.ints (omega (arith, few)) named)) (names_more new free f.ints (omega (arith, few)) new_named))) refl (λ all k. tt))
       (one_piece (at + 1) (free + 1) (free + 1) (instr.Set k (code_expr.Slot free)) (omega arith) (λ few. both_true (nat_lt k f.ints) (nat_lt free f.ints)
       (lt_true k f.ints (omega (arith, few, low, slot))) (lt_true free f.ints (omega (arith, few)))) refl (λ all k. tt))
   cas_piece at free _ _ e new low slot cell named new_named =
       one_piece at free (free + 1) (instr.Set free e) (omega arith) (λ few. both_true (nat_lt free f.ints) (names_slots f.ints e)
       (lt_true free f.ints (omega (arith, few))) (names_more e free f.ints (omega (arith, few)) named)) refl (λ all k. tt)
 
-  action_piece : (at free : ℕ) (a : Action) (o : Option Thing) → IfThere code f base o → Piece code f at free free (action a o)
+  action_piece : (at free : ℕ) (a : Action) (o : Option Thing) → IfThere arrays code f base o → Piece arrays code f at free free (action a o)
   action_piece at free Join (Some (Handle h)) there =
       two_piece at free (instr.Ready h) (instr.Join h) (lt_true h f.handles there) (lt_true h f.handles there) refl (λ all k. tt)
       (λ all first. before_next all at (instr.Ready h) first)
@@ -198,7 +206,7 @@ module _ (code : Code) (f : Func) (base : ℕ) where
       one_piece at free free (instr.Broadcast c) (omega arith) (λ few. lt_true c code.conditions there) refl (λ all k. tt)
   action_piece at free _ _ there = no_piece at free
 
-  wait_piece : (at free : ℕ) (o q : Option Thing) → IfThere code f base o → IfThere code f base q → Piece code f at free free (wait o q)
+  wait_piece : (at free : ℕ) (o q : Option Thing) → IfThere arrays code f base o → IfThere arrays code f base q → Piece arrays code f at free free (wait o q)
   wait_piece at free (Some (Condition c)) (Some (Mutex m)) condition mutex = record {
     grows = omega arith;
     named = λ few.
@@ -217,7 +225,7 @@ module _ (code : Code) (f : Func) (base : ℕ) where
   }
   wait_piece at free _ _ condition mutex = no_piece at free
 
-  barrier_piece : (at free : ℕ) (b : Barrier) → Piece code f at free free (barrier b ∷ [])
+  barrier_piece : (at free : ℕ) (b : Barrier) → Piece arrays code f at free free (barrier b ∷ [])
   barrier_piece at free Fence = one_piece at free free instr.Fence (omega arith) (λ few. refl) refl (λ all k. tt)
   barrier_piece at free Stores = one_piece at free free instr.Stbar (omega arith) (λ few. refl) refl (λ all k. tt)
 
@@ -228,7 +236,7 @@ module _ (code : Code) (f : Func) (base : ℕ) where
       (all_named_more es n m up (second_true (names_slots n e) (list_all (names_slots n) es) h))
 
   created_if : (at free : ℕ) (b : Bool) (h g n : ℕ) (es : List Expr) → nat_eq n (length es) ≡ b → h < f.handles → IsTrue (takes code g n)
-      → IsTrue (list_all (names_slots free) es) → Piece code f at free free (cond b (instr.Create h g es ∷ []) [])
+      → IsTrue (list_all (names_slots free) es) → Piece arrays code f at free free (cond b (instr.Create h g es ∷ []) [])
   created_if at free true h g n es e handle function named =
       let same : n ≡ length es = (Decides-eqb n (length es)).0 e in
       one_piece at free free (instr.Create h g es) (omega arith) (λ few.
@@ -237,45 +245,45 @@ module _ (code : Code) (f : Func) (base : ℕ) where
       (all_named_more es free f.ints few named)) refl (λ all k. tt)
   created_if at free false h g n es e handle function named = no_piece at free
 
-  creation_piece : (at free : ℕ) (o q : Option Thing) (es : List Expr) → IfThere code f base o → IfThere code f base q
-      → IsTrue (list_all (names_slots free) es) → Piece code f at free free (creation o q es)
+  creation_piece : (at free : ℕ) (o q : Option Thing) (es : List Expr) → IfThere arrays code f base o → IfThere arrays code f base q
+      → IsTrue (list_all (names_slots free) es) → Piece arrays code f at free free (creation o q es)
   creation_piece at free (Some (Handle h)) (Some (Function g n)) es handle function named =
       created_if at free (nat_eq n (length es)) h g n es refl handle function named
   creation_piece at free _ _ es handle function named = no_piece at free
 
   -- ---- in a scope whose things are there
 
-  module _ (scope : Name → Option Thing) (there : (x : Name) → IfThere code f base (scope x)) where
+  module _ (scope : Name → Option Thing) (there : (x : Name) → IfThere arrays code f base (scope x)) where
     -- a value, and what is done with it
     value_and : (at free next : ℕ) (e : Expression) (is : List Instr) → base ≤ free
-        → Piece code f (at + length (evaluated scope at free e).instrs) (evaluated scope at free e).free next is
-        → Piece code f at free next ((evaluated scope at free e).instrs ++ is)
+        → Piece arrays code f (at + length (evaluated scope at free e).instrs) (evaluated scope at free e).free next is
+        → Piece arrays code f at free next ((evaluated scope at free e).instrs ++ is)
     value_and at free next e is low p =
         let v = evaluated scope at free e in
-        both_pieces at free v.free next v.instrs is (value_piece at free v (evaluated_sound code f base scope there at free e low)) p
+        both_pieces at free v.free next v.instrs is (value_piece at free v (evaluated_sound arrays code f base scope there at free e low)) p
 
     assigned_piece : (at free : ℕ) (x : Name) (e : Expression) → base ≤ free
-        → let w = assigned scope at free x e in Piece code f at free w.free w.instrs
+        → let w = assigned scope at free x e in Piece arrays code f at free w.free w.instrs
     assigned_piece at free x e low =
         let v = evaluated scope at free e in
-        let s = evaluated_sound code f base scope there at free e low in
+        let s = evaluated_sound arrays code f base scope there at free e low in
         value_and at free v.free e (assignment (scope x) v.value) low
         (assignment_piece (at + length v.instrs) v.free (scope x) v.value (omega (arith, low, s.grows)) (there x) s.value)
 
     -- an array's store, as the array is one or not
-    store_piece : (at free : ℕ) (o : Option Thing) (i e : Expression) → base ≤ free → IfThere code f base o
+    store_piece : (at free : ℕ) (o : Option Thing) (i e : Expression) → base ≤ free → IfThere arrays code f base o
         → let index = evaluated scope at free i in
         let test = test_of_index o index.value in
         let v = evaluated scope (at + length index.instrs + length test) index.free e in
-        Piece code f at free v.free (index.instrs ++ test ++ v.instrs ++ store o index.value v.value)
+        Piece arrays code f at free v.free (index.instrs ++ test ++ v.instrs ++ store o index.value v.value)
     store_piece at free (Some (Array first len)) i e low bounded =
         let index = evaluated scope at free i in
         let m = at + length index.instrs in
         let test = Inside len index.value in
         let v = evaluated scope (m + 1) index.free e in
         let write = StoreAt first len index.value v.value in
-        let a = evaluated_sound code f base scope there at free i low in
-        let b = evaluated_sound code f base scope there (m + 1) index.free e (omega (arith, low, a.grows)) in
+        let a = evaluated_sound arrays code f base scope there at free i low in
+        let b = evaluated_sound arrays code f base scope there (m + 1) index.free e (omega (arith, low, a.grows)) in
         let end = m + 1 + length v.instrs in
         let v_place : at + length (index.instrs ++ test ∷ []) ≡ m + 1 = omega (arith, length-append index.instrs (test ∷ [])) in
         let w_place : at + length (index.instrs ++ test ∷ [] ++ v.instrs) ≡ end =
@@ -287,18 +295,20 @@ module _ (code : Code) (f : Func) (base : ℕ) where
           named = λ few.
               let i_named : IsTrue (names_slots f.ints index.value) = names_more index.value index.free f.ints (omega (arith, few, b.grows)) a.value in
               let e_named : IsTrue (names_slots f.ints v.value) = names_more v.value v.free f.ints few b.value in
-              all_append (names_what_is code f) (index.instrs ++ test ∷ [] ++ v.instrs) (write ∷ [])
-              (all_append (names_what_is code f) (index.instrs ++ test ∷ []) v.instrs
-              (all_append (names_what_is code f) index.instrs (test ∷ []) (a.named (omega (arith, few, b.grows)))
+              let stores = nat_le (first + len) (length code.memory) && names_slots f.ints index.value && names_slots f.ints v.value in
+              all_append (names_apart arrays code f) (index.instrs ++ test ∷ [] ++ v.instrs) (write ∷ [])
+              (all_append (names_apart arrays code f) (index.instrs ++ test ∷ []) v.instrs
+              (all_append (names_apart arrays code f) index.instrs (test ∷ []) (a.named (omega (arith, few, b.grows)))
               (both_true (nat_le len (length code.memory) && names_slots f.ints index.value) true
-              (both_true (nat_le len (length code.memory)) (names_slots f.ints index.value) (le_true len (length code.memory) (omega (arith, bounded))) i_named)
-              refl))
+              (both_true (nat_le len (length code.memory)) (names_slots f.ints index.value)
+              (le_true len (length code.memory) (omega (arith, bounded.0))) i_named) refl))
               (b.named few))
-              (both_true (nat_le (first + len) (length code.memory) && names_slots f.ints index.value && names_slots f.ints v.value) true
+              (both_true (is_array arrays first len && stores) true
+              (both_true (is_array arrays first len) stores bounded.1
               (both_true (nat_le (first + len) (length code.memory) && names_slots f.ints index.value) (names_slots f.ints v.value)
-              (both_true (nat_le (first + len) (length code.memory)) (names_slots f.ints index.value) (le_true (first + len) (length code.memory) bounded)
+              (both_true (nat_le (first + len) (length code.memory)) (names_slots f.ints index.value) (le_true (first + len) (length code.memory) bounded.0)
               i_named)
-              e_named) refl);
+              e_named)) refl);
           block = λ all h.
               let h3 = at_left all at (index.instrs ++ test ∷ [] ++ v.instrs) (write ∷ []) h in
               let h2 = at_left all at (index.instrs ++ test ∷ []) v.instrs h3 in
@@ -319,25 +329,25 @@ module _ (code : Code) (f : Func) (base : ℕ) where
     store_piece at free _ i e low bounded =
         let index = evaluated scope at free i in
         let v = evaluated scope (at + length index.instrs + 0) index.free e in
-        let a = evaluated_sound code f base scope there at free i low in
+        let a = evaluated_sound arrays code f base scope there at free i low in
         let place : at + length index.instrs + 0 ≡ at + length (index.instrs ++ []) = omega (arith, length-append index.instrs []) in
-        let b = evaluated_sound code f base scope there (at + length index.instrs + 0) index.free e (omega (arith, low, a.grows)) in
+        let b = evaluated_sound arrays code f base scope there (at + length index.instrs + 0) index.free e (omega (arith, low, a.grows)) in
         both_pieces at free v.free v.free (index.instrs ++ [] ++ v.instrs) []
         (both_pieces at free index.free v.free (index.instrs ++ []) v.instrs
         (both_pieces at free index.free index.free index.instrs [] (value_piece at free index a) (no_piece (at + length index.instrs) index.free))
-        (subst (λ n. Piece code f n index.free v.free v.instrs) place (value_piece (at + length index.instrs + 0) index.free v b)))
+        (subst (λ n. Piece arrays code f n index.free v.free v.instrs) place (value_piece (at + length index.instrs + 0) index.free v b)))
         (no_piece (at + length (index.instrs ++ [] ++ v.instrs)) v.free)
 
     -- arguments, and that they name slots that are there
     record Given (at free : ℕ) (given : Arguments) : Type 0 where
-      piece : Piece code f at free given.free given.instrs
+      piece : Piece arrays code f at free given.free given.instrs
       values : IsTrue (list_all (names_slots given.free) given.values)
 
     arguments_given : (at free : ℕ) (es : List Expression) → base ≤ free → Given at free (arguments scope at free es)
     arguments_given at free [] low = record { piece = no_piece at free; values = refl }
     arguments_given at free (e ∷ es) low =
         let first = evaluated scope at free e in
-        let s = evaluated_sound code f base scope there at free e low in
+        let s = evaluated_sound arrays code f base scope there at free e low in
         let others = arguments scope (at + length first.instrs) first.free es in
         let g = arguments_given (at + length first.instrs) first.free es (omega (arith, low, s.grows)) in
         record {
@@ -347,7 +357,7 @@ module _ (code : Code) (f : Func) (base : ℕ) where
         }
 
     created_piece : (at free : ℕ) (h t : Name) (es : List Expression) → base ≤ free
-        → let w = created scope at free h t es in Piece code f at free w.free w.instrs
+        → let w = created scope at free h t es in Piece arrays code f at free w.free w.instrs
     created_piece at free h t es low =
         let given = arguments scope at free es in
         let g = arguments_given at free es low in
@@ -355,20 +365,20 @@ module _ (code : Code) (f : Func) (base : ℕ) where
         (creation_piece (at + length given.instrs) given.free (scope h) (scope t) given.values (there h) (there t) g.values)
 
     swapped_piece : (at free : ℕ) (r x : Name) (e : Expression) → base ≤ free
-        → let w = swapped scope at free r x e in Piece code f at free w.free w.instrs
+        → let w = swapped scope at free r x e in Piece arrays code f at free w.free w.instrs
     swapped_piece at free r x e low =
         let v = evaluated scope at free e in
-        let s = evaluated_sound code f base scope there at free e low in
+        let s = evaluated_sound arrays code f base scope there at free e low in
         value_and at free (v.free + 1) e (swap (scope r) (scope x) v.free v.value) low
         (swap_piece (at + length v.instrs) v.free (scope r) (scope x) v.value (omega (arith, low, s.grows)) (there r) (there x) s.value)
 
     compared_piece : (at free : ℕ) (r x : Name) (e new : Expression) → base ≤ free
-        → let w = compared scope at free r x e new in Piece code f at free w.free w.instrs
+        → let w = compared scope at free r x e new in Piece arrays code f at free w.free w.instrs
     compared_piece at free r x e new low =
         let old = evaluated scope at free e in
-        let a = evaluated_sound code f base scope there at free e low in
+        let a = evaluated_sound arrays code f base scope there at free e low in
         let v = evaluated scope (at + length old.instrs) old.free new in
-        let b = evaluated_sound code f base scope there (at + length old.instrs) old.free new (omega (arith, low, a.grows)) in
+        let b = evaluated_sound arrays code f base scope there (at + length old.instrs) old.free new (omega (arith, low, a.grows)) in
         both_pieces at free v.free (v.free + 1) (old.instrs ++ v.instrs) (cas (scope r) (scope x) v.free old.value v.value)
         (both_pieces at free old.free v.free old.instrs v.instrs (value_piece at free old a) (value_piece (at + length old.instrs) old.free v b))
         (cas_piece (at + length (old.instrs ++ v.instrs)) v.free (scope r) (scope x) old.value v.value (omega (
@@ -379,10 +389,10 @@ module _ (code : Code) (f : Func) (base : ℕ) where
         )) (there r) (there x)
         (names_more old.value old.free v.free b.grows a.value) b.value)
 
-    asserted_piece : (at free : ℕ) (e : Expression) → base ≤ free → let w = asserted scope at free e in Piece code f at free w.free w.instrs
+    asserted_piece : (at free : ℕ) (e : Expression) → base ≤ free → let w = asserted scope at free e in Piece arrays code f at free w.free w.instrs
     asserted_piece at free e low =
         let v = evaluated scope at free e in
-        let s = evaluated_sound code f base scope there at free e low in
+        let s = evaluated_sound arrays code f base scope there at free e low in
         value_and at free v.free e (instr.Assert v.value ∷ []) low
         (one_piece (at + length v.instrs) v.free v.free (instr.Assert v.value) (omega arith) (λ few. names_more v.value v.free f.ints few s.value) refl (λ
         all k. tt))
@@ -391,13 +401,13 @@ module _ (code : Code) (f : Func) (base : ℕ) where
 
     -- a piece, each instruction of which has its line
     pub record Lined (at free : ℕ) (l : Lowered) : Type 0 where
-      pub piece : Piece code f at free l.free l.instrs
+      pub piece : Piece arrays code f at free l.free l.instrs
       pub lines : length l.lines ≡ length l.instrs
 
-    on_its_line : (at free line : ℕ) (w : Written) → Piece code f at free w.free w.instrs → Lined at free (on_line line w)
+    on_its_line : (at free line : ℕ) (w : Written) → Piece arrays code f at free w.free w.instrs → Lined at free (on_line line w)
     on_its_line at free line w p = record { piece = p; lines = length-replicate (length w.instrs) line }
 
-    looped_lined : (at free line : ℕ) (test : Evaluated) (body : Lowered) → Sound code f at free test
+    looped_lined : (at free line : ℕ) (test : Evaluated) (body : Lowered) → Sound arrays code f at free test
         → Lined (at + length test.instrs + 1) test.free body → Lined at free (looped line at test body)
     looped_lined at free line test body a b =
         let m = at + length test.instrs in
@@ -413,9 +423,9 @@ module _ (code : Code) (f : Func) (base : ℕ) where
           piece = record {
             grows = omega (arith, a.grows, b.piece.grows);
             named = λ few.
-                all_append (names_what_is code f) (test.instrs ++ jump ∷ [] ++ body.instrs) (back ∷ [])
-                (all_append (names_what_is code f) (test.instrs ++ jump ∷ []) body.instrs
-                (all_append (names_what_is code f) test.instrs (jump ∷ []) (a.named (omega (arith, few, b.piece.grows)))
+                all_append (names_apart arrays code f) (test.instrs ++ jump ∷ [] ++ body.instrs) (back ∷ [])
+                (all_append (names_apart arrays code f) (test.instrs ++ jump ∷ []) body.instrs
+                (all_append (names_apart arrays code f) test.instrs (jump ∷ []) (a.named (omega (arith, few, b.piece.grows)))
                 (both_true (names_slots f.ints test.value) true (names_more test.value test.free f.ints (omega (arith, few, b.piece.grows)) a.value) refl))
                 (b.piece.named few)) refl;
             block = λ all h.
@@ -443,7 +453,7 @@ module _ (code : Code) (f : Func) (base : ℕ) where
               );
         }
 
-    branched_lined : (at free line : ℕ) (test : Evaluated) (body : Lowered) (more : Bool) (others : Lowered) → Sound code f at free test
+    branched_lined : (at free line : ℕ) (test : Evaluated) (body : Lowered) (more : Bool) (others : Lowered) → Sound arrays code f at free test
         → Lined (at + length test.instrs + 1) test.free body → Lined (after_body at test body more) body.free others
         → Lined at free (branched line at test body more others)
     branched_lined at free line test body false others a b c =
@@ -466,10 +476,10 @@ module _ (code : Code) (f : Func) (base : ℕ) where
           piece = record {
             grows = omega (arith, a.grows, b.piece.grows, c.piece.grows);
             named = λ few.
-                all_append (names_what_is code f) (test.instrs ++ jump ∷ [] ++ body.instrs ++ []) others.instrs
-                (all_append (names_what_is code f) (test.instrs ++ jump ∷ [] ++ body.instrs) []
-                (all_append (names_what_is code f) (test.instrs ++ jump ∷ []) body.instrs
-                (all_append (names_what_is code f) test.instrs (jump ∷ []) (a.named (omega (arith, few, b.piece.grows, c.piece.grows)))
+                all_append (names_apart arrays code f) (test.instrs ++ jump ∷ [] ++ body.instrs ++ []) others.instrs
+                (all_append (names_apart arrays code f) (test.instrs ++ jump ∷ [] ++ body.instrs) []
+                (all_append (names_apart arrays code f) (test.instrs ++ jump ∷ []) body.instrs
+                (all_append (names_apart arrays code f) test.instrs (jump ∷ []) (a.named (omega (arith, few, b.piece.grows, c.piece.grows)))
                 (both_true (names_slots f.ints test.value) true
                 (names_more test.value test.free f.ints (omega (arith, few, b.piece.grows, c.piece.grows)) a.value) refl))
                 (b.piece.named (omega (arith, few, c.piece.grows)))) refl)
@@ -522,10 +532,10 @@ module _ (code : Code) (f : Func) (base : ℕ) where
           piece = record {
             grows = omega (arith, a.grows, b.piece.grows, c.piece.grows);
             named = λ few.
-                all_append (names_what_is code f) (test.instrs ++ jump ∷ [] ++ body.instrs ++ past ∷ []) others.instrs
-                (all_append (names_what_is code f) (test.instrs ++ jump ∷ [] ++ body.instrs) (past ∷ [])
-                (all_append (names_what_is code f) (test.instrs ++ jump ∷ []) body.instrs
-                (all_append (names_what_is code f) test.instrs (jump ∷ []) (a.named (omega (arith, few, b.piece.grows, c.piece.grows)))
+                all_append (names_apart arrays code f) (test.instrs ++ jump ∷ [] ++ body.instrs ++ past ∷ []) others.instrs
+                (all_append (names_apart arrays code f) (test.instrs ++ jump ∷ [] ++ body.instrs) (past ∷ [])
+                (all_append (names_apart arrays code f) (test.instrs ++ jump ∷ []) body.instrs
+                (all_append (names_apart arrays code f) test.instrs (jump ∷ []) (a.named (omega (arith, few, b.piece.grows, c.piece.grows)))
                 (both_true (names_slots f.ints test.value) true
                 (names_more test.value test.free f.ints (omega (arith, few, b.piece.grows, c.piece.grows)) a.value) refl))
                 (b.piece.named (omega (arith, few, c.piece.grows)))) refl)
@@ -578,12 +588,12 @@ module _ (code : Code) (f : Func) (base : ℕ) where
       lowered_lined at free (grammar.Assert p e) low = on_its_line at free p.line (asserted scope at free e) (asserted_piece at free e low)
       lowered_lined at free (grammar.While p c b q) low =
           let test = evaluated scope at free c in
-          let s = evaluated_sound code f base scope there at free c low in
+          let s = evaluated_sound arrays code f base scope there at free c low in
           looped_lined at free p.line test (all_lowered scope (at + length test.instrs + 1) test.free b) s
           (all_lined (at + length test.instrs + 1) test.free b (omega (arith, low, s.grows)))
       lowered_lined at free (grammar.If p c b q o) low =
           let test = evaluated scope at free c in
-          let s = evaluated_sound code f base scope there at free c low in
+          let s = evaluated_sound arrays code f base scope there at free c low in
           let body = all_lowered scope (at + length test.instrs + 1) test.free b in
           let l = all_lined (at + length test.instrs + 1) test.free b (omega (arith, low, s.grows)) in
           let next = after_body at test body (goes_on o) in
@@ -607,7 +617,7 @@ module _ (code : Code) (f : Func) (base : ℕ) where
       otherwise_lined at free (Else b q) low = all_lined at free b low
       otherwise_lined at free (ElseIf p c b q o) low =
           let test = evaluated scope at free c in
-          let s = evaluated_sound code f base scope there at free c low in
+          let s = evaluated_sound arrays code f base scope there at free c low in
           let body = all_lowered scope (at + length test.instrs + 1) test.free b in
           let l = all_lined (at + length test.instrs + 1) test.free b (omega (arith, low, s.grows)) in
           let next = after_body at test body (goes_on o) in

@@ -41,7 +41,8 @@ use Rattle.tc_code.specs.Expr.{Expr, names_slots, names_slot}
 use Rattle.tc_code.specs.declared.instr.Instr.{Instr}
 use Rattle.tc_code.specs.declared.instr.Instr.TheVariants.{Set, Load, LoadAt, Inside, Branch, Nonzero, InRange}
 use Rattle.tc_code.specs.Code.{Code}
-use Rattle.tc_code.specs.Lawful.{takes, names_what_is, written, keeps}
+use Rattle.tc_code.specs.Lawful as lawful
+use Rattle.tc_code.specs.Lawful.{takes, names_what_is, is_outside, is_array, keeps_apart, written, keeps}
 use Rattle.tc_code.specs.declared.code.Func.{Func}
 use Rattle.tc_tree.specs.declared.expression.Name.{Name}
 use Rattle.tc_tree.specs.declared.expression.Operator.{Operator}
@@ -124,33 +125,37 @@ stands_at all s s' is same h = subst (λ n. IsAt all n is) same h
 
 -- ---- things
 
--- what is there
-abbrev pub InBounds : Code → Func → ℕ → Thing → Type 0
-InBounds code f base (Cell c) = c < length code.memory
-InBounds code f base (Array a len) = a + len ≤ length code.memory
-InBounds code f base (Mutex m) = m < code.mutexes
-InBounds code f base (Condition c) = c < code.conditions
-InBounds code f base (Function g n) = IsTrue (takes code g n)
-InBounds code f base (Slot k) = k < base
-InBounds code f base (Handle h) = h < f.handles
+-- whether all that an instruction names is there, and goes with these arrays
+abbrev pub names_apart : List lawful.Array → Code → Func → Instr → Bool
+names_apart arrays code f i = keeps_apart arrays i && names_what_is code f i
 
-abbrev pub IfThere : Code → Func → ℕ → Option Thing → Type 0
-IfThere code f base (Some t) = InBounds code f base t
-IfThere code f base None = Unit {0}
+-- what is there, and goes with these arrays
+abbrev pub InBounds : List lawful.Array → Code → Func → ℕ → Thing → Type 0
+InBounds arrays code f base (Cell c) = (c < length code.memory) × IsTrue (list_all (is_outside c) arrays)
+InBounds arrays code f base (Array a len) = (a + len ≤ length code.memory) × IsTrue (is_array arrays a len)
+InBounds arrays code f base (Mutex m) = m < code.mutexes
+InBounds arrays code f base (Condition c) = c < code.conditions
+InBounds arrays code f base (Function g n) = IsTrue (takes code g n)
+InBounds arrays code f base (Slot k) = k < base
+InBounds arrays code f base (Handle h) = h < f.handles
+
+abbrev pub IfThere : List lawful.Array → Code → Func → ℕ → Option Thing → Type 0
+IfThere arrays code f base (Some t) = InBounds arrays code f base t
+IfThere arrays code f base None = Unit {0}
 
 -- ---- values
 
-pub record Sound (code : Code) (f : Func) (at free : ℕ) (v : Evaluated) : Type 0 where
+pub record Sound (arrays : List lawful.Array) (code : Code) (f : Func) (at free : ℕ) (v : Evaluated) : Type 0 where
   pub grows : free ≤ v.free
   pub value : IsTrue (names_slots v.free v.value)
-  pub named : v.free ≤ f.ints → IsTrue (list_all (names_what_is code f) v.instrs)
+  pub named : v.free ≤ f.ints → IsTrue (list_all (names_apart arrays code f) v.instrs)
   pub fresh : IsTrue (list_all (writes_from free) v.instrs)
   pub block : (all : List Instr) → IsAt all at v.instrs → Block all at (at + length v.instrs)
 
 -- nothing is done for the value
-pub nothing_sound : (code : Code) (f : Func) (at free : ℕ) (e : Expr) → IsTrue (names_slots free e)
-    → Sound code f at free (record { instrs = []; value = e; free = free })
-nothing_sound code f at free e named =
+pub nothing_sound : (arrays : List lawful.Array) (code : Code) (f : Func) (at free : ℕ) (e : Expr) → IsTrue (names_slots free e)
+    → Sound arrays code f at free (record { instrs = []; value = e; free = free })
+nothing_sound arrays code f at free e named =
     let end : at ≡ at + 0 = omega arith in
     record {
       grows = omega arith;
@@ -161,12 +166,13 @@ nothing_sound code f at free e named =
     }
 
 -- one after the other
-pub after_sound : (code : Code) (f : Func) (at free : ℕ) (v w : Evaluated) → Sound code f at free v → Sound code f (at + length v.instrs) v.free w
-    → Sound code f at free (after v.instrs w)
-after_sound code f at free v w a b = record {
+pub after_sound : (arrays : List lawful.Array) (code : Code) (f : Func) (at free : ℕ) (v w : Evaluated) → Sound arrays code f at free v
+    → Sound arrays code f (at + length v.instrs) v.free w
+    → Sound arrays code f at free (after v.instrs w)
+after_sound arrays code f at free v w a b = record {
   grows = omega (arith, a.grows, b.grows);
   value = b.value;
-  named = λ few. all_append (names_what_is code f) v.instrs w.instrs (a.named (omega (arith, few, b.grows))) (b.named few);
+  named = λ few. all_append (names_apart arrays code f) v.instrs w.instrs (a.named (omega (arith, few, b.grows))) (b.named few);
   fresh = all_append (writes_from free) v.instrs w.instrs a.fresh
       (all_weaker (writes_from v.free) (writes_from free) (λ i h. writes_more free v.free i a.grows h) w.instrs b.fresh);
   block = λ all h.
@@ -176,43 +182,47 @@ after_sound code f at free v w a b = record {
       (b.block all (at_right all at v.instrs w.instrs h)));
 }
 
-module _ (code : Code) (f : Func) (base : ℕ) where
-  pub variable_sound : (at free : ℕ) (o : Option Thing) → base ≤ free → IfThere code f base o → Sound code f at free (variable o free)
-  variable_sound at free (Some (Slot k)) low there = nothing_sound code f at free (code_expr.Slot k) (lt_true k free (omega (arith, low, there)))
+module _ (arrays : List lawful.Array) (code : Code) (f : Func) (base : ℕ) where
+  pub variable_sound : (at free : ℕ) (o : Option Thing) → base ≤ free → IfThere arrays code f base o → Sound arrays code f at free (variable o free)
+  variable_sound at free (Some (Slot k)) low there = nothing_sound arrays code f at free (code_expr.Slot k) (lt_true k free (omega (arith, low, there)))
   variable_sound at free (Some (Cell c)) low there = record {
     grows = omega arith;
     value = lt_true free (free + 1) (omega arith);
-    named = λ few. both_true (nat_lt free f.ints && nat_lt c (length code.memory)) true
-        (both_true (nat_lt free f.ints) (nat_lt c (length code.memory)) (lt_true free f.ints (omega (arith, few))) (lt_true c (length code.memory) there)) refl;
+    named = λ few.
+        both_true (list_all (is_outside c) arrays && (nat_lt free f.ints && nat_lt c (length code.memory))) true
+        (both_true (list_all (is_outside c) arrays) (nat_lt free f.ints && nat_lt c (length code.memory)) there.1
+        (both_true (nat_lt free f.ints) (nat_lt c (length code.memory)) (lt_true free f.ints (omega (arith, few))) (lt_true c (length code.memory) there.0)))
+        refl;
     fresh = both_true (nat_le free free) true (le_true free free (omega arith)) refl;
     block = λ all h. one_block all at (Load free c) (at_first all at (Load free c) [] h) refl (λ k. tt);
   }
-  variable_sound at free _ low there = nothing_sound code f at free (code_expr.Number (pos 0)) refl
+  variable_sound at free _ low there = nothing_sound arrays code f at free (code_expr.Number (pos 0)) refl
 
-  element_sound : (at free : ℕ) (o : Option Thing) (e : Expr) → IfThere code f base o → IsTrue (names_slots free e)
-      → Sound code f at free (element o e free)
+  element_sound : (at free : ℕ) (o : Option Thing) (e : Expr) → IfThere arrays code f base o → IsTrue (names_slots free e)
+      → Sound arrays code f at free (element o e free)
   element_sound at free (Some (Array a len)) e there named = record {
     grows = omega arith;
     value = lt_true free (free + 1) (omega arith);
     named = λ few.
         let e_named : IsTrue (names_slots f.ints e) = names_more e free f.ints (omega (arith, few)) named in
-        both_true (nat_le len (length code.memory) && names_slots f.ints e)
-        ((nat_lt free f.ints && nat_le (a + len) (length code.memory) && names_slots f.ints e) && true)
-        (both_true (nat_le len (length code.memory)) (names_slots f.ints e) (le_true len (length code.memory) (omega (arith, there))) e_named)
-        (both_true (nat_lt free f.ints && nat_le (a + len) (length code.memory) && names_slots f.ints e) true
+        let load = nat_lt free f.ints && nat_le (a + len) (length code.memory) && names_slots f.ints e in
+        both_true (nat_le len (length code.memory) && names_slots f.ints e) ((is_array arrays a len && load) && true)
+        (both_true (nat_le len (length code.memory)) (names_slots f.ints e) (le_true len (length code.memory) (omega (arith, there.0))) e_named)
+        (both_true (is_array arrays a len && load) true
+        (both_true (is_array arrays a len) load there.1
         (both_true (nat_lt free f.ints && nat_le (a + len) (length code.memory)) (names_slots f.ints e)
         (both_true (nat_lt free f.ints) (nat_le (a + len) (length code.memory)) (lt_true free f.ints (omega (arith, few)))
-        (le_true (a + len) (length code.memory) there)) e_named) refl);
+        (le_true (a + len) (length code.memory) there.0)) e_named)) refl);
     fresh = both_true (nat_le free free) true (le_true free free (omega arith)) refl;
     block = λ all h.
         two_block all at (Inside len e) (LoadAt free a len e) (at_first all at (Inside len e) (LoadAt free a len e ∷ []) h)
         (at_first all (at + 1) (LoadAt free a len e) [] (at_next all at (Inside len e) (LoadAt free a len e ∷ []) h)) refl (λ k. tt)
         (before_next all at (Inside len e) (at_first all at (Inside len e) (LoadAt free a len e ∷ []) h));
   }
-  element_sound at free _ e there named = nothing_sound code f at free e named
+  element_sound at free _ e there named = nothing_sound arrays code f at free e named
 
   nonzero_sound : (at free : ℕ) (q v : Expr) → IsTrue (names_slots free q) → IsTrue (names_slots free v)
-      → Sound code f at free (record { instrs = Nonzero q ∷ []; value = v; free = free })
+      → Sound arrays code f at free (record { instrs = Nonzero q ∷ []; value = v; free = free })
   nonzero_sound at free q v q_named v_named = record {
     grows = omega arith;
     value = v_named;
@@ -222,7 +232,7 @@ module _ (code : Code) (f : Func) (base : ℕ) where
   }
 
   in_range_sound : (at free : ℕ) (q v : Expr) → IsTrue (names_slots free q) → IsTrue (names_slots free v)
-      → Sound code f at free (record { instrs = InRange q ∷ []; value = v; free = free })
+      → Sound arrays code f at free (record { instrs = InRange q ∷ []; value = v; free = free })
   in_range_sound at free q v q_named v_named = record {
     grows = omega arith;
     value = v_named;
@@ -233,19 +243,20 @@ module _ (code : Code) (f : Func) (base : ℕ) where
 
   -- one instruction that writes nothing, and goes with no other
   tests_sound : (at free : ℕ) (op : BinOp) (q v : Expr) → IsTrue (names_slots free q) → IsTrue (names_slots free v)
-      → Sound code f at free (record { instrs = tested op q; value = v; free = free })
+      → Sound arrays code f at free (record { instrs = tested op q; value = v; free = free })
   tests_sound at free binary.Div q v q_named v_named = nonzero_sound at free q v q_named v_named
   tests_sound at free binary.Rem q v q_named v_named = nonzero_sound at free q v q_named v_named
   tests_sound at free binary.Shl q v q_named v_named = in_range_sound at free q v q_named v_named
   tests_sound at free binary.Shr q v q_named v_named = in_range_sound at free q v q_named v_named
-  tests_sound at free _ q v q_named v_named = nothing_sound code f at free v v_named
+  tests_sound at free _ q v q_named v_named = nothing_sound arrays code f at free v v_named
 
-  over_sound : (at free : ℕ) (op : BinOp) (p q : Evaluated) → Sound code f at free p → Sound code f (at + length p.instrs) p.free q
-      → Sound code f at free (over op p q)
+  over_sound : (at free : ℕ) (op : BinOp) (p q : Evaluated) → Sound arrays code f at free p → Sound arrays code f (at + length p.instrs) p.free q
+      → Sound arrays code f at free (over op p q)
   over_sound at free op p q a b =
-      let first = after_sound code f at free p q a b in
+      let first = after_sound arrays code f at free p q a b in
       let p_named : IsTrue (names_slots q.free p.value) = names_more p.value p.free q.free b.grows a.value in
-      after_sound code f at free (after p.instrs q) (record { instrs = tested op q.value; value = code_expr.Binary op p.value q.value; free = q.free }) first
+      after_sound arrays code f at free (after p.instrs q)
+      (record { instrs = tested op q.value; value = code_expr.Binary op p.value q.value; free = q.free }) first
       (tests_sound (at + length (p.instrs ++ q.instrs)) q.free op q.value (code_expr.Binary op p.value q.value) b.value
       (both_true (names_slots q.free p.value) (names_slots q.free q.value) p_named b.value))
 
@@ -253,8 +264,8 @@ module _ (code : Code) (f : Func) (base : ℕ) where
   named_undecided And e n h = h
   named_undecided _ e n h = h
 
-  choice_sound : (at free : ℕ) (op : Operator) (p q : Evaluated) → Sound code f at free p → Sound code f (at + length p.instrs + 2) (p.free + 1) q
-      → Sound code f at free (choice op at p q)
+  choice_sound : (at free : ℕ) (op : Operator) (p q : Evaluated) → Sound arrays code f at free p → Sound arrays code f (at + length p.instrs + 2) (p.free + 1) q
+      → Sound arrays code f at free (choice op at p q)
   choice_sound at free op p q a b =
       let m = at + length p.instrs in
       let end = m + 2 + length q.instrs + 1 in
@@ -275,9 +286,9 @@ module _ (code : Code) (f : Func) (base : ℕ) where
             let condition : IsTrue (names_slots f.ints (undecided op p.value)) =
             named_undecided op p.value f.ints (names_more p.value p.free f.ints (omega (arith, few, b.grows)) a.value) in
             let right : IsTrue (names_slots f.ints q.value) = names_more q.value q.free f.ints few b.value in
-            all_append (names_what_is code f) (p.instrs ++ two ++ q.instrs) (set_last ∷ [])
-            (all_append (names_what_is code f) (p.instrs ++ two) q.instrs
-            (all_append (names_what_is code f) p.instrs two (a.named (omega (arith, few, b.grows)))
+            all_append (names_apart arrays code f) (p.instrs ++ two ++ q.instrs) (set_last ∷ [])
+            (all_append (names_apart arrays code f) (p.instrs ++ two) q.instrs
+            (all_append (names_apart arrays code f) p.instrs two (a.named (omega (arith, few, b.grows)))
             (both_true (nat_lt p.free f.ints && true) (names_slots f.ints (undecided op p.value) && true) (both_true (nat_lt p.free f.ints) true slot refl)
             (both_true (names_slots f.ints (undecided op p.value)) true condition refl)))
             (b.named few))
@@ -311,22 +322,22 @@ module _ (code : Code) (f : Func) (base : ℕ) where
             (both_blocks all at m end p_block (both_blocks all m (m + 1) end set_block skip));
       }
 
-  joined_sound : (at free : ℕ) (o : Option BinOp) (op : Operator) (p : Evaluated) (right : ℕ → ℕ → Evaluated) → Sound code f at free p
-      → ((place slot : ℕ) → free ≤ slot → Sound code f place slot (right place slot)) → Sound code f at free (joined o op at p right)
+  joined_sound : (at free : ℕ) (o : Option BinOp) (op : Operator) (p : Evaluated) (right : ℕ → ℕ → Evaluated) → Sound arrays code f at free p
+      → ((place slot : ℕ) → free ≤ slot → Sound arrays code f place slot (right place slot)) → Sound arrays code f at free (joined o op at p right)
   joined_sound at free (Some o) op p right a b = over_sound at free o p (right (at + length p.instrs) p.free) a (b (at + length p.instrs) p.free a.grows)
   joined_sound at free None op p right a b =
       choice_sound at free op p (right (at + length p.instrs + 2) (p.free + 1)) a (b (at + length p.instrs + 2) (p.free + 1) (omega (arith, a.grows)))
 
   -- ---- in a scope whose things are there
 
-  module _ (scope : Name → Option Thing) (there : (x : Name) → IfThere code f base (scope x)) where
-    pub evaluated_sound : (at free : ℕ) (e : Expression) → base ≤ free → Sound code f at free (evaluated scope at free e)
-    evaluated_sound at free (Number n) low = nothing_sound code f at free (code_expr.Number n.value) refl
+  module _ (scope : Name → Option Thing) (there : (x : Name) → IfThere arrays code f base (scope x)) where
+    pub evaluated_sound : (at free : ℕ) (e : Expression) → base ≤ free → Sound arrays code f at free (evaluated scope at free e)
+    evaluated_sound at free (Number n) low = nothing_sound arrays code f at free (code_expr.Number n.value) refl
     evaluated_sound at free (Variable x) low = variable_sound at free (scope x) low (there x)
     evaluated_sound at free (Element a i) low =
         let index = evaluated scope at free i in
         let s = evaluated_sound at free i low in
-        after_sound code f at free index (element (scope a) index.value index.free) s
+        after_sound arrays code f at free index (element (scope a) index.value index.free) s
         (element_sound (at + length index.instrs) index.free (scope a) index.value (there a) s.value)
     evaluated_sound at free (Paren e) low = evaluated_sound at free e low
     evaluated_sound at free (Unary op e) low =
