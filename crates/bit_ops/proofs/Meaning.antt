@@ -15,11 +15,10 @@ use Rattle.tc_base.specs.declared.arith.UnOp.TheVariants as un
 use Rattle.tc_base.specs.declared.arith.BinOp.{BinOp}
 use Rattle.tc_base.specs.declared.arith.BinOp.TheVariants as bin
 use Rattle.tc_base.proofs.Bits.{int_bit_and-is, int_bit_or-is, int_bit_xor-is, int_bit_not-is}
-use Rattle.cnf_core.specs.Clauses.{Formula, Valuation, literal_true, satisfies}
-use Rattle.cnf_core.specs.Gates.{extended}
+use Rattle.cnf_core.specs.Clauses.{Formula, Valuation, literal_true}
 use Rattle.cnf_core.specs.declared.gates.Gate.{Gate}
 use Rattle.cnf_core.specs.declared.gates.Gate.TheVariants.{And, Or, Xor}
-use Rattle.cnf_core.proofs.GateLaws.{literal_true-neg, block-keeps}
+use Rattle.cnf_core.proofs.GateLaws.{literal_true-neg}
 use Rattle.bit_gates.specs.Folded.{Made, constant, kept, opposite}
 use Rattle.bit_gates.specs.Laws.{IsGrown, IsModel, IsOf, IsBit}
 use Rattle.bit_gates.proofs.Blocks.{grown_none, grown_more, grown_twice, IsOf-opposite, model_before}
@@ -42,21 +41,13 @@ use Rattle.bit_ops.specs.Laws.{IsOperand, HasInt, OpsMean}
 use Rattle.bit_ops.proofs.Bits.{gate_number, gate_places, some_number, apart_values}
 
 -- what has grown, and has a word with an int
-has_int : (f : Formula) (m : Walked Formula) (meaning : Valuation → ℤ) → 0 < f.vars → IsGrown f m.state → All (IsOf m.state.vars) m.word → length m.word ≡ 32
+has_int : (f : Formula) (m : Walked Formula) (meaning : Valuation → ℤ) → IsGrown f m.state → All (IsOf m.state.vars) m.word → length m.word ≡ 32
     → ((w : Valuation) → IsModel w m.state → int_value w m.word ≡ meaning w) → HasInt f m meaning
-has_int f m meaning one h a e i = record {
-  word = record { literals = a; width = e };
-  int = i;
-  before = λ w k. model_before w f m.state h k;
-  extends = λ v o k.
-      let w : Valuation = extended v f.vars h.gates in
-      let b = block-keeps f h.gates v o h.block k.all in
-      (w, record { one = sym (b.1 1 (omega (arith, one))) ∙ k.one; all = subst (λ (g : Formula). satisfies w g.clauses ≡ true) (sym h.formula) b.0 }, b.1);
-}
+has_int f m meaning h a e i = record { grown = h; word = record { literals = a; width = e }; int = i }
 
-of_word : (f : Formula) (m : Walked Formula) (xs : List ℤ) (meaning : Valuation → ℤ) → 0 < f.vars → IsWord f m.state xs m.word → length xs ≡ 32
+of_word : (f : Formula) (m : Walked Formula) (xs : List ℤ) (meaning : Valuation → ℤ) → IsWord f m.state xs m.word → length xs ≡ 32
     → ((w : Valuation) → IsModel w m.state → int_value w m.word ≡ meaning w) → HasInt f m meaning
-of_word f m xs meaning one h e i = has_int f m meaning one h.grown h.literals (h.same_length ∙ e) i
+of_word f m xs meaning h e i = has_int f m meaning h.grown h.literals (h.same_length ∙ e) i
 
 operands : (f : Formula) (xs ys : List ℤ) → 0 < f.vars → IsOperand f xs → IsOperand f ys → AreOperands f xs ys
 operands f xs ys one p q = record { one = one; first = p.literals; second = q.literals; lengths = q.width ∙ sym p.width }
@@ -70,7 +61,7 @@ has_truth : (f : Formula) (m : Made) (meaning : Valuation → Bool) → 0 < f.va
 has_truth f m meaning one h =
     let more : f.vars ≤ m.formula.vars = grown_more f m.formula h.grown in
     let rest : List ℤ = zeros 31 in
-    has_int f (truth_word m) (λ w. truth (meaning w)) one h.grown
+    has_int f (truth_word m) (λ w. truth (meaning w)) h.grown
     (All-cons (IsOf m.formula.vars) m.literal rest h.literal
     (All-replicate (IsOf m.formula.vars) 31 (constant false) (constant_of m.formula.vars false (omega (arith, one, more)))))
     (ap suc (length-replicate 31 (constant false)))
@@ -84,7 +75,7 @@ opposite_bit f m meaning h = record {
   value = λ w k. literal_true-neg w m.literal h.literal.0 ∙ ap not (h.value w k);
 }
 
-some_bit : (f : Formula) (xs : List ℤ) → 0 < f.vars → All (IsOf f.vars) xs → IsBit f (some_of f xs) (λ w. not (value w xs == 0))
+pub some_bit : (f : Formula) (xs : List ℤ) → 0 < f.vars → All (IsOf f.vars) xs → IsBit f (some_of f xs) (λ w. not (value w xs == 0))
 some_bit f xs one p =
     let h = any_bit (kept f (constant false)) xs one (constant_of f.vars false one) p in
     record {
@@ -110,7 +101,7 @@ differ_bit f xs ys o =
     }
 
 -- two numbers of 32 bits are equal where their ints are
-same_int : (n m : ℕ) → n < 2 ^ 32 → m < 2 ^ 32 → (n == m) ≡ int_eq (cast_signed w32 n) (cast_signed w32 m)
+pub same_int : (n m : ℕ) → n < 2 ^ 32 → m < 2 ^ 32 → (n == m) ≡ int_eq (cast_signed w32 n) (cast_signed w32 m)
 same_int n m p q =
     same_from_decides (n == m) (int_eq (cast_signed w32 n) (cast_signed w32 m))
     (Decides-like (n == m) (ap (cast_signed w32)) (λ e. sym (of_z-to_z w32 n p) ∙ ap (cast_unsigned w32) e ∙ of_z-to_z w32 m q) (Decides-eqb n m))
@@ -120,7 +111,7 @@ not_not : (p : Bool) → not (not p) ≡ p
 not_not true = refl
 not_not false = refl
 
-bit_with : (f : Formula) (m : Made) (meaning other : Valuation → Bool) → ((w : Valuation) → meaning w ≡ other w) → IsBit f m meaning → IsBit f m other
+pub bit_with : (f : Formula) (m : Made) (meaning other : Valuation → Bool) → ((w : Valuation) → meaning w ≡ other w) → IsBit f m meaning → IsBit f m other
 bit_with f m meaning other e h = record { grown = h.grown; literal = h.literal; value = λ w k. h.value w k ∙ e w }
 
 -- a word where a literal is true, and else 0
@@ -141,7 +132,7 @@ has_where f before xs m condition meaning one h e b i =
     let out : Walked Formula = kept_where word m in
     let k = gated_words_mean And g word (replicate n m.literal) (omega (arith, one, more, rise)) (all_grown before.state g word b.grown h.literals)
     (All-replicate (IsOf g.vars) n m.literal b.literal) (length-replicate n m.literal) in
-    has_int f out meaning one (grown_twice f g out.state (grown_twice f before.state g h.grown b.grown) k.word.grown) k.word.literals
+    has_int f out meaning (grown_twice f g out.state (grown_twice f before.state g h.grown b.grown) k.word.grown) k.word.literals
     (k.word.same_length ∙ h.same_length ∙ e)
     (λ w o.
     let og : IsModel w g = model_before w g out.state k.word.grown o in
@@ -225,7 +216,7 @@ has_gates g f xs ys o e =
     let m : Walked Formula = gated_words g f xs ys in
     let h = gated_words_mean g f xs ys o.one o.first o.second o.lengths in
     let long : length ys ≡ 32 = o.lengths ∙ e in
-    of_word f m xs (λ w. gate_int g (int_value w xs) (int_value w ys)) o.one h.word e
+    of_word f m xs (λ w. gate_int g (int_value w xs) (int_value w ys)) h.word e
     (λ w k.
     let p : number_of (values w m.word) ≡ gate_number g (value w xs) (value w ys) =
     ap number_of (h.places w k)
@@ -265,11 +256,11 @@ no_remainder a = refl
 pub binary_means : (op : BinOp) (f : Formula) (xs ys : List ℤ) → 0 < f.vars → IsOperand f xs → IsOperand f ys
     → HasInt f (binary_word op f xs ys) (λ w. binary op (int_value w xs) (int_value w ys))
 binary_means bin.Add f xs ys one p q =
-    let o = operands f xs ys one p q in of_word f (plus_word f xs ys) xs _ one (sum_means f xs ys o).word p.width (plus_32 f xs ys o p.width)
+    let o = operands f xs ys one p q in of_word f (plus_word f xs ys) xs _ (sum_means f xs ys o).word p.width (plus_32 f xs ys o p.width)
 binary_means bin.Sub f xs ys one p q =
-    let o = operands f xs ys one p q in of_word f (minus_word f xs ys) xs _ one (difference_means f xs ys o).word p.width (minus_32 f xs ys o p.width)
+    let o = operands f xs ys one p q in of_word f (minus_word f xs ys) xs _ (difference_means f xs ys o).word p.width (minus_32 f xs ys o p.width)
 binary_means bin.Mul f xs ys one p q =
-    let o = operands f xs ys one p q in of_word f (times_word f xs ys) xs _ one (product_means f xs ys o).word p.width (times_32 f xs ys o p.width)
+    let o = operands f xs ys one p q in of_word f (times_word f xs ys) xs _ (product_means f xs ys o).word p.width (times_32 f xs ys o p.width)
 binary_means bin.And f xs ys one p q = has_gates And f xs ys (operands f xs ys one p q) p.width
 binary_means bin.Or f xs ys one p q = has_gates Or f xs ys (operands f xs ys one p q) p.width
 binary_means bin.Xor f xs ys one p q = has_gates Xor f xs ys (operands f xs ys one p q) p.width
@@ -328,7 +319,7 @@ unary_means un.Neg f xs one p =
       second = p.literals;
       lengths = p.width ∙ sym long;
     } in
-    of_word f (minus_word f none xs) none (λ w. negated (int_value w xs)) one (difference_means f none xs o).word long
+    of_word f (minus_word f none xs) none (λ w. negated (int_value w xs)) (difference_means f none xs o).word long
     (λ w m.
     let v : value w (minus_word f none xs).word ≡ (2 ^ 32 - cast_unsigned w32 (int_value w xs)) % 2 ^ 32 =
     (difference_means f none xs o).number w m ∙ ap (λ n. (value w none + (2 ^ n - value w xs)) % 2 ^ n) long
@@ -341,7 +332,7 @@ unary_means un.Not f xs one p =
     (λ w. not_not (value w xs == 0) ∙ same_int (value w xs) 0 (below_32 w xs p.width) (omega arith))
     (opposite_bit f (some_of f xs) (λ w. not (value w xs == 0)) (some_bit f xs one p.literals)))
 unary_means un.Inv f xs one p =
-    has_int f (unary_word un.Inv f xs) (λ w. bits_inverted (int_value w xs)) one (grown_none f) (all_inverted f.vars xs p.literals)
+    has_int f (unary_word un.Inv f xs) (λ w. bits_inverted (int_value w xs)) (grown_none f) (all_inverted f.vars xs p.literals)
     (length-map xs neg_ℤ ∙ p.width) (λ w m. inverted_int w f.vars xs p.literals p.width)
 
 pub ops-mean : OpsMean

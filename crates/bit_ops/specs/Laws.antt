@@ -5,8 +5,7 @@ use Rattle.tc_base.specs.Arith.{unary, binary}
 use Rattle.tc_base.specs.declared.arith.UnOp.{UnOp}
 use Rattle.tc_base.specs.declared.arith.BinOp.{BinOp}
 use Rattle.cnf_core.specs.Clauses.{Formula, Valuation}
-use Rattle.cnf_core.specs.Gates.{Agree, IsOver}
-use Rattle.bit_gates.specs.Laws.{IsModel, IsOf}
+use Rattle.bit_gates.specs.Laws.{IsGrown, IsModel, IsOf}
 use Rattle.bit_words.specs.Words.{Walked}
 use Rattle.bit_arith.specs.Laws.{int_value}
 use Rattle.bit_ops.specs.Ops.{unary_word, binary_word}
@@ -16,15 +15,12 @@ pub record IsOperand (f : Formula) (xs : List ℤ) : Type 0 where
   pub literals : All (IsOf f.vars) xs
   pub width : length xs ≡ 32
 
--- a formula has grown, and has a word with this int
+-- a formula has grown by gates, and has a word with this int
 pub record HasInt (f : Formula) (m : Walked Formula) (meaning : Valuation → ℤ) : Type 0 where
+  pub grown : IsGrown f m.state
   pub word : IsOperand m.state m.word
   -- all values that satisfy the formula give the word this int
   pub int : (w : Valuation) → IsModel w m.state → int_value w m.word ≡ meaning w
-  -- they satisfied it before
-  pub before : (w : Valuation) → IsModel w m.state → IsModel w f
-  -- what satisfied it before satisfies it with some values of the new variables
-  pub extends : (v : Valuation) → IsOver f → IsModel v f → (w : Valuation) × IsModel w m.state × Agree f.vars v w
 
 -- each operator over all values of its operands, a divisor of 0 and every distance too
 pub record OpsMean : Type 0 where

@@ -25,8 +25,7 @@ pub type Word = [Lit; 32];
 /// An operator adds at most so many variables, and at most so many clauses.
 pub const MOST: u32 = 29_200;
 
-/// Wherever the clauses are satisfied, what an operator's circuit makes has the operator's value; and what satisfied the clauses before
-/// satisfies them with some values of the new variables.
+/// Wherever the clauses are satisfied, what an operator's circuit makes has the operator's value; and it adds gates alone.
 pub fn ops_mean()
     ensures { OpsMean }
 {}
