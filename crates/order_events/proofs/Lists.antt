@@ -72,6 +72,7 @@ in_filter {X} p x (z ∷ zs) i hit = elim (of_cons x z zs i) [
     first : (b : Bool) → b ≡ true → z ≡ x → Contains (cond b (z ∷ filter p zs) (filter p zs)) x
     first true e same = subst (λ y. Contains (z ∷ filter p zs) y) same (in_front z (filter p zs))
     first false e same = absurd (false≢true e)
+
     further : (b : Bool) → Contains (filter p zs) x → Contains (cond b (z ∷ filter p zs) (filter p zs)) x
     further true j = in_back x z (filter p zs) j
     further false j = j
@@ -82,6 +83,7 @@ of_filter {X} p x (z ∷ zs) i = by (p z) refl i (of_filter p x zs)
   where
     behind : Contains zs x × (p x ≡ true) → Contains (z ∷ zs) x × (p x ≡ true)
     behind o = (in_back x z zs o.0, o.1)
+
     by : (b : Bool) → p z ≡ b → Contains (cond b (z ∷ filter p zs) (filter p zs)) x → (Contains (filter p zs) x → Contains zs x × (p x ≡ true))
         → Contains (z ∷ zs) x × (p x ≡ true)
     by true hit j rest = elim (of_cons x z (filter p zs) j) [
@@ -111,6 +113,7 @@ of_filter_map {X} {Y} h y (z ∷ zs) i = by (h z) refl i (of_filter_map h y zs)
   where
     behind : Giver h y zs → Giver h y (z ∷ zs)
     behind o = (o.0, in_back o.0 z zs o.1, o.2)
+
     by : (o : Option Y) → h z ≡ o → Contains (cons_option o (filter_map h zs)) y → (Contains (filter_map h zs) y → Giver h y zs) → Giver h y (z ∷ zs)
     by None is j rest = behind (rest j)
     by (Some a) is j rest = elim (of_cons y a (filter_map h zs) j) [
@@ -124,7 +127,7 @@ in_places n k m x [] sum at = absurd (none-some x at)
 in_places n zero m x (z ∷ zs) sum at =
     let here : n ≡ m = omega (arith, sum) in
     subst (λ (e : ℕ × _). Contains (enumerate_from n (z ∷ zs)) e) (ap (λ a. (a, z)) here ∙ ap (λ b. (m, b)) (same_Some z x at))
-        (in_front (n, z) (enumerate_from (n + 1) zs))
+    (in_front (n, z) (enumerate_from (n + 1) zs))
 in_places n (suc k) m x (z ∷ zs) sum at = in_back (m, x) (n, z) (enumerate_from (n + 1) zs) (in_places (n + 1) k m x zs (omega (arith, sum)) at)
 
 of_places : {X : Type 0} (n : ℕ) (e : ℕ × X) (xs : List X) → Contains (enumerate_from n xs) e → (k : ℕ) × (n + k ≡ e.0) × (slice_get xs k ≡ Some e.1)

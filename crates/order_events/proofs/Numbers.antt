@@ -32,8 +32,8 @@ walks_on {W} {X} has ws k w old mid new xs within at own front step =
     let before = all_from has 0 (take k ws) in
     let same : 0 + length (take k ws) ≡ k = omega (arith, length-take-le k ws (omega (arith, within))) in
     let more : all_from has 0 (take (k + 1) ws) ≡ before ++ map (λ x. record { thread = k; it = x }) (has w) =
-      ap (λ vs. all_from has 0 vs) (take_more ws k w within ∙ ap (λ v. take k ws ++ v ∷ []) (sym at)) ∙ all_from_push has 0 (take k ws) w
-      ∙ ap (λ n. before ++ map (λ x. record { thread = n; it = x }) (has w)) same in
+    ap (λ vs. all_from has 0 vs) (take_more ws k w within ∙ ap (λ v. take k ws ++ v ∷ []) (sym at)) ∙ all_from_push has 0 (take k ws) w
+    ∙ ap (λ n. before ++ map (λ x. record { thread = n; it = x }) (has w)) same in
     step ∙ ap (λ zs. zs ++ map (λ x. record { thread = k; it = x }) xs) front
     ∙ append_assoc old before (map (λ x. record { thread = k; it = x }) xs)
     ∙ ap (λ ys. old ++ (before ++ map (λ x. record { thread = k; it = x }) ys)) own ∙ ap (λ zs. old ++ zs) (sym more)
@@ -78,6 +78,7 @@ of_all_from {W} {X} has t (v ∷ ws) x i =
       thread = omega (arith, ap (λ (z : Of X). z.thread) o.2);
       among = subst (λ y. Contains (has v) y) (ap (λ (z : Of X). z.it) o.2) o.1;
     }
+
     later : IsOfThread has (t + 1) ws x → IsOfThread has t (v ∷ ws) x
     later o = record { place = suc o.place; owner = o.owner; at = o.at; thread = omega (arith, o.thread); among = o.among }
 
@@ -147,10 +148,10 @@ one_step paths t k u j s same =
     let within = has_number paths t k s in
     let mine : is_step t k e ≡ true = is_step_at paths t k d within in
     let other : is_step u j e ≡ true =
-      subst (λ n. is_step u j (get_or (all_events paths) n d) ≡ true) (sym same)
-      (is_step_at paths u j d (subst (λ n. n < length (all_events paths)) same within)) in (
+    subst (λ n. is_step u j (get_or (all_events paths) n d) ≡ true) (sym same)
+    (is_step_at paths u j d (subst (λ n. n < length (all_events paths)) same within)) in (
       sym (same_number e.thread t (and_parts (e.thread == t) (e.it.step == k) mine).0)
-      ∙ same_number e.thread u (and_parts (e.thread == u) (e.it.step == j) other).0,
+          ∙ same_number e.thread u (and_parts (e.thread == u) (e.it.step == j) other).0,
       sym (same_number e.it.step k (and_parts (e.thread == t) (e.it.step == k) mine).1)
-      ∙ same_number e.it.step j (and_parts (e.thread == u) (e.it.step == j) other).1,
+          ∙ same_number e.it.step j (and_parts (e.thread == u) (e.it.step == j) other).1,
     )

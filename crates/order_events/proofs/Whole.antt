@@ -60,6 +60,7 @@ regions_are (e ∷ es) r i = by (takes e.kind) i (regions_are es r)
       taken = subst (λ n. IsStepOf (e ∷ es) n) (ap (λ (s : Region). s.«from») same) (first_of e es);
       left = λ k to. one_more e es k (left_is_step m k es (ap (λ (s : Region). s.to) same ∙ to));
     }
+
     by : (o : Option ℕ) → Contains (cons_option (option_map (λ m. record { mutex = m; «from» = e.step; to = left_at m es }) o) (regions_of es)) r
         → (Contains (regions_of es) r → IsRegionOf es r) → IsRegionOf (e ∷ es) r
     by None j later = region_more e es r (later j)
@@ -90,11 +91,12 @@ sleeps_are (e ∷ es) s i = by (sleep_by e.step (slice_get es 0) e.kind) refl i 
             → IsSleepOf (e ∷ es) s
         told c m here =
             let own : record { step = e.step; condition = c; mutex = m; wake = option_map (λ (w : Event). w.step) (slice_get es 0) } ≡ s =
-              same_Some _ x here ∙ same in
+            same_Some _ x here ∙ same in
             record {
               slept = subst (λ n. IsStepOf (e ∷ es) n) (ap (λ (y : Sleep). y.step) own) (first_of e es);
               woken = λ k at. one_more e es k (next_is_step es k (ap (λ (y : Sleep). y.wake) own ∙ at));
             }
+
         of_kind : (k : EventKind) → sleep_by e.step (slice_get es 0) k ≡ Some x → IsSleepOf (e ∷ es) s
         of_kind (kind.Sleep c m) h = told c m h
         of_kind kind.Load h = absurd (none-some x h)
@@ -110,6 +112,7 @@ sleeps_are (e ∷ es) s i = by (sleep_by e.step (slice_get es 0) e.kind) refl i 
         of_kind kind.Fence h = absurd (none-some x h)
         of_kind kind.Exit h = absurd (none-some x h)
         of_kind kind.Fail h = absurd (none-some x h)
+
     by : (o : Option Sleep) → sleep_by e.step (slice_get es 0) e.kind ≡ o → Contains (cons_option o (sleeps_of es)) s
         → (Contains (sleeps_of es) s → IsSleepOf es s) → IsSleepOf (e ∷ es) s
     by None is j later = sleep_more e es s (later j)
@@ -256,10 +259,13 @@ whole_of code log = record {
   where
     paths : Paths
     paths = paths_of code log
+
     step_in : (t : ℕ) (q : Walk) (k : ℕ) → slice_get paths.threads t ≡ Some q → IsStepOf q.events k → HasStep paths t k
     step_in t q k at s = (s.0, (q, at, s.1), s.2)
+
     regions_of_walk : (t : ℕ) (r : Region) (h : Has paths t (λ q. q.regions) r) → IsRegionOf h.0.events r
     regions_of_walk t r h = regions_are h.0.events r (subst (λ rs. Contains rs r) (mapped_at code log log.threads t h.0 h.1).regions h.2)
+
     sleeps_of_walk : (t : ℕ) (s : Sleep) (h : Has paths t (λ q. q.sleeps) s) → IsSleepOf h.0.events s
     sleeps_of_walk t s h = sleeps_are h.0.events s (subst (λ ss. Contains ss s) (mapped_at code log log.threads t h.0 h.1).sleeps h.2)
 

@@ -2,9 +2,11 @@
 #![tactic(auto)]
 
 mod events;
+mod formula;
 mod laws;
 mod sleeps;
 
 pub use events::{Events, Placed};
+pub use formula::{formula_of, one_of, single};
 pub use laws::{numbers_differ, paths_are_whole, steps_have_numbers};
 pub use sleeps::{PlacedSleep, Sleeps};
