@@ -1,0 +1,5 @@
+pub mod Clauses
+pub mod Layouts
+pub mod Comparators
+pub mod Readings
+pub mod Laws
