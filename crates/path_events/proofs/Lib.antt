@@ -1,0 +1,11 @@
+pub mod Lists
+pub mod Marked
+pub mod Steps
+pub mod Events
+pub mod Bars
+pub mod Regions
+pub mod Sites
+pub mod Held
+pub mod Owners
+pub mod Sleeps
+pub mod Waiters
