@@ -1,0 +1,112 @@
+//! Waits on conditions, and what ends them.
+ghost use Rattle.std.specs.Prelude.{◌≡◌, ◌<◌, ◌^◌, length, IfOk};
+ghost use Rattle.condition_order.specs.Conditions.{ender_by, enders, sleeps_on, wait_of, waits};
+
+use order_events::{Events, Placed, PlacedSleep, Sleeps};
+use path_walk::EventKind;
+use std::alloc::{AllocError, Global};
+
+/// A thread's wait on a condition, by the number of its sleep.
+#[derive(Clone, Copy, Debug)]
+pub(crate) struct Wait {
+    /// The number of the sleep.
+    pub(crate) sleep: u32,
+    /// The condition.
+    pub(crate) condition: u32,
+    /// The event that begins the sleep.
+    pub(crate) begins: u32,
+    /// The event of the thread's wake, if the path has it.
+    pub(crate) wakes: Option<u32>,
+}
+
+/// A signal or a broadcast of a condition.
+#[derive(Clone, Copy, Debug)]
+pub struct Ender {
+    /// The event.
+    pub event: u32,
+    /// Whether it is a broadcast, which ends each sleep on the condition. A signal ends one.
+    pub all: bool,
+}
+
+impl Wait {
+    /// That of a sleep of a number.
+    fn of(events: &Events, number: u32, placed: &PlacedSleep) -> Wait
+        ensures { result ≡ wait_of events.now (number, placed.now) }
+    {
+        let wakes = match placed.sleep.wake {
+            Some(step) => Some(events.number(placed.thread, step)),
+            None => None,
+        };
+        Wait {
+            sleep: number,
+            condition: placed.sleep.condition,
+            begins: events.number(placed.thread, placed.sleep.step),
+            wakes,
+        }
+    }
+}
+
+impl Ender {
+    /// An event of a number, if it is a signal or a broadcast of the condition.
+    fn by(condition: u32, number: u32, placed: &Placed) -> Option<Ender>
+        ensures { result ≡ ender_by condition (number, placed.now) }
+    {
+        match placed.event.kind {
+            EventKind::Signal(of) if of == condition => Some(Ender {
+                event: number,
+                all: false,
+            }),
+            EventKind::Broadcast(of) if of == condition => Some(Ender {
+                event: number,
+                all: true,
+            }),
+            _ => None,
+        }
+    }
+}
+
+/// The waits of all sleeps.
+pub(crate) fn waits(
+    alloc: Global,
+    events: &Events,
+    sleeps: &Sleeps,
+) -> Result<Vec<Wait>, AllocError>
+    requires { length sleeps.now < 2 ^ 32 }
+    ensures { IfOk result (λ all. all.items ≡ waits events.now sleeps.now) }
+{
+    let mut all = Vec::new(alloc);
+    for (number, placed) in sleeps.all().iter().enumerate() {
+        all.push(Wait::of(events, number as u32, placed))?;
+    }
+    Ok(all)
+}
+
+/// The numbers of the sleeps on a condition.
+pub(crate) fn sleeps_on(
+    alloc: Global,
+    waits: &[Wait],
+    condition: u32,
+) -> Result<Vec<u32>, AllocError>
+    ensures { IfOk result (λ sleeps. sleeps.items ≡ sleeps_on waits.now condition) }
+{
+    let mut sleeps = Vec::new(alloc);
+    for wait in waits {
+        if wait.condition == condition {
+            sleeps.push(wait.sleep)?;
+        }
+    }
+    Ok(sleeps)
+}
+
+/// The signals and broadcasts of a condition, by number.
+pub fn enders(alloc: Global, events: &Events, condition: u32) -> Result<Vec<Ender>, AllocError>
+    ensures { IfOk result (λ found. found.items ≡ enders events.now condition) }
+{
+    let mut found = Vec::new(alloc);
+    for (number, placed) in events.all().iter().enumerate() {
+        if let Some(ender) = Ender::by(condition, number as u32, placed) {
+            found.push(ender)?;
+        }
+    }
+    Ok(found)
+}
