@@ -1,0 +1,38 @@
+use Rattle.std.proofs.Common.{◌<◌, ◌+◌, ◌*◌, ℕ, List, ℤ, ap, sym, ◌∙◌, subst, arith, rules, length, take}
+use Rattle.std.specs.List.{All}
+use Rattle.std.proofs.lemmas.List.{length_push}
+use Rattle.std.proofs.lemmas.List.Elements.{All-push}
+use Rattle.cnf_core.specs.Clauses.{Formula}
+use Rattle.bit_words.specs.Words.{AreWithin}
+use Rattle.bit_words.proofs.Loops.{larger_more}
+use Rattle.bit_terms.specs.Terms.{Words, node_word, term_words}
+use Rattle.bit_terms.proofs.Loops.{next_words, formula_next, words_next, words_more}
+use Rattle.bit_terms.proofs.term_words.Goals as goal
+
+pub loop-node-preserved : goal.loop-node-preserved
+loop-node-preserved c =
+    let nodes = c.nodes-node-items.result.now in
+    let i : ℕ = c.loop-node.node-index in
+    let symbols : List (List ℤ) = c.args.symbols.now in
+    let f : Formula = c.args.cnf.now in
+    let g : Formula = c.loop-node.cnf in
+    let h : Formula = c.node_word.new.cnf in
+    let known : List (List ℤ) = c.loop-node.words.items in
+    let word : List ℤ = c.in_ok-word.word in
+    let node = c.node-item.result in
+    let was = c.loop-node.invariant in
+    let m : Words = term_words (take i nodes) symbols f in
+    let all : Words = term_words (take (i + 1) nodes) symbols f in
+    let within : i < length nodes = search rules in
+    let next = next_words nodes symbols f i node within c.node-item.is in
+    let made = c.in_ok-word.ensures.formula ∙ ap (λ ws. (node_word symbols ws g node).state) c.as_slice.ensures.value in
+    let of = c.in_ok-word.ensures.word ∙ ap (λ ws. (node_word symbols ws g node).word) c.as_slice.ensures.value in
+    let more = c.in_ok-push.ensures.items in
+    record {
+      formula = formula_next symbols node m all next g h known c.push.new.self.items word was.formula was.words made of more;
+      words = words_next symbols node m all next g h known c.push.new.self.items word was.formula was.words made of more;
+      count = ap length more ∙ length_push known word ∙ ap (λ n. n + 1) was.count;
+      within = subst (All (AreWithin h.vars)) (sym more)
+          (All-push (AreWithin h.vars) known word (words_more g.vars h.vars known c.in_ok-word.ensures.larger.0 was.within) c.in_ok-word.ensures.within);
+      larger = larger_more (29_200 * i) 29_200 (29_200 * (i + 1)) f g h was.larger c.in_ok-word.ensures.larger (omega arith);
+    }

@@ -1,0 +1,15 @@
+use Rattle.std.proofs.Common.{◌≡◌, ◌*◌, length, take}
+use Rattle.std.specs.List.{All}
+use Rattle.bit_gates.specs.Folded.{IsLarger}
+use Rattle.bit_words.specs.Words.{AreWithin}
+use Rattle.bit_terms.specs.Terms.{term_words}
+use Rattle.bit_terms.proofs.term_words.Given as goal
+
+abbrev pub invariant-loop-node : goal.invariant-loop-node
+invariant-loop-node l = record {
+  formula : l.cnf ≡ (term_words (take l.node-index l.node-items) l.symbols l.initial.cnf).formula;
+  words : l.words.items ≡ (term_words (take l.node-index l.node-items) l.symbols l.initial.cnf).words;
+  count : length l.words.items ≡ l.node-index;
+  within : All (AreWithin l.cnf.vars) l.words.items;
+  larger : IsLarger (29_200 * l.node-index) l.initial.cnf l.cnf;
+}

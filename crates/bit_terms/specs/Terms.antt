@@ -1,0 +1,40 @@
+-- The circuits of terms: a word for each.
+use Rattle.std.specs.Prelude.{ℕ, ◌==◌, List, [], ◌∷◌, ◌++◌, ℤ, map, fold, get_or}
+use Rattle.std.specs.List.{range_with_len}
+use Rattle.tc_base.specs.Arith.{bit}
+use Rattle.sym_terms.specs.declared.node.Node.{Node}
+use Rattle.sym_terms.specs.declared.node.Node.TheVariants.{Constant, Symbol, Unary, Binary}
+use Rattle.cnf_core.specs.Clauses.{Formula}
+use Rattle.bit_gates.specs.Folded.{constant}
+use Rattle.bit_words.specs.Words.{Walked}
+use Rattle.bit_arith.specs.Sums.{zeros}
+use Rattle.bit_ops.specs.Ops.{unary_word, binary_word}
+
+-- the word of a number: a constant for each bit
+unfoldable pub constant_word : ℤ → List ℤ
+constant_word z = map (λ place. constant (bit z place == 1)) (range_with_len 0 32)
+
+-- the word at a place; past the last, that of 0
+abbrev pub word_at : List (List ℤ) → ℕ → List ℤ
+word_at words place = get_or words place (zeros 32)
+
+-- what a node's circuit makes, from the words of what the loads take and of the nodes before it
+abbrev pub node_word : (symbols known : List (List ℤ)) → Formula → Node → Walked Formula
+node_word symbols known f (Constant n) = record { state = f; word = constant_word n }
+node_word symbols known f (Symbol load) = record { state = f; word = word_at symbols load }
+node_word symbols known f (Unary op a) = unary_word op f (word_at known a)
+node_word symbols known f (Binary op a b) = binary_word op f (word_at known a) (word_at known b)
+
+-- a formula, and a word for each of the first nodes
+pub record Words : Type 0 where
+  pub formula : Formula
+  pub words : List (List ℤ)
+
+-- with the word of the next node
+abbrev pub with_word : (symbols : List (List ℤ)) → Words → Node → Words
+with_word symbols m node =
+    let here : Walked Formula = node_word symbols m.words m.formula node in record { formula = here.state; words = m.words ++ here.word ∷ [] }
+
+-- the words of all nodes in order, each from those before it
+abbrev pub term_words : List Node → (symbols : List (List ℤ)) → Formula → Words
+term_words nodes symbols f = fold (with_word symbols) (record { formula = f; words = [] }) nodes

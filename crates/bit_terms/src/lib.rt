@@ -1,0 +1,114 @@
+//! Circuits of terms: a word of 32 literals for each, made once, from the words of the values that the loads take.
+#![tactic(auto)]
+
+ghost use Rattle.std.specs.Prelude.{◌≡◌, ◌<◌, ◌≤◌, ◌*◌, length, IfOk, OnOk};
+ghost use Rattle.std.specs.List.{All};
+ghost use Rattle.sym_terms.specs.Terms.{NamesBelow};
+ghost use Rattle.cnf_core.specs.Clauses.{var_of};
+ghost use Rattle.bit_gates.specs.Folded.{HasRoom, IsLarger};
+ghost use Rattle.bit_words.specs.Words.{AreWithin};
+ghost use Rattle.bit_ops.specs.Ops.{some_of};
+ghost use Rattle.bit_terms.specs.Laws.{TermsMean, NonzeroMeans};
+ghost use Rattle.bit_terms.specs.Terms.{constant_word, node_word, term_words, word_at};
+
+use bit_gates::constant;
+use bit_ops::{MOST, Word, binary, unary};
+use bit_words::any;
+use cnf_core::{Cnf, Lit};
+use std::alloc::{AllocError, Global};
+use sym_terms::{Node, Terms};
+
+/// Wherever the clauses are satisfied, the word of a term has the term's value; and the circuits add gates alone.
+pub fn terms_mean()
+    ensures { TermsMean }
+{}
+
+/// Wherever the clauses are satisfied, the literal that a word isn't 0 tells whether it is; and it adds gates alone.
+pub fn nonzero_means()
+    ensures { NonzeroMeans }
+{}
+
+/// A word for each term, in the order of the names, from the words of the values that the loads take. A load past them takes 0.
+///
+/// Refused for want of memory, with the circuits of some terms made.
+pub fn term_words(
+    alloc: Global,
+    cnf: &mut Cnf,
+    terms: &Terms,
+    symbols: &[Word],
+) -> Result<Vec<Word>, AllocError>
+    requires one { 0 < cnf.old.vars }
+    requires symbols { All (AreWithin cnf.old.vars) symbols.now }
+    requires room { HasRoom (MOST * length terms.now) cnf.old }
+    ensures words { IfOk result (λ words. words.items ≡ (term_words terms.now symbols.now cnf.old).words) }
+    ensures formula { OnOk result (cnf.new ≡ (term_words terms.now symbols.now cnf.old).formula) }
+    ensures within { IfOk result (λ words. All (AreWithin cnf.new.vars) words.items) }
+    ensures larger { OnOk result (IsLarger (MOST * length terms.now) cnf.old cnf.new) }
+{
+    let mut words = Vec::with_capacity(alloc, terms.len())?;
+    for node in terms.nodes() {
+        let word = node_word(cnf, *node, symbols, words.as_slice())?;
+        words.push(word)?;
+    }
+    Ok(words)
+}
+
+/// A literal that is true where the word isn't 0.
+pub fn nonzero(cnf: &mut Cnf, word: &Word) -> Result<Lit, AllocError>
+    requires one { 0 < cnf.old.vars }
+    requires word { AreWithin cnf.old.vars word.now }
+    requires room { HasRoom 96 cnf.old }
+    ensures literal { IfOk result (λ l. l ≡ (some_of cnf.old word.now).literal) }
+    ensures formula { OnOk result (cnf.new ≡ (some_of cnf.old word.now).formula) }
+    ensures within { IfOk result (λ l. var_of l ≤ cnf.new.vars) }
+    ensures larger { OnOk result (IsLarger 96 cnf.old cnf.new) }
+{
+    any(cnf, constant(false), word)
+}
+
+/// The word of a node, from those of the nodes before it.
+fn node_word(
+    cnf: &mut Cnf,
+    node: Node,
+    symbols: &[Word],
+    known: &[Word],
+) -> Result<Word, AllocError>
+    requires one { 0 < cnf.old.vars }
+    requires names { NamesBelow (length known.now) node }
+    requires symbols { All (AreWithin cnf.old.vars) symbols.now }
+    requires known { All (AreWithin cnf.old.vars) known.now }
+    requires room { HasRoom MOST cnf.old }
+    ensures word { IfOk result (λ word. word ≡ (node_word symbols.now known.now cnf.old node).word) }
+    ensures formula { OnOk result (cnf.new ≡ (node_word symbols.now known.now cnf.old node).state) }
+    ensures within { IfOk result (λ word. AreWithin cnf.new.vars word) }
+    ensures larger { OnOk result (IsLarger MOST cnf.old cnf.new) }
+{
+    match node {
+        Node::Constant(value) => Ok(constant_word(value)),
+        Node::Symbol(load) => Ok(word_at(symbols, load)),
+        Node::Unary(op, a) => unary(cnf, op, &known[a.place()]),
+        Node::Binary(op, a, b) => binary(cnf, op, &known[a.place()], &known[b.place()]),
+    }
+}
+
+/// The word of the value that a load takes.
+fn word_at(symbols: &[Word], load: u32) -> Word
+    ensures { result ≡ word_at symbols.now load }
+{
+    symbols
+        .get(load as usize)
+        .copied()
+        .unwrap_or([constant(false); 32])
+}
+
+/// The word of a number.
+pub fn constant_word(value: i32) -> Word
+    ensures { result ≡ constant_word value }
+{
+    let bits = value.cast_unsigned();
+    let mut word = [constant(false); 32];
+    for place in 0..32 {
+        word[place] = constant(bits >> place & 1 == 1);
+    }
+    word
+}
