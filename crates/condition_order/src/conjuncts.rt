@@ -25,6 +25,8 @@ use std::alloc::{AllocError, Global};
 
 /// All conjuncts about conditions: of a sleep those that come with its start and its wake, that a signal ends no two sleeps, and
 /// that no signal or broadcast is lost on which the sleep waits. They are pushed sleep by sleep.
+///
+/// The one error is want of memory; some of the conjuncts may have been pushed then.
 pub fn condition_conjuncts(
     alloc: Global,
     events: &Events,
