@@ -1,10 +1,11 @@
 -- Worlds and values of the variables tell each other.
-use Rattle.std.specs.Prelude.{◌≡◌, ℕ, ◌<◌, ◌≤◌, List, ℤ, None, Some, get_or, length, IsTrue}
+use Rattle.std.specs.Prelude.{◌≡◌, ℕ, ◌<◌, pos, None, Some, get_or, length, IsTrue}
 use Rattle.std.specs.List.{All, Contains, list_any}
 use Rattle.tc_base.specs.Arith.{IsInt}
 use Rattle.cnf_core.specs.Clauses.{Valuation, literal_true}
 use Rattle.bit_gates.specs.Laws.{IsModel, IsOf}
-use Rattle.order_formula.specs.Orders.{IsOrder, same_pair, pair_of}
+use Rattle.bit_arith.specs.Laws.{int_value}
+use Rattle.order_formula.specs.Orders.{same_pair, pair_of}
 use Rattle.order_formula.specs.Worlds.{World, IsWorld, is_before, is_ended}
 use Rattle.bit_order.specs.Layouts.{Layout, load_word, ends_literal}
 use Rattle.bit_order.specs.Comparators.{before_literal, ordered}
@@ -30,12 +31,16 @@ pub record SaysSame (y : Layout) (w x : World) : Type 0 where
 abbrev pub PairIsAsked : Layout → (first second : ℕ) → Type 0
 PairIsAsked y first second = IsTrue (list_any (same_pair (pair_of first second)) y.order.pairs)
 
--- the literals of an order: they are the formula's, and where it is satisfied they say what the world says
+-- the literals of an order are the formula's, and where it is satisfied they say what the world says
 pub record LiteralsMean (y : Layout) : Type 0 where
+  -- an event comes before another, where that was asked
   pub before_there : (first second : ℕ) → IsOf (ordered y).vars (before_literal y first second)
   pub before : (v : Valuation) → IsModel v (ordered y) → (first second : ℕ) → PairIsAsked y first second
       → literal_true v (before_literal y first second) ≡ is_before (world_of y v) first second
+  -- an event ends a sleep, whether that was asked or not
   pub ends_there : (sleep by : ℕ) → IsOf (ordered y).vars (ends_literal y sleep by)
   pub ends : (v : Valuation) → IsModel v (ordered y) → (sleep by : ℕ) → literal_true v (ends_literal y sleep by) ≡ is_ended (world_of y v) sleep by
+  -- a load takes a value of 32 bits
   pub load_there : (load : ℕ) → load < y.loads → All (IsOf (ordered y).vars) (load_word y load)
   pub load_wide : (load : ℕ) → length (load_word y load) ≡ 32
+  pub load : (v : Valuation) (load : ℕ) → load < y.loads → int_value v (load_word y load) ≡ get_or (world_of y v).loads load (pos 0)

@@ -51,7 +51,8 @@ exclusion start choices earlier later =
     else []
 
 abbrev pub exclusions : ℕ → List Choice → List (List ℤ)
-exclusions start choices = flat_map (λ later. flat_map (λ earlier. exclusion start choices earlier later) (range_with_len 0 later)) (range_with_len 0 (length choices))
+exclusions start choices =
+    flat_map (λ later. flat_map (λ earlier. exclusion start choices earlier later) (range_with_len 0 later)) (range_with_len 0 (length choices))
 
 -- the variables before any gate, and what holds of them
 abbrev pub base : Layout → Formula

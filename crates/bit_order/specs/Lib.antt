@@ -3,3 +3,4 @@ pub mod Layouts
 pub mod Comparators
 pub mod Readings
 pub mod Laws
+pub mod helpers

@@ -2,3 +2,15 @@
 //! event that ends a sleep a variable. A literal says of two events which comes first; values of all variables are read as a world,
 //! and each world has such values.
 #![tactic(auto)]
+
+mod choices;
+mod clause;
+pub mod laws;
+mod layout;
+mod pairs;
+mod reading;
+mod words;
+
+pub use clause::add_clause;
+pub use layout::{Layout, size};
+pub use pairs::complete;

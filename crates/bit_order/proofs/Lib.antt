@@ -1,0 +1,9 @@
+pub mod Ranges
+pub mod ClauseLaws
+pub mod WordLaws
+pub mod Compared
+pub mod Three
+pub mod Asking
+pub mod Chosen
+pub mod Saying
+pub mod Meaning

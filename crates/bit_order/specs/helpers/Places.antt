@@ -1,0 +1,9 @@
+-- Where the positions of a pair's events lie.
+use Rattle.std.specs.Prelude.{ℕ, ◌+◌, ◌≤◌}
+use Rattle.order_formula.specs.declared.order.Pair.{Pair}
+use Rattle.bit_order.specs.Layouts.{position_start}
+
+-- they lie in the first variables
+pub record PairIsWithin (vars : ℕ) (p : Pair) : Type 0 where
+  pub lesser : position_start p.lesser + 7 ≤ vars
+  pub greater : position_start p.greater + 7 ≤ vars

@@ -1,0 +1,52 @@
+//! What holds of the choices.
+ghost use Rattle.std.specs.Prelude.{◌≡◌, ◌<◌, ◌≤◌, ◌+◌, ◌*◌, ◌++◌, length, OnOk};
+ghost use Rattle.std.specs.List.{flat_map, range_with_len};
+ghost use Rattle.cnf_core.specs.declared.cnf.TheConstants.{LIMIT};
+ghost use Rattle.bit_order.specs.Layouts.{exclusion, exclusions};
+
+use cnf_core::{Cnf, Lit};
+use order_formula::Choice;
+use std::alloc::AllocError;
+
+/// Every two choices of one sleep exclude each other. The variables of the choices begin at a number.
+pub(crate) fn exclude(cnf: &mut Cnf, start: u32, choices: &[Choice]) -> Result<(), AllocError>
+    requires positive { 0 < start }
+    requires variables { start + length choices.now ≤ cnf.old.vars + 1 }
+    requires small { cnf.old.vars < LIMIT }
+    requires room { length cnf.old.clauses + length choices.now * length choices.now < LIMIT }
+    ensures vars { cnf.new.vars ≡ cnf.old.vars }
+    ensures clauses { OnOk result (cnf.new.clauses ≡ cnf.old.clauses ++ exclusions start choices.now) }
+    ensures few { length cnf.new.clauses ≤ length cnf.old.clauses + length choices.now * length choices.now }
+{
+    for later in 0..choices.len() {
+        exclude_earlier(cnf, start, choices, later)?;
+    }
+    Ok(())
+}
+
+/// A choice excludes each earlier one of its sleep.
+fn exclude_earlier(
+    cnf: &mut Cnf,
+    start: u32,
+    choices: &[Choice],
+    later: usize,
+) -> Result<(), AllocError>
+    requires positive { 0 < start }
+    requires there { later < length choices.now }
+    requires variables { start + length choices.now ≤ cnf.old.vars + 1 }
+    requires small { cnf.old.vars < LIMIT }
+    requires room { length cnf.old.clauses + later < LIMIT }
+    ensures vars { cnf.new.vars ≡ cnf.old.vars }
+    ensures clauses { OnOk result (cnf.new.clauses
+        ≡ cnf.old.clauses ++ flat_map (λ earlier. exclusion start choices.now earlier later) (range_with_len 0 later)) }
+    ensures few { length cnf.new.clauses ≤ length cnf.old.clauses + later }
+{
+    for earlier in 0..later {
+        if choices[earlier].sleep == choices[later].sleep {
+            let first = Lit::new(start + earlier as u32, true);
+            let second = Lit::new(start + later as u32, true);
+            cnf.push(&[first, second])?;
+        }
+    }
+    Ok(())
+}

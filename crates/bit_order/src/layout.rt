@@ -1,0 +1,240 @@
+//! How an order lies in variables.
+ghost use Rattle.std.specs.Prelude.{◌≡◌, ◌<◌, ◌≤◌, ◌+◌, ◌-◌, ◌*◌, ◌^◌, ◌++◌, min, length, IfOk, OnOk, IfSome};
+ghost use Rattle.std.specs.List.{flat_map, range_with_len};
+ghost use Rattle.cnf_core.specs.Clauses.{var_of};
+ghost use Rattle.cnf_core.specs.declared.cnf.TheConstants.{LIMIT};
+ghost use Rattle.bit_words.specs.Words.{AreWithin};
+ghost use Rattle.order_formula.specs.Orders.{IsOrder};
+ghost use Rattle.bit_order.specs.Layouts.{base};
+ghost use Rattle.bit_order.specs.Comparators.{clauses_of_three, where_asked, size_of};
+
+use crate::add_clause;
+use crate::choices::exclude;
+use crate::pairs::compare_pairs;
+use crate::words::word_from;
+use bit_gates::constant;
+use cnf_core::{Cnf, Lit};
+use order_formula::{Order, Pair};
+use std::alloc::{AllocError, Global};
+use std::marker::Model;
+
+/// The variables of an order, with what was asked of it, and of the loads. Contracts see the order and the number of loads.
+#[derive(Debug, Drop)]
+pub struct Layout {
+    order: Order,
+    loads: u32,
+    comparators: Vec<Lit>,
+}
+
+impl Model for Layout {
+    ghost use Rattle.bit_order.specs.Layouts.{Layout as PlainLayout};
+
+    ghost Value = { PlainLayout };
+
+    ghost use Rattle.bit_order.specs.helpers.Held.{layout_of, IsHeld};
+
+    ghost view = { layout_of };
+
+    ghost invariant = { IsHeld };
+}
+
+/// An order and so many loads take at most so many variables and clauses; the greatest number where it is more.
+pub fn size(order: &Order, loads: u32) -> u64
+    ensures { result ≡ min (size_of (record { order = order.now; loads = loads })) (2 ^ 64 - 1) }
+{
+    let choices = order.choices().len() as u64;
+    let pairs = order.pairs().len() as u64;
+    let events = u64::from(order.events());
+    (2 + 8 * events + 32 * u64::from(loads))
+        .saturating_add(choices)
+        .saturating_add(choices.saturating_mul(choices))
+        .saturating_add(pairs.saturating_mul(96 + 2 * events))
+}
+
+/// The variables before any gate, and what holds of them.
+fn base(alloc: Global, order: &Order, loads: u32) -> Result<Cnf, AllocError>
+    requires { size_of (record { order = order.now; loads = loads }) < LIMIT }
+    ensures formula { IfOk result (λ cnf. cnf ≡ base (record { order = order.now; loads = loads })) }
+    ensures few { IfOk result (λ cnf. length cnf.clauses ≤ 1 + length order.now.choices * length order.now.choices) }
+{
+    let start = 2 + 8 * order.events() + 32 * loads;
+    let choices = order.choices();
+    let mut cnf = Cnf::new(alloc, start + choices.len() as u32 - 1);
+    cnf.push(&[constant(true)])?;
+    exclude(&mut cnf, start, choices)?;
+    Ok(cnf)
+}
+
+impl Layout {
+    ghost use Rattle.bit_order.specs.Layouts.{load_start, load_word, choice_start, choice_literal, ends_literal};
+    ghost use Rattle.bit_order.specs.Comparators.{comparators, comparator, before_literal, transitive, transitivity, ordered};
+
+    /// The clauses of an order, with what was asked of it, and of so many loads; and its layout, which has the literals.
+    pub fn clauses(alloc: Global, order: Order, loads: u32) -> Result<(Layout, Cnf), AllocError>
+        requires { size_of (record { order = order; loads = loads }) < LIMIT }
+        ensures layout { IfOk result (λ made. made.0 ≡ record { order = order; loads = loads }) }
+        ensures formula { IfOk result (λ made. made.1 ≡ ordered (record { order = order; loads = loads })) }
+        ensures lawful { IfOk result (λ made. IsOrder made.0.order) }
+        ensures variables { IfOk result (λ made. made.1.vars ≤ size_of made.0) }
+        ensures few { IfOk result (λ made. length made.1.clauses ≤ size_of made.0) }
+    {
+        let mut cnf = base(alloc, &order, loads)?;
+        let comparators = compare_pairs(alloc, &mut cnf, order.pairs())?;
+        let layout = Layout {
+            order,
+            loads,
+            comparators,
+        };
+        layout.add_transitivity(alloc, &mut cnf)?;
+        Ok((layout, cnf))
+    }
+
+    /// The order.
+    pub fn order(&self) -> &Order
+        ensures order { result.now ≡ self.now.order }
+        ensures small { size_of self.now < LIMIT }
+    {
+        &self.order
+    }
+
+    /// How many loads there are.
+    pub fn loads(&self) -> u32
+        ensures { result ≡ self.now.loads }
+    {
+        self.loads
+    }
+
+    /// That the first event comes before the second, where that was asked.
+    pub fn before(&self, first: u32, second: u32) -> Lit
+        ensures { result ≡ before_literal self.now first second }
+    {
+        match self.comparator(first, second) {
+            Some(lit) if first <= second => lit,
+            Some(lit) => lit.opposite(),
+            None => constant(false),
+        }
+    }
+
+    /// That the event ends the sleep; it doesn't where that wasn't asked.
+    pub fn ends(&self, sleep: u32, by: u32) -> Lit
+        ensures { result ≡ ends_literal self.now sleep by }
+    {
+        match self.order.number_of_choice(sleep, by) {
+            Some(number) => self.choice(number),
+            None => constant(false),
+        }
+    }
+
+    /// The bits of the value that a load takes, the lowest first.
+    pub fn load(&self, load: u32) -> [Lit; 32]
+        requires { load < self.now.loads }
+        ensures { result ≡ load_word self.now load }
+    {
+        word_from(self.load_start(load))
+    }
+
+    /// The first variable of the value that a load takes.
+    pub(crate) fn load_start(&self, load: u32) -> u32
+        requires { load < self.now.loads }
+        ensures start { result ≡ load_start self.now load }
+        ensures small { result + 32 ≤ LIMIT }
+    {
+        2 + 8 * self.order.events() + 32 * load
+    }
+
+    /// The variable of the first choice.
+    fn choice_start(&self) -> u32
+        ensures start { result ≡ choice_start self.now }
+        ensures small { result + length self.now.order.choices < LIMIT }
+    {
+        2 + 8 * self.order.events() + 32 * self.loads
+    }
+
+    /// That the choice of a number is made.
+    pub(crate) fn choice(&self, number: usize) -> Lit
+        requires { number < length self.now.order.choices }
+        ensures { result ≡ choice_literal self.now number }
+    {
+        Lit::new(self.choice_start() + number as u32, false)
+    }
+
+    /// The literal of a pair, if it was asked.
+    fn comparator(&self, first: u32, second: u32) -> Option<Lit>
+        ensures { result ≡ comparator self.now first second }
+    {
+        let number = self.order.number_of_pair(first, second)?;
+        Some(self.comparators[number])
+    }
+
+    /// The clauses of transitivity.
+    fn add_transitivity(&self, alloc: Global, cnf: &mut Cnf) -> Result<(), AllocError>
+        requires one { 0 < cnf.old.vars }
+        requires literals { AreWithin cnf.old.vars (comparators self.now).word }
+        requires room { length cnf.old.clauses + length self.now.order.pairs * (2 * self.now.order.events) < LIMIT }
+        ensures vars { cnf.new.vars ≡ cnf.old.vars }
+        ensures clauses { OnOk result (cnf.new.clauses ≡ cnf.old.clauses ++ transitivity self.now) }
+        ensures few { length cnf.new.clauses ≤ length cnf.old.clauses + length self.now.order.pairs * (2 * self.now.order.events) }
+    {
+        for pair in self.order.pairs() {
+            self.add_thirds(alloc, cnf, *pair)?;
+        }
+        Ok(())
+    }
+
+    /// Those for a pair and each event after it.
+    fn add_thirds(&self, alloc: Global, cnf: &mut Cnf, pair: Pair) -> Result<(), AllocError>
+        requires one { 0 < cnf.old.vars }
+        requires literals { AreWithin cnf.old.vars (comparators self.now).word }
+        requires pair { pair.greater < self.now.order.events }
+        requires room { length cnf.old.clauses + 2 * self.now.order.events < LIMIT }
+        ensures vars { cnf.new.vars ≡ cnf.old.vars }
+        ensures clauses { OnOk result (cnf.new.clauses ≡ cnf.old.clauses
+            ++ flat_map (transitive self.now pair) (range_with_len (pair.greater + 1) (self.now.order.events - (pair.greater + 1)))) }
+        ensures few { length cnf.new.clauses ≤ length cnf.old.clauses + 2 * self.now.order.events }
+    {
+        let first = self.before(pair.lesser, pair.greater);
+        for third in pair.greater + 1..self.order.events() {
+            let second = self.comparator(pair.greater, third);
+            let both = self.comparator(pair.lesser, third);
+            add_where_asked(alloc, cnf, first, second, both)?;
+        }
+        Ok(())
+    }
+}
+
+/// The clauses of transitivity, where all three literals are there.
+fn add_where_asked(
+    alloc: Global,
+    cnf: &mut Cnf,
+    a: Lit,
+    b: Option<Lit>,
+    c: Option<Lit>,
+) -> Result<(), AllocError>
+    requires first { var_of a ≤ cnf.old.vars }
+    requires second { IfSome b (λ l. var_of l ≤ cnf.old.vars) }
+    requires third { IfSome c (λ l. var_of l ≤ cnf.old.vars) }
+    requires room { length cnf.old.clauses + 2 < LIMIT }
+    ensures vars { cnf.new.vars ≡ cnf.old.vars }
+    ensures clauses { OnOk result (cnf.new.clauses ≡ cnf.old.clauses ++ where_asked a b c) }
+    ensures few { length cnf.new.clauses ≤ length cnf.old.clauses + 2 }
+{
+    match (b, c) {
+        (Some(b), Some(c)) => add_three(alloc, cnf, a, b, c),
+        _ => Ok(()),
+    }
+}
+
+/// The clauses of transitivity, for the literals of the first event and the second, of the second and the third, and of the first
+/// and the third.
+fn add_three(alloc: Global, cnf: &mut Cnf, a: Lit, b: Lit, c: Lit) -> Result<(), AllocError>
+    requires first { var_of a ≤ cnf.old.vars }
+    requires second { var_of b ≤ cnf.old.vars }
+    requires third { var_of c ≤ cnf.old.vars }
+    requires room { length cnf.old.clauses + 2 < LIMIT }
+    ensures vars { cnf.new.vars ≡ cnf.old.vars }
+    ensures clauses { OnOk result (cnf.new.clauses ≡ cnf.old.clauses ++ clauses_of_three a b c) }
+    ensures few { length cnf.new.clauses ≤ length cnf.old.clauses + 2 }
+{
+    add_clause(alloc, cnf, &[a.opposite(), b.opposite(), c])?;
+    add_clause(alloc, cnf, &[a, b, c.opposite()])
+}

@@ -1,0 +1,84 @@
+//! Which of two events comes first.
+ghost use Rattle.std.specs.Prelude.{◌≡◌, ◌<◌, ◌≤◌, ◌+◌, ◌-◌, ◌*◌, ◌^◌, [], length, map, fold, IfOk, OnOk};
+ghost use Rattle.std.specs.List.{All};
+ghost use Rattle.cnf_core.specs.Clauses.{var_of};
+ghost use Rattle.bit_gates.specs.Folded.{HasRoom, IsLarger};
+ghost use Rattle.bit_words.specs.Words.{AreWithin};
+ghost use Rattle.order_formula.specs.Orders.{pair_of, with_pair};
+ghost use Rattle.bit_order.specs.Comparators.{completed, compared_pair, with_comparator};
+ghost use Rattle.bit_order.specs.helpers.Places.{PairIsWithin};
+
+use crate::words::position_word;
+use bit_gates::constant;
+use bit_words::compare;
+use cnf_core::{Cnf, Lit};
+use order_formula::{Order, Pair};
+use std::alloc::{AllocError, Global};
+
+/// Asks of every two of these events which comes first. What was asked keeps its number.
+///
+/// With the events of all atoms that aren't conjuncts by themselves, and of what loads take, contended logs need far fewer conflicts:
+/// transitivity then speaks of every three of them.
+pub fn complete(order: &mut Order, events: &[u32]) -> Result<(), AllocError>
+    requires events { All (λ event. event < order.old.events) events.now }
+    requires room { length order.old.pairs + length events.now * length events.now < 2 ^ 32 - 1 }
+    ensures { OnOk result (order.new ≡ completed order.old events.now) }
+{
+    for place in 0..events.len() {
+        ask_pairs(order, events[place], &events[place + 1..])?;
+    }
+    Ok(())
+}
+
+/// Asks of an event and each of some others which comes first.
+#[tactic(auto, using(crate::proofs::Asking::length_asked))]
+fn ask_pairs(order: &mut Order, event: u32, others: &[u32]) -> Result<(), AllocError>
+    requires event { event < order.old.events }
+    requires others { All (λ other. other < order.old.events) others.now }
+    requires room { length order.old.pairs + length others.now < 2 ^ 32 - 1 }
+    ensures asked { OnOk result (order.new ≡ fold with_pair order.old (map (pair_of event) others.now)) }
+    ensures events { OnOk result (order.new.events ≡ order.old.events) }
+    ensures few { length order.new.pairs ≤ length order.old.pairs + length others.now }
+{
+    for other in others {
+        order.before(event, *other)?;
+    }
+    Ok(())
+}
+
+/// The literals of the pairs, in order.
+pub(crate) fn compare_pairs(
+    alloc: Global,
+    cnf: &mut Cnf,
+    pairs: &[Pair],
+) -> Result<Vec<Lit>, AllocError>
+    requires one { 0 < cnf.old.vars }
+    requires positions { All (PairIsWithin cnf.old.vars) pairs.now }
+    requires room { HasRoom (96 * length pairs.now) cnf.old }
+    ensures literals { IfOk result (λ v. v.items ≡ (fold with_comparator (record { state = cnf.old; word = [] }) pairs.now).word) }
+    ensures formula { OnOk result (cnf.new ≡ (fold with_comparator (record { state = cnf.old; word = [] }) pairs.now).state) }
+    ensures within { IfOk result (λ v. AreWithin cnf.new.vars v.items) }
+    ensures larger { OnOk result (IsLarger (96 * length pairs.now) cnf.old cnf.new) }
+{
+    let mut literals = Vec::new(alloc);
+    for pair in pairs {
+        literals.push(compare_pair(cnf, *pair)?)?;
+    }
+    Ok(literals)
+}
+
+/// Whether the first event of a pair comes before the second: where the positions are equal, by their numbers.
+#[tactic(auto, using(crate::proofs::Compared::position_are_within, crate::proofs::WordLaws::length_word), unfolding(crate::specs::Comparators::compared_pair))]
+fn compare_pair(cnf: &mut Cnf, pair: Pair) -> Result<Lit, AllocError>
+    requires one { 0 < cnf.old.vars }
+    requires positions { PairIsWithin cnf.old.vars pair }
+    requires room { HasRoom 96 cnf.old }
+    ensures literal { IfOk result (λ l. l ≡ (compared_pair cnf.old pair).literal) }
+    ensures formula { OnOk result (cnf.new ≡ (compared_pair cnf.old pair).formula) }
+    ensures within { IfOk result (λ l. var_of l ≤ cnf.new.vars) }
+    ensures larger { OnOk result (IsLarger 96 cnf.old cnf.new) }
+{
+    let first = position_word(pair.lesser);
+    let second = position_word(pair.greater);
+    compare(cnf, constant(pair.lesser < pair.greater), &first, &second)
+}
