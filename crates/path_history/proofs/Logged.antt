@@ -1,7 +1,7 @@
 -- Whole paths go as logged.
 use Rattle.std.proofs.Common.{◌≡◌, ◌∙◌, inl, inr, ℕ, zero, suc, ◌≤◌, true, List, [], ◌∷◌, ◌++◌, length}
 use Rattle.std.proofs.Common.{Option, Some, None, Ok, refl, sym, ap, ap₂, subst, arith, append-nil}
-use Rattle.std.specs.Prelude.{option_map, is_some}
+use Rattle.std.specs.Prelude.{slice_get, option_map, is_some}
 use Rattle.std.specs.FinMap as fin
 use Rattle.std.proofs.lemmas.List.{length-append, take_all}
 use Rattle.std.proofs.lemmas.Option.{none-some, same_Some, slice_get_within, option_and_then_some}
@@ -32,13 +32,10 @@ use Rattle.path_laws.specs.Prefixes.{fails_by}
 use Rattle.path_laws.proofs.Logs.{created_count, reproduced_fits}
 use Rattle.path_laws.proofs.Prefixes.{thread_path, IsSoFar, so_far}
 use Rattle.path_laws.proofs.States.{Stands, stands_places}
-use Rattle.path_history.specs.Along.{IsAlongPaths, IsThread, AllHaveDone, AllAreThere}
+use Rattle.path_history.specs.Along.{IsAlongPaths, IsThread, IsNameOfThread, AllHaveDone, AllAreThere}
 use Rattle.path_history.proofs.Told.{RunOf, run_of, reached, steps_of, reproduced_run}
-use Rattle.path_history.proofs.Walks.{walk_is, named}
-use Rattle.path_history.proofs.Places.{none_over}
-
-abbrev the_path : Path → Path
-the_path p = p
+use Rattle.path_history.proofs.Walks.{IsWalking, walking, walk_is, named}
+use Rattle.path_history.proofs.Whole.{stands_all, went_all}
 
 module _ {B : Type 0} (ops : BufferOps B) (model : Model) (bound : Binding) (laws : Laws ops model bound) (code : Code) (lawful : IsLawful code) (log : Log) where
   -- What reproduces a log does all steps of its paths.
@@ -82,47 +79,37 @@ module _ {B : Type 0} (ops : BufferOps B) (model : Model) (bound : Binding) (law
     abbrev s : State B
     s = r.state
 
+    -- a thread that is there has gone its whole path
     module _ (n : Name) (t : Thread B) (here : fin.get s.threads n ≡ Some t) where
-      so : IsSoFar code log s.failed n t.local
-      so = so_far ops code lawful log fits s (reached ops model bound laws code lawful log h r) r.on n t here
+      abbrev p : IsNameOfThread code log n
+      p = named code log is fits n (r.on n t here).path (r.on n t here).there
 
-      all_steps : t.local.steps ≡ so.on.path.steps
-      all_steps =
-          let o = so.on in
-          let k = named code log is fits n o.path o.there in
-          let w = walk_is code log is fits k.place k.walk k.there in
-          let path : w.path ≡ o.path = same_Some w.path o.path (sym w.under ∙ ap (λ m. path_under m log.threads) k.name ∙ o.there) in
-          omega (
-            arith,
-            steps_of ops model bound laws code lawful log h r n t here,
-            ap (steps_in h) k.name,
-            done k.place k.walk k.there,
-            w.long,
-            ap (λ (p : Path). p.steps) path,
-          )
+      abbrev w : Walk
+      w = p.walk
 
-      stands_all : Stands code (fails_by s.failed n) t.local (places_in code log n t.local.function)
-      stands_all =
-          subst (Stands code (fails_by s.failed n) t.local)
-          (take_all t.local.steps (places_in code log n t.local.function) (omega (arith, so.count, all_steps))) so.stands
+      here_too : fin.get s.threads w.name ≡ Some t
+      here_too = ap (fin.get s.threads) p.name ∙ here
 
-      -- it has gone by all outcomes
-      went_all : path_by t.local ≡ so.on.path
-      went_all =
-          let f = t.local.function in
-          let o = so.on in
-          let told = stands_places code (fails_by s.failed n) t.local _ stands_all in
-          let whole : places_from code f t.local.steps 0 (t.local.outcomes ++ o.later) ≡ Ok (places_in code log n f) =
-          ap₂ (λ k os. places_from code f k 0 os) all_steps (sym o.outcomes) ∙ so.told in
-          let none = none_over code f t.local.steps 0 t.local.outcomes o.later _ _ told whole in
-          let outcomes : o.path.outcomes ≡ t.local.outcomes = o.outcomes ∙ ap (λ os. t.local.outcomes ++ os) none ∙ append-nil t.local.outcomes in
-          ap₂ (λ os k. the_path (record { outcomes = os; steps = k })) (sym outcomes) all_steps
+      abbrev k : IsWalking ops model bound laws code lawful log is fits w t s.failed
+      k = walking ops model bound laws code lawful log is fits h r p.place w t p.there here_too
+
+      went_its_path : Some (path_by t.local) ≡ path_under n log.threads
+      went_its_path =
+          ap (λ q. Some q) (went_all ops model bound laws code lawful log is fits h r p.place w p.there t here_too (done p.place w p.there))
+          ∙ sym k.walk.under ∙ ap (λ m. path_under m log.threads) p.name
+
+      function_told : function_of code log n ≡ Some t.local.function
+      function_told = ap (function_of code log) (sym p.name) ∙ k.walk.function ∙ ap (λ f. Some f) (sym k.function)
 
       -- and its children are there
       child_there : (j f : ℕ) → child_function code log n t.local.function (suc j) ≡ Some f → (c : Thread B) × (fin.get s.threads (child n (suc j)) ≡ Some c)
       child_there j f creates =
-          let within = slice_get_within (started (steps_at code t.local.function (places_in code log n t.local.function))) j f creates in
-          let count = created_count code (fails_by s.failed n) t.local _ stands_all in
+          let g = t.local.function in
+          let at : slice_get (started (steps_at code g w.places)) j ≡ Some f =
+          ap (λ ps. slice_get (started (steps_at code g ps)) j) (sym k.places ∙ ap (λ m. places_in code log m g) p.name) ∙ creates in
+          let within = slice_get_within (started (steps_at code g w.places)) j f at in
+          let count = created_count code (fails_by s.failed w.name) t.local w.places
+          (stands_all ops model bound laws code lawful log is fits h r p.place w p.there t here_too (done p.place w p.there)) in
           some_value (fin.get s.threads (child n (suc j)))
           ((reached_is_created ops code s (reached ops model bound laws code lawful log h r)).child_is_there n t (suc j) here
           (record { first = omega arith; last = omega (arith, count, within) }))
@@ -144,7 +131,7 @@ module _ {B : Type 0} (ops : BufferOps B) (model : Model) (bound : Binding) (law
               let t = parent has.0 has.1 in
               option_and_then_some (λ g. child_function code log q g k) (function_of code log q) f.0 (sym (function_of_child code log q k) ∙ function)
               (λ g of creates.
-              let same : g ≡ t.0.local.function = same_Some g t.0.local.function (sym of ∙ (so q t.0 t.1).function) in
+              let same : g ≡ t.0.local.function = same_Some g t.0.local.function (sym of ∙ function_told q t.0 t.1) in
               by_number n q t.0 k f.0 t.1 (ap (λ a. child_function code log q a k) (sym same) ∙ creates) name)
         ]
 
@@ -189,8 +176,7 @@ module _ {B : Type 0} (ops : BufferOps B) (model : Model) (bound : Binding) (law
             ]
         by (Some t) here =
             ap (λ o. option_map path_by (option_map (λ (t : Thread B). t.local) o)) here
-            ∙ ap (λ p. Some p) (went_all n t here)
-            ∙ sym (so n t here).on.there
+            ∙ went_its_path n t here
 
     pub goes_as_logged : EndsAsIn ops.buffered bound code log.failing log.threads h → GoesAsLogged ops.buffered bound code log h
     goes_as_logged ends = record { ends = ends; paths = told_path }

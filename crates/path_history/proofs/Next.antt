@@ -1,11 +1,11 @@
 -- The next step of a thread on its path.
 use Rattle.std.proofs.Common.{◌≡◌, ◌∙◌, ℕ, suc, ◌+◌, ◌<◌, Bool, true, false, not, ◌==◌, ◌&&◌, List, ◌++◌, length, take, drop}
-use Rattle.std.proofs.Common.{Option, Some, None, Ok, refl, sym, ap, subst, arith, slice_index_or, true≢false}
+use Rattle.std.proofs.Common.{Option, Some, None, Ok, refl, sym, ap, ap₂, subst, arith, slice_index_or, true≢false}
 use Rattle.std.specs.Prelude.{slice_get, option_map, option_and_then, unwrap_or, if◌then◌else◌}
 use Rattle.std.specs.FinMap as fin
 use Rattle.std.specs.Bool.{beq}
 use Rattle.std.proofs.lemmas.Bool.{false_from_ne_true}
-use Rattle.std.proofs.lemmas.List.{length-drop, length-map, take-map}
+use Rattle.std.proofs.lemmas.List.{append_cancel_left, length-drop, length-map, take-map}
 use Rattle.std.proofs.lemmas.Option.{none-some, same_Some, slice_get-map, slice_get_within}
 use Rattle.tc_base.specs.Buffers.{BufferOps}
 use Rattle.tc_base.specs.Logs.{Log, Path}
@@ -28,7 +28,7 @@ use Rattle.path_walk.specs.Events.{excludes, is_impossible}
 use Rattle.path_walk.specs.Fits.{fails_in, places_in, Fits}
 use Rattle.path_walk.specs.Marks.{Marks, unmarked, marks_after, marked_steps}
 use Rattle.path_walk.specs.Paths.{Walk, paths_of}
-use Rattle.path_walk.specs.Steps.{Step, places_from, end_from, step_at, steps_at}
+use Rattle.path_walk.specs.Steps.{Step, Onward, onward, places_from, end_from, step_at, steps_at}
 use Rattle.path_laws.specs.Along.{HasMarks, IsAlong}
 use Rattle.path_laws.specs.Prefixes.{fails_by}
 use Rattle.path_laws.proofs.Blocked.{none_behind_exit}
@@ -38,7 +38,7 @@ use Rattle.path_history.specs.Along.{IsThread}
 use Rattle.path_history.specs.Next.{fails_next, IsNextOnPath, IsAsWanted}
 use Rattle.path_history.proofs.Told.{RunOf, reached, thread_of, steps_of, local_is}
 use Rattle.path_history.proofs.Walks.{IsWalking, walking, walk_is, no_element}
-use Rattle.path_history.proofs.Places.{next_place, marked_at}
+use Rattle.path_history.proofs.Places.{IsNextPlace, next_place, marked_at}
 
 -- a path that isn't dead excludes no step
 beq_not : (b fails : Bool) → beq b fails ≡ false → b ≡ not fails
@@ -101,19 +101,28 @@ module _ {B : Type 0} (ops : BufferOps B) (model : Model) (bound : Binding) (law
         (sym (none_behind_exit code t.local lawful
         ((exited_past_exit ops code r.state lawful (reached ops model bound laws code lawful log h r) w.name t here).0 gone)) ∙ at)
 
-    next_of : t.local.steps < length w.places → IsNextOnPath code h w
-    next_of left =
+    -- its place is the next of the path
+    next_there : t.local.steps < length w.places → IsNextPlace code w.function t.local.steps 0 t.local.outcomes k.so.on.later w.places
+    next_there left =
         let f = w.function in
         let told : places_from code f t.local.steps 0 t.local.outcomes ≡ Ok (take t.local.steps w.places) =
         ap (λ g. places_from code g t.local.steps 0 t.local.outcomes) (sym k.function) ∙ stands.told in
         let outcomes : k.walk.path.outcomes ≡ t.local.outcomes ++ k.so.on.later = ap (λ (p : Path). p.outcomes) (sym k.path) ∙ k.so.on.outcomes in
         let whole : places_from code f k.walk.path.steps 0 (t.local.outcomes ++ k.so.on.later) ≡ Ok w.places =
         ap (places_from code f k.walk.path.steps 0) (sym outcomes) ∙ k.walk.places in
-        let n = next_place code f t.local.steps k.walk.path.steps 0 t.local.outcomes k.so.on.later _ w.places (omega (arith, left, k.walk.long)) told whole in
-        let end : end_from code f t.local.steps 0 t.local.outcomes ≡ t.local.instruction =
-        ap (λ g. end_from code g t.local.steps 0 t.local.outcomes) (sym k.function) ∙ stands.end in
+        next_place code f t.local.steps k.walk.path.steps 0 t.local.outcomes k.so.on.later _ w.places (omega (arith, left, k.walk.long)) told whole
+
+    end_there : end_from code w.function t.local.steps 0 t.local.outcomes ≡ t.local.instruction
+    end_there = ap (λ g. end_from code g t.local.steps 0 t.local.outcomes) (sym k.function) ∙ stands.end
+
+    outcomes_there : w.outcomes ≡ t.local.outcomes ++ k.so.on.later
+    outcomes_there = k.walk.outcomes ∙ ap (λ (p : Path). p.outcomes) (sym k.path) ∙ k.so.on.outcomes
+
+    next_of : t.local.steps < length w.places → IsNextOnPath code h w
+    next_of left =
+        let n = next_there left in
         let steps = steps_of ops model bound laws code lawful log h r w.name t here in
-        let at : instr_at code f t.local.instruction ≡ Some n.instr = ap (instr_at code f) (sym end) ∙ n.at in
+        let at : instr_at code w.function t.local.instruction ≡ Some n.instr = ap (instr_at code w.function) (sym end_there) ∙ n.at in
         let placed : instr_at code t.local.function t.local.instruction ≡ Some n.instr = ap (λ g. instr_at code g t.local.instruction) k.function ∙ at in
         let stays : t.local.has_exited ≡ false = false_from_ne_true t.local.has_exited (λ gone. goes_on gone n.instr placed) in
         record {
@@ -121,12 +130,12 @@ module _ {B : Type 0} (ops : BufferOps B) (model : Model) (bound : Binding) (law
           there = local_is ops model bound laws code lawful log h r w.name t here;
           steps = steps;
           function = k.function;
-          place = ap (slice_get w.places) (sym steps) ∙ n.place ∙ ap (λ e. Some e) end;
+          place = ap (slice_get w.places) (sym steps) ∙ n.place ∙ ap (λ e. Some e) end_there;
           instr = n.instr;
           at = at;
           next = ap (λ b. if b then None else instr_at code t.local.function t.local.instruction) stays ∙ placed;
           later = k.so.on.later;
-          outcomes = k.walk.outcomes ∙ outcomes;
+          outcomes = outcomes_there;
         }
 
   pub next_on_path : is_thread_in h w.name ≡ true → steps_in h w.name < length w.places → IsNextOnPath code h w
@@ -148,6 +157,20 @@ module _ {B : Type 0} (ops : BufferOps B) (model : Model) (bound : Binding) (law
   pub steps_left : (x : IsNextOnPath code h w) → steps_in h w.name < length w.places
   steps_left x = slice_get_within w.places (steps_in h w.name) x.local.instruction x.place
 
+  -- and it goes on by the outcomes that are left
+  pub next_leads : (x : IsNextOnPath code h w) → (on : Onward) × (onward x.local.instruction x.instr x.later ≡ Some on)
+  next_leads x =
+      let t = thread_next x in
+      let y = t.0 in
+      let steps = steps_of ops model bound laws code lawful log h r w.name y t.1 in
+      let n = next_there y t.1 (omega (arith, steps, steps_left x)) in
+      let end : end_from code w.function y.local.steps 0 y.local.outcomes ≡ x.local.instruction = end_there y t.1 ∙ ap (λ (l : Local). l.instruction) t.2 in
+      let instr : n.instr ≡ x.instr = same_Some n.instr x.instr (sym n.at ∙ ap (instr_at code w.function) end ∙ x.at) in
+      let later : (k y t.1).so.on.later ≡ x.later =
+      append_cancel_left x.local.outcomes (k y t.1).so.on.later x.later
+      (ap (λ (l : Local). l.outcomes ++ (k y t.1).so.on.later) (sym t.2) ∙ sym (outcomes_there y t.1) ∙ x.outcomes) in
+      (n.next, sym (ap (λ e. onward e n.instr (k y t.1).so.on.later) end ∙ ap₂ (onward x.local.instruction) instr later) ∙ n.leads)
+
   pub along_next : (x : IsNextOnPath code h w) → IsAlong code x.local (take x.local.steps w.places)
   along_next x = let t = thread_next x in subst (λ (l : Local). IsAlong code l (take l.steps w.places)) t.2 (stands t.0 t.1)
 
@@ -160,6 +183,13 @@ module _ {B : Type 0} (ops : BufferOps B) (model : Model) (bound : Binding) (law
       subst (λ ss. HasMarks x.local (marks_after (unmarked code w.function) ss)) (sym (take-map (step_at code w.function) x.local.steps w.places))
       (subst (λ f. HasMarks x.local (marks_after (unmarked code f) (steps_at code f (take x.local.steps w.places)))) x.function (along_next x).marks)
 
+  -- whether it is the failing step
+  pub fails_there : (x : IsNextOnPath code h w)
+      → (fails_in log w.name && length (drop (suc x.local.steps) (steps_at code w.function w.places)) == 0) ≡ fails_next log h w
+  fails_there x =
+      ap (λ b. fails_in log w.name && b) (last_step code w x.local.steps (omega (arith, x.steps, steps_left x)))
+      ∙ ap (λ m. fails_in log w.name && m + 1 == length w.places) x.steps
+
   pub as_wanted : (x : IsNextOnPath code h w) → (paths_of code log).dead ≡ false → IsAsWanted (fails_next log h w) x.local x.instr
   as_wanted x dead =
       let k = walk_is code log is fits j w there in
@@ -170,8 +200,5 @@ module _ {B : Type 0} (ops : BufferOps B) (model : Model) (bound : Binding) (law
       let step = path_step code w n x.local.instruction x.instr place x.at in
       let marked = marked_at fails 0 (unmarked code w.function) ss n (record { place = x.local.instruction; instr = x.instr }) step in
       let possible = no_element is_impossible (marked_steps code w.function fails ss) n _ (k.alive dead) marked in
-      let few = slice_get_within w.places n x.local.instruction place in
-      let last : (fails && length (drop (suc n) ss) == 0) ≡ fails_next log h w =
-      ap (λ b. fails && b) (last_step code w n few) ∙ ap (λ m. fails && m + 1 == length w.places) x.steps in
       wanted_by x.local (marks_now x.local) x.instr (fails_next log h w) (has_marks x)
-      (ap (excludes (marks_now x.local) x.instr) (sym last) ∙ possible)
+      (ap (excludes (marks_now x.local) x.instr) (sym (fails_there x)) ∙ possible)

@@ -11,17 +11,20 @@ use Rattle.path_walk.proofs.Places.{unrolled, end_more}
 use Rattle.path_laws.proofs.Local.{onward_more}
 
 -- where the steps lead is the next place, with an instruction
-pub record IsNextPlace (code : Code) (f n k : ℕ) (os : List Bool) (qs : List ℕ) : Type 0 where
+pub record IsNextPlace (code : Code) (f n k : ℕ) (os more : List Bool) (qs : List ℕ) : Type 0 where
   pub place : slice_get qs n ≡ Some (end_from code f n k os)
   pub instr : Instr
   pub at : instr_at code f (end_from code f n k os) ≡ Some instr
+  -- which goes on by the outcomes that are left
+  pub next : Onward
+  pub leads : onward (end_from code f n k os) instr more ≡ Some next
 
 pub next_place : (code : Code) (f n m k : ℕ) (os more : List Bool) (ps qs : List ℕ) → n < m → places_from code f n k os ≡ Ok ps
-    → places_from code f m k (os ++ more) ≡ Ok qs → IsNextPlace code f n k os qs
+    → places_from code f m k (os ++ more) ≡ Ok qs → IsNextPlace code f n k os more qs
 next_place code f n zero k os more ps qs few h g = absurd (omega (arith, few))
 next_place code f zero (suc m) k [] more ps qs few h g =
     let y = unrolled code f m k more qs g in
-    record { place = ap (λ xs. slice_get xs 0) y.all; instr = y.instr; at = y.at }
+    record { place = ap (λ xs. slice_get xs 0) y.all; instr = y.instr; at = y.at; next = y.next; leads = y.leads }
 next_place code f zero (suc m) k (o ∷ os) more ps qs few h g = absurd cc
 next_place code f (suc n) (suc m) k os more ps qs few h g =
     let x = unrolled code f n k os ps h in
@@ -39,6 +42,8 @@ next_place code f (suc n) (suc m) k os more ps qs few h g =
       place = ap (λ xs. slice_get xs (suc n)) y.all ∙ rest.place ∙ ap (λ e. Some e) (sym end);
       instr = rest.instr;
       at = ap (instr_at code f) end ∙ rest.at;
+      next = rest.next;
+      leads = ap (λ e. onward e rest.instr more) end ∙ rest.leads;
     }
 
 -- as many steps leave no outcome over

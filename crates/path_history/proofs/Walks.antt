@@ -66,6 +66,16 @@ no_element p xs k x none at =
     false_from_ne_true (p x) (λ yes.
     true≢false (sym (list_any_at p xs k x (slice_get_within xs k x at) (ap p (get_or_from_slice_get xs k x x at) ∙ yes)) ∙ none))
 
+-- a thread of the paths is that of a path of the log
+pub thread_path_at : (code : Code) (log : Log) (j : ℕ) (w : Walk) → IsThread code log j w
+    → (p : ThreadPath) × (slice_get log.threads j ≡ Some p) × (walk_of code log p ≡ w)
+thread_path_at code log j w there = by (slice_get log.threads j) refl
+  where
+    by : (o : Option ThreadPath) → slice_get log.threads j ≡ o → (p : ThreadPath) × (slice_get log.threads j ≡ Some p) × (walk_of code log p ≡ w)
+    by None none = absurd (none-some w (sym (slice_get-map (walk_of code log) log.threads j ∙ ap (option_map (walk_of code log)) none) ∙ there))
+    by (Some p) at =
+        (p, at, same_Some (walk_of code log p) w (sym (slice_get-map (walk_of code log) log.threads j ∙ ap (option_map (walk_of code log)) at) ∙ there))
+
 module _ (code : Code) (log : Log) (is : is_log log ≡ true) (fits : Fits code log) where
   walk_told : (j : ℕ) (p : ThreadPath) → slice_get log.threads j ≡ Some p → IsWalk code log (walk_of code log p)
   walk_told j p at =
@@ -98,14 +108,7 @@ module _ (code : Code) (log : Log) (is : is_log log ≡ true) (fits : Fits code 
       }
 
   pub walk_is : (j : ℕ) (w : Walk) → IsThread code log j w → IsWalk code log w
-  walk_is j w there = by (slice_get log.threads j) refl
-    where
-      by : (o : Option ThreadPath) → slice_get log.threads j ≡ o → IsWalk code log w
-      by None none = absurd (none-some w (sym (slice_get-map (walk_of code log) log.threads j ∙ ap (option_map (walk_of code log)) none) ∙ there))
-      by (Some p) at =
-          let same : walk_of code log p ≡ w =
-          same_Some (walk_of code log p) w (sym (slice_get-map (walk_of code log) log.threads j ∙ ap (option_map (walk_of code log)) at) ∙ there) in
-          subst (IsWalk code log) same (walk_told j p at)
+  walk_is j w there = let p = thread_path_at code log j w there in subst (IsWalk code log) p.2 (walk_told j p.0 p.1)
 
   -- a name that has a path is that of a thread
   pub named : (n : Name) (path : Path) → path_under n log.threads ≡ Some path → IsNameOfThread code log n
