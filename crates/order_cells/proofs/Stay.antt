@@ -13,13 +13,14 @@ use Rattle.sym_terms.proofs.Folds.{keep}
 use Rattle.sym_exec.specs.Executed.{Symbolic}
 use Rattle.sym_exec.specs.Making.{Grows}
 use Rattle.sym_exec.proofs.Grown.{grows_both, stays_within}
+use Rattle.sym_exec.specs.declared.symbolic.Access.{Access}
 use Rattle.sym_exec.specs.declared.symbolic.Cell.{Cell}
 use Rattle.sym_exec.specs.declared.symbolic.Cell.TheVariants.{Fixed, Element}
 use Rattle.order_formula.specs.Worlds.{World}
 use Rattle.lawful_order.specs.Cells.{is_same_cell}
 use Rattle.order_cells.proofs.Needs.{id_made, id_stays, made_there, grows_all}
 use Rattle.order_cells.specs.Same.{number_in, constant_of, known_equal, known_same, same_test}
-use Rattle.order_cells.specs.Terms.{CellIsOf, HaveTerms}
+use Rattle.order_cells.specs.Terms.{CellIsOf, AccessIsOf, HaveTerms}
 
 module _ (nodes more : List Node) where
   abbrev all : List Node
@@ -75,11 +76,15 @@ made_later nodes later a b first second g = by (same_test nodes a b) g ∙ sym (
         ap Some (sym (id_made nodes test) ∙ sym (id_stays (with_node nodes test) later test g (made_there nodes test)))
 
 -- terms of accesses are there among more terms
+cell_later : (nodes later : List Node) (c : Cell) → Grows nodes later → CellIsOf (length nodes) c → CellIsOf (length later) c
+cell_later nodes later (Fixed c) g below = tt
+cell_later nodes later (Element f m i) g below = stays_within nodes later i g below
+
+pub access_later : (nodes later : List Node) → Grows nodes later → (a : Access) → AccessIsOf (length nodes) a → AccessIsOf (length later) a
+access_later nodes later g a of = record {
+  cell = cell_later nodes later a.cell g of.cell;
+  writes = IfSome_then a.writes of.writes (λ written below. stays_within nodes later written g below);
+}
+
 pub have_later : (nodes later : List Node) (symbolic : Symbolic) → Grows nodes later → HaveTerms nodes symbolic → HaveTerms later symbolic
-have_later nodes later symbolic g have t a there =
-    let here = have t a there in
-    record { cell = cell_later a.cell here.cell; writes = IfSome_then a.writes here.writes (λ written below. stays_within nodes later written g below) }
-  where
-    cell_later : (c : Cell) → CellIsOf (length nodes) c → CellIsOf (length later) c
-    cell_later (Fixed c) below = tt
-    cell_later (Element f m i) below = stays_within nodes later i g below
+have_later nodes later symbolic g have t a there = access_later nodes later g a (have t a there)

@@ -1,0 +1,26 @@
+//! The execution of paths and their events.
+//!
+//! Each function's clause is a law, and its body does nothing.
+#![tactic(auto)]
+
+ghost use Rattle.std.specs.Prelude.{List};
+ghost use Rattle.tc_code.specs.Code.{Code};
+ghost use Rattle.tc_code.specs.Lawful.{IsLawful};
+ghost use Rattle.path_walk.specs.Paths.{Paths, ArePaths};
+ghost use Rattle.sym_terms.specs.declared.node.Node.{Node};
+ghost use Rattle.sym_exec.specs.Executed.{executed};
+ghost use Rattle.lawful_order.specs.Whole.{IsExecutedBy};
+ghost use Rattle.order_cells.specs.Terms.{HaveTerms};
+
+/// The accesses that the execution of a log's paths finds are the paths' loads, stores and exchanges, in the same steps, and
+/// each load has a number of its own.
+pub fn executed_paths()
+    ensures { (code : Code) (paths : Paths) (nodes : List Node)
+        → ArePaths code paths → IsExecutedBy paths (executed code paths nodes).symbolic }
+{}
+
+/// Of lawful code, the terms that accesses name are among those that the execution leaves, whatever paths it goes.
+pub fn executed_terms()
+    ensures { (code : Code) (paths : Paths) (nodes : List Node)
+        → IsLawful code → HaveTerms (executed code paths nodes).nodes (executed code paths nodes).symbolic }
+{}
