@@ -1,8 +1,10 @@
 -- The events of marked steps.
-use Rattle.std.proofs.Common.{◌≡◌, ◌∙◌, inl, inr, ℕ, suc, ◌+◌, ◌≤◌, ◌<◌, Bool, ◌==◌, ◌&&◌, List, [], ◌∷◌, length, take, drop}
+use Rattle.std.proofs.Common.{◌≡◌, ◌∙◌, inl, inr, ℕ, zero, suc, ◌+◌, ◌≤◌, ◌<◌, Bool, false, cond, ◌==◌, ◌&&◌, List, [], ◌∷◌, length, take, drop}
 use Rattle.std.proofs.Common.{Option, Some, None, refl, ap, subst, arith}
 use Rattle.std.specs.Prelude.{slice_get, unwrap_or, option_map}
-use Rattle.std.specs.List.{AllByRecursion as Each, cons_option}
+use Rattle.std.specs.List.{AllByRecursion as Each, cons_option, find}
+use Rattle.std.proofs.lemmas.Bool.{eq-eqb}
+use Rattle.std.proofs.lemmas.Option.{none-some, same_Some}
 use Rattle.tc_code.specs.Code.{Code, line_at}
 use Rattle.path_walk.specs.Steps.{Step}
 use Rattle.path_walk.specs.Marks.{Marks, Marked, marked, marks_after, marked_from}
@@ -87,3 +89,39 @@ module _ (code : Code) (f : ℕ) (fails : Bool) where
             (λ y i. let e = event_is_at (j + 1) (marked m s.instr) ss y i in omega (arith, e.number)),
         rest,
       )
+
+  -- the event of a step is found by its number
+  none_found : (n : ℕ) (es : List Event) → Each (λ x. n < x.step) es → find (λ (x : Event). x.step == n) es ≡ None
+  none_found n [] each = refl
+  none_found n (x ∷ es) each =
+      let apart : (x.step == n) ≡ false = grind (arith, each.0) in
+      ap (λ b. cond b (Some x) (find (λ (y : Event). y.step == n) es)) apart ∙ none_found n es each.1
+
+  found_first : (j : ℕ) (s : Step) (m : Marks) (o : Option EventKind) (es : List Event) → Each (λ x. j < x.step) es
+      → find (λ (x : Event). x.step == j) (cons_option (option_map (event_at j s m) o) es) ≡ option_map (event_at j s m) o
+  found_first j s m None es each = none_found j es each
+  found_first j s m (Some asked) es each =
+      ap (λ b. cond b (Some (event_at j s m asked)) (find (λ (x : Event). x.step == j) es)) (eq-eqb j j refl)
+
+  found_behind : (n j : ℕ) (s : Step) (m : Marks) (o : Option EventKind) (es : List Event) → j < n
+      → find (λ (x : Event). x.step == n) (cons_option (option_map (event_at j s m) o) es) ≡ find (λ (x : Event). x.step == n) es
+  found_behind n j s m None es lt = refl
+  found_behind n j s m (Some asked) es lt =
+      let apart : (j == n) ≡ false = grind (arith, lt) in
+      ap (λ b. cond b (Some (event_at j s m asked)) (find (λ (x : Event). x.step == n) es)) apart
+
+  pub event_found : (j : ℕ) (m : Marks) (ss : List Step) (k : ℕ) (s : Step) (n : ℕ) → slice_get ss k ≡ Some s → n ≡ j + k
+      → find (λ (x : Event). x.step == n) (events_from j m ss)
+      ≡ option_map (event_at n s (marks_after m (take k ss))) (kind_with (marks_after m (take k ss)) s.instr (fails && length (drop (suc k) ss) == 0))
+  event_found j m [] k s n at is = absurd (none-some s at)
+  event_found j m (x ∷ ss) zero s n at is =
+      let first : j ≡ n = omega (arith, is) in
+      let later = events_from (j + 1) (marked m x.instr) ss in
+      subst (λ i. find (λ (y : Event). y.step == i) (events_from j m (x ∷ ss)) ≡ option_map (event_at i s m) (kind_with m s.instr (fails && length ss == 0)))
+      first
+      (found_first j x m (kind_with m x.instr (fails && length ss == 0)) later
+      (each_of (λ y. j < y.step) later (λ y i. let e = event_is_at (j + 1) (marked m x.instr) ss y i in omega (arith, e.number)))
+      ∙ ap (λ (y : Step). option_map (event_at j y m) (kind_with m y.instr (fails && length ss == 0))) (same_Some x s at))
+  event_found j m (x ∷ ss) (suc k) s n at is =
+      found_behind n j x m (kind_with m x.instr (fails && length ss == 0)) (events_from (j + 1) (marked m x.instr) ss) (omega (arith, is))
+      ∙ event_found (j + 1) (marked m x.instr) ss k s n at (omega (arith, is))

@@ -1,9 +1,9 @@
 -- The failing step of a path is a site, and the mutexes of its steps are there.
-use Rattle.std.proofs.Common.{◌≡◌, ◌∙◌, ℕ, ◌-◌, ◌<◌, Bool, true, false, cond, List, length, Option, Some, None, Result, Ok, Err}
-use Rattle.std.proofs.Common.{refl, sym, ap, subst, true≢false}
+use Rattle.std.proofs.Common.{◌≡◌, ◌∙◌, ℕ, ◌+◌, ◌-◌, ◌<◌, ◌==◌, ◌&&◌, Bool, true, false, cond, List, length, Option, Some, None, Result, Ok, Err}
+use Rattle.std.proofs.Common.{refl, sym, ap, subst, arith, true≢false}
 use Rattle.std.specs.Prelude.{slice_get, unwrap_or, option_map, nat_lt}
 use Rattle.std.specs.Option.{option_map_or}
-use Rattle.std.proofs.lemmas.Bool.{and_parts, ltb-true}
+use Rattle.std.proofs.lemmas.Bool.{and_parts, eqb-true, ltb-true}
 use Rattle.std.proofs.lemmas.List.{length-map}
 use Rattle.std.proofs.lemmas.Option.{none-some, same_Some, slice_get-map}
 use Rattle.tc_base.specs.Logs.{Log, Path}
@@ -23,6 +23,7 @@ use Rattle.path_walk.specs.declared.event.EventKind.{EventKind}
 use Rattle.path_walk.specs.declared.fault.Misfit.{Misfit}
 use Rattle.path_walk.specs.declared.fault.Misfit.TheVariants.{NotASite}
 use Rattle.path_history.proofs.Walks.{IsWalk}
+use Rattle.path_history.proofs.Next.{path_step}
 use Rattle.path_events.proofs.Regions.{FailsAtSite, fails_at_site}
 
 abbrev the_ok : List ℕ → Result (List ℕ) Misfit
@@ -70,23 +71,32 @@ module _ (code : Code) (log : Log) (w : Walk) (k : IsWalk code log w) where
   abbrev pub walk_steps : List Step
   walk_steps = steps_at code w.function w.places
 
-  -- the failing step is a site
-  pub walk_fails_at_site : FailsAtSite (fails_in log w.name) walk_steps
-  walk_fails_at_site = fails_at_site (fails_in log w.name) walk_steps last_is
-    where
-      site_by : (o : Option ℕ) (s : Step) → option_map (step_at code w.function) o ≡ Some s
-          → option_map_or (λ p. is_site (step_at code w.function p).instr) o false ≡ true → is_site s.instr ≡ true
-      site_by None s at ends = absurd (none-some s at)
-      site_by (Some p) s at ends = ap (λ (x : Step). is_site x.instr) (sym (same_Some (step_at code w.function p) s at)) ∙ ends
+  site_by : (o : Option ℕ) (s : Step) → option_map (step_at code w.function) o ≡ Some s
+      → option_map_or (λ p. is_site (step_at code w.function p).instr) o false ≡ true → is_site s.instr ≡ true
+  site_by None s at ends = absurd (none-some s at)
+  site_by (Some p) s at ends = ap (λ (x : Step). is_site x.instr) (sym (same_Some (step_at code w.function p) s at)) ∙ ends
 
-      last_is : (s : Step) → slice_get walk_steps (length walk_steps - 1) ≡ Some s → fails_in log w.name ≡ true → is_site s.instr ≡ true
-      last_is s at fails =
-          let long = length-map w.places (step_at code w.function) in
-          let ends = ends_so code w.function (ending_of log w.name) k.path w.places
-          (ap (ended code w.function (ending_of log w.name) k.path) (sym k.places) ∙ k.fits) fails in
-          site_by (slice_get w.places (length w.places - 1)) s
-          (sym (slice_get-map (step_at code w.function) w.places (length w.places - 1))
-          ∙ ap (λ n. slice_get walk_steps (n - 1)) (sym long) ∙ at) ends
+  -- the last step of a thread that fails is at a site
+  last_site : (s : Step) → slice_get walk_steps (length walk_steps - 1) ≡ Some s → fails_in log w.name ≡ true → is_site s.instr ≡ true
+  last_site s at fails =
+      let long = length-map w.places (step_at code w.function) in
+      let ends = ends_so code w.function (ending_of log w.name) k.path w.places
+      (ap (ended code w.function (ending_of log w.name) k.path) (sym k.places) ∙ k.fits) fails in
+      site_by (slice_get w.places (length w.places - 1)) s
+      (sym (slice_get-map (step_at code w.function) w.places (length w.places - 1))
+      ∙ ap (λ n. slice_get walk_steps (n - 1)) (sym long) ∙ at) ends
+
+  pub walk_fails_at_site : FailsAtSite (fails_in log w.name) walk_steps
+  walk_fails_at_site = fails_at_site (fails_in log w.name) walk_steps last_site
+
+  -- so is the instruction at the place of that step
+  pub last_is_site : (n p : ℕ) (i : Instr) → slice_get w.places n ≡ Some p → instr_at code w.function p ≡ Some i
+      → (fails_in log w.name && n + 1 == length w.places) ≡ true → is_site i ≡ true
+  last_is_site n p i at instr fails =
+      let both = and_parts (fails_in log w.name) (n + 1 == length w.places) fails in
+      let last : length walk_steps - 1 ≡ n =
+      omega (arith, eqb-true (n + 1) (length w.places) both.1, length-map w.places (step_at code w.function)) in
+      last_site (record { place = p; instr = i }) (ap (slice_get walk_steps) last ∙ path_step code w n p i at instr) both.0
 
   -- a step that takes a mutex names one that is there
   pub taken_within : IsLawful code → (m place : ℕ) (s : Step) → slice_get walk_steps place ≡ Some s → TakesMutex s.instr m → m < code.mutexes
