@@ -1,0 +1,6 @@
+use Rattle.std.proofs.Common.{◌≡◌, take}
+use Rattle.lawful_order.specs.Events.{all_from}
+use Rattle.read_write.proofs.accesses.all_accesses.Given as goal
+
+abbrev pub invariant-loop-thread : goal.invariant-loop-thread
+invariant-loop-thread l = l.all.items ≡ all_from (λ c. c.accesses) 0 (take l.thread l.symbolic.threads)

@@ -1,0 +1,16 @@
+-- The accesses of all threads.
+use Rattle.std.specs.Prelude.{◌==◌, ◌&&◌, Bool, nat_lt, List}
+use Rattle.sym_exec.specs.Executed.{Symbolic}
+use Rattle.sym_exec.specs.declared.symbolic.Access.{Access}
+use Rattle.lawful_order.specs.Events.{Of, all_from}
+
+-- one thread after another
+abbrev pub all_accesses : Symbolic → List (Of Access)
+all_accesses symbolic = all_from (λ c. c.accesses) 0 symbolic.threads
+
+-- whether two are one, and whether one is earlier on the path of the other's thread
+abbrev pub is_one : (a b : Of Access) → Bool
+is_one a b = a.thread == b.thread && a.it.step == b.it.step
+
+abbrev pub is_earlier : (a b : Of Access) → Bool
+is_earlier a b = a.thread == b.thread && nat_lt a.it.step b.it.step

@@ -1,0 +1,72 @@
+//! The accesses of all threads.
+ghost use Rattle.std.specs.Prelude.{◌≡◌, ◌++◌, map, IfOk, OnOk};
+ghost use Rattle.read_write.specs.Accesses as spec;
+
+use std::alloc::{AllocError, Global};
+use std::marker::Model;
+use sym_exec::{Access, Symbolic};
+
+/// An access of a thread, which is told by its place among the threads of the paths.
+#[derive(Clone, Copy, Debug)]
+pub(crate) struct PlacedAccess {
+    pub(crate) thread: usize,
+    pub(crate) access: Access,
+}
+
+impl Model for PlacedAccess {
+    ghost use Rattle.lawful_order.specs.Events.{Of};
+    ghost use Rattle.sym_exec.specs.declared.symbolic.Access.{Access};
+
+    ghost Value = { Of Access };
+
+    ghost view = { λ p. record { thread = p.thread; it = p.access } };
+
+    ghost inverse = { λ p. record { thread = p.thread; access = p.it } };
+}
+
+impl PlacedAccess {
+    /// Whether it is the other one.
+    pub(crate) fn is_one(&self, other: &PlacedAccess) -> bool
+        ensures { result ≡ spec.is_one self.now other.now }
+    {
+        self.thread == other.thread && self.access.step == other.access.step
+    }
+
+    /// Whether it is earlier than the other on the path of one thread.
+    pub(crate) fn is_earlier(&self, other: &PlacedAccess) -> bool
+        ensures { result ≡ spec.is_earlier self.now other.now }
+    {
+        self.thread == other.thread && self.access.step < other.access.step
+    }
+}
+
+/// The accesses of all threads, in order.
+pub(crate) fn all_accesses(
+    alloc: Global,
+    symbolic: &Symbolic,
+) -> Result<Vec<PlacedAccess>, AllocError>
+    ensures { IfOk result (λ all. all.items ≡ spec.all_accesses symbolic.now) }
+{
+    let mut all = Vec::new(alloc);
+    for (thread, course) in symbolic.threads().iter().enumerate() {
+        push_accesses(&mut all, thread, course.accesses())?;
+    }
+    Ok(all)
+}
+
+/// The accesses of one thread after the others.
+fn push_accesses(
+    all: &mut Vec<PlacedAccess>,
+    thread: usize,
+    accesses: &[Access],
+) -> Result<(), AllocError>
+    ensures { OnOk result (all.new.items ≡ all.old.items ++ map (λ a. record { thread = thread; it = a }) accesses.now) }
+{
+    for access in accesses {
+        all.push(PlacedAccess {
+            thread,
+            access: *access,
+        })?;
+    }
+    Ok(())
+}

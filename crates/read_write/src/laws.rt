@@ -1,0 +1,47 @@
+//! Laws of what loads take. Each is a clause of a function that does nothing.
+ghost use Rattle.std.specs.Prelude.{◌≡◌, ℕ, List, fold, length};
+ghost use Rattle.std.specs.List.{All, Contains};
+ghost use Rattle.tc_code.specs.Code.{Code};
+ghost use Rattle.path_walk.specs.Paths.{Paths};
+ghost use Rattle.sym_terms.specs.Terms.{AreTerms, with_node};
+ghost use Rattle.sym_terms.specs.declared.node.Node.{Node};
+ghost use Rattle.sym_exec.specs.Executed.{Symbolic};
+ghost use Rattle.sym_exec.specs.Making.{Grows};
+ghost use Rattle.order_formula.specs.Formulas.{IsOf};
+ghost use Rattle.order_formula.specs.Groups.{IsExactly};
+ghost use Rattle.order_formula.specs.Worlds.{World, IsWorld};
+ghost use Rattle.order_formula.specs.declared.formula.Conjunct.{Conjunct};
+ghost use Rattle.order_formula.specs.declared.group.Group.TheVariants.{Read};
+ghost use Rattle.lawful_order.specs.Lawful.{IsWorldOf};
+ghost use Rattle.lawful_order.specs.Reads.{ReadRule};
+ghost use Rattle.lawful_order.specs.Whole.{AreWhole, IsExecutedBy};
+ghost use Rattle.order_cells.specs.Terms.{HaveTerms};
+ghost use Rattle.read_write.specs.Reading.{read_formula, read_needs};
+
+/// In each world of the paths, the conjuncts of a thread's loads of a line are all true exactly where these loads take what
+/// they are to take.
+pub fn reads_are_exact()
+    ensures { (code : Code) (paths : Paths) (symbolic : Symbolic) (nodes : List Node) (w : World) (t line : ℕ)
+        → IsWorld w → IsWorldOf paths symbolic w → AreWhole paths → IsExecutedBy paths symbolic → AreTerms nodes
+        → All (Contains nodes) (read_needs code symbolic nodes)
+        → IsExactly nodes w (read_formula code paths symbolic nodes) (Read t line) (ReadRule code paths symbolic nodes w t line) }
+{}
+
+/// Each conjunct is of a thread's loads of a line.
+pub fn reads_have_their_group()
+    ensures { (code : Code) (paths : Paths) (symbolic : Symbolic) (nodes : List Node) (c : Conjunct)
+        → Contains (read_formula code paths symbolic nodes) c → (t : ℕ) × (line : ℕ) × (c.group ≡ Read t line) }
+{}
+
+/// Once the nodes are there that the loads need, the formula names terms that are there, and more terms change nothing of it.
+pub fn reads_stay()
+    ensures made { (code : Code) (symbolic : Symbolic) (nodes later : List Node)
+        → HaveTerms nodes symbolic → Grows (fold with_node nodes (read_needs code symbolic nodes)) later
+        → All (Contains later) (read_needs code symbolic later) }
+    ensures terms { (code : Code) (paths : Paths) (symbolic : Symbolic) (nodes : List Node)
+        → HaveTerms nodes symbolic → All (Contains nodes) (read_needs code symbolic nodes)
+        → IsOf (length nodes) (read_formula code paths symbolic nodes) }
+    ensures same { (code : Code) (paths : Paths) (symbolic : Symbolic) (nodes later : List Node)
+        → HaveTerms nodes symbolic → All (Contains nodes) (read_needs code symbolic nodes) → Grows nodes later
+        → read_formula code paths symbolic later ≡ read_formula code paths symbolic nodes }
+{}

@@ -1,0 +1,8 @@
+//! Which write a load takes its value from.
+#![tactic(auto)]
+
+mod accesses;
+pub mod laws;
+mod reads;
+
+pub use reads::read_constraints;
