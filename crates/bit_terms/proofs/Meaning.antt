@@ -81,7 +81,7 @@ zero_int : (w : Valuation) → w 1 ≡ true → int_value w (zeros 32) ≡ pos 0
 zero_int w one = ap (cast_signed w32) (value_zeros w 32 (constant_value w false one))
 
 -- the word at a place
-at_operand : (f : Formula) (words : List (List ℤ)) (place : ℕ) → 0 < f.vars → All (IsOperand f) words → IsOperand f (word_at words place)
+pub at_operand : (f : Formula) (words : List (List ℤ)) (place : ℕ) → 0 < f.vars → All (IsOperand f) words → IsOperand f (word_at words place)
 at_operand f [] place one h = zero_operand f one
 at_operand f (x ∷ xs) zero one h = All-head (IsOperand f) x xs h
 at_operand f (x ∷ xs) (suc place) one h = at_operand f xs place one (All-tail (IsOperand f) x xs h)
@@ -90,7 +90,7 @@ at_int : (w : Valuation) (words : List (List ℤ)) (place : ℕ) → w 1 ≡ tru
 at_int w words place one =
     sym (get_or-map (int_value w) words place (zeros 32)) ∙ ap (get_or (map (int_value w) words) place) (zero_int w one)
 
-operand_grown : (f g : Formula) (xs : List ℤ) → IsGrown f g → IsOperand f xs → IsOperand g xs
+pub operand_grown : (f g : Formula) (xs : List ℤ) → IsGrown f g → IsOperand f xs → IsOperand g xs
 operand_grown f g xs h o = record { literals = all_grown f g xs h o.literals; width = o.width }
 
 operands_grown : (f g : Formula) (words : List (List ℤ)) → IsGrown f g → All (IsOperand f) words → All (IsOperand g) words

@@ -1,0 +1,11 @@
+pub mod Cases
+pub mod Clauses
+pub mod Lists
+pub mod Roots
+pub mod Same
+pub mod Sources
+pub mod Taken
+pub mod Taking
+pub mod Values
+pub mod Variables
+pub mod Whole

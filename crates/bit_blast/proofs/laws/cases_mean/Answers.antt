@@ -1,0 +1,5 @@
+use Rattle.bit_blast.proofs.Cases.{cases-mean}
+use Rattle.bit_blast.proofs.laws.cases_mean.Goals as goal
+
+pub returns : goal.returns
+returns c = cases-mean

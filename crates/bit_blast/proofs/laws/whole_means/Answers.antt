@@ -1,0 +1,5 @@
+use Rattle.bit_blast.proofs.Whole.{whole_means}
+use Rattle.bit_blast.proofs.laws.whole_means.Goals as goal
+
+pub returns : goal.returns
+returns c = whole_means

@@ -1,0 +1,6 @@
+pub mod Cases
+pub mod Laws
+pub mod Layered
+pub mod Reads
+pub mod Roots
+pub mod Whole

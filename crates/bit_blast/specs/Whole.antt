@@ -1,0 +1,55 @@
+-- All clauses of an order, its terms and a formula, and what they mean.
+use Rattle.std.specs.Prelude.{◌≡◌, ◌≤◌, true, List, ℤ, map}
+use Rattle.std.specs.List.{All, range_with_len}
+use Rattle.sym_terms.specs.declared.node.Node.{Node}
+use Rattle.order_formula.specs.declared.formula.Conjunct.{Conjunct}
+use Rattle.order_formula.specs.Orders.{IsOrder, ConjunctIsIn}
+use Rattle.order_formula.specs.Truth.{body_at, holds_at}
+use Rattle.order_formula.specs.Worlds.{World}
+use Rattle.cnf_core.specs.Clauses.{Formula, Valuation}
+use Rattle.bit_gates.specs.Laws.{IsModel}
+use Rattle.bit_words.specs.Laws.{values}
+use Rattle.bit_words.specs.Words.{Walked}
+use Rattle.bit_order.specs.Comparators.{ordered}
+use Rattle.bit_order.specs.Laws.{IsWorldFor, SaysSame}
+use Rattle.bit_order.specs.Layouts.{Layout, load_word}
+use Rattle.bit_order.specs.Readings.{world_of}
+use Rattle.bit_terms.specs.Laws.{IsIntNode}
+use Rattle.bit_terms.specs.Terms.{Words, term_words}
+use Rattle.bit_blast.specs.Layered.{parts_of}
+use Rattle.bit_blast.specs.Laws.{BodyIsTold}
+use Rattle.bit_blast.specs.Roots.{roots, blasted}
+
+-- the words of the values that the loads take
+abbrev pub load_words : Layout → List (List ℤ)
+load_words y = map (load_word y) (range_with_len 0 y.loads)
+
+-- the clauses of an order and its terms
+abbrev pub termed : Layout → List Node → Words
+termed y nodes = term_words nodes (load_words y) (ordered y)
+
+-- and the roots of a formula
+abbrev pub rooted : Layout → List Node → List Conjunct → Walked Formula
+rooted y nodes formula = let m : Words = termed y nodes in roots (parts_of y m.words) m.formula formula
+
+-- all clauses
+abbrev pub whole : Layout → List Node → List Conjunct → Formula
+whole y nodes formula = let m : Words = termed y nodes in blasted (parts_of y m.words) m.formula formula
+
+-- a formula of an order's events, whose pairs and choices were asked, over terms whose numbers are ints
+pub record IsReady (y : Layout) (nodes : List Node) (formula : List Conjunct) : Type 0 where
+  pub order : IsOrder y.order
+  pub events : y.order.events ≤ 256
+  pub ints : All IsIntNode nodes
+  pub told : All (λ c. BodyIsTold y.order c.body) formula
+  pub within : All (ConjunctIsIn y.order) formula
+
+-- the values that satisfy the clauses tell the worlds in which the formula is true
+pub record WholeMeans (y : Layout) (nodes : List Node) (formula : List Conjunct) : Type 0 where
+  pub to : (v : Valuation) → IsModel v (whole y nodes formula) → IsWorldFor y (world_of y v) × (holds_at nodes (world_of y v) formula ≡ true)
+  pub back : (w : World) → IsWorldFor y w → holds_at nodes w formula ≡ true
+      → (v : Valuation) × IsModel v (whole y nodes formula) × SaysSame y w (world_of y v)
+  -- in every world all clauses but for those of roots can be satisfied, with the roots of the conjuncts that are true there
+  pub each : (w : World) → IsWorldFor y w
+      → (v : Valuation) × IsModel v (rooted y nodes formula).state × SaysSame y w (world_of y v)
+      × (values v (rooted y nodes formula).word ≡ map (λ c. body_at nodes (world_of y v) c.body) formula)

@@ -1,0 +1,28 @@
+//! Laws of the literals of conjuncts. Each is a clause of a function that does nothing.
+ghost use Rattle.std.specs.Prelude.{List};
+ghost use Rattle.sym_terms.specs.declared.node.Node.{Node};
+ghost use Rattle.order_formula.specs.declared.formula.Conjunct.{Conjunct};
+ghost use Rattle.bit_order.specs.Layouts.{Layout};
+ghost use Rattle.bit_blast.specs.Laws.{CasesMean, ReadsMean, RootsMean};
+ghost use Rattle.bit_blast.specs.Whole.{IsReady, WholeMeans};
+
+/// Wherever the clauses are satisfied, the literal of a conjunct that has cases is true where the conjunct is.
+pub fn cases_mean()
+    ensures { CasesMean }
+{}
+
+/// Where the literal of a read is true, the load takes what it is to take; and in every world some values of the new variables make
+/// it true where the load does.
+pub fn reads_mean()
+    ensures { ReadsMean }
+{}
+
+/// The clauses of a formula are satisfied in the worlds in which it is true, and in no others.
+pub fn roots_mean()
+    ensures { RootsMean }
+{}
+
+/// So are those of an order, its terms and a formula, all together.
+pub fn whole_means()
+    ensures { (y : Layout) (nodes : List Node) (formula : List Conjunct) → IsReady y nodes formula → WholeMeans y nodes formula }
+{}

@@ -1,0 +1,5 @@
+//! A formula over the order of events as clauses: a literal for each conjunct, from those of the order and the words of terms, and
+//! a clause that it is true.
+#![tactic(auto)]
+
+pub mod laws;
