@@ -17,35 +17,35 @@ use Rattle.order_formula.specs.declared.group.Group.TheVariants as group
 use Rattle.order_formula.specs.declared.read.Candidate.{Candidate}
 use Rattle.lawful_order.specs.Cells.{value_at_start}
 use Rattle.lawful_order.specs.Events.{Of, all_events}
+use Rattle.order_events.specs.Parts.{number_in}
 use Rattle.order_cells.specs.Same.{known_same, same_test}
 use Rattle.read_write.specs.Accesses.{all_accesses, is_one, is_earlier}
-use Rattle.order_events.specs.Parts.{number_in}
 
 -- the line of a thread's step, among events; of one that isn't there, 0
 abbrev pub line_in : List (Of Event) → (thread step : ℕ) → ℕ
 line_in events t k = option_map_or (λ e. e.it.line) (slice_get events (number_in events t k)) 0
 
 module _ (nodes : List Node) (load : Of Access) where
-  -- whether another access is to the load's cell, or may be. An exchange doesn't take what it writes itself
+  -- whether the load may see an access: it isn't the load itself, as an exchange is, and isn't known to be to another cell
   abbrev pub may_be_seen : Of Access → Bool
   may_be_seen b = not (is_one b load) && unwrap_or (known_same nodes b.it.cell load.it.cell) true
 
-  -- the test of indexes that tells of a write whether it is to the load's cell, if one is to tell it
+  -- of a write that it may see, the test that tells whether that is to its cell, where this isn't known
   abbrev pub test_of : Of Access → Option Node
   test_of b = if may_be_seen b then option_and_then (λ _. same_test nodes b.it.cell load.it.cell) b.it.writes else None
 
--- the nodes that a load of a number needs: the value that it takes, that of its cell at the start, and tests of indexes
+-- the nodes that the load of a number needs: the value that it takes, that of its cell at the start, and the tests
 abbrev pub needs_of : Code → List (Of Access) → List Node → Of Access → ℕ → List Node
 needs_of code accesses nodes load number = Symbol number ∷ Constant (value_at_start code load.it.cell) ∷ filter_map (test_of nodes load) accesses
 
--- those that all loads need
+-- those that all loads need, one load after another
 abbrev pub read_needs : Code → Symbolic → List Node → List Node
 read_needs code symbolic nodes =
     let accesses = all_accesses symbolic in
     flat_map (λ a. option_map_or (needs_of code accesses nodes a) a.it.takes []) accesses
 
 module _ (events : List (Of Event)) (nodes : List Node) (load : Of Access) where
-  -- an access that writes a term, as a write whose value the load may take
+  -- a write of a term, as one whose value the load may take
   abbrev pub candidate_with : Of Access → ℕ → Candidate
   candidate_with b value = record {
     event = number_in events b.thread b.it.step;
@@ -54,11 +54,12 @@ module _ (events : List (Of Event)) (nodes : List Node) (load : Of Access) where
     value = value;
   }
 
+  -- an access so, if it is a write that the load may see
   abbrev pub candidate_of : Of Access → Option Candidate
   candidate_of b = if may_be_seen nodes load b then option_map (candidate_with b) b.it.writes else None
 
 module _ (code : Code) (events : List (Of Event)) (accesses : List (Of Access)) (nodes : List Node) where
-  -- what a load of a number takes
+  -- what the load of a number takes: the candidates are all writes that it may see
   abbrev pub read_of : Of Access → ℕ → plain.Read
   read_of load number = record {
     event = number_in events load.thread load.it.step;
@@ -67,6 +68,7 @@ module _ (code : Code) (events : List (Of Event)) (accesses : List (Of Access)) 
     candidates = filter_map (candidate_of events nodes load) accesses;
   }
 
+  -- that it takes so, among the rules of its thread and line
   abbrev pub conjunct_of : Of Access → ℕ → Conjunct
   conjunct_of load number = record {
     group = group.Read load.thread (line_in events load.thread load.it.step);
