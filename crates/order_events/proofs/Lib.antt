@@ -2,3 +2,4 @@ pub mod Lists
 pub mod Numbers
 pub mod Whole
 pub mod Parts
+pub mod Loops
