@@ -1,0 +1,7 @@
+pub mod Groups
+pub mod Pairs
+pub mod Links
+pub mod Regions
+pub mod Deadlocks
+pub mod Literals
+pub mod Whole

@@ -1,0 +1,27 @@
+use Rattle.std.proofs.Common.{◌≡◌, ◌∙◌, ◌++◌, [], true, false, cond, map, ap, sym, append-nil, arith}
+use Rattle.order_events.proofs.Loops.{each_more}
+use Rattle.sync_order.specs.Children.{created_before, is_child}
+use Rattle.sync_order.proofs.children.push_created.Goals as goal
+use Rattle.sync_order.proofs.children.push_created.Goals.{then-is_child+in_ok-push_created_before, else-is_child}
+
+pub loop-child-preserved : goal.loop-child-preserved
+loop-child-preserved c =
+    let threads = c.args.threads.now in
+    let walk = c.args.walk.now in
+    let link = c.args.link in
+    let child = c.loop-child.child in
+    let thread = c.index-threads-child.result in
+    let mid = c.loop-child.conjuncts.items in
+    let before = map (created_before c.args.events.now c.args.place link child) thread.events in
+    each_more threads child thread (omega (arith, c.loop-child-test.true)) c.index-threads-child.is c.args.conjuncts.now.items mid
+    c.if-is_child.conjuncts.items
+    (λ d q. cond (is_child walk link.child q) (map (created_before c.args.events.now c.args.place link d) q.events) []) c.loop-child.invariant
+    (elim c.if-is_child.branch [
+      | then-is_child+in_ok-push_created_before w ↦
+          let is : is_child walk link.child thread ≡ true = sym c.is_child.ensures ∙ w.if-is_child.true in
+          let next = ap (λ b. mid ++ cond b before []) (sym is) in
+          let pushed = w.in_ok-push_created_before.ensures in cc
+      | else-is_child w ↦
+          let is : is_child walk link.child thread ≡ false = sym c.is_child.ensures ∙ w.if-is_child.false in
+          let next = sym (append-nil mid) ∙ ap (λ b. mid ++ cond b before []) (sym is) in cc
+    ])

@@ -1,0 +1,7 @@
+use Rattle.std.proofs.Common.{◌≡◌, ◌++◌, [], ◌∷◌, take}
+use Rattle.sync_order.specs.Children.{exited_before, of_children}
+use Rattle.sync_order.proofs.children.push_joined.Given as goal
+
+abbrev pub invariant-loop-child : goal.invariant-loop-child
+invariant-loop-child l = l.conjuncts.items
+    ≡ l.fn.conjuncts.items ++ of_children (take l.child l.threads) l.walk l.link.child (λ c q. exited_before l.events l.place l.link c q ∷ [])

@@ -1,0 +1,6 @@
+use Rattle.std.proofs.Common.{◌≡◌, take}
+use Rattle.lawful_order.specs.Events.{all_from}
+use Rattle.sync_order.proofs.mutexes.all_regions.Given as goal
+
+abbrev pub invariant-loop-thread : goal.invariant-loop-thread
+invariant-loop-thread l = l.all.items ≡ all_from (λ q. q.regions) 0 (take l.thread l.threads)

@@ -1,0 +1,4 @@
+pub mod Children
+pub mod Mutexes
+pub mod Stuck
+pub mod Sync

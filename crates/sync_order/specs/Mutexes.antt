@@ -1,0 +1,43 @@
+-- The conjuncts of mutexes: of two regions of one mutex, one ends before the other begins.
+use Rattle.std.specs.Prelude.{ℕ, List, [], ◌∷◌, ◌++◌, map, Bool, not, ◌&&◌, ◌==◌, option_to_list, if◌then◌else◌}
+use Rattle.std.specs.List.{flat_map}
+use Rattle.path_walk.specs.Paths.{Paths}
+use Rattle.path_walk.specs.declared.event.Event.{Event}
+use Rattle.path_walk.specs.declared.event.Region.{Region}
+use Rattle.order_formula.specs.declared.literal.Literal.{Literal}
+use Rattle.order_formula.specs.declared.formula.Conjunct.{Conjunct}
+use Rattle.order_formula.specs.declared.group.Group.TheVariants.{Mutex}
+use Rattle.lawful_order.specs.Events.{Of, all_from, all_events}
+use Rattle.order_events.specs.Parts.{comes_before, one_of}
+
+-- what f makes of each two elements, of which the first stands before the second
+abbrev pub of_pairs : {A X : Type 0} → (A → A → List X) → List A → List X
+of_pairs f [] = []
+of_pairs f (x ∷ xs) = flat_map (f x) xs ++ of_pairs f xs
+
+-- whether two regions are of one mutex and aren't the same
+abbrev pub exclude : Of Region → Of Region → Bool
+exclude r s = r.it.mutex == s.it.mutex && not (r.thread == s.thread && r.it.«from» == s.it.«from»)
+
+module _ (events : List (Of Event)) where
+  -- a step at which the first region ends comes before the second begins
+  abbrev pub left_at : Of Region → Of Region → ℕ → Literal
+  left_at r s k = comes_before events r.thread k s.thread s.it.«from»
+
+  -- the step at which it ends does, if it has one
+  abbrev pub left_before : Of Region → Of Region → List Literal
+  left_before r s = map (left_at r s) (option_to_list r.it.to)
+
+  -- one of them ends before the other begins
+  abbrev pub excludes : Of Region → Of Region → Conjunct
+  excludes r s = one_of (Mutex r.it.mutex) (left_before r s ++ left_before s r)
+
+  abbrev pub exclusive : Of Region → Of Region → List Conjunct
+  exclusive r s = if exclude r s then excludes r s ∷ [] else []
+
+-- all regions, one thread after another
+abbrev pub all_regions : Paths → List (Of Region)
+all_regions paths = all_from (λ q. q.regions) 0 paths.threads
+
+abbrev pub mutexes_formula : Paths → List Conjunct
+mutexes_formula paths = of_pairs (exclusive (all_events paths)) (all_regions paths)

@@ -1,0 +1,41 @@
+//! Laws of the formula of synchronisation. Each is a clause of a function that does nothing.
+ghost use Rattle.std.specs.Prelude.{◌≡◌, ℕ, List, length, Bool, true};
+ghost use Rattle.std.specs.List.{All, Contains};
+ghost use Rattle.tc_code.specs.Code.{Code};
+ghost use Rattle.path_walk.specs.Paths.{Paths};
+ghost use Rattle.store_buffers.specs.Pending.{Binding};
+ghost use Rattle.sym_terms.specs.declared.node.Node.{Node};
+ghost use Rattle.sym_exec.specs.Executed.{Symbolic};
+ghost use Rattle.order_formula.specs.declared.formula.Conjunct.{Conjunct};
+ghost use Rattle.order_formula.specs.declared.group.Group.{Group};
+ghost use Rattle.order_formula.specs.Formulas.{IsOf};
+ghost use Rattle.order_formula.specs.Groups.{IsExactly};
+ghost use Rattle.order_formula.specs.Orders.{ConjunctIsIn, Order};
+ghost use Rattle.order_formula.specs.Worlds.{World};
+ghost use Rattle.lawful_order.specs.Events.{all_events, all_sleeps};
+ghost use Rattle.lawful_order.specs.Lawful.{IsWorldOf, MeetsRule};
+ghost use Rattle.lawful_order.specs.Whole.{AreWhole};
+ghost use Rattle.sync_order.specs.Sync.{is_sync, sync_formula};
+
+/// The conjuncts of a group are all true in a world exactly where it meets the rule of that group.
+pub fn sync_is_exact()
+    ensures { (buffered : Bool) (bound : Binding) (code : Code) (paths : Paths) (symbolic : Symbolic) (nodes : List Node) (w : World) (g : Group)
+        → IsWorldOf paths symbolic w → is_sync g ≡ true
+        → IsExactly nodes w (sync_formula paths) g (MeetsRule buffered bound code paths symbolic nodes w g) }
+{}
+
+/// Each conjunct is of such a group.
+pub fn sync_has_its_groups()
+    ensures { (paths : Paths) (c : Conjunct) → Contains (sync_formula paths) c → is_sync c.group ≡ true }
+{}
+
+/// Of whole paths all events and sleeps that a conjunct names are there.
+pub fn sync_is_of_the_order()
+    ensures { (paths : Paths) (o : Order) → AreWhole paths → o.events ≡ length (all_events paths) → o.sleeps ≡ length (all_sleeps paths)
+        → All (ConjunctIsIn o) (sync_formula paths) }
+{}
+
+/// No conjunct names a term.
+pub fn sync_names_no_terms()
+    ensures { (paths : Paths) (terms : ℕ) → IsOf terms (sync_formula paths) }
+{}
