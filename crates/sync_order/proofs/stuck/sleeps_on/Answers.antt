@@ -39,7 +39,7 @@ loop-number-preserved c =
           elim w.else-placed-thread.branch [
             | else-placed-thread-via-then-placed-thread+else-placed-step v ↦
                 let apart = ne_eqb x.it.step k (λ e. v.if-placed-step.false (ap (λ s. s.step) sleep ∙ e)) in
-              let same = next (and_right (x.thread == t) (x.it.step == k) apart) in cc
+                let same = next (and_right (x.thread == t) (x.it.step == k) apart) in cc
             | else-placed-thread-via-else-placed-thread v ↦
                 let same = next (and_left (x.thread == t) (x.it.step == k) (ne_eqb x.thread t (λ e. v.if-placed-thread.false (thread ∙ e)))) in cc
           ]
