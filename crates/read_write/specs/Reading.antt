@@ -26,7 +26,7 @@ abbrev pub line_in : List (Of Event) → (thread step : ℕ) → ℕ
 line_in events t k = option_map_or (λ e. e.it.line) (slice_get events (number_in events t k)) 0
 
 module _ (nodes : List Node) (load : Of Access) where
-  -- whether the load may see an access: it isn't the load itself, as an exchange is, and isn't known to be to another cell
+  -- whether the load may see an access: it isn't known to be to another cell. An exchange doesn't see itself
   abbrev pub may_be_seen : Of Access → Bool
   may_be_seen b = not (is_one b load) && unwrap_or (known_same nodes b.it.cell load.it.cell) true
 

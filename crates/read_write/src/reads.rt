@@ -9,7 +9,7 @@ ghost use Rattle.sym_exec.specs.Making.{Grows};
 ghost use Rattle.order_formula.specs.Orders as orders;
 ghost use Rattle.lawful_order.specs.Cells as cells;
 ghost use Rattle.lawful_order.specs.Events.{all_events};
-ghost use Rattle.lawful_order.specs.Whole.{AreWhole, IsExecutedBy};
+ghost use Rattle.lawful_order.specs.Whole.{IsExecutedBy};
 ghost use Rattle.order_cells.specs.Terms.{AccessIsOf, HaveTerms};
 ghost use Rattle.read_write.specs.Reading as spec;
 
@@ -35,7 +35,6 @@ pub fn read_constraints(
     terms: &mut Terms,
     order: &mut Order,
 ) -> Result<Formula, AllocError>
-    requires whole { AreWhole paths.now }
     requires few { length (all_events paths.now) ≤ EVENTS }
     requires executed { IsExecutedBy paths.now symbolic.now }
     requires terms { HaveTerms terms.old symbolic.now }
