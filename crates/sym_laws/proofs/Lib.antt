@@ -1,13 +1,13 @@
-mod Lists
-mod Names
-mod Steps
+pub mod Lists
+pub mod Names
+pub mod Steps
 mod Beside
-mod Executed
-mod Follows
+pub mod Executed
+pub mod Follows
 mod Born
 mod Moves
-mod Runs
-mod Valued
+pub mod Runs
+pub mod Valued
 mod Numbered
 mod Agree
 mod Whole

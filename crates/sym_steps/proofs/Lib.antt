@@ -1,0 +1,4 @@
+pub mod Agree
+pub mod Cells
+pub mod Wanted
+pub mod Told
