@@ -1,0 +1,3 @@
+pub mod Twos
+pub mod Own
+pub mod helpers

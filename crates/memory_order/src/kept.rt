@@ -1,0 +1,162 @@
+//! Which events of a thread a memory model keeps before later ones.
+ghost use Rattle.std.specs.Prelude.{◌≡◌, List, length, ◌==◌, ◌&&◌, fold, option_copied, option_map, option_and_then, IfOk, OnOk};
+ghost use Rattle.std.specs.List.{find, list_any};
+ghost use Rattle.sym_terms.specs.Terms.{with_node, id_of};
+ghost use Rattle.sym_terms.specs.declared.node.Node.{Node};
+ghost use Rattle.sym_exec.specs.Making.{Grows};
+ghost use Rattle.lawful_order.specs.Memory as memory;
+ghost use Rattle.order_cells.specs.Same as cells;
+ghost use Rattle.order_cells.specs.Terms.{HaveTerms};
+ghost use Rattle.memory_order.specs.Own as spec;
+ghost use Rattle.memory_order.specs.helpers.Twos.{plain};
+
+use order_cells::{known_same, same_test};
+use path_walk::{Event, EventKind};
+use std::alloc::AllocError;
+use store_buffers::MemoryModel;
+use sym_exec::{Access, Cell, Symbolic};
+use sym_terms::{Id, Terms};
+
+/// Whether it is a store and no load.
+fn is_store(kind: EventKind) -> bool
+    ensures { result ≡ memory.is_store kind }
+{
+    matches!(kind, EventKind::Store)
+}
+
+/// Whether a thread may do it while stores of its own are pending.
+fn may_overtake(kind: EventKind) -> bool
+    ensures { result ≡ memory.may_overtake kind }
+{
+    matches!(kind, EventKind::Load | EventKind::Store | EventKind::Fail)
+}
+
+/// Whether it ends the run.
+pub(crate) fn is_failing(kind: EventKind) -> bool
+    ensures { result ≡ spec.is_failing kind }
+{
+    matches!(kind, EventKind::Fail)
+}
+
+/// Whether it has its place in the order where it stands on the path.
+pub(crate) fn is_settled<M: MemoryModel>(kind: EventKind) -> bool
+    ensures { result ≡ spec.is_settled M.BUFFERED kind }
+{
+    !(M::BUFFERED && is_store(kind))
+}
+
+/// Whether an event is kept before a later one of its thread, by whether both are to one cell.
+fn keeps<M: MemoryModel>(same_cell: bool, first: &Event, second: &Event) -> bool
+    ensures { result ≡ spec.keeps M.BUFFERED M.bound same_cell first.now second.now }
+{
+    is_settled::<M>(first.kind)
+        || !may_overtake(second.kind)
+        || is_store(second.kind) && M::bound(same_cell, first.bars != second.bars)
+}
+
+/// The access of a step, if there is one.
+fn access_at(accesses: &[Access], step: usize) -> Option<&Access>
+    ensures { option_copied result ≡ find (λ a. a.step == step) accesses.now }
+{
+    accesses.iter().find(|access| access.step == step)
+}
+
+/// An event of a thread with a later one, and what stands between them.
+#[derive(Clone, Copy, Debug)]
+pub(crate) struct Two<'a> {
+    /// The earlier.
+    pub(crate) first: &'a Event,
+    /// Those between them.
+    pub(crate) between: &'a [Event],
+    /// The later.
+    pub(crate) second: &'a Event,
+}
+
+/// A thread of paths, with what their execution found.
+#[derive(Clone, Copy, Debug)]
+pub(crate) struct Thread<'a> {
+    /// What all threads come to.
+    pub(crate) symbolic: &'a Symbolic,
+    /// Its place among them.
+    pub(crate) number: usize,
+}
+
+impl Thread<'_> {
+    /// The cell of its step, if that has one.
+    fn cell_of(&self, step: usize) -> Option<Cell>
+        ensures { result ≡ memory.cell_of self.now.symbolic.now self.now.number step }
+    {
+        let course = self.symbolic.threads().get(self.number)?;
+        Some(access_at(course.accesses(), step)?.cell)
+    }
+
+    /// The cells of two of its events.
+    fn cells_of(&self, first: &Event, second: &Event) -> Option<(Cell, Cell)>
+        ensures { result ≡ spec.cells_of self.now.symbolic.now self.now.number first.now second.now }
+    {
+        let one = self.cell_of(first.step)?;
+        Some((one, self.cell_of(second.step)?))
+    }
+
+    /// Whether they are one, where that is known.
+    fn known_same(&self, terms: &Terms, first: &Event, second: &Event) -> Option<bool>
+        ensures { result ≡ option_and_then (λ c. cells.known_same terms.now c.0 c.1)
+            (spec.cells_of self.now.symbolic.now self.now.number first.now second.now) }
+    {
+        let (one, other) = self.cells_of(first, second)?;
+        known_same(terms, one, other)
+    }
+
+    /// Whether an event is kept before a later one, whatever the indexes of their cells are.
+    fn is_always_kept<M: MemoryModel>(&self, terms: &Terms, first: &Event, second: &Event) -> bool
+        ensures { result ≡ spec.is_always_kept M.BUFFERED M.bound self.now.symbolic.now terms.now self.now.number first.now second.now }
+    {
+        let same_cell = self.known_same(terms, first, second).unwrap_or(false);
+        keeps::<M>(same_cell, first, second)
+    }
+
+    /// Whether it is, and not already since it is before an event between them that is before the later one.
+    pub(crate) fn is_kept_next<M: MemoryModel>(&self, terms: &Terms, two: &Two) -> bool
+        ensures { result ≡ spec.is_kept_next M.BUFFERED M.bound self.now.symbolic.now terms.now self.now.number (plain two.now) }
+    {
+        self.is_always_kept::<M>(terms, two.first, two.second)
+            && !self.goes_through::<M>(terms, two)
+    }
+
+    /// Whether an event between two is kept after the first and before the second.
+    fn goes_through<M: MemoryModel>(&self, terms: &Terms, two: &Two) -> bool
+        ensures { result ≡ list_any (λ z. spec.is_always_kept M.BUFFERED M.bound self.now.symbolic.now terms.now self.now.number two.now.first.now z
+            && spec.is_always_kept M.BUFFERED M.bound self.now.symbolic.now terms.now self.now.number z two.now.second.now) two.now.between.now }
+    {
+        for event in two.between {
+            if self.is_always_kept::<M>(terms, two.first, event)
+                && self.is_always_kept::<M>(terms, event, two.second)
+            {
+                return true;
+            }
+        }
+        false
+    }
+
+    /// The test of the indexes, where an event is kept before a later one only if these are equal.
+    pub(crate) fn kept_test<M: MemoryModel>(
+        &self,
+        terms: &mut Terms,
+        two: &Two,
+    ) -> Result<Option<Id>, AllocError>
+        requires { HaveTerms terms.old self.now.symbolic.now }
+        ensures test { IfOk result (λ test. (later : List Node) → Grows terms.new later → test
+            ≡ option_map (id_of later) (spec.kept_test M.BUFFERED M.bound self.now.symbolic.now later self.now.number (plain two.now))) }
+        ensures added { OnOk result ((before : List Node) → HaveTerms before self.now.symbolic.now → Grows before terms.old → terms.new
+            ≡ fold with_node terms.old (spec.two_tests M.BUFFERED M.bound self.now.symbolic.now before self.now.number (plain two.now))) }
+        ensures grown { Grows terms.old terms.new }
+    {
+        if !keeps::<M>(true, two.first, two.second) || keeps::<M>(false, two.first, two.second) {
+            return Ok(None);
+        }
+        match self.cells_of(two.first, two.second) {
+            Some((one, other)) => same_test(terms, one, other),
+            None => Ok(None),
+        }
+    }
+}
