@@ -13,7 +13,7 @@ ghost use Rattle.lawful_order.specs.Whole.{IsExecutedBy};
 ghost use Rattle.order_cells.specs.Terms.{HaveTerms};
 
 /// The accesses that the execution of a log's paths finds are the paths' loads, stores and exchanges, in the same steps, and
-/// each load has a number of its own.
+/// the number of each load is below their count.
 pub fn executed_paths()
     ensures { (code : Code) (paths : Paths) (nodes : List Node)
         → ArePaths code paths → IsExecutedBy paths (executed code paths nodes).symbolic }
