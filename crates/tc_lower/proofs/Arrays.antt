@@ -1,6 +1,45 @@
 -- The arrays of a program: they lie one after another, apart from its single cells, and begin with 0 in each element.
-use Rattle.std.proofs.Common.{◌≡◌, ℕ, zero, suc, ◌+◌, ◌-◌, ◌<◌, ◌≤◌, ℤ, Bool, true, false, ◌&&◌, ◌||◌, IsTrue, nat_lt, nat_le, List, [], ◌∷◌, ◌++◌, length, replicate, Some, pos, refl, ap, sym, subst, ◌∙◌, append_assoc, arith, length-append, slice_get}
-use Rattle.std.specs.List.{list_all}
+use Rattle.std.proofs.Common.{
+  ◌≡◌,
+  ℕ,
+  zero,
+  suc,
+  ◌+◌,
+  ◌-◌,
+  ◌<◌,
+  ◌≤◌,
+  ℤ,
+  Bool,
+  true,
+  false,
+  ◌&&◌,
+  ◌||◌,
+  IsTrue,
+  nat_lt,
+  nat_le,
+  inl,
+  inr,
+  List,
+  [],
+  ◌∷◌,
+  ◌++◌,
+  length,
+  replicate,
+  get_or,
+  Some,
+  pos,
+  refl,
+  ap,
+  sym,
+  subst,
+  ◌∙◌,
+  append_assoc,
+  arith,
+  add-one,
+  length-append,
+  slice_get,
+}
+use Rattle.std.specs.List.{list_all, list_any}
 use Rattle.std.specs.Prelude.{◌==◌}
 use Rattle.std.proofs.lemmas.Bool.{false≢true}
 use Rattle.std.proofs.lemmas.Bool.Decides.{Decides-eqb, nat_tests}
