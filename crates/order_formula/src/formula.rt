@@ -1,5 +1,5 @@
 //! Formulas.
-ghost use Rattle.std.specs.Prelude.{◌≡◌, ◌++◌, [], ◌∷◌, ◌^◌, ◌-◌, min, map, sum, OnOk, OnErr};
+ghost use Rattle.std.specs.Prelude.{◌≡◌, ◌++◌, [], ◌∷◌, ◌^◌, ◌-◌, min, map, sum, IfOk, OnOk, OnErr};
 ghost use Rattle.order_formula.specs.Formulas.{body_nodes, case_nodes, nodes_of};
 ghost use Rattle.order_formula.specs.Orders.{ConjunctIsIn, Grows, with_conjunct};
 
@@ -123,6 +123,17 @@ impl Formula {
     {
         order.ask(&conjunct)?;
         Ok(self.conjuncts.push(conjunct)?)
+    }
+
+    /// That both formulas are true: the conjuncts of the first, and then those of the second.
+    pub fn and(self, other: Formula) -> Result<Formula, AllocError>
+        ensures { IfOk result (λ both. both ≡ self ++ other) }
+    {
+        let mut conjuncts = self.conjuncts;
+        for conjunct in other.conjuncts {
+            conjuncts.push(conjunct)?;
+        }
+        Ok(Formula { conjuncts })
     }
 
     /// The conjuncts, in order.
