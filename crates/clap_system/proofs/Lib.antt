@@ -1,0 +1,4 @@
+pub mod Tests
+pub mod Groups
+pub mod Exact
+pub mod Needs

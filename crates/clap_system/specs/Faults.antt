@@ -1,0 +1,43 @@
+-- Why a log has no system.
+use Rattle.std.specs.Prelude.{◌≡◌, ℕ, ◌<◌, ◌≤◌, length, nat_lt, Some}
+use Rattle.std.specs.List.{All, find}
+use Rattle.tc_base.specs.Logs.{Log, ThreadPath}
+use Rattle.tc_base.specs.declared.limits.TheConstants.{THREADS, DEPTH, EVENTS, OPERATORS}
+use Rattle.tc_code.specs.Code.{Code}
+use Rattle.path_walk.specs.Fits.{Fits, IsFirst}
+use Rattle.path_walk.specs.Paths.{paths_of}
+use Rattle.path_walk.specs.declared.fault.WalkFault.TheVariants as walk
+use Rattle.clap_system.specs.declared.fault.BuildFault.{BuildFault}
+use Rattle.clap_system.specs.declared.fault.BuildFault.TheVariants.{Walk, Limit, Memory}
+use Rattle.clap_system.specs.declared.fault.Which.{Which}
+use Rattle.clap_system.specs.declared.fault.Which.TheVariants.{Threads, Depth, Events, Operators}
+
+-- the most that a log's paths may have
+abbrev pub limit_of : Which → ℕ
+limit_of Threads = THREADS
+limit_of Depth = DEPTH
+limit_of Events = EVENTS
+limit_of Operators = OPERATORS
+
+-- a log has few threads, and no name is deep
+pub record IsShallow (log : Log) : Type 0 where
+  pub threads : length log.threads ≤ THREADS
+  pub names : All (λ t. length t.name ≤ DEPTH) log.threads
+
+-- the first thread with a deep name
+abbrev pub IsFirstDeep : Log → ThreadPath → Type 0
+IsFirstDeep log t = find (λ u. nat_lt DEPTH (length u.name)) log.threads ≡ Some t
+
+-- a log's paths have more of something than they may, and not too much of what is told first
+abbrev pub IsOver : Code → Log → Which → ℕ → Type 0
+IsOver code log Threads n = n ≡ length log.threads
+IsOver code log Depth n = (length log.threads ≤ THREADS) × ((t : ThreadPath) × IsFirstDeep log t × (n ≡ length t.name))
+IsOver code log Events n = IsShallow log × Fits code log × (n ≡ (paths_of code log).events)
+IsOver code log Operators n = IsShallow log × Fits code log × ((paths_of code log).events ≤ EVENTS) × (n ≡ (paths_of code log).operators)
+
+-- the cause of a fault; want of memory has none, and is no fault of the walk
+abbrev pub IsBuildFault : Code → Log → BuildFault → Type 0
+IsBuildFault code log (Limit which n limit) = (limit_of which < n) × (limit ≡ limit_of which) × IsOver code log which n
+IsBuildFault code log (Walk (walk.Unfit n m)) = IsShallow log × IsFirst code log n m
+IsBuildFault code log (Walk walk.Memory) = ⊥
+IsBuildFault code log Memory = Unit {0}

@@ -1,0 +1,4 @@
+pub mod Tests
+pub mod Systems
+pub mod Faults
+pub mod helpers

@@ -1,0 +1,74 @@
+//! Why a log has no system.
+ghost use Rattle.std.specs.Prelude.{◌≡◌};
+ghost use Rattle.clap_system.specs.Faults.{limit_of};
+ghost use Rattle.clap_system.specs.helpers.From.{from_walk};
+ghost use Rattle.clap_system.specs.declared.fault.BuildFault.TheVariants.{Memory};
+
+use path_walk::WalkFault;
+use std::alloc::{AllocError, AllocFailed};
+use tc_base::limits::{DEPTH, EVENTS, OPERATORS, THREADS};
+
+/// What the paths of a log may have too much of.
+#[derive(Clone, Copy, Debug, PartialEq, Eq)]
+pub enum Which {
+    /// Threads, main included.
+    Threads,
+    /// Creates that lead from main to a thread.
+    Depth,
+    /// Events of all threads.
+    Events,
+    /// Operators in the instructions of all steps.
+    Operators,
+}
+
+impl Which {
+    /// The most that they may have.
+    pub fn limit(self) -> u64
+        ensures { result ≡ limit_of self }
+    {
+        match self {
+            Which::Threads => THREADS as u64,
+            Which::Depth => DEPTH as u64,
+            Which::Events => EVENTS as u64,
+            Which::Operators => OPERATORS as u64,
+        }
+    }
+}
+
+/// Why a log has no system.
+#[derive(Debug, Drop)]
+pub enum BuildFault {
+    /// It doesn't fit the program. Want of memory there is `Memory` here.
+    Walk(WalkFault),
+    /// Its paths have too much of something: how much, and the most that they may have.
+    Limit(Which, u64, u64),
+    /// No memory is left.
+    Memory,
+}
+
+impl From<WalkFault> for BuildFault {
+    ghost from_gives = { λ fault made. made ≡ from_walk fault };
+
+    fn from(fault: WalkFault) -> Self {
+        match fault {
+            WalkFault::Unfit(name, misfit) => BuildFault::Walk(WalkFault::Unfit(name, misfit)),
+            WalkFault::Memory => BuildFault::Memory,
+        }
+    }
+}
+
+impl From<AllocError> for BuildFault {
+    ghost from_gives = { λ _ fault. fault ≡ Memory };
+
+    fn from(_failed: AllocError) -> Self {
+        BuildFault::Memory
+    }
+}
+
+impl<T: Drop> From<AllocFailed<T>> for BuildFault {
+    ghost from_gives = { λ _ fault. fault ≡ Memory };
+
+    fn from(_failed: AllocFailed<T>) -> Self {
+        BuildFault::Memory
+    }
+}

@@ -1,0 +1,34 @@
+//! Laws of systems. Each is a clause of a function that does nothing.
+ghost use Rattle.std.specs.Prelude.{◌≡◌, Bool, true, ◌↔◌};
+ghost use Rattle.tc_code.specs.Code.{Code};
+ghost use Rattle.tc_code.specs.Lawful.{IsLawful};
+ghost use Rattle.path_walk.specs.Paths.{Paths, ArePaths};
+ghost use Rattle.store_buffers.specs.Pending.{Binding};
+ghost use Rattle.sym_terms.specs.Terms.{AreTerms};
+ghost use Rattle.order_formula.specs.Groups.{IsExactly};
+ghost use Rattle.order_formula.specs.Truth.{holds_at};
+ghost use Rattle.order_formula.specs.Worlds.{World, IsWorld};
+ghost use Rattle.order_formula.specs.declared.group.Group.{Group};
+ghost use Rattle.lawful_order.specs.Lawful as order;
+ghost use Rattle.lawful_order.specs.Lawful.{IsWorldOf, MeetsRule};
+ghost use Rattle.clap_system.specs.Systems.{system_by};
+
+/// The conjuncts of each group are all true in a world exactly where it meets the rule of that group.
+pub fn groups_are_exact()
+    ensures { (buffered : Bool) (bound : Binding) (code : Code) (paths : Paths) (w : World) (g : Group)
+        → ((barred : Bool) → bound true barred ≡ true) → IsLawful code → ArePaths code paths
+        → AreTerms (system_by buffered bound code paths).nodes → IsWorld w
+        → IsWorldOf paths (system_by buffered bound code paths).symbolic w
+        → IsExactly (system_by buffered bound code paths).nodes w (system_by buffered bound code paths).formula g
+        (MeetsRule buffered bound code paths (system_by buffered bound code paths).symbolic (system_by buffered bound code paths).nodes w g) }
+{}
+
+/// The formula is true exactly in the lawful worlds.
+pub fn systems_are_exact()
+    ensures { (buffered : Bool) (bound : Binding) (code : Code) (paths : Paths) (w : World)
+        → ((barred : Bool) → bound true barred ≡ true) → IsLawful code → ArePaths code paths
+        → AreTerms (system_by buffered bound code paths).nodes → IsWorld w
+        → IsWorldOf paths (system_by buffered bound code paths).symbolic w
+        → (holds_at (system_by buffered bound code paths).nodes w (system_by buffered bound code paths).formula ≡ true)
+        ↔ order.IsLawful buffered bound code paths (system_by buffered bound code paths).symbolic (system_by buffered bound code paths).nodes w }
+{}

@@ -1,0 +1,79 @@
+//! Systems.
+ghost use Rattle.std.specs.Prelude.{◌≡◌, length, IfOk};
+ghost use Rattle.order_formula.specs.Formulas.{IsOf};
+ghost use Rattle.order_formula.specs.Truth.{holds_at};
+
+use order_formula::{Formula, Order, World, holds};
+use path_walk::Paths;
+use std::alloc::{AllocError, Global};
+use std::marker::Model;
+use sym_exec::Symbolic;
+use sym_terms::{Terms, Values};
+
+/// The paths of a log, their execution, and the formula of a memory model over their events.
+#[derive(Debug, Drop)]
+pub struct System {
+    pub(crate) paths: Paths,
+    pub(crate) symbolic: Symbolic,
+    pub(crate) terms: Terms,
+    pub(crate) order: Order,
+    pub(crate) formula: Formula,
+}
+
+impl Model for System {
+    ghost use Rattle.std.specs.Prelude.{length};
+    ghost use Rattle.order_formula.specs.Formulas.{IsOf};
+    ghost use Rattle.clap_system.specs.Systems.{System as PlainSystem};
+
+    ghost Value = { PlainSystem };
+
+    ghost view = { λ s. record { paths = s.paths; symbolic = s.symbolic; nodes = s.terms; order = s.order; formula = s.formula } };
+
+    ghost invariant = { λ s. IsOf (length s.terms) s.formula };
+}
+
+impl System {
+    /// The paths of the log.
+    pub fn paths(&self) -> &Paths
+        ensures { result.now ≡ self.now.paths }
+    {
+        &self.paths
+    }
+
+    /// What they come to, with terms in place of values.
+    pub fn symbolic(&self) -> &Symbolic
+        ensures { result.now ≡ self.now.symbolic }
+    {
+        &self.symbolic
+    }
+
+    /// The terms of their execution and of the formula.
+    pub fn terms(&self) -> &Terms
+        ensures { result.now ≡ self.now.nodes }
+    {
+        &self.terms
+    }
+
+    /// What the formula asks of the order of events.
+    pub fn order(&self) -> &Order
+        ensures { result.now ≡ self.now.order }
+    {
+        &self.order
+    }
+
+    /// The formula.
+    pub fn formula(&self) -> &Formula
+        ensures formula { result.now ≡ self.now.formula }
+        ensures terms { IsOf (length self.now.nodes) self.now.formula }
+    {
+        &self.formula
+    }
+
+    /// Whether the formula is true in a world.
+    pub fn holds(&self, alloc: Global, world: &World) -> Result<bool, AllocError>
+        ensures { IfOk result (λ is_true. is_true ≡ holds_at self.now.nodes world.now self.now.formula) }
+    {
+        let mut values = Values::new(alloc, &self.terms, world.loads())?;
+        Ok(holds(&self.terms, &self.formula, world, &mut values))
+    }
+}
