@@ -1,11 +1,14 @@
-pub mod Cases
+pub mod CaseLaws
 pub mod Clauses
 pub mod Lists
-pub mod Roots
+pub mod Loops
+pub mod Posed
+pub mod Prefixes
+pub mod RootLaws
 pub mod Same
 pub mod Sources
 pub mod Taken
 pub mod Taking
 pub mod Values
 pub mod Variables
-pub mod Whole
+pub mod WholeLaws

@@ -25,7 +25,7 @@ use Rattle.bit_terms.specs.Terms.{word_at}
 use Rattle.bit_blast.specs.Cases.{Parts}
 use Rattle.bit_blast.specs.Laws.{Tells}
 use Rattle.bit_blast.specs.Reads.{Source, value_clauses, seen_made, with_seen, all_seen, sources_of, last_clause, last_clauses, none_clauses, read_clauses}
-use Rattle.bit_blast.proofs.Cases.{bit_both, bit_constant, test_bit, tells_more}
+use Rattle.bit_blast.proofs.CaseLaws.{bit_both, bit_constant, test_bit, tells_more}
 use Rattle.bit_blast.proofs.Lists.{AreTied, all_flat_map, contains_first, contains_later}
 use Rattle.bit_blast.proofs.Values.{value_literals}
 

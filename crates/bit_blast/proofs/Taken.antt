@@ -30,6 +30,7 @@ use Rattle.bit_blast.specs.Laws.{Tells, IsRoot, ReadIsAsked, ReadsMean}
 use Rattle.bit_blast.specs.Reads.{Source, all_seen, sources_of, read_clauses, read_made}
 use Rattle.bit_blast.proofs.Clauses.{with_satisfied, with_over}
 use Rattle.bit_blast.proofs.Lists.{AreTied, all_of, contains_first, contains_later, contains_map, one_place}
+use Rattle.bit_blast.proofs.Prefixes.{first_part, before_grown}
 use Rattle.bit_blast.proofs.Sources.{IsPairAsked, IsSourceOf, IsSourceFor, AreSeen, are_seen, tied, length_sources, are_sources, read_literals, sources_events}
 use Rattle.bit_blast.proofs.Taking.{AreApart, are_met, meets, read_true, met}
 use Rattle.bit_blast.proofs.Variables.{with_values, agree_with, value_with}
@@ -205,6 +206,9 @@ module _ (o : Order) (nodes : List Node) (world : Valuation → World) (parts : 
     holds = holds;
     extends = extends;
   }
+
+  pub before_read : (w : Valuation) → satisfies w (read_made parts f r).formula.clauses ≡ true → satisfies w f.clauses ≡ true
+  before_read w s = before_grown w f seen.state are.grown (first_part w seen.state.clauses (flat_map folded_clause clauses) s)
 
 pub reads-mean : ReadsMean
 reads-mean o nodes world parts f r t h = read_root o nodes world parts f r t h

@@ -1,6 +1,10 @@
+pub mod Blasted
 pub mod Cases
+pub mod Contended
 pub mod Laws
 pub mod Layered
 pub mod Reads
 pub mod Roots
+pub mod Sizes
 pub mod Whole
+pub mod helpers

@@ -1,8 +1,10 @@
 //! Laws of the literals of conjuncts. Each is a clause of a function that does nothing.
-ghost use Rattle.std.specs.Prelude.{List};
+ghost use Rattle.std.specs.Prelude.{ℕ, List};
 ghost use Rattle.sym_terms.specs.declared.node.Node.{Node};
 ghost use Rattle.order_formula.specs.declared.formula.Conjunct.{Conjunct};
+ghost use Rattle.order_formula.specs.Orders.{IsOrder, Order};
 ghost use Rattle.bit_order.specs.Layouts.{Layout};
+ghost use Rattle.bit_blast.specs.Blasted.{BlastMeans, IsPosed, layout_of};
 ghost use Rattle.bit_blast.specs.Laws.{CasesMean, ReadsMean, RootsMean};
 ghost use Rattle.bit_blast.specs.Whole.{IsReady, WholeMeans};
 
@@ -25,4 +27,11 @@ pub fn roots_mean()
 /// So are those of an order, its terms and a formula, all together.
 pub fn whole_means()
     ensures { (y : Layout) (nodes : List Node) (formula : List Conjunct) → IsReady y nodes formula → WholeMeans y nodes formula }
+{}
+
+/// What satisfies the clauses of a formula says a world of its order in which the formula is true, and each such world is said by
+/// something that satisfies them.
+pub fn blast_means()
+    ensures { (nodes : List Node) (formula : List Conjunct) (order : Order) (loads : ℕ) → IsPosed nodes formula order
+        → IsOrder (layout_of order loads formula).order → BlastMeans nodes formula order loads }
 {}

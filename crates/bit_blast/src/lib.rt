@@ -2,4 +2,12 @@
 //! a clause that it is true.
 #![tactic(auto)]
 
+mod blasted;
+mod cases;
+mod contended;
 pub mod laws;
+mod reads;
+mod roots;
+mod whole;
+
+pub use blasted::{Blasted, blast};

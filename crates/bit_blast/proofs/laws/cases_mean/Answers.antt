@@ -1,4 +1,4 @@
-use Rattle.bit_blast.proofs.Cases.{cases-mean}
+use Rattle.bit_blast.proofs.CaseLaws.{cases-mean}
 use Rattle.bit_blast.proofs.laws.cases_mean.Goals as goal
 
 pub returns : goal.returns

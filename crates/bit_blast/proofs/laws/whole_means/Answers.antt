@@ -1,4 +1,4 @@
-use Rattle.bit_blast.proofs.Whole.{whole_means}
+use Rattle.bit_blast.proofs.WholeLaws.{whole_means}
 use Rattle.bit_blast.proofs.laws.whole_means.Goals as goal
 
 pub returns : goal.returns

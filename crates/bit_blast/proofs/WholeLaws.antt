@@ -1,25 +1,28 @@
 -- What all clauses of an order, its terms and a formula mean.
-use Rattle.std.proofs.Common.{◌≡◌, ℕ, suc, zero, ◌+◌, ◌<◌, List, [], ◌∷◌, ℤ, refl, ap, sym, ◌∙◌, subst, arith, true, map}
+use Rattle.std.proofs.Common.{◌≡◌, ℕ, suc, zero, ◌+◌, ◌<◌, List, [], ◌∷◌, ℤ, refl, ap, sym, ◌∙◌, subst, arith, Bool, true, false, map}
+use Rattle.std.specs.Prelude.{◌&&◌, ◌||◌}
 use Rattle.std.specs.List.{All, range_with_len}
+use Rattle.std.proofs.lemmas.Bool.{false≢true}
 use Rattle.std.proofs.lemmas.List.Elements.{All-nil, All-cons, All-map}
 use Rattle.sym_terms.specs.declared.node.Node.{Node}
 use Rattle.sym_terms.specs.Values.{value_of}
 use Rattle.order_formula.specs.declared.formula.Conjunct.{Conjunct}
 use Rattle.order_formula.specs.Truth.{holds_at, body_at, value_at}
 use Rattle.order_formula.specs.Worlds.{World}
-use Rattle.cnf_core.specs.Clauses.{Formula, Valuation}
+use Rattle.cnf_core.specs.Clauses.{Formula, Valuation, satisfies}
 use Rattle.cnf_core.specs.Gates.{Agree, IsOver}
 use Rattle.bit_gates.specs.Extended.{IsExtended}
+use Rattle.bit_gates.specs.Folded.{constant}
 use Rattle.bit_gates.specs.Laws.{IsModel, IsOf}
 use Rattle.bit_gates.proofs.Blocks.{grown_none}
 use Rattle.bit_gates.proofs.Extended.{gates-extend}
 use Rattle.bit_arith.specs.Laws.{int_value}
 use Rattle.bit_ops.specs.Laws.{IsOperand}
-use Rattle.bit_order.specs.Comparators.{before_literal, ordered}
+use Rattle.bit_order.specs.Comparators.{before_literal, comparators, ordered, transitivity}
 use Rattle.bit_order.specs.Laws.{IsWorldFor, SaysSame, LiteralsMean}
-use Rattle.bit_order.specs.Layouts.{Layout, base, ends_literal, load_word}
+use Rattle.bit_order.specs.Layouts.{Layout, base, choice_start, ends_literal, exclusions, load_word}
 use Rattle.bit_order.specs.Readings.{world_of}
-use Rattle.bit_order.proofs.Compared.{base_some}
+use Rattle.bit_order.proofs.Compared.{base_some, comparators_grown}
 use Rattle.bit_order.proofs.Meaning.{base-over, literals-mean, same-world, values-say-worlds, worlds-have-values}
 use Rattle.bit_order.proofs.Three.{ordered-extended}
 use Rattle.bit_terms.specs.Laws.{HaveInts}
@@ -27,8 +30,9 @@ use Rattle.bit_terms.proofs.Meaning.{terms-mean}
 use Rattle.bit_blast.specs.Cases.{Parts}
 use Rattle.bit_blast.specs.Layered.{parts_of}
 use Rattle.bit_blast.specs.Laws.{Tells}
-use Rattle.bit_blast.specs.Whole.{load_words, termed, IsReady, WholeMeans}
-use Rattle.bit_blast.proofs.Roots.{are_roots, to, back}
+use Rattle.bit_blast.specs.Whole.{load_words, termed, whole, IsReady, WholeMeans}
+use Rattle.bit_blast.proofs.Prefixes.{first_part, before_grown}
+use Rattle.bit_blast.proofs.RootLaws.{are_roots, before_blasted, to, back}
 use Rattle.bit_blast.proofs.Same.{holds_same}
 
 map_twice : {X Y Z : Type 0} (f : X → Y) (g : Y → Z) (xs : List X) → map g (map f xs) ≡ map (λ x. g (f x)) xs
@@ -40,6 +44,10 @@ all_range : (P : ℕ → Type 0) (a n : ℕ) → ((k : ℕ) → k < a + n → P 
 all_range P a zero h = All-nil P
 all_range P a (suc n) h =
     All-cons P a (range_with_len (a + 1) n) (h a (omega arith)) (all_range P (a + 1) n (λ k below. h k (omega (arith, below))))
+
+or_none : (p : Bool) → ((p || false) && true) ≡ true → p ≡ true
+or_none true h = refl
+or_none false h = absurd (false≢true h)
 
 module _ (y : Layout) (nodes : List Node) (formula : List Conjunct) (h : IsReady y nodes formula) where
   literals : LiteralsMean y
@@ -106,6 +114,16 @@ module _ (y : Layout) (nodes : List Node) (formula : List Conjunct) (h : IsReady
 
   still : (v u : Valuation) → Agree g.vars v u → world_of y v ≡ world_of y u
   still v u agree = same-world y v u (λ k below. agree k (omega (arith, below, order.more, grown.more)))
+
+  -- the first clause says that the variable 1 is true
+  pub first_true : (v : Valuation) → satisfies v (whole y nodes formula).clauses ≡ true → v 1 ≡ true
+  first_true v s =
+      let c : Formula = (comparators y).state in
+      let here : satisfies v (ordered y).clauses ≡ true =
+      before_grown v (ordered y) g terms.grown (before_blasted y.order nodes (world_of y) parts g formula tells h.told v s) in
+      let below : satisfies v (base y).clauses ≡ true =
+      before_grown v (base y) c (comparators_grown y h.order) (first_part v c.clauses (transitivity y) here) in
+      or_none (v 1) (first_part v ((constant true ∷ []) ∷ []) (exclusions (choice_start y) y.order.choices) below)
 
   pub whole_means : WholeMeans y nodes formula
   whole_means = record {

@@ -25,8 +25,9 @@ use Rattle.bit_words.specs.Words.{Walked}
 use Rattle.bit_blast.specs.Cases.{Parts, cases_made}
 use Rattle.bit_blast.specs.Laws.{Tells, IsRoot, BodyIsTold, AreRoots, RootsMean}
 use Rattle.bit_blast.specs.Roots.{body_made, with_root, roots, blasted}
-use Rattle.bit_blast.proofs.Cases.{cases-mean, tells_more}
-use Rattle.bit_blast.proofs.Taken.{reads-mean}
+use Rattle.bit_blast.proofs.CaseLaws.{cases-mean, tells_more}
+use Rattle.bit_blast.proofs.Prefixes.{first_part, before_grown}
+use Rattle.bit_blast.proofs.Taken.{before_read, reads-mean}
 
 -- truths of which each implies the other list's
 implied_push : (ps qs : List Bool) (p q : Bool) → length ps ≡ length qs → ((k : ℕ) → get_or ps k false ≡ true → get_or qs k false ≡ true) → (p ≡ true → q ≡ true)
@@ -81,6 +82,35 @@ module _ (o : Order) (nodes : List Node) (world : Valuation → World) (parts : 
       bit_root f (cases_made parts f cases) (λ v. list_any (case_at nodes (world v)) cases) t.one
       (λ v w agree. ap (λ x. list_any (case_at nodes x) cases) (t.same v w agree)) (cases-mean o nodes world parts f cases t h)
   body_root f (body.Read r) t h = reads-mean o nodes world parts f r t h
+
+  -- what satisfies the clauses with a conjunct's literal satisfies those before it
+  before_body : (f : Formula) (b : Body) → Tells o nodes world parts f → BodyIsTold o b
+      → (w : Valuation) → satisfies w (body_made parts f b).formula.clauses ≡ true → satisfies w f.clauses ≡ true
+  before_body f (body.Any cases) t h w s = before_grown w f (cases_made parts f cases).formula (cases-mean o nodes world parts f cases t h).grown s
+  before_body f (body.Read r) t h w s = before_read o nodes world parts f r t h w s
+
+  before_roots : (m : Walked Formula) (rest : List Conjunct) → Tells o nodes world parts m.state → All (λ c. BodyIsTold o c.body) rest
+      → (w : Valuation) → satisfies w (fold (with_root parts) m rest).state.clauses ≡ true → satisfies w m.state.clauses ≡ true
+  before_roots m [] t a w s = s
+  before_roots m (c ∷ rest) t a w s =
+      let P : Conjunct → Type 0 = λ d. BodyIsTold o d.body in
+      let g : Formula = m.state in
+      let m2 : Walked Formula = with_root parts m c in
+      let told = All-head P c rest a in
+      let b = body_root g c.body t told in
+      let e : IsExtended g m2.state = record {
+        more = b.more;
+        over = b.over;
+        before = b.before;
+        extends = λ v k l. let x = b.extends v k l in (x.0, x.1, x.2);
+      } in
+      before_body g c.body t told w (before_roots m2 rest (tells_more o nodes world parts g m2.state e t) (All-tail P c rest a) w s)
+
+  pub before_blasted : (f : Formula) (formula : List Conjunct) → Tells o nodes world parts f → All (λ c. BodyIsTold o c.body) formula
+      → (w : Valuation) → satisfies w (blasted parts f formula).clauses ≡ true → satisfies w f.clauses ≡ true
+  before_blasted f formula t a w s =
+      let m : Walked Formula = roots parts f formula in
+      before_roots (record { state = f; word = [] }) formula t a w (first_part w m.state.clauses (map (λ l. l ∷ []) m.word) s)
 
   extended : (f : Formula) (m : Walked Formula) (known : List Conjunct) → AreRoots nodes world f m known → IsExtended f m.state
   extended f m known h = record {
