@@ -1,27 +1,28 @@
--- The terms that accesses name are made before them.
-use Rattle.std.proofs.Common.{◌≡◌, ℕ, ◌+◌, ◌<◌, ◌≤◌, pos, Bool, List, [], ◌∷◌, ◌++◌, length, fold}
+-- The terms that accesses and tests name are made before them.
+use Rattle.std.proofs.Common.{◌≡◌, ℕ, ◌+◌, ◌<◌, ◌≤◌, ℤ, pos, Bool, List, [], ◌∷◌, ◌++◌, length, fold}
 use Rattle.std.proofs.Common.{Option, Some, None, refl, arith}
-use Rattle.std.specs.Prelude.{nat_lt, unwrap_or}
+use Rattle.std.specs.Prelude.{nat_lt, slice_get, unwrap_or}
 use Rattle.std.specs.Bool.{IsTrue}
-use Rattle.std.specs.List.{All}
+use Rattle.std.specs.List.{All, Contains}
 use Rattle.std.specs.Option.{IfSome, option_map_or}
 use Rattle.std.proofs.lemmas.Bool.{and_parts}
 use Rattle.std.proofs.lemmas.List.Elements.{All-nil, All-weaker, All-push, All-contains}
 use Rattle.tc_base.specs.declared.arith.UnOp.TheVariants.{Neg}
-use Rattle.tc_base.specs.declared.arith.BinOp.TheVariants.{Xor, Eq, And}
+use Rattle.tc_base.specs.declared.arith.BinOp.TheVariants.{Xor, Eq, And, Le}
 use Rattle.tc_code.specs.Code.{Code, instr_at, line_at}
 use Rattle.tc_code.specs.Expr.{names_slots}
 use Rattle.tc_code.specs.Lawful.{IsLawful}
 use Rattle.tc_code.specs.Step.{ints_of}
 use Rattle.tc_code.specs.declared.instr.Instr.{Instr}
-use Rattle.tc_code.specs.declared.instr.Instr.TheVariants.{Load, LoadAt, Store, StoreAt, Swap, Cas}
+use Rattle.tc_code.specs.declared.instr.Instr.TheVariants.{Load, LoadAt, Store, StoreAt, Inside, Branch, Assert, Nonzero, InRange, Swap, Cas}
 use Rattle.path_walk.specs.Paths.{Walk, Paths}
 use Rattle.sym_terms.specs.declared.node.Node.{Node}
 use Rattle.sym_terms.specs.declared.node.Node.TheVariants.{Constant, Symbol, Unary, Binary}
-use Rattle.sym_exec.specs.Making.{Grows, made, replaced_term}
+use Rattle.sym_exec.specs.Making.{Made, Grows, made, last_index, range_test, replaced_term}
 use Rattle.sym_exec.specs.Thread.{HandsOf, Doing, HasTerms, term_in, making, symbol_in, after_instr, wanted_of, after_step, after_all}
 use Rattle.sym_exec.specs.Executed.{Course, Executed, arguments_for, fails_at, thread_started, thread_done, with_thread, nothing, executed}
 use Rattle.sym_exec.specs.declared.symbolic.Access.{Access}
+use Rattle.sym_exec.specs.declared.symbolic.Test.{Test}
 use Rattle.sym_exec.specs.helpers.Threads as helpers
 use Rattle.sym_exec.specs.helpers.Threads.{names_within}
 use Rattle.sym_exec.proofs.Grown.{grows_both, grows_made, made_within, stays_within, stay_of, expr_grows, expr_within}
@@ -30,17 +31,35 @@ use Rattle.order_cells.proofs.Stay.{access_later}
 use Rattle.order_cells.specs.Terms.{CellIsOf, AccessIsOf, HaveTerms}
 use Rattle.order_events.proofs.Lists.{at_in}
 
--- accesses whose terms are of some nodes
-abbrev AreOfTerms : List Node → List Access → Type 0
-AreOfTerms nodes accesses = All (AccessIsOf (length nodes)) accesses
+abbrev TestIsOf : ℕ → Test → Type 0
+TestIsOf terms x = x.term < terms
 
-all_later : (nodes later : List Node) (accesses : List Access) → Grows nodes later → AreOfTerms nodes accesses → AreOfTerms later accesses
-all_later nodes later accesses up are = All-weaker (AccessIsOf (length nodes)) (AccessIsOf (length later)) (access_later nodes later up) accesses are
+-- accesses and tests whose terms are of some nodes
+record AreOfTerms (nodes : List Node) (asked : List Access) (tested : List Test) : Type 0 where
+  accesses : All (AccessIsOf (length nodes)) asked
+  tests : All (TestIsOf (length nodes)) tested
 
-one_more : (d e : Doing) (a : Access) → Grows d.nodes e.nodes → AreOfTerms d.nodes d.accesses → CellIsOf (length e.nodes) a.cell
-    → IfSome a.writes (λ w. w < length e.nodes) → AreOfTerms e.nodes (d.accesses ++ a ∷ [])
-one_more d e a up are cell writes =
-    All-push (AccessIsOf (length e.nodes)) d.accesses a (all_later d.nodes e.nodes d.accesses up are) (record { cell = cell; writes = writes })
+none_of_terms : (nodes : List Node) → AreOfTerms nodes [] []
+none_of_terms nodes = record { accesses = All-nil (AccessIsOf (length nodes)); tests = All-nil (TestIsOf (length nodes)) }
+
+all_later : (nodes later : List Node) (accesses : List Access) (tests : List Test) → Grows nodes later → AreOfTerms nodes accesses tests
+    → AreOfTerms later accesses tests
+all_later nodes later accesses tests up are = record {
+  accesses = All-weaker (AccessIsOf (length nodes)) (AccessIsOf (length later)) (access_later nodes later up) accesses are.accesses;
+  tests = All-weaker (TestIsOf (length nodes)) (TestIsOf (length later)) (λ x of. stays_within nodes later x.term up of) tests are.tests;
+}
+
+one_access : (d e : Doing) (a : Access) → Grows d.nodes e.nodes → AreOfTerms d.nodes d.accesses d.tests → CellIsOf (length e.nodes) a.cell
+    → IfSome a.writes (λ w. w < length e.nodes) → AreOfTerms e.nodes (d.accesses ++ a ∷ []) d.tests
+one_access d e a up are cell writes =
+    let were = all_later d.nodes e.nodes d.accesses d.tests up are in
+    record { accesses = All-push (AccessIsOf (length e.nodes)) d.accesses a were.accesses (record { cell = cell; writes = writes }); tests = were.tests }
+
+one_test : (d e : Doing) (x : Test) → Grows d.nodes e.nodes → AreOfTerms d.nodes d.accesses d.tests → x.term < length e.nodes
+    → AreOfTerms e.nodes d.accesses (d.tests ++ x ∷ [])
+one_test d e x up are within =
+    let were = all_later d.nodes e.nodes d.accesses d.tests up are in
+    record { accesses = were.accesses; tests = All-push (TestIsOf (length e.nodes)) d.tests x were.tests within }
 
 -- what a compare-and-exchange writes is made
 replaced_within : (nodes : List Node) (v e f : ℕ) → let w = replaced_term nodes v e f in w.term < length w.nodes
@@ -51,44 +70,69 @@ replaced_within nodes v e f =
     let masked = made mask.nodes (Binary And change.term mask.term) in
     made_within masked.nodes (Binary Xor v masked.term)
 
+-- so is the test of a range
+range_within : (x : Made) (last : ℤ) → let w = range_test x last in w.term < length w.nodes
+range_within x last =
+    let zero = made x.nodes (Constant (pos 0)) in
+    let low = made zero.nodes (Binary Le zero.term x.term) in
+    let top = made low.nodes (Constant last) in
+    let high = made top.nodes (Binary Le x.term top.term) in
+    made_within high.nodes (Binary And low.term high.term)
+
 -- what an instruction adds names terms that are there then
 instr_of_terms : (line : ℕ) (wanted : Bool) (d : Doing) (i : Instr) → HasTerms d → IsTrue (names_within (length d.slots) i)
-    → AreOfTerms d.nodes d.accesses → AreOfTerms (after_instr line wanted d i).nodes (after_instr line wanted d i).accesses
+    → AreOfTerms d.nodes d.accesses d.tests
+    → AreOfTerms (after_instr line wanted d i).nodes (after_instr line wanted d i).accesses (after_instr line wanted d i).tests
 instr_of_terms line wanted d (Load k c) s named are =
-    one_more d (after_instr line wanted d (Load k c)) _ (instr_goes line wanted d (Load k c) s named).grows are tt tt
+    one_access d (after_instr line wanted d (Load k c)) _ (instr_goes line wanted d (Load k c) s named).grows are tt tt
 instr_of_terms line wanted d (LoadAt k first len i) s named are =
     let x = term_in d i in
     let e = after_instr line wanted d (LoadAt k first len i) in
     let named_slots = and_parts (nat_lt k (length d.slots)) (names_slots (length d.slots) i) named in
     let index : x.term < length x.nodes = expr_within d.nodes d.slots i s.slots named_slots.1 in
-    one_more d e _ (instr_goes line wanted d (LoadAt k first len i) s named).grows are
+    one_access d e _ (instr_goes line wanted d (LoadAt k first len i) s named).grows are
     (stays_within x.nodes e.nodes x.term (grows_made x.nodes (Symbol d.loads)) index) tt
 instr_of_terms line wanted d (Store c e) s named are =
-    one_more d (after_instr line wanted d (Store c e)) _ (instr_goes line wanted d (Store c e) s named).grows are tt
+    one_access d (after_instr line wanted d (Store c e)) _ (instr_goes line wanted d (Store c e) s named).grows are tt
     (expr_within d.nodes d.slots e s.slots named)
 instr_of_terms line wanted d (StoreAt first len i e) s named are =
     let x = term_in d i in
     let y = term_in (making d x) e in
     let named_slots = and_parts (names_slots (length d.slots) i) (names_slots (length d.slots) e) named in
     let index : x.term < length x.nodes = expr_within d.nodes d.slots i s.slots named_slots.0 in
-    one_more d (after_instr line wanted d (StoreAt first len i e)) _ (instr_goes line wanted d (StoreAt first len i e) s named).grows are
+    one_access d (after_instr line wanted d (StoreAt first len i e)) _ (instr_goes line wanted d (StoreAt first len i e) s named).grows are
     (stays_within x.nodes y.nodes x.term (expr_grows x.nodes d.slots e) index)
     (expr_within x.nodes d.slots e (stay_of d.nodes x.nodes d.slots (expr_grows d.nodes d.slots i) s.slots) named_slots.1)
 instr_of_terms line wanted d (Swap k c e) s named are =
     let x = term_in d e in
     let named_slots = and_parts (nat_lt k (length d.slots)) (names_slots (length d.slots) e) named in
     let g = after_instr line wanted d (Swap k c e) in
-    one_more d g _ (instr_goes line wanted d (Swap k c e) s named).grows are tt
+    one_access d g _ (instr_goes line wanted d (Swap k c e) s named).grows are tt
     (stays_within x.nodes g.nodes x.term (grows_made x.nodes (Symbol d.loads)) (expr_within d.nodes d.slots e s.slots named_slots.1))
 instr_of_terms line wanted d (Cas k c e new) s named are =
     let x = term_in d e in
     let y = term_in (making d x) new in
     let v = symbol_in (making d y) in
-    one_more d (after_instr line wanted d (Cas k c e new)) _ (instr_goes line wanted d (Cas k c e new) s named).grows are tt
+    one_access d (after_instr line wanted d (Cas k c e new)) _ (instr_goes line wanted d (Cas k c e new) s named).grows are tt
     (replaced_within v.nodes v.term x.term y.term)
+instr_of_terms line wanted d (Inside len i) s named are =
+    one_test d (after_instr line wanted d (Inside len i)) _ (instr_goes line wanted d (Inside len i) s named).grows are
+    (range_within (term_in d i) (last_index len))
+instr_of_terms line wanted d (Branch e to) s named are =
+    one_test d (after_instr line wanted d (Branch e to)) _ (instr_goes line wanted d (Branch e to) s named).grows are
+    (expr_within d.nodes d.slots e s.slots named)
+instr_of_terms line wanted d (Assert e) s named are =
+    one_test d (after_instr line wanted d (Assert e)) _ (instr_goes line wanted d (Assert e) s named).grows are
+    (expr_within d.nodes d.slots e s.slots named)
+instr_of_terms line wanted d (Nonzero e) s named are =
+    one_test d (after_instr line wanted d (Nonzero e)) _ (instr_goes line wanted d (Nonzero e) s named).grows are
+    (expr_within d.nodes d.slots e s.slots named)
+instr_of_terms line wanted d (InRange e) s named are =
+    one_test d (after_instr line wanted d (InRange e)) _ (instr_goes line wanted d (InRange e) s named).grows are
+    (range_within (term_in d e) (pos 31))
 instr_of_terms line wanted d i s named are =
     let g = instr_goes line wanted d i s named in
-    all_later d.nodes (after_instr line wanted d i).nodes d.accesses g.grows are
+    all_later d.nodes (after_instr line wanted d i).nodes d.accesses d.tests g.grows are
 
 module _ (code : Code) (lawful : IsLawful code) where
   module _ (f : ℕ) (outcomes : List Bool) (fails : Option ℕ) where
@@ -97,17 +141,21 @@ module _ (code : Code) (lawful : IsLawful code) where
     stepped d place o = option_map_or (λ i.
         record (after_instr (unwrap_or (line_at code f place) 0) (wanted_of outcomes fails d i) d i) { steps = d.steps + 1 }) o d
 
-    step_of_terms : (d : Doing) (place : ℕ) → ints_of code f ≤ length d.slots → HasTerms d → AreOfTerms d.nodes d.accesses
-        → AreOfTerms (after_step code f outcomes fails d place).nodes (after_step code f outcomes fails d place).accesses
+    -- those of an execution are of its nodes
+    abbrev IsOfTerms : Doing → Type 0
+    IsOfTerms d = AreOfTerms d.nodes d.accesses d.tests
+
+    step_of_terms : (d : Doing) (place : ℕ) → ints_of code f ≤ length d.slots → HasTerms d → IsOfTerms d
+        → IsOfTerms (after_step code f outcomes fails d place)
     step_of_terms d place up s are = by (instr_at code f place) refl
       where
-        by : (o : Option Instr) → instr_at code f place ≡ o → AreOfTerms (stepped d place o).nodes (stepped d place o).accesses
+        by : (o : Option Instr) → instr_at code f place ≡ o → IsOfTerms (stepped d place o)
         by None at = are
         by (Some i) at = instr_of_terms (unwrap_or (line_at code f place) 0) (wanted_of outcomes fails d i) d i s
             (instr_named code f place (length d.slots) i lawful at up) are
 
-    all_of_terms : (places : List ℕ) (d : Doing) → ints_of code f ≤ length d.slots → HasTerms d → AreOfTerms d.nodes d.accesses
-        → AreOfTerms (after_all code f outcomes fails d places).nodes (after_all code f outcomes fails d places).accesses
+    all_of_terms : (places : List ℕ) (d : Doing) → ints_of code f ≤ length d.slots → HasTerms d → IsOfTerms d
+        → IsOfTerms (after_all code f outcomes fails d places)
     all_of_terms [] d up s are = are
     all_of_terms (place ∷ places) d up s are =
         let e = after_step code f outcomes fails d place in
@@ -115,12 +163,12 @@ module _ (code : Code) (lawful : IsLawful code) where
         all_of_terms places e (omega (arith, up, g.size)) g.sound (step_of_terms d place up s are)
 
   abbrev CourseIsOf : List Node → Course → Type 0
-  CourseIsOf nodes c = AreOfTerms nodes c.accesses
+  CourseIsOf nodes c = AreOfTerms nodes c.accesses c.tests
 
   -- of all threads so far, and the terms that they hand over are there too
   record AreOf (x : Executed) : Type 0 where
     handed : helpers.HaveTerms x
-    accesses : All (CourseIsOf x.nodes) x.symbolic.threads
+    courses : All (CourseIsOf x.nodes) x.symbolic.threads
 
   module _ (paths : Paths) where
     thread_of_terms : (x : Executed) (w : Walk) → AreOf x → AreOf (with_thread code paths x w)
@@ -136,23 +184,32 @@ module _ (code : Code) (lawful : IsLawful code) where
         let up : Grows x.nodes e.nodes = grows_both x.nodes d.nodes e.nodes (grows_made x.nodes none) g.grows in
         record {
           handed = thread_sound code paths x w lawful are.handed;
-          accesses = All-push (CourseIsOf e.nodes) x.symbolic.threads
+          courses = All-push (CourseIsOf e.nodes) x.symbolic.threads
               (record { name = w.name; tests = e.tests; accesses = e.accesses; creates = e.creates })
               (All-weaker (CourseIsOf x.nodes) (CourseIsOf e.nodes)
-              (λ c of. all_later x.nodes e.nodes c.accesses up of) x.symbolic.threads are.accesses)
-              (all_of_terms w.function w.outcomes fails w.places d has s (All-nil (AccessIsOf (length d.nodes))));
+              (λ c of. all_later x.nodes e.nodes c.accesses c.tests up of) x.symbolic.threads are.courses)
+              (all_of_terms w.function w.outcomes fails w.places d has s (none_of_terms d.nodes));
         }
 
     threads_of_terms : (ws : List Walk) (x : Executed) → AreOf x → AreOf (fold (with_thread code paths) x ws)
     threads_of_terms [] x are = are
     threads_of_terms (w ∷ ws) x are = threads_of_terms ws (with_thread code paths x w) (thread_of_terms x w are)
 
-    pub have_terms : (nodes : List Node) → HaveTerms (executed code paths nodes).nodes (executed code paths nodes).symbolic
-    have_terms nodes t a has =
+    course_of_terms : (nodes : List Node) (t : ℕ) (c : Course) → slice_get (executed code paths nodes).symbolic.threads t ≡ Some c
+        → CourseIsOf (executed code paths nodes).nodes c
+    course_of_terms nodes t c at =
         let x = executed code paths nodes in
         let are = threads_of_terms paths.threads (nothing nodes) (record {
           handed = All-nil (λ (c : Course). All (HandsOf nodes) c.creates);
-          accesses = All-nil (CourseIsOf nodes);
+          courses = All-nil (CourseIsOf nodes);
         }) in
-        All-contains (AccessIsOf (length x.nodes)) has.0.accesses a
-        (All-contains (CourseIsOf x.nodes) x.symbolic.threads has.0 are.accesses (at_in x.symbolic.threads t has.0 has.1)) has.2
+        All-contains (CourseIsOf x.nodes) x.symbolic.threads c are.courses (at_in x.symbolic.threads t c at)
+
+    pub have_terms : (nodes : List Node) → HaveTerms (executed code paths nodes).nodes (executed code paths nodes).symbolic
+    have_terms nodes t a has =
+        All-contains (AccessIsOf (length (executed code paths nodes).nodes)) has.0.accesses a (course_of_terms nodes t has.0 has.1).accesses has.2
+
+    pub have_tests : (nodes : List Node) (t : ℕ) (c : Course) (x : Test) → slice_get (executed code paths nodes).symbolic.threads t ≡ Some c
+        → Contains c.tests x → x.term < length (executed code paths nodes).nodes
+    have_tests nodes t c x at among =
+        All-contains (TestIsOf (length (executed code paths nodes).nodes)) c.tests x (course_of_terms nodes t c at).tests among

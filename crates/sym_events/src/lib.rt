@@ -3,12 +3,14 @@
 //! Each function's clause is a law, and its body does nothing.
 #![tactic(auto)]
 
-ghost use Rattle.std.specs.Prelude.{List};
+ghost use Rattle.std.specs.Prelude.{◌≡◌, ◌<◌, ℕ, List, Some, length, slice_get};
+ghost use Rattle.std.specs.List.{Contains};
 ghost use Rattle.tc_code.specs.Code.{Code};
 ghost use Rattle.tc_code.specs.Lawful.{IsLawful};
 ghost use Rattle.path_walk.specs.Paths.{Paths, ArePaths};
 ghost use Rattle.sym_terms.specs.declared.node.Node.{Node};
-ghost use Rattle.sym_exec.specs.Executed.{executed};
+ghost use Rattle.sym_exec.specs.Executed.{Course, executed};
+ghost use Rattle.sym_exec.specs.declared.symbolic.Test.{Test};
 ghost use Rattle.lawful_order.specs.Whole.{IsExecutedBy};
 ghost use Rattle.order_cells.specs.Terms.{HaveTerms};
 
@@ -19,8 +21,10 @@ pub fn executed_paths()
         → ArePaths code paths → IsExecutedBy paths (executed code paths nodes).symbolic }
 {}
 
-/// Of lawful code, the terms that accesses name are among those that the execution leaves, whatever paths it goes.
+/// Of lawful code, the terms that accesses and tests name are among those that the execution leaves, whatever paths it goes.
 pub fn executed_terms()
-    ensures { (code : Code) (paths : Paths) (nodes : List Node)
+    ensures accesses { (code : Code) (paths : Paths) (nodes : List Node)
         → IsLawful code → HaveTerms (executed code paths nodes).nodes (executed code paths nodes).symbolic }
+    ensures tests { (code : Code) (paths : Paths) (nodes : List Node) (t : ℕ) (c : Course) (x : Test) → IsLawful code
+        → slice_get (executed code paths nodes).symbolic.threads t ≡ Some c → Contains c.tests x → x.term < length (executed code paths nodes).nodes }
 {}
