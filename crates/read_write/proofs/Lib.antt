@@ -5,3 +5,4 @@ pub mod Formulas
 pub mod Stays
 pub mod Terms
 pub mod Steps
+pub mod Differ

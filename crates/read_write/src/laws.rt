@@ -1,6 +1,6 @@
 //! Laws of what loads take. Each is a clause of a function that does nothing.
-ghost use Rattle.std.specs.Prelude.{◌≡◌, ℕ, List, fold, length};
-ghost use Rattle.std.specs.List.{All, Contains};
+ghost use Rattle.std.specs.Prelude.{◌≡◌, ◌==◌, ℕ, List, ◌∷◌, fold, length, map};
+ghost use Rattle.std.specs.List.{All, Contains, IsDistinct};
 ghost use Rattle.tc_code.specs.Code.{Code};
 ghost use Rattle.path_walk.specs.Paths.{Paths};
 ghost use Rattle.sym_terms.specs.Terms.{AreTerms, with_node};
@@ -9,9 +9,13 @@ ghost use Rattle.sym_exec.specs.Executed.{Symbolic};
 ghost use Rattle.sym_exec.specs.Making.{Grows};
 ghost use Rattle.order_formula.specs.Formulas.{IsOf};
 ghost use Rattle.order_formula.specs.Groups.{IsExactly};
+ghost use Rattle.order_formula.specs.Orders.{ConjunctIsIn, Order};
+ghost use Rattle.order_formula.specs.Reads as spec;
 ghost use Rattle.order_formula.specs.Worlds.{World, IsWorld};
+ghost use Rattle.order_formula.specs.declared.formula.Body.TheVariants as body;
 ghost use Rattle.order_formula.specs.declared.formula.Conjunct.{Conjunct};
 ghost use Rattle.order_formula.specs.declared.group.Group.TheVariants.{Read};
+ghost use Rattle.lawful_order.specs.Events.{all_events};
 ghost use Rattle.lawful_order.specs.Lawful.{IsWorldOf};
 ghost use Rattle.lawful_order.specs.Reads.{ReadRule};
 ghost use Rattle.lawful_order.specs.Whole.{AreWhole, IsExecutedBy};
@@ -44,4 +48,13 @@ pub fn reads_stay()
     ensures same { (code : Code) (paths : Paths) (symbolic : Symbolic) (nodes later : List Node)
         → HaveTerms nodes symbolic → All (Contains nodes) (read_needs code symbolic nodes) → Grows nodes later
         → read_formula code paths symbolic later ≡ read_formula code paths symbolic nodes }
+{}
+
+/// All events that the formula names are the order's, and those of a read, its own and those of its candidates, are all different.
+pub fn reads_are_of_the_order()
+    ensures within { (code : Code) (paths : Paths) (symbolic : Symbolic) (nodes : List Node) (o : Order)
+        → IsExecutedBy paths symbolic → o.events ≡ length (all_events paths) → All (ConjunctIsIn o) (read_formula code paths symbolic nodes) }
+    ensures differ { (code : Code) (paths : Paths) (symbolic : Symbolic) (nodes : List Node) (c : Conjunct) (r : spec.Read)
+        → IsExecutedBy paths symbolic → Contains (read_formula code paths symbolic nodes) c → c.body ≡ body.Read r
+        → IsDistinct (λ e d. e == d) (r.event ∷ map (λ x. x.event) r.candidates) }
 {}
