@@ -1,0 +1,81 @@
+-- A history that has gone so far in the order of a world.
+use Rattle.std.specs.Prelude.{◌≡◌, ◌↔◌, ◌⊎◌, ℕ, ◌<◌, ◌≤◌, List, Bool, true, false, ◌&&◌, None, Some, slice_get}
+use Rattle.std.specs.List.{Contains}
+use Rattle.tc_base.specs.Buffers.{BufferOps}
+use Rattle.tc_base.specs.Logs.{Log}
+use Rattle.tc_base.specs.declared.model.Model.{Model}
+use Rattle.tc_code.specs.Code.{Code}
+use Rattle.tc_code.specs.Lawful.{IsLawful}
+use Rattle.store_buffers.specs.Laws.{Laws}
+use Rattle.store_buffers.specs.Pending.{Binding}
+use Rattle.run_history.specs.History.{Deed, has_drained}
+use Rattle.run_history.specs.Told.{steps_in, failed_in}
+use Rattle.path_log.specs.Texts.{is_log}
+use Rattle.path_walk.specs.Fits.{Fits}
+use Rattle.path_walk.specs.Paths.{Walk, paths_of}
+use Rattle.path_walk.specs.declared.event.Event.{Event}
+use Rattle.path_walk.specs.declared.event.Sleep.{Sleep}
+use Rattle.path_events.specs.Done.{IsAsleepIn}
+use Rattle.path_history.specs.Along.{IsAlongPaths, IsThread}
+use Rattle.sym_terms.specs.Terms.{AreTerms}
+use Rattle.sym_terms.specs.declared.node.Node.{Node}
+use Rattle.sym_laws.specs.Valued.{AgreesWith, found}
+use Rattle.order_formula.specs.Worlds.{World, IsWorld, position}
+use Rattle.lawful_order.specs.Events.{Of, all_sleeps, place_of, ender_of}
+use Rattle.lawful_order.specs.Lawful as order
+use Rattle.lawful_order.specs.Lawful.{IsWorldOf}
+use Rattle.lawful_order.specs.Memory.{is_store}
+use Rattle.world_plan.specs.Sights.{AreInOrder}
+
+-- a lawful world of the paths of a log that fits, for a memory model that keeps its laws
+pub record IsLawfulWorld {B : Type 0} (ops : BufferOps B) (model : Model) (bound : Binding) (code : Code) (log : Log) (nodes : List Node) (w : World) : Type 0 where
+  pub laws : Laws ops model bound
+  pub code_is : IsLawful code
+  pub log_is : is_log log ≡ true
+  pub fits : Fits code log
+  pub lives : (paths_of code log).dead ≡ false
+  pub terms : AreTerms nodes
+  pub world : IsWorld w
+  pub of : IsWorldOf (paths_of code log) (found code log nodes).symbolic w
+  pub lawful : order.IsLawful ops.buffered bound code (paths_of code log) (found code log nodes).symbolic (found code log nodes).nodes w
+
+-- a store whose place is that of its drain, where there are buffers
+abbrev pub is_pending : Bool → Event → Bool
+is_pending buffered x = buffered && is_store x.kind
+
+module _ (code : Code) (log : Log) (w : World) where
+  -- where the world has an event of a thread
+  abbrev pub place : (thread : ℕ) → Event → ℕ
+  place t x = place_of (paths_of code log) w t x.step
+
+  -- the stores that wait in buffers have reached memory where their places are before a position, and no others
+  abbrev pub HaveDrained : Bool → ℕ → List Deed → Type 0
+  HaveDrained buffered p h = (t : ℕ) (q : Walk) (x : Event) → IsThread code log t q → Contains q.events x → is_pending buffered x ≡ true
+      → (has_drained h q.name x.step ≡ true) ↔ (place t x < p)
+
+  -- a sleep that has begun lasts until what ends it has come
+  abbrev pub SleepUntilEnded : ℕ → List Deed → Type 0
+  SleepUntilEnded p h = (s : ℕ) (x : Of Sleep) (q : Walk) → slice_get (all_sleeps (paths_of code log)) s ≡ Some x → IsThread code log x.thread q
+      → x.it.step < steps_in h q.name → IsAsleepIn h q.name x.it ↔ ((g : ℕ) → ender_of w s ≡ Some g → p ≤ position w g)
+
+module _ (buffered : Bool) (bound : Binding) (code : Code) (log : Log) (nodes : List Node) (w : World) where
+  -- a history has gone up to a position: it is along the paths, its loads took what the world says, and no thread has failed; the
+  -- events before the position have taken place, in their order, and no others, but stores may wait in buffers
+  pub record HasGone (p : ℕ) (h : List Deed) : Type 0 where
+    pub along : IsAlongPaths buffered bound code log h
+    pub agrees : AgreesWith (found code log nodes).symbolic w.loads h
+    pub going : failed_in h ≡ None
+    pub did : (t : ℕ) (q : Walk) (x : Event) → IsThread code log t q → Contains q.events x → place code log w t x < p → x.step < steps_in h q.name
+    pub only : (t : ℕ) (q : Walk) (x : Event) → IsThread code log t q → Contains q.events x → x.step < steps_in h q.name
+        → (place code log w t x < p) ⊎ (is_pending buffered x ≡ true)
+    pub drained : HaveDrained code log w buffered p h
+    pub sleeps : SleepUntilEnded code log w p h
+    pub order : AreInOrder buffered (paths_of code log) w h
+
+  -- and a thread is about to do its event at the position
+  pub record IsAtEvent (p : ℕ) (h : List Deed) (t : ℕ) (q : Walk) (x : Event) : Type 0 where
+    pub gone : HasGone p h
+    pub thread : IsThread code log t q
+    pub event : Contains q.events x
+    pub at : place code log w t x ≡ p
+    pub steps : steps_in h q.name ≡ x.step

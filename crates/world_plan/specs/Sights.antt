@@ -1,0 +1,31 @@
+-- What other threads see of a history: its events, each when it takes place.
+use Rattle.std.specs.Prelude.{◌≡◌, ℕ, Bool, ◌&&◌, Option, Some, None, option_and_then, List, ◌∷◌, ◌++◌, slice_get, if◌then◌else◌}
+use Rattle.tc_base.specs.Names.{Name}
+use Rattle.run_history.specs.History.{Deed, Did, Drained}
+use Rattle.path_walk.specs.Paths.{Walk, Paths}
+use Rattle.path_laws.specs.Deeds.{kind_of}
+use Rattle.order_formula.specs.Worlds.{World}
+use Rattle.lawful_order.specs.Events.{IsBefore}
+use Rattle.lawful_order.specs.Memory.{is_store}
+
+-- a thread's step
+pub record Sight : Type 0 where
+  pub thread : Name
+  pub step : ℕ
+
+-- the event that takes place by a deed, if one does: a store that waits in a buffer does so when it reaches memory
+abbrev pub sight_of : Bool → Deed → Option Sight
+sight_of buffered (Did n k r took other) =
+    option_and_then (λ kind. if buffered && is_store kind then None else Some (record { thread = n; step = k })) (kind_of r other)
+sight_of buffered (Drained n k c v) = Some (record { thread = n; step = k })
+
+-- by a deed takes place what a thread of the paths does in a step
+pub record Shows (buffered : Bool) (paths : Paths) (d : Deed) (t k : ℕ) : Type 0 where
+  pub walk : Walk
+  pub there : slice_get paths.threads t ≡ Some walk
+  pub sight : sight_of buffered d ≡ Some (record { thread = walk.name; step = k })
+
+-- events take place in the order of a world
+abbrev pub AreInOrder : Bool → Paths → World → List Deed → Type 0
+AreInOrder buffered paths w h = (older between newer : List Deed) (d e : Deed) (t k u j : ℕ) → h ≡ (older ++ d ∷ between) ++ e ∷ newer
+    → Shows buffered paths d t k → Shows buffered paths e u j → IsBefore paths w t k u j
