@@ -8,6 +8,6 @@ mod Born
 mod Moves
 pub mod Runs
 pub mod Valued
-mod Numbered
-mod Agree
-mod Whole
+pub mod Numbered
+pub mod Agree
+pub mod Whole
