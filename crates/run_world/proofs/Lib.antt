@@ -4,3 +4,7 @@ pub mod Places
 pub mod Ordered
 pub mod Run
 pub mod Steps
+pub mod Found
+pub mod Enders
+pub mod Loads
+pub mod Worlds

@@ -14,7 +14,7 @@ use Rattle.world_plan.specs.Sights.{Sight, Shows, AreInOrder}
 use Rattle.world_plan.proofs.Numbers.{numbers_rise}
 use Rattle.run_world.specs.Order.{TakesPlace, TakesPlaceBefore, IsOrderOf}
 use Rattle.run_world.specs.WorldOf.{world_in}
-use Rattle.run_world.proofs.Places.{place, before_cases, by_place, by_number, place_at, place_never, found, IsFound}
+use Rattle.run_world.proofs.Places.{place, before_cases, by_place, by_number, place_at, place_never, found}
 use Rattle.run_world.proofs.Seen.{AreTold, shown_once, the_sight}
 use Rattle.run_world.proofs.Splits.{TwoPlaces, Before, Same, After, two_places}
 

@@ -1,15 +1,15 @@
 -- Events stand in the world of a history by the places of their deeds, and by their numbers where these are equal.
 use Rattle.std.proofs.Common.{◌≡◌, ◌∙◌, ◌⊎◌, inl, inr, ℕ, ◌<◌, ◌≤◌, ◌==◌, nat_lt, Bool, true, false, ◌&&◌, ◌||◌, List, ◌∷◌, ◌++◌, map, length, get_or}
-use Rattle.std.proofs.Common.{Some, refl, sym, ap, ap₂, subst, arith}
+use Rattle.std.proofs.Common.{refl, sym, ap, ap₂, subst, arith}
 use Rattle.std.specs.List.{list_any, position_or_len}
 use Rattle.std.proofs.Math.Bool.{or-true}
 use Rattle.std.proofs.lemmas.Bool.{and_parts, eqb-true, eq-eqb, lt-ltb, ltb-true, false_from_ne_true}
 use Rattle.std.proofs.lemmas.List.{get_or-map, length-map}
 use Rattle.run_history.specs.History.{Deed}
 use Rattle.run_pending.proofs.In.{any_in, in_split}
-use Rattle.path_walk.specs.Paths.{Walk, Paths}
+use Rattle.path_walk.specs.Paths.{Paths}
 use Rattle.sym_exec.specs.Executed.{Symbolic}
-use Rattle.lawful_order.specs.Events.{Of, all_events, number_of, place_of, IsBefore}
+use Rattle.lawful_order.specs.Events.{Of, all_events, number_of, IsBefore}
 use Rattle.path_walk.specs.declared.event.Event.{Event}
 use Rattle.lawful_order.specs.Whole.{HasStep}
 use Rattle.order_events.proofs.Numbers.{has_number, is_step_at}

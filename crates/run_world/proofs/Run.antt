@@ -1,6 +1,5 @@
 -- What is told of the history of moves that reproduce a log.
-use Rattle.std.proofs.Common.{◌≡◌, ◌∙◌, ℕ, ◌<◌, ℤ, Bool, true, false, ◌&&◌, List, ◌∷◌, ◌++◌, length, Option, Some, refl, sym, ap, subst, arith}
-use Rattle.std.specs.Prelude.{slice_get}
+use Rattle.std.proofs.Common.{◌≡◌, ℕ, ℤ, true, List, length, Option, Some, refl, sym, subst, arith}
 use Rattle.tc_base.specs.Buffers.{BufferOps}
 use Rattle.tc_base.specs.Logs.{Log}
 use Rattle.tc_base.specs.Names.{Name}
@@ -32,9 +31,7 @@ use Rattle.path_history.proofs.Walks.{walk_is}
 use Rattle.path_events.specs.Done.{IsDoneIn}
 use Rattle.path_events.proofs.Events.{event_done, done_event, event_within}
 use Rattle.path_events.proofs.Lists.{in_contains, contains_in}
-use Rattle.lawful_order.specs.Events.{HasEvent}
-use Rattle.lawful_order.specs.Memory.{is_store}
-use Rattle.lawful_order.specs.Whole.{HasStep, AreWhole}
+use Rattle.lawful_order.specs.Whole.{HasStep}
 use Rattle.order_events.proofs.Whole.{whole}
 use Rattle.run_world.specs.Order.{TakesPlace}
 use Rattle.world_plan.proofs.Threads.{one_thread}

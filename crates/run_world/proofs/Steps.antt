@@ -1,5 +1,5 @@
 -- The steps of one thread stand in a history in the order of its path, and the drain of a store after the store.
-use Rattle.std.proofs.Common.{◌≡◌, ◌∙◌, ℕ, ◌+◌, ◌<◌, ℤ, Bool, true, cond, ◌&&◌, ◌==◌, List, ◌∷◌, ◌++◌, Option, None, refl, sym, ap, ap₂, subst, arith, append_assoc}
+use Rattle.std.proofs.Common.{◌≡◌, ◌∙◌, ℕ, ◌+◌, ◌<◌, ℤ, Bool, true, cond, ◌==◌, List, ◌∷◌, ◌++◌, Option, refl, sym, ap, ap₂, arith, append_assoc}
 use Rattle.std.proofs.lemmas.Bool.{false≢true, and_parts, eqb-true}
 use Rattle.tc_base.specs.Names.{Name}
 use Rattle.tc_base.specs.declared.request.Request.{Request}
@@ -8,7 +8,7 @@ use Rattle.tc_code.specs.Code.{Code}
 use Rattle.store_buffers.specs.Pending.{Binding}
 use Rattle.run_laws.proofs.Names.{is_same, same_self}
 use Rattle.run_history.specs.History.{Deed, Did, Drained, same, drains, has_drained}
-use Rattle.run_history.specs.Told.{is_step_of, steps_in}
+use Rattle.run_history.specs.Told.{steps_in}
 use Rattle.run_pending.specs.Deeds.{DrainsAreOfStores}
 use Rattle.run_pending.proofs.In.{any_in, in_split}
 use Rattle.run_follows.specs.Follow.{AllFollow}

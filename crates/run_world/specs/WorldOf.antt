@@ -1,5 +1,5 @@
 -- The world of a history: the order in which the events of paths take place, what loads take, and what ends sleeps.
-use Rattle.std.specs.Prelude.{ℕ, ◌+◌, ◌==◌, Bool, false, not, ◌&&◌, Option, Some, None, option_map, option_and_then, List, map, drop, slice_get}
+use Rattle.std.specs.Prelude.{ℕ, ◌+◌, ◌==◌, Bool, false, not, ◌&&◌, Option, option_map, option_and_then, List, map, drop, slice_get}
 use Rattle.std.specs.List.{find, position_or_len}
 use Rattle.std.specs.Option.{option_map_or}
 use Rattle.tc_base.specs.Names.{Name}

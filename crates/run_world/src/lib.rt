@@ -18,6 +18,8 @@ ghost use Rattle.path_log.specs.Texts.{is_log};
 ghost use Rattle.path_walk.specs.Paths.{paths_of};
 ghost use Rattle.sym_terms.specs.declared.node.Node.{Node};
 ghost use Rattle.sym_laws.specs.Valued.{found};
+ghost use Rattle.order_formula.specs.Worlds.{IsWorld};
+ghost use Rattle.lawful_order.specs.Lawful.{IsWorldOf};
 ghost use Rattle.run_world.specs.Order.{IsOrderOf};
 ghost use Rattle.run_world.specs.WorldOf.{world_in};
 
@@ -27,5 +29,17 @@ pub fn places_are_ordered<B>()
     ensures { (ops : BufferOps B) (model : Model) (bound : Binding) (code : Code) (log : Log) (nodes : List Node) (moves : List Move)
         → Laws ops model bound → IsLawful code → is_log log ≡ true → Reproduces ops code log moves
         → IsOrderOf ops.buffered (paths_of code log) (history ops code moves)
+        (world_in ops.buffered (paths_of code log) (found code log nodes).symbolic (history ops code moves)) }
+{}
+
+/// That is a world, and one of the log's paths: it has as many events, loads and sleeps, and what ends a sleep is a signal or a
+/// broadcast of its condition.
+pub fn runs_have_worlds<B>()
+    ensures world { (ops : BufferOps B) (model : Model) (bound : Binding) (code : Code) (log : Log) (nodes : List Node) (moves : List Move)
+        → Laws ops model bound → IsLawful code → is_log log ≡ true → Reproduces ops code log moves
+        → IsWorld (world_in ops.buffered (paths_of code log) (found code log nodes).symbolic (history ops code moves)) }
+    ensures of { (ops : BufferOps B) (model : Model) (bound : Binding) (code : Code) (log : Log) (nodes : List Node) (moves : List Move)
+        → Laws ops model bound → IsLawful code → is_log log ≡ true → Reproduces ops code log moves
+        → IsWorldOf (paths_of code log) (found code log nodes).symbolic
         (world_in ops.buffered (paths_of code log) (found code log nodes).symbolic (history ops code moves)) }
 {}
