@@ -1,0 +1,10 @@
+pub mod Issued
+pub mod Empty
+pub mod Shown
+pub mod Drained
+pub mod Accesses
+pub mod Turn
+pub mod Lists
+pub mod Writes
+pub mod Seen
+pub mod Taken
