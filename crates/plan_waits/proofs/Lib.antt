@@ -1,0 +1,9 @@
+pub mod Begun
+pub mod Worlds
+pub mod Free
+pub mod Sleepers
+pub mod Waking
+pub mod Parents
+pub mod Threads
+pub mod Asleep
+pub mod Blocked
