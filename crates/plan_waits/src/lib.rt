@@ -29,7 +29,7 @@ ghost use Rattle.lawful_order.specs.Events.{number_of};
 ghost use Rattle.world_plan.specs.Going.{IsLawfulWorld, HasGone, IsAtEvent, SleepUntilEnded, is_pending, place};
 ghost use Rattle.world_plan.specs.Plan.{is_failure, woken_by, other_of};
 
-/// The mutex that a thread is about to take is free: each region of another before it has been left.
+/// The mutex that a thread is about to take is free: each region of it that has begun has been left.
 pub fn mutexes_are_free<B>()
     ensures { (ops : BufferOps B) (model : Model) (bound : Binding) (code : Code) (log : Log) (nodes : List Node) (w : World) (p : ℕ) (h : List Deed)
         (t : ℕ) (q : Walk) (x : Event) (m : ℕ)
