@@ -29,7 +29,8 @@ use Rattle.order_events.proofs.Parts.{is_unwanted, unwanted_is}
 use Rattle.order_events.proofs.Numbers.{in_all_from, of_all_from}
 use Rattle.order_events.specs.Parts.{of_each, comes_before, one_of}
 use Rattle.memory_order.specs.Twos.{Two, twos}
-use Rattle.memory_order.specs.Own.{is_failing, is_settled, is_always_kept, is_kept_next, kept_test, two_tests, thread_tests, own_needs, fails, in_order, two_formula}
+use Rattle.memory_order.specs.Own.{is_failing, is_settled, is_always_kept, is_kept_next, kept_test}
+use Rattle.memory_order.specs.Own.{two_tests, thread_tests, own_needs, fails, in_order, two_formula}
 use Rattle.memory_order.specs.Own.{thread_formula, before_failing, is_before_failing, failing_formula, own_formula}
 use Rattle.memory_order.proofs.Twos.{two_at, two_places, all_in_order}
 use Rattle.memory_order.proofs.Keeping.{Told, have_cells, two_told}

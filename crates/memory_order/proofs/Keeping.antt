@@ -1,5 +1,6 @@
 -- When an event is kept before a later one: always, or where the test of their indexes passes.
-use Rattle.std.proofs.Common.{◌≡◌, ◌∙◌, ℕ, ◌==◌, inl, inr, ap₂, Bool, true, false, not, cond, ◌&&◌, ◌||◌, List, [], ◌∷◌, Option, Some, None, refl, ap, sym, subst}
+use Rattle.std.proofs.Common.{◌≡◌, ◌∙◌, ℕ, ◌==◌, inl, inr, ap₂, Bool, true, false, not, cond, ◌&&◌, ◌||◌, List, []}
+use Rattle.std.proofs.Common.{◌∷◌, Option, Some, None, refl, ap, sym, subst}
 use Rattle.std.specs.Prelude.{is_some, is_none, unwrap_or, option_map, option_and_then}
 use Rattle.std.specs.List.{Contains, find}
 use Rattle.std.specs.Option.{option_eq}

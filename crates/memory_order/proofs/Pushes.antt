@@ -1,12 +1,13 @@
 -- What is pushed and what is made, part after part.
-use Rattle.std.proofs.Common.{◌≡◌, ◌∙◌, ℕ, ◌+◌, ◌<◌, ◌≤◌, List, [], ◌∷◌, ◌++◌, length, get_or, take, drop, ap, sym, arith, append_assoc, append-nil}
+use Rattle.std.proofs.Common.{◌≡◌, ◌∙◌, ℕ, ◌+◌, ◌<◌, ◌≤◌, List, [], ◌∷◌, ◌++◌, length, get_or, take, drop, refl, ap, sym, arith, append_assoc, append-nil}
 use Rattle.std.specs.Prelude.{fold, Result, Ok, Err, OnOk, IfOk}
-use Rattle.std.specs.List.{enumerate_from, flat_map}
-use Rattle.std.proofs.lemmas.List.{drop_all, drop_more, take_more, length-take-le}
+use Rattle.std.specs.List.{flat_map}
+use Rattle.std.proofs.lemmas.List.{drop_all, drop_more, take_more}
 use Rattle.std.proofs.lemmas.List.Concat.{flat_map-append}
 use Rattle.std.proofs.lemmas.List.Sums.{fold-append}
 use Rattle.sym_terms.specs.Terms.{with_node}
 use Rattle.sym_terms.specs.declared.node.Node.{Node}
+use Rattle.order_events.proofs.Loops as loops
 use Rattle.order_events.specs.Parts.{of_each}
 use Rattle.memory_order.specs.Twos.{Two, twos, twos_with}
 
@@ -48,21 +49,11 @@ twos_first f (x ∷ xs) after d some is =
     flat_map-append f (twos_with x [] xs) (twos xs) ∙ sym (ap (λ ys. flat_map f (twos_with x [] ys) ++ flat_map f (twos ys)) is)
 
 -- of each element and its place, one element more
-enumerate_push : {A : Type 0} (n m : ℕ) (xs : List A) (x : A) → n + length xs ≡ m → enumerate_from n (xs ++ x ∷ []) ≡ enumerate_from n xs ++ (m, x) ∷ []
-enumerate_push n m [] x sum = ap (λ k. (k, x) ∷ []) (let e : n ≡ m = omega (arith, sum) in e)
-enumerate_push n m (y ∷ ys) x sum = ap (λ es. (n, y) ∷ es) (enumerate_push (n + 1) m ys x (omega (arith, sum)))
-
-each_push : {A X : Type 0} (f : ℕ → A → List X) (xs : List A) (x : A) → of_each f (xs ++ x ∷ []) ≡ of_each f xs ++ f (length xs) x
-each_push {A} f xs x =
-    let g = λ (p : ℕ × A). f p.0 p.1 in
-    ap (flat_map g) (enumerate_push 0 (length xs) xs x (omega arith)) ∙ flat_map-append g (enumerate_from 0 xs) ((length xs, x) ∷ [])
-    ∙ ap (λ ys. of_each f xs ++ ys) (append-nil (f (length xs) x))
-
 pub each_more : {A X : Type 0} (f : ℕ → A → List X) (xs : List A) (i : ℕ) (x : A) → i < length xs → get_or xs i x ≡ x
     → of_each f (take (i + 1) xs) ≡ of_each f (take i xs) ++ f i x
 each_more f xs i x within is =
-    ap (of_each f) (take_more xs i x within ∙ ap (λ y. take i xs ++ y ∷ []) is) ∙ each_push f (take i xs) x
-    ∙ ap (λ k. of_each f (take i xs) ++ f k x) (length-take-le i xs (omega (arith, within)))
+    let done = of_each f (take i xs) in
+    sym (loops.each_more xs i x within (sym is) [] done (done ++ f i x) f refl refl)
 
 -- what follows from two clauses of a result
 pub both_ok : {T E : Type 0} (r : Result T E) (P : Type 0) (Q R : T → Type 0) → OnOk r P → IfOk r Q → (P → (x : T) → Q x → R x) → IfOk r R

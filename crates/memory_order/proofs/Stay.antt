@@ -1,5 +1,6 @@
 -- More terms change nothing of the formula, once those that it needs are there.
-use Rattle.std.proofs.Common.{◌≡◌, ◌∙◌, ℕ, Bool, true, false, not, cond, ◌&&◌, ◌||◌, List, [], ◌∷◌, ◌++◌, map, length, Option, Some, None, refl, ap, ap₂, sym, subst}
+use Rattle.std.proofs.Common.{◌≡◌, ◌∙◌, ℕ, Bool, true, false, not, cond, ◌&&◌, ◌||◌, List, [], ◌∷◌, ◌++◌, map, length}
+use Rattle.std.proofs.Common.{Option, Some, None, refl, ap, ap₂, sym, subst}
 use Rattle.std.specs.Prelude.{unwrap_or, option_map, option_and_then, slice_get, option_to_list, ◌==◌}
 use Rattle.std.specs.List.{All, Contains, enumerate_from, find, flat_map, list_any, position_or_len}
 use Rattle.std.proofs.lemmas.List.Elements.{All-contains}

@@ -128,7 +128,8 @@ two_at (z ∷ zs) zero (suc k) x y first second less =
     let a = around zs y (at_in zs k y second) in
     record {
       between = a.before;
-      among = in_twos (z ∷ zs) (two x a.before y) (record { before = []; after = a.after; is = ap (λ w. w ∷ zs) (same_Some z x first) ∙ ap (λ ws. x ∷ ws) a.is });
+      among = in_twos (z ∷ zs) (two x a.before y)
+          (record { before = []; after = a.after; is = ap (λ w. w ∷ zs) (same_Some z x first) ∙ ap (λ ws. x ∷ ws) a.is });
     }
 two_at (z ∷ zs) (suc j) (suc k) x y first second less =
     let t = two_at zs j k x y first second (omega (arith, less)) in

@@ -53,8 +53,10 @@ module _ (buffered : Bool) (bound : Binding) (paths : Paths) (symbolic : Symboli
         (one_is (All (LiteralIsIn o)) (l ∷ []) (one_is (LiteralIsIn o) l (order_in t q p at two))))
     conjunct_in c (Failing x f first second before failing is) =
         let l = comes_before (all_events paths) x.thread x.it.step f.thread f.it.step in
-        subst (ConjunctIsIn o) is (one_is (All (LiteralIsIn o)) (l ∷ []) (one_is (LiteralIsIn o) l
-        (within x.thread x.it (event_of buffered bound paths symbolic nodes x first), within f.thread f.it (event_of buffered bound paths symbolic nodes f second))))
+        subst (ConjunctIsIn o) is (one_is (All (LiteralIsIn o)) (l ∷ []) (one_is (LiteralIsIn o) l (
+          within x.thread x.it (event_of buffered bound paths symbolic nodes x first),
+          within f.thread f.it (event_of buffered bound paths symbolic nodes f second),
+        )))
 
     pub formula_in : All (ConjunctIsIn o) formula
     formula_in = each_in (ConjunctIsIn o) formula (λ c i. conjunct_in c (of_formula buffered bound paths symbolic nodes c i))
