@@ -1,30 +1,23 @@
 -- The system's formula is true exactly in the lawful worlds, group by group.
-use Rattle.std.proofs.Common.{◌≡◌, ◌∙◌, ℕ, Bool, true, false, List, [], ◌++◌, fold, length, refl, sym, ap, subst}
-use Rattle.std.specs.List.{All, Contains}
+use Rattle.std.proofs.Common.{◌≡◌, ℕ, Bool, true, List, refl}
 use Rattle.tc_code.specs.Code.{Code}
-use Rattle.tc_code.specs.Lawful.{IsLawful}
-use Rattle.path_walk.specs.Paths.{Paths, ArePaths}
+use Rattle.path_walk.specs.Paths.{Paths}
 use Rattle.store_buffers.specs.Pending.{Binding}
-use Rattle.sym_terms.specs.Terms.{AreTerms, with_node}
 use Rattle.sym_terms.specs.declared.node.Node.{Node}
-use Rattle.sym_exec.specs.Executed.{Symbolic, executed}
-use Rattle.sym_exec.specs.Making.{Grows}
+use Rattle.sym_exec.specs.Executed.{Symbolic}
 use Rattle.order_formula.specs.declared.formula.Conjunct.{Conjunct}
 use Rattle.order_formula.specs.declared.group.Group.{Group}
 use Rattle.order_formula.specs.declared.group.Group.TheVariants.{Own, Child, Read, Mutex, Condition, Test, Stuck}
-use Rattle.order_formula.specs.Groups.{HoldsIn, IsExactly}
+use Rattle.order_formula.specs.Groups.{IsExactly}
 use Rattle.order_formula.specs.Truth.{body_at, holds_at}
-use Rattle.order_formula.specs.Worlds.{World, IsWorld}
+use Rattle.order_formula.specs.Worlds.{World}
 use Rattle.lawful_order.specs.Lawful as order
-use Rattle.lawful_order.specs.Lawful.{IsWorldOf, MeetsRule}
-use Rattle.lawful_order.specs.Whole.{AreWhole, IsExecutedBy}
-use Rattle.order_cells.specs.Terms.{HaveTerms}
+use Rattle.lawful_order.specs.Lawful.{MeetsRule}
 use Rattle.order_events.proofs.Parts.{all_of, all_from}
-use Rattle.order_events.proofs.Whole.{whole}
-use Rattle.memory_order.specs.Own.{own_formula, own_needs}
+use Rattle.memory_order.specs.Own.{own_formula}
 use Rattle.sync_order.specs.Sync.{is_sync, sync_formula}
-use Rattle.read_write.specs.Reading.{read_formula, read_needs}
-use Rattle.clap_system.specs.Systems.{with_needs, rules_of, system_by}
+use Rattle.read_write.specs.Reading.{read_formula}
+use Rattle.clap_system.specs.Systems.{rules_of}
 use Rattle.clap_system.specs.Tests.{test_formula}
 use Rattle.clap_system.proofs.Groups.{Apart, own_exact, sync_exact, read_exact, test_exact}
 
@@ -40,13 +33,13 @@ pub record ArePartsExact (buffered : Bool) (bound : Binding) (code : Code) (path
 
 module _ (buffered : Bool) (bound : Binding) (code : Code) (paths : Paths) (symbolic : Symbolic) (nodes : List Node) (w : World)
     (parts : ArePartsExact buffered bound code paths symbolic nodes w) where
-  own : List Conjunct
+  abbrev own : List Conjunct
   own = own_formula buffered bound paths symbolic nodes
 
-  read : List Conjunct
+  abbrev read : List Conjunct
   read = read_formula code paths symbolic nodes
 
-  Rule : Group → Type 0
+  abbrev Rule : Group → Type 0
   Rule g = MeetsRule buffered bound code paths symbolic nodes w g
 
   pub group_exact : (g : Group) → IsExactly nodes w (rules_of buffered bound code paths symbolic nodes) g (MeetsRule buffered bound code paths symbolic nodes w g)

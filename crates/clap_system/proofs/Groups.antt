@@ -30,40 +30,50 @@ HaveGroups is formula = (c : Conjunct) → Contains formula c → is c.group ≡
 none_of : (is : Group → Bool) (formula : List Conjunct) (g : Group) → HaveGroups is formula → is g ≡ false → HasNone formula g
 none_of is formula g have other z there of = absurd (true≢false (sym (have z there) ∙ ap is of ∙ other))
 
-pub record Apart (own sync read test : List Conjunct) : Type 0 where
-  pub own : HaveGroups is_own own
-  pub sync : HaveGroups is_sync sync
-  pub read : HaveGroups is_read read
-  pub test : HaveGroups is_test test
+pub record Apart (owns syncs reads tests : List Conjunct) : Type 0 where
+  pub own : HaveGroups is_own owns
+  pub sync : HaveGroups is_sync syncs
+  pub read : HaveGroups is_read reads
+  pub test : HaveGroups is_test tests
 
 module _ (nodes : List Node) (w : World) (own sync read test : List Conjunct) (apart : Apart own sync read test) (g : Group) (Rule : Type 0) where
-  pub own_exact : IsExactly nodes w own g Rule → is_sync g ≡ false → is_read g ≡ false → is_test g ≡ false
-      → IsExactly nodes w (own ++ sync ++ read ++ test) g Rule
-  own_exact exact no_sync no_read no_test =
-      exactly_before nodes w g Rule own (sync ++ read ++ test) exact
-      (none_in_both g sync (read ++ test) (none_of is_sync sync g apart.sync no_sync)
-      (none_in_both g read test (none_of is_read read g apart.read no_read) (none_of is_test test g apart.test no_test)))
+  abbrev two : List Conjunct
+  two = own ++ sync
 
-  pub sync_exact : IsExactly nodes w sync g Rule → is_own g ≡ false → is_read g ≡ false → is_test g ≡ false
-      → IsExactly nodes w (own ++ sync ++ read ++ test) g Rule
-  sync_exact exact no_own no_read no_test =
-      exactly_behind nodes w g Rule own (sync ++ read ++ test)
-      (exactly_before nodes w g Rule sync (read ++ test) exact
-      (none_in_both g read test (none_of is_read read g apart.read no_read) (none_of is_test test g apart.test no_test)))
-      (none_of is_own own g apart.own no_own)
+  abbrev three : List Conjunct
+  three = two ++ read
 
-  pub read_exact : IsExactly nodes w read g Rule → is_own g ≡ false → is_sync g ≡ false → is_test g ≡ false
-      → IsExactly nodes w (own ++ sync ++ read ++ test) g Rule
-  read_exact exact no_own no_sync no_test =
-      exactly_behind nodes w g Rule own (sync ++ read ++ test)
-      (exactly_behind nodes w g Rule sync (read ++ test)
-      (exactly_before nodes w g Rule read test exact (none_of is_test test g apart.test no_test)) (none_of is_sync sync g apart.sync no_sync))
-      (none_of is_own own g apart.own no_own)
+  no_own : is_own g ≡ false → HasNone own g
+  no_own = none_of is_own own g apart.own
 
-  pub test_exact : IsExactly nodes w test g Rule → is_own g ≡ false → is_sync g ≡ false → is_read g ≡ false
-      → IsExactly nodes w (own ++ sync ++ read ++ test) g Rule
-  test_exact exact no_own no_sync no_read =
-      exactly_behind nodes w g Rule own (sync ++ read ++ test)
-      (exactly_behind nodes w g Rule sync (read ++ test)
-      (exactly_behind nodes w g Rule read test exact (none_of is_read read g apart.read no_read)) (none_of is_sync sync g apart.sync no_sync))
-      (none_of is_own own g apart.own no_own)
+  no_sync : is_sync g ≡ false → HasNone sync g
+  no_sync = none_of is_sync sync g apart.sync
+
+  no_read : is_read g ≡ false → HasNone read g
+  no_read = none_of is_read read g apart.read
+
+  no_test : is_test g ≡ false → HasNone test g
+  no_test = none_of is_test test g apart.test
+
+  pub own_exact : IsExactly nodes w own g Rule → is_sync g ≡ false → is_read g ≡ false → is_test g ≡ false → IsExactly nodes w (three ++ test) g Rule
+  own_exact exact sync_not read_not test_not =
+      exactly_before nodes w g Rule three test
+      (exactly_before nodes w g Rule two read (exactly_before nodes w g Rule own sync exact (no_sync sync_not)) (no_read read_not))
+      (no_test test_not)
+
+  pub sync_exact : IsExactly nodes w sync g Rule → is_own g ≡ false → is_read g ≡ false → is_test g ≡ false → IsExactly nodes w (three ++ test) g Rule
+  sync_exact exact own_not read_not test_not =
+      exactly_before nodes w g Rule three test
+      (exactly_before nodes w g Rule two read (exactly_behind nodes w g Rule own sync exact (no_own own_not)) (no_read read_not))
+      (no_test test_not)
+
+  pub read_exact : IsExactly nodes w read g Rule → is_own g ≡ false → is_sync g ≡ false → is_test g ≡ false → IsExactly nodes w (three ++ test) g Rule
+  read_exact exact own_not sync_not test_not =
+      exactly_before nodes w g Rule three test
+      (exactly_behind nodes w g Rule two read exact (none_in_both g own sync (no_own own_not) (no_sync sync_not)))
+      (no_test test_not)
+
+  pub test_exact : IsExactly nodes w test g Rule → is_own g ≡ false → is_sync g ≡ false → is_read g ≡ false → IsExactly nodes w (three ++ test) g Rule
+  test_exact exact own_not sync_not read_not =
+      exactly_behind nodes w g Rule three test exact
+      (none_in_both g two read (none_in_both g own sync (no_own own_not) (no_sync sync_not)) (no_read read_not))

@@ -33,7 +33,7 @@ as_same true false h = sym h
 as_same false true h = h
 as_same false false h = refl
 
-abbrev literal_of : Test → Literal
+abbrev pub literal_of : Test → Literal
 literal_of x = record { atom = atom.Test x.term; wanted = x.wanted }
 
 same_thread : (t u l m : ℕ) → group.Test t l ≡ group.Test u m → t ≡ u

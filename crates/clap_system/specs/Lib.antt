@@ -1,4 +1,5 @@
 pub mod Tests
 pub mod Systems
+pub mod Ready
 pub mod Faults
 pub mod helpers

@@ -4,7 +4,6 @@ ghost use Rattle.tc_base.specs.declared.limits.TheConstants.{EVENTS, OPERATORS};
 ghost use Rattle.path_walk.specs.Fits.{Fits};
 ghost use Rattle.path_walk.specs.Paths.{ArePaths};
 ghost use Rattle.tc_code.specs.Code as spec;
-ghost use Rattle.tc_code.specs.Lawful.{IsLawful};
 ghost use Rattle.clap_system.specs.Faults.{IsBuildFault, IsShallow, limit_of};
 ghost use Rattle.clap_system.specs.declared.fault.BuildFault.TheVariants.{Limit};
 ghost use Rattle.clap_system.specs.Systems.{system_by, system_of};
@@ -79,11 +78,12 @@ fn over(which: Which, number: u64) -> BuildFault
 
 /// The system of paths.
 fn system<M: MemoryModel>(alloc: Global, code: &Code, paths: Paths) -> Result<System, AllocError>
-    requires code { IsLawful code.now }
     requires paths { ArePaths code.now paths }
     requires few { paths.events ≤ EVENTS }
     ensures { IfOk result (λ system. system ≡ system_by M.BUFFERED M.bound code.now paths) }
 {
+    // Lawful code, of which the terms of tests and accesses are there.
+    let _functions = code.functions();
     let mut terms = Terms::new(alloc);
     let symbolic = execute(alloc, code, &paths, &mut terms)?;
     let sleeps = Sleeps::of(alloc, &paths)?;
@@ -97,6 +97,6 @@ fn system<M: MemoryModel>(alloc: Global, code: &Code, paths: Paths) -> Result<Sy
         symbolic,
         terms,
         order,
-        formula: own.and(sync.and(read.and(tests)?)?)?,
+        formula: own.and(sync)?.and(read)?.and(tests)?,
     })
 }

@@ -1,5 +1,5 @@
 //! Laws of systems. Each is a clause of a function that does nothing.
-ghost use Rattle.std.specs.Prelude.{◌≡◌, Bool, true, ◌↔◌};
+ghost use Rattle.std.specs.Prelude.{◌≡◌, ◌↔◌, Bool, true};
 ghost use Rattle.tc_code.specs.Code.{Code};
 ghost use Rattle.tc_code.specs.Lawful.{IsLawful};
 ghost use Rattle.path_walk.specs.Paths.{Paths, ArePaths};
@@ -11,6 +11,7 @@ ghost use Rattle.order_formula.specs.Worlds.{World, IsWorld};
 ghost use Rattle.order_formula.specs.declared.group.Group.{Group};
 ghost use Rattle.lawful_order.specs.Lawful as order;
 ghost use Rattle.lawful_order.specs.Lawful.{IsWorldOf, MeetsRule};
+ghost use Rattle.clap_system.specs.Ready.{IsReady};
 ghost use Rattle.clap_system.specs.Systems.{system_by};
 
 /// The conjuncts of each group are all true in a world exactly where it meets the rule of that group.
@@ -31,4 +32,10 @@ pub fn systems_are_exact()
         → IsWorldOf paths (system_by buffered bound code paths).symbolic w
         → (holds_at (system_by buffered bound code paths).nodes w (system_by buffered bound code paths).formula ≡ true)
         ↔ order.IsLawful buffered bound code paths (system_by buffered bound code paths).symbolic (system_by buffered bound code paths).nodes w }
+{}
+
+/// A system has all that whoever turns it into clauses builds on.
+pub fn systems_are_ready()
+    ensures { (buffered : Bool) (bound : Binding) (code : Code) (paths : Paths)
+        → IsLawful code → ArePaths code paths → IsReady (system_by buffered bound code paths) }
 {}

@@ -1,0 +1,22 @@
+-- What whoever turns a system into clauses builds on.
+use Rattle.std.specs.Prelude.{◌≡◌, ◌==◌, List, ◌∷◌, length, map}
+use Rattle.std.specs.List.{All, Contains, IsDistinct}
+use Rattle.sym_exec.specs.Ints.{HasInt}
+use Rattle.order_formula.specs.Formulas.{IsOf}
+use Rattle.order_formula.specs.Orders.{ConjunctIsIn, IsAsked}
+use Rattle.order_formula.specs.Reads.{Read}
+use Rattle.order_formula.specs.declared.formula.Body.TheVariants as body
+use Rattle.order_formula.specs.declared.formula.Conjunct.{Conjunct}
+use Rattle.clap_system.specs.Systems.{System}
+
+pub record IsReady (s : System) : Type 0 where
+  -- the order is of the paths' events: each event and sleep that the formula names is there, and each pair and choice was asked
+  pub events : s.order.events ≡ s.paths.events
+  pub within : All (ConjunctIsIn s.order) s.formula
+  pub asked : IsAsked s.order s.formula
+  -- the events of a read, its own and those of its candidates, all differ
+  pub differ : (c : Conjunct) (r : Read) → Contains s.formula c → c.body ≡ body.Read r
+      → IsDistinct (λ e d. e == d) (r.event ∷ map (λ x. x.event) r.candidates)
+  -- each term that the formula names is there, and constants are ints
+  pub terms : IsOf (length s.nodes) s.formula
+  pub ints : All HasInt s.nodes
