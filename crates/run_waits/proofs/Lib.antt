@@ -1,0 +1,9 @@
+pub mod Parts
+pub mod Deeds
+pub mod First
+pub mod Children
+pub mod Mutexes
+pub mod Sleeps
+pub mod Sleeping
+pub mod Stuck
+pub mod Conditions
