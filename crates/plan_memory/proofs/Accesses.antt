@@ -1,6 +1,6 @@
 -- The accesses of the stores and loads of a history that has gone up to a position of a lawful world.
-use Rattle.std.proofs.Common.{◌≡◌, ◌∙◌, ◌⊎◌, inl, inr, ℕ, ◌<◌, ◌==◌, ◌&&◌, ◌||◌, ℤ, Bool, true, false, not, List, [], ◌∷◌, ◌++◌}
-use Rattle.std.proofs.Common.{Option, Some, None, refl, ap, ap₂, sym, subst, arith}
+use Rattle.std.proofs.Common.{◌≡◌, ◌∙◌, inl, ℕ, ◌<◌, ◌==◌, ◌&&◌, ℤ, true, not, List}
+use Rattle.std.proofs.Common.{Some, None, refl, ap, ap₂, sym, arith}
 use Rattle.std.specs.Prelude.{slice_get}
 use Rattle.std.specs.List.{Contains}
 use Rattle.std.specs.Option.{option_eq}
@@ -12,22 +12,19 @@ use Rattle.tc_base.specs.declared.model.Model.{Model}
 use Rattle.tc_base.specs.declared.request.Request.TheVariants.{Write}
 use Rattle.tc_code.specs.Code.{Code}
 use Rattle.store_buffers.specs.Pending.{Binding}
-use Rattle.run_history.specs.History.{Deed, Did}
-use Rattle.run_history.specs.Told.{steps_in}
+use Rattle.run_history.specs.History.{Deed}
 use Rattle.run_pending.specs.Deeds.{IsIssuedIn}
 use Rattle.path_walk.specs.Paths.{Walk, paths_of}
 use Rattle.path_walk.specs.declared.event.Event.{Event}
-use Rattle.path_walk.specs.declared.event.EventKind.{EventKind}
 use Rattle.path_walk.specs.declared.event.EventKind.TheVariants as kind
 use Rattle.path_history.specs.Along.{IsAlongPaths, IsThread}
 use Rattle.path_history.proofs.Walks.{thread_path_at}
-use Rattle.path_events.proofs.Lists.{in_contains, contains_in}
+use Rattle.path_events.proofs.Lists.{contains_in}
 use Rattle.path_events.proofs.Steps.{step_is}
 use Rattle.sym_terms.specs.declared.node.Node.{Node}
 use Rattle.sym_exec.specs.Alone.{Asked, asked_in, cell_by}
-use Rattle.sym_exec.specs.Executed.{Course, Symbolic}
+use Rattle.sym_exec.specs.Executed.{Course}
 use Rattle.sym_exec.specs.declared.symbolic.Access.{Access}
-use Rattle.sym_exec.specs.declared.symbolic.Cell.{Cell}
 use Rattle.sym_laws.specs.Valued.{AgreesWith, found}
 use Rattle.sym_laws.proofs.Follows.{found_at_log}
 use Rattle.sym_events.proofs.Whole.{is_executed}
@@ -38,7 +35,7 @@ use Rattle.sym_cells.proofs.Reached.{same_cells}
 use Rattle.order_formula.specs.Worlds.{World}
 use Rattle.lawful_order.specs.Cells.{is_same_cell}
 use Rattle.lawful_order.specs.Events.{IsBefore}
-use Rattle.lawful_order.specs.Memory.{cell_of, is_kept, is_store, may_overtake, same_cell}
+use Rattle.lawful_order.specs.Memory.{cell_of, is_store, may_overtake, same_cell}
 use Rattle.lawful_order.specs.Reads.{HasAccess}
 use Rattle.lawful_order.specs.Whole.{IsExecutedBy}
 use Rattle.world_plan.specs.Going.{IsLawfulWorld}

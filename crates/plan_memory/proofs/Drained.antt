@@ -1,6 +1,6 @@
 -- The stores that have reached memory, one deed on.
-use Rattle.std.proofs.Common.{◌≡◌, ◌∙◌, ◌⊎◌, inl, inr, ℕ, suc, ◌<◌, ◌==◌, ◌&&◌, ◌||◌, ℤ, Bool, true, false, List, [], ◌∷◌, ◌++◌, length}
-use Rattle.std.proofs.Common.{Option, refl, ap, ap₂, sym, subst, arith}
+use Rattle.std.proofs.Common.{◌≡◌, ◌∙◌, ◌⊎◌, inl, inr, ℕ, suc, ◌<◌, ◌==◌, ◌&&◌, ◌||◌, ℤ, Bool, true, false, List, [], ◌∷◌, ◌++◌}
+use Rattle.std.proofs.Common.{Option, refl, ap, ap₂, sym, arith}
 use Rattle.std.specs.Prelude.{slice_get}
 use Rattle.std.specs.List.{Contains}
 use Rattle.std.proofs.Math.Bool.{or-false}
@@ -16,7 +16,7 @@ use Rattle.tc_code.specs.Code.{Code}
 use Rattle.store_buffers.specs.Pending.{Binding}
 use Rattle.run_laws.proofs.Names.{is_same, same_self}
 use Rattle.run_history.specs.History.{Deed, Did, Drained, drains, has_drained, same}
-use Rattle.path_walk.specs.Paths.{Walk, Paths, ArePaths, paths_of}
+use Rattle.path_walk.specs.Paths.{Walk, paths_of}
 use Rattle.path_walk.specs.declared.event.Event.{Event}
 use Rattle.path_history.specs.Along.{IsThread}
 use Rattle.sym_terms.specs.declared.node.Node.{Node}
@@ -76,7 +76,7 @@ module _ {B : Type 0} (ops : BufferOps B) (model : Model) (bound : Binding) (cod
       drain_drained c a u v y here i pending =
           let same_more = drained_more h (Drained q.name x.step c a) v.name y.step in
           let has = g.drained u v y here i pending in (
-            λ e. elim (first_or_second _ _ (sym same_more ∙ e)) [
+            λ e. elim (first_or_second (has_drained h v.name y.step) (same v.name q.name && y.step == x.step) (sym same_more ∙ e)) [
               | inl before ↦ omega (arith, has.0 before)
               | inr now ↦ omega (arith, mine now)
             ],

@@ -1,22 +1,19 @@
 -- Buffers that are empty.
-use Rattle.std.proofs.Common.{◌≡◌, ◌∙◌, ℕ, ◌<◌, ◌==◌, ◌&&◌, ◌||◌, ℤ, Bool, true, false, not, List, refl, ap, ap₂, sym, subst, arith}
+use Rattle.std.proofs.Common.{◌≡◌, ◌∙◌, ℕ, ◌<◌, ◌==◌, ◌&&◌, ◌||◌, Bool, true, false, not, List, refl, ap, ap₂, sym, subst, arith}
 use Rattle.std.specs.List.{Contains}
 use Rattle.std.proofs.lemmas.Bool.{true≢false}
 use Rattle.tc_base.specs.Buffers.{BufferOps}
 use Rattle.tc_base.specs.Logs.{Log}
-use Rattle.tc_base.specs.Names.{Name}
 use Rattle.tc_base.specs.declared.model.Model.{Model}
 use Rattle.tc_code.specs.Code.{Code}
 use Rattle.store_buffers.specs.Pending.{Binding}
 use Rattle.run_history.specs.History.{Deed, has_drained}
-use Rattle.run_history.specs.Told.{steps_in}
 use Rattle.run_pending.specs.Deeds.{IsIssuedIn}
 use Rattle.run_pending.proofs.In.{In}
 use Rattle.run_pending.proofs.Own.{stores_have_drained}
 use Rattle.run_stuck.specs.Stuck.{HasDrained, AllDrained}
 use Rattle.path_walk.specs.Paths.{Walk, paths_of}
 use Rattle.path_walk.specs.declared.event.Event.{Event}
-use Rattle.path_walk.specs.declared.event.EventKind.{EventKind}
 use Rattle.path_walk.specs.declared.event.EventKind.TheVariants as kind
 use Rattle.path_history.specs.Along.{IsThread}
 use Rattle.path_events.proofs.Lists.{contains_in}
@@ -25,8 +22,7 @@ use Rattle.sym_laws.specs.Valued.{found}
 use Rattle.order_formula.specs.Worlds.{World}
 use Rattle.order_formula.specs.declared.group.Group.TheVariants.{Own}
 use Rattle.lawful_order.specs.Memory.{OwnRule, is_kept, is_store, may_overtake, same_cell}
-use Rattle.lawful_order.specs.Events.{IsBefore}
-use Rattle.world_plan.specs.Going.{IsLawfulWorld, HasGone, IsAtEvent, is_pending, place}
+use Rattle.world_plan.specs.Going.{IsLawfulWorld, HasGone, IsAtEvent, place}
 use Rattle.plan_memory.proofs.Issued.{issuer_named, issue_event}
 
 module _ {B : Type 0} (ops : BufferOps B) (model : Model) (bound : Binding) (code : Code) (log : Log) (nodes : List Node) (w : World)

@@ -1,23 +1,22 @@
 -- The steps and the drains of a history along the paths.
-use Rattle.std.proofs.Common.{◌≡◌, ◌∙◌, ◌⊎◌, inl, inr, ℕ, ◌+◌, ◌<◌, ◌==◌, ◌&&◌, ℤ, Bool, true, false, List, [], ◌∷◌, ◌++◌, cond}
+use Rattle.std.proofs.Common.{◌≡◌, ◌∙◌, ℕ, ◌+◌, ◌<◌, ◌==◌, ℤ, true, List, ◌∷◌, ◌++◌, cond}
 use Rattle.std.proofs.Common.{Option, Some, None, refl, ap, ap₂, sym, subst, arith, append_assoc}
-use Rattle.std.specs.Prelude.{option_map, option_and_then}
-use Rattle.std.specs.List.{Contains}
+use Rattle.std.specs.Prelude.{option_map}
 use Rattle.std.proofs.lemmas.Bool.{false≢true, and_parts, and_from, eqb-true, eq-eqb}
-use Rattle.std.proofs.lemmas.Option.{none-some, same_Some}
+use Rattle.std.proofs.lemmas.Option.{none-some}
 use Rattle.tc_base.specs.Buffers.{BufferOps}
 use Rattle.tc_base.specs.Logs.{Log}
 use Rattle.tc_base.specs.Names.{Name}
 use Rattle.tc_base.specs.declared.model.Model.{Model}
 use Rattle.tc_base.specs.declared.request.Request.{Request}
-use Rattle.tc_base.specs.declared.request.Request.TheVariants.{Silent, Write, Start}
+use Rattle.tc_base.specs.declared.request.Request.TheVariants.{Write, Start}
 use Rattle.tc_code.specs.Code.{Code}
 use Rattle.tc_code.specs.Lawful.{IsLawful}
 use Rattle.store_buffers.specs.Laws.{Laws}
 use Rattle.store_buffers.specs.Pending.{Binding}
 use Rattle.run_laws.proofs.Names.{is_same, same_self}
 use Rattle.run_history.specs.History.{Deed, Did, Drained, drains, has_drained, same}
-use Rattle.run_history.specs.Told.{steps_in, is_step_of}
+use Rattle.run_history.specs.Told.{steps_in}
 use Rattle.run_pending.specs.Deeds.{IsIssuedIn}
 use Rattle.run_pending.proofs.Apart.{Named}
 use Rattle.run_pending.proofs.In.{In, in_at, in_split, any_in, in_any, one_of_name}
@@ -25,7 +24,6 @@ use Rattle.path_log.specs.Texts.{is_log}
 use Rattle.path_walk.specs.Fits.{Fits}
 use Rattle.path_walk.specs.Paths.{Walk}
 use Rattle.path_walk.specs.declared.event.Event.{Event}
-use Rattle.path_walk.specs.declared.event.EventKind.{EventKind}
 use Rattle.path_walk.specs.declared.event.EventKind.TheVariants as kind
 use Rattle.path_laws.specs.Deeds.{kind_of}
 use Rattle.path_history.specs.Along.{IsAlongPaths, IsThread, IsNameOfThread}

@@ -1,11 +1,11 @@
 -- What a load sees when its event comes: the last store to its cell in its thread's buffer, or else the last in memory.
-use Rattle.std.proofs.Common.{◌≡◌, ◌∙◌, ◌⊎◌, inl, inr, ℕ, ◌<◌, ◌≤◌, ◌==◌, ℤ, pos, Bool, true, false, not, List, [], ◌∷◌, ◌++◌}
-use Rattle.std.proofs.Common.{Option, Some, None, refl, ap, ap₂, sym, subst, arith, slice_index_or}
-use Rattle.std.specs.Prelude.{slice_get, is_some, option_map, unwrap_or, IsSome}
+use Rattle.std.proofs.Common.{◌≡◌, ◌∙◌, ◌⊎◌, inl, inr, ℕ, ◌<◌, ◌≤◌, ◌==◌, ℤ, not, List, [], ◌∷◌, ◌++◌}
+use Rattle.std.proofs.Common.{Option, Some, None, refl, ap, ap₂, sym, subst, arith}
+use Rattle.std.specs.Prelude.{is_some, unwrap_or, IsSome}
 use Rattle.std.specs.List.{Contains, filter_map}
 use Rattle.std.proofs.lemmas.Bool.{true≢false, eq-eqb, eqb-true, cases_lt}
-use Rattle.std.proofs.lemmas.Option.{none-some, same_Some}
-use Rattle.tc_base.specs.Buffers.{BufferOps, newest}
+use Rattle.std.proofs.lemmas.Option.{same_Some}
+use Rattle.tc_base.specs.Buffers.{BufferOps}
 use Rattle.tc_base.specs.Logs.{Log}
 use Rattle.tc_base.specs.Names.{Name}
 use Rattle.tc_base.specs.declared.model.Model.{Model}
@@ -22,25 +22,22 @@ use Rattle.run_pending.proofs.Own.{own_has_last, own_has_none}
 use Rattle.run_follows.specs.Follow.{seen_in}
 use Rattle.path_walk.specs.Paths.{Walk, paths_of}
 use Rattle.path_walk.specs.declared.event.Event.{Event}
-use Rattle.path_walk.specs.declared.event.EventKind.{EventKind}
 use Rattle.path_walk.specs.declared.event.EventKind.TheVariants as kind
 use Rattle.path_history.specs.Along.{IsThread}
 use Rattle.path_events.proofs.Lists.{in_contains, contains_in}
 use Rattle.sym_terms.specs.declared.node.Node.{Node}
-use Rattle.sym_exec.specs.Alone.{Asked, asked_in, cell_by}
-use Rattle.sym_exec.specs.Executed.{Course}
+use Rattle.sym_exec.specs.Alone.{Asked, asked_in}
 use Rattle.sym_exec.specs.declared.symbolic.Access.{Access}
 use Rattle.sym_laws.specs.Valued.{found}
 use Rattle.sym_cells.specs.Asked.{IsAskedIn, IsReachedIn}
 use Rattle.sym_cells.proofs.Asked.{access_asked}
 use Rattle.sym_cells.proofs.Reached.{cell_begins}
 use Rattle.order_formula.specs.Worlds.{World}
-use Rattle.order_formula.specs.declared.group.Group.TheVariants.{Read}
-use Rattle.lawful_order.specs.Cells.{is_same_cell, value_at_start}
-use Rattle.lawful_order.specs.Events.{HasEvent, IsBefore, place_of}
-use Rattle.lawful_order.specs.Reads.{HasAccess, Sees, TakesFrom, TakesFirst, ReadRule}
-use Rattle.world_plan.specs.Going.{IsLawfulWorld, HasGone, IsAtEvent, is_pending, place}
-use Rattle.world_plan.specs.Sights.{Sight, sight_of, Shows}
+use Rattle.lawful_order.specs.Cells.{value_at_start}
+use Rattle.lawful_order.specs.Events.{IsBefore, place_of}
+use Rattle.lawful_order.specs.Reads.{HasAccess, Sees, TakesFrom, TakesFirst}
+use Rattle.world_plan.specs.Going.{IsLawfulWorld, HasGone, IsAtEvent}
+use Rattle.world_plan.specs.Sights.{Sight, sight_of}
 use Rattle.world_plan.proofs.Threads.{one_thread}
 use Rattle.plan_memory.proofs.Accesses.{written, issue_asks, executed, IsOfStep, access_of, one_cell, cells_of_steps, bound_before}
 use Rattle.plan_memory.proofs.Empty.{passed_has_drained}

@@ -1,8 +1,7 @@
 -- What has taken place lies before the position up to which a history has gone.
-use Rattle.std.proofs.Common.{◌≡◌, ◌∙◌, ◌⊎◌, inl, inr, ℕ, ◌<◌, ◌≤◌, ◌==◌, ◌&&◌, ℤ, Bool, true, false, cond, List, [], ◌∷◌, ◌++◌}
+use Rattle.std.proofs.Common.{◌≡◌, ◌∙◌, inl, inr, ℕ, ◌<◌, ◌≤◌, ◌&&◌, ℤ, Bool, true, false, cond, List, [], ◌∷◌, ◌++◌}
 use Rattle.std.proofs.Common.{Option, Some, None, refl, ap, ap₂, sym, subst, arith}
-use Rattle.std.specs.Prelude.{slice_get, option_and_then}
-use Rattle.std.specs.List.{Contains}
+use Rattle.std.specs.Prelude.{option_and_then}
 use Rattle.std.proofs.lemmas.Bool.{true≢false}
 use Rattle.std.proofs.lemmas.Option.{none-some, same_Some}
 use Rattle.tc_base.specs.Buffers.{BufferOps}
@@ -15,7 +14,6 @@ use Rattle.store_buffers.specs.Pending.{Binding}
 use Rattle.run_history.specs.History.{Deed, Did, Drained, has_drained}
 use Rattle.run_pending.proofs.Apart.{last_or_before}
 use Rattle.path_walk.specs.Paths.{Walk, paths_of}
-use Rattle.path_walk.specs.declared.event.Event.{Event}
 use Rattle.path_walk.specs.declared.event.EventKind.{EventKind}
 use Rattle.path_laws.specs.Deeds.{kind_of}
 use Rattle.path_history.specs.Along.{IsThread}
@@ -24,14 +22,14 @@ use Rattle.path_events.proofs.Events.{done_event}
 use Rattle.path_events.proofs.Lists.{contains_in}
 use Rattle.sym_terms.specs.declared.node.Node.{Node}
 use Rattle.order_formula.specs.Worlds.{World}
-use Rattle.lawful_order.specs.Events.{IsBefore, place_of}
+use Rattle.lawful_order.specs.Events.{place_of}
 use Rattle.lawful_order.specs.Memory.{is_store}
-use Rattle.world_plan.specs.Going.{IsLawfulWorld, HasGone, IsAtEvent, is_pending, place}
+use Rattle.world_plan.specs.Going.{IsLawfulWorld, HasGone}
 use Rattle.world_plan.specs.Sights.{Sight, sight_of, Shows, AreInOrder}
 use Rattle.world_plan.proofs.Threads.{one_thread}
 use Rattle.plan_memory.proofs.Issued.{IsDrainedIn, drain_issued, issue_event}
 
-abbrev the_sight : Sight → Sight
+abbrev pub the_sight : Sight → Sight
 the_sight s = s
 
 -- what a step shows is an event that is no store of a buffer

@@ -1,6 +1,6 @@
 -- A load takes the value that the world says.
-use Rattle.std.proofs.Common.{◌≡◌, ◌∙◌, inl, inr, ℕ, ◌<◌, ◌==◌, ℤ, pos, Bool, true, false, List, [], ◌∷◌, map, length, Option, Some, None, refl, ap, sym, subst, arith, slice_index_or}
-use Rattle.std.specs.Prelude.{slice_get, is_some, option_map, unwrap_or, IsSome}
+use Rattle.std.proofs.Common.{◌≡◌, ◌∙◌, inr, ℕ, ◌==◌, ℤ, pos, Bool, true, false, List, [], ◌∷◌, Option, Some, None, refl, ap, sym, subst, arith, slice_index_or}
+use Rattle.std.specs.Prelude.{slice_get, is_some, option_map, unwrap_or}
 use Rattle.std.specs.List.{Contains}
 use Rattle.std.proofs.lemmas.Bool.{false≢true, eq-eqb, eqb-true}
 use Rattle.std.proofs.lemmas.Option.{same_Some}
@@ -22,7 +22,6 @@ use Rattle.path_walk.specs.declared.event.Event.{Event}
 use Rattle.path_walk.specs.declared.event.EventKind.{EventKind}
 use Rattle.path_walk.specs.declared.event.EventKind.TheVariants as kind
 use Rattle.path_laws.specs.Deeds.{kind_of}
-use Rattle.path_history.specs.Along.{IsThread}
 use Rattle.path_history.specs.Next.{IsNextOnPath}
 use Rattle.path_history.proofs.Told.{RunOf, run_of}
 use Rattle.path_history.proofs.Walks.{walk_is}
@@ -30,7 +29,7 @@ use Rattle.path_history.proofs.Next.{next_on_path}
 use Rattle.path_events.proofs.Events.{event_within}
 use Rattle.path_events.proofs.Lists.{in_contains}
 use Rattle.sym_terms.specs.declared.node.Node.{Node}
-use Rattle.sym_exec.specs.Alone.{Asked, asked_by, asked_in, cell_by}
+use Rattle.sym_exec.specs.Alone.{Asked, asked_by, cell_by}
 use Rattle.sym_exec.specs.Executed.{Course}
 use Rattle.sym_exec.specs.declared.symbolic.Access.{Access}
 use Rattle.sym_laws.specs.Valued.{found}

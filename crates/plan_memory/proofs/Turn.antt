@@ -1,12 +1,11 @@
 -- The turn of a store whose position has come.
-use Rattle.std.proofs.Common.{◌≡◌, ◌∙◌, inl, inr, ℕ, ◌<◌, ◌≤◌, ◌==◌, ◌&&◌, ℤ, Bool, true, false, not, cond, List, [], ◌∷◌}
+use Rattle.std.proofs.Common.{◌≡◌, ◌∙◌, inl, inr, ℕ, ◌<◌, ◌≤◌, ◌==◌, ℤ, true, false, cond, List, [], ◌∷◌}
 use Rattle.std.proofs.Common.{Some, refl, ap, ap₂, sym, subst, arith}
 use Rattle.std.specs.List.{Contains, find}
 use Rattle.std.specs.Option.{option_map_or}
 use Rattle.std.proofs.lemmas.Bool.{true≢false, and_parts, false_from_ne_true, eq-eqb, ne_eqb}
 use Rattle.tc_base.specs.Buffers.{BufferOps}
 use Rattle.tc_base.specs.Logs.{Log}
-use Rattle.tc_base.specs.Names.{Name}
 use Rattle.tc_base.specs.declared.model.Model.{Model}
 use Rattle.tc_code.specs.Code.{Code}
 use Rattle.store_buffers.specs.Pending.{Binding}
@@ -18,12 +17,12 @@ use Rattle.run_pending.proofs.In.{In, all_in}
 use Rattle.run_pending.proofs.Issues.{Rises}
 use Rattle.run_pending.proofs.Turns.{store_pending}
 use Rattle.run_follows.specs.Follow.{IsNextDrain}
-use Rattle.path_walk.specs.Paths.{Walk, paths_of}
+use Rattle.path_walk.specs.Paths.{Walk}
 use Rattle.path_walk.specs.declared.event.Event.{Event}
 use Rattle.path_walk.specs.declared.event.EventKind.{EventKind}
 use Rattle.path_walk.specs.declared.event.EventKind.TheVariants as kind
 use Rattle.path_history.specs.Along.{IsThread}
-use Rattle.path_history.proofs.Told.{RunOf, run_of}
+use Rattle.path_history.proofs.Told.{run_of}
 use Rattle.path_events.proofs.Bars.{told}
 use Rattle.path_events.proofs.Lists.{in_contains, contains_in}
 use Rattle.sym_terms.specs.declared.node.Node.{Node}

@@ -1,7 +1,7 @@
 -- Where the stores of a history are: in memory, or in a buffer.
 use Rattle.std.proofs.Common.{◌≡◌, ◌∙◌, ◌⊎◌, inl, inr, ℕ, ◌==◌, ◌&&◌, ℤ, Bool, true, false, not, cond, List, [], ◌∷◌, ◌++◌}
 use Rattle.std.proofs.Common.{Option, Some, None, refl, ap, ap₂, sym, subst}
-use Rattle.std.specs.Prelude.{slice_get, option_and_then}
+use Rattle.std.specs.Prelude.{option_and_then}
 use Rattle.std.proofs.lemmas.Bool.{and_parts, and_from, eqb-true, eq-eqb, not_from_false, cases_Bool}
 use Rattle.std.proofs.lemmas.Option.{none-some, same_Some, cond_some}
 use Rattle.tc_base.specs.Buffers.{BufferOps, Entry}
@@ -29,15 +29,13 @@ use Rattle.sym_cells.specs.Asked.{IsAskedIn}
 use Rattle.world_plan.specs.Sights.{Sight, sight_of, Shows}
 use Rattle.plan_memory.proofs.Accesses.{written, issue_asks}
 use Rattle.plan_memory.proofs.Issued.{IsDrainedIn, step_named, issuer_named, drain_issued, issue_drained}
+use Rattle.plan_memory.proofs.Shown.{the_sight}
 
 abbrev the_asked : Asked → Asked
 the_asked y = y
 
 abbrev an_entry : Entry → Entry
 an_entry e = e
-
-abbrev the_sight : Sight → Sight
-the_sight s = s
 
 -- what isn't a store is seen at once
 at_once : (b : Bool) (s : Sight) → cond (b && false) None (Some s) ≡ Some s

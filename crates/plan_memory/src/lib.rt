@@ -2,7 +2,7 @@
 //! Each function's clause is a law, and its body does nothing.
 #![tactic(auto)]
 
-ghost use Rattle.std.specs.Prelude.{◌≡◌, ◌<◌, ℕ, ℤ, pos, Bool, true, false, Option, Some, None, List, [], ◌∷◌, ◌++◌, suc, slice_get, slice_index_or};
+ghost use Rattle.std.specs.Prelude.{◌≡◌, ◌<◌, ℕ, ℤ, pos, true, false, Option, Some, None, List, [], ◌∷◌, ◌++◌, suc, slice_get, slice_index_or};
 ghost use Rattle.std.specs.List.{Contains};
 ghost use Rattle.tc_base.specs.Buffers.{BufferOps};
 ghost use Rattle.tc_base.specs.Logs.{Log};
@@ -18,7 +18,6 @@ ghost use Rattle.run_follows.specs.Follow.{IsNextDrain, taken_in};
 ghost use Rattle.run_stuck.specs.Stuck.{HasDrained, AllDrained};
 ghost use Rattle.path_walk.specs.Paths.{Walk, paths_of};
 ghost use Rattle.path_walk.specs.declared.event.Event.{Event};
-ghost use Rattle.path_laws.specs.Deeds.{kind_of};
 ghost use Rattle.path_history.specs.Along.{IsThread};
 ghost use Rattle.sym_terms.specs.declared.node.Node.{Node};
 ghost use Rattle.sym_exec.specs.Executed.{Course};
