@@ -1,7 +1,7 @@
 pub mod CaseLaws
 pub mod Clauses
+pub mod Completed
 pub mod Lists
-pub mod Loops
 pub mod Posed
 pub mod Prefixes
 pub mod RootLaws

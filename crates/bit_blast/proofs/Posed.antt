@@ -30,6 +30,7 @@ use Rattle.bit_blast.specs.Blasted.{BlastMeans, IsApart, IsPosed, layout_of}
 use Rattle.bit_blast.specs.Contended.{contended, is_literal, with_atom, with_body, with_candidate, with_case, with_event}
 use Rattle.bit_blast.specs.Laws.{BodyIsTold, ReadIsAsked}
 use Rattle.bit_blast.specs.Whole.{IsReady, whole}
+use Rattle.bit_blast.proofs.Completed.{same_part}
 use Rattle.bit_blast.proofs.Lists.{all_of, contains_cases, contains_none}
 use Rattle.bit_blast.proofs.WholeLaws.{first_true, whole_means}
 
@@ -99,12 +100,6 @@ contended_has formula c r e there is named =
     fold_has (λ es (d : Conjunct). with_body es d.body) (λ es d k at. body_keeps es d.body k at) c e
     (λ es. subst (λ b. Contains (with_body es b) e) (sym is) (read_has r e named es)) [] formula there
 
--- more pairs leave the rest of an order as it is
-module _ {A : Type 0} (part : Order → A) (still : (o : Order) (p : Pair) → part (with_pair o p) ≡ part o) where
-  pub same_part : (o : Order) (ps : List Pair) → part (fold with_pair o ps) ≡ part o
-  same_part o [] = refl
-  same_part o (p ∷ ps) = same_part (with_pair o p) ps ∙ still o p
-
 module _ (o p : Order) (events : p.events ≡ o.events) (sleeps : p.sleeps ≡ o.sleeps) where
   atom_in : (a : Atom) → AtomIsIn o a → AtomIsIn p a
   atom_in (Before first second) h = (omega (arith, h.0, events), omega (arith, h.1, events))
@@ -143,11 +138,11 @@ module _ (nodes : List Node) (formula : List Conjunct) (o : Order) (loads : ℕ)
   asked = formula_stays o y.order formula (grows-completed o (contended formula)) h.asked
 
   told_body : (c : Conjunct) → Contains formula c → (b : Body) → c.body ≡ b → BodyIsAsked y.order b → BodyIsIn y.order b → IsApart b → BodyIsTold y.order b
-  told_body c there (body.Any cases) is all in apart = all
-  told_body c there (body.Read r) is all in apart = record {
+  told_body c there (body.Any cases) is all there_too apart = all
+  told_body c there (body.Read r) is all inside apart = record {
     distinct = apart;
-    within = All-cons (λ e. e < y.order.events) r.event (map (λ (k : Candidate). k.event) r.candidates) in.0
-        (All-map (λ e. e < y.order.events) (λ (k : Candidate). k.event) r.candidates in.1);
+    within = All-cons (λ e. e < y.order.events) r.event (map (λ (k : Candidate). k.event) r.candidates) inside.0
+        (All-map (λ e. e < y.order.events) (λ (k : Candidate). k.event) r.candidates inside.1);
     asked = λ first second p q differ.
         completed-asked o (contended formula) first second (contended_has formula c r first there is p) (contended_has formula c r second there is q) differ;
   }

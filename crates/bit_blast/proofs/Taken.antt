@@ -1,7 +1,7 @@
 -- What the literal of a read means.
 use Rattle.std.proofs.Common.{◌≡◌, ◌≢◌, ℕ, suc, ◌+◌, ◌<◌, ◌≤◌, List, [], ◌∷◌, ℤ, pos, refl, ap, sym, ◌∙◌, arith, Bool, true, false, length, get_or, map}
 use Rattle.std.specs.Prelude.{◌==◌}
-use Rattle.std.specs.List.{All, Contains, list_all}
+use Rattle.std.specs.List.{All, Contains, flat_map, list_all}
 use Rattle.std.specs.Option.{option_map_or}
 use Rattle.std.proofs.lemmas.Bool.{and_from, and_parts}
 use Rattle.std.proofs.lemmas.List.{get_or-map, length-map}
@@ -30,6 +30,7 @@ use Rattle.bit_blast.specs.Laws.{Tells, IsRoot, ReadIsAsked, ReadsMean}
 use Rattle.bit_blast.specs.Reads.{Source, all_seen, sources_of, read_clauses, read_made}
 use Rattle.bit_blast.proofs.Clauses.{with_satisfied, with_over}
 use Rattle.bit_blast.proofs.Lists.{AreTied, all_of, contains_first, contains_later, contains_map, one_place}
+use Rattle.bit_order.specs.Clauses.{folded_clause}
 use Rattle.bit_blast.proofs.Prefixes.{first_part, before_grown}
 use Rattle.bit_blast.proofs.Sources.{IsPairAsked, IsSourceOf, IsSourceFor, AreSeen, are_seen, tied, length_sources, are_sources, read_literals, sources_events}
 use Rattle.bit_blast.proofs.Taking.{AreApart, are_met, meets, read_true, met}

@@ -1,6 +1,0 @@
-use Rattle.std.proofs.Common.{◌≡◌, ◌-◌, ◌^◌, map, min, sum, take}
-use Rattle.order_formula.specs.Formulas.{case_nodes}
-use Rattle.bit_blast.proofs.roots.cases_size.Given as goal
-
-abbrev pub invariant-loop-case : goal.invariant-loop-case
-invariant-loop-case l = l.nodes ≡ min (sum (map case_nodes (take l.case-index l.cases))) (2 ^ 64 - 1)

@@ -1,3 +1,0 @@
--- No promise speaks of what stands in this folder.
-pub mod Held
-pub mod Within
