@@ -1,0 +1,312 @@
+-- The plan of a lawful world goes up to each position before the end.
+use Rattle.std.proofs.Common.{◌≡◌, ◌∙◌, ◌≢◌, ◌⊎◌, inl, inr, ℕ, zero, suc, ◌+◌, ◌-◌, ◌≤◌, ◌<◌, Bool, true, false, not, ◌||◌, cond, List}
+use Rattle.std.proofs.Common.{[], ◌∷◌, ◌++◌, length, Option, Some, None, refl, sym, ap, subst, arith}
+use Rattle.std.specs.Prelude.{slice_get}
+use Rattle.std.specs.List.{Contains}
+use Rattle.std.specs.Option.{option_map_or}
+use Rattle.std.proofs.lemmas.Bool.{cases_order}
+use Rattle.std.proofs.lemmas.Option.{none-some}
+use Rattle.tc_base.specs.Buffers.{BufferOps}
+use Rattle.tc_base.specs.Logs.{Log}
+use Rattle.tc_base.specs.Names.{Name}
+use Rattle.tc_base.specs.declared.model.Model.{Model}
+use Rattle.tc_code.specs.Code.{Code}
+use Rattle.store_buffers.specs.Pending.{Binding}
+use Rattle.run_history.specs.History.{Deed, Drained}
+use Rattle.run_history.specs.Told.{steps_in, is_thread_in}
+use Rattle.path_walk.specs.Paths.{Walk, Paths, paths_of}
+use Rattle.path_walk.specs.declared.event.Event.{Event}
+use Rattle.path_walk.specs.declared.event.EventKind.TheVariants as kind
+use Rattle.path_walk.specs.declared.event.Sleep.{Sleep}
+use Rattle.path_history.specs.Along.{IsThread}
+use Rattle.path_events.proofs.Events.{event_within}
+use Rattle.path_events.proofs.Lists.{in_contains}
+use Rattle.path_history.proofs.Stays.{start_along}
+use Rattle.path_history.proofs.Walks.{walk_is, few_steps}
+use Rattle.sym_terms.specs.declared.node.Node.{Node}
+use Rattle.order_formula.specs.Worlds.{World, position}
+use Rattle.order_formula.specs.declared.group.Group.TheVariants.{Own}
+use Rattle.lawful_order.specs.Events.{Of, all_events, all_sleeps, ender_of}
+use Rattle.world_plan.specs.Going.{IsLawfulWorld, is_pending, place}
+use Rattle.world_plan.specs.Plan.{event_at, drains_next, does_next, goes_on, goes_to, with_drain, with_event, up_to}
+use Rattle.world_plan.proofs.Numbers.{event_numbered, number_is, one_event}
+use Rattle.world_plan.proofs.Places.{event_at_is, none_at}
+use Rattle.plan_runs.proofs.Deeds.{GoesOn, goes_nowhere, goes_further, goes_push}
+use Rattle.plan_runs.proofs.Given.{Gone, At, Given}
+use Rattle.plan_runs.proofs.Next as next
+use Rattle.plan_runs.proofs.Next.{NextIs, next_is, paths_whole}
+use Rattle.plan_runs.proofs.Steps.{below_next, quiet_goes, event_goes, drain_goes, one_more, QuietAt}
+
+at_most : (a b : ℕ) → (a ≤ b) ⊎ (b < a)
+at_most a b = by (cases_order a b)
+  where
+    by : ((a ≡ b) ⊎ ((a < b) ⊎ (b < a))) → (a ≤ b) ⊎ (b < a)
+    by (inl e) = inl (omega (arith, e))
+    by (inr (inl lt)) = inl (omega (arith, lt))
+    by (inr (inr gt)) = inr gt
+
+-- one step more, at the end
+pub goes_last : (buffered : Bool) (code : Code) (paths : Paths) (w : World) (m : ℕ) (h : List Deed) (t : ℕ) (n : Name)
+    → goes_on buffered code paths w (suc m) h t n
+    ≡ goes_on buffered code paths w m h t n ++ does_next buffered code paths w (goes_on buffered code paths w m h t n) t n
+goes_last buffered code paths w zero h t n = refl
+goes_last buffered code paths w (suc m) h t n = goes_last buffered code paths w m (h ++ does_next buffered code paths w h t n) t n
+
+module _ {B : Type 0} (ops : BufferOps B) (model : Model) (bound : Binding) (code : Code) (log : Log) (nodes : List Node) (w : World)
+    (l : IsLawfulWorld ops model bound code log nodes w) (g : Given ops bound code log nodes w) where
+  abbrev paths : Paths
+  paths = paths_of code log
+
+  abbrev is_gone : ℕ → List Deed → Type 0
+  is_gone p h = Gone ops bound code log nodes w p h
+
+  abbrev goes : ℕ → List Deed → ℕ → Name → List Deed
+  goes m h t n = goes_on ops.buffered code paths w m h t n
+
+  abbrev Quiet : Walk → ℕ → Type 0
+  Quiet q k = QuietAt ops model bound code log nodes w l g q k
+
+  -- a thread has done so many steps more, and nobody has seen anything
+  pub record Reached (p : ℕ) (h : List Deed) (q : Walk) (k : ℕ) (later : List Deed) : Type 0 where
+    pub gone : is_gone p later
+    pub steps : steps_in later q.name ≡ k
+    pub on : GoesOn h later
+
+  pub quiet_on : (m p : ℕ) (h : List Deed) → is_gone p h → (t : ℕ) (q : Walk) → IsThread code log t q → is_thread_in h q.name ≡ true
+      → steps_in h q.name + m ≤ length q.places → ((k : ℕ) → steps_in h q.name ≤ k → k < steps_in h q.name + m → Quiet q k)
+      → Reached p h q (steps_in h q.name + m) (goes m h t q.name)
+  quiet_on zero p h gone t q there is_there few quiet = record { gone = gone; steps = omega arith; on = goes_nowhere h }
+  quiet_on (suc m) p h gone t q there is_there few quiet =
+      let n = next_is ops model bound code log nodes w l p h gone t q there is_there (omega (arith, few)) in
+      let d = next.deed ops model bound code log nodes w l p h gone t q there n in
+      let one = one_more ops model bound code log nodes w l g p h gone t q there n in
+      let later = quiet_goes ops model bound code log nodes w l g p h gone t q there n (quiet (steps_in h q.name) (omega arith) (omega arith)) in
+      let rest = quiet_on m p (h ++ d ∷ []) later t q there (one.goes.there q.name is_there) (omega (arith, one.steps, few))
+      (λ k low high. quiet k (omega (arith, low, one.steps)) (omega (arith, high, one.steps))) in
+      subst (λ ds. Reached p h q (steps_in h q.name + suc m) (goes m (h ++ ds) t q.name))
+      (sym (next.does_it ops model bound code log nodes w l p h gone t q there n))
+      (record {
+        gone = rest.gone;
+        steps = omega (arith, rest.steps, one.steps);
+        on = goes_further h (h ++ d ∷ []) (goes m (h ++ d ∷ []) t q.name) one.goes rest.on;
+      })
+
+  -- before an event of a thread all steps that are left are quiet
+  not_pending : (b c : Bool) → b ≡ false → (not b || c) ≡ true
+  not_pending false c e = refl
+  not_pending true c e = absurd cc
+
+  quiet_before : (p : ℕ) (h : List Deed) → is_gone p h → (t : ℕ) (q : Walk) (x : Event) → IsThread code log t q → Contains q.events x
+      → place code log w t x ≡ p → (k : ℕ) → steps_in h q.name ≤ k → k < x.step → Quiet q k
+  quiet_before p h gone t q x there i at k low high y j step = by (is_pending ops.buffered y) refl
+    where
+      by : (b : Bool) → is_pending ops.buffered y ≡ b → is_pending ops.buffered y ≡ true
+      by true e = e
+      by false e =
+          let before = (l.lawful.meets (Own t)).own y x (q, there, j) (q, there, i) (omega (arith, step, high)) (not_pending _ _ e) in
+          let done = gone.did t q y there j (omega (arith, before, at)) in
+          absurd (omega (arith, done, low, step))
+
+  within : (t : ℕ) (q : Walk) (x : Event) → IsThread code log t q → Contains q.events x → x.step < length q.places
+  within t q x there i = event_within code log q (walk_is code log l.log_is l.fits t q there) x (in_contains x q.events i)
+
+  -- An event that comes.
+  module _ (p : ℕ) (h : List Deed) (gone : is_gone p h) (t : ℕ) (q : Walk) (x : Event) (there : IsThread code log t q) (i : Contains q.events x)
+      (here : place code log w t x ≡ p) where
+    abbrev is_there : is_thread_in h q.name ≡ true
+    is_there = g.there p h t q x gone there i here
+
+    abbrev upto : List Deed
+    upto = goes_to ops.buffered code paths w h t q.name (x.step + 1)
+
+    -- a store that waits has been issued, or is now
+    module _ (waits : is_pending ops.buffered x ≡ true) where
+      quiet_through : (k : ℕ) → steps_in h q.name ≤ k → k < steps_in h q.name + (x.step + 1 - steps_in h q.name) → Quiet q k
+      quiet_through k low high =
+          elim (below_next k x.step (omega (arith, high, low))) [
+            | inl less ↦ quiet_before p h gone t q x there i here k low less
+            | inr same ↦ λ y j step.
+                ap (is_pending ops.buffered)
+                (one_event paths (paths_whole ops model bound code log nodes w l) t q y x there j i (step ∙ same))
+                ∙ waits
+          ]
+
+      few_left : steps_in h q.name + (x.step + 1 - steps_in h q.name) ≤ length q.places
+      few_left =
+          elim (at_most (x.step + 1) (steps_in h q.name)) [
+            | inl done ↦ omega (arith, done, few_steps ops model bound l.laws code l.code_is log l.log_is l.fits h t q gone.along there)
+            | inr left ↦ omega (arith, left, within t q x there i)
+          ]
+
+      issued : Reached p h q (steps_in h q.name + (x.step + 1 - steps_in h q.name)) upto
+      issued = quiet_on (x.step + 1 - steps_in h q.name) p h gone t q there is_there few_left quiet_through
+
+      pub pending_passes : is_gone (suc p) (upto ++ drains_next ops.buffered upto q.name x.step)
+          × GoesOn h (upto ++ drains_next ops.buffered upto q.name x.step)
+      pending_passes =
+          let done : x.step < steps_in upto q.name = omega (arith, issued.steps) in
+          let turn = g.turns p upto t q x issued.gone there i waits here done in
+          let d = Drained q.name x.step turn.0 turn.1 in
+          subst (λ ds. is_gone (suc p) (upto ++ ds) × GoesOn h (upto ++ ds)) (sym turn.3) (
+            drain_goes ops model bound code log nodes w l g p upto issued.gone t q there x i here waits done turn.0 turn.1 turn.2,
+            goes_further h upto (upto ++ d ∷ []) issued.on (goes_push upto d),
+          )
+
+    -- any other event is done now
+    module _ (now : is_pending ops.buffered x ≡ false) where
+      not_done : steps_in h q.name ≤ x.step
+      not_done =
+          elim (at_most (steps_in h q.name) x.step) [
+            | inl left ↦ left
+            | inr done ↦
+                elim (gone.only t q x there i done) [
+                  | inl less ↦ absurd (omega (arith, less, here))
+                  | inr waits ↦ absurd (let both : true ≡ false = sym waits ∙ now in cc)
+                ]
+          ]
+
+      abbrev before : List Deed
+      before = goes (x.step - steps_in h q.name) h t q.name
+
+      pub come : Reached p h q x.step before
+      come =
+          let r = quiet_on (x.step - steps_in h q.name) p h gone t q there is_there (omega (arith, not_done, within t q x there i))
+          (λ k low high. quiet_before p h gone t q x there i here k low (omega (arith, high, low, not_done))) in
+          record { gone = r.gone; steps = omega (arith, r.steps, not_done); on = r.on }
+
+      pub at_it : At ops bound code log nodes w p before t q x
+      at_it = record { gone = come.gone; thread = there; event = i; at = here; steps = come.steps }
+
+      pub next_there : NextIs ops model bound code log nodes w l before t q
+      next_there =
+          next_is ops model bound code log nodes w l p before come.gone t q there (come.on.there q.name is_there)
+          (omega (arith, come.steps, within t q x there i))
+
+      upto_is : upto ≡ before ++ does_next ops.buffered code paths w before t q.name
+      upto_is =
+          let one : x.step + 1 - steps_in h q.name ≡ suc (x.step - steps_in h q.name) = omega (arith, not_done) in
+          ap (λ m. goes m h t q.name) one ∙ goes_last ops.buffered code paths w (x.step - steps_in h q.name) h t q.name
+
+      pub event_passes : x.kind ≢ kind.Fail → is_gone (suc p) upto × GoesOn h upto
+      event_passes not =
+          let n = next_there in
+          let d = next.deed ops model bound code log nodes w l p before come.gone t q there n in
+          subst (λ k. is_gone (suc p) k × GoesOn h k)
+          (sym (upto_is ∙ ap (λ ds. before ++ ds) (next.does_it ops model bound code log nodes w l p before come.gone t q there n))) (
+            event_goes ops model bound code log nodes w l g p before come.gone t q there n x at_it now not,
+            goes_further h before (before ++ d ∷ []) come.on (goes_push before d),
+          )
+
+    pub passes : x.kind ≢ kind.Fail
+        → is_gone (suc p) (with_drain ops.buffered code paths w upto q.name x) × GoesOn h (with_drain ops.buffered code paths w upto q.name x)
+    passes not = by (is_pending ops.buffered x) refl
+      where
+        by : (b : Bool) → is_pending ops.buffered x ≡ b
+            → is_gone (suc p) (cond b (upto ++ drains_next ops.buffered upto q.name x.step) upto)
+            × GoesOn h (cond b (upto ++ drains_next ops.buffered upto q.name x.step) upto)
+        by true waits = pending_passes waits
+        by false now = event_passes now not
+
+  -- A position without an event.
+  module _ (p : ℕ) (h : List Deed) (gone : is_gone p h) (none : event_at paths w p ≡ None) where
+    nowhere : (t : ℕ) (q : Walk) (x : Event) → IsThread code log t q → Contains q.events x → place code log w t x ≡ p → ⊥
+    nowhere t q x there i at = none_at paths w l.world l.of.events (paths_whole ops model bound code log nodes w l) p t q x none there i at
+
+    -- so nothing ends a sleep there
+    no_ender : (s k : ℕ) (x : Of Sleep) → slice_get (all_sleeps paths) s ≡ Some x → ender_of w s ≡ Some k → position w k ≡ p → ⊥
+    no_ender s k x is ends at =
+        elim (l.of.enders s k x.it.condition x (record { is = is; condition = refl }) ends) [
+          | inl signal ↦ of_event signal.event signal.is
+          | inr broadcast ↦ of_event broadcast.event broadcast.is
+        ]
+      where
+        of_event : (e : Of Event) → slice_get (all_events paths) k ≡ Some e → ⊥
+        of_event e here =
+            let whole = paths_whole ops model bound code log nodes w l in
+            let q = event_numbered paths whole k e here in
+            nowhere e.thread q.0 e.it q.1 q.2 (ap (position w) (number_is paths whole k e here) ∙ at)
+
+    pub none_passes : is_gone (suc p) h
+    none_passes = record {
+      along = gone.along;
+      agrees = gone.agrees;
+      going = gone.going;
+      did = λ t q x there i before.
+          elim (below_next (place code log w t x) p before) [
+            | inl less ↦ gone.did t q x there i less
+            | inr at ↦ absurd (nowhere t q x there i at)
+          ];
+      only = λ t q x there i done.
+          elim (gone.only t q x there i done) [
+            | inl less ↦ inl (omega (arith, less))
+            | inr waits ↦ inr waits
+          ];
+      drained = λ t q x there i waits.
+          let told = gone.drained t q x there i waits in (
+            λ yes. let less = told.0 yes in omega (arith, less),
+            λ before.
+                elim (below_next (place code log w t x) p before) [
+                  | inl less ↦ told.1 less
+                  | inr at ↦ absurd (nowhere t q x there i at)
+                ],
+          );
+      sleeps = λ s x q is there done.
+          let told = gone.sleeps s x q is there done in (
+            λ asleep k ends.
+                elim (cases_order p (position w k)) [
+                  | inl at ↦ absurd (no_ender s k x is ends (sym at))
+                  | inr more ↦ let low = told.0 asleep k ends in after (position w k) more low
+                ],
+            λ later. told.1 (λ k ends. let high = later k ends in omega (arith, high)),
+          );
+      order = gone.order;
+    }
+      where
+        after : (n : ℕ) → (p < n) ⊎ (n < p) → p ≤ n → suc p ≤ n
+        after n (inl lt) low = lt
+        after n (inr gt) low = absurd (omega (arith, gt, low))
+
+  -- At the start.
+  pub starts : is_gone 0 []
+  starts = record {
+    along = start_along ops model bound l.laws code l.code_is log l.fits;
+    agrees = λ c a m r took other ic ia is one. absurd (none-some _ one.1);
+    going = refl;
+    did = λ t q x there i before. absurd (omega (arith, before));
+    only = λ t q x there i done. absurd (omega (arith, done));
+    drained = λ t q x there i waits. (λ yes. absurd (let e : false ≡ true = yes in cc), λ before. absurd (omega (arith, before)));
+    sleeps = λ s x q is there done. absurd (omega (arith, done));
+    order = λ older between newer d e t k u j is. absurd (nothing_ends (older ++ d ∷ between) e newer is);
+  }
+    where
+      nothing_ends : (older : List Deed) (e : Deed) (newer : List Deed) → [] ≡ older ++ e ∷ newer → ⊥
+      nothing_ends [] e newer is = cc
+      nothing_ends (d ∷ older) e newer is = cc
+
+  -- So up to each position before that of the failing event.
+  module _ (end : ℕ)
+      (unfailed : (t : ℕ) (q : Walk) (x : Event) → IsThread code log t q → Contains q.events x → place code log w t x < end → x.kind ≢ kind.Fail) where
+    -- an event comes by its thread
+    abbrev by_walk : List Deed → Of Event → Option Walk → List Deed
+    by_walk h e o =
+        option_map_or (λ (q : Walk). with_drain ops.buffered code paths w (goes_to ops.buffered code paths w h e.thread q.name (e.it.step + 1)) q.name e.it)
+        o h
+
+    event_is_passed : (p : ℕ) (h : List Deed) → is_gone p h → p < end → (e : Of Event) → event_at paths w p ≡ Some e
+        → is_gone (suc p) (with_event ops.buffered code paths w h e)
+    event_is_passed p h gone lt e is =
+        let a = event_at_is paths w l.world l.of.events (paths_whole ops model bound code log nodes w l) p e is in
+        subst (is_gone (suc p)) (ap (by_walk h e) (sym a.1))
+        (passes p h gone e.thread a.0 e.it a.1 a.2 a.3 (unfailed e.thread a.0 e.it a.1 a.2 (omega (arith, a.3, lt)))).0
+
+    pub gone_up_to : (p : ℕ) → p ≤ end → is_gone p (up_to ops.buffered code paths w p)
+    gone_up_to zero le = starts
+    gone_up_to (suc p) le = by (event_at paths w p) refl (gone_up_to p (omega (arith, le)))
+      where
+        so_far : List Deed
+        so_far = up_to ops.buffered code paths w p
+
+        by : (o : Option (Of Event)) → event_at paths w p ≡ o → is_gone p so_far
+            → is_gone (suc p) (option_map_or (with_event ops.buffered code paths w so_far) o so_far)
+        by None none gone = none_passes p so_far gone none
+        by (Some e) is gone = event_is_passed p so_far gone (omega (arith, le)) e is

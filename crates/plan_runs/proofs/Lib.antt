@@ -1,0 +1,10 @@
+mod Given
+mod Deeds
+mod May
+mod Next
+mod Steps
+mod Goes
+mod End
+mod Rest
+mod Runs
+mod Laws

@@ -1,0 +1,103 @@
+-- The next step of a thread may be done.
+use Rattle.std.proofs.Common.{◌≡◌, ◌∙◌, inl, inr, ℕ, ◌+◌, Bool, true, false, not, List, Option, Some, None, refl, sym, ap}
+use Rattle.std.specs.Prelude.{is_none, option_map, option_and_then}
+use Rattle.std.specs.List.{last_or}
+use Rattle.std.proofs.lemmas.Bool.{and_from}
+use Rattle.std.proofs.lemmas.Option.{same_Some}
+use Rattle.tc_base.specs.Buffers.{BufferOps, is_nil}
+use Rattle.tc_base.specs.Logs.{Log}
+use Rattle.tc_base.specs.Names.{Name}
+use Rattle.tc_base.specs.declared.request.Request.{Request}
+use Rattle.tc_base.specs.declared.request.Request.TheVariants.{Silent, Read, Write, Exchange, CompareExchange, Bar, Acquire, Release, BeginWait}
+use Rattle.tc_base.specs.declared.request.Request.TheVariants.{EndWait, WakeOne, WakeAll, Start, Await, OrderStores, Finish, Fail}
+use Rattle.tc_code.specs.Code.{Code}
+use Rattle.store_buffers.specs.Pending.{Binding, stores}
+use Rattle.run_history.specs.History.{Deed, pending}
+use Rattle.run_history.specs.Told.{children_in, owner_in}
+use Rattle.run_history.proofs.Lists.{last_or-push}
+use Rattle.run_follows.specs.Follow.{may_do_in, OtherIs}
+use Rattle.path_walk.specs.Events.{takes}
+use Rattle.path_walk.specs.Paths.{Walk, paths_of}
+use Rattle.path_walk.specs.declared.event.Event.{Event}
+use Rattle.path_walk.specs.declared.event.EventKind.{EventKind}
+use Rattle.path_walk.specs.declared.event.EventKind.TheVariants as kind
+use Rattle.path_laws.specs.Deeds.{kind_of}
+use Rattle.sym_terms.specs.declared.node.Node.{Node}
+use Rattle.order_formula.specs.Worlds.{World}
+use Rattle.lawful_order.specs.Events.{number_of}
+use Rattle.lawful_order.specs.Memory.{may_overtake}
+use Rattle.world_plan.specs.Plan.{woken_by, other_of}
+use Rattle.plan_runs.proofs.Given.{IsQuiet, At, Given}
+
+-- a create asks for the child that it makes
+pub start_kind : (h : List Deed) (n : Name) (f : ℕ) (other : Option Name) → OtherIs h n (Start f) other
+    → kind_of (Start f) other ≡ Some (kind.Create (children_in h n + 1))
+start_kind h n f other is =
+    ap (λ o. option_map kind.Create (option_and_then (last_or None) o)) is
+    ∙ ap (option_map kind.Create) (last_or-push None n (children_in h n + 1))
+
+-- A quiet step.
+none_may : (buffered : Bool) (h : List Deed) (n : Name) (r : Request) (other : Option Name) → OtherIs h n r other → kind_of r other ≡ None
+    → may_do_in buffered h n r other ≡ true
+none_may buffered h n Silent other is none = refl
+none_may buffered h n Bar other is none = refl
+none_may buffered h n (Start f) other is none = absurd (let e : Some (kind.Create (children_in h n + 1)) ≡ None = sym (start_kind h n f other is) ∙ none in cc)
+none_may buffered h n r other is none = absurd cc
+
+store_may : (buffered : Bool) (h : List Deed) (n : Name) (r : Request) (other : Option Name) → OtherIs h n r other → kind_of r other ≡ Some kind.Store
+    → may_do_in buffered h n r other ≡ true
+store_may buffered h n (Write c v) other is e = refl
+store_may buffered h n (Start f) other is e =
+    absurd (let made : Some (kind.Create (children_in h n + 1)) ≡ Some kind.Store = sym (start_kind h n f other is) ∙ e in cc)
+store_may buffered h n r other is e = absurd cc
+
+pub quiet_may : (buffered : Bool) (h : List Deed) (n : Name) (r : Request) (other : Option Name) → OtherIs h n r other → IsQuiet buffered (kind_of r other)
+    → may_do_in buffered h n r other ≡ true
+quiet_may buffered h n r other is (inl none) = none_may buffered h n r other is none
+quiet_may buffered h n r other is (inr store) = store_may buffered h n r other is store.1
+
+-- The step of the event at a position.
+module _ {B : Type 0} (ops : BufferOps B) (bound : Binding) (code : Code) (log : Log) (nodes : List Node) (w : World) (g : Given ops bound code log nodes w)
+    (p : ℕ) (h : List Deed) (t : ℕ) (q : Walk) (x : Event) (at : At ops bound code log nodes w p h t q x) where
+  -- what may not overtake stores finds them in memory, and the other threads let it
+  drained : (k : EventKind) → k ≡ x.kind → may_overtake k ≡ false → is_nil (stores (pending ops.buffered h q.name)) ≡ true
+  drained k same not = g.empties p h t q x at (ap may_overtake (sym same) ∙ not)
+
+  free : (m : ℕ) (k : EventKind) → k ≡ x.kind → takes k ≡ Some m → is_none (owner_in h m) ≡ true
+  free m k same is = ap is_none (g.frees p h t q x at m (ap takes (sym same) ∙ is))
+
+  signal_may : (c : ℕ) (o : Option Name) → kind.Signal c ≡ x.kind
+      → woken_by (paths_of code log) w (number_of (paths_of code log) t x.step) ≡ o → may_do_in ops.buffered h q.name (WakeOne c) o ≡ true
+  signal_may c (Some u) same is = and_from _ _ (drained (kind.Signal c) same refl) (g.waits p h t q x at c (sym same) u is)
+  signal_may c None same is = and_from _ _ (drained (kind.Signal c) same refl) (g.lost p h t q x at c (sym same) is)
+
+  pub event_may : (r : Request) → kind_of r (other_of (paths_of code log) w h t q.name r) ≡ Some x.kind
+      → may_do_in ops.buffered h q.name r (other_of (paths_of code log) w h t q.name r) ≡ true
+  event_may Silent e = absurd cc
+  event_may Bar e = absurd cc
+  event_may (Read c) e = refl
+  event_may (Write c v) e = refl
+  event_may Fail e = refl
+  event_may (Exchange c v) e = and_from _ _ (drained kind.Exchange (same_Some kind.Exchange x.kind e) refl) refl
+  event_may (CompareExchange c a v) e = and_from _ _ (drained kind.Exchange (same_Some kind.Exchange x.kind e) refl) refl
+  event_may (Acquire m) e =
+      let same = same_Some (kind.Lock m) x.kind e in
+      and_from _ _ (drained (kind.Lock m) same refl) (free m (kind.Lock m) same refl)
+  event_may (Release m) e = and_from _ _ (drained (kind.Unlock m) (same_Some (kind.Unlock m) x.kind e) refl) refl
+  event_may (BeginWait c m) e = and_from _ _ (drained (kind.Sleep c m) (same_Some (kind.Sleep c m) x.kind e) refl) refl
+  event_may (EndWait c m) e =
+      let same = same_Some (kind.Wake c m) x.kind e in
+      and_from _ _ (drained (kind.Wake c m) same refl)
+      (and_from _ _ (ap not (g.woken p h t q x at c m (sym same))) (free m (kind.Wake c m) same refl))
+  event_may (WakeOne c) e =
+      signal_may c _ (same_Some (kind.Signal c) x.kind e)
+      (ap (λ k. woken_by (paths_of code log) w (number_of (paths_of code log) t k)) (sym at.steps))
+  event_may (WakeAll c) e = and_from _ _ (drained (kind.Broadcast c) (same_Some (kind.Broadcast c) x.kind e) refl) refl
+  event_may (Start f) e =
+      let made = start_kind h q.name f (other_of (paths_of code log) w h t q.name (Start f)) refl in
+      and_from _ _ (drained (kind.Create (children_in h q.name + 1)) (same_Some _ x.kind (sym made ∙ e)) refl) refl
+  event_may (Await k) e =
+      let same = same_Some (kind.Join k) x.kind e in
+      and_from _ _ (drained (kind.Join k) same refl) (g.exits p h t q x at k (sym same))
+  event_may OrderStores e = and_from _ _ (drained kind.Fence (same_Some kind.Fence x.kind e) refl) refl
+  event_may Finish e = and_from _ _ (drained kind.Exit (same_Some kind.Exit x.kind e) refl) refl

@@ -1,0 +1,128 @@
+-- What a thread does next, on its path and under the values that a lawful world gives its loads.
+use Rattle.std.proofs.Common.{◌≡◌, ◌∙◌, ℕ, ◌<◌, true, List, [], ◌∷◌, ◌++◌, length, get_or, Option, Some, refl, sym, ap, arith}
+use Rattle.std.specs.Prelude.{slice_get}
+use Rattle.std.specs.Option.{option_map_or}
+use Rattle.std.proofs.lemmas.Option.{same_Some, slice_get-get_or, slice_get_within}
+use Rattle.tc_base.specs.Buffers.{BufferOps}
+use Rattle.tc_base.specs.Logs.{Log}
+use Rattle.tc_base.specs.Names.{Name}
+use Rattle.tc_base.specs.declared.model.Model.{Model}
+use Rattle.tc_base.specs.declared.request.Request.{Request}
+use Rattle.tc_base.specs.declared.request.Request.TheVariants.{Silent, WakeOne, Start}
+use Rattle.tc_code.specs.Code.{Code}
+use Rattle.store_buffers.specs.Pending.{Binding}
+use Rattle.run_history.specs.History.{Deed, Did}
+use Rattle.run_history.specs.Told.{steps_in, is_thread_in, failed_in}
+use Rattle.run_follows.specs.Follow.{taken_in, may_do_in, OtherIs, MayFollow}
+use Rattle.path_walk.specs.Paths.{Walk, Paths, ArePaths, paths_of}
+use Rattle.path_laws.specs.Deeds.{kind_of}
+use Rattle.path_history.specs.Along.{IsThread}
+use Rattle.path_history.specs.Next.{failing_next, IsNextOnPath}
+use Rattle.path_history.proofs.Next.{next_on_path}
+use Rattle.path_history.proofs.Stays.{step_stays}
+use Rattle.path_history.proofs.Told.{run_of}
+use Rattle.path_history.proofs.Walks.{thread_path_at}
+use Rattle.sym_terms.specs.declared.node.Node.{Node}
+use Rattle.sym_exec.specs.Executed.{Course, Executed}
+use Rattle.sym_laws.specs.Valued.{found}
+use Rattle.sym_laws.proofs.Follows.{found_at_log}
+use Rattle.sym_steps.specs.Next.{kind_at, IsToldNext}
+use Rattle.sym_steps.proofs.Told.{next_told}
+use Rattle.order_formula.specs.Worlds.{World}
+use Rattle.order_formula.specs.declared.group.Group.TheVariants.{Test}
+use Rattle.lawful_order.specs.Whole.{AreWhole, IsExecutedBy}
+use Rattle.order_events.proofs.Whole.{whole}
+use Rattle.sym_events.proofs.Whole.{is_executed}
+use Rattle.world_plan.specs.Going.{IsLawfulWorld}
+use Rattle.world_plan.specs.Plan.{other_of, does_next}
+use Rattle.world_plan.proofs.Threads.{one_thread}
+use Rattle.plan_runs.proofs.Given.{Gone, Along}
+use Rattle.plan_runs.proofs.Deeds.{failed_after}
+
+pub is_other : (paths : Paths) (w : World) (h : List Deed) (t : ℕ) (n : Name) (r : Request) → OtherIs h n r (other_of paths w h t n r)
+is_other paths w h t n (Start f) = refl
+is_other paths w h t n (WakeOne c) = tt
+is_other paths w h t n Silent = refl
+is_other paths w h t n r = refl
+
+module _ {B : Type 0} (ops : BufferOps B) (model : Model) (bound : Binding) (code : Code) (log : Log) (nodes : List Node) (w : World)
+    (l : IsLawfulWorld ops model bound code log nodes w) where
+  abbrev paths : Paths
+  paths = paths_of code log
+
+  abbrev all : Executed
+  all = found code log nodes
+
+  are : ArePaths code paths
+  are = record { log = log; fits = l.fits; are = refl }
+
+  pub paths_whole : AreWhole paths
+  paths_whole = whole code paths are
+
+  pub paths_executed : IsExecutedBy paths all.symbolic
+  paths_executed = is_executed code paths nodes are
+
+  -- what the execution finds of a thread
+  pub course_of : (t : ℕ) (q : Walk) → IsThread code log t q → (c : Course) × (slice_get all.symbolic.threads t ≡ Some c) × (c.name ≡ q.name)
+  course_of t q there =
+      let p = thread_path_at code log t q there in
+      (_, (found_at_log code log nodes l.code_is l.log_is l.terms t p.0 p.1).course, ap (λ (x : Walk). x.name) p.2)
+
+  pub of_thread : (t j : ℕ) (q : Walk) (c : Course) → IsThread code log t q → slice_get all.symbolic.threads j ≡ Some c → c.name ≡ q.name → j ≡ t
+  of_thread t j q c there at name =
+      let within = slice_get_within all.symbolic.threads j c at in
+      let v = get_or paths.threads j q in
+      let other : IsThread code log j v = slice_get-get_or paths.threads j q (omega (arith, within, paths_executed.threads)) in
+      let found = course_of j v other in
+      let one : found.0 ≡ c = same_Some found.0 c (sym found.1 ∙ at) in
+      one_thread code log l.log_is j t v q other there (sym found.2 ∙ ap (λ (x : Course). x.name) one ∙ name)
+
+  -- The next step of a thread.
+  pub record NextIs (h : List Deed) (t : ℕ) (q : Walk) : Type 0 where
+    pub course : Course
+    pub there : slice_get all.symbolic.threads t ≡ Some course
+    pub name : course.name ≡ q.name
+    pub next : IsNextOnPath code h q
+    pub request : Request
+    pub told : IsToldNext code log all.nodes w.loads h q course next request
+
+  module _ (p : ℕ) (h : List Deed) (gone : Gone ops bound code log nodes w p h) (t : ℕ) (q : Walk) (there : IsThread code log t q) where
+    pub next_is : is_thread_in h q.name ≡ true → steps_in h q.name < length q.places → NextIs h t q
+    next_is is_there left =
+        let c = course_of t q there in
+        let r = run_of ops model bound l.laws code l.code_is log h gone.along in
+        let x = next_on_path ops model bound l.laws code l.code_is log l.log_is l.fits h t q there gone.going r is_there left in
+        let told = next_told ops model bound l.laws code l.code_is log l.log_is l.fits nodes w.loads l.terms h gone.along gone.agrees t q c.0 x there c.1
+        gone.going l.lives (λ y i step. (l.lawful.meets (Test t y.line)).tests c.0 y c.1 i refl) in
+        record { course = c.0; there = c.1; name = c.2; next = x; request = told.0; told = told.1 }
+
+    module _ (n : NextIs h t q) where
+      abbrev k : ℕ
+      k = steps_in h q.name
+
+      abbrev pub other : Option Name
+      other = other_of paths w h t q.name n.request
+
+      abbrev pub deed : Deed
+      deed = Did q.name k n.request (taken_in ops.buffered code h q.name n.request) other
+
+      -- it is the path's event, or none
+      pub kind_is : kind_of n.request other ≡ kind_at q k
+      kind_is = n.told.event other (is_other paths w h t q.name n.request)
+
+      pub does_it : does_next ops.buffered code paths w h t q.name ≡ deed ∷ []
+      does_it =
+          ap (λ o. option_map_or (λ r. Did q.name k r (taken_in ops.buffered code h q.name r) (other_of paths w h t q.name r) ∷ []) o []) n.told.asks
+
+      module _ (may : may_do_in ops.buffered h q.name n.request other ≡ true) where
+        pub follows : MayFollow ops.buffered bound code h deed
+        follows = record { asks = n.told.asks; number = refl; may = may; takes = refl; other_is = is_other paths w h t q.name n.request }
+
+        pub along : Along ops bound code log nodes w (h ++ deed ∷ [])
+        along =
+            step_stays ops model bound l.laws code l.code_is log l.log_is l.fits h gone.along t q there gone.going n.next k n.request
+            (taken_in ops.buffered code h q.name n.request) other follows n.told.branches
+            (n.told.fails_so k (taken_in ops.buffered code h q.name n.request) other)
+
+      pub fails_as : failed_in (h ++ deed ∷ []) ≡ failing_next log h q
+      fails_as = failed_after h deed gone.going ∙ n.told.fails_so k (taken_in ops.buffered code h q.name n.request) other

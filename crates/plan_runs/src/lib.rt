@@ -1,0 +1,37 @@
+//! Lawful orders are orders of runs: the plan of a lawful world reproduces its log. Each function's clause is a law, and its
+//! body does nothing.
+#![tactic(auto)]
+
+ghost use Rattle.std.specs.Prelude.{◌≡◌, List};
+ghost use Rattle.tc_base.specs.Buffers.{BufferOps};
+ghost use Rattle.tc_base.specs.Logs.{Log};
+ghost use Rattle.tc_base.specs.declared.model.Model.{Model};
+ghost use Rattle.tc_code.specs.Code.{Code};
+ghost use Rattle.tc_code.specs.Run.{Reproduces};
+ghost use Rattle.store_buffers.specs.Pending.{Binding};
+ghost use Rattle.run_history.specs.History.{history};
+ghost use Rattle.run_follows.specs.Follow.{moves_for};
+ghost use Rattle.path_walk.specs.Paths.{paths_of};
+ghost use Rattle.sym_terms.specs.declared.node.Node.{Node};
+ghost use Rattle.order_formula.specs.Worlds.{World};
+ghost use Rattle.world_plan.specs.Going.{IsLawfulWorld, HaveDrained};
+ghost use Rattle.world_plan.specs.Plan.{end_of, plan};
+ghost use Rattle.world_plan.specs.Sights.{AreInOrder};
+
+/// The moves of the plan of a lawful world reproduce the log, a failure or a deadlock, under the memory model: what they do is
+/// the plan, and the events of the paths take place in the order of the world. Of the stores that wait in buffers those have
+/// drained that come before the failing event, and in a deadlock all.
+pub fn lawful_worlds_are_run<B>()
+    ensures reproduces { (ops : BufferOps B) (model : Model) (bound : Binding) (code : Code) (log : Log) (nodes : List Node) (w : World)
+        → IsLawfulWorld ops model bound code log nodes w
+        → Reproduces ops code log (moves_for bound (plan ops.buffered code (paths_of code log) w)) }
+    ensures history { (ops : BufferOps B) (model : Model) (bound : Binding) (code : Code) (log : Log) (nodes : List Node) (w : World)
+        → IsLawfulWorld ops model bound code log nodes w
+        → history ops code (moves_for bound (plan ops.buffered code (paths_of code log) w)) ≡ plan ops.buffered code (paths_of code log) w }
+    ensures order { (ops : BufferOps B) (model : Model) (bound : Binding) (code : Code) (log : Log) (nodes : List Node) (w : World)
+        → IsLawfulWorld ops model bound code log nodes w
+        → AreInOrder ops.buffered (paths_of code log) w (plan ops.buffered code (paths_of code log) w) }
+    ensures drained { (ops : BufferOps B) (model : Model) (bound : Binding) (code : Code) (log : Log) (nodes : List Node) (w : World)
+        → IsLawfulWorld ops model bound code log nodes w
+        → HaveDrained code log w ops.buffered (end_of (paths_of code log) w) (plan ops.buffered code (paths_of code log) w) }
+{}
