@@ -105,8 +105,8 @@ module _ {B : Type 0} (ops : BufferOps B) (model : Model) (bound : Binding) (law
       record {
         walk = q.0;
         thread = q.1;
-        asked = access_asked ops model bound laws code lawful log is fit nodes w.loads terms h go agrees t q.0 has.0 q.1 has.1 a (in_contains a has.0.accesses has.2)
-            q.2;
+        asked = access_asked ops model bound laws code lawful log is fit nodes w.loads terms h go agrees t q.0 has.0 q.1 has.1 a
+            (in_contains a has.0.accesses has.2) q.2;
       }
 
   -- and the access of a deed

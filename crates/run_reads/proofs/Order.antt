@@ -24,7 +24,9 @@ module _ (buffered : Bool) (paths : Paths) where
   shown_or_not g t k = by (list_any (shown buffered paths t k) g) refl
     where
       by : (x : Bool) → list_any (shown buffered paths t k) g ≡ x → IsShownIn g t k ⊎ (IsShownIn g t k → ⊥)
-      by true e = let p = any_in (shown buffered paths t k) g e in inl (record { deed = p.one; there = p.there; shows = shown_is buffered paths t k p.one p.passes })
+      by true e =
+          let p = any_in (shown buffered paths t k) g e in
+          inl (record { deed = p.one; there = p.there; shows = shown_is buffered paths t k p.one p.passes })
       by false e = inr (λ s. true≢false (sym (in_any (shown buffered paths t k) s.deed g s.there (is_shown_by buffered paths t k s.deed s.shows)) ∙ e))
 
   module _ (h : List Deed) where

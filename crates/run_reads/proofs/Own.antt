@@ -1,9 +1,8 @@
 -- A thread's stores to one cell reach memory in order.
-use Rattle.std.proofs.Common.{◌≡◌, ◌∙◌, inl, inr, ℕ, ◌<◌, ◌&&◌, ℤ, true, false, List, ◌∷◌, ◌++◌, Option, Some, refl, sym, ap, ap₂, subst}
+use Rattle.std.proofs.Common.{◌≡◌, ◌∙◌, inl, inr, ℕ, ◌<◌, ℤ, true, List, ◌∷◌, ◌++◌, Option, Some, refl, sym, ap, subst}
 use Rattle.std.specs.Prelude.{slice_get}
-use Rattle.std.proofs.lemmas.Option.{same_Some}
 use Rattle.std.proofs.lemmas.Bool.{true≢false, true_from_ne_false, eq-eqb}
-use Rattle.tc_base.specs.Buffers.{BufferOps, Entry}
+use Rattle.tc_base.specs.Buffers.{BufferOps}
 use Rattle.tc_base.specs.Names.{Name}
 use Rattle.tc_base.specs.declared.model.Model.{Model}
 use Rattle.tc_base.specs.declared.request.Request.TheVariants.{Write}
@@ -11,20 +10,17 @@ use Rattle.tc_code.specs.Code.{Code}
 use Rattle.store_buffers.specs.Laws.{Laws}
 use Rattle.store_buffers.specs.Pending.{Binding}
 use Rattle.run_history.specs.History.{Deed, Did, Drained, has_drained}
-use Rattle.run_history.specs.Told.{reaches}
-use Rattle.run_pending.specs.Deeds.{name_of, IsIssuedIn, has_bar_between}
-use Rattle.run_pending.proofs.In.{In, in_at, in_split, one_of_name}
+use Rattle.run_pending.specs.Deeds.{IsIssuedIn, has_bar_between}
+use Rattle.run_pending.proofs.In.{In, in_at, in_split}
 use Rattle.run_follows.specs.Follow.{AllFollow}
 use Rattle.path_walk.specs.Paths.{Walk, Paths}
-use Rattle.path_walk.specs.declared.event.EventKind.TheVariants as kind
 use Rattle.order_formula.specs.Worlds.{World}
 use Rattle.lawful_order.specs.Events.{IsBefore}
-use Rattle.lawful_order.specs.Memory.{is_store}
 use Rattle.lawful_order.specs.Whole.{HasStep}
-use Rattle.run_world.specs.Order.{TakesPlace, IsOrderOf}
-use Rattle.run_world.proofs.Seen.{SeenBy, Done, Drain, AreTold, store_of, shown_by, shows_drain}
-use Rattle.run_world.proofs.Steps.{IsDrainedAt, drained_at, step_before_drain}
-use Rattle.run_reads.proofs.Writes.{entry, kind_by}
+use Rattle.run_world.specs.Order.{IsOrderOf}
+use Rattle.run_world.proofs.Seen.{AreTold, shown_by, shows_drain}
+use Rattle.run_world.proofs.Steps.{IsDrainedAt, step_before_drain}
+use Rattle.run_reads.proofs.Writes.{drain_in, by_its_drain}
 use Rattle.run_reads.proofs.Order.{takes_or_not, first_before}
 
 module _ {B : Type 0} (ops : BufferOps B) (model : Model) (bound : Binding) (laws : Laws ops model bound) (code : Code) (h : List Deed)
@@ -48,31 +44,17 @@ module _ {B : Type 0} (ops : BufferOps B) (model : Model) (bound : Binding) (law
         → ops.buffered ≡ true → In (Did q.name i (Write c u) took other) h → In (Did q.name j (Write c v) taken others) h → i < j
         → HasStep paths t i → HasStep paths t j → IsBefore paths w t i t j
     own_in_order t q i j c u v took taken other others at buffers first second less step steps = elim (takes_or_not ops.buffered paths h t j) [
-      | inl x ↦ drained x (shown_by ops.buffered paths t j q x.deed at x.shows)
+      | inl x ↦
+          let there : In x.deed h = subst (In x.deed) (sym x.there) (in_at x.older x.deed x.newer) in
+          let seen = shown_by ops.buffered paths t j q x.deed at x.shows in
+          let d = by_its_drain ops.buffered h told q.name j c v taken others x.deed buffers second there seen in
+          let at_drain : h ≡ x.older ++ Drained q.name j c d.0 ∷ x.newer = x.there ∙ ap (λ y. x.older ++ y ∷ x.newer) d.1 in
+          let f = drain_in x.older q.name i (older_drained q.name i j c u d.0 took other x.older x.newer at_drain first less) in
+          first_before ops.buffered paths h w order x.older x.newer x.deed t j x.there x.shows t i
+          (record { deed = Drained q.name i f.0 f.1; there = f.2; shows = shows_drain ops.buffered paths t i q f.0 f.1 at })
       | inr none ↦
           elim (takes_or_not ops.buffered paths h t i) [
             | inl y ↦ order.never t i t j y steps none
             | inr neither ↦ order.rest t i j step steps neither none less
           ]
     ]
-      where
-        drained : (x : TakesPlace ops.buffered paths h t j) → SeenBy ops.buffered q.name j x.deed → IsBefore paths w t i t j
-        drained x (Done r took' other' asked seen asks kept) =
-            let there : In x.deed h = subst (In x.deed) (sym x.there) (in_at x.older x.deed x.newer) in
-            let one = one_of_name h x.deed (Did q.name j (Write c v) taken others) told.apart there second (ap name_of seen) in
-            let same : asked ≡ kind.Store = same_Some asked kind.Store (sym asks ∙ ap kind_by (sym seen ∙ one)) in
-            absurd (true≢false (sym (ap₂ (λ a b. a && is_store b) buffers same) ∙ kept))
-        drained x (Drain d e seen) =
-            let n = q.name in
-            let there : In (Drained n j d e) h = subst (λ y. In y h) seen (subst (In x.deed) (sym x.there) (in_at x.older x.deed x.newer)) in
-            let s = store_of ops.buffered h told n j d e there in
-            let one = one_of_name h (Did n j (Write d e) s.0 s.1) (Did n j (Write c v) taken others) told.apart s.2 second refl in
-            let cell : d ≡ c = ap (λ (y : Entry). y.cell) (same_Some (entry d e) (entry c v) (ap (reaches false) one)) in
-            let at_drain : h ≡ x.older ++ Drained n j c e ∷ x.newer = x.there ∙ ap (λ y. x.older ++ y ∷ x.newer) (seen ∙ ap (λ z. Drained n j z e) cell) in
-            let d = drained_at x.older n i (older_drained n i j c u e took other x.older x.newer at_drain first less) in
-            let drain = Drained n i d.cell d.value in
-            first_before ops.buffered paths h w order x.older x.newer x.deed t j x.there x.shows t i (record {
-              deed = drain;
-              there = subst (In drain) (sym d.there) (in_at d.older drain d.newer);
-              shows = shows_drain ops.buffered paths t i q d.cell d.value at;
-            })

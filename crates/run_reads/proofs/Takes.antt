@@ -1,5 +1,6 @@
 -- What the loads of a run take: the value of the last store that they see.
-use Rattle.std.proofs.Common.{◌≡◌, ◌∙◌, ◌⊎◌, inl, inr, ℕ, ◌<◌, ◌&&◌, ℤ, pos, Bool, true, false, List, [], ◌∷◌, ◌++◌, Option, Some, None, refl, sym, ap, ap₂, subst, arith, append_assoc}
+use Rattle.std.proofs.Common.{◌≡◌, ◌∙◌, ◌⊎◌, inl, inr, ℕ, ◌<◌, ℤ, pos, Bool, true, false, List, [], ◌∷◌, ◌++◌, Option, Some, None}
+use Rattle.std.proofs.Common.{refl, sym, ap, subst, arith, append_assoc}
 use Rattle.std.specs.Prelude.{is_some, unwrap_or, option_map, slice_index_or, IsSome}
 use Rattle.std.specs.List.{filter_map}
 use Rattle.std.proofs.lemmas.Bool.{true≢false, eq-eqb, eqb-true, cases_order}
@@ -22,13 +23,12 @@ use Rattle.run_history.specs.History.{Deed, Did, Drained, has_drained, history}
 use Rattle.run_history.specs.Last.{IsLast, brings}
 use Rattle.run_history.specs.Told.{reaches, value_in}
 use Rattle.run_history.proofs.Last.{cells_have_last, cells_begin}
-use Rattle.run_pending.specs.Deeds.{name_of, own_value}
-use Rattle.run_pending.proofs.In.{In, in_append, in_at, in_left, in_split, one_of_name}
+use Rattle.run_pending.specs.Deeds.{own_value}
+use Rattle.run_pending.proofs.In.{In, in_append, in_at, in_left, in_split}
 use Rattle.run_pending.proofs.Own.{own_has_last, own_has_none}
 use Rattle.run_follows.specs.Follow.{IsNextStep, seen_in}
 use Rattle.path_log.specs.Texts.{is_log}
 use Rattle.path_walk.specs.Paths.{Walk, Paths, paths_of}
-use Rattle.path_walk.specs.declared.event.EventKind.TheVariants as kind
 use Rattle.path_history.specs.Along.{IsAlongPaths, IsThread, IsNameOfThread}
 use Rattle.path_history.proofs.Told.{run_of, first_along}
 use Rattle.path_history.proofs.Walks.{thread_named}
@@ -40,7 +40,6 @@ use Rattle.sym_exec.specs.declared.symbolic.Access.{Access}
 use Rattle.sym_laws.specs.Valued.{AgreesWith, found}
 use Rattle.order_formula.specs.Worlds.{World}
 use Rattle.lawful_order.specs.Events.{IsBefore}
-use Rattle.lawful_order.specs.Memory.{is_store}
 use Rattle.lawful_order.specs.Reads.{HasAccess, Sees, TakesFrom, TakesFirst, ReadRule}
 use Rattle.lawful_order.specs.Whole.{HasStep}
 use Rattle.world_plan.specs.Sights.{Sight, sight_of, Shows}
@@ -48,13 +47,13 @@ use Rattle.world_plan.proofs.Threads.{one_thread}
 use Rattle.run_world.specs.Order.{IsOrderOf}
 use Rattle.run_world.proofs.Run.{fits, along, told}
 use Rattle.run_world.proofs.Seen.{SeenBy, Done, Drain, AreTold, the_sight, seen_by, shown_by, shows_step, shows_drain}
-use Rattle.run_world.proofs.Steps.{drained_at, steps_ordered}
+use Rattle.run_world.proofs.Steps.{steps_ordered}
 use Rattle.run_reads.proofs.Accesses.{access_step, same_cell, starts_so, HasDeed, deed_of, access_of, one_access}
 use Rattle.run_reads.proofs.Loads.{load_is, load_takes}
 use Rattle.run_reads.proofs.Order.{IsShownIn, first_before, shown_before, comes_after}
 use Rattle.run_reads.proofs.Own.{own_in_order}
-use Rattle.run_reads.proofs.Writes.{last_or_none, none_gives, in_drain, asking, entry, reached, brings_so, kind_by, seen_or_waits, shown_reaches, IsOfStep, of_step}
-use Rattle.run_reads.proofs.Writes.{writes_asked, asks_written, IsPendingStore, own_is, own_so}
+use Rattle.run_reads.proofs.Writes.{last_or_none, none_gives, drain_in, in_drain, asking, entry, reached, brings_so, seen_or_waits, by_its_drain, shown_reaches}
+use Rattle.run_reads.proofs.Writes.{IsOfStep, of_step, writes_asked, asks_written, IsPendingStore, own_is, own_so}
 
 then_before : (i j k : ℕ) → i < j → j < k → i < k
 then_before i j k first second = omega (arith, first, second)
@@ -190,20 +189,15 @@ module _ {B : Type 0} (ops : BufferOps B) (model : Model) (bound : Binding) (law
       in_older : In step older
       in_older =
           let s = in_split step h writing.there in
-          let b = steps_ordered buffered bound code h go.follow n y.step k s.older s.newer older newer writing.request d.asked.request writing.took d.asked.took writing.other
-          d.asked.other s.there at less in
+          let b = steps_ordered buffered bound code h go.follow n y.step k s.older s.newer older newer writing.request d.asked.request writing.took d.asked.took
+          writing.other d.asked.other s.there at less in
           subst (In step) (sym b.1) (in_at s.older step b.0)
 
       waiting : buffered ≡ true → writing.request ≡ Write (cell y) writing.value → (b : Bool) → has_drained older n y.step ≡ b
           → IsShownIn buffered paths older t y.step ⊎ IsWaiting y
       waiting buffers store true e =
-          let f = drained_at older n y.step e in
-          let drain = Drained n y.step f.cell f.value in
-          inl (record {
-            deed = drain;
-            there = subst (In drain) (sym f.there) (in_at f.older drain f.newer);
-            shows = shows_drain buffered paths t y.step q f.cell f.value d.thread;
-          })
+          let f = drain_in older n y.step e in
+          inl (record { deed = Drained n y.step f.0 f.1; there = f.2; shows = shows_drain buffered paths t y.step q f.0 f.1 d.thread })
       waiting buffers store false e =
           inr (record {
             buffers = buffers;
@@ -260,8 +254,8 @@ module _ {B : Type 0} (ops : BufferOps B) (model : Model) (bound : Binding) (law
 
       written : (y : Access) × HasAccess symbolic t y × (y.step ≡ j) × (asks y ≡ asking c None (Some v))
       written =
-          access_of ops model bound laws code lawful log is nodes terms moves again w agrees t q j (Write c v) own.took own.other (asking c None (Some v)) d.thread
-          store_in refl
+          access_of ops model bound laws code lawful log is nodes terms moves again w agrees t q j (Write c v) own.took own.other (asking c None (Some v))
+          d.thread store_in refl
 
       abbrev newest : Access
       newest = written.0
@@ -277,15 +271,10 @@ module _ {B : Type 0} (ops : BufferOps B) (model : Model) (bound : Binding) (law
 
       -- it takes place after the load, if it does
       not_shown : IsShownIn buffered paths older t j → ⊥
-      not_shown s = by (shown_by buffered paths t j q s.deed d.thread s.shows)
-        where
-          by : SeenBy buffered n j s.deed → ⊥
-          by (Done r took other asked is_it asks_it kept) =
-              let one = one_of_name h s.deed store apart.apart (in_history s.deed s.there) store_in (ap name_of is_it) in
-              let same : asked ≡ kind.Store = same_Some asked kind.Store (sym asks_it ∙ ap kind_by (sym is_it ∙ one)) in
-              true≢false (sym (ap₂ (λ x z. x && is_store z) own.buffers same) ∙ kept)
-          by (Drain cell_it value is_it) =
-              true≢false (sym (in_drain older n j cell_it value (subst (λ e. In e older) is_it s.there)) ∙ own.waits)
+      not_shown s =
+          let seen = shown_by buffered paths t j q s.deed d.thread s.shows in
+          let e = by_its_drain buffered h apart n j c v own.took own.other s.deed own.buffers store_in (in_history s.deed s.there) seen in
+          true≢false (sym (in_drain older n j c e.0 (subst (λ x. In x older) e.1 s.there)) ∙ own.waits)
 
       other_deed : Shows buffered paths deed t j → ⊥
       other_deed s =
@@ -303,8 +292,8 @@ module _ {B : Type 0} (ops : BufferOps B) (model : Model) (bound : Binding) (law
           let step = Did n z.step (Write c x.value) x.took x.other in
           let s = in_split step older x.there in
           let follow = (along_first older newer deed at).follow in
-          let b = steps_ordered buffered bound code older follow n j z.step l.older l.newer s.older s.newer (Write c v) (Write c x.value) own.took x.took own.other
-          x.other older_is s.there more in
+          let b = steps_ordered buffered bound code older follow n j z.step l.older l.newer s.older s.newer (Write c v) (Write c x.value) own.took x.took
+          own.other x.other older_is s.there more in
           let both : l.older ++ store ∷ l.newer ≡ l.older ++ store ∷ (b.0 ++ step ∷ s.newer) =
           sym older_is ∙ s.there ∙ ap (λ g. g ++ step ∷ s.newer) b.1 ∙ append_assoc l.older (store ∷ b.0) (step ∷ s.newer) in
           let tails = append_cancel_left l.older (store ∷ l.newer) (store ∷ (b.0 ++ step ∷ s.newer)) both in
@@ -381,12 +370,16 @@ module _ {B : Type 0} (ops : BufferOps B) (model : Model) (bound : Binding) (law
         bringer : IsOfStep buffered h apart l.deed (entry c v)
         bringer = of_step buffered h apart l.deed (entry c v) (in_history l.deed deed_in) (reached buffered c v l.deed l.gives)
 
+        abbrev writing_deed : Deed
+        writing_deed = Did bringer.thread bringer.step bringer.request bringer.took bringer.other
+
         thread : IsNameOfThread code log bringer.thread
         thread =
-            let s = in_split (Did bringer.thread bringer.step bringer.request bringer.took bringer.other) h bringer.there in
-            let left = (run_of ops model bound laws code lawful log h go).told.threads s.older s.newer bringer.thread bringer.step bringer.request bringer.took bringer.other s.there in
+            let s = in_split writing_deed h bringer.there in
+            let r = run_of ops model bound laws code lawful log h go in
+            let left = r.told.threads s.older s.newer bringer.thread bringer.step bringer.request bringer.took bringer.other s.there in
             thread_named ops model bound laws code lawful log is (fits ops model bound laws code lawful log is moves again) s.older bringer.thread
-            (along_first s.older s.newer (Did bringer.thread bringer.step bringer.request bringer.took bringer.other) s.there) left.there
+            (along_first s.older s.newer writing_deed s.there) left.there
 
         abbrev u : ℕ
         u = thread.place
@@ -402,8 +395,8 @@ module _ {B : Type 0} (ops : BufferOps B) (model : Model) (bound : Binding) (law
 
         source : (y : Access) × HasAccess symbolic u y × (y.step ≡ i) × (asks y ≡ writes_it.0)
         source =
-            access_of ops model bound laws code lawful log is nodes terms moves again w agrees u p i bringer.request bringer.took bringer.other writes_it.0 thread.there
-            (subst (λ m. In (Did m i bringer.request bringer.took bringer.other) h) (sym thread.name) bringer.there) writes_it.1
+            access_of ops model bound laws code lawful log is nodes terms moves again w agrees u p i bringer.request bringer.took bringer.other writes_it.0
+            thread.there (subst (λ m. In (Did m i bringer.request bringer.took bringer.other) h) (sym thread.name) bringer.there) writes_it.1
 
         abbrev latest : Access
         latest = source.0

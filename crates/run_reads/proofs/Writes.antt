@@ -14,13 +14,14 @@ use Rattle.run_history.specs.History.{Deed, Did, Drained, same, drains, has_drai
 use Rattle.run_history.specs.Last.{IsLast, brings}
 use Rattle.run_history.specs.Told.{reaches}
 use Rattle.run_pending.specs.Deeds.{name_of, own_value}
-use Rattle.run_pending.proofs.In.{In, in_any, in_mapped, one_of_name}
+use Rattle.run_pending.proofs.In.{In, in_any, in_at, in_mapped, one_of_name}
 use Rattle.path_walk.specs.declared.event.EventKind.{EventKind}
 use Rattle.path_walk.specs.declared.event.EventKind.TheVariants as kind
 use Rattle.path_laws.specs.Deeds.{kind_of}
 use Rattle.lawful_order.specs.Memory.{is_store}
 use Rattle.sym_exec.specs.Alone.{Asked, asked_by}
 use Rattle.run_world.proofs.Seen.{SeenBy, Done, Drain, AreTold, store_of}
+use Rattle.run_world.proofs.Steps.{drained_at}
 
 -- Lists of deeds.
 
@@ -43,7 +44,13 @@ last_or_none {X} f (d ∷ h) = by (last_or_none f h)
 pub none_gives : {X : Type 0} (f : Deed → Option X) (h : List Deed) (d : Deed) (x : X) → filter_map f h ≡ [] → In d h → f d ≡ Some x → ⊥
 none_gives f h d x none i gives = subst (In x) none (in_mapped f d x h i gives)
 
--- a drain in a history
+-- the store of a step has drained exactly where its drain is there
+pub drain_in : (h : List Deed) (n : Name) (k : ℕ) → has_drained h n k ≡ true → (c : ℕ) × (v : ℤ) × In (Drained n k c v) h
+drain_in h n k has =
+    let d = drained_at h n k has in
+    let drain = Drained n k d.cell d.value in
+    (d.cell, d.value, subst (In drain) (sym d.there) (in_at d.older drain d.newer))
+
 pub in_drain : (h : List Deed) (n : Name) (k c : ℕ) (v : ℤ) → In (Drained n k c v) h → has_drained h n k ≡ true
 in_drain h n k c v i = in_any (drains n k) (Drained n k c v) h i (ap₂ (λ x y. x && y) (same_self n n refl) (eq-eqb k k refl))
 
@@ -113,6 +120,19 @@ module _ (b : Bool) (h : List Deed) (told : AreTold b h) where
       let s = store_of b h told n k c v (subst (λ x. In x h) is j) in
       let one = one_of_name h (Did n k (Write c v) s.0 s.1) (Did n k r took other) told.apart s.2 i refl in
       ap (reaches b) is ∙ ap (reaches false) one ∙ writes
+
+  -- a store that waits takes place by its drain
+  pub by_its_drain : (n : Name) (k c : ℕ) (v took : ℤ) (other : Option Name) (d : Deed) → b ≡ true → In (Did n k (Write c v) took other) h → In d h
+      → SeenBy b n k d → (e : ℤ) × (d ≡ Drained n k c e)
+  by_its_drain n k c v took other d buffers i j (Done r s o asked is asks kept) =
+      let one = one_of_name h d (Did n k (Write c v) took other) told.apart j i (ap name_of is) in
+      let same : asked ≡ kind.Store = same_Some asked kind.Store (sym asks ∙ ap kind_by (sym is ∙ one)) in
+      absurd (true≢false (sym (ap₂ (λ x y. x && is_store y) buffers same) ∙ kept))
+  by_its_drain n k c v took other d buffers i j (Drain a e is) =
+      let s = store_of b h told n k a e (subst (λ x. In x h) is j) in
+      let one = one_of_name h (Did n k (Write a e) s.0 s.1) (Did n k (Write c v) took other) told.apart s.2 i refl in
+      let same : a ≡ c = ap (λ (x : Entry). x.cell) (same_Some (entry a e) (entry c v) (ap (reaches false) one)) in
+      (e, is ∙ ap (λ x. Drained n k x e) same)
 
   -- what reaches memory is a step that writes, or the drain of one
   pub record IsOfStep (d : Deed) (e : Entry) : Type 0 where

@@ -1,9 +1,8 @@
 use Rattle.path_walk.specs.Paths.{paths_of}
 use Rattle.run_history.specs.History.{history}
 use Rattle.sym_laws.specs.Valued.{found}
-use Rattle.sym_laws.proofs.Agree.{taken_once, loads_agree}
-use Rattle.sym_laws.proofs.Numbered.{all_numbered}
 use Rattle.run_world.specs.WorldOf.{world_in}
+use Rattle.run_world.proofs.Loads.{agrees}
 use Rattle.run_world.proofs.Ordered.{is_order}
 use Rattle.run_world.proofs.Run.{seen}
 use Rattle.run_reads.proofs.Takes.{read_rule}
@@ -14,6 +13,5 @@ returns g c = λ ops model bound code log nodes moves t line laws lawful is term
     let paths = paths_of code log in
     let symbolic = (found code log nodes).symbolic in
     let h = history ops code moves in
-    let agrees = loads_agree symbolic h symbolic.loads (all_numbered code paths nodes) (λ n k r v o i. taken_once ops code moves again.state n k r v o again.leads i) in
-    read_rule ops model bound laws code lawful log is nodes terms moves again (world_in ops.buffered paths symbolic h) agrees
+    read_rule ops model bound laws code lawful log is nodes terms moves again (world_in ops.buffered paths symbolic h) (agrees ops code log nodes moves again)
     (is_order ops.buffered paths symbolic h (seen ops model bound laws code lawful log is moves again)) t line
