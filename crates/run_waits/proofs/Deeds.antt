@@ -32,10 +32,12 @@ use Rattle.order_formula.specs.Worlds.{World}
 use Rattle.lawful_order.specs.Memory.{is_store}
 use Rattle.world_plan.specs.Sights.{Shows}
 use Rattle.run_world.specs.Order.{IsOrderOf}
-use Rattle.run_world.specs.WorldOf.{world_in}
+use Rattle.run_world.specs.WorldOf.{is_step, world_in}
+use Rattle.run_world.proofs.Enders.{step_named}
 use Rattle.run_world.proofs.Ordered.{is_order}
 use Rattle.run_world.proofs.Run.{fits, along, event_is_done, seen}
 use Rattle.run_world.proofs.Seen.{shows_step}
+use Rattle.run_world.proofs.Splits.{TwoPlaces, Before, Same, After, two_places}
 
 -- what isn't a store isn't kept in a buffer
 pub none_pending : (buffered : Bool) (k : EventKind) → is_store k ≡ false → (buffered && is_store k) ≡ false
@@ -84,6 +86,20 @@ module _ {B : Type 0} (ops : BufferOps B) (model : Model) (bound : Binding) (law
   pub left_at : (older newer : List Deed) (n : Name) (k : ℕ) (r : Request) (took : ℤ) (other : Option Name) → h ≡ older ++ Did n k r took other ∷ newer
       → IsLeftIn older n
   left_at older newer n k r took other at = (reproduced_run ops model bound laws code lawful log moves again).told.threads older newer n k r took other at
+
+  -- a thread does each step once
+  pub step_once : (n : Name) (k : ℕ) (o : List Deed) (x : Deed) (u p : List Deed) (y : Deed) (m : List Deed) → h ≡ o ++ x ∷ u → h ≡ p ++ y ∷ m
+      → is_step n k x ≡ true → is_step n k y ≡ true → (o ≡ p) × (x ≡ y) × (u ≡ m)
+  step_once n k o x u p y m at bt one two = by (two_places o x u p y m (sym at ∙ bt))
+    where
+      by : TwoPlaces o x u p y m → (o ≡ p) × (x ≡ y) × (u ≡ m)
+      by (Before between before rest) =
+          absurd ((seen ops model bound laws code lawful log is moves again).told.apart o m between x y (bt ∙ ap (λ g. g ++ y ∷ m) before)
+          (step_named n k x one ∙ sym (step_named n k y two)))
+      by (Same older deed newer) = (older, deed, newer)
+      by (After between before rest) =
+          absurd ((seen ops model bound laws code lawful log is moves again).told.apart p u between y x (at ∙ ap (λ g. g ++ x ∷ u) before)
+          (step_named n k y two ∙ sym (step_named n k x one)))
 
   -- the deed of a thread's event
   pub record EventDeed (t : ℕ) (q : Walk) (x : Event) : Type 0 where

@@ -16,7 +16,6 @@ use Rattle.store_buffers.specs.Laws.{Laws}
 use Rattle.store_buffers.specs.Pending.{Binding}
 use Rattle.run_laws.proofs.Names.{same_self}
 use Rattle.run_history.specs.History.{Deed, Did, Drained, drains, has_drained}
-use Rattle.run_pending.specs.Deeds.{name_of}
 use Rattle.run_pending.proofs.In.{In, in_at, in_any, one_of_name}
 use Rattle.path_log.specs.Texts.{is_log}
 use Rattle.path_walk.specs.Paths.{Walk, Paths}
@@ -29,11 +28,11 @@ use Rattle.lawful_order.specs.Events.{IsBefore}
 use Rattle.lawful_order.specs.Memory.{is_store}
 use Rattle.world_plan.specs.Sights.{Shows}
 use Rattle.run_world.specs.Order.{TakesPlace}
+use Rattle.run_world.proofs.Enders.{is_its_step}
 use Rattle.run_world.proofs.Run.{told}
 use Rattle.run_world.proofs.Seen.{SeenBy, Done, Drain, shown_by, shows_drain}
 use Rattle.run_world.proofs.Steps.{drained_at}
-use Rattle.run_world.proofs.Splits.{TwoPlaces, Before, Same, After, two_places}
-use Rattle.run_waits.proofs.Deeds.{h, paths, w, ordered, EventDeed}
+use Rattle.run_waits.proofs.Deeds.{h, paths, w, ordered, step_once, EventDeed}
 
 is_drain : (n : Name) (k c : ℕ) (v : ℤ) → drains n k (Drained n k c v) ≡ true
 is_drain n k c v = ap₂ (λ a b. a && b) (same_self n n refl) (eq-eqb k k refl)
@@ -76,23 +75,14 @@ module _ {B : Type 0} (ops : BufferOps B) (model : Model) (bound : Binding) (law
           let issue = Did q.name x.step (Write z.cell z.value) store.took store.other in
           let issued : done ≡ store.before ++ issue ∷ (store.after ++ drain ∷ z.newer) =
           z.there ∙ ap (λ g. g ++ drain ∷ z.newer) store.issued ∙ append_assoc store.before (issue ∷ store.after) (drain ∷ z.newer) in
-          let front : store.before ≡ older ++ deed ∷ between = same_front store.before issue (store.after ++ drain ∷ z.newer) issued refl ∙ before in
+          let once = step_once ops model bound laws code lawful log is nodes moves again q.name x.step store.before issue (store.after ++ drain ∷ z.newer)
+          e.older its_deed e.newer issued e.at (is_its_step q.name x.step (Write z.cell z.value) store.took store.other)
+          (is_its_step q.name x.step e.request e.took e.other) in
+          let front : store.before ≡ older ++ deed ∷ between = once.0 ∙ before in
           let all : z.older ≡ older ++ deed ∷ (between ++ issue ∷ store.after) =
           store.issued ∙ ap (λ g. g ++ issue ∷ store.after) front ∙ append_assoc older (deed ∷ between) (issue ∷ store.after) in
           (ordered ops model bound laws code lawful log is nodes moves again).order older (between ++ issue ∷ store.after) z.newer deed drain t k c x.step
           (z.there ∙ ap (λ g. g ++ drain ∷ z.newer) all) shows (shows_drain ops.buffered threads c x.step q z.cell z.value there)
-        where
-          same_front : (o : List Deed) (y : Deed) (m : List Deed) → done ≡ o ++ y ∷ m → name_of y ≡ name_of its_deed → o ≡ e.older
-          same_front o y m is_at named = by (two_places o y m e.older its_deed e.newer (sym is_at ∙ e.at))
-            where
-              by : TwoPlaces o y m e.older its_deed e.newer → o ≡ e.older
-              by (Before mid front rest) =
-                  absurd ((told ops model bound laws code lawful log is moves again).apart o e.newer mid y its_deed
-                  (e.at ∙ ap (λ g. g ++ its_deed ∷ e.newer) front) named)
-              by (Same front one rest) = front
-              by (After mid back rest) =
-                  absurd ((told ops model bound laws code lawful log is moves again).apart e.older m mid its_deed y
-                  (is_at ∙ ap (λ g. g ++ y ∷ m) back) (sym named))
 
       -- one that never drains comes after all
       by_never : (ops.buffered && is_store x.kind) ≡ true → has_drained done q.name x.step ≡ false → First

@@ -16,6 +16,7 @@ use Rattle.path_walk.specs.declared.event.Link.{Link}
 use Rattle.path_walk.specs.declared.event.Region.{Region}
 use Rattle.path_walk.specs.declared.event.Sleep.{Sleep}
 use Rattle.path_laws.specs.Deeds.{kind_of}
+use Rattle.path_stuck.proofs.Rests.{mapped_from}
 use Rattle.order_events.proofs.Lists.{of_nil, of_cons, in_front, in_back, of_filter_map}
 
 -- an event of a kind that passes a test, in a step
@@ -128,17 +129,13 @@ slept_by (e ∷ es) s i = by e.kind refl i (slept_by es s)
 
 -- What a request asks as an event of a kind.
 
-mapped : {X Y : Type 0} (f : X → Y) (o : Option X) (y : Y) → option_map f o ≡ Some y → (x : X) × (o ≡ Some x) × (f x ≡ y)
-mapped f None y e = absurd (none-some y e)
-mapped f (Some x) y e = (x, refl, same_Some (f x) y e)
-
 abbrev child_number : Option Name → Option ℕ
 child_number other = option_and_then (last_or None) other
 
 pub start_is : (r : Request) (other : Option Name) (n : ℕ) → kind_of r other ≡ Some (kind.Create n)
     → (f : ℕ) × (r ≡ Start f) × (option_and_then (last_or None) other ≡ Some n)
 start_is (Start f) other n e =
-    let m = mapped kind.Create (child_number other) (kind.Create n) e in
+    let m = mapped_from kind.Create (child_number other) (kind.Create n) e in
     let same : m.0 ≡ n = cc in
     (f, refl, m.1 ∙ ap (λ i. Some i) same)
 start_is Silent other n e = absurd (none-some (kind.Create n) e)
@@ -147,28 +144,28 @@ start_is r other n e = absurd cc
 pub await_is : (r : Request) (other : Option Name) (n : ℕ) → kind_of r other ≡ Some (kind.Join n) → r ≡ Await n
 await_is (Await k) other n e = let same : k ≡ n = cc in ap Await same
 await_is (Start f) other n e =
-    let m = mapped kind.Create (child_number other) (kind.Join n) e in let bad : kind.Create m.0 ≡ kind.Join n = m.2 in absurd cc
+    let m = mapped_from kind.Create (child_number other) (kind.Join n) e in let bad : kind.Create m.0 ≡ kind.Join n = m.2 in absurd cc
 await_is Silent other n e = absurd (none-some (kind.Join n) e)
 await_is r other n e = absurd cc
 
 pub begin_is : (r : Request) (other : Option Name) (c m : ℕ) → kind_of r other ≡ Some (kind.Sleep c m) → r ≡ BeginWait c m
 begin_is (BeginWait d l) other c m e = let one : d ≡ c = cc in let two : l ≡ m = cc in ap₂ BeginWait one two
 begin_is (Start f) other c m e =
-    let x = mapped kind.Create (child_number other) (kind.Sleep c m) e in let bad : kind.Create x.0 ≡ kind.Sleep c m = x.2 in absurd cc
+    let x = mapped_from kind.Create (child_number other) (kind.Sleep c m) e in let bad : kind.Create x.0 ≡ kind.Sleep c m = x.2 in absurd cc
 begin_is Silent other c m e = absurd (none-some (kind.Sleep c m) e)
 begin_is r other c m e = absurd cc
 
 pub signal_is : (r : Request) (other : Option Name) (c : ℕ) → kind_of r other ≡ Some (kind.Signal c) → r ≡ WakeOne c
 signal_is (WakeOne d) other c e = let same : d ≡ c = cc in ap WakeOne same
 signal_is (Start f) other c e =
-    let x = mapped kind.Create (child_number other) (kind.Signal c) e in let bad : kind.Create x.0 ≡ kind.Signal c = x.2 in absurd cc
+    let x = mapped_from kind.Create (child_number other) (kind.Signal c) e in let bad : kind.Create x.0 ≡ kind.Signal c = x.2 in absurd cc
 signal_is Silent other c e = absurd (none-some (kind.Signal c) e)
 signal_is r other c e = absurd cc
 
 pub broadcast_is : (r : Request) (other : Option Name) (c : ℕ) → kind_of r other ≡ Some (kind.Broadcast c) → r ≡ WakeAll c
 broadcast_is (WakeAll d) other c e = let same : d ≡ c = cc in ap WakeAll same
 broadcast_is (Start f) other c e =
-    let x = mapped kind.Create (child_number other) (kind.Broadcast c) e in let bad : kind.Create x.0 ≡ kind.Broadcast c = x.2 in absurd cc
+    let x = mapped_from kind.Create (child_number other) (kind.Broadcast c) e in let bad : kind.Create x.0 ≡ kind.Broadcast c = x.2 in absurd cc
 broadcast_is Silent other c e = absurd (none-some (kind.Broadcast c) e)
 broadcast_is r other c e = absurd cc
 
@@ -183,7 +180,7 @@ taker_is (Acquire l) other k m e t =
 taker_is (EndWait c l) other k m e t =
     let same : l ≡ m = same_Some l m (ap takes (same_Some (kind.Wake c l) k e) ∙ t) in Wakes c (ap (EndWait c) same)
 taker_is (Start f) other k m e t =
-    let x = mapped kind.Create (child_number other) k e in absurd (none-some m (ap takes x.2 ∙ t))
+    let x = mapped_from kind.Create (child_number other) k e in absurd (none-some m (ap takes x.2 ∙ t))
 taker_is Silent other k m e t = absurd (none-some k e)
 taker_is Bar other k m e t = absurd (none-some k e)
 taker_is r other k m e t = absurd (none-some m (ap takes (same_Some _ k e) ∙ t))

@@ -48,10 +48,9 @@ use Rattle.world_plan.specs.Sights.{Shows}
 use Rattle.world_plan.proofs.Numbers.{one_event}
 use Rattle.run_world.specs.Order.{IsEndedBy}
 use Rattle.run_world.specs.WorldOf.{is_step, ends_wait}
-use Rattle.run_world.proofs.Enders.{step_named, is_its_step, sleeper, ended_told, ended_is}
+use Rattle.run_world.proofs.Enders.{is_its_step, sleeper, ended_told, ended_is}
 use Rattle.run_world.proofs.Run.{seen}
-use Rattle.run_world.proofs.Splits.{TwoPlaces, Before, Same, After, two_places}
-use Rattle.run_waits.proofs.Deeds.{none_pending, sleeps_are, h, paths, w, fit, goes_along, begins_along, event_deed}
+use Rattle.run_waits.proofs.Deeds.{none_pending, sleeps_are, h, paths, w, fit, goes_along, begins_along, step_once, event_deed}
 use Rattle.run_waits.proofs.Parts.{slept_by, begin_is}
 
 -- Deeds that say nothing of a thread's wait.
@@ -133,20 +132,6 @@ module _ {B : Type 0} (ops : BufferOps B) (model : Model) (bound : Binding) (law
   abbrev f : Fits code log
   f = fit ops model bound laws code lawful log is nodes moves again
 
-  -- a thread does each step once
-  pub step_once : (n : Name) (k : ℕ) (o : List Deed) (x : Deed) (u p : List Deed) (y : Deed) (m : List Deed) → done ≡ o ++ x ∷ u → done ≡ p ++ y ∷ m
-      → is_step n k x ≡ true → is_step n k y ≡ true → (o ≡ p) × (x ≡ y) × (u ≡ m)
-  step_once n k o x u p y m at bt one two = by (two_places o x u p y m (sym at ∙ bt))
-    where
-      by : TwoPlaces o x u p y m → (o ≡ p) × (x ≡ y) × (u ≡ m)
-      by (Before between before rest) =
-          absurd ((seen ops model bound laws code lawful log is moves again).told.apart o m between x y (bt ∙ ap (λ g. g ++ y ∷ m) before)
-          (step_named n k x one ∙ sym (step_named n k y two)))
-      by (Same older deed newer) = (older, deed, newer)
-      by (After between before rest) =
-          absurd ((seen ops model bound laws code lawful log is moves again).told.apart p u between y x (at ∙ ap (λ g. g ++ x ∷ u) before)
-          (step_named n k y two ∙ sym (step_named n k x one)))
-
   -- one sleep begins in a step
   same_condition : (t : ℕ) (q : Walk) (y z : Sleep) → IsThread code log t q → Contains q.sleeps y → Contains q.sleeps z → y.step ≡ z.step
       → y.condition ≡ z.condition
@@ -168,8 +153,8 @@ module _ {B : Type 0} (ops : BufferOps B) (model : Model) (bound : Binding) (law
       let condition = same_condition t q x.it z there (subst (λ (p : Walk). Contains p.sleeps x.it) mine v.2) i (sym same) in
       let begun = Did q.name z.step (BeginWait z.condition z.mutex) asleep.took asleep.other in
       let begins : is_step q.name z.step e.sleep ≡ true = ap₂ (λ (p : Walk) k. is_step p.name k e.sleep) (sym walk) same ∙ e.begins in
-      let one = step_once q.name z.step e.older e.sleep (e.between ++ e.ender ∷ e.newer) asleep.older begun asleep.newer
-      (e.there ∙ append_assoc e.older (e.sleep ∷ e.between) (e.ender ∷ e.newer)) asleep.there begins
+      let one = step_once ops model bound laws code lawful log is nodes moves again q.name z.step e.older e.sleep (e.between ++ e.ender ∷ e.newer)
+      asleep.older begun asleep.newer (e.there ∙ append_assoc e.older (e.sleep ∷ e.between) (e.ender ∷ e.newer)) asleep.there begins
       (is_its_step q.name z.step (BeginWait z.condition z.mutex) asleep.took asleep.other) in
       let silent = gives_none (waits_by z.condition q.name) e.between e.newer e.ender (ap (filter_map (waits_by z.condition q.name)) one.2 ∙ asleep.lasts) in
       let ends = ends_gives z.condition q.name e.ender
@@ -314,8 +299,8 @@ module _ {B : Type 0} (ops : BufferOps B) (model : Model) (bound : Binding) (law
         let e = ended_told ops model bound laws code lawful log is moves again (found code log nodes).symbolic s g x at ended in
         let walk : e.sleeper ≡ d.walk = same_Some e.sleeper d.walk (sym e.sleeps ∙ d.there) in
         let begins : is_step n x.it.step e.sleep ≡ true = ap (λ (p : Walk). is_step p.name x.it.step e.sleep) (sym walk) ∙ e.begins in
-        let one = step_once n x.it.step e.older e.sleep (e.between ++ e.ender ∷ e.newer) d.older d.deed d.newer
-        (e.there ∙ append_assoc e.older (e.sleep ∷ e.between) (e.ender ∷ e.newer)) d.at begins its_step in
+        let one = step_once ops model bound laws code lawful log is nodes moves again n x.it.step e.older e.sleep (e.between ++ e.ender ∷ e.newer)
+        d.older d.deed d.newer (e.there ∙ append_assoc e.older (e.sleep ∷ e.between) (e.ender ∷ e.newer)) d.at begins its_step in
         record {
           between = e.between;
           ender = e.ender;
