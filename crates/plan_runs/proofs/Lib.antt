@@ -1,10 +1,10 @@
-mod Given
+pub mod Given
 mod Deeds
 mod May
 mod Next
 mod Steps
 mod Goes
-mod End
-mod Rest
-mod Runs
-mod Laws
+pub mod End
+pub mod Rest
+pub mod Runs
+pub mod Laws
