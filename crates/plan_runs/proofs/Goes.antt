@@ -96,7 +96,7 @@ module _ {B : Type 0} (ops : BufferOps B) (model : Model) (bound : Binding) (cod
   not_pending false c e = refl
   not_pending true c e = absurd cc
 
-  quiet_before : (p : ℕ) (h : List Deed) → is_gone p h → (t : ℕ) (q : Walk) (x : Event) → IsThread code log t q → Contains q.events x
+  pub quiet_before : (p : ℕ) (h : List Deed) → is_gone p h → (t : ℕ) (q : Walk) (x : Event) → IsThread code log t q → Contains q.events x
       → place code log w t x ≡ p → (k : ℕ) → steps_in h q.name ≤ k → k < x.step → Quiet q k
   quiet_before p h gone t q x there i at k low high y j step = by (is_pending ops.buffered y) refl
     where
@@ -107,7 +107,7 @@ module _ {B : Type 0} (ops : BufferOps B) (model : Model) (bound : Binding) (cod
           let done = gone.did t q y there j (omega (arith, before, at)) in
           absurd (omega (arith, done, low, step))
 
-  within : (t : ℕ) (q : Walk) (x : Event) → IsThread code log t q → Contains q.events x → x.step < length q.places
+  pub within : (t : ℕ) (q : Walk) (x : Event) → IsThread code log t q → Contains q.events x → x.step < length q.places
   within t q x there i = event_within code log q (walk_is code log l.log_is l.fits t q there) x (in_contains x q.events i)
 
   -- An event that comes.
@@ -121,7 +121,7 @@ module _ {B : Type 0} (ops : BufferOps B) (model : Model) (bound : Binding) (cod
 
     -- a store that waits has been issued, or is now
     module _ (waits : is_pending ops.buffered x ≡ true) where
-      quiet_through : (k : ℕ) → steps_in h q.name ≤ k → k < steps_in h q.name + (x.step + 1 - steps_in h q.name) → Quiet q k
+      pub quiet_through : (k : ℕ) → steps_in h q.name ≤ k → k < steps_in h q.name + (x.step + 1 - steps_in h q.name) → Quiet q k
       quiet_through k low high =
           elim (below_next k x.step (omega (arith, high, low))) [
             | inl less ↦ quiet_before p h gone t q x there i here k low less
@@ -131,7 +131,7 @@ module _ {B : Type 0} (ops : BufferOps B) (model : Model) (bound : Binding) (cod
                 ∙ waits
           ]
 
-      few_left : steps_in h q.name + (x.step + 1 - steps_in h q.name) ≤ length q.places
+      pub few_left : steps_in h q.name + (x.step + 1 - steps_in h q.name) ≤ length q.places
       few_left =
           elim (at_most (x.step + 1) (steps_in h q.name)) [
             | inl done ↦ omega (arith, done, few_steps ops model bound l.laws code l.code_is log l.log_is l.fits h t q gone.along there)
@@ -154,7 +154,7 @@ module _ {B : Type 0} (ops : BufferOps B) (model : Model) (bound : Binding) (cod
 
     -- any other event is done now
     module _ (now : is_pending ops.buffered x ≡ false) where
-      not_done : steps_in h q.name ≤ x.step
+      pub not_done : steps_in h q.name ≤ x.step
       not_done =
           elim (at_most (steps_in h q.name) x.step) [
             | inl left ↦ left

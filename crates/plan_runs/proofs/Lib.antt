@@ -1,9 +1,9 @@
 pub mod Given
-mod Deeds
-mod May
-mod Next
-mod Steps
-mod Goes
+pub mod Deeds
+pub mod May
+pub mod Next
+pub mod Steps
+pub mod Goes
 pub mod End
 pub mod Rest
 pub mod Runs

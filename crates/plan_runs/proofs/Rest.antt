@@ -85,7 +85,7 @@ module _ {B : Type 0} (ops : BufferOps B) (model : Model) (bound : Binding) (cod
   abbrev rest : List Deed → ℕ → List Deed
   rest h t = with_rest ops.buffered code paths w h t
 
-  few : (h : List Deed) → Along ops bound code log nodes w h → (t : ℕ) (q : Walk) → IsThread code log t q → steps_in h q.name ≤ length q.places
+  pub few : (h : List Deed) → Along ops bound code log nodes w h → (t : ℕ) (q : Walk) → IsThread code log t q → steps_in h q.name ≤ length q.places
   few h along t q there = few_steps ops model bound l.laws code l.code_is log l.log_is l.fits h t q along there
 
   -- what a thread has done it has done later
@@ -96,7 +96,7 @@ module _ {B : Type 0} (ops : BufferOps B) (model : Model) (bound : Binding) (cod
       omega (arith, most, on.grows q.name, done)
 
   -- A step at the end is quiet, or it fails.
-  quiet_unless : (h : List Deed) → at_end h → (t : ℕ) (q : Walk) → IsThread code log t q → (x : Event) → Contains q.events x → steps_in h q.name ≤ x.step
+  pub quiet_unless : (h : List Deed) → at_end h → (t : ℕ) (q : Walk) → IsThread code log t q → (x : Event) → Contains q.events x → steps_in h q.name ≤ x.step
       → (is_pending ops.buffered x ≡ true) ⊎ (x.kind ≡ kind.Fail)
   quiet_unless h gone t q there x i left = by (is_pending ops.buffered x) refl (is_failure x.kind) refl
     where
@@ -122,10 +122,10 @@ module _ {B : Type 0} (ops : BufferOps B) (model : Model) (bound : Binding) (cod
       record { gone = r.gone; steps = omega (arith, r.steps, most); on = r.on }
 
   -- So do all of some threads.
-  record AllRest (h : List Deed) (ts : List ℕ) (k : List Deed) : Type 0 where
-    gone : at_end k
-    on : GoesOn h k
-    done : (t : ℕ) (q : Walk) → IsThread code log t q → Contains ts t → HasDoneAll k q
+  pub record AllRest (h : List Deed) (ts : List ℕ) (k : List Deed) : Type 0 where
+    pub gone : at_end k
+    pub on : GoesOn h k
+    pub done : (t : ℕ) (q : Walk) → IsThread code log t q → Contains ts t → HasDoneAll k q
 
   all_rest : (ts : List ℕ) (h : List Deed) → at_end h → AllAreThere code log h → ((t : ℕ) → Contains ts t → is_failing paths t ≡ false)
       → AllRest h ts (fold rest h ts)
@@ -312,7 +312,7 @@ module _ {B : Type 0} (ops : BufferOps B) (model : Model) (bound : Binding) (cod
   abbrev range : List ℕ
   range = range_with_len 0 (length paths.threads)
 
-  abbrev passing : List ℕ
+  abbrev pub passing : List ℕ
   passing = filter (λ t. not (is_failing paths t)) range
 
   abbrev failing_ones : List ℕ
@@ -323,19 +323,19 @@ module _ {B : Type 0} (ops : BufferOps B) (model : Model) (bound : Binding) (cod
       let within = slice_get_within paths.threads t q there in
       (t, omega (arith, within, length-range_with_len 0 (length paths.threads)), get_or-range_with_len 0 (length paths.threads) t t within ∙ omega arith)
 
-  come : at_end (up_to ops.buffered code paths w last)
+  pub come : at_end (up_to ops.buffered code paths w last)
   come =
       gone_up_to ops model bound code log nodes w l g last (λ t q x there i. none_before ops model bound code log nodes w l t q x there i) last (omega arith)
 
-  all_threads : (h : List Deed) → at_end h → AllAreThere code log h
+  pub all_threads : (h : List Deed) → at_end h → AllAreThere code log h
   all_threads h gone = g.all_there last h gone (λ t q x there i. others_before ops model bound code log nodes w l t q x there i)
 
-  first_rest : AllRest (up_to ops.buffered code paths w last) passing (fold rest (up_to ops.buffered code paths w last) passing)
+  pub first_rest : AllRest (up_to ops.buffered code paths w last) passing (fold rest (up_to ops.buffered code paths w last) passing)
   first_rest =
       all_rest passing (up_to ops.buffered code paths w last) come (all_threads (up_to ops.buffered code paths w last) come)
       (λ t i. not_true (is_failing paths t) (of_filter (λ t. not (is_failing paths t)) t range i).1)
 
-  abbrev nearly : List Deed
+  abbrev pub nearly : List Deed
   nearly = fold rest (up_to ops.buffered code paths w last) passing
 
   second_rest : LastRest nearly failing_ones (fold rest nearly failing_ones)
