@@ -2,6 +2,7 @@ pub mod CaseLaws
 pub mod Clauses
 pub mod Completed
 pub mod Lists
+pub mod Loops
 pub mod Posed
 pub mod Prefixes
 pub mod RootLaws
@@ -12,3 +13,4 @@ pub mod Taking
 pub mod Values
 pub mod Variables
 pub mod WholeLaws
+pub mod Within

@@ -1,11 +1,10 @@
 -- A formula over the events of an order: the order that was asked of every two contended events tells all that its clauses rest on.
-use Rattle.std.proofs.Common.{◌≡◌, ℕ, ◌<◌, Bool, true, false, List, [], ◌∷◌, ◌++◌, inl, inr, refl, ap, sym, ◌∙◌, subst, arith, map}
+use Rattle.std.proofs.Common.{◌≡◌, ℕ, ◌<◌, Bool, true, false, List, [], ◌∷◌, ◌++◌, inl, inr, refl, sym, ◌∙◌, subst, arith, map}
 use Rattle.std.specs.Prelude.{fold, if◌then◌else◌, nat_eq}
 use Rattle.std.specs.List.{All, Contains, list_any}
 use Rattle.std.proofs.lemmas.Bool.{eqb-true}
 use Rattle.std.proofs.lemmas.List.Elements.{All-cons, All-contains, All-map, All-weaker, Contains-append_left}
 use Rattle.std.proofs.lemmas.List.Folds.{fold-map}
-use Rattle.indexmap.specs.IndexSet.{insert_key}
 use Rattle.indexmap.proofs.CallerLemmas.{Contains-insert_key}
 use Rattle.sym_terms.specs.declared.node.Node.{Node}
 use Rattle.order_formula.specs.declared.formula.Body.{Body}
@@ -16,20 +15,19 @@ use Rattle.order_formula.specs.declared.literal.Atom.TheVariants.{Before, Ends, 
 use Rattle.order_formula.specs.declared.literal.Literal.{Literal}
 use Rattle.order_formula.specs.declared.order.Pair.{Pair}
 use Rattle.order_formula.specs.declared.read.Candidate.{Candidate}
-use Rattle.order_formula.specs.Orders.{Order, AtomIsIn, LiteralIsIn, BodyIsIn, ConjunctIsIn, ConjunctIsAsked, IsAsked, BodyIsAsked, IsOrder, with_pair}
+use Rattle.order_formula.specs.Orders.{Order, AtomIsIn, LiteralIsIn, BodyIsIn, ConjunctIsIn, ConjunctIsAsked, IsAsked, BodyIsAsked, IsOrder}
 use Rattle.order_formula.specs.Reads.{Read}
 use Rattle.order_formula.specs.Worlds.{World}
 use Rattle.order_formula.proofs.Asked.{formula_stays}
-use Rattle.cnf_core.specs.Clauses.{Valuation, satisfies}
-use Rattle.bit_order.specs.Comparators.{completed, pairs_among}
+use Rattle.bit_order.specs.Comparators.{pairs_among}
 use Rattle.bit_order.specs.Laws.{IsWorldFor, SaysSame}
 use Rattle.bit_order.specs.Layouts.{Layout}
 use Rattle.bit_order.specs.Readings.{world_of}
 use Rattle.bit_order.proofs.Asking.{completed-asked, grows-completed}
 use Rattle.bit_blast.specs.Blasted.{BlastMeans, IsApart, IsPosed, layout_of}
 use Rattle.bit_blast.specs.Contended.{contended, is_literal, with_atom, with_body, with_candidate, with_case, with_event}
-use Rattle.bit_blast.specs.Laws.{BodyIsTold, ReadIsAsked}
-use Rattle.bit_blast.specs.Whole.{IsReady, whole}
+use Rattle.bit_blast.specs.Laws.{BodyIsTold}
+use Rattle.bit_blast.specs.Whole.{IsReady}
 use Rattle.bit_blast.proofs.Completed.{same_part}
 use Rattle.bit_blast.proofs.Lists.{all_of, contains_cases, contains_none}
 use Rattle.bit_blast.proofs.WholeLaws.{first_true, whole_means}

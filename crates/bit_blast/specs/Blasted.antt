@@ -5,8 +5,7 @@ use Rattle.sym_terms.specs.declared.node.Node.{Node}
 use Rattle.order_formula.specs.declared.formula.Body.{Body}
 use Rattle.order_formula.specs.declared.formula.Body.TheVariants as body
 use Rattle.order_formula.specs.declared.formula.Conjunct.{Conjunct}
-use Rattle.order_formula.specs.Orders.{Order, ConjunctIsIn, IsAsked, IsOrder, unasked}
-use Rattle.order_formula.specs.Reads.{Read}
+use Rattle.order_formula.specs.Orders.{Order, ConjunctIsIn, IsAsked, unasked}
 use Rattle.order_formula.specs.Truth.{holds_at}
 use Rattle.order_formula.specs.Worlds.{World}
 use Rattle.cnf_core.specs.Clauses.{Formula, Valuation, satisfies}
@@ -32,10 +31,13 @@ root_of b conjunct = length b.clauses.clauses - b.conjuncts + conjunct
 abbrev pub layout_of : Order → ℕ → List Conjunct → Layout
 layout_of order loads formula = record { order = completed order (contended formula); loads = loads }
 
--- the clauses of a formula over an order, so many loads and terms
+-- the clauses of a formula over a layout and terms
+abbrev pub blast_over : List Node → List Conjunct → Layout → Blasted
+blast_over nodes formula y = record { layout = y; clauses = whole y nodes formula; conjuncts = length formula }
+
+-- over an order and so many loads
 abbrev pub blast : List Node → List Conjunct → Order → ℕ → Blasted
-blast nodes formula order loads =
-    let y : Layout = layout_of order loads formula in record { layout = y; clauses = whole y nodes formula; conjuncts = length formula }
+blast nodes formula order loads = blast_over nodes formula (layout_of order loads formula)
 
 -- of what is impossible: the empty clause alone
 abbrev pub impossible : Blasted

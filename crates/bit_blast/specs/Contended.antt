@@ -10,7 +10,6 @@ use Rattle.order_formula.specs.declared.literal.Atom.{Atom}
 use Rattle.order_formula.specs.declared.literal.Atom.TheVariants.{Before, Ends, Test}
 use Rattle.order_formula.specs.declared.literal.Literal.{Literal}
 use Rattle.order_formula.specs.declared.read.Candidate.{Candidate}
-use Rattle.order_formula.specs.Reads.{Read}
 
 -- a conjunct of one literal alone leaves no order open
 abbrev pub is_literal : List (List Literal) → Bool

@@ -5,4 +5,6 @@ pub mod Laws
 pub mod Layered
 pub mod Reads
 pub mod Roots
+pub mod Sizes
 pub mod Whole
+pub mod helpers

@@ -1,5 +1,13 @@
 //! A formula over the order of events as clauses: a literal for each conjunct, from those of the order and the words of terms, and
-//! a clause that it is true. What these clauses mean.
+//! a clause that it is true.
 #![tactic(auto)]
 
+mod blasted;
+mod cases;
+mod contended;
 pub mod laws;
+mod reads;
+mod roots;
+mod whole;
+
+pub use blasted::{Blasted, blast};

@@ -1,0 +1,13 @@
+use Rattle.std.proofs.Common.{◌≡◌, ◌+◌, ◌*◌, ◌++◌, ◌≤◌, length, take}
+use Rattle.std.specs.List.{flat_map}
+use Rattle.bit_order.specs.Comparators.{before_literal}
+use Rattle.bit_blast.specs.Reads.{last_clauses, value_clauses, with_clauses}
+use Rattle.bit_blast.proofs.reads.add_sources.Given as goal
+
+abbrev pub invariant-loop-source : goal.invariant-loop-source
+invariant-loop-source l = record {
+  formula : l.cnf ≡ with_clauses l.initial.cnf (flat_map
+      (λ s. last_clauses (before_literal l.layout) l.sources s ++ value_clauses l.holds s.taken l.takes s.value) (take l.source-index l.sources));
+  vars : l.cnf.vars ≡ l.initial.cnf.vars;
+  count : length l.cnf.clauses ≤ length l.initial.cnf.clauses + l.source-index * (length l.sources + 65);
+}

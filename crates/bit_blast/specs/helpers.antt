@@ -1,0 +1,3 @@
+-- No promise speaks of what stands in this folder.
+pub mod Held
+pub mod Within

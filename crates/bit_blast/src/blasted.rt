@@ -1,0 +1,153 @@
+//! A formula as clauses, and what its answers mean.
+ghost use Rattle.std.specs.Prelude.{◌≡◌, ◌<◌, ◌≤◌, length, IfOk, IsTrue};
+ghost use Rattle.std.specs.List.{All};
+ghost use Rattle.cnf_core.specs.Clauses.{value_in};
+ghost use Rattle.cnf_core.specs.declared.cnf.TheConstants.{LIMIT};
+ghost use Rattle.order_formula.specs.Formulas.{IsOf};
+ghost use Rattle.order_formula.specs.Orders.{ConjunctIsIn, IsOrder};
+ghost use Rattle.bit_order.specs.Comparators.{completed};
+ghost use Rattle.bit_order.specs.Readings.{world_of};
+ghost use Rattle.bit_blast.specs.Blasted.{blast, blast_over, impossible, root_of};
+ghost use Rattle.bit_blast.specs.Contended.{contended};
+ghost use Rattle.bit_blast.specs.Sizes.{whole_size};
+
+use crate::contended::contended;
+use crate::whole::{clauses, size};
+use bit_order::{Layout, complete};
+use cnf_core::{Assignment, Cnf, LIMIT};
+use order_formula::{Formula, Order, World};
+use std::alloc::{AllocError, Global};
+use std::marker::Model;
+use sym_terms::Terms;
+
+/// The clauses of a formula over an order of events. What satisfies them says a world in which the formula is true, and each such
+/// world is said by something that satisfies them.
+///
+/// Contracts see the layout, the clauses and the number of the formula's conjuncts.
+#[derive(Debug, Drop)]
+pub struct Blasted {
+    layout: Layout,
+    clauses: Cnf,
+    conjuncts: usize,
+}
+
+impl Model for Blasted {
+    ghost use Rattle.bit_blast.specs.Blasted.{Blasted as PlainBlasted};
+
+    ghost Value = { PlainBlasted };
+
+    ghost use Rattle.bit_blast.specs.helpers.Held.{blasted_of, IsHeld};
+
+    ghost view = { blasted_of };
+
+    ghost invariant = { IsHeld };
+}
+
+/// The clauses of a formula over terms, an order that was asked all that the formula asks, and so many loads.
+///
+/// Refused for want of memory, and where there would be more variables or clauses than can be numbered.
+pub fn blast(
+    alloc: Global,
+    terms: &Terms,
+    formula: &Formula,
+    order: Order,
+    loads: u32,
+) -> Result<Blasted, AllocError>
+    requires terms { IsOf (length terms.now) formula.now }
+    requires events { order.events ≤ 256 }
+    requires within { All (ConjunctIsIn order) formula.now }
+    ensures blasted { IfOk result (λ blasted. blasted ≡ blast terms.now formula.now order loads) }
+    ensures lawful { IfOk result (λ blasted. IsOrder blasted.layout.order) }
+{
+    let order = complete_order(alloc, order, formula)?;
+    if !has_room(&order, loads, terms, formula) {
+        return Err(AllocError);
+    }
+    blast_completed(alloc, terms, formula, order, loads)
+}
+
+/// Whether the variables and the clauses can be numbered.
+fn has_room(order: &Order, loads: u32, terms: &Terms, formula: &Formula) -> bool
+    ensures { IsTrue result → whole_size (record { order = order.now; loads = loads }) terms.now formula.now < LIMIT }
+{
+    size(order, loads, terms, formula) < u64::from(LIMIT)
+}
+
+/// The clauses, where the order was asked of the contended events too.
+fn blast_completed(
+    alloc: Global,
+    terms: &Terms,
+    formula: &Formula,
+    order: Order,
+    loads: u32,
+) -> Result<Blasted, AllocError>
+    requires terms { IsOf (length terms.now) formula.now }
+    requires events { order.events ≤ 256 }
+    requires room { whole_size (record { order = order; loads = loads }) terms.now formula.now < LIMIT }
+    ensures blasted { IfOk result (λ blasted. blasted ≡ blast_over terms.now formula.now (record { order = order; loads = loads })) }
+    ensures lawful { IfOk result (λ blasted. IsOrder blasted.layout.order) }
+{
+    let (layout, clauses) = clauses(alloc, order, loads, terms, formula)?;
+    Ok(Blasted {
+        layout,
+        clauses,
+        conjuncts: formula.conjuncts().len(),
+    })
+}
+
+/// The order, asked of every two contended events too.
+#[tactic(auto, using(crate::proofs::Completed::completed_events))]
+fn complete_order(alloc: Global, order: Order, formula: &Formula) -> Result<Order, AllocError>
+    requires within { All (ConjunctIsIn order) formula.now }
+    ensures completed { IfOk result (λ made. made ≡ completed order (contended formula.now)) }
+    ensures events { IfOk result (λ made. made.events ≡ order.events) }
+{
+    let mut order = order;
+    let events = contended(alloc, formula)?;
+    let pairs = (events.len() as u64).saturating_mul(events.len() as u64);
+    if pairs.saturating_add(order.pairs().len() as u64) >= u64::from(u32::MAX) {
+        return Err(AllocError);
+    }
+    complete(&mut order, events.as_slice())?;
+    Ok(order)
+}
+
+impl Blasted {
+    /// The clauses of what is impossible: the empty one alone.
+    pub fn impossible(alloc: Global) -> Result<Blasted, AllocError>
+        ensures { IfOk result (λ blasted. blasted ≡ impossible) }
+    {
+        let (layout, _) = Layout::clauses(alloc, Order::empty(alloc, 0, 0), 0)?;
+        let mut clauses = Cnf::new(alloc, 1);
+        clauses.push(&[])?;
+        Ok(Blasted {
+            layout,
+            clauses,
+            conjuncts: 0,
+        })
+    }
+
+    /// The clauses.
+    pub fn clauses(&self) -> &Cnf
+        ensures { result.now ≡ self.now.clauses }
+    {
+        &self.clauses
+    }
+
+    /// The number of the clause, from 0, by which a conjunct of that number is true.
+    pub fn root(&self, conjunct: usize) -> usize
+        requires { conjunct < self.now.conjuncts }
+        ensures root { result ≡ root_of self.now conjunct }
+        ensures there { result < length self.now.clauses.clauses }
+    {
+        self.clauses.len() - self.conjuncts + conjunct
+    }
+
+    /// The world that values of the variables say.
+    pub fn world(&self, alloc: Global, assignment: &Assignment) -> Result<World, AllocError>
+        requires { self.now.clauses.vars ≤ length assignment.now }
+        ensures { IfOk result (λ world. world ≡ world_of self.now.layout (value_in assignment.now)) }
+    {
+        self.layout.read_world(alloc, assignment)
+    }
+}

@@ -1,0 +1,293 @@
+//! The literals of what loads take.
+ghost use Rattle.std.specs.Prelude.{◌≡◌, ℕ, ◌<◌, ◌≤◌, ◌+◌, ◌*◌, [], ◌∷◌, ◌++◌, length, map, IfOk, OnOk};
+ghost use Rattle.std.specs.List.{All, flat_map};
+ghost use Rattle.cnf_core.specs.Clauses.{var_of};
+ghost use Rattle.cnf_core.specs.declared.cnf.TheConstants.{LIMIT};
+ghost use Rattle.bit_gates.specs.Folded.{HasRoom, IsLarger};
+ghost use Rattle.bit_order.specs.Comparators.{before_literal};
+ghost use Rattle.bit_words.specs.Words.{AreWithin};
+ghost use Rattle.order_formula.specs.Formulas.{CandidateIsOf, ReadIsOf};
+ghost use Rattle.bit_blast.specs.Layered.{parts_of};
+ghost use Rattle.bit_blast.specs.Reads.{all_seen, last_clause, last_clauses, none_clauses, read_made, seen_made, sources_of, value_clauses, with_clauses};
+ghost use Rattle.bit_blast.specs.Sizes.{read_size};
+ghost use Rattle.bit_blast.specs.helpers.Within.{ArePartsWithin, IsSourceWithin, AreSourcesWithin};
+
+use bit_gates::{and, constant};
+use bit_ops::Word;
+use bit_order::{Layout, add_clause};
+use bit_terms::nonzero;
+use cnf_core::{Cnf, Lit};
+use order_formula::{Candidate, Read};
+use std::alloc::{AllocError, Global};
+use std::marker::Model;
+
+/// A write that a load may take: its event, the literals that the load sees it at its cell and that it takes it, and the word of
+/// the value that was written.
+#[derive(Drop)]
+struct Source {
+    event: u32,
+    seen: Lit,
+    taken: Lit,
+    value: Word,
+}
+
+impl Model for Source {
+    ghost use Rattle.bit_blast.specs.Reads.{Source as PlainSource};
+
+    ghost Value = { PlainSource };
+
+    ghost view = { λ s. record { event = s.event; seen = s.seen; taken = s.taken; value = s.value } };
+}
+
+/// That a load takes what it is to take.
+pub(crate) fn read_literal(
+    alloc: Global,
+    cnf: &mut Cnf,
+    layout: &Layout,
+    words: &[Word],
+    read: &Read,
+) -> Result<Lit, AllocError>
+    requires one { 0 < cnf.old.vars }
+    requires parts { ArePartsWithin cnf.old.vars (parts_of layout.now words.now) }
+    requires terms { ReadIsOf (length words.now) read.now }
+    requires room { HasRoom (read_size (length read.now.candidates)) cnf.old }
+    ensures literal { IfOk result (λ l. l ≡ (read_made (parts_of layout.now words.now) cnf.old read.now).literal) }
+    ensures formula { OnOk result (cnf.new ≡ (read_made (parts_of layout.now words.now) cnf.old read.now).formula) }
+    ensures within { IfOk result (λ l. var_of l ≤ cnf.new.vars) }
+    ensures larger { OnOk result (IsLarger (read_size (length read.now.candidates)) cnf.old cnf.new) }
+{
+    let seen = all_seen(alloc, cnf, layout, words, read)?;
+    let holds = cnf.add_variable();
+    let start = cnf.add_variable();
+    let sources = sources_of(alloc, cnf, words, read.candidates(), seen.as_slice())?;
+    let sources = sources.as_slice();
+    let takes = &words[read.takes().place()];
+    let first = &words[read.start().place()];
+    add_some(alloc, cnf, start, sources)?;
+    add_none(alloc, cnf, start, sources)?;
+    add_value(alloc, cnf, holds, start, takes, first)?;
+    add_sources(alloc, cnf, layout, holds, takes, sources)?;
+    Ok(holds)
+}
+
+/// Whether the load sees each of its candidates at its cell.
+fn all_seen(
+    alloc: Global,
+    cnf: &mut Cnf,
+    layout: &Layout,
+    words: &[Word],
+    read: &Read,
+) -> Result<Vec<Lit>, AllocError>
+    requires one { 0 < cnf.old.vars }
+    requires parts { ArePartsWithin cnf.old.vars (parts_of layout.now words.now) }
+    requires terms { All (CandidateIsOf (length words.now)) read.now.candidates }
+    requires room { HasRoom (99 * length read.now.candidates) cnf.old }
+    ensures literals { IfOk result (λ v. v.items ≡ (all_seen (parts_of layout.now words.now) read.now cnf.old read.now.candidates).word) }
+    ensures formula { OnOk result (cnf.new ≡ (all_seen (parts_of layout.now words.now) read.now cnf.old read.now.candidates).state) }
+    ensures count { IfOk result (λ v. length v.items ≡ length read.now.candidates) }
+    ensures within { IfOk result (λ v. AreWithin cnf.new.vars v.items) }
+    ensures larger { OnOk result (IsLarger (99 * length read.now.candidates) cnf.old cnf.new) }
+{
+    let mut seen = Vec::new(alloc);
+    for candidate in read.candidates() {
+        let here = is_seen(cnf, layout, words, read, *candidate)?;
+        seen.push(here)?;
+    }
+    Ok(seen)
+}
+
+/// Whether the load sees the write at its cell.
+fn is_seen(
+    cnf: &mut Cnf,
+    layout: &Layout,
+    words: &[Word],
+    read: &Read,
+    candidate: Candidate,
+) -> Result<Lit, AllocError>
+    requires one { 0 < cnf.old.vars }
+    requires parts { ArePartsWithin cnf.old.vars (parts_of layout.now words.now) }
+    requires terms { CandidateIsOf (length words.now) candidate }
+    requires room { HasRoom 99 cnf.old }
+    ensures literal { IfOk result (λ l. l ≡ (seen_made (parts_of layout.now words.now) read.now cnf.old candidate).literal) }
+    ensures formula { OnOk result (cnf.new ≡ (seen_made (parts_of layout.now words.now) read.now cnf.old candidate).formula) }
+    ensures within { IfOk result (λ l. var_of l ≤ cnf.new.vars) }
+    ensures larger { OnOk result (IsLarger 99 cnf.old cnf.new) }
+{
+    let cell = match candidate.same_cell {
+        Some(term) => nonzero(cnf, &words[term.place()])?,
+        None => constant(true),
+    };
+    let order = if candidate.earlier {
+        constant(true)
+    } else {
+        layout.before(candidate.event, read.event())
+    };
+    and(cnf, order, cell)
+}
+
+/// The candidates with those literals, and with a new variable each.
+fn sources_of(
+    alloc: Global,
+    cnf: &mut Cnf,
+    words: &[Word],
+    candidates: &[Candidate],
+    seen: &[Lit],
+) -> Result<Vec<Source>, AllocError>
+    requires count { length seen.now ≡ length candidates.now }
+    requires terms { All (CandidateIsOf (length words.now)) candidates.now }
+    requires words { All (AreWithin cnf.old.vars) words.now }
+    requires seen { AreWithin cnf.old.vars seen.now }
+    requires room { HasRoom (length candidates.now) cnf.old }
+    ensures sources { IfOk result (λ v. v.items ≡ sources_of words.now cnf.old.vars candidates.now seen.now) }
+    ensures count { IfOk result (λ v. length v.items ≡ length candidates.now) }
+    ensures variables { OnOk result (cnf.new.vars ≡ cnf.old.vars + length candidates.now) }
+    ensures clauses { cnf.new.clauses ≡ cnf.old.clauses }
+    ensures within { IfOk result (λ v. AreSourcesWithin cnf.new.vars v.items) }
+{
+    let mut sources = Vec::with_capacity(alloc, candidates.len())?;
+    for place in 0..candidates.len() {
+        let candidate = candidates[place];
+        sources.push(Source {
+            event: candidate.event,
+            seen: seen[place],
+            taken: cnf.add_variable(),
+            value: words[candidate.value.place()],
+        })?;
+    }
+    Ok(sources)
+}
+
+/// One of the variables is true: the load takes the value at the start, or of some write.
+fn add_some(alloc: Global, cnf: &mut Cnf, start: Lit, sources: &[Source]) -> Result<(), AllocError>
+    requires start { var_of start ≤ cnf.old.vars }
+    requires sources { AreSourcesWithin cnf.old.vars sources.now }
+    requires room { length cnf.old.clauses + 1 < LIMIT }
+    ensures formula { OnOk result (cnf.new ≡ with_clauses cnf.old ((start ∷ map (λ s. s.taken) sources.now) ∷ [])) }
+    ensures vars { OnOk result (cnf.new.vars ≡ cnf.old.vars) }
+    ensures count { OnOk result (length cnf.new.clauses ≤ length cnf.old.clauses + 1) }
+{
+    let mut clause = Vec::with_capacity(alloc, sources.len() + 1)?;
+    clause.push(start)?;
+    for source in sources {
+        clause.push(source.taken)?;
+    }
+    add_clause(alloc, cnf, clause.as_slice())
+}
+
+/// Where the load takes the value at the start, it sees no write.
+fn add_none(alloc: Global, cnf: &mut Cnf, start: Lit, sources: &[Source]) -> Result<(), AllocError>
+    requires start { var_of start ≤ cnf.old.vars }
+    requires sources { AreSourcesWithin cnf.old.vars sources.now }
+    requires room { length cnf.old.clauses + length sources.now < LIMIT }
+    ensures formula { OnOk result (cnf.new ≡ with_clauses cnf.old (none_clauses start sources.now)) }
+    ensures vars { OnOk result (cnf.new.vars ≡ cnf.old.vars) }
+    ensures count { OnOk result (length cnf.new.clauses ≤ length cnf.old.clauses + length sources.now) }
+{
+    for source in sources {
+        add_clause(alloc, cnf, &[start.opposite(), source.seen.opposite()])?;
+    }
+    Ok(())
+}
+
+/// Where the conjunct is true and the load takes a value, its own is that, bit by bit.
+fn add_value(
+    alloc: Global,
+    cnf: &mut Cnf,
+    holds: Lit,
+    taken: Lit,
+    takes: &Word,
+    value: &Word,
+) -> Result<(), AllocError>
+    requires holds { var_of holds ≤ cnf.old.vars }
+    requires taken { var_of taken ≤ cnf.old.vars }
+    requires takes { AreWithin cnf.old.vars takes.now }
+    requires value { AreWithin cnf.old.vars value.now }
+    requires room { length cnf.old.clauses + 64 < LIMIT }
+    ensures formula { OnOk result (cnf.new ≡ with_clauses cnf.old (value_clauses holds taken takes.now value.now)) }
+    ensures vars { OnOk result (cnf.new.vars ≡ cnf.old.vars) }
+    ensures count { OnOk result (length cnf.new.clauses ≤ length cnf.old.clauses + 64) }
+{
+    let (no, other) = (holds.opposite(), taken.opposite());
+    for place in 0..32 {
+        let (a, b) = (takes[place], value[place]);
+        add_clause(alloc, cnf, &[no, other, a.opposite(), b])?;
+        add_clause(alloc, cnf, &[no, other, a, b.opposite()])?;
+    }
+    Ok(())
+}
+
+/// Where the load takes a write, it sees it, and no other that it sees comes after it.
+fn add_last(
+    alloc: Global,
+    cnf: &mut Cnf,
+    layout: &Layout,
+    sources: &[Source],
+    source: &Source,
+) -> Result<(), AllocError>
+    requires orders { (first second : ℕ) → var_of (before_literal layout.now first second) ≤ cnf.old.vars }
+    requires sources { AreSourcesWithin cnf.old.vars sources.now }
+    requires source { IsSourceWithin cnf.old.vars source.now }
+    requires room { length cnf.old.clauses + length sources.now + 1 < LIMIT }
+    ensures formula { OnOk result (cnf.new ≡ with_clauses cnf.old (last_clauses (before_literal layout.now) sources.now source.now)) }
+    ensures vars { OnOk result (cnf.new.vars ≡ cnf.old.vars) }
+    ensures count { OnOk result (length cnf.new.clauses ≤ length cnf.old.clauses + length sources.now + 1) }
+{
+    add_clause(alloc, cnf, &[source.taken.opposite(), source.seen])?;
+    for other in sources {
+        add_later(alloc, cnf, layout, source, other)?;
+    }
+    Ok(())
+}
+
+/// Where the load takes a write and sees another, that comes before it.
+fn add_later(
+    alloc: Global,
+    cnf: &mut Cnf,
+    layout: &Layout,
+    source: &Source,
+    other: &Source,
+) -> Result<(), AllocError>
+    requires orders { (first second : ℕ) → var_of (before_literal layout.now first second) ≤ cnf.old.vars }
+    requires source { IsSourceWithin cnf.old.vars source.now }
+    requires other { IsSourceWithin cnf.old.vars other.now }
+    requires room { length cnf.old.clauses + 1 < LIMIT }
+    ensures formula { OnOk result (cnf.new ≡ with_clauses cnf.old (last_clause (before_literal layout.now) source.now other.now)) }
+    ensures vars { OnOk result (cnf.new.vars ≡ cnf.old.vars) }
+    ensures count { OnOk result (length cnf.new.clauses ≤ length cnf.old.clauses + 1) }
+{
+    if other.event == source.event {
+        return Ok(());
+    }
+    let before = layout.before(other.event, source.event);
+    add_clause(
+        alloc,
+        cnf,
+        &[source.taken.opposite(), other.seen.opposite(), before],
+    )
+}
+
+/// Both of each write.
+fn add_sources(
+    alloc: Global,
+    cnf: &mut Cnf,
+    layout: &Layout,
+    holds: Lit,
+    takes: &Word,
+    sources: &[Source],
+) -> Result<(), AllocError>
+    requires orders { (first second : ℕ) → var_of (before_literal layout.now first second) ≤ cnf.old.vars }
+    requires holds { var_of holds ≤ cnf.old.vars }
+    requires takes { AreWithin cnf.old.vars takes.now }
+    requires sources { AreSourcesWithin cnf.old.vars sources.now }
+    requires room { length cnf.old.clauses + length sources.now * (length sources.now + 65) < LIMIT }
+    ensures formula { OnOk result (cnf.new ≡ with_clauses cnf.old (flat_map
+        (λ s. last_clauses (before_literal layout.now) sources.now s ++ value_clauses holds s.taken takes.now s.value) sources.now)) }
+    ensures vars { OnOk result (cnf.new.vars ≡ cnf.old.vars) }
+    ensures count { OnOk result (length cnf.new.clauses ≤ length cnf.old.clauses + length sources.now * (length sources.now + 65)) }
+{
+    for source in sources {
+        add_last(alloc, cnf, layout, sources, source)?;
+        add_value(alloc, cnf, holds, source.taken, takes, &source.value)?;
+    }
+    Ok(())
+}

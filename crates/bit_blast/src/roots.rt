@@ -1,0 +1,149 @@
+//! The literals of all conjuncts, and the clauses that they are true.
+ghost use Rattle.std.specs.Prelude.{◌≡◌, ◌<◌, ◌≤◌, ◌+◌, ◌-◌, ◌*◌, ◌^◌, ◌++◌, [], ◌∷◌, min, map, sum_by, length, IfOk, OnOk};
+ghost use Rattle.cnf_core.specs.Clauses.{var_of};
+ghost use Rattle.cnf_core.specs.declared.cnf.TheConstants.{LIMIT};
+ghost use Rattle.bit_gates.specs.Folded.{HasRoom, IsLarger};
+ghost use Rattle.bit_words.specs.Words.{AreWithin};
+ghost use Rattle.order_formula.specs.Formulas.{BodyIsOf, IsOf, case_nodes};
+ghost use Rattle.bit_blast.specs.Layered.{parts_of};
+ghost use Rattle.bit_blast.specs.Roots.{body_made, roots, blasted};
+ghost use Rattle.bit_blast.specs.Sizes.{body_size, bodies_size, size_of};
+ghost use Rattle.bit_blast.specs.helpers.Within.{ArePartsWithin};
+
+use crate::cases::some_case;
+use crate::reads::read_literal;
+use bit_ops::Word;
+use bit_order::Layout;
+use cnf_core::{Cnf, Lit};
+use order_formula::{Body, Case, Formula};
+use std::alloc::{AllocError, Global};
+
+/// The clauses of a formula take at most so many variables and clauses; the greatest number where it is more.
+pub(crate) fn formula_size(formula: &Formula) -> u64
+    ensures { result ≡ min (size_of formula.now) (2 ^ 64 - 1) }
+{
+    let mut size: u64 = 0;
+    for conjunct in formula.conjuncts() {
+        size = size
+            .saturating_add(body_size(&conjunct.body))
+            .saturating_add(1);
+    }
+    size
+}
+
+fn body_size(body: &Body) -> u64
+    ensures { result ≡ min (body_size body.now) (2 ^ 64 - 1) }
+{
+    match body {
+        Body::Any(cases) => cases_size(cases.as_slice()),
+        Body::Read(read) => {
+            let candidates = read.candidates().len() as u64;
+            (candidates + 1).saturating_mul(candidates + 170)
+        }
+    }
+}
+
+fn cases_size(cases: &[Case]) -> u64
+    ensures { result ≡ min (100 * sum_by case_nodes cases.now) (2 ^ 64 - 1) }
+{
+    let mut nodes: u64 = 0;
+    for case in cases {
+        nodes = nodes
+            .saturating_add(case.literals().len() as u64)
+            .saturating_add(1);
+    }
+    nodes.saturating_mul(100)
+}
+
+/// The clauses of a formula, over those of its order and its terms: at the end stands one for each conjunct, in order, that its
+/// literal is true.
+pub(crate) fn add_formula(
+    alloc: Global,
+    cnf: &mut Cnf,
+    layout: &Layout,
+    words: &[Word],
+    formula: &Formula,
+) -> Result<(), AllocError>
+    requires one { 0 < cnf.old.vars }
+    requires parts { ArePartsWithin cnf.old.vars (parts_of layout.now words.now) }
+    requires terms { IsOf (length words.now) formula.now }
+    requires room { HasRoom (size_of formula.now) cnf.old }
+    ensures formula { OnOk result (cnf.new ≡ blasted (parts_of layout.now words.now) cnf.old formula.now) }
+    ensures roots { OnOk result (length formula.now ≤ length cnf.new.clauses) }
+    ensures larger { OnOk result (IsLarger (size_of formula.now) cnf.old cnf.new) }
+{
+    let roots = roots(alloc, cnf, layout, words, formula)?;
+    add_units(cnf, roots.as_slice())?;
+    Ok(())
+}
+
+/// The literals of all conjuncts, in order.
+fn roots(
+    alloc: Global,
+    cnf: &mut Cnf,
+    layout: &Layout,
+    words: &[Word],
+    formula: &Formula,
+) -> Result<Vec<Lit>, AllocError>
+    requires one { 0 < cnf.old.vars }
+    requires parts { ArePartsWithin cnf.old.vars (parts_of layout.now words.now) }
+    requires terms { IsOf (length words.now) formula.now }
+    requires room { HasRoom (bodies_size formula.now) cnf.old }
+    ensures literals { IfOk result (λ v. v.items ≡ (roots (parts_of layout.now words.now) cnf.old formula.now).word) }
+    ensures formula { OnOk result (cnf.new ≡ (roots (parts_of layout.now words.now) cnf.old formula.now).state) }
+    ensures count { IfOk result (λ v. length v.items ≡ length formula.now) }
+    ensures within { IfOk result (λ v. AreWithin cnf.new.vars v.items) }
+    ensures larger { OnOk result (IsLarger (bodies_size formula.now) cnf.old cnf.new) }
+{
+    let mut roots = Vec::new(alloc);
+    for conjunct in formula.conjuncts() {
+        let root = body_literal(alloc, cnf, layout, words, &conjunct.body)?;
+        roots.push(root)?;
+    }
+    Ok(roots)
+}
+
+fn body_literal(
+    alloc: Global,
+    cnf: &mut Cnf,
+    layout: &Layout,
+    words: &[Word],
+    body: &Body,
+) -> Result<Lit, AllocError>
+    requires one { 0 < cnf.old.vars }
+    requires parts { ArePartsWithin cnf.old.vars (parts_of layout.now words.now) }
+    requires terms { BodyIsOf (length words.now) body.now }
+    requires room { HasRoom (body_size body.now) cnf.old }
+    ensures literal { IfOk result (λ l. l ≡ (body_made (parts_of layout.now words.now) cnf.old body.now).literal) }
+    ensures formula { OnOk result (cnf.new ≡ (body_made (parts_of layout.now words.now) cnf.old body.now).formula) }
+    ensures within { IfOk result (λ l. var_of l ≤ cnf.new.vars) }
+    ensures larger { OnOk result (IsLarger (body_size body.now) cnf.old cnf.new) }
+{
+    match body {
+        Body::Any(cases) => some_case(cnf, layout, words, cases.as_slice()),
+        Body::Read(read) => read_literal(alloc, cnf, layout, words, read),
+    }
+}
+
+/// A clause for each literal, that it is true.
+fn add_units(cnf: &mut Cnf, literals: &[Lit]) -> Result<(), AllocError>
+    requires literals { AreWithin cnf.old.vars literals.now }
+    requires room { length cnf.old.clauses + length literals.now < LIMIT }
+    ensures vars { OnOk result (cnf.new.vars ≡ cnf.old.vars) }
+    ensures clauses { OnOk result (cnf.new.clauses ≡ cnf.old.clauses ++ map (λ l. l ∷ []) literals.now) }
+{
+    for literal in literals {
+        add_unit(cnf, *literal)?;
+    }
+    Ok(())
+}
+
+fn add_unit(cnf: &mut Cnf, literal: Lit) -> Result<(), AllocError>
+    requires literal { var_of literal ≤ cnf.old.vars }
+    requires room { length cnf.old.clauses + 1 < LIMIT }
+    ensures vars { OnOk result (cnf.new.vars ≡ cnf.old.vars) }
+    ensures clauses { OnOk result (cnf.new.clauses ≡ cnf.old.clauses ++ (literal ∷ []) ∷ []) }
+{
+    let _positive = literal.var();
+    cnf.push(&[literal])
+}

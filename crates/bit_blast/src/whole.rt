@@ -1,0 +1,85 @@
+//! All clauses of an order, its terms and a formula.
+ghost use Rattle.std.specs.Prelude.{◌≡◌, ◌<◌, ◌≤◌, ◌+◌, ◌-◌, ◌*◌, ◌^◌, min, length, IfOk, OnOk};
+ghost use Rattle.cnf_core.specs.declared.cnf.TheConstants.{LIMIT};
+ghost use Rattle.order_formula.specs.Formulas.{IsOf};
+ghost use Rattle.order_formula.specs.Orders.{IsOrder};
+ghost use Rattle.bit_gates.specs.Folded.{HasRoom};
+ghost use Rattle.bit_ops.specs.declared.TheConstants.{MOST};
+ghost use Rattle.bit_order.specs.Comparators.{ordered};
+ghost use Rattle.bit_order.specs.Layouts.{base};
+ghost use Rattle.bit_blast.specs.Sizes.{size_of, whole_size};
+ghost use Rattle.bit_blast.specs.Whole.{load_words, whole};
+
+use crate::roots::{add_formula, formula_size};
+use bit_ops::{MOST, Word};
+use bit_order::Layout;
+use bit_terms::term_words;
+use cnf_core::Cnf;
+use order_formula::{Formula, Order};
+use std::alloc::{AllocError, Global};
+use sym_terms::Terms;
+
+/// The clauses of an order with what was asked of it, of so many loads, of terms and of a formula take at most so many variables
+/// and clauses; the greatest number where it is more.
+pub(crate) fn size(order: &Order, loads: u32, terms: &Terms, formula: &Formula) -> u64
+    ensures { result ≡ min (whole_size (record { order = order.now; loads = loads }) terms.now formula.now) (2 ^ 64 - 1) }
+{
+    bit_order::size(order, loads)
+        .saturating_add(u64::from(MOST).saturating_mul(terms.len() as u64))
+        .saturating_add(formula_size(formula))
+}
+
+/// The clauses of an order with what was asked of it, of so many loads, of terms and of a formula; and the layout, by which values
+/// that satisfy the clauses are read as a world. At the end stands a clause for each conjunct, in order.
+pub(crate) fn clauses(
+    alloc: Global,
+    order: Order,
+    loads: u32,
+    terms: &Terms,
+    formula: &Formula,
+) -> Result<(Layout, Cnf), AllocError>
+    requires terms { IsOf (length terms.now) formula.now }
+    requires room { whole_size (record { order = order; loads = loads }) terms.now formula.now < LIMIT }
+    ensures layout { IfOk result (λ made. made.0 ≡ record { order = order; loads = loads }) }
+    ensures clauses { IfOk result (λ made. made.1 ≡ whole (record { order = order; loads = loads }) terms.now formula.now) }
+    ensures lawful { IfOk result (λ made. IsOrder made.0.order) }
+    ensures variables { IfOk result (λ made. (base made.0).vars ≤ made.1.vars) }
+    ensures roots { IfOk result (λ made. length formula.now ≤ length made.1.clauses) }
+{
+    let (layout, mut cnf) = Layout::clauses(alloc, order, loads)?;
+    add_system(alloc, &mut cnf, &layout, terms, formula)?;
+    Ok((layout, cnf))
+}
+
+/// Those of the terms and of the formula, over those of the order.
+fn add_system(
+    alloc: Global,
+    cnf: &mut Cnf,
+    layout: &Layout,
+    terms: &Terms,
+    formula: &Formula,
+) -> Result<(), AllocError>
+    requires ordered { cnf.old ≡ ordered layout.now }
+    requires lawful { IsOrder layout.now.order }
+    requires terms { IsOf (length terms.now) formula.now }
+    requires room { HasRoom (MOST * length terms.now + size_of formula.now) cnf.old }
+    ensures formula { OnOk result (cnf.new ≡ whole layout.now terms.now formula.now) }
+    ensures variables { OnOk result ((base layout.now).vars ≤ cnf.new.vars) }
+    ensures roots { OnOk result (length formula.now ≤ length cnf.new.clauses) }
+{
+    let symbols = load_words(alloc, layout)?;
+    let words = term_words(alloc, cnf, terms, symbols.as_slice())?;
+    add_formula(alloc, cnf, layout, words.as_slice(), formula)?;
+    Ok(())
+}
+
+/// The words of the values that the loads take.
+fn load_words(alloc: Global, layout: &Layout) -> Result<Vec<Word>, AllocError>
+    ensures { IfOk result (λ words. words.items ≡ load_words layout.now) }
+{
+    let mut words = Vec::with_capacity(alloc, layout.loads() as usize)?;
+    for load in 0..layout.loads() {
+        words.push(layout.load(load))?;
+    }
+    Ok(words)
+}
