@@ -1,0 +1,120 @@
+-- The formula of a log is true in some world exactly where some order is lawful.
+use Rattle.std.proofs.Common.{◌≡◌, true, List, [], ◌++◌, refl, sym, subst}
+use Rattle.std.proofs.lemmas.Option.{none-some}
+use Rattle.std.specs.Prelude.{◌↔◌, fold}
+use Rattle.std.specs.List.{IsDistinct}
+use Rattle.tc_base.specs.Buffers.{BufferOps}
+use Rattle.tc_base.specs.Logs.{Log}
+use Rattle.tc_base.specs.declared.model.Model.{Model}
+use Rattle.tc_base.specs.declared.moves.Move.{Move}
+use Rattle.tc_code.specs.Code.{Code}
+use Rattle.tc_code.specs.Lawful.{IsLawful}
+use Rattle.tc_code.specs.Run.{Reproduces}
+use Rattle.store_buffers.specs.Laws.{Laws}
+use Rattle.store_buffers.specs.Pending.{Binding}
+use Rattle.path_log.specs.Texts.{is_log}
+use Rattle.path_walk.specs.Fits.{Fits}
+use Rattle.path_walk.specs.Paths.{ArePaths, Paths, paths_of}
+use Rattle.run_follows.specs.Follow.{moves_for}
+use Rattle.run_history.specs.History.{history}
+use Rattle.sym_terms.specs.Terms.{AreTerms, same_node, with_node}
+use Rattle.sym_exec.specs.Executed.{Executed, executed}
+use Rattle.sym_exec.specs.Making.{Grows}
+use Rattle.sym_exec.proofs.Grown.{grows_both}
+use Rattle.sym_events.proofs.Terms.{have_terms, have_tests}
+use Rattle.order_formula.specs.Worlds.{World}
+use Rattle.order_formula.specs.declared.group.Group.{Group}
+use Rattle.lawful_order.specs.Lawful.{MeetsRule}
+use Rattle.order_cells.proofs.Needs.{grows_all}
+use Rattle.memory_order.specs.Own.{own_needs}
+use Rattle.read_write.specs.Reading.{read_needs}
+use Rattle.lawful_terms.proofs.Same.{MeanSame, meets, more_mean_same, turned}
+use Rattle.world_plan.specs.Going.{IsLawfulWorld}
+use Rattle.world_plan.specs.Plan.{plan}
+use Rattle.plan_runs.proofs.Laws.{given}
+use Rattle.plan_runs.proofs.Runs.{plan_reproduces}
+use Rattle.run_lawful.proofs.Lawful.{is_lawful}
+use Rattle.run_world.specs.WorldOf.{world_in}
+use Rattle.clap_system.specs.Systems.{System, system_of}
+use Rattle.clap_system.proofs.Exact.{lawful_where_true, true_where_lawful}
+use Rattle.clap_system.proofs.Needs.{parts_exact}
+use Rattle.orders_are_runs.specs.Possible.{IsPossible}
+
+none_twice : IsDistinct same_node []
+unfolding IsDistinct
+none_twice = tt
+
+-- no terms are terms
+no_terms : AreTerms []
+no_terms = record { distinct = none_twice; earlier = λ id node at. absurd (none-some node at) }
+
+module _ {B : Type 0} (ops : BufferOps B) (model : Model) (bound : Binding) (code : Code) (log : Log) (laws : Laws ops model bound) (lawful : IsLawful code)
+    (is : is_log log ≡ true) (fits : Fits code log) where
+  abbrev paths : Paths
+  paths = paths_of code log
+
+  abbrev x : Executed
+  x = executed code paths []
+
+  abbrev s : System
+  s = system_of ops.buffered bound code log
+
+  are_paths : ArePaths code paths
+  are_paths = record { log = log; fits = fits; are = refl }
+
+  -- the formula's terms are those of the execution, and more
+  grows : Grows x.nodes s.nodes
+  grows =
+      let own = own_needs ops.buffered bound paths x.symbolic x.nodes in
+      let between = fold with_node x.nodes own in
+      grows_both x.nodes between s.nodes (grows_all x.nodes own) (grows_all between (read_needs code x.symbolic between))
+
+  rule_stays : (w : World) (g : Group)
+      → MeetsRule ops.buffered bound code paths x.symbolic x.nodes w g ↔ MeetsRule ops.buffered bound code paths x.symbolic s.nodes w g
+  rule_stays w g = subst (λ ns. MeetsRule ops.buffered bound code paths x.symbolic x.nodes w g ↔ MeetsRule ops.buffered bound code paths x.symbolic ns w g)
+      (sym grows.1) (
+        meets ops.buffered bound code paths x.symbolic w x.nodes (x.nodes ++ grows.0) same g,
+        meets ops.buffered bound code paths x.symbolic w (x.nodes ++ grows.0) x.nodes (turned ops.buffered bound code paths x.symbolic w x.nodes
+            (x.nodes ++ grows.0) same) g,
+      )
+    where
+      same : MeanSame ops.buffered bound code paths x.symbolic w x.nodes (x.nodes ++ grows.0)
+      same = more_mean_same ops.buffered bound code paths x.symbolic w x.nodes grows.0 (have_terms code lawful paths [])
+          (λ t c y at among. have_tests code lawful paths [] t c y at among)
+
+  module _ (terms : AreTerms s.nodes) where
+    pub possible_is_run : IsPossible ops.buffered bound code log → (moves : List Move) × Reproduces ops code log moves
+    possible_is_run p =
+        let parts = parts_exact ops.buffered bound code paths p.world laws.same_cell lawful are_paths terms p.is p.of in
+        let all = lawful_where_true ops.buffered bound code paths x.symbolic s.nodes p.world parts p.holds in
+        let world : IsLawfulWorld ops model bound code log [] p.world = record {
+          laws = laws;
+          code_is = lawful;
+          log_is = is;
+          fits = fits;
+          lives = p.lives;
+          terms = no_terms;
+          world = p.is;
+          of = p.of;
+          lawful = record { meets = λ g. (rule_stays p.world g).1 (all.meets g) };
+        } in (
+          moves_for bound (plan ops.buffered code paths p.world),
+          plan_reproduces ops model bound code log [] p.world world (given ops model bound code log [] p.world world),
+        )
+
+    pub run_is_possible : (moves : List Move) → Reproduces ops code log moves → IsPossible ops.buffered bound code log
+    run_is_possible moves again = record {
+      lives = l.lives;
+      world = w;
+      is = l.world;
+      of = l.of;
+      holds = true_where_lawful ops.buffered bound code paths x.symbolic s.nodes w
+          (parts_exact ops.buffered bound code paths w laws.same_cell lawful are_paths terms l.world l.of)
+          (record { meets = λ g. (rule_stays w g).0 (l.lawful.meets g) });
+    }
+      where
+        w : World
+        w = world_in ops.buffered paths x.symbolic (history ops code moves)
+
+        l : IsLawfulWorld ops model bound code log [] w
+        l = is_lawful ops model bound laws code lawful log is [] no_terms moves again
