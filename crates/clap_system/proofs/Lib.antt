@@ -3,3 +3,7 @@ pub mod Groups
 pub mod Exact
 pub mod Needs
 pub mod Ready
+pub mod Few
+pub mod Built
+pub mod Whole
+pub mod Deep

@@ -1,6 +1,6 @@
 -- Why a log has no system.
-use Rattle.std.specs.Prelude.{◌≡◌, ℕ, ◌<◌, ◌≤◌, length, nat_lt, Some}
-use Rattle.std.specs.List.{All, find}
+use Rattle.std.specs.Prelude.{◌≡◌, ℕ, ◌<◌, ◌≤◌, List, length, map, nat_lt, Option, Some, None}
+use Rattle.std.specs.List.{find}
 use Rattle.tc_base.specs.Logs.{Log, ThreadPath}
 use Rattle.tc_base.specs.declared.limits.TheConstants.{THREADS, DEPTH, EVENTS, OPERATORS}
 use Rattle.tc_code.specs.Code.{Code}
@@ -19,19 +19,19 @@ limit_of Depth = DEPTH
 limit_of Events = EVENTS
 limit_of Operators = OPERATORS
 
--- a log has few threads, and no name is deep
+-- how many creates lead to the first thread with a name that is too deep, if there is one
+abbrev pub first_deep : List ThreadPath → Option ℕ
+first_deep threads = find (nat_lt DEPTH) (map (λ t. length t.name) threads)
+
+-- a log has few threads, and no name is too deep
 pub record IsShallow (log : Log) : Type 0 where
   pub threads : length log.threads ≤ THREADS
-  pub names : All (λ t. length t.name ≤ DEPTH) log.threads
-
--- the first thread with a deep name
-abbrev pub IsFirstDeep : Log → ThreadPath → Type 0
-IsFirstDeep log t = find (λ u. nat_lt DEPTH (length u.name)) log.threads ≡ Some t
+  pub names : first_deep log.threads ≡ None
 
 -- a log's paths have more of something than they may, and not too much of what is told first
 abbrev pub IsOver : Code → Log → Which → ℕ → Type 0
 IsOver code log Threads n = n ≡ length log.threads
-IsOver code log Depth n = (length log.threads ≤ THREADS) × ((t : ThreadPath) × IsFirstDeep log t × (n ≡ length t.name))
+IsOver code log Depth n = (length log.threads ≤ THREADS) × (first_deep log.threads ≡ Some n)
 IsOver code log Events n = IsShallow log × Fits code log × (n ≡ (paths_of code log).events)
 IsOver code log Operators n = IsShallow log × Fits code log × ((paths_of code log).events ≤ EVENTS) × (n ≡ (paths_of code log).operators)
 

@@ -1,24 +1,29 @@
 //! From a log to its system.
 ghost use Rattle.std.specs.Prelude.{◌≡◌, ◌≤◌, length, IfOk, IfErr, OnOk};
+ghost use Rattle.std.specs.Option.{MatchOption};
 ghost use Rattle.tc_base.specs.declared.limits.TheConstants.{EVENTS, OPERATORS};
 ghost use Rattle.path_walk.specs.Fits.{Fits};
 ghost use Rattle.path_walk.specs.Paths.{ArePaths};
 ghost use Rattle.tc_code.specs.Code as spec;
-ghost use Rattle.clap_system.specs.Faults.{IsBuildFault, IsShallow, limit_of};
+ghost use Rattle.clap_system.specs.Faults.{IsBuildFault, IsShallow, first_deep, limit_of};
 ghost use Rattle.clap_system.specs.declared.fault.BuildFault.TheVariants.{Limit};
-ghost use Rattle.clap_system.specs.Systems.{system_by, system_of};
+ghost use Rattle.order_formula.specs.Orders.{unasked, with_formula};
+ghost use Rattle.lawful_order.specs.Events.{all_events, all_sleeps};
+ghost use Rattle.lawful_order.specs.Whole.{AreWhole, IsExecutedBy};
+ghost use Rattle.order_cells.specs.Terms.{HaveTerms};
+ghost use Rattle.clap_system.specs.Systems.{rules_of, system_by, system_of, with_needs};
 
 use crate::conjuncts::test_conjuncts;
 use crate::{BuildFault, System, Which};
 use memory_order::order_constraints;
 use order_events::{Sleeps, formula_of};
-use order_formula::Order;
+use order_formula::{Formula, Order};
 use path_log::{Log, ThreadPath};
 use path_walk::{Paths, walk};
 use read_write::read_constraints;
 use std::alloc::{AllocError, Global};
 use store_buffers::MemoryModel;
-use sym_exec::execute;
+use sym_exec::{Symbolic, execute};
 use sym_terms::Terms;
 use sync_order::sync_constraints;
 use tc_base::limits::{DEPTH, EVENTS, OPERATORS, THREADS};
@@ -36,7 +41,9 @@ pub fn build<M: MemoryModel>(alloc: Global, code: &Code, log: &Log) -> Result<Sy
     ensures operators { IfOk result (λ system. system.paths.operators ≤ OPERATORS) }
     ensures err { IfErr result (IsBuildFault code.now log.now.log) }
 {
-    test_log(log)?;
+    if let Some(fault) = too_much(log) {
+        return Err(fault);
+    }
     let paths = walk(alloc, code, log)?;
     if paths.events() > EVENTS {
         return Err(over(Which::Events, paths.events() as u64));
@@ -47,26 +54,26 @@ pub fn build<M: MemoryModel>(alloc: Global, code: &Code, log: &Log) -> Result<Sy
     Ok(system::<M>(alloc, code, paths)?)
 }
 
-/// Whether a log has few threads, and no name is deep.
-fn test_log(log: &Log) -> Result<(), BuildFault>
-    ensures ok { OnOk result (IsShallow log.now.log) }
-    ensures err { IfErr result (λ fault. (code : spec.Code) → IsBuildFault code log.now.log fault) }
+/// That a log has too many threads, or a name that is too deep, if so it is.
+fn too_much(log: &Log) -> Option<BuildFault>
+    ensures { MatchOption result (IsShallow log.now.log) (λ fault. (code : spec.Code) → IsBuildFault code log.now.log fault) }
 {
     let threads = log.threads();
     if threads.len() > THREADS {
-        return Err(over(Which::Threads, threads.len() as u64));
+        return Some(over(Which::Threads, threads.len() as u64));
     }
-    match threads.iter().find(|thread| depth(thread) > DEPTH) {
-        Some(thread) => Err(over(Which::Depth, depth(thread) as u64)),
-        None => Ok(()),
-    }
+    let depth = too_deep(threads)?;
+    Some(over(Which::Depth, depth as u64))
 }
 
-/// How many creates lead to a thread.
-fn depth(thread: &ThreadPath) -> usize
-    ensures { result ≡ length thread.now.name }
+/// How many creates lead to the first thread with a name that is too deep.
+fn too_deep(threads: &[ThreadPath]) -> Option<usize>
+    ensures { result ≡ first_deep threads.now }
 {
-    thread.name().children().len()
+    threads
+        .iter()
+        .map(|thread| thread.name().children().len())
+        .find(|depth| *depth > DEPTH)
 }
 
 /// That there is so much of something, which is too much.
@@ -86,17 +93,51 @@ fn system<M: MemoryModel>(alloc: Global, code: &Code, paths: Paths) -> Result<Sy
     let _functions = code.functions();
     let mut terms = Terms::new(alloc);
     let symbolic = execute(alloc, code, &paths, &mut terms)?;
-    let sleeps = Sleeps::of(alloc, &paths)?;
-    let mut order = Order::empty(alloc, paths.events() as u32, sleeps.all().len() as u32);
-    let own = order_constraints::<M>(alloc, &paths, &symbolic, &mut terms, &mut order)?;
-    let sync = sync_constraints(alloc, &paths, &mut order)?;
-    let read = read_constraints(alloc, code, &paths, &symbolic, &mut terms, &mut order)?;
-    let tests = formula_of(alloc, test_conjuncts(alloc, &symbolic)?, &mut order)?;
+    let mut order = no_questions(alloc, &paths)?;
+    let formula = rules::<M>(alloc, code, &paths, &symbolic, &mut terms, &mut order)?;
     Ok(System {
         paths,
         symbolic,
         terms,
         order,
-        formula: own.and(sync)?.and(read)?.and(tests)?,
+        formula,
     })
+}
+
+/// The order of the paths' events, of which nothing is asked.
+fn no_questions(alloc: Global, paths: &Paths) -> Result<Order, AllocError>
+    requires counted { paths.now.events ≡ length (all_events paths.now) }
+    requires few { paths.now.events ≤ EVENTS }
+    requires sleeps { length (all_sleeps paths.now) ≤ EVENTS }
+    ensures { IfOk result (λ order. order ≡ unasked (length (all_events paths.now)) (length (all_sleeps paths.now))) }
+{
+    let sleeps = Sleeps::of(alloc, paths)?;
+    let count = sleeps.all().len() as u32;
+    Ok(Order::empty(alloc, paths.events() as u32, count))
+}
+
+/// The rules of all groups. The terms and the order take what they need and ask.
+fn rules<M: MemoryModel>(
+    alloc: Global,
+    code: &Code,
+    paths: &Paths,
+    symbolic: &Symbolic,
+    terms: &mut Terms,
+    order: &mut Order,
+) -> Result<Formula, AllocError>
+    requires whole { AreWhole paths.now }
+    requires few { paths.now.events ≤ EVENTS }
+    requires executed { IsExecutedBy paths.now symbolic.now }
+    requires terms { HaveTerms terms.old symbolic.now }
+    requires events { order.old.events ≡ length (all_events paths.now) }
+    requires sleeps { order.old.sleeps ≡ length (all_sleeps paths.now) }
+    ensures made { OnOk result (terms.new ≡ with_needs M.BUFFERED M.bound code.now paths.now symbolic.now terms.old) }
+    ensures rules { IfOk result (λ formula. formula ≡ rules_of M.BUFFERED M.bound code.now paths.now symbolic.now terms.new) }
+    ensures asked { IfOk result (λ formula. order.new ≡ with_formula order.old formula) }
+{
+    let own = order_constraints::<M>(alloc, paths, symbolic, terms, order)?;
+    let sync = sync_constraints(alloc, paths, order)?;
+    let read = read_constraints(alloc, code, paths, symbolic, terms, order)?;
+    let tests = formula_of(alloc, test_conjuncts(alloc, symbolic)?, order)?;
+    own.and(sync)?.and(read)?.and(tests)
 }

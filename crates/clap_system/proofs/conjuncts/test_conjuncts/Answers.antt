@@ -1,5 +1,4 @@
-use Rattle.std.proofs.Common.{◌∙◌, ℕ, [], ◌++◌, map, ap, sym, get_or, arith}
-use Rattle.sym_exec.specs.Executed.{Course}
+use Rattle.std.proofs.Common.{◌∙◌, [], ◌++◌, map, length, get_or, ap, arith}
 use Rattle.order_events.proofs.Loops.{each_more}
 use Rattle.clap_system.specs.Tests.{test_conjunct}
 use Rattle.clap_system.proofs.conjuncts.test_conjuncts.Goals as goal
@@ -8,7 +7,9 @@ pub loop-thread-preserved : goal.loop-thread-preserved
 loop-thread-preserved c =
     let courses = c.args.symbolic.now.threads in
     let thread = c.loop-thread.thread in
-    let course = c.index-threads-thread.result in
-    let of_course = λ (t : ℕ) (k : Course). map (test_conjunct t) k.tests in
-    c.in_ok-push_tests.ensures ∙ ap (λ xs. xs ++ map (test_conjunct thread) c.tests.result.now) c.loop-thread.invariant
-    ∙ ap (λ xs. _ ++ map (test_conjunct thread) xs) c.tests.ensures ∙ ?
+    let course = c.course-item.result in
+    let mid = c.loop-thread.conjuncts.items in
+    let all = c.threads-course-items.ensures in
+    each_more courses thread course (omega (arith, c.loop-thread-test.true, ap length all)) (c.course-item.is ∙ ap (λ cs. get_or cs thread course) all)
+    [] mid c.push_tests.new.conjuncts.items (λ t k. map (test_conjunct t) k.tests) c.loop-thread.invariant
+    (c.in_ok-push_tests.ensures ∙ ap (λ xs. mid ++ map (test_conjunct thread) xs) c.tests.ensures)

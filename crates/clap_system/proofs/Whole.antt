@@ -1,0 +1,52 @@
+-- What the execution of paths leaves, and the system that is made of it.
+use Rattle.std.proofs.Common.{◌≡◌, ◌∙◌, Bool, List, [], length, sym, ap, ap₂, subst}
+use Rattle.tc_code.specs.Code.{Code}
+use Rattle.tc_code.specs.Lawful.{IsLawful}
+use Rattle.path_walk.specs.Paths.{Paths, ArePaths}
+use Rattle.store_buffers.specs.Pending.{Binding}
+use Rattle.sym_terms.specs.declared.node.Node.{Node}
+use Rattle.sym_exec.specs.Executed.{Executed, Symbolic, executed}
+use Rattle.order_formula.specs.Formulas.{IsOf}
+use Rattle.order_formula.specs.Orders.{Order, unasked, with_formula}
+use Rattle.order_formula.specs.declared.formula.Conjunct.{Conjunct}
+use Rattle.lawful_order.specs.Events.{all_events, all_sleeps}
+use Rattle.lawful_order.specs.Whole.{IsExecutedBy}
+use Rattle.order_cells.specs.Terms.{HaveTerms}
+use Rattle.sym_events.proofs.Terms.{have_terms}
+use Rattle.sym_events.proofs.Whole.{is_executed}
+use Rattle.clap_system.specs.Systems.{System, rules_of, system_by, system_over, with_needs}
+use Rattle.clap_system.proofs.Ready.{terms_there}
+
+module _ (code : Code) (paths : Paths) (symbolic : Symbolic) (first : List Node)
+    (done : ◌≡◌ {A = Executed} (record { symbolic = symbolic; nodes = first }) (executed code paths [])) where
+  pub executed_by : ArePaths code paths → IsExecutedBy paths symbolic
+  executed_by are = subst (λ (x : Executed). IsExecutedBy paths x.symbolic) (sym done) (is_executed code paths [] are)
+
+  pub have_by : IsLawful code → HaveTerms first symbolic
+  have_by lawful = subst (λ (x : Executed). HaveTerms x.nodes x.symbolic) (sym done) (have_terms code lawful paths [])
+
+  module _ (buffered : Bool) (bound : Binding) (nodes : List Node) (formula : List Conjunct)
+      (made : nodes ≡ with_needs buffered bound code paths symbolic first) (rules : formula ≡ rules_of buffered bound code paths symbolic nodes) where
+    -- over all terms
+    formula_is : formula ≡ rules_of buffered bound code paths symbolic (with_needs buffered bound code paths symbolic first)
+    formula_is = rules ∙ ap (rules_of buffered bound code paths symbolic) made
+
+    pub terms_by : IsLawful code → ArePaths code paths → IsOf (length nodes) formula
+    terms_by lawful are =
+        let there = subst (λ (x : Executed). IsOf (length (with_needs buffered bound code paths x.symbolic x.nodes))
+        (rules_of buffered bound code paths x.symbolic (with_needs buffered bound code paths x.symbolic x.nodes)))
+        (sym done) (terms_there buffered bound code paths lawful are) in
+        subst (λ (fs : List Conjunct). IsOf (length nodes) fs) (sym formula_is)
+        (subst (λ (ns : List Node). IsOf (length ns) (rules_of buffered bound code paths symbolic (with_needs buffered bound code paths symbolic first)))
+        (sym made) there)
+
+    pub system_is : (order last : Order) → order ≡ unasked (length (all_events paths)) (length (all_sleeps paths)) → last ≡ with_formula order formula
+        → ◌≡◌ {A = System} (record { paths = paths; symbolic = symbolic; nodes = nodes; order = last; formula = formula })
+        (system_by buffered bound code paths)
+    system_is order last none asked =
+        ap (λ o. with_parts nodes o formula) (asked ∙ ap (λ o. with_formula o formula) none)
+        ∙ ap₂ (λ ns fs. with_parts ns (with_formula (unasked (length (all_events paths)) (length (all_sleeps paths))) fs) fs) made formula_is
+        ∙ ap (λ (x : Executed). system_over buffered bound code paths x.symbolic (with_needs buffered bound code paths x.symbolic x.nodes)) done
+      where
+        with_parts : List Node → Order → List Conjunct → System
+        with_parts ns o fs = record { paths = paths; symbolic = symbolic; nodes = ns; order = o; formula = fs }
