@@ -1,5 +1,5 @@
 -- What the parts of a system need is there.
-use Rattle.std.proofs.Common.{◌≡◌, ◌∙◌, ℕ, Bool, true, List, [], fold, sym, ap, subst}
+use Rattle.std.proofs.Common.{◌≡◌, Bool, true, List, [], fold, sym, ap, subst}
 use Rattle.std.specs.List.{All, Contains}
 use Rattle.std.proofs.lemmas.List.Elements.{All-contains}
 use Rattle.tc_code.specs.Code.{Code}
@@ -12,10 +12,7 @@ use Rattle.sym_exec.specs.Executed.{Symbolic, executed}
 use Rattle.sym_exec.specs.Making.{Grows}
 use Rattle.sym_exec.proofs.Grown.{grows_none, grows_both}
 use Rattle.order_formula.specs.declared.formula.Conjunct.{Conjunct}
-use Rattle.order_formula.specs.declared.group.Group.{Group}
-use Rattle.order_formula.specs.declared.group.Group.TheVariants.{Own, Read, Test}
 use Rattle.order_formula.specs.Worlds.{World, IsWorld}
-use Rattle.lawful_order.specs.Events.{all_events}
 use Rattle.lawful_order.specs.Lawful.{IsWorldOf}
 use Rattle.lawful_order.specs.Whole.{AreWhole, IsExecutedBy}
 use Rattle.order_cells.specs.Terms.{HaveTerms}
@@ -30,7 +27,7 @@ use Rattle.memory_order.proofs.Exact.{exact, of_formula, own_group}
 use Rattle.memory_order.proofs.Stay.{needs_later, formula_later}
 use Rattle.sync_order.specs.Sync.{is_sync, sync_formula}
 use Rattle.sync_order.proofs.Whole.{exactly, groups}
-use Rattle.read_write.specs.Reading.{line_in, read_formula, read_needs}
+use Rattle.read_write.specs.Reading.{read_formula, read_needs}
 use Rattle.read_write.proofs.Exact.{IsAbout}
 use Rattle.read_write.proofs.Formulas.{rule_from_formula, formula_from_rule, load_from}
 use Rattle.read_write.proofs.Terms.{needs_there}

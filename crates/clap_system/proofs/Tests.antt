@@ -8,7 +8,6 @@ use Rattle.sym_exec.specs.Alone.{outcome_by}
 use Rattle.sym_exec.specs.Executed.{Course, Symbolic}
 use Rattle.sym_exec.specs.declared.symbolic.Test.{Test}
 use Rattle.order_formula.specs.declared.formula.Conjunct.{Conjunct}
-use Rattle.order_formula.specs.declared.group.Group.{Group}
 use Rattle.order_formula.specs.declared.group.Group.TheVariants as group
 use Rattle.order_formula.specs.declared.literal.Atom.TheVariants as atom
 use Rattle.order_formula.specs.declared.literal.Literal.{Literal}
@@ -16,7 +15,6 @@ use Rattle.order_formula.specs.Groups.{HoldsIn, IsExactly}
 use Rattle.order_formula.specs.Truth.{body_at, literal_at}
 use Rattle.order_formula.specs.Worlds.{World}
 use Rattle.lawful_order.specs.Tests.{TestRule}
-use Rattle.order_events.specs.Parts.{of_each}
 use Rattle.order_events.proofs.Lists.{in_front, in_map, of_map}
 use Rattle.order_events.proofs.Parts.{of_one, in_each, in_of_each, one_holds, some_holds}
 use Rattle.clap_system.specs.Tests.{test_conjunct, test_formula}

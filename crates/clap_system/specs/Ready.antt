@@ -1,5 +1,5 @@
 -- What whoever turns a system into clauses builds on.
-use Rattle.std.specs.Prelude.{◌≡◌, ◌==◌, List, ◌∷◌, length, map}
+use Rattle.std.specs.Prelude.{◌≡◌, ◌==◌, ◌∷◌, length, map}
 use Rattle.std.specs.List.{All, Contains, IsDistinct}
 use Rattle.sym_exec.specs.Ints.{HasInt}
 use Rattle.order_formula.specs.Formulas.{IsOf}

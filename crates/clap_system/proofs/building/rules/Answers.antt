@@ -1,4 +1,4 @@
-use Rattle.std.proofs.Common.{◌≡◌, ◌∙◌, ◌++◌, List, sym, ap, subst}
+use Rattle.std.proofs.Common.{◌∙◌, ◌++◌, List, sym, ap, subst}
 use Rattle.std.specs.List.{All}
 use Rattle.order_formula.specs.Orders.{ConjunctIsIn, with_formula}
 use Rattle.order_formula.specs.declared.formula.Conjunct.{Conjunct}
