@@ -1,12 +1,12 @@
 -- What the execution of paths leaves, and the system that is made of it.
-use Rattle.std.proofs.Common.{◌≡◌, ◌∙◌, Bool, List, [], length, sym, ap, ap₂, subst}
+use Rattle.std.proofs.Common.{◌≡◌, ◌∙◌, ◌≤◌, Bool, List, [], length, sym, ap, ap₂, subst, arith}
+use Rattle.tc_base.specs.declared.limits.TheConstants.{EVENTS}
 use Rattle.tc_code.specs.Code.{Code}
 use Rattle.tc_code.specs.Lawful.{IsLawful}
 use Rattle.path_walk.specs.Paths.{Paths, ArePaths}
 use Rattle.store_buffers.specs.Pending.{Binding}
 use Rattle.sym_terms.specs.declared.node.Node.{Node}
 use Rattle.sym_exec.specs.Executed.{Executed, Symbolic, executed}
-use Rattle.order_formula.specs.Formulas.{IsOf}
 use Rattle.order_formula.specs.Orders.{Order, unasked, with_formula}
 use Rattle.order_formula.specs.declared.formula.Conjunct.{Conjunct}
 use Rattle.lawful_order.specs.Events.{all_events, all_sleeps}
@@ -14,8 +14,9 @@ use Rattle.lawful_order.specs.Whole.{IsExecutedBy}
 use Rattle.order_cells.specs.Terms.{HaveTerms}
 use Rattle.sym_events.proofs.Terms.{have_terms}
 use Rattle.sym_events.proofs.Whole.{is_executed}
+use Rattle.clap_system.specs.Ready.{IsReady, IsSound}
 use Rattle.clap_system.specs.Systems.{System, rules_of, system_by, system_over, with_needs}
-use Rattle.clap_system.proofs.Ready.{terms_there}
+use Rattle.clap_system.proofs.Ready.{is_ready}
 
 module _ (code : Code) (paths : Paths) (symbolic : Symbolic) (first : List Node)
     (done : ◌≡◌ {A = Executed} (record { symbolic = symbolic; nodes = first }) (executed code paths [])) where
@@ -31,15 +32,6 @@ module _ (code : Code) (paths : Paths) (symbolic : Symbolic) (first : List Node)
     formula_is : formula ≡ rules_of buffered bound code paths symbolic (with_needs buffered bound code paths symbolic first)
     formula_is = rules ∙ ap (rules_of buffered bound code paths symbolic) made
 
-    pub terms_by : IsLawful code → ArePaths code paths → IsOf (length nodes) formula
-    terms_by lawful are =
-        let there = subst (λ (x : Executed). IsOf (length (with_needs buffered bound code paths x.symbolic x.nodes))
-        (rules_of buffered bound code paths x.symbolic (with_needs buffered bound code paths x.symbolic x.nodes)))
-        (sym done) (terms_there buffered bound code paths lawful are) in
-        subst (λ (fs : List Conjunct). IsOf (length nodes) fs) (sym formula_is)
-        (subst (λ (ns : List Node). IsOf (length ns) (rules_of buffered bound code paths symbolic (with_needs buffered bound code paths symbolic first)))
-        (sym made) there)
-
     pub system_is : (order last : Order) → order ≡ unasked (length (all_events paths)) (length (all_sleeps paths)) → last ≡ with_formula order formula
         → ◌≡◌ {A = System} (record { paths = paths; symbolic = symbolic; nodes = nodes; order = last; formula = formula })
         (system_by buffered bound code paths)
@@ -50,3 +42,11 @@ module _ (code : Code) (paths : Paths) (symbolic : Symbolic) (first : List Node)
       where
         with_parts : List Node → Order → List Conjunct → System
         with_parts ns o fs = record { paths = paths; symbolic = symbolic; nodes = ns; order = o; formula = fs }
+
+    -- so it is sound
+    pub sound_by : (order last : Order) → order ≡ unasked (length (all_events paths)) (length (all_sleeps paths)) → last ≡ with_formula order formula
+        → IsLawful code → ArePaths code paths → paths.events ≤ EVENTS
+        → IsSound (record { paths = paths; symbolic = symbolic; nodes = nodes; order = last; formula = formula })
+    sound_by order last none asked lawful are few =
+        let ready = subst IsReady (sym (system_is order last none asked)) (is_ready buffered bound code paths lawful are) in
+        record { terms = ready.terms; events = omega (arith, ready.events, few); within = ready.within }

@@ -1,6 +1,7 @@
 -- What whoever turns a system into clauses builds on.
-use Rattle.std.specs.Prelude.{◌≡◌, ◌==◌, ◌∷◌, length, map}
+use Rattle.std.specs.Prelude.{◌≡◌, ◌≤◌, ◌==◌, ◌∷◌, length, map}
 use Rattle.std.specs.List.{All, Contains, IsDistinct}
+use Rattle.tc_base.specs.declared.limits.TheConstants.{EVENTS}
 use Rattle.sym_exec.specs.Ints.{HasInt}
 use Rattle.order_formula.specs.Formulas.{IsOf}
 use Rattle.order_formula.specs.Orders.{ConjunctIsIn, IsAsked}
@@ -20,3 +21,9 @@ pub record IsReady (s : System) : Type 0 where
   -- each term that the formula names is there, and constants are ints
   pub terms : IsOf (length s.nodes) s.formula
   pub ints : All HasInt s.nodes
+
+-- of these, what each system keeps, whatever it is of: its terms are there, its events are few, and those that it names are the order's
+pub record IsSound (s : System) : Type 0 where
+  pub terms : IsOf (length s.nodes) s.formula
+  pub events : s.order.events ≤ EVENTS
+  pub within : All (ConjunctIsIn s.order) s.formula

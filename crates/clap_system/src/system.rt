@@ -1,7 +1,7 @@
 //! Systems.
-ghost use Rattle.std.specs.Prelude.{◌≡◌, length, IfOk};
-ghost use Rattle.order_formula.specs.Formulas.{IsOf};
+ghost use Rattle.std.specs.Prelude.{◌≡◌, IfOk};
 ghost use Rattle.order_formula.specs.Truth.{holds_at};
+ghost use Rattle.clap_system.specs.Ready.{IsSound};
 
 use order_formula::{Formula, Order, World, holds};
 use path_walk::Paths;
@@ -21,15 +21,20 @@ pub struct System {
 }
 
 impl Model for System {
-    ghost use Rattle.std.specs.Prelude.{length};
-    ghost use Rattle.order_formula.specs.Formulas.{IsOf};
+    ghost use Rattle.clap_system.specs.Ready.{IsSound};
     ghost use Rattle.clap_system.specs.Systems.{System as PlainSystem};
 
     ghost Value = { PlainSystem };
 
     ghost view = { λ s. record { paths = s.paths; symbolic = s.symbolic; nodes = s.terms; order = s.order; formula = s.formula } };
 
-    ghost invariant = { λ s. IsOf (length s.terms) s.formula };
+    ghost invariant = { λ s. IsSound (record {
+      paths = s.paths;
+      symbolic = s.symbolic;
+      nodes = s.terms;
+      order = s.order;
+      formula = s.formula;
+    }) };
 }
 
 impl System {
@@ -64,7 +69,7 @@ impl System {
     /// The formula.
     pub fn formula(&self) -> &Formula
         ensures formula { result.now ≡ self.now.formula }
-        ensures terms { IsOf (length self.now.nodes) self.now.formula }
+        ensures sound { IsSound self.now }
     {
         &self.formula
     }
@@ -75,5 +80,23 @@ impl System {
     {
         let mut values = Values::new(alloc, &self.terms, world.loads())?;
         Ok(holds(&self.terms, &self.formula, world, &mut values))
+    }
+
+    /// Its parts: the paths of the log, their execution, the terms, what the formula asks of the order, and the formula.
+    pub fn into_parts(self) -> (Paths, Symbolic, Terms, Order, Formula)
+        ensures paths { result.0 ≡ self.paths }
+        ensures symbolic { result.1 ≡ self.symbolic }
+        ensures terms { result.2 ≡ self.nodes }
+        ensures order { result.3 ≡ self.order }
+        ensures formula { result.4 ≡ self.formula }
+        ensures sound { IsSound self }
+    {
+        (
+            self.paths,
+            self.symbolic,
+            self.terms,
+            self.order,
+            self.formula,
+        )
     }
 }

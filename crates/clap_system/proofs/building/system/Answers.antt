@@ -2,7 +2,7 @@ use Rattle.std.proofs.Common.{◌∙◌, ap, arith}
 use Rattle.sym_exec.specs.Executed.{executed}
 use Rattle.order_events.proofs.Whole.{whole}
 use Rattle.clap_system.proofs.Few.{few_sleeps}
-use Rattle.clap_system.proofs.Whole.{executed_by, have_by, system_is, terms_by}
+use Rattle.clap_system.proofs.Whole.{executed_by, have_by, sound_by, system_is}
 use Rattle.clap_system.proofs.building.system.Goals as goal
 
 pub no_questions-requires-clause-counted : goal.no_questions-requires-clause-counted
@@ -30,10 +30,11 @@ rules-requires-clause-terms g c =
 pub invariant_of-result : goal.invariant_of-result
 invariant_of-result g c =
     let code = c.args.code.now in
-    terms_by code c.args.paths c.in_ok-symbolic.symbolic c.execute.new.terms
+    sound_by code c.args.paths c.in_ok-symbolic.symbolic c.execute.new.terms
     (c.in_ok-symbolic.ensures.executed ∙ ap (executed code c.args.paths) c.new-terms.ensures)
     g.M.MemoryModel.BUFFERED g.M.MemoryModel.bound c.rules.new.terms c.in_ok-formula.formula c.in_ok-formula.ensures.made c.in_ok-formula.ensures.rules
-    c.functions-functions.ensures.lawful c.requires.paths
+    c.in_ok-order.order c.rules.new.order c.in_ok-order.ensures c.in_ok-formula.ensures.asked c.functions-functions.ensures.lawful c.requires.paths
+    c.requires.few
 
 pub returns : goal.returns
 returns g c =
