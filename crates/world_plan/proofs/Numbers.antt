@@ -101,8 +101,10 @@ of_rise {W} {X} has step t (w ∷ ws) rise i j a b ia jb lt =
         let e = from_mapped_at (λ x. the_of t x) (has w) i a ai in
         let f = from_mapped_at (λ x. the_of t x) (has w) j b bj in
         let steps = rise 0 i j w e.0 f.0 refl e.1 f.1 lt in
-        inr (sym (ap (λ (z : Of X). z.thread) e.2) ∙ ap (λ (z : Of X). z.thread) f.2,
-        omega (arith, steps, ap (λ (z : Of X). step z.it) e.2, ap (λ (z : Of X). step z.it) f.2))
+        inr (
+          sym (ap (λ (z : Of X). z.thread) e.2) ∙ ap (λ (z : Of X). z.thread) f.2,
+          omega (arith, steps, ap (λ (z : Of X). step z.it) e.2, ap (λ (z : Of X). step z.it) f.2),
+        )
     by later (inl ai) (inr r) =
         let e = from_mapped_at (λ x. the_of t x) (has w) i a ai in
         inl (omega (arith, ap (λ (z : Of X). z.thread) e.2, later_thread has (t + 1) ws r.0 b r.2))
