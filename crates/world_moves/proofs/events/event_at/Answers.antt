@@ -1,0 +1,34 @@
+use Rattle.std.proofs.Common.{◌∙◌, ◌==◌, Some, ap, sym, length, get_or, arith}
+use Rattle.std.proofs.lemmas.Bool.{eq-eqb, ne_eqb}
+use Rattle.order_formula.specs.Worlds.{position}
+use Rattle.world_moves.proofs.Finds.{found, passed, nowhere}
+use Rattle.world_moves.proofs.events.event_at.Goals as goal
+
+pub returns-then-position : goal.returns-then-position
+returns-then-position c =
+    let x = c.placed-item.result in
+    let all = c.all-placed-items.ensures.events in
+    let number = c.loop-placed.invariant.number in
+    ap (λ n. Some (n, x)) number
+    ∙ sym (found (λ e. position c.args.world.now e.0 == c.args.position) c.args.events.now c.loop-placed.placed-index x c.loop-placed.invariant.none
+    (omega (arith, c.loop-placed-test.true, ap length all)) (c.placed-item.is ∙ ap (λ es. get_or es c.loop-placed.placed-index x) all)
+    (eq-eqb (position c.args.world.now c.loop-placed.placed-index) c.args.position
+    (ap (position c.args.world.now) (sym number) ∙ sym c.position.ensures ∙ c.if-position.true)))
+
+pub loop-placed-preserved : goal.loop-placed-preserved
+loop-placed-preserved c =
+    let x = c.placed-item.result in
+    let all = c.all-placed-items.ensures.events in
+    let number = c.loop-placed.invariant.number in
+    record {
+      number = omega (arith, number);
+      none = passed (λ e. position c.args.world.now e.0 == c.args.position) c.args.events.now c.loop-placed.placed-index x c.loop-placed.invariant.none
+          (omega (arith, c.loop-placed-test.true, ap length all)) (c.placed-item.is ∙ ap (λ es. get_or es c.loop-placed.placed-index x) all)
+          (ne_eqb (position c.args.world.now c.loop-placed.placed-index) c.args.position
+          (λ e. c.if-position.false (c.position.ensures ∙ ap (position c.args.world.now) number ∙ e)));
+    }
+
+pub returns : goal.returns
+returns c =
+    sym (nowhere (λ e. position c.args.world.now e.0 == c.args.position) c.args.events.now c.loop-placed.placed-index c.loop-placed.invariant.none
+    (omega (arith, c.loop-placed-test.false, c.loop-placed.auto.placed-index-end, ap length c.all-placed-items.ensures.events)))
