@@ -1,2 +1,2 @@
 pub mod Moves
-pub mod helpers
+pub mod Needs

@@ -8,7 +8,7 @@ ghost use Rattle.lawful_order.specs.Memory as memory;
 ghost use Rattle.order_formula.specs.Truth.{Serves};
 ghost use Rattle.order_formula.specs.Worlds.{is_ended, position as place};
 ghost use Rattle.world_plan.specs.Plan as plan;
-ghost use Rattle.world_moves.specs.helpers.Needs.{IsNumbered};
+ghost use Rattle.world_moves.specs.Needs.{IsNumbered};
 
 use order_events::{Events, Placed, Sleeps};
 use order_formula::World;

@@ -9,7 +9,7 @@ ghost use Rattle.lawful_order.specs.Events.{all_events, all_sleeps};
 ghost use Rattle.lawful_order.specs.Memory as memory;
 ghost use Rattle.world_plan.specs.Plan as plan;
 ghost use Rattle.world_moves.specs.Moves as spec;
-ghost use Rattle.world_moves.specs.helpers.Needs.{AreTellable, IsNumbered, IsTellable};
+ghost use Rattle.world_moves.specs.Needs.{AreTellable, IsNumbered, IsTellable};
 
 use crate::events::{cell_number, cell_of, event_at, is_store, last_place, woken_by};
 use crate::made::Made;

@@ -1,2 +1,0 @@
--- No promise speaks of what stands in this folder: private contracts alone cite it.
-pub mod Needs
