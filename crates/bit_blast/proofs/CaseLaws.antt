@@ -98,7 +98,7 @@ and_assoc : (p q r : Bool) → ((p && q) && r) ≡ (p && (q && r))
 and_assoc true q r = refl
 and_assoc false q r = refl
 
-or_false : (p : Bool) → p ≡ (p || false)
+pub or_false : (p : Bool) → p ≡ (p || false)
 or_false true = refl
 or_false false = refl
 

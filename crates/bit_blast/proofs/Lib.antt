@@ -6,6 +6,7 @@ pub mod Loops
 pub mod Posed
 pub mod Prefixes
 pub mod RootLaws
+pub mod Rooted
 pub mod Same
 pub mod Sources
 pub mod Taken

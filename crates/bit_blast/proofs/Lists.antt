@@ -1,12 +1,13 @@
 -- Lists, and what their elements are.
-use Rattle.std.proofs.Common.{◌≡◌, ℕ, ◌<◌, List, [], ◌∷◌, refl, ap, sym, ◌∙◌, subst, arith, Bool, true, false, length, get_or, map, inl, inr, eq-eqb}
-use Rattle.std.specs.Prelude.{◌||◌, ◌==◌, ◌⊎◌}
+use Rattle.std.proofs.Common.{◌≡◌, ℕ, ◌<◌, List, [], ◌∷◌, ◌++◌, Some, refl, ap, sym, ◌∙◌, subst, arith, Bool, true, false, length, get_or, map, inl, inr, eq-eqb}
+use Rattle.std.specs.Prelude.{◌&&◌, ◌||◌, ◌==◌, ◌⊎◌}
 use Rattle.std.specs.List.{All, Contains, IsDistinct, flat_map, list_all, list_any}
 use Rattle.std.proofs.lemmas.Bool.{false≢true, and_from, and_parts, cases_order}
-use Rattle.std.proofs.lemmas.List.{get_or-map, get_or_default, length-map}
+use Rattle.std.proofs.lemmas.List.{get_or-map, get_or_append_left, get_or_default, length-map}
 use Rattle.std.proofs.lemmas.Map.Keys.{apart_from_distinct}
 use Rattle.std.proofs.lemmas.List.Elements.{All-nil, All-append, All-cons, Contains-append_cases, Contains-append_left, Contains-append_right, Contains-push, Contains-push_cases}
 use Rattle.std.proofs.lemmas.List.Folds.{list_all-append}
+use Rattle.std.proofs.lemmas.Option.{get_or_from_slice_get, slice_get-get_or}
 
 pub contains_first : {X : Type 0} (x : X) (xs : List X) → Contains (x ∷ xs) x
 contains_first x xs = Contains-append_left (x ∷ []) xs x (Contains-push [] x)
@@ -29,6 +30,12 @@ contains_map f xs x h = (
   (let e : length (map f xs) ≡ length xs = length-map xs f in omega (arith, e, h.1)),
   get_or-map f xs h.0 x (f x) h.1 ∙ ap f h.2,
 )
+
+-- an element that stands before some others
+pub contains_start : {X : Type 0} (xs ys : List X) (d : X) (n : ℕ) → n < length xs → Contains xs (get_or (xs ++ ys) n d)
+contains_start xs ys d n below =
+    let x = get_or (xs ++ ys) n d in
+    (n, below, get_or_from_slice_get xs n x x (slice_get-get_or xs n d below ∙ ap Some (sym (get_or_append_left xs ys d n below))))
 
 -- what is so of each element
 pub all_of : {X : Type 0} (P : X → Type 0) (xs : List X) → ((x : X) → Contains xs x → P x) → All P xs
@@ -92,6 +99,15 @@ some_from p y ys false e h later = let rest = later h in (rest.0, contains_later
 pub some_passes : {X : Type 0} (p : X → Bool) (xs : List X) → list_any p xs ≡ true → (x : X) × Contains xs x × (p x ≡ true)
 some_passes p [] h = absurd (false≢true h)
 some_passes p (y ∷ ys) h = some_from p y ys (p y) refl h (λ k. some_passes p ys k)
+
+fails_from : {X : Type 0} (p : X → Bool) (y : X) (ys : List X) (b : Bool) → p y ≡ b → (b && list_all p ys) ≡ false
+    → (list_all p ys ≡ false → (x : X) × Contains ys x × (p x ≡ false)) → (x : X) × Contains (y ∷ ys) x × (p x ≡ false)
+fails_from p y ys true e h later = let rest = later h in (rest.0, contains_later y rest.0 ys rest.1, rest.2)
+fails_from p y ys false e h later = (y, contains_first y ys, e)
+
+pub some_fails : {X : Type 0} (p : X → Bool) (xs : List X) → list_all p xs ≡ false → (x : X) × Contains xs x × (p x ≡ false)
+some_fails p [] h = absurd (false≢true (sym h))
+some_fails p (y ∷ ys) h = fails_from p y ys (p y) refl h (λ k. some_fails p ys k)
 
 pub any_map : {X Y : Type 0} (p : Y → Bool) (f : X → Y) (xs : List X) → list_any p (map f xs) ≡ list_any (λ x. p (f x)) xs
 any_map p f [] = refl

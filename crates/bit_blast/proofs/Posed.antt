@@ -19,17 +19,21 @@ use Rattle.order_formula.specs.Orders.{Order, AtomIsIn, LiteralIsIn, BodyIsIn, C
 use Rattle.order_formula.specs.Reads.{Read}
 use Rattle.order_formula.specs.Worlds.{World}
 use Rattle.order_formula.proofs.Asked.{formula_stays}
+use Rattle.cnf_core.specs.Clauses.{Formula, satisfies}
+use Rattle.bit_words.specs.Words.{Walked}
 use Rattle.bit_order.specs.Comparators.{pairs_among}
 use Rattle.bit_order.specs.Laws.{IsWorldFor, SaysSame}
 use Rattle.bit_order.specs.Layouts.{Layout}
 use Rattle.bit_order.specs.Readings.{world_of}
 use Rattle.bit_order.proofs.Asking.{completed-asked, grows-completed}
-use Rattle.bit_blast.specs.Blasted.{BlastMeans, IsApart, IsPosed, layout_of}
+use Rattle.bit_blast.specs.Blasted.{BlastMeans, IsApart, IsPosed, RootsTell, blast, layout_of}
 use Rattle.bit_blast.specs.Contended.{contended, is_literal, with_atom, with_body, with_candidate, with_case, with_event}
 use Rattle.bit_blast.specs.Laws.{BodyIsTold}
-use Rattle.bit_blast.specs.Whole.{IsReady}
+use Rattle.bit_blast.specs.Whole.{IsReady, rooted}
 use Rattle.bit_blast.proofs.Completed.{same_part}
 use Rattle.bit_blast.proofs.Lists.{all_of, contains_cases, contains_none}
+use Rattle.bit_blast.proofs.Prefixes.{first_part}
+use Rattle.bit_blast.proofs.Rooted.{roots_over}
 use Rattle.bit_blast.proofs.WholeLaws.{first_true, whole_means}
 
 -- what keeps events, and what has one
@@ -181,12 +185,26 @@ module _ (nodes : List Node) (formula : List Conjunct) (o : Order) (loads : ℕ)
   same_as : (w x : World) → SaysSame y w x → SaysSame posed w x
   same_as w x k = record { before = λ a b p q. k.before a b (omega (arith, p, events)) (omega (arith, q, events)); loads = k.loads; enders = k.enders }
 
+  abbrev made : Walked Formula
+  made = rooted y nodes formula
+
   pub blast_means : BlastMeans nodes formula o loads
   blast_means = record {
     to = λ v s.
-        let m = (whole_means y nodes formula ready).to v (record { one = first_true y nodes formula ready v s; all = s }) in
+        let first : satisfies v made.state.clauses ≡ true = first_part v made.state.clauses (map (λ l. l ∷ []) made.word) s in
+        let m = (whole_means y nodes formula ready).to v (record { one = first_true y nodes formula ready v first; all = s }) in
         (from_completed (world_of y v) m.0, m.1);
     back = λ w is holds.
         let m = (whole_means y nodes formula ready).back w (to_completed w is) holds in
         (m.0, m.1.all, same_as w (world_of y m.0) m.2);
   }
+
+  pub roots-tell : RootsTell nodes formula posed (blast nodes formula o loads)
+  roots-tell =
+      let r : RootsTell nodes formula y (blast nodes formula o loads) = roots_over y nodes formula ready in
+      record {
+        unit = r.unit;
+        to = λ v s. let m = r.to v s in (from_completed (world_of y v) m.0, m.1);
+        back = λ w is. let m = r.back w (to_completed w is) in (m.0, m.1, same_as w (world_of y m.0) m.2, m.3);
+        core = λ numbers inside none w is. r.core numbers inside none w (to_completed w is);
+      }

@@ -25,8 +25,8 @@ use Rattle.bit_words.specs.Words.{Walked}
 use Rattle.bit_blast.specs.Cases.{Parts, cases_made}
 use Rattle.bit_blast.specs.Laws.{Tells, IsRoot, BodyIsTold, AreRoots, RootsMean}
 use Rattle.bit_blast.specs.Roots.{body_made, with_root, roots, blasted}
-use Rattle.bit_blast.proofs.CaseLaws.{cases-mean, tells_more}
-use Rattle.bit_blast.proofs.Prefixes.{first_part, before_grown}
+use Rattle.bit_blast.proofs.CaseLaws.{cases-mean, or_false, tells_more}
+use Rattle.bit_blast.proofs.Prefixes.{before_grown}
 use Rattle.bit_blast.proofs.Taken.{before_read, reads-mean}
 
 -- truths of which each implies the other list's
@@ -57,11 +57,9 @@ values_agree n v w (l ∷ ls) h a =
 -- a clause for each literal
 units_true : (w : Valuation) (ls : List ℤ) → satisfies w (map (λ l. l ∷ []) ls) ≡ list_all (λ b. b) (values w ls)
 units_true w [] = refl
-units_true w (l ∷ ls) = ap (λ b. (literal_true w l || false) && b) (units_true w ls) ∙ ap (λ b. b && list_all (λ b. b) (values w ls)) (or_false (literal_true w l))
-  where
-    or_false : (p : Bool) → (p || false) ≡ p
-    or_false true = refl
-    or_false false = refl
+units_true w (l ∷ ls) =
+    ap (λ b. (literal_true w l || false) && b) (units_true w ls)
+    ∙ ap (λ b. b && list_all (λ b. b) (values w ls)) (sym (or_false (literal_true w l)))
 
 module _ (o : Order) (nodes : List Node) (world : Valuation → World) (parts : Parts) where
   bit_root : (f : Formula) (m : Made) (meaning : Valuation → Bool) → 0 < f.vars → ((v w : Valuation) → Agree f.vars v w → meaning v ≡ meaning w)
@@ -106,11 +104,9 @@ module _ (o : Order) (nodes : List Node) (world : Valuation → World) (parts : 
       } in
       before_body g c.body t told w (before_roots m2 rest (tells_more o nodes world parts g m2.state e t) (All-tail P c rest a) w s)
 
-  pub before_blasted : (f : Formula) (formula : List Conjunct) → Tells o nodes world parts f → All (λ c. BodyIsTold o c.body) formula
-      → (w : Valuation) → satisfies w (blasted parts f formula).clauses ≡ true → satisfies w f.clauses ≡ true
-  before_blasted f formula t a w s =
-      let m : Walked Formula = roots parts f formula in
-      before_roots (record { state = f; word = [] }) formula t a w (first_part w m.state.clauses (map (λ l. l ∷ []) m.word) s)
+  pub before_all : (f : Formula) (formula : List Conjunct) → Tells o nodes world parts f → All (λ c. BodyIsTold o c.body) formula
+      → (w : Valuation) → satisfies w (roots parts f formula).state.clauses ≡ true → satisfies w f.clauses ≡ true
+  before_all f formula t a w s = before_roots (record { state = f; word = [] }) formula t a w s
 
   extended : (f : Formula) (m : Walked Formula) (known : List Conjunct) → AreRoots nodes world f m known → IsExtended f m.state
   extended f m known h = record {

@@ -115,7 +115,7 @@ module _ (nodes : List Node) (o : Order) (w x : World)
           ∙ ap (int_eq (value_at nodes x r.takes)) (from_same (source_at nodes w r)
           ∙ ap (λ s. option_map_or (λ (c : Candidate). value_at nodes x c.value) s (value_at nodes x r.start)) source_same)
 
-    body_same : (b : Body) → BodyIsIn o b → body_at nodes w b ≡ body_at nodes x b
+    pub body_same : (b : Body) → BodyIsIn o b → body_at nodes w b ≡ body_at nodes x b
     body_same (body.Any cases) h = any_same (All (LiteralIsIn o)) (case_at nodes w) (case_at nodes x) case_same cases h
     body_same (body.Read r) h = takes_same r h.0 h.1
 

@@ -29,10 +29,10 @@ use Rattle.bit_terms.specs.Laws.{HaveInts}
 use Rattle.bit_terms.proofs.Meaning.{terms-mean}
 use Rattle.bit_blast.specs.Cases.{Parts}
 use Rattle.bit_blast.specs.Layered.{parts_of}
-use Rattle.bit_blast.specs.Laws.{Tells}
-use Rattle.bit_blast.specs.Whole.{load_words, termed, whole, IsReady, WholeMeans}
+use Rattle.bit_blast.specs.Laws.{AreRoots, Tells}
+use Rattle.bit_blast.specs.Whole.{load_words, rooted, termed, IsReady, WholeMeans}
 use Rattle.bit_blast.proofs.Prefixes.{first_part, before_grown}
-use Rattle.bit_blast.proofs.RootLaws.{are_roots, before_blasted, to, back}
+use Rattle.bit_blast.proofs.RootLaws.{are_roots, before_all, to, back}
 use Rattle.bit_blast.proofs.Same.{holds_same}
 
 map_twice : {X Y Z : Type 0} (f : X → Y) (g : Y → Z) (xs : List X) → map g (map f xs) ≡ map (λ x. g (f x)) xs
@@ -115,12 +115,15 @@ module _ (y : Layout) (nodes : List Node) (formula : List Conjunct) (h : IsReady
   still : (v u : Valuation) → Agree g.vars v u → world_of y v ≡ world_of y u
   still v u agree = same-world y v u (λ k below. agree k (omega (arith, below, order.more, grown.more)))
 
+  pub all_roots : AreRoots nodes (world_of y) (termed y nodes).formula (rooted y nodes formula) formula
+  all_roots = are_roots y.order nodes (world_of y) parts g formula tells h.told
+
   -- the first clause says that the variable 1 is true
-  pub first_true : (v : Valuation) → satisfies v (whole y nodes formula).clauses ≡ true → v 1 ≡ true
+  pub first_true : (v : Valuation) → satisfies v (rooted y nodes formula).state.clauses ≡ true → v 1 ≡ true
   first_true v s =
       let c : Formula = (comparators y).state in
       let here : satisfies v (ordered y).clauses ≡ true =
-      before_grown v (ordered y) g terms.grown (before_blasted y.order nodes (world_of y) parts g formula tells h.told v s) in
+      before_grown v (ordered y) g terms.grown (before_all y.order nodes (world_of y) parts g formula tells h.told v s) in
       let below : satisfies v (base y).clauses ≡ true =
       before_grown v (base y) c (comparators_grown y h.order) (first_part v c.clauses (transitivity y) here) in
       or_none (v 1) (first_part v ((constant true ∷ []) ∷ []) (exclusions (choice_start y) y.order.choices) below)
@@ -137,7 +140,7 @@ module _ (y : Layout) (nodes : List Node) (formula : List Conjunct) (h : IsReady
         (u.0, u.1, subst (SaysSame y w) (still v.0 u.0 u.2) s);
     each = λ w is.
         let v = said w is in
-        let u = (are_roots y.order nodes (world_of y) parts g formula tells h.told).extends v.0 over v.1 in
+        let u = all_roots.extends v.0 over v.1 in
         let e = still v.0 u.0 u.2 in
         (u.0, u.1, subst (SaysSame y w) e v.2, u.3 ∙ ap (λ x. map (λ (c : Conjunct). body_at nodes x c.body) formula) e);
   }

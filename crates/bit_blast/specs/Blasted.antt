@@ -1,14 +1,14 @@
 -- A formula as clauses: with the layout by which values are read as a world, and the number of each conjunct's clause.
-use Rattle.std.specs.Prelude.{◌≡◌, ℕ, ◌+◌, ◌-◌, ◌==◌, ◌≤◌, true, List, [], ◌∷◌, length, map, IsTrue}
-use Rattle.std.specs.List.{All, IsDistinct}
+use Rattle.std.specs.Prelude.{◌≡◌, ℕ, ◌+◌, ◌-◌, ◌==◌, ◌<◌, ◌≤◌, true, false, List, [], ◌∷◌, ℤ, Some, length, map, take, get_or, slice_get, IsTrue}
+use Rattle.std.specs.List.{All, Contains, IsDistinct}
 use Rattle.sym_terms.specs.declared.node.Node.{Node}
 use Rattle.order_formula.specs.declared.formula.Body.{Body}
 use Rattle.order_formula.specs.declared.formula.Body.TheVariants as body
 use Rattle.order_formula.specs.declared.formula.Conjunct.{Conjunct}
 use Rattle.order_formula.specs.Orders.{Order, ConjunctIsIn, IsAsked, unasked}
-use Rattle.order_formula.specs.Truth.{holds_at}
+use Rattle.order_formula.specs.Truth.{body_at, holds_at}
 use Rattle.order_formula.specs.Worlds.{World}
-use Rattle.cnf_core.specs.Clauses.{Formula, Valuation, satisfies}
+use Rattle.cnf_core.specs.Clauses.{Formula, IsUnsatisfiable, Valuation, clause_true, satisfies}
 use Rattle.bit_order.specs.Comparators.{completed}
 use Rattle.bit_order.specs.Laws.{IsWorldFor, SaysSame}
 use Rattle.bit_order.specs.Layouts.{Layout}
@@ -39,11 +39,11 @@ blast_over nodes formula y = record { layout = y; clauses = whole y nodes formul
 abbrev pub blast : List Node → List Conjunct → Order → ℕ → Blasted
 blast nodes formula order loads = blast_over nodes formula (layout_of order loads formula)
 
--- of what is impossible: the empty clause alone
+-- of what is impossible: the empty clause alone, over no variables
 abbrev pub impossible : Blasted
 impossible = record {
   layout = record { order = unasked 0 0; loads = 0 };
-  clauses = record { vars = 1; clauses = [] ∷ [] };
+  clauses = record { vars = 0; clauses = [] ∷ [] };
   conjuncts = 0;
 }
 
@@ -68,3 +68,27 @@ pub record BlastMeans (nodes : List Node) (formula : List Conjunct) (order : Ord
   pub back : (w : World) → IsWorldFor (record { order = order; loads = loads }) w → holds_at nodes w formula ≡ true
       → (v : Valuation) × IsTrue (satisfies v (blast nodes formula order loads).clauses.clauses)
       × SaysSame (record { order = order; loads = loads }) w (world_of (layout_of order loads formula) v)
+
+-- the clause of a number, from 0
+abbrev pub clause_at : Blasted → ℕ → List ℤ
+clause_at b number = get_or b.clauses.clauses number []
+
+-- the clauses that are no roots: all before that of the first conjunct
+abbrev pub background : Blasted → List (List ℤ)
+background b = take (root_of b 0) b.clauses.clauses
+
+-- the root of each conjunct of a formula tells whether it is true, in all worlds of an order and loads
+pub record RootsTell (nodes : List Node) (formula : List Conjunct) (y : Layout) (b : Blasted) : Type 0 where
+  -- a root is a clause of one literal
+  pub unit : (k : ℕ) → k < length formula → (l : ℤ) × (slice_get b.clauses.clauses (root_of b k) ≡ Some (l ∷ []))
+  -- values that satisfy all clauses that are no roots say a world; a root that they satisfy has a conjunct that is true there
+  pub to : (v : Valuation) → IsTrue (satisfies v (background b)) → IsWorldFor y (world_of b.layout v)
+      × ((k : ℕ) (c : Conjunct) → slice_get formula k ≡ Some c → clause_true v (clause_at b (root_of b k)) ≡ true
+      → body_at nodes (world_of b.layout v) c.body ≡ true)
+  -- each world is said by such values; they satisfy exactly the roots of the conjuncts that are true there
+  pub back : (w : World) → IsWorldFor y w → (v : Valuation) × IsTrue (satisfies v (background b)) × SaysSame y w (world_of b.layout v)
+      × ((k : ℕ) (c : Conjunct) → slice_get formula k ≡ Some c → clause_true v (clause_at b (root_of b k)) ≡ body_at nodes w c.body)
+  -- so where nothing satisfies the clauses of some numbers, in each world a conjunct is false whose root is among them
+  pub core : (numbers : List ℕ) → All (λ n. n < length b.clauses.clauses) numbers → IsUnsatisfiable (map (clause_at b) numbers)
+      → (w : World) → IsWorldFor y w
+      → (k : ℕ) × (c : Conjunct) × Contains numbers (root_of b k) × (slice_get formula k ≡ Some c) × (body_at nodes w c.body ≡ false)

@@ -58,6 +58,7 @@ pub fn blast(
     requires within { All (ConjunctIsIn order) formula.now }
     ensures blasted { IfOk result (λ blasted. blasted ≡ blast terms.now formula.now order loads) }
     ensures lawful { IfOk result (λ blasted. IsOrder blasted.layout.order) }
+    ensures variables { IfOk result (λ blasted. 0 < blasted.clauses.vars) }
 {
     let order = complete_order(alloc, order, formula)?;
     if !has_room(&order, loads, terms, formula) {
@@ -86,6 +87,7 @@ fn blast_completed(
     requires room { whole_size (record { order = order; loads = loads }) terms.now formula.now < LIMIT }
     ensures blasted { IfOk result (λ blasted. blasted ≡ blast_over terms.now formula.now (record { order = order; loads = loads })) }
     ensures lawful { IfOk result (λ blasted. IsOrder blasted.layout.order) }
+    ensures variables { IfOk result (λ blasted. 0 < blasted.clauses.vars) }
 {
     let (layout, clauses) = clauses(alloc, order, loads, terms, formula)?;
     Ok(Blasted {
@@ -113,12 +115,12 @@ fn complete_order(alloc: Global, order: Order, formula: &Formula) -> Result<Orde
 }
 
 impl Blasted {
-    /// The clauses of what is impossible: the empty one alone.
+    /// The clauses of what is impossible: the empty one alone, over no variables.
     pub fn impossible(alloc: Global) -> Result<Blasted, AllocError>
         ensures { IfOk result (λ blasted. blasted ≡ impossible) }
     {
         let (layout, _) = Layout::clauses(alloc, Order::empty(alloc, 0, 0), 0)?;
-        let mut clauses = Cnf::new(alloc, 1);
+        let mut clauses = Cnf::new(alloc, 0);
         clauses.push(&[])?;
         Ok(Blasted {
             layout,
@@ -127,11 +129,25 @@ impl Blasted {
         })
     }
 
+    /// The layout.
+    pub(crate) fn layout(&self) -> &Layout
+        ensures { result.now ≡ self.now.layout }
+    {
+        &self.layout
+    }
+
     /// The clauses.
     pub fn clauses(&self) -> &Cnf
         ensures { result.now ≡ self.now.clauses }
     {
         &self.clauses
+    }
+
+    /// The clauses, without taking memory.
+    pub fn into_clauses(self) -> Cnf
+        ensures { result ≡ self.clauses }
+    {
+        self.clauses
     }
 
     /// The number of the clause, from 0, by which a conjunct of that number is true.
@@ -143,9 +159,10 @@ impl Blasted {
         self.clauses.len() - self.conjuncts + conjunct
     }
 
-    /// The world that values of the variables say.
+    /// The world that values of the variables say. What is impossible has no variables.
     pub fn world(&self, alloc: Global, assignment: &Assignment) -> Result<World, AllocError>
-        requires { self.now.clauses.vars ≤ length assignment.now }
+        requires variables { 0 < self.now.clauses.vars }
+        requires values { self.now.clauses.vars ≤ length assignment.now }
         ensures { IfOk result (λ world. world ≡ world_of self.now.layout (value_in assignment.now)) }
     {
         self.layout.read_world(alloc, assignment)

@@ -3,8 +3,9 @@ ghost use Rattle.std.specs.Prelude.{ℕ, List};
 ghost use Rattle.sym_terms.specs.declared.node.Node.{Node};
 ghost use Rattle.order_formula.specs.declared.formula.Conjunct.{Conjunct};
 ghost use Rattle.order_formula.specs.Orders.{IsOrder, Order};
+ghost use Rattle.cnf_core.specs.Clauses.{IsUnsatisfiable};
 ghost use Rattle.bit_order.specs.Layouts.{Layout};
-ghost use Rattle.bit_blast.specs.Blasted.{BlastMeans, IsPosed, layout_of};
+ghost use Rattle.bit_blast.specs.Blasted.{BlastMeans, IsPosed, RootsTell, blast, impossible, layout_of};
 ghost use Rattle.bit_blast.specs.Laws.{CasesMean, ReadsMean, RootsMean};
 ghost use Rattle.bit_blast.specs.Whole.{IsReady, WholeMeans};
 
@@ -34,4 +35,17 @@ pub fn whole_means()
 pub fn blast_means()
     ensures { (nodes : List Node) (formula : List Conjunct) (order : Order) (loads : ℕ) → IsPosed nodes formula order
         → IsOrder (layout_of order loads formula).order → BlastMeans nodes formula order loads }
+{}
+
+/// Each conjunct has its own clause, the root, and the other clauses can be satisfied in every world. So an impossibility rests on the
+/// conjuncts whose roots its refutation uses.
+pub fn roots_tell()
+    ensures { (nodes : List Node) (formula : List Conjunct) (order : Order) (loads : ℕ) → IsPosed nodes formula order
+        → IsOrder (layout_of order loads formula).order
+        → RootsTell nodes formula (record { order = order; loads = loads }) (blast nodes formula order loads) }
+{}
+
+/// Nothing satisfies the clauses of what is impossible.
+pub fn impossible_is_unsatisfiable()
+    ensures { IsUnsatisfiable impossible.clauses.clauses }
 {}

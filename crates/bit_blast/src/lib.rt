@@ -5,9 +5,11 @@
 mod blasted;
 mod cases;
 mod contended;
+mod first_values;
 pub mod laws;
 mod reads;
 mod roots;
 mod whole;
 
 pub use blasted::{Blasted, blast};
+pub use first_values::extend_values;

@@ -10,6 +10,7 @@ mod layout;
 mod pairs;
 mod reading;
 mod words;
+mod writing;
 
 pub use clause::add_clause;
 pub use layout::{Layout, size};

@@ -26,13 +26,13 @@ pub(crate) struct Begun {
 impl State {
     ghost use Rattle.cdcl_core.specs.helpers.States.{IsLoaded, HaveLiterals, IsEmptyAt, IsBegun, LoadsOne};
 
-    /// A search over the clauses.
-    pub(crate) fn begin(alloc: Global, cnf: &Cnf) -> Result<Begun, AllocError>
+    /// A search over the clauses, which tries these values of the variables first.
+    pub(crate) fn begin(alloc: Global, cnf: &Cnf, first: &[bool]) -> Result<Begun, AllocError>
         ensures begun { IfOk result (λ b. IsBegun b.is_closed b.state) }
         ensures formula { IfOk result (λ b. b.state.formula ≡ cnf.now) }
         ensures none { IfOk result (λ b. b.state.added ≡ 0) }
     {
-        let mut state = State::before_clauses(alloc, copy(alloc, cnf)?)?;
+        let mut state = State::before_clauses(alloc, copy(alloc, cnf)?, first)?;
         if let Some(place) = first_empty(cnf) {
             state.close_by_empty(alloc, place)?;
             return Ok(Begun {
@@ -85,8 +85,8 @@ impl State {
         self.conclude(alloc, lesson.hints.as_slice())
     }
 
-    /// A search over the variables, before any clause.
-    fn before_clauses(alloc: Global, formula: Cnf) -> Result<State, AllocError>
+    /// A search over the variables, which tries these values of them first, before any clause.
+    fn before_clauses(alloc: Global, formula: Cnf, first: &[bool]) -> Result<State, AllocError>
         ensures loaded { IfOk result (λ s. IsLoaded s 0) }
         ensures formula { IfOk result (λ s. s.formula ≡ formula) }
         ensures rooted { IfOk result (λ s. AreRooted s.trail s.clauses) }
@@ -95,7 +95,7 @@ impl State {
         let _len = formula.len();
         let trail = Trail::new(alloc, variables)?;
         let watches = Watches::new(alloc, 2 * variables as usize)?;
-        let activity = Activity::new(alloc, variables)?;
+        let activity = Activity::new(alloc, variables, first)?;
         Ok(State {
             formula,
             trail,

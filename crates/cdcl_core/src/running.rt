@@ -15,13 +15,17 @@ impl StagedSearch {
     ghost use Rattle.cdcl_core.specs.helpers.States.{IsLive};
     ghost use Rattle.cdcl_core.specs.helpers.Stages.{IsStaged, answer_at, answer_of, searched_of};
 
-    /// A search over the clauses.
-    pub(crate) fn begin(alloc: Global, cnf: &Cnf) -> Result<StagedSearch, AllocError>
+    /// A search over the clauses, which tries these values of the variables first.
+    pub(crate) fn begin(
+        alloc: Global,
+        cnf: &Cnf,
+        first: &[bool],
+    ) -> Result<StagedSearch, AllocError>
         ensures lawful { IfOk result IsStaged }
         ensures formula { IfOk result (λ s. s.state.formula ≡ cnf.now) }
         ensures none { IfOk result (λ s. s.state.added ≡ 0) }
     {
-        let Begun { state, is_closed } = State::begin(alloc, cnf)?;
+        let Begun { state, is_closed } = State::begin(alloc, cnf, first)?;
         let values = Vec::new(alloc);
         if is_closed {
             Ok(StagedSearch {

@@ -35,12 +35,15 @@ impl Search {
     ghost use Rattle.cdcl_core.specs.Searches.{GoesOn, Answers};
 
     /// A search over the clauses. It keeps a copy of them.
-    pub fn new(alloc: Global, cnf: &Cnf) -> Result<Search, AllocError>
+    ///
+    /// The value that is tried first for the variable `v` is `first[v - 1]`, and false where there is none. Where these values satisfy
+    /// the clauses, or nearly so, the search is short; whatever they are, its answers are right.
+    pub fn new(alloc: Global, cnf: &Cnf, first: &[bool]) -> Result<Search, AllocError>
         ensures formula { IfOk result (λ s. s.formula ≡ cnf.now) }
         ensures none { IfOk result (λ s. added_in s.lines ≡ 0) }
         ensures lawful { IfOk result IsSearched }
     {
-        let staged = StagedSearch::begin(alloc, cnf)?;
+        let staged = StagedSearch::begin(alloc, cnf, first)?;
         Ok(Search { staged })
     }
 

@@ -7,13 +7,18 @@ use crate::{Progress, Search, Solved};
 use cnf_core::Cnf;
 use std::alloc::{AllocError, Global};
 
-/// Searches until there is an answer, or so many clauses are learnt.
-pub fn solve_cnf(alloc: Global, cnf: &Cnf, budget: u32) -> Result<Solved, AllocError>
+/// Searches until there is an answer, or so many clauses are learnt, with these values of the variables [first](Search::new).
+pub fn solve_cnf(
+    alloc: Global,
+    cnf: &Cnf,
+    first: &[bool],
+    budget: u32,
+) -> Result<Solved, AllocError>
     requires some { 1 ≤ budget }
     requires room { budget ≤ BUDGET }
     ensures { IfOk result (Solves cnf.now budget) }
 {
-    let mut search = Search::new(alloc, cnf)?;
+    let mut search = Search::new(alloc, cnf, first)?;
     match search.run(alloc, budget)? {
         Progress::Sat(assignment) => Ok(Solved::Sat(assignment)),
         Progress::Closed => Ok(Solved::Unsat(search.into_derivation())),

@@ -1,17 +1,23 @@
--- From an answer with its cause, as it was put, to the answers by status.
-use Rattle.std.proofs.Common.{◌≡◌, ◌≢◌, ◌≤◌, length, ℕ, List, [], ◌∷◌, Option, Some, None, IfSome, ◌⊎◌, inl, inr, refl, sym, ◌∙◌, ap, subst, arith}
+-- From an answer with its cause, as it was put, to the answers of every call.
+use Rattle.std.proofs.Common.{◌≡◌, ◌≢◌, ◌≤◌, ℕ, List, [], ◌∷◌, Option, Some, None, IfSome, ◌⊎◌, inl, inr, refl, sym, ◌∙◌, ap, subst, arith}
 use Rattle.std.specs.Option.{IsSomeAnd}
-use Rattle.tc_code.specs.Code.{Code}
-use Rattle.tc_base.specs.declared.model.Model.{Model}
-use Rattle.tc_io.specs.Outside.{Files, Reading, Writing, ShelfTells, SinkTells, KeptPart, bytes_at, put_under}
-use Rattle.clap_debug_words.specs.Calls.{Called, Lists, Replays, Records, Migrates, call_of}
-use Rattle.clap_debug_cli.specs.Answers.{status_of, verdict_status, ending_status}
+use Rattle.tc_io.specs.Outside.{Files, Reading, Writing, ShelfTells, SinkTells, KeptPart, put_under}
+use Rattle.schedule_file.specs.Schedules.{schedule_text}
+use Rattle.schedule_file.specs.declared.schedule.Schedule.{Schedule}
+use Rattle.cnf_core.specs.Clauses.{Formula}
+use Rattle.dimacs_text.specs.Texts.{cnf_text}
+use Rattle.clap_solve.specs.declared.answer.Answer.{Answer as Found}
+use Rattle.clap_solve.specs.declared.answer.Answer.TheVariants as found
+use Rattle.clap_debug_words.specs.Calls.{Called, Lists, Replays, Records, Migrates, Solves, Checks, Workloads, Exports, Imports, call_of}
+use Rattle.clap_debug_cli.specs.Answers.{status_of, found_status}
 use Rattle.clap_debug_cli.specs.declared.answer.Answer.{Answer}
-use Rattle.clap_debug_cli.specs.declared.answer.Answer.TheVariants.{Usage, ReadFault, TooLong, ProgramRefused, LogRefused, ScheduleRefused, Listed, Replayed, Recorded, RunEnded, LogOver, Migrated, WriteFault, NoMemory}
-use Rattle.clap_debug_cli.specs.Causes.{IsCause, IsCauseOf, IsListAnswer, IsLogRefused, IsScheduleRefused, IsReplayAnswer, IsRecordAnswer, IsReplayed}
-use Rattle.clap_debug_cli.specs.Causes.{IsWorkOf, IsAnswerTo, IsOutput, KeepsResult, IsMigrateAnswer}
+use Rattle.clap_debug_cli.specs.declared.answer.Answer.TheVariants.{Usage, ReadFault, TooLong, ProgramRefused, LogRefused, Recorded, RunEnded, LogOver}
+use Rattle.clap_debug_cli.specs.declared.answer.Answer.TheVariants.{Migrated, Solved, Exported, Imported, ClauseFalse, AnswerRefused, WriteFault, NoMemory}
+use Rattle.clap_debug_cli.specs.declared.answer.Solution.{Solution}
+use Rattle.clap_debug_cli.specs.Causes.{IsCause, IsCauseOf, IsResult, IsWorkOf, IsAnswerTo, IsOutput, KeepsResult}
 use Rattle.clap_debug_cli.specs.Call.{
-  IfTold,
+  IsDecided,
+  IsOfResult,
   IsStatus,
   Puts,
   FailsToPut,
@@ -25,40 +31,23 @@ use Rattle.clap_debug_cli.specs.Call.{
   Leaves,
   CallAnswers,
   ToldAnswers,
-  ListAnswers,
-  ReplayAnswers,
-  RecordAnswers,
-  MigrateAnswers,
-  CommandAnswers,
 }
-use Rattle.clap_debug_cli.specs.Inputs.{Texts, GaveAll, inputs_of, texts_under, limit_of, IsTooLong}
-use Rattle.tc_compile.specs.Programs.{IsCodeOf, IsRefusal}
-use Rattle.clap_debug_cli.specs.Recorded.{ComesTo, EndsSo, end_status, run_of}
-use Rattle.clap_debug_cli.specs.Migrated.{IsMigrated}
-use Rattle.tc_parser.specs.declared.fault.TextFault.{TextFault}
-use Rattle.schedule_replay.specs.declared.verdict.Verdict.{Verdict}
-use Rattle.clap_debug_cli.specs.declared.answer.LogRefusal.{LogRefusal}
-use Rattle.schedule_replay.specs.declared.verdict.Verdict.TheVariants as verdict
+use Rattle.clap_debug_cli.specs.Inputs.{Texts, GaveAll, inputs_of, texts_under, IsTooLong}
+use Rattle.clap_debug_cli.specs.Solved.{solution_text}
 use Rattle.tc_record.specs.declared.end.Which.{Which}
 use Rattle.clap_debug_cli.specs.declared.answer.Excess.{Excess}
 use Rattle.clap_debug_cli.specs.declared.input.Input.{Input}
-use Rattle.clap_debug_cli.specs.declared.input.Input.TheVariants as input
-use Rattle.clap_debug_cli.specs.declared.answer.Ending.{Ending}
-use Rattle.clap_debug_cli.specs.declared.answer.Ending.TheVariants.{Finished, StepLimit, Over}
-use Rattle.clap_debug_cli.specs.declared.answer.Outcome.{Outcome}
-use Rattle.clap_debug_cli.proofs.Fetches.{failed_still, gave_all, given_still, not_within, passed_still, passes_told}
-use Rattle.clap_debug_cli.proofs.Migrations.{migrated_answer, migrated_text}
+use Rattle.clap_debug_cli.specs.declared.answer.Ending.TheVariants.{Over}
+use Rattle.clap_debug_cli.proofs.Fetches.{failed_still, gave_all, given_still, passed_still, passes_told}
 use Rattle.clap_debug_cli.proofs.OneAnswer.{one_answer}
-use Rattle.tc_compile.proofs.OnePrograms.{one_code, refused_no_code}
-use Rattle.clap_debug_cli.proofs.OneRun.{ended_status, outcome_status}
-use Rattle.clap_debug_cli.proofs.Statuses.{is_usage, is_program_refused, is_log_refused, is_schedule_refused, is_limit, is_read_fault, is_write_fault}
-use Rattle.clap_debug_cli.proofs.Statuses.{is_no_memory, is_finished, is_step_limit, no_ending, is_reproduces, is_other}
+use Rattle.clap_debug_cli.proofs.Solutions.{solution_of}
+use Rattle.clap_debug_cli.proofs.Statuses.{is_usage, is_limit, is_read_fault, is_write_fault, is_no_memory, no_ending}
 
 -- what the words ask for is known
 called_of : (P : Called → Type 0) (o : Option Called) (call : Called) → o ≡ Some call → P call → IsSomeAnd o P
 called_of P o call taken p = subst (λ o. IsSomeAnd o P) (sym taken) p
 
-called_now : (P : Called → Type 0) (o : Option Called) (call : Called) → o ≡ Some call → IsSomeAnd o P → P call
+pub called_now : (P : Called → Type 0) (o : Option Called) (call : Called) → o ≡ Some call → IsSomeAnd o P → P call
 called_now P o call taken p = subst (λ o. IsSomeAnd o P) taken p
 
 uncalled : (P : Called → Type 0) (o : Option Called) → o ≡ None → IsSomeAnd o P → ⊥
@@ -70,6 +59,11 @@ no_work (Lists _) (program ∷ []) h = h
 no_work (Replays _ _ _) (program ∷ log ∷ schedule ∷ []) h = h
 no_work (Records _ _ model seed steps) (program ∷ []) h = h
 no_work (Migrates _ _ _) (program ∷ log ∷ []) h = h.2.2.1
+no_work (Solves _ _ _ _ _) (program ∷ log ∷ []) h = h.2.2.1.1
+no_work (Checks _ _ _) (program ∷ log ∷ refutation ∷ []) h = h.2.2.3.1.1
+no_work (Workloads _ _) [] h = h.2.1
+no_work (Exports _ _ _ _) (program ∷ log ∷ []) h = h.2.2.1.1
+no_work (Imports _ _ _ _ _) (program ∷ log ∷ answer ∷ []) h = h.2.2.2.1.1
 no_work _ _ h = h
 
 -- the cause of an answer to a call is its cause for the words
@@ -138,6 +132,9 @@ wrote_of call old new (WriteFault n) c rose name last =
     cc
 wrote_of call old new (Recorded o) c rose name last =
     absurd (rose (ap (λ x. x.faults) c.4.4 ∙ (given_still (inputs_of call) old c.1 c.0 c.2).1))
+wrote_of call old new (Solved x) c rose name last = absurd (rose (ap (λ x. x.faults) c.4.2 ∙ (given_still (inputs_of call) old c.1 c.0 c.2).1))
+wrote_of call old new (Exported f) c rose name last = absurd (rose (ap (λ x. x.faults) c.4.2 ∙ (given_still (inputs_of call) old c.1 c.0 c.2).1))
+wrote_of call old new (Imported s) c rose name last = absurd (rose (ap (λ x. x.faults) c.4.2 ∙ (given_still (inputs_of call) old c.1 c.0 c.2).1))
 wrote_of call old new Migrated c rose name last = absurd (rose (ap (λ x. x.faults) c.4.4 ∙ (given_still (inputs_of call) old c.1 c.0 c.2).1))
 wrote_of call old new _ c rose name last = absurd (rose (ap (λ x. x.faults) c.4 ∙ (given_still (inputs_of call) old c.1 c.0 c.2).1))
 
@@ -155,27 +152,161 @@ if_called (Some call) P h = h call refl
 abbrev Keeps : Answer → Type 0
 Keeps (Recorded _) = Unit {0}
 Keeps Migrated = Unit {0}
+Keeps (Solved _) = Unit {0}
+Keeps (Exported _) = Unit {0}
+Keeps (Imported _) = Unit {0}
 Keeps _ = ⊥
 
-keeps_status : (b : Answer) → Keeps b → status_of b ≡ 0
-keeps_status (Recorded o) k = refl
-keeps_status Migrated k = refl
-keeps_status _ k = absurd k
+-- which command gives them, and with which statuses
+keeps_status : (call : Called) (t : Texts) (b : Answer) → Keeps b → IsWorkOf call t b → IsOfResult call (status_of b)
+keeps_status (Records _ _ _ _ _) (program ∷ []) (Recorded o) k w = refl
+keeps_status (Migrates _ _ _) (program ∷ log ∷ []) Migrated k w = refl
+keeps_status (Solves _ _ _ _ _) (program ∷ log ∷ []) (Solved x) k w = by x.answer
+  where
+    by : (f : Found) → (found_status f ≡ 0) ⊎ (found_status f ≡ 1) ⊎ (found_status f ≡ 10)
+    by (found.Found s) = inl refl
+    by (found.Impossible ls) = inr (inl refl)
+    by (found.Spent ls) = inr (inr refl)
+keeps_status (Lists _) (program ∷ []) (Recorded o) k w = absurd w
+keeps_status (Lists _) (program ∷ []) Migrated k w = absurd w
+keeps_status (Lists _) (program ∷ []) (Solved x) k w = absurd w
+keeps_status (Replays _ _ _) (program ∷ log ∷ schedule ∷ []) (Recorded o) k w = absurd w
+keeps_status (Replays _ _ _) (program ∷ log ∷ schedule ∷ []) Migrated k w = absurd w
+keeps_status (Replays _ _ _) (program ∷ log ∷ schedule ∷ []) (Solved x) k w = absurd w
+keeps_status (Records _ _ _ _ _) (program ∷ []) Migrated k w = absurd w
+keeps_status (Records _ _ _ _ _) (program ∷ []) (Solved x) k w = absurd w
+keeps_status (Migrates _ _ _) (program ∷ log ∷ []) (Recorded o) k w = absurd w.2.2.1
+keeps_status (Migrates _ _ _) (program ∷ log ∷ []) (Solved x) k w = absurd w.2.2.1
+keeps_status (Solves _ _ _ _ _) (program ∷ log ∷ []) (Recorded o) k w = absurd w.2.2.1.1
+keeps_status (Solves _ _ _ _ _) (program ∷ log ∷ []) Migrated k w = absurd w.2.2.1.1
+keeps_status (Checks _ _ _) (program ∷ log ∷ refutation ∷ []) (Recorded o) k w = absurd w.2.2.3.1.1
+keeps_status (Checks _ _ _) (program ∷ log ∷ refutation ∷ []) Migrated k w = absurd w.2.2.3.1.1
+keeps_status (Checks _ _ _) (program ∷ log ∷ refutation ∷ []) (Solved x) k w = absurd w.2.2.3.1.1
+keeps_status (Workloads _ _) [] (Recorded o) k w = absurd w.2.1
+keeps_status (Workloads _ _) [] Migrated k w = absurd w.2.1
+keeps_status (Workloads _ _) [] (Solved x) k w = absurd w.2.1
+keeps_status (Lists _) (program ∷ []) (Exported f) k w = absurd w
+keeps_status (Lists _) (program ∷ []) (Imported s) k w = absurd w
+keeps_status (Replays _ _ _) (program ∷ log ∷ schedule ∷ []) (Exported f) k w = absurd w
+keeps_status (Replays _ _ _) (program ∷ log ∷ schedule ∷ []) (Imported s) k w = absurd w
+keeps_status (Records _ _ _ _ _) (program ∷ []) (Exported f) k w = absurd w
+keeps_status (Records _ _ _ _ _) (program ∷ []) (Imported s) k w = absurd w
+keeps_status (Migrates _ _ _) (program ∷ log ∷ []) (Exported f) k w = absurd w.2.2.1
+keeps_status (Migrates _ _ _) (program ∷ log ∷ []) (Imported s) k w = absurd w.2.2.1
+keeps_status (Solves _ _ _ _ _) (program ∷ log ∷ []) (Exported f) k w = absurd w.2.2.1.1
+keeps_status (Solves _ _ _ _ _) (program ∷ log ∷ []) (Imported s) k w = absurd w.2.2.1.1
+keeps_status (Checks _ _ _) (program ∷ log ∷ refutation ∷ []) (Exported f) k w = absurd w.2.2.3.1.1
+keeps_status (Checks _ _ _) (program ∷ log ∷ refutation ∷ []) (Imported s) k w = absurd w.2.2.3.1.1
+keeps_status (Workloads _ _) [] (Exported f) k w = absurd w.2.1
+keeps_status (Workloads _ _) [] (Imported s) k w = absurd w.2.1
+keeps_status (Exports _ _ _ _) (program ∷ log ∷ []) (Exported f) k w = refl
+keeps_status (Exports _ _ _ _) (program ∷ log ∷ []) (Imported s) k w = absurd w.2.2.1.1
+keeps_status (Imports _ _ _ _ _) (program ∷ log ∷ answer ∷ []) (Exported f) k w = absurd w.2.2.2.1.1
+keeps_status (Imports _ _ _ _ _) (program ∷ log ∷ answer ∷ []) (Imported s) k w = refl
+keeps_status (Exports _ _ _ _) (program ∷ log ∷ []) (Recorded o) k w = absurd w.2.2.1.1
+keeps_status (Exports _ _ _ _) (program ∷ log ∷ []) Migrated k w = absurd w.2.2.1.1
+keeps_status (Exports _ _ _ _) (program ∷ log ∷ []) (Solved x) k w = absurd w.2.2.1.1
+keeps_status (Imports _ _ _ _ _) (program ∷ log ∷ answer ∷ []) (Recorded o) k w = absurd w.2.2.2.1.1
+keeps_status (Imports _ _ _ _ _) (program ∷ log ∷ answer ∷ []) Migrated k w = absurd w.2.2.2.1.1
+keeps_status (Imports _ _ _ _ _) (program ∷ log ∷ answer ∷ []) (Solved x) k w = absurd w.2.2.2.1.1
+keeps_status _ _ (Recorded o) k w = absurd w
+keeps_status _ _ Migrated k w = absurd w
+keeps_status _ _ (Solved x) k w = absurd w
+keeps_status _ _ (Exported f) k w = absurd w
+keeps_status _ _ (Imported s) k w = absurd w
+keeps_status _ _ _ k w = absurd k
 
--- commands that keep a result neither list nor replay
-no_listing : (call : Called) (name : List ℕ) → IsOutput call name → (t : Texts) (code : Code) → IsWorkOf call t (Listed code) → ⊥
-no_listing (Lists _) name o t code f = o
-no_listing (Replays _ _ _) name o t code f = o
-no_listing (Records _ _ _ _ _) name o (program ∷ []) code f = f
-no_listing (Migrates _ _ _) name o (program ∷ log ∷ []) code f = f.2.2.1
-no_listing _ name o _ code f = f
+-- what was found is a result of the command that searches
+found_result : (call : Called) (t : Texts) (x : Solution) → IsWorkOf call t (Solved x) → IsResult call t (solution_text x)
+found_result (Solves _ _ _ model budget) (program ∷ log ∷ []) x w = (x, solution_of program log model budget x w, refl)
+found_result (Lists _) (program ∷ []) x w = absurd w
+found_result (Replays _ _ _) (program ∷ log ∷ schedule ∷ []) x w = absurd w
+found_result (Records _ _ _ _ _) (program ∷ []) x w = absurd w
+found_result (Migrates _ _ _) (program ∷ log ∷ []) x w = absurd w.2.2.1
+found_result (Checks _ _ _) (program ∷ log ∷ refutation ∷ []) x w = absurd w.2.2.3.1.1
+found_result (Workloads _ _) [] x w = absurd w.2.1
+found_result (Exports _ _ _ _) (program ∷ log ∷ []) x w = absurd w.2.2.1.1
+found_result (Imports _ _ _ _ _) (program ∷ log ∷ answer ∷ []) x w = absurd w.2.2.2.1.1
+found_result _ _ x w = absurd w
 
-no_verdict : (call : Called) (name : List ℕ) → IsOutput call name → (t : Texts) (v : Verdict) → IsWorkOf call t (Replayed v) → ⊥
-no_verdict (Lists _) name o t v f = o
-no_verdict (Replays _ _ _) name o t v f = o
-no_verdict (Records _ _ _ _ _) name o (program ∷ []) v f = f
-no_verdict (Migrates _ _ _) name o (program ∷ log ∷ []) v f = f.2.2.1
-no_verdict _ name o _ v f = f
+-- so are the clauses of the command that writes them
+exported_result : (call : Called) (t : Texts) (f : Formula) → IsWorkOf call t (Exported f) → IsResult call t (cnf_text f)
+exported_result (Exports _ _ _ model) (program ∷ log ∷ []) f w = (f, w, refl)
+exported_result (Lists _) (program ∷ []) f w = absurd w
+exported_result (Replays _ _ _) (program ∷ log ∷ schedule ∷ []) f w = absurd w
+exported_result (Records _ _ _ _ _) (program ∷ []) f w = absurd w
+exported_result (Migrates _ _ _) (program ∷ log ∷ []) f w = absurd w.2.2.1
+exported_result (Solves _ _ _ _ _) (program ∷ log ∷ []) f w = absurd w.2.2.1.1
+exported_result (Checks _ _ _) (program ∷ log ∷ refutation ∷ []) f w = absurd w.2.2.3.1.1
+exported_result (Workloads _ _) [] f w = absurd w.2.1
+exported_result (Imports _ _ _ _ _) (program ∷ log ∷ answer ∷ []) f w = absurd w.2.2.2.1.1
+exported_result _ _ f w = absurd w
+
+-- and the schedule of an answer that is taken
+imported_result : (call : Called) (t : Texts) (s : Schedule) → IsWorkOf call t (Imported s) → IsResult call t (schedule_text s.model s.moves.items)
+imported_result (Imports _ _ _ _ model) (program ∷ log ∷ answer ∷ []) s w = (s, w, refl)
+imported_result (Lists _) (program ∷ []) s w = absurd w
+imported_result (Replays _ _ _) (program ∷ log ∷ schedule ∷ []) s w = absurd w
+imported_result (Records _ _ _ _ _) (program ∷ []) s w = absurd w
+imported_result (Migrates _ _ _) (program ∷ log ∷ []) s w = absurd w.2.2.1
+imported_result (Solves _ _ _ _ _) (program ∷ log ∷ []) s w = absurd w.2.2.1.1
+imported_result (Checks _ _ _) (program ∷ log ∷ refutation ∷ []) s w = absurd w.2.2.3.1.1
+imported_result (Workloads _ _) [] s w = absurd w.2.1
+imported_result (Exports _ _ _ _) (program ∷ log ∷ []) s w = absurd w.2.2.1.1
+imported_result _ _ s w = absurd w
+
+-- the statuses of results, and others
+result_status : (call : Called) (n : ℕ) → IsOfResult call n → (n ≡ 0) ⊎ (n ≡ 1) ⊎ (n ≡ 10)
+result_status (Solves _ _ _ _ _) n h = h
+result_status _ n h = inl h
+
+not_result : (call : Called) (n m : ℕ) → n ≡ m → (m ≡ 0 → ⊥) → (m ≡ 1 → ⊥) → (m ≡ 10 → ⊥) → IsOfResult call n → ⊥
+not_result call n m e zero one ten h =
+    elim (result_status call n h) [
+      | inl is ↦ zero (sym e ∙ is)
+      | inr more ↦ elim more [
+        | inl is ↦ one (sym e ∙ is)
+        | inr is ↦ ten (sym e ∙ is)
+      ]
+    ]
+
+-- an answer of a command that keeps results, with a status of these, is one with which it keeps one
+work_keeps : (call : Called) (name : List ℕ) → IsOutput call name → (t : Texts) (b : Answer) → IsWorkOf call t b → IsOfResult call (status_of b) → Keeps b
+work_keeps (Records _ _ _ _ _) name o (program ∷ []) (Recorded r) w h = tt
+work_keeps (Records _ _ _ _ _) name o (program ∷ []) (RunEnded e) w h =
+    absurd (no_ending e 0 h (λ x. omega (arith, x)) (λ x. omega (arith, x)) (λ x. omega (arith, x)))
+work_keeps (Records _ _ _ _ _) name o (program ∷ []) (ProgramRefused r) w h = absurd (omega (arith, h))
+work_keeps (Records _ _ _ _ _) name o (program ∷ []) _ w h = absurd w
+work_keeps (Migrates _ _ _) name o (program ∷ log ∷ []) Migrated w h = tt
+work_keeps (Migrates _ _ _) name o (program ∷ log ∷ []) (ProgramRefused r) w h = absurd (omega (arith, h))
+work_keeps (Migrates _ _ _) name o (program ∷ log ∷ []) (LogRefused r) w h = absurd (omega (arith, h))
+work_keeps (Migrates _ _ _) name o (program ∷ log ∷ []) (LogOver e) w h = absurd (omega (arith, h))
+work_keeps (Migrates _ _ _) name o (program ∷ log ∷ []) _ w h = absurd w.2.2.1
+work_keeps (Solves p l u m n) name o (program ∷ log ∷ []) (Solved x) w h = tt
+work_keeps (Solves p l u m n) name o (program ∷ log ∷ []) (ProgramRefused r) w h =
+    absurd (not_result (Solves p l u m n) 3 3 refl (λ x. omega (arith, x)) (λ x. omega (arith, x)) (λ x. omega (arith, x)) h)
+work_keeps (Solves p l u m n) name o (program ∷ log ∷ []) (LogRefused r) w h =
+    absurd (not_result (Solves p l u m n) 4 4 refl (λ x. omega (arith, x)) (λ x. omega (arith, x)) (λ x. omega (arith, x)) h)
+work_keeps (Solves p l u m n) name o (program ∷ log ∷ []) (LogOver e) w h =
+    absurd (not_result (Solves p l u m n) 6 6 refl (λ x. omega (arith, x)) (λ x. omega (arith, x)) (λ x. omega (arith, x)) h)
+work_keeps (Solves p l u m n) name o (program ∷ log ∷ []) _ w h = absurd w.2.2.1.1
+work_keeps (Exports _ _ _ _) name o (program ∷ log ∷ []) (Exported f) w h = tt
+work_keeps (Exports _ _ _ _) name o (program ∷ log ∷ []) (ProgramRefused r) w h = absurd (omega (arith, h))
+work_keeps (Exports _ _ _ _) name o (program ∷ log ∷ []) (LogRefused r) w h = absurd (omega (arith, h))
+work_keeps (Exports _ _ _ _) name o (program ∷ log ∷ []) (LogOver e) w h = absurd (omega (arith, h))
+work_keeps (Exports _ _ _ _) name o (program ∷ log ∷ []) _ w h = absurd w.2.2.1.1
+work_keeps (Imports _ _ _ _ _) name o (program ∷ log ∷ answer ∷ []) (Imported s) w h = tt
+work_keeps (Imports _ _ _ _ _) name o (program ∷ log ∷ answer ∷ []) (ClauseFalse n) w h = absurd (omega (arith, h))
+work_keeps (Imports _ _ _ _ _) name o (program ∷ log ∷ answer ∷ []) (ProgramRefused r) w h = absurd (omega (arith, h))
+work_keeps (Imports _ _ _ _ _) name o (program ∷ log ∷ answer ∷ []) (LogRefused r) w h = absurd (omega (arith, h))
+work_keeps (Imports _ _ _ _ _) name o (program ∷ log ∷ answer ∷ []) (AnswerRefused n) w h = absurd (omega (arith, h))
+work_keeps (Imports _ _ _ _ _) name o (program ∷ log ∷ answer ∷ []) (LogOver e) w h = absurd (omega (arith, h))
+work_keeps (Imports _ _ _ _ _) name o (program ∷ log ∷ answer ∷ []) _ w h = absurd w.2.2.2.1.1
+work_keeps (Lists _) name o t b w h = absurd o
+work_keeps (Replays _ _ _) name o t b w h = absurd o
+work_keeps (Checks _ _ _) name o t b w h = absurd o
+work_keeps (Workloads _ _) name o t b w h = absurd o
+work_keeps _ name o t b w h = absurd w
 
 module _ (words : List (List ℕ)) (old new : ShelfTells) (a : Answer) (status : ℕ) (j k : SinkTells) (cause : IsCause words old new a)
     (says : Says a status j k) where
@@ -296,6 +427,9 @@ module _ (words : List (List ℕ)) (old new : ShelfTells) (a : Answer) (status :
     what_is_kept : (b : Answer) → IsCause words old new b → IsKept b
     what_is_kept (Recorded o) c = inl tt
     what_is_kept Migrated c = inl tt
+    what_is_kept (Solved x) c = inl tt
+    what_is_kept (Exported f) c = inl tt
+    what_is_kept (Imported s) c = inl tt
     what_is_kept (WriteFault name) c = inr (inl (name, refl))
     what_is_kept Usage c = inr (inr (ap (λ x. x.held) c.1))
     what_is_kept NoMemory (inl same) = inr (inr (ap (λ x. x.held) same))
@@ -314,12 +448,29 @@ module _ (words : List (List ℕ)) (old new : ShelfTells) (a : Answer) (status :
         → (t : Texts) × (s : ShelfTells) × GaveAll (inputs_of call) old s t × KeepsResult call t s new
     kept_result (Recorded o) k c = let d = called_cause (Recorded o) c in (d.0, d.1, d.2, d.4)
     kept_result Migrated k c = let d = called_cause Migrated c in (d.0, d.1, d.2, d.4)
+    kept_result (Solved x) k c =
+        let d = called_cause (Solved x) c in
+        (d.0, d.1, d.2, (d.4.0, solution_text x, d.4.1, found_result call d.0 x d.3.1, d.4.2))
+    kept_result (Exported f) k c =
+        let d = called_cause (Exported f) c in
+        (d.0, d.1, d.2, (d.4.0, cnf_text f, d.4.1, exported_result call d.0 f d.3.1, d.4.2))
+    kept_result (Imported s) k c =
+        let d = called_cause (Imported s) c in
+        (d.0, d.1, d.2, (d.4.0, schedule_text s.model s.moves.items, d.4.1, imported_result call d.0 s d.3.1, d.4.2))
     kept_result _ k c = absurd k
+
+    keeps_work : (b : Answer) → Keeps b → IsCause words old new b → (t : Texts) × IsWorkOf call t b
+    keeps_work (Recorded o) k c = let d = called_cause (Recorded o) c in (d.0, d.3.1)
+    keeps_work Migrated k c = let d = called_cause Migrated c in (d.0, d.3.1)
+    keeps_work (Solved x) k c = let d = called_cause (Solved x) c in (d.0, d.3.1)
+    keeps_work (Exported f) k c = let d = called_cause (Exported f) c in (d.0, d.3.1)
+    keeps_work (Imported s) k c = let d = called_cause (Imported s) c in (d.0, d.3.1)
+    keeps_work _ k c = absurd k
 
     lost_cause : (lost : List ℕ) → a ≡ WriteFault lost → IsCauseOf call old new (WriteFault lost)
     lost_cause lost e = called_cause (WriteFault lost) (subst (IsCause words old new) e cause)
 
-    -- `list` and `replay` keep none
+    -- `list`, `replay`, `check` and `workload` keep none
     no_result : ((name : List ℕ) → IsOutput call name → ⊥) → new.held ≡ old.held
     no_result never =
         elim is_kept [
@@ -338,30 +489,32 @@ module _ (words : List (List ℕ)) (old new : ShelfTells) (a : Answer) (status :
       loses lost e = loses_result call name own old new lost (lost_cause lost e)
 
       -- with a status that isn't that of a result, of a keep that failed or of a fault
-      nothing : status ≢ 0 → status ≢ 8 → status ≢ 9 → new.held ≡ old.held
-      nothing not_zero eight nine =
+      nothing : (IsOfResult call status → ⊥) → status ≢ 8 → status ≢ 9 → new.held ≡ old.held
+      nothing not_one eight nine =
           let p = put_at a status j k says eight nine in
           elim is_kept [
-            | inl k ↦ absurd (not_zero (p.0 ∙ keeps_status a k))
+            | inl k ↦ (let w = keeps_work a k cause in absurd (not_one (subst (IsOfResult call) (sym p.0) (keeps_status call w.0 a k w.1))))
             | inr more ↦ elim more [
               | inl lost ↦ absurd (eight (p.0 ∙ ap status_of lost.1))
               | inr same ↦ same
             ]
           ]
 
-      -- status 0 is that of a result
-      zero_keeps : (b : Answer) → IsCause words old new b → status_of b ≡ 0 → Keeps b
-      zero_keeps (Recorded o) c h = tt
-      zero_keeps Migrated c h = tt
-      zero_keeps (Listed code) c h = let d = called_cause (Listed code) c in absurd (no_listing call name output d.0 code d.3.1)
-      zero_keeps (Replayed v) c h = let d = called_cause (Replayed v) c in absurd (no_verdict call name output d.0 v d.3.1)
-      zero_keeps (RunEnded e) c h = absurd (no_ending e 0 h (λ x. omega (arith, x)) (λ x. omega (arith, x)) (λ x. omega (arith, x)))
-      zero_keeps _ c h = absurd (omega (arith, h))
+      -- a status of a result is that of one that was kept
+      result_keeps : (b : Answer) → IsCause words old new b → IsOfResult call (status_of b) → Keeps b
+      result_keeps Usage c h = absurd (not_result call 2 2 refl (λ x. omega (arith, x)) (λ x. omega (arith, x)) (λ x. omega (arith, x)) h)
+      result_keeps (ReadFault _) c h = absurd (not_result call 7 7 refl (λ x. omega (arith, x)) (λ x. omega (arith, x)) (λ x. omega (arith, x)) h)
+      result_keeps (TooLong _) c h = absurd (not_result call 6 6 refl (λ x. omega (arith, x)) (λ x. omega (arith, x)) (λ x. omega (arith, x)) h)
+      result_keeps (WriteFault _) c h = absurd (not_result call 8 8 refl (λ x. omega (arith, x)) (λ x. omega (arith, x)) (λ x. omega (arith, x)) h)
+      result_keeps NoMemory c h = absurd (not_result call 9 9 refl (λ x. omega (arith, x)) (λ x. omega (arith, x)) (λ x. omega (arith, x)) h)
+      result_keeps b c h = let d = called_cause b c in work_keeps call name output d.0 b d.3.1 h
 
-      kept_at : status ≡ 0 → Holds call name old new
+      kept_at : IsOfResult call status → Holds call name old new
       kept_at h =
-          let put = put_at a status j k says (λ e. omega (arith, h, e)) (λ e. omega (arith, h, e)) in
-          holds (zero_keeps a cause (sym put.0 ∙ h))
+          let put = put_at a status j k says
+          (λ e. not_result call status 8 e (λ x. omega (arith, x)) (λ x. omega (arith, x)) (λ x. omega (arith, x)) h)
+          (λ e. not_result call status 9 e (λ x. omega (arith, x)) (λ x. omega (arith, x)) (λ x. omega (arith, x)) h) in
+          holds (result_keeps a cause (subst (IsOfResult call) put.0 h))
 
       part_of : (new.held ≡ old.held) ⊎ Holds call name old new ⊎ Loses call name old new
       part_of =
@@ -396,6 +549,11 @@ module _ (words : List (List ℕ)) (old new : ShelfTells) (a : Answer) (status :
   leaves_of (Replays p l s) taken = no_result (Replays p l s) taken (λ name h. h)
   leaves_of (Records p l model seed steps) taken = leaves_result (Records p l model seed steps) taken l refl (λ n e. e)
   leaves_of (Migrates p l o) taken = leaves_result (Migrates p l o) taken o refl (λ n e. e)
+  leaves_of (Solves p l o model budget) taken = leaves_result (Solves p l o model budget) taken o refl (λ n e. e)
+  leaves_of (Checks p l r) taken = no_result (Checks p l r) taken (λ name h. h)
+  leaves_of (Workloads n s) taken = no_result (Workloads n s) taken (λ name h. h)
+  leaves_of (Exports p l o model) taken = leaves_result (Exports p l o model) taken o refl (λ n e. e)
+  leaves_of (Imports p l r o model) taken = leaves_result (Imports p l r o model) taken o refl (λ n e. e)
 
   pub call_answers : CallAnswers words old new status j k
   call_answers = record {
@@ -423,7 +581,7 @@ known_cause call old new NoMemory files told c = inr (inr (inr refl))
 known_cause call old new (WriteFault _) files told c = inr (inr (inl refl))
 known_cause call old new a files told c = inl (subst (λ t. IsAnswerTo call t a) (gave_all files (inputs_of call) old c.1 c.0 c.2 told) c.3)
 
-known_of : (words : List (List ℕ)) (old new : ShelfTells) (a : Answer) (call : Called) (files : Files) → call_of words ≡ Some call
+pub known_of : (words : List (List ℕ)) (old new : ShelfTells) (a : Answer) (call : Called) (files : Files) → call_of words ≡ Some call
     → old.held ≡ Some files → IsCause words old new a → IsKnown call (texts_under files call) a
 unfolding IsKnown
 known_of words old new Usage call files taken told c = cc (taken, c.0)
@@ -431,7 +589,7 @@ known_of words old new NoMemory call files taken told c = inr (inr (inr refl))
 known_of words old new a call files taken told c = known_cause call old new a files told (called_now _ (call_of words) call taken c)
 
 -- an answer that isn't a limit's is the command's own
-work_of : (call : Called) (t : Texts) (a : Answer) → IsAnswerTo call t a → (status_of a ≡ 6 → ⊥) → IsWorkOf call t a
+pub work_of : (call : Called) (t : Texts) (a : Answer) → IsAnswerTo call t a → (status_of a ≡ 6 → ⊥) → IsWorkOf call t a
 work_of call t (TooLong i) f six = absurd (six refl)
 work_of call t a f six = f.1
 
@@ -444,7 +602,7 @@ module _ (call : Called) (t : Texts) (a : Answer) (status : ℕ) (j k : SinkTell
   answers_at (inr (inr (inr h))) seven eight nine = absurd (nine h)
 
   -- where the status isn't a device's fault or want of memory, the answer is that to the texts, and was put
-  plain_at : (status ≡ 7 → ⊥) → (status ≡ 8 → ⊥) → (status ≡ 9 → ⊥) → (status ≡ status_of a) × Puts j k a × IsAnswerTo call t a
+  pub plain_at : (status ≡ 7 → ⊥) → (status ≡ 8 → ⊥) → (status ≡ 9 → ⊥) → (status ≡ status_of a) × Puts j k a × IsAnswerTo call t a
   plain_at seven eight nine =
       let p = put_at a status j k says eight nine in
       (p.0, p.1, answers_at known (λ e. seven (p.0 ∙ e)) (λ e. eight (p.0 ∙ e)) (λ e. nine (p.0 ∙ e)))
@@ -481,8 +639,8 @@ module _ (call : Called) (t : Texts) (a : Answer) (status : ℕ) (j k : SinkTell
   pub status_at : (wanted : ℕ) → (IsAnswerTo call t a → status_of a ≡ wanted) → IsStatus status wanted
   status_at wanted own = known_status wanted own (said_status a status j k says) known
 
-  exactly_at : (b : Answer) → IsAnswerTo call t b → IsStatus status (status_of b)
-  exactly_at b h = status_at (status_of b) (λ answer. ap status_of (one_answer call t a b answer h))
+  pub exactly_at : (b : Answer) → IsDecided b → IsAnswerTo call t b → IsStatus status (status_of b)
+  exactly_at b decided h = status_at (status_of b) (λ answer. ap status_of (sym (one_answer call t b a decided h answer)))
 
   known_alone : (P : ℕ → Type 0) → (IsAnswerTo call t a → P (status_of a)) → P 7 → P 8 → P 9
       → ((status ≡ status_of a) × Puts j k a) ⊎ (status ≡ 8) ⊎ (status ≡ 9) → IsKnown call t a → P status
@@ -500,289 +658,3 @@ module _ (call : Called) (t : Texts) (a : Answer) (status : ℕ) (j k : SinkTell
 
   pub told_at : ToldAnswers call t status j k
   told_at = record { limit = limit_told; exactly = exactly_at }
-
-module _ (name program : List ℕ) (a : Answer) (status : ℕ) (j k : SinkTells) (says : Says a status j k) (known : IsKnown (Lists name) (program ∷ []) a) where
-  is_listed : (b : Answer) → IsListAnswer program b → status_of b ≡ 0 → (code : Code) × (b ≡ Listed code)
-  is_listed (Listed code) f h = (code, refl)
-  is_listed (ProgramRefused r) f h = absurd (omega (arith, h))
-  is_listed _ f h = absurd f
-
-  listing_at : status ≡ 0 → (code : Code) × IsCodeOf program code × Puts j k (Listed code)
-  listing_at h =
-      let w = work_at (Lists name) (program ∷ []) a status j k says known (omega (arith, h)) in
-      let e = is_listed a w.2 (w.0 ∙ h) in
-      (e.0, subst (IsListAnswer program) e.1 w.2, subst (Puts j k) e.1 w.1)
-
-  refused_at : status ≡ 3 → (r : TextFault) × IsRefusal program r × Puts j k (ProgramRefused r)
-  refused_at h =
-      let w = work_at (Lists name) (program ∷ []) a status j k says known (omega (arith, h)) in
-      let e = is_program_refused a (w.0 ∙ h) in
-      (e.0, subst (IsListAnswer program) e.1 w.2, subst (Puts j k) e.1 w.1)
-
-  list_status : (b : Answer) → IsAnswerTo (Lists name) (program ∷ []) b → (status_of b ≡ 0) ⊎ (status_of b ≡ 3) ⊎ (status_of b ≡ 6)
-  list_status (Listed code) f = inl refl
-  list_status (ProgramRefused r) f = inr (inl refl)
-  list_status (TooLong i) f = inr (inr refl)
-  list_status _ f = absurd f.1
-
-  abbrev Alone : ℕ → Type 0
-  Alone n = (n ≡ 0) ⊎ (n ≡ 3) ⊎ IsStatus n 6
-
-  alone_at : Alone status
-  alone_at =
-      alone_of (Lists name) (program ∷ []) a status j k says known Alone (λ answer. own (status_of a) (list_status a answer)) (inr (inr (inr (inl refl))))
-      (inr (inr (inr (inr (inl refl))))) (inr (inr (inr (inr (inr refl)))))
-    where
-      own : (n : ℕ) → (n ≡ 0) ⊎ (n ≡ 3) ⊎ (n ≡ 6) → Alone n
-      own n (inl h) = inl h
-      own n (inr (inl h)) = inr (inl h)
-      own n (inr (inr h)) = inr (inr (inl h))
-
-  list_answers : ListAnswers program status j k
-  list_answers = record { listing = listing_at; refused = refused_at; alone = alone_at }
-
-module _ (p l s program log schedule : List ℕ) (a : Answer) (status : ℕ) (j k : SinkTells) (says : Says a status j k)
-    (known : IsKnown (Replays p l s) (program ∷ log ∷ schedule ∷ []) a) where
-  own_at : status ≤ 5 → (status_of a ≡ status) × Puts j k a × IsReplayAnswer program log schedule a
-  own_at h = work_at (Replays p l s) (program ∷ log ∷ schedule ∷ []) a status j k says known h
-
-  is_replayed : (b : Answer) → IsReplayAnswer program log schedule b → status_of b ≤ 1 → (v : Verdict) × (b ≡ Replayed v)
-  is_replayed (Replayed v) f h = (v, refl)
-  is_replayed (ProgramRefused r) f h = absurd (omega (arith, h))
-  is_replayed (LogRefused r) f h = absurd (omega (arith, h))
-  is_replayed (ScheduleRefused n) f h = absurd (omega (arith, h))
-  is_replayed _ f h = absurd f
-
-  replayed_at : status ≤ 1 → (v : Verdict) × (verdict_status v ≡ status) × IsReplayed program log schedule v × Puts j k (Replayed v)
-  replayed_at h =
-      let w = own_at (omega (arith, h)) in
-      let e = is_replayed a w.2 (omega (arith, h, w.0)) in
-      (e.0, sym (ap status_of e.1) ∙ w.0, subst (IsReplayAnswer program log schedule) e.1 w.2, subst (Puts j k) e.1 w.1)
-
-  reproduces_at : status ≡ 0 → IsReplayed program log schedule verdict.Reproduces × Puts j k (Replayed verdict.Reproduces)
-  reproduces_at h =
-      let r = replayed_at (omega (arith, h)) in
-      let e = is_reproduces r.0 (r.1 ∙ h) in
-      (subst (IsReplayed program log schedule) e r.2, subst (λ v. Puts j k (Replayed v)) e r.3)
-
-  differs_at : status ≡ 1 → (v : Verdict) × (v ≢ verdict.Reproduces) × IsReplayed program log schedule v × Puts j k (Replayed v)
-  differs_at h =
-      let r = replayed_at (omega (arith, h)) in
-      (r.0, is_other r.0 (r.1 ∙ h), r.2, r.3)
-
-  program_at : status ≡ 3 → (r : TextFault) × IsRefusal program r × Puts j k (ProgramRefused r)
-  program_at h =
-      let w = own_at (omega (arith, h)) in
-      let e = is_program_refused a (w.0 ∙ h) in
-      (e.0, subst (IsReplayAnswer program log schedule) e.1 w.2, subst (Puts j k) e.1 w.1)
-
-  log_at : status ≡ 4 → (r : LogRefusal) × IsLogRefused program log schedule r × Puts j k (LogRefused r)
-  log_at h =
-      let w = own_at (omega (arith, h)) in
-      let e = is_log_refused a (w.0 ∙ h) in
-      (e.0, subst (IsReplayAnswer program log schedule) e.1 w.2, subst (Puts j k) e.1 w.1)
-
-  schedule_at : status ≡ 5 → (line : ℕ) × IsScheduleRefused program log schedule line × Puts j k (ScheduleRefused line)
-  schedule_at h =
-      let w = own_at (omega (arith, h)) in
-      let e = is_schedule_refused a (w.0 ∙ h) in
-      (e.0, subst (IsReplayAnswer program log schedule) e.1 w.2, subst (Puts j k) e.1 w.1)
-
-  replay_answers : ReplayAnswers program log schedule status j k
-  replay_answers = record {
-    reproduces = reproduces_at;
-    differs = differs_at;
-    refused = program_at;
-    log_refused = log_at;
-    schedule_refused = schedule_at;
-  }
-
-module _ (p l program : List ℕ) (model : Model) (seed steps : ℕ) (a : Answer) (status : ℕ) (j k : SinkTells) (says : Says a status j k)
-    (known : IsKnown (Records p l model seed steps) (program ∷ []) a) where
-  abbrev Asked : Called
-  Asked = Records p l model seed steps
-
-  -- where the status isn't a fault's or a limit's, the answer is the command's own
-  own_answer : status ≢ 6 → status ≢ 7 → status ≢ 8 → status ≢ 9 → (status_of a ≡ status) × Puts j k a × IsRecordAnswer program model seed steps a
-  own_answer six seven eight nine =
-      let w = plain_at Asked (program ∷ []) a status j k says known seven eight nine in
-      (sym w.0, w.1, work_of Asked (program ∷ []) a w.2 (λ e. six (w.0 ∙ e)))
-
-  recorded_run : (b : Answer) → IsRecordAnswer program model seed steps b → status_of b ≡ 0 → (o : Outcome) × (b ≡ Recorded o)
-  recorded_run (Recorded o) w h = (o, refl)
-  recorded_run (RunEnded e) w h = absurd (no_ending e 0 h (λ x. omega (arith, x)) (λ x. omega (arith, x)) (λ x. omega (arith, x)))
-  recorded_run (ProgramRefused r) w h = absurd (omega (arith, h))
-  recorded_run _ w h = absurd w
-
-  ended_run : (b : Answer) → IsRecordAnswer program model seed steps b → (status_of b ≡ 1) ⊎ (status_of b ≡ 10) → (e : Ending) × (b ≡ RunEnded e)
-  ended_run (RunEnded e) w h = (e, refl)
-  ended_run (Recorded o) w (inl h) = absurd (omega (arith, h))
-  ended_run (Recorded o) w (inr h) = absurd (omega (arith, h))
-  ended_run (ProgramRefused r) w (inl h) = absurd (omega (arith, h))
-  ended_run (ProgramRefused r) w (inr h) = absurd (omega (arith, h))
-  ended_run _ w h = absurd w
-
-  run_recorded_at : status ≡ 0 → (o : Outcome) × ComesTo program model seed steps o × Puts j k (Recorded o)
-  run_recorded_at h =
-      let w = own_answer (λ e. omega (arith, h, e)) (λ e. omega (arith, h, e)) (λ e. omega (arith, h, e)) (λ e. omega (arith, h, e)) in
-      let e = recorded_run a w.2 (w.0 ∙ h) in
-      (e.0, subst (IsRecordAnswer program model seed steps) e.1 w.2, subst (Puts j k) e.1 w.1)
-
-  run_finished_at : status ≡ 1 → EndsSo program model seed steps Finished × Puts j k (RunEnded Finished)
-  run_finished_at h =
-      let w = own_answer (λ e. omega (arith, h, e)) (λ e. omega (arith, h, e)) (λ e. omega (arith, h, e)) (λ e. omega (arith, h, e)) in
-      let e = ended_run a w.2 (inl (w.0 ∙ h)) in
-      let both = e.1 ∙ ap (λ x. RunEnded x) (is_finished e.0 (sym (ap status_of e.1) ∙ w.0 ∙ h)) in
-      (subst (IsRecordAnswer program model seed steps) both w.2, subst (Puts j k) both w.1)
-
-  text_refused_at : status ≡ 3 → (r : TextFault) × IsRefusal program r × Puts j k (ProgramRefused r)
-  text_refused_at h =
-      let w = own_answer (λ e. omega (arith, h, e)) (λ e. omega (arith, h, e)) (λ e. omega (arith, h, e)) (λ e. omega (arith, h, e)) in
-      let e = is_program_refused a (w.0 ∙ h) in
-      (e.0, subst (IsRecordAnswer program model seed steps) e.1 w.2, subst (Puts j k) e.1 w.1)
-
-  goes_on_at : status ≡ 10 → (moves : ℕ) × EndsSo program model seed steps (StepLimit moves) × Puts j k (RunEnded (StepLimit moves))
-  goes_on_at h =
-      let w = own_answer (λ e. omega (arith, h, e)) (λ e. omega (arith, h, e)) (λ e. omega (arith, h, e)) (λ e. omega (arith, h, e)) in
-      let e = ended_run a w.2 (inr (w.0 ∙ h)) in
-      let n = is_step_limit e.0 (sym (ap status_of e.1) ∙ w.0 ∙ h) in
-      let both = e.1 ∙ ap (λ x. RunEnded x) n.1 in
-      (n.0, subst (IsRecordAnswer program model seed steps) both w.2, subst (Puts j k) both w.1)
-
-  -- the status of an answer to a program is that of its run
-  run_status : (code : Code) → IsCodeOf program code → length program ≤ limit_of input.Program → (b : Answer) → IsAnswerTo Asked (program ∷ []) b
-      → status_of b ≡ end_status (run_of model code seed steps).end
-  run_status code is short (Recorded o) w =
-      sym (subst (λ c. end_status (run_of model c seed steps).end ≡ 0) (one_code program w.1.0 code w.1.1 is)
-      (outcome_status w.1.0 (run_of model w.1.0 seed steps) o w.1.2))
-  run_status code is short (RunEnded e) w =
-      sym (subst (λ c. end_status (run_of model c seed steps).end ≡ ending_status e) (one_code program w.1.0 code w.1.1 is)
-      (ended_status w.1.0 (run_of model w.1.0 seed steps) e w.1.2))
-  run_status code is short (ProgramRefused r) w = absurd (refused_no_code program r code w.1 is)
-  run_status code is short (TooLong i) w = absurd (not_within (inputs_of Asked) (program ∷ []) i w (short, tt))
-  run_status code is short _ w = absurd w.1
-
-  exactly_run : (code : Code) → IsCodeOf program code → length program ≤ limit_of input.Program
-      → IsStatus status (end_status (run_of model code seed steps).end)
-  exactly_run code is short = status_at Asked (program ∷ []) a status j k says known _ (run_status code is short a)
-
-  abbrev OfRecord : ℕ → Type 0
-  OfRecord n = (n ≡ 0) ⊎ (n ≡ 1) ⊎ (n ≡ 3) ⊎ (n ≡ 10) ⊎ IsStatus n 6
-
-  ending_alone : (e : Ending) → OfRecord (ending_status e)
-  ending_alone Finished = inr (inl refl)
-  ending_alone (StepLimit n) = inr (inr (inr (inl refl)))
-  ending_alone (Over which) = inr (inr (inr (inr (inl refl))))
-
-  answer_alone : (b : Answer) → IsAnswerTo Asked (program ∷ []) b → OfRecord (status_of b)
-  answer_alone (Recorded o) w = inl refl
-  answer_alone (RunEnded e) w = ending_alone e
-  answer_alone (ProgramRefused r) w = inr (inr (inl refl))
-  answer_alone (TooLong i) w = inr (inr (inr (inr (inl refl))))
-  answer_alone _ w = absurd w.1
-
-  record_alone : OfRecord status
-  record_alone =
-      alone_of Asked (program ∷ []) a status j k says known OfRecord (answer_alone a) (inr (inr (inr (inr (inr (inl refl))))))
-      (inr (inr (inr (inr (inr (inr (inl refl))))))) (inr (inr (inr (inr (inr (inr (inr refl)))))))
-
-  record_answers : RecordAnswers program model seed steps status j k
-  record_answers = record {
-    recorded = run_recorded_at;
-    finished = run_finished_at;
-    refused = text_refused_at;
-    goes_on = goes_on_at;
-    exactly = exactly_run;
-    alone = record_alone;
-  }
-
-module _ (p l o program log : List ℕ) (a : Answer) (status : ℕ) (j k : SinkTells) (says : Says a status j k)
-    (known : IsKnown (Migrates p l o) (program ∷ log ∷ []) a) where
-  abbrev Sought : Called
-  Sought = Migrates p l o
-
-  own_work : status ≤ 5 → (status_of a ≡ status) × Puts j k a × IsMigrateAnswer program log a
-  own_work h = work_at Sought (program ∷ log ∷ []) a status j k says known h
-
-  is_migrated : (b : Answer) → IsMigrateAnswer program log b → status_of b ≡ 0 → b ≡ Migrated
-  is_migrated Migrated w h = refl
-  is_migrated (Listed _) w h = absurd w.2.2.1
-  is_migrated (Replayed _) w h = absurd w.2.2.1
-  is_migrated (Recorded _) w h = absurd w.2.2.1
-  is_migrated (RunEnded _) w h = absurd w.2.2.1
-  is_migrated _ w h = absurd (omega (arith, h))
-
-  migrated_at : status ≡ 0 → (text : List ℕ) × IsMigrated program log text × Puts j k Migrated
-  migrated_at h =
-      let w = own_work (omega (arith, h)) in
-      let e = is_migrated a w.2 (w.0 ∙ h) in
-      let m = migrated_text program log (subst (IsMigrateAnswer program log) e w.2) in
-      (m.0, m.1, subst (Puts j k) e w.1)
-
-  no_program_at : status ≡ 3 → (r : TextFault) × IsRefusal program r × Puts j k (ProgramRefused r)
-  no_program_at h =
-      let w = own_work (omega (arith, h)) in
-      let e = is_program_refused a (w.0 ∙ h) in
-      (e.0, subst (IsMigrateAnswer program log) e.1 w.2, subst (Puts j k) e.1 w.1)
-
-  no_log_at : status ≡ 4 → (r : LogRefusal) × IsMigrateAnswer program log (LogRefused r) × Puts j k (LogRefused r)
-  no_log_at h =
-      let w = own_work (omega (arith, h)) in
-      let e = is_log_refused a (w.0 ∙ h) in
-      (e.0, subst (IsMigrateAnswer program log) e.1 w.2, subst (Puts j k) e.1 w.1)
-
-  exactly_migrated : (text : List ℕ) → IsMigrated program log text → length program ≤ limit_of input.Program → length log ≤ limit_of input.Log
-      → IsStatus status 0
-  exactly_migrated text is short small =
-      exactly_at Sought (program ∷ log ∷ []) a status j k says known Migrated ((short, (small, tt)), migrated_answer program log text is)
-
-  abbrev OfMigrate : ℕ → Type 0
-  OfMigrate n = (n ≡ 0) ⊎ (n ≡ 3) ⊎ (n ≡ 4) ⊎ IsStatus n 6
-
-  sought_alone : (b : Answer) → IsAnswerTo Sought (program ∷ log ∷ []) b → OfMigrate (status_of b)
-  sought_alone Migrated w = inl refl
-  sought_alone (ProgramRefused r) w = inr (inl refl)
-  sought_alone (LogRefused r) w = inr (inr (inl refl))
-  sought_alone (LogOver e) w = inr (inr (inr (inl refl)))
-  sought_alone (TooLong i) w = inr (inr (inr (inl refl)))
-  sought_alone _ w = absurd w.1.2.2.1
-
-  migrate_alone : OfMigrate status
-  migrate_alone =
-      alone_of Sought (program ∷ log ∷ []) a status j k says known OfMigrate (sought_alone a) (inr (inr (inr (inr (inl refl)))))
-      (inr (inr (inr (inr (inr (inl refl)))))) (inr (inr (inr (inr (inr (inr refl))))))
-
-  migrate_answers : MigrateAnswers program log status j k
-  migrate_answers = record {
-    migrated = migrated_at;
-    refused = no_program_at;
-    log_refused = no_log_at;
-    exactly = exactly_migrated;
-    alone = migrate_alone;
-  }
-
-command_at : (call : Called) (files : Files) (a : Answer) (status : ℕ) (j k : SinkTells) → Says a status j k
-    → IsKnown call (texts_under files call) a → CommandAnswers call files status j k
-command_at (Lists p) files a status j k says known = list_answers p (bytes_at files p) a status j k says known
-command_at (Replays p l s) files a status j k says known =
-    replay_answers p l s (bytes_at files p) (bytes_at files l) (bytes_at files s) a status j k says known
-command_at (Records p l model seed steps) files a status j k says known = record_answers p l (bytes_at files p) model seed steps a status j k says known
-command_at (Migrates p l o) files a status j k says known = migrate_answers p l o (bytes_at files p) (bytes_at files l) a status j k says known
-
-if_told : (o : Option Called) (held : Option Files) (P : Called → Files → Type 0)
-    → ((call : Called) (files : Files) → o ≡ Some call → held ≡ Some files → P call files) → IfSome o (λ call. IfSome held (λ files. P call files))
-if_told None held P h = tt
-if_told (Some call) None P h = tt
-if_told (Some call) (Some files) P h = h call files refl refl
-
-module _ (words : List (List ℕ)) (old new : ShelfTells) (a : Answer) (status : ℕ) (j k : SinkTells) (cause : IsCause words old new a)
-    (says : Says a status j k) where
-  pub told_answers : IfTold words old.held (λ call files. ToldAnswers call (texts_under files call) status j k)
-  told_answers =
-      if_told (call_of words) old.held (λ call files. ToldAnswers call (texts_under files call) status j k)
-      (λ call files taken told. told_at call (texts_under files call) a status j k says (known_of words old new a call files taken told cause))
-
-  pub command_answers : IfTold words old.held (λ call files. CommandAnswers call files status j k)
-  command_answers =
-      if_told (call_of words) old.held (λ call files. CommandAnswers call files status j k)
-      (λ call files taken told. command_at call files a status j k says (known_of words old new a call files taken told cause))

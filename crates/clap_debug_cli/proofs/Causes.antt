@@ -1,5 +1,12 @@
 -- From what a command answers to what it was given to the cause of that answer.
-use Rattle.std.proofs.Common.{◌∙◌, refl, ap, sym, subst, ℕ, List}
+use Rattle.std.proofs.Common.{◌∙◌, refl, ap, sym, subst, ℕ, List, Option}
+use Rattle.tc_base.specs.Logs.{Log}
+use Rattle.tc_base.specs.declared.model.Model.{Model}
+use Rattle.tc_parser.specs.declared.fault.TextFault.{TextFault}
+use Rattle.path_walk.specs.declared.fault.WalkFault.TheVariants as walk
+use Rattle.clap_system.specs.Faults.{IsBuildFault}
+use Rattle.clap_system.specs.declared.fault.BuildFault.{BuildFault}
+use Rattle.clap_system.specs.declared.fault.BuildFault.TheVariants as build
 use Rattle.path_log.specs.Texts.{StoredLog}
 use Rattle.tc_code.specs.Code.{Code}
 use Rattle.tc_compile.specs.Programs.{IsCodeOf, IsWhyNoCode}
@@ -7,11 +14,12 @@ use Rattle.tc_compile.specs.declared.fault.CompileFault.{CompileFault}
 use Rattle.tc_compile.specs.declared.fault.CompileFault.TheVariants as compile
 use Rattle.tc_io.specs.Outside.{ShelfTells}
 use Rattle.clap_debug_words.specs.Calls.{Called}
-use Rattle.clap_debug_cli.specs.Causes.{IsCauseOf, IsListAnswer, IsMigrateAnswer, IsOutput, IsReplayAnswer, IsResult, IsWorkOf, FailsToKeep}
-use Rattle.clap_debug_cli.specs.Files.{IsLog, IsSchedule, Schedule}
+use Rattle.clap_debug_cli.specs.Causes.{IsCauseOf, IsListAnswer, IsLimitAnswer, IsOutput, IsReplayAnswer, IsResult, IsSearchAnswer, IsSolveAnswer}
+use Rattle.clap_debug_cli.specs.Causes.{IsStoredAnswer, IsTextsAnswer, IsWorkOf, FailsToKeep}
+use Rattle.clap_debug_cli.specs.Files.{IsLog, IsOfOther, IsSchedule, Schedule}
 use Rattle.clap_debug_cli.specs.Inputs.{Texts, AreWithin, GaveAll, inputs_of}
-use Rattle.clap_debug_cli.specs.helpers.Faults.{compile_answer}
-use Rattle.clap_debug_cli.specs.helpers.Refused.{IsWhyOther, IsWhyUnkept, IsWhyUnread, Refuses}
+use Rattle.clap_debug_cli.specs.helpers.Faults.{build_answer, compile_answer}
+use Rattle.clap_debug_cli.specs.helpers.Refused.{IsWhyOther, IsWhyUnbuilt, IsWhyUnkept, IsWhyUnread, Refuses}
 use Rattle.clap_debug_cli.specs.declared.answer.Answer.{Answer}
 use Rattle.clap_debug_cli.specs.declared.answer.Answer.TheVariants.{
   Usage,
@@ -19,12 +27,26 @@ use Rattle.clap_debug_cli.specs.declared.answer.Answer.TheVariants.{
   TooLong,
   ProgramRefused,
   LogRefused,
+  ScheduleRefused,
+  Listed,
+  Replayed,
   Recorded,
+  RunEnded,
+  LogOver,
   Migrated,
+  RefutationRefused,
+  Solved,
+  Accepted,
+  LineRefused,
+  Worked,
+  AnswerRefused,
+  Exported,
+  Imported,
+  ClauseFalse,
   WriteFault,
   NoMemory,
 }
-use Rattle.clap_debug_cli.specs.declared.answer.LogRefusal.TheVariants.{Form, OtherProgram}
+use Rattle.clap_debug_cli.specs.declared.answer.LogRefusal.TheVariants.{Form, OtherProgram, Unfit}
 use Rattle.clap_debug_cli.proofs.Fetches.{given_still}
 
 -- a text without a code is refused so
@@ -39,11 +61,64 @@ unread_replay program log schedule (LogRefused (Form offset)) h = h
 unread_replay program log schedule NoMemory h = h
 unread_replay program log schedule _ h = absurd h
 
-pub unread_migrate : (program log : List ℕ) (a : Answer) → IsWhyUnread program log a → Refuses (IsMigrateAnswer program log) a
-unread_migrate program log (ProgramRefused r) h = h
-unread_migrate program log (LogRefused (Form offset)) h = h
-unread_migrate program log NoMemory h = h
-unread_migrate program log _ h = absurd h
+module _ (program log : List ℕ) (P : Code → StoredLog → Answer → Type 0) where
+  pub unread_texts : (a : Answer) → IsWhyUnread program log a → Refuses (IsTextsAnswer program log P) a
+  unread_texts (ProgramRefused r) h = h
+  unread_texts (LogRefused (Form offset)) h = h
+  unread_texts NoMemory h = h
+  unread_texts _ h = absurd h
+
+  -- and so is what is refused of the log of a code
+  pub refused_texts : (code : Code) (run : StoredLog) → IsCodeOf program code → IsLog log run → ((offset : ℕ) → P code run (LogRefused (Form offset)) → ⊥)
+      → ((r : TextFault) → P code run (ProgramRefused r) → ⊥) → (a : Answer) → Refuses (P code run) a → Refuses (IsTextsAnswer program log P) a
+  refused_texts code run f g no_form no_program (LogRefused (Form offset)) h = absurd (no_form offset h)
+  refused_texts code run f g no_form no_program (ProgramRefused r) h = absurd (no_program r h)
+  refused_texts code run f g no_form no_program NoMemory h = tt
+  refused_texts code run f g no_form no_program (LogRefused OtherProgram) h = (code, f, (run, g, h))
+  refused_texts code run f g no_form no_program (LogRefused (Unfit n m)) h = (code, f, (run, g, h))
+  refused_texts code run f g no_form no_program (ScheduleRefused line) h = (code, f, (run, g, h))
+  refused_texts code run f g no_form no_program (Listed c) h = (code, f, (run, g, h))
+  refused_texts code run f g no_form no_program (Replayed v) h = (code, f, (run, g, h))
+  refused_texts code run f g no_form no_program (RunEnded e) h = (code, f, (run, g, h))
+  refused_texts code run f g no_form no_program (LogOver e) h = (code, f, (run, g, h))
+  refused_texts code run f g no_form no_program (RefutationRefused line) h = (code, f, (run, g, h))
+  refused_texts code run f g no_form no_program (Accepted v) h = (code, f, (run, g, h))
+  refused_texts code run f g no_form no_program (LineRefused line) h = (code, f, (run, g, h))
+  refused_texts code run f g no_form no_program (AnswerRefused line) h = (code, f, (run, g, h))
+  refused_texts code run f g no_form no_program (ClauseFalse number) h = (code, f, (run, g, h))
+  refused_texts code run f g no_form no_program _ h = absurd h
+
+-- and a log of another program, or one that has no system
+pub other_stored : (program : List ℕ) (run : StoredLog) (P : Answer → Type 0) (a : Answer) → IsWhyOther program run a → Refuses (IsStoredAnswer program run P) a
+other_stored program run P (LogRefused OtherProgram) h = h
+other_stored program run P _ h = absurd h
+
+pub unbuilt_stored : (program : List ℕ) (code : Code) (run : StoredLog) (P : Answer → Type 0) → (IsOfOther program run → ⊥) → (a : Answer)
+    → IsWhyUnbuilt code run.log a → Refuses (IsStoredAnswer program run (IsLimitAnswer code run.log P)) a
+unbuilt_stored program code run P same NoMemory h = tt
+unbuilt_stored program code run P same (LogOver e) h = (same, h)
+unbuilt_stored program code run P same (LogRefused (Unfit n m)) h = (same, h)
+unbuilt_stored program code run P same _ h = absurd h
+
+module _ (program log : List ℕ) (model : Option Model) (budget : ℕ) (code : Code) (run : StoredLog) (f : IsCodeOf program code) (g : IsLog log run) where
+  abbrev Searches : Code → StoredLog → Answer → Type 0
+  Searches c r = IsStoredAnswer program r (IsLimitAnswer c r.log (IsSearchAnswer c r.log model budget))
+
+  refused_solve : (a : Answer) → Refuses (Searches code run) a → Refuses (IsSolveAnswer program log model budget) a
+  refused_solve a h = refused_texts program log Searches code run f g (λ offset x. x.1.1) (λ r x. x.1.1) a h
+
+  pub other_solve : (a : Answer) → IsWhyOther program run a → Refuses (IsSolveAnswer program log model budget) a
+  other_solve a h = refused_solve a (other_stored program run (IsLimitAnswer code run.log (IsSearchAnswer code run.log model budget)) a h)
+
+  pub unbuilt_solve : (IsOfOther program run → ⊥) → (a : Answer) → IsWhyUnbuilt code run.log a → Refuses (IsSolveAnswer program log model budget) a
+  unbuilt_solve same a h = refused_solve a (unbuilt_stored program code run (IsSearchAnswer code run.log model budget) same a h)
+
+-- a fault of the building of a system, as it is answered
+pub unbuilt_answer : (code : Code) (log : Log) (f : BuildFault) → IsBuildFault code log f → IsWhyUnbuilt code log (build_answer f)
+unbuilt_answer code log (build.Limit which n most) h = (h.0, refl, h.2)
+unbuilt_answer code log (build.Walk (walk.Unfit n m)) h = h
+unbuilt_answer code log (build.Walk walk.Memory) h = absurd h
+unbuilt_answer code log build.Memory h = tt
 
 -- and so is a log of another program, where all is of its form
 pub other_replay : (program log schedule : List ℕ) (code : Code) (run : StoredLog) (plan : Schedule) → IsCodeOf program code → IsLog log run
@@ -57,6 +132,10 @@ module _ (call : Called) (t : Texts) (old s : ShelfTells) (gave : GaveAll (input
   work_cause NoMemory h = given_still (inputs_of call) old s t gave
   work_cause (Recorded _) h = absurd h
   work_cause Migrated h = absurd h
+  work_cause (Solved _) h = absurd h
+  work_cause (Worked _) h = absurd h
+  work_cause (Exported _) h = absurd h
+  work_cause (Imported _) h = absurd h
   work_cause Usage h = absurd h
   work_cause (ReadFault _) h = absurd h
   work_cause (TooLong _) h = absurd h

@@ -1,10 +1,12 @@
 -- From the fetch of one input to the fetches of all, and from what the shelf gave to what it tells.
-use Rattle.std.proofs.Common.{arith, ◌≡◌, ◌∙◌, refl, ap, ap₂, subst, inl, inr, ℕ, ◌<◌, ◌≤◌, List, [], ◌∷◌, length, map, Some}
+use Rattle.std.proofs.Common.{arith, ◌≡◌, ◌∙◌, refl, ap, ap₂, sym, subst, inl, inr, ℕ, ◌<◌, List, [], ◌∷◌, length, map, Some}
 use Rattle.std.specs.Prelude.{IfSome}
 use Rattle.tc_io.specs.Outside.{Files, Reading, ShelfTells, bytes_at, counted_on}
 use Rattle.clap_debug_words.specs.Calls.{Called}
 use Rattle.clap_debug_cli.specs.Causes.{HeldStill, IsCauseOf}
-use Rattle.clap_debug_cli.specs.Inputs.{Wanted, Texts, inputs_of, limit_of, GaveInput, GaveAll, FailsToRead, PassesLimit, IsTooLong, AreWithin}
+use Rattle.clap_debug_cli.specs.Inputs.{Wanted, Whole, InPieces, Texts, name_of, inputs_of, limit_of}
+use Rattle.clap_debug_cli.specs.Inputs.{GaveInput, FailedInput, PassedLimit, IsWithinLimit, IsPastLimit}
+use Rattle.clap_debug_cli.specs.Inputs.{GaveAll, FailsToRead, PassesLimit, IsTooLong, AreWithin}
 use Rattle.clap_debug_cli.specs.helpers.Refused.{IsWhyMissing}
 use Rattle.clap_debug_cli.specs.declared.answer.Answer.{Answer}
 use Rattle.clap_debug_cli.specs.declared.answer.Answer.TheVariants.{ReadFault, TooLong, NoMemory}
@@ -16,6 +18,22 @@ IsWhyNone ws old new (ReadFault name) = FailsToRead ws old new name
 IsWhyNone ws old new (TooLong i) = PassesLimit ws old new i
 IsWhyNone ws old new NoMemory = HeldStill old new
 IsWhyNone ws old new _ = ⊥
+
+-- a shelf that gave an input holds what it held, and counted no fault
+pub gave_still : (w : Wanted) (old new : ShelfTells) (bytes : List ℕ) → GaveInput w old new bytes → HeldStill old new
+gave_still (Whole i name) old new bytes g = (ap (λ x. x.held) g.1, ap (λ x. x.faults) g.1)
+gave_still (InPieces name) old new bytes g = (ap (λ x. x.held) g.0, ap (λ x. x.faults) g.0)
+
+-- one that failed to give it holds what it held, counted one fault, and tells of that read
+input_failed : (w : Wanted) (old new : ShelfTells) → FailedInput w old new
+    → (new.held ≡ old.held) × (new.faults ≡ counted_on old.faults 1) × (new.last_fault ≡ Some (Reading (name_of w)))
+input_failed (Whole i name) old new f = (ap (λ x. x.held) f.2, ap (λ x. x.faults) f.2, ap (λ x. x.last_fault) f.2)
+input_failed (InPieces name) old new f = (ap (λ x. x.held) f.2, ap (λ x. x.faults) f.2, ap (λ x. x.last_fault) f.2)
+
+-- and one that has one too long holds what it held, and counted no fault
+input_passed : (w : Wanted) (old new : ShelfTells) (i : Input) → PassedLimit w old new i → HeldStill old new
+input_passed (Whole j name) old new i p = (ap (λ x. x.held) p.1.0, ap (λ x. x.faults) p.1.0)
+input_passed (InPieces name) old new i p = absurd p
 
 -- why the first couldn't be had is why not all could
 pub missing_first : (w : Wanted) (ws : List Wanted) (old new : ShelfTells) (a : Answer) → IsWhyMissing w old new a → IsWhyNone (w ∷ ws) old new a
@@ -29,7 +47,7 @@ pub missing_later : (w : Wanted) (ws : List Wanted) (old s new : ShelfTells) (by
     → IsWhyNone (w ∷ ws) old new a
 missing_later w ws old s new bytes (ReadFault name) g h = inr (s, bytes, g, h)
 missing_later w ws old s new bytes (TooLong i) g h = inr (s, bytes, g, h)
-missing_later w ws old s new bytes NoMemory g h = (h.0 ∙ ap (λ x. x.held) g.1, h.1 ∙ ap (λ x. x.faults) g.1)
+missing_later w ws old s new bytes NoMemory g h = let still = gave_still w old s bytes g in (h.0 ∙ still.0, h.1 ∙ still.1)
 missing_later w ws old s new bytes _ g h = absurd h
 
 -- and then it is the cause of the answer that says so
@@ -46,68 +64,87 @@ given_still [] old s (t ∷ ts) g = absurd g
 given_still (w ∷ ws) old s [] g = absurd g
 given_still (w ∷ ws) old s (t ∷ ts) g =
     let rest = given_still ws g.0 s ts g.2 in
-    (rest.0 ∙ ap (λ x. x.held) g.1.1, rest.1 ∙ ap (λ x. x.faults) g.1.1)
+    let first = gave_still w old g.0 t g.1 in
+    (rest.0 ∙ first.0, rest.1 ∙ first.1)
 
 -- one that failed to give one holds what it held, counted one fault, and tells of that read
 pub failed_still : (ws : List Wanted) (old new : ShelfTells) (name : List ℕ) → FailsToRead ws old new name
     → (new.held ≡ old.held) × (new.faults ≡ counted_on old.faults 1) × (new.last_fault ≡ Some (Reading name))
 failed_still [] old new name f = absurd f
-failed_still (w ∷ ws) old new name (inl f) = (ap (λ x. x.held) f.1.2, ap (λ x. x.faults) f.1.2, ap (λ x. x.last_fault) f.1.2)
+failed_still (w ∷ ws) old new name (inl f) =
+    let one = input_failed w old new f.1 in
+    (one.0, one.1, one.2 ∙ ap (λ n. Some (Reading n)) (sym f.0))
 failed_still (w ∷ ws) old new name (inr f) =
     let rest = failed_still ws f.0 new name f.3 in
-    (rest.0 ∙ ap (λ x. x.held) f.2.1, rest.1 ∙ ap (λ x. counted_on x.faults 1) f.2.1, rest.2)
+    let first = gave_still w old f.0 f.1 f.2 in
+    (rest.0 ∙ first.0, rest.1 ∙ ap (λ n. counted_on n 1) first.1, rest.2)
 
 -- and one that has one too long holds what it held, and counted no fault
 pub passed_still : (ws : List Wanted) (old new : ShelfTells) (i : Input) → PassesLimit ws old new i → HeldStill old new
 passed_still [] old new i p = absurd p
-passed_still (w ∷ ws) old new i (inl p) = (ap (λ x. x.held) p.1.0, ap (λ x. x.faults) p.1.0)
+passed_still (w ∷ ws) old new i (inl p) = input_passed w old new i p
 passed_still (w ∷ ws) old new i (inr p) =
     let rest = passed_still ws p.0 new i p.3 in
-    (rest.0 ∙ ap (λ x. x.held) p.2.1, rest.1 ∙ ap (λ x. x.faults) p.2.1)
+    let first = gave_still w old p.0 p.1 p.2 in
+    (rest.0 ∙ first.0, rest.1 ∙ first.1)
 
--- a shelf that gave bytes holds what it held
-gave_held : (w : Wanted) (old new : ShelfTells) (bytes : List ℕ) → GaveInput w old new bytes → new.held ≡ old.held
-gave_held w old new bytes g = ap (λ s. s.held) g.1
+-- where the shelf tells what it holds, these are the bytes of the name
+gave_told : (files : Files) (w : Wanted) (old new : ShelfTells) (bytes : List ℕ) → GaveInput w old new bytes → old.held ≡ Some files
+    → bytes ≡ bytes_at files (name_of w)
+gave_told files (Whole i name) old new bytes g told = subst (λ o. IfSome o (λ f. bytes ≡ bytes_at f name)) told g.2
+gave_told files (InPieces name) old new bytes g told = subst (λ o. IfSome o (λ f. bytes ≡ bytes_at f name)) told g.1
 
--- where it tells what it holds, these are the bytes of the name
-gave_told : (files : Files) (w : Wanted) (old new : ShelfTells) (bytes : List ℕ) → GaveInput w old new bytes → old.held ≡ Some files →
-    bytes ≡ bytes_at files w.name
-gave_told files w old new bytes g told = subst (λ o. IfSome o (λ f. bytes ≡ bytes_at f w.name)) told g.2
+-- it isn't longer than its limit
+gave_within : (w : Wanted) (old new : ShelfTells) (bytes : List ℕ) → GaveInput w old new bytes → IsWithinLimit w bytes
+gave_within (Whole i name) old new bytes g = g.0
+gave_within (InPieces name) old new bytes g = tt
+
+passed_told : (files : Files) (w : Wanted) (old new : ShelfTells) (i : Input) → PassedLimit w old new i → old.held ≡ Some files
+    → IsPastLimit w (bytes_at files (name_of w)) i
+passed_told files (Whole j name) old new i p told = (p.0, subst (λ o. IfSome o (λ f. limit_of j < length (bytes_at f name))) told p.1.1)
+passed_told files (InPieces name) old new i p told = absurd p
+
+past_not_within : (w : Wanted) (text : List ℕ) (i : Input) → IsPastLimit w text i → IsWithinLimit w text → ⊥
+past_not_within (Whole j name) text i p h = omega (arith, p.1, h)
+past_not_within (InPieces name) text i p h = p
+
+one_past : (w : Wanted) (text : List ℕ) (i j : Input) → IsPastLimit w text i → IsPastLimit w text j → i ≡ j
+one_past (Whole k name) text i j p q = p.0 ∙ sym q.0
+one_past (InPieces name) text i j p q = absurd p
 
 -- the bytes of all inputs are those that the shelf tells
 pub gave_all : (files : Files) (ws : List Wanted) (old new : ShelfTells) (t : Texts) → GaveAll ws old new t → old.held ≡ Some files
-    → t ≡ map (λ w. bytes_at files w.name) ws
+    → t ≡ map (λ w. bytes_at files (name_of w)) ws
 gave_all files [] old new [] g told = refl
 gave_all files [] old new (t ∷ ts) g told = absurd g
 gave_all files (w ∷ ws) old new [] g told = absurd g
 gave_all files (w ∷ ws) old new (t ∷ ts) g told =
     ap₂ (λ (x : List ℕ) (xs : Texts). x ∷ xs) (gave_told files w old g.0 t g.1 told)
-    (gave_all files ws g.0 new ts g.2 (gave_held w old g.0 t g.1 ∙ told))
+    (gave_all files ws g.0 new ts g.2 ((gave_still w old g.0 t g.1).0 ∙ told))
 
 -- an input that passes its limit is the first of those that the shelf tells
 pub passes_told : (files : Files) (ws : List Wanted) (old new : ShelfTells) (i : Input) → PassesLimit ws old new i → old.held ≡ Some files
-    → IsTooLong ws (map (λ w. bytes_at files w.name) ws) i
+    → IsTooLong ws (map (λ w. bytes_at files (name_of w)) ws) i
 passes_told files [] old new i p told = absurd p
-passes_told files (w ∷ ws) old new i (inl p) told =
-    inl (p.0, subst (λ o. IfSome o (λ f. limit_of w.input < length (bytes_at f w.name))) told p.1.1)
+passes_told files (w ∷ ws) old new i (inl p) told = inl (passed_told files w old new i p told)
 passes_told files (w ∷ ws) old new i (inr p) told =
     inr (
-      subst (λ b. length b ≤ limit_of w.input) (gave_told files w old p.0 p.1 p.2 told) p.2.0,
-      passes_told files ws p.0 new i p.3 (gave_held w old p.0 p.1 p.2 ∙ told),
+      subst (IsWithinLimit w) (gave_told files w old p.0 p.1 p.2 told) (gave_within w old p.0 p.1 p.2),
+      passes_told files ws p.0 new i p.3 ((gave_still w old p.0 p.1 p.2).0 ∙ told),
     )
 
 -- an input that passes its limit isn't within it
 pub not_within : (ws : List Wanted) (ts : Texts) (i : Input) → IsTooLong ws ts i → AreWithin ws ts → ⊥
 not_within [] ts i f h = f
 not_within (w ∷ ws) [] i f h = f
-not_within (w ∷ ws) (t ∷ ts) i (inl f) h = omega (arith, f.1, h.0)
+not_within (w ∷ ws) (t ∷ ts) i (inl f) h = past_not_within w t i f h.0
 not_within (w ∷ ws) (t ∷ ts) i (inr f) h = not_within ws ts i f.1 h.1
 
 -- at most one input is the first that passes its limit
 pub one_too_long : (ws : List Wanted) (ts : Texts) (i j : Input) → IsTooLong ws ts i → IsTooLong ws ts j → i ≡ j
 one_too_long [] ts i j f g = absurd f
 one_too_long (w ∷ ws) [] i j f g = absurd f
-one_too_long (w ∷ ws) (t ∷ ts) i j (inl f) (inl g) = cc
-one_too_long (w ∷ ws) (t ∷ ts) i j (inl f) (inr g) = absurd (omega (arith, f.1, g.0))
-one_too_long (w ∷ ws) (t ∷ ts) i j (inr f) (inl g) = absurd (omega (arith, f.0, g.1))
+one_too_long (w ∷ ws) (t ∷ ts) i j (inl f) (inl g) = one_past w t i j f g
+one_too_long (w ∷ ws) (t ∷ ts) i j (inl f) (inr g) = absurd (past_not_within w t i f g.0)
+one_too_long (w ∷ ws) (t ∷ ts) i j (inr f) (inl g) = absurd (past_not_within w t j g f.0)
 one_too_long (w ∷ ws) (t ∷ ts) i j (inr f) (inr g) = one_too_long ws ts i j f.1 g.1

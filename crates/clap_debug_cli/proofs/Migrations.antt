@@ -12,7 +12,7 @@ use Rattle.sha2.proofs.Facts256.{length-sha256}
 use Rattle.tc_base.specs.Logs.{Log, ThreadPath}
 use Rattle.path_log.specs.Texts.{StoredLog, is_digest, log_text}
 use Rattle.tc_record.specs.Logged.{is_small, most_log_bytes}
-use Rattle.tc_record.specs.declared.end.Which.TheVariants.{Threads, Depth}
+use Rattle.clap_system.specs.declared.fault.Which.TheVariants.{Threads, Depth}
 use Rattle.tc_record.proofs.Sizes.{recorded_size}
 use Rattle.clap_debug_cli.specs.declared.answer.Answer.TheVariants.{Migrated}
 use Rattle.clap_debug_cli.specs.Causes.{IsMigrateAnswer}

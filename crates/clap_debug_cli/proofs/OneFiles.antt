@@ -1,11 +1,20 @@
--- Bytes are one log and one schedule at most, or break the form of each at one place.
-use Rattle.std.proofs.Common.{◌≡◌, ◌∙◌, ℕ, List, ap, sym, subst}
+-- Bytes are one log, one schedule and one refutation at most, or break the form of each at one place.
+use Rattle.std.proofs.Common.{◌≡◌, ◌∙◌, ◌+◌, ℕ, false, List, [], length, ne_eqb, arith, Some, None, ap, ap₂, sym, subst}
+use Rattle.std.specs.Prelude.{nat_eq, not, ◌||◌, if◌then◌else◌}
+use Rattle.std.proofs.lemmas.Option.{same_Some}
+use Rattle.tc_base.specs.Buffers.{is_nil}
+use Rattle.tc_base.specs.declared.model.Model.{Model}
+use Rattle.refute_check.specs.Laws.{whole_lines}
+use Rattle.refute_check.specs.Reading.{Reads, beginning, first_breach}
+use Rattle.refute_check.specs.declared.head.Head.{Head}
+use Rattle.refute_check.specs.declared.line.Line.{Line}
+use Rattle.refute_check.proofs.Wholes.{reads-agree, text-is-read, text-has-one-value}
 use Rattle.path_log.specs.Faults.{BreaksAt as LogBreaksAt}
 use Rattle.path_log.specs.Texts.{StoredLog}
 use Rattle.path_log.proofs.Logs as logs
 use Rattle.schedule_file.specs.Faults.{BreaksAt as ScheduleBreaksAt}
 use Rattle.schedule_file.proofs.Schedules as schedules
-use Rattle.clap_debug_cli.specs.Files.{IsLog, Schedule, IsSchedule}
+use Rattle.clap_debug_cli.specs.Files.{IsLog, Schedule, IsSchedule, IsRefutation, IsBrokenAt, first_broken, head_of}
 
 pub one_log : (bytes : List ℕ) (l m : StoredLog) → IsLog bytes l → IsLog bytes m → l ≡ m
 one_log bytes l m f g = logs.one_log l m f.has_text g.has_text (sym f.text ∙ g.text)
@@ -22,3 +31,27 @@ one_schedule bytes s t f g =
 
 pub schedule_or_fault : (bytes : List ℕ) (s : Schedule) (line : ℕ) → IsSchedule bytes s → ScheduleBreaksAt bytes line → ⊥
 schedule_or_fault bytes s line f breaks = schedules.schedule_or_fault bytes s.model s.moves line f.have_text f.text breaks
+
+pub one_refutation : (bytes : List ℕ) (m n : Model) (ls ks : List Line) → IsRefutation bytes m ls → IsRefutation bytes n ks → (m ≡ n) × (ls ≡ ks)
+one_refutation bytes m n ls ks f g =
+    let same = text-has-one-value (head_of m) (head_of n) ls ks f.whole g.whole (sym f.text ∙ g.text) in
+    (ap (λ (h : Head). h.model) same.0, same.1)
+
+pub one_broken : (bytes : List ℕ) (m n : ℕ) → IsBrokenAt bytes m → IsBrokenAt bytes n → m ≡ n
+one_broken bytes m n f g =
+    let same = reads-agree bytes beginning f.2.0 g.2.0 f.0 g.0 f.2.1 g.2.1 in
+    let broken = sym f.2.2 ∙ ap first_breach same.1 ∙ g.2.2 in
+    same_Some m n (sym f.3 ∙ ap₂ first_broken same.0 broken ∙ g.3)
+
+pub refutation_or_fault : (bytes : List ℕ) (m : Model) (ls : List Line) (n : ℕ) → IsRefutation bytes m ls → IsBrokenAt bytes n → ⊥
+refutation_or_fault bytes m ls n f g =
+    let read = subst (λ t. Reads beginning t (whole_lines (head_of m) ls) (record { unfinished = []; line = length ls + 2; fault = None })) (sym f.text)
+    (text-is-read (head_of m) ls f.whole) in
+    let same = reads-agree bytes beginning g.2.0 (record { unfinished = []; line = length ls + 2; fault = None }) g.0 (whole_lines (head_of m) ls) g.2.1 read in
+    let later : nat_eq (length ls + 2) 1 ≡ false = ne_eqb _ _ (λ e. omega (arith, e)) in
+    let unbroken : g.1 ≡ None =
+    sym g.2.2 ∙ ap first_breach same.1 ∙ ap (λ b. if b || not (is_nil {A = ℕ} []) then Some (length ls + 2) else None) later in
+    none_some n (sym (ap₂ first_broken same.0 unbroken) ∙ g.3)
+  where
+    none_some : (k : ℕ) → None ≡ Some k → ⊥
+    none_some k e = cc

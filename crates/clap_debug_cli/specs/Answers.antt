@@ -1,5 +1,5 @@
 -- What is answered: the line and the status of each answer.
-use Rattle.std.specs.Prelude.{ℕ, ◌+◌, List, ◌++◌, codes}
+use Rattle.std.specs.Prelude.{ℕ, ◌+◌, List, ◌++◌, length, codes, if◌then◌else◌}
 use Rattle.std.specs.Fmt.{decimal}
 use Rattle.tc_base.specs.Names.{name_text}
 use Rattle.tc_code.specs.Listing.{listing_of}
@@ -9,9 +9,19 @@ use Rattle.tc_parser.specs.Faults.{text_fault_text}
 use Rattle.tc_record.specs.Ends.{limit_of as most_of}
 use Rattle.tc_record.specs.declared.end.Which.{Which}
 use Rattle.tc_record.specs.declared.end.Which.TheVariants.{Threads, Depth, Steps}
+use Rattle.clap_system.specs.Faults.{limit_of as most_in}
+use Rattle.clap_system.specs.declared.fault.Which.{Which as WhichInLog}
+use Rattle.clap_system.specs.declared.fault.Which.TheVariants as in_log
+use Rattle.refute_check.specs.declared.verdict.Checked.{Checked}
+use Rattle.refute_check.specs.declared.verdict.Checked.TheVariants.{Closed, Open}
+use Rattle.clap_solve.specs.declared.answer.Answer.{Answer as Found}
+use Rattle.clap_solve.specs.declared.answer.Answer.TheVariants as found
 use Rattle.schedule_replay.specs.declared.verdict.Verdict.{Verdict}
+use Rattle.schedule_file.specs.declared.schedule.Schedule.{Schedule}
+use Rattle.cnf_core.specs.Clauses.{Formula}
 use Rattle.schedule_replay.specs.declared.verdict.Verdict.TheVariants as verdict
 use Rattle.clap_debug_cli.specs.Inputs.{limit_of, input_text}
+use Rattle.clap_debug_cli.specs.Worked.{has_spent}
 use Rattle.clap_debug_cli.specs.declared.answer.Answer.{Answer}
 use Rattle.clap_debug_cli.specs.declared.answer.Answer.TheVariants.{
   Usage,
@@ -26,6 +36,15 @@ use Rattle.clap_debug_cli.specs.declared.answer.Answer.TheVariants.{
   RunEnded,
   LogOver,
   Migrated,
+  RefutationRefused,
+  Solved,
+  Accepted,
+  LineRefused,
+  Worked,
+  AnswerRefused,
+  Exported,
+  Imported,
+  ClauseFalse,
   WriteFault,
   NoMemory,
 }
@@ -34,6 +53,10 @@ use Rattle.clap_debug_cli.specs.declared.answer.Ending.TheVariants.{Finished, St
 use Rattle.clap_debug_cli.specs.declared.answer.Failure.{Failure}
 use Rattle.clap_debug_cli.specs.declared.answer.Outcome.{Outcome}
 use Rattle.clap_debug_cli.specs.declared.answer.Outcome.TheVariants.{Failed, Deadlock}
+use Rattle.clap_debug_cli.specs.declared.answer.RunEnd.{RunEnd}
+use Rattle.clap_debug_cli.specs.declared.answer.RunEnd.TheVariants as ran
+use Rattle.clap_debug_cli.specs.declared.answer.Solution.{Solution}
+use Rattle.clap_debug_cli.specs.declared.answer.Work.{Work}
 use Rattle.clap_debug_cli.specs.declared.answer.LogRefusal.{LogRefusal}
 use Rattle.clap_debug_cli.specs.declared.answer.LogRefusal.TheVariants.{Form, OtherProgram, Unfit}
 
@@ -51,10 +74,16 @@ which_text Threads = codes "threads"
 which_text Depth = codes "depth"
 which_text Steps = codes "steps"
 
+-- what there is a limit of in a log
+abbrev pub excess_text : WhichInLog → List ℕ
+excess_text in_log.Threads = codes "threads"
+excess_text in_log.Depth = codes "depth"
+excess_text in_log.Events = codes "events"
+excess_text in_log.Operators = codes "operators"
+
 -- there are so many of these, which are too many
-abbrev pub over_line : Which → ℕ → List ℕ
-over_line which number = codes "limit " ++ (which_text which ++
-    (codes " " ++ (decimal number ++ (codes " of " ++ (decimal (most_of which) ++ codes "\n")))))
+abbrev pub over_line : (what : List ℕ) → (number most : ℕ) → List ℕ
+over_line what number most = codes "limit " ++ (what ++ (codes " " ++ (decimal number ++ (codes " of " ++ (decimal most ++ codes "\n")))))
 
 abbrev pub failure_line : Failure → List ℕ
 failure_line f = codes "failed " ++ (name_text f.name ++ (codes " line " ++ (decimal f.line ++ (codes " after " ++ (decimal f.moves ++ codes " moves\n")))))
@@ -66,7 +95,46 @@ outcome_line (Deadlock moves) = codes "deadlock after " ++ (decimal moves ++ cod
 abbrev pub ending_line : Ending → List ℕ
 ending_line Finished = codes "finished\n"
 ending_line (StepLimit moves) = codes "no failure in " ++ (decimal moves ++ codes " moves\n")
-ending_line (Over which) = over_line which (most_of which + 1)
+ending_line (Over which) = over_line (which_text which) (most_of which + 1) (most_of which)
+
+abbrev pub schedule_line : Schedule → List ℕ
+schedule_line schedule = codes "schedule " ++ (decimal (length schedule.moves.items) ++ codes " moves\n")
+
+-- what a search found, with so many conflicts at most
+abbrev pub found_line : (budget : ℕ) → Found → List ℕ
+found_line budget (found.Found schedule) = schedule_line schedule
+found_line budget (found.Impossible lines) = codes "impossible, " ++ (decimal (length lines) ++ codes " lines\n")
+found_line budget (found.Spent lines) = codes "spent after " ++ (decimal budget ++ codes " conflicts\n")
+
+-- how many variables and clauses there are
+abbrev pub clauses_line : Formula → List ℕ
+clauses_line f = codes "cnf " ++ (decimal f.vars ++ (codes " variables, " ++ (decimal (length f.clauses) ++ codes " clauses\n")))
+
+abbrev pub solution_line : Solution → List ℕ
+solution_line x = found_line x.budget x.answer
+
+abbrev pub checked_line : Checked → List ℕ
+checked_line Closed = codes "accepted, impossible\n"
+checked_line Open = codes "accepted, open\n"
+
+abbrev pub end_word : RunEnd → List ℕ
+end_word ran.Failed = codes "failed"
+end_word ran.Finished = codes "finished"
+end_word ran.Deadlock = codes "deadlock"
+end_word ran.Limit = codes "limit"
+end_word ran.StepLimit = codes "step-limit"
+
+-- what a search found, in short
+abbrev pub found_words : Found → List ℕ
+found_words (found.Found schedule) = decimal (length schedule.moves.items) ++ codes " moves"
+found_words (found.Impossible lines) = codes "impossible"
+found_words (found.Spent lines) = codes "spent"
+
+-- how the run ended, and what was found under each memory model
+abbrev pub work_line : Work → List ℕ
+work_line x =
+    codes "workload " ++ (decimal x.workers ++ (codes " " ++ (decimal x.seed ++ (codes ": record " ++ (end_word x.end
+    ++ (codes ", tso " ++ (found_words x.tso ++ (codes ", sc " ++ (found_words x.sc ++ codes "\n")))))))))
 
 -- where the log's form breaks, or that it is another program's, or what is wrong with one of its threads
 abbrev pub log_refusal_text : LogRefusal → List ℕ
@@ -83,6 +151,8 @@ usage_text =
     ++ codes "usage: clap_debug list PROGRAM\n"
     ++ codes "usage: clap_debug workload N SEED\n"
     ++ codes "usage: clap_debug migrate PROGRAM LOG OUT\n"
+    ++ codes "usage: clap_debug cnf PROGRAM LOG OUT [--model sc|tso|pso]\n"
+    ++ codes "usage: clap_debug import PROGRAM LOG ANSWER OUT [--model sc|tso|pso]\n"
 
 -- what is written
 abbrev pub line_of : Answer → List ℕ
@@ -97,8 +167,17 @@ line_of (Listed code) = listing_of code
 line_of (Replayed v) = verdict_line v
 line_of (Recorded o) = outcome_line o
 line_of (RunEnded e) = ending_line e
-line_of (LogOver e) = over_line e.which e.number
+line_of (LogOver e) = over_line (excess_text e.which) e.number (most_in e.which)
 line_of Migrated = codes "migrated\n"
+line_of (RefutationRefused n) = codes "refutation refused: line " ++ (decimal n ++ codes "\n")
+line_of (Solved x) = solution_line x
+line_of (Accepted v) = checked_line v
+line_of (LineRefused n) = codes "line " ++ (decimal n ++ codes " refused\n")
+line_of (Worked x) = work_line x
+line_of (AnswerRefused n) = codes "answer refused: line " ++ (decimal n ++ codes "\n")
+line_of (Exported f) = clauses_line f
+line_of (Imported schedule) = schedule_line schedule
+line_of (ClauseFalse n) = codes "clause " ++ (decimal n ++ codes " false\n")
 line_of (WriteFault name) = codes "write fault: " ++ (name ++ codes "\n")
 line_of NoMemory = codes "no memory\n"
 
@@ -111,17 +190,41 @@ ending_status Finished = 1
 ending_status (StepLimit _) = 10
 ending_status (Over _) = 6
 
+abbrev pub found_status : Found → ℕ
+found_status (found.Found _) = 0
+found_status (found.Impossible _) = 1
+found_status (found.Spent _) = 10
+
+abbrev pub solution_status : Solution → ℕ
+solution_status x = found_status x.answer
+
+abbrev pub checked_status : Checked → ℕ
+checked_status Closed = 0
+checked_status Open = 10
+
+abbrev pub work_status : Work → ℕ
+work_status x = if has_spent x then 10 else 0
+
 -- the status that the call ends with
 abbrev pub status_of : Answer → ℕ
 status_of (Listed _) = 0
 status_of (Replayed v) = verdict_status v
 status_of (Recorded _) = 0
 status_of Migrated = 0
+status_of (Solved x) = solution_status x
+status_of (Accepted v) = checked_status v
+status_of (LineRefused _) = 1
+status_of (Worked x) = work_status x
+status_of (Exported _) = 0
+status_of (Imported _) = 0
+status_of (ClauseFalse _) = 1
 status_of (RunEnded e) = ending_status e
 status_of Usage = 2
 status_of (ProgramRefused _) = 3
 status_of (LogRefused _) = 4
 status_of (ScheduleRefused _) = 5
+status_of (RefutationRefused _) = 5
+status_of (AnswerRefused _) = 5
 status_of (TooLong _) = 6
 status_of (LogOver _) = 6
 status_of (ReadFault _) = 7

@@ -1,14 +1,33 @@
 -- What a call of the program answers, over what the shelf and the sink tell before and after it.
-use Rattle.std.specs.Prelude.{◌≡◌, ◌≢◌, ℕ, ◌≤◌, ◌⊎◌, List, length, Option, Some, None, IfSome}
+use Rattle.std.specs.Prelude.{◌≡◌, ◌≢◌, ℕ, ◌≤◌, ◌⊎◌, true, false, List, length, Option, Some, None, IfSome, ⊤}
 use Rattle.tc_code.specs.Code.{Code}
 use Rattle.tc_base.specs.declared.model.Model.{Model}
 use Rattle.tc_io.specs.Outside.{Files, ShelfTells, SinkTells, Writing, Wrote, WrotePart, KeptPart, bytes_at, put_under}
-use Rattle.clap_debug_words.specs.Calls.{Called, Lists, Replays, Records, Migrates, call_of}
+use Rattle.path_log.specs.Texts.{StoredLog}
+use Rattle.refute_check.specs.declared.line.Line.{Line}
+use Rattle.refute_check.specs.declared.verdict.Checked.TheVariants.{Closed, Open}
+use Rattle.schedule_file.specs.Schedules.{schedule_text}
+use Rattle.schedule_file.specs.declared.schedule.Schedule.{Schedule}
+use Rattle.cnf_core.specs.Clauses.{Formula}
+use Rattle.dimacs_text.specs.Texts.{cnf_text}
+use Rattle.clap_solve.specs.Solved.{IsWithin}
+use Rattle.clap_solve.specs.declared.answer.Answer.TheVariants as search
+use Rattle.clap_solve.specs.declared.imported.Imported.TheVariants as taken
+use Rattle.clap_debug_words.specs.Calls.{Called, Lists, Replays, Records, Migrates, Solves, Checks, Workloads, Exports, Imports, call_of}
 use Rattle.clap_debug_cli.specs.Answers.{line_of, status_of}
 use Rattle.clap_debug_cli.specs.Causes.{IsCause, IsAnswerTo, IsWorkOf, IsResult, IsReplayed, IsLogRefused, IsScheduleRefused, IsMigrateAnswer}
+use Rattle.clap_debug_cli.specs.Causes.{IsSolveAnswer, IsCheckAnswer, IsWorkloadAnswer, IsCnfAnswer, IsImportAnswer}
+use Rattle.clap_debug_cli.specs.Files.{IsLog, IsOfOther}
+use Rattle.clap_debug_cli.specs.Solved.{IsSolution, IsPossible, solution, solution_text}
+use Rattle.clap_debug_cli.specs.Checked.{IsRefuted}
+use Rattle.clap_debug_cli.specs.Worked.{has_spent, seeded_text}
+use Rattle.clap_debug_cli.specs.Solvers.{AreSatisfying, IsAnswered, IsExported, IsTaken}
+use Rattle.clap_debug_cli.specs.declared.answer.Solution.{Solution}
+use Rattle.clap_debug_cli.specs.declared.answer.Work.{Work}
 use Rattle.clap_debug_cli.specs.Inputs.{Texts, GaveAll, inputs_of, limit_of, IsTooLong}
 use Rattle.clap_debug_cli.specs.Migrated.{IsMigrated}
 use Rattle.tc_compile.specs.Programs.{IsCodeOf, IsRefusal}
+use Rattle.tc_workload.specs.Workload.{workload_log}
 use Rattle.clap_debug_cli.specs.Recorded.{ComesTo, EndsSo, end_status, run_of}
 use Rattle.tc_parser.specs.declared.fault.TextFault.{TextFault}
 use Rattle.schedule_replay.specs.declared.verdict.Verdict.{Verdict}
@@ -26,6 +45,15 @@ use Rattle.clap_debug_cli.specs.declared.answer.Answer.TheVariants.{
   RunEnded,
   LogOver,
   Migrated,
+  RefutationRefused,
+  Solved,
+  Accepted,
+  LineRefused,
+  Worked,
+  AnswerRefused,
+  Exported,
+  Imported,
+  ClauseFalse,
   WriteFault,
   NoMemory,
 }
@@ -76,18 +104,26 @@ abbrev pub Loses : Called → (name : List ℕ) → ShelfTells → ShelfTells �
 Loses call name old new = (t : Texts) × (s : ShelfTells) × GaveAll (inputs_of call) old s t
     × (text : List ℕ) × IsResult call t text × KeptPart s new name text
 
+-- the statuses with which a command keeps a result: `solve` keeps a schedule, and a refutation too
+abbrev pub IsOfResult : Called → ℕ → Type 0
+IsOfResult (Solves _ _ _ _ _) status = (status ≡ 0) ⊎ (status ≡ 1) ⊎ (status ≡ 10)
+IsOfResult _ status = status ≡ 0
+
 -- what a command leaves on the shelf that keeps its result under this name, by status
 pub record LeavesResult (call : Called) (name : List ℕ) (status : ℕ) (old new : ShelfTells) : Type 0 where
-  pub kept : status ≡ 0 → Holds call name old new
-  pub none : status ≢ 0 → status ≢ 8 → status ≢ 9 → new.held ≡ old.held
+  pub kept : IsOfResult call status → Holds call name old new
+  pub none : (IsOfResult call status → ⊥) → status ≢ 8 → status ≢ 9 → new.held ≡ old.held
   -- without memory, and after a put that failed, the result stands there whole or nothing was kept
   pub whole : status ≡ 9 → (new.held ≡ old.held) ⊎ Holds call name old new
   pub part : status ≡ 8 → (new.held ≡ old.held) ⊎ Holds call name old new ⊎ Loses call name old new
 
--- what a command leaves on the shelf: `list` and `replay` what was there
+-- what a command leaves on the shelf: `list`, `replay`, `check` and `workload` what was there
 abbrev pub Leaves : Called → ℕ → ShelfTells → ShelfTells → Type 0
 Leaves (Records program log model seed steps) status old new = LeavesResult (Records program log model seed steps) log status old new
 Leaves (Migrates program log out) status old new = LeavesResult (Migrates program log out) out status old new
+Leaves (Solves program log out model budget) status old new = LeavesResult (Solves program log out model budget) out status old new
+Leaves (Exports program log out model) status old new = LeavesResult (Exports program log out model) out status old new
+Leaves (Imports program log answer out model) status old new = LeavesResult (Imports program log answer out model) out status old new
 Leaves _ status old new = new.held ≡ old.held
 
 -- the answers that every call may give, by status, over what the shelf and the sink tell before and after it
@@ -108,7 +144,7 @@ pub record CallAnswers (words : List (List ℕ)) (old new : ShelfTells) (status 
   pub no_memory : status ≡ 9 → PutsAtMostNoMemory before after
   -- in all other cases an answer was put with its status, and has its cause
   pub answer : (status ≡ 8 → ⊥) → (status ≡ 9 → ⊥) → (a : Answer) × IsCause words old new a × (status ≡ status_of a) × Puts before after a
-  -- no name of the shelf changes but that of the log that `record` or `migrate` keeps
+  -- no name of the shelf changes but that of what a command keeps
   pub leaves : IfSome (call_of words) (λ call. Leaves call status old new)
 
 -- a fact about a call and the files, where the words are taken and the shelf tells what it holds
@@ -119,13 +155,20 @@ IfTold words held P = IfSome (call_of words) (λ call. IfSome held (λ files. P 
 abbrev pub IsStatus : ℕ → ℕ → Type 0
 IsStatus status wanted = (status ≡ wanted) ⊎ (status ≡ 7) ⊎ (status ≡ 8) ⊎ (status ≡ 9)
 
+-- an answer that is decided by the inputs: all but which schedule or refutation a search finds, or a solver's answer says
+abbrev pub IsDecided : Answer → Type 0
+IsDecided (Solved _) = ⊥
+IsDecided (Worked _) = ⊥
+IsDecided (Imported _) = ⊥
+IsDecided _ = ⊤
+
 -- the answers that every command may give to inputs that the shelf tells of
 pub record ToldAnswers (call : Called) (t : Texts) (status : ℕ) (before after : SinkTells) : Type 0 where
   pub limit : status ≡ 6 → ((i : Input) × IsTooLong (inputs_of call) t i × Puts before after (TooLong i))
       ⊎ ((which : Which) × IsWorkOf call t (RunEnded (Over which)) × Puts before after (RunEnded (Over which)))
       ⊎ ((e : Excess) × IsWorkOf call t (LogOver e) × Puts before after (LogOver e))
-  -- each answer comes wherever its cause holds
-  pub exactly : (a : Answer) → IsAnswerTo call t a → IsStatus status (status_of a)
+  -- each answer that the inputs decide comes wherever its cause holds
+  pub exactly : (a : Answer) → IsDecided a → IsAnswerTo call t a → IsStatus status (status_of a)
 
 -- the answers of `list` to a program that the shelf tells of, by status
 pub record ListAnswers (program : List ℕ) (status : ℕ) (before after : SinkTells) : Type 0 where
@@ -165,9 +208,100 @@ pub record MigrateAnswers (program log : List ℕ) (status : ℕ) (before after 
   -- and no other but those of every command
   pub alone : (status ≡ 0) ⊎ (status ≡ 3) ⊎ (status ≡ 4) ⊎ IsStatus status 6
 
--- the answers of a command, by status
-abbrev pub CommandAnswers : Called → Files → ℕ → SinkTells → SinkTells → Type 0
-CommandAnswers (Lists program) files = ListAnswers (bytes_at files program)
-CommandAnswers (Replays program log schedule) files = ReplayAnswers (bytes_at files program) (bytes_at files log) (bytes_at files schedule)
-CommandAnswers (Records program log model seed steps) files = RecordAnswers (bytes_at files program) model seed steps
-CommandAnswers (Migrates program log out) files = MigrateAnswers (bytes_at files program) (bytes_at files log)
+-- what was found was put, and its text stands under this name; all else is held that was
+pub record HasFound (files : Files) (out : List ℕ) (x : Solution) (held : Option Files) (before after : SinkTells) : Type 0 where
+  pub puts : Puts before after (Solved x)
+  pub stands : held ≡ put_under out (solution_text x) (Some files)
+
+-- the answers of `solve` to a program and a log that the shelf tells of, by status, over what is held before and after it
+pub record SolveAnswers (files : Files) (program log out : List ℕ) (model : Option Model) (budget : ℕ) (held : Option Files) (status : ℕ)
+    (before after : SinkTells) : Type 0 where
+  -- a schedule stands under OUT that reproduces the log under the memory model that is meant
+  pub found : status ≡ 0 → (m : Model) × (schedule : Schedule) × IsSolution program log model budget (solution m budget (search.Found schedule))
+      × HasFound files out (solution m budget (search.Found schedule)) held before after
+  -- a refutation stands there that is closed on the log's clauses, and no moves reproduce the log under that model
+  pub impossible : status ≡ 1 → (m : Model) × (lines : List Line) × IsSolution program log model budget (solution m budget (search.Impossible lines))
+      × HasFound files out (solution m budget (search.Impossible lines)) held before after
+  -- or one that is open, with as many added lines as there were conflicts
+  pub spent : status ≡ 10 → (m : Model) × (lines : List Line) × IsSolution program log model budget (solution m budget (search.Spent lines))
+      × HasFound files out (solution m budget (search.Spent lines)) held before after
+  pub refused : status ≡ 3 → (r : TextFault) × IsRefusal program r × Puts before after (ProgramRefused r)
+  pub log_refused : status ≡ 4 → (r : LogRefusal) × IsSolveAnswer program log model budget (LogRefused r) × Puts before after (LogRefused r)
+  -- where some moves reproduce the log, it is never called impossible
+  pub possible : IsPossible program log model → status ≢ 1
+  -- a log that isn't of another program and fits within the limits is searched, where neither file is too long
+  pub complete : (code : Code) (run : StoredLog) → IsCodeOf program code → IsLog log run → (IsOfOther program run → ⊥) → IsWithin code run.log
+      → length program ≤ limit_of input.Program → length log ≤ limit_of input.Log → (status ≡ 0) ⊎ (status ≡ 1) ⊎ IsStatus status 10
+  -- and no other but those of every command
+  pub alone : (status ≡ 0) ⊎ (status ≡ 1) ⊎ (status ≡ 3) ⊎ (status ≡ 4) ⊎ (status ≡ 10) ⊎ IsStatus status 6
+
+-- the answers of `check` to three files that the shelf tells of, by status
+pub record CheckAnswers (program log refutation : List ℕ) (status : ℕ) (before after : SinkTells) : Type 0 where
+  -- no moves reproduce the log under the memory model that the refutation names
+  pub impossible : status ≡ 0 → IsRefuted program log refutation × Puts before after (Accepted Closed)
+  pub undecided : status ≡ 10 → IsCheckAnswer program log refutation (Accepted Open) × Puts before after (Accepted Open)
+  pub line_refused : status ≡ 1 → (line : ℕ) × IsCheckAnswer program log refutation (LineRefused line) × Puts before after (LineRefused line)
+  pub refused : status ≡ 3 → (r : TextFault) × IsRefusal program r × Puts before after (ProgramRefused r)
+  pub log_refused : status ≡ 4 → (r : LogRefusal) × IsCheckAnswer program log refutation (LogRefused r) × Puts before after (LogRefused r)
+  pub refutation_refused : status ≡ 5 → (line : ℕ) × IsCheckAnswer program log refutation (RefutationRefused line)
+      × Puts before after (RefutationRefused line)
+  -- and no other but those of every command
+  pub alone : (status ≡ 0) ⊎ (status ≡ 1) ⊎ (status ≡ 3) ⊎ (status ≡ 4) ⊎ (status ≡ 5) ⊎ (status ≡ 10) ⊎ IsStatus status 6
+
+-- the answers of `workload`, by status
+pub record WorkloadAnswers (workers seed : ℕ) (status : ℕ) (before after : SinkTells) : Type 0 where
+  -- under each of the two memory models there is a schedule that reproduces the log, or a derivation that none does
+  pub decided : status ≡ 0 → (x : Work) × IsWorkloadAnswer workers seed (Worked x) × (has_spent x ≡ false) × Puts before after (Worked x)
+  -- or a search was given up, with as many added lines as there were conflicts
+  pub spent : status ≡ 10 → (x : Work) × IsWorkloadAnswer workers seed (Worked x) × (has_spent x ≡ true) × Puts before after (Worked x)
+  pub refused : status ≡ 3 → (r : TextFault) × IsRefusal (seeded_text workers seed) r × Puts before after (ProgramRefused r)
+  pub log_refused : status ≡ 4 → (r : LogRefusal) × IsWorkloadAnswer workers seed (LogRefused r) × Puts before after (LogRefused r)
+  -- where the text is a program's and the log fits it within the limits, it is searched
+  pub complete : (code : Code) → IsCodeOf (seeded_text workers seed) code → IsWithin code (workload_log workers) → (status ≡ 0) ⊎ IsStatus status 10
+  -- and no other but those of every command
+  pub alone : (status ≡ 0) ⊎ (status ≡ 3) ⊎ (status ≡ 4) ⊎ (status ≡ 10) ⊎ IsStatus status 6
+
+-- the answers of `cnf` to a program and a log that the shelf tells of, by status, over what is held before and after it
+pub record CnfAnswers (files : Files) (program log out : List ℕ) (model : Option Model) (held : Option Files) (status : ℕ)
+    (before after : SinkTells) : Type 0 where
+  -- the text of the log's clauses stands under OUT; something satisfies them exactly where some moves reproduce the log
+  pub exported : status ≡ 0 → (f : Formula) × IsExported program log model f × Puts before after (Exported f) × (held ≡ put_under out (cnf_text f)
+      (Some files))
+  pub refused : status ≡ 3 → (r : TextFault) × IsRefusal program r × Puts before after (ProgramRefused r)
+  pub log_refused : status ≡ 4 → (r : LogRefusal) × IsCnfAnswer program log model (LogRefused r) × Puts before after (LogRefused r)
+  -- a log that isn't of another program and fits within the limits has clauses, where neither file is too long
+  pub complete : (f : Formula) → IsExported program log model f → length program ≤ limit_of input.Program → length log ≤ limit_of input.Log
+      → IsStatus status 0
+  -- and no other but those of every command
+  pub alone : (status ≡ 0) ⊎ (status ≡ 3) ⊎ (status ≡ 4) ⊎ IsStatus status 6
+
+-- the answers of `import` to three files that the shelf tells of, by status, over what is held before and after it
+pub record ImportAnswers (files : Files) (program log answer out : List ℕ) (model : Option Model) (held : Option Files) (status : ℕ)
+    (before after : SinkTells) : Type 0 where
+  -- the values satisfy the log's clauses, and a schedule stands under OUT that reproduces the log under the memory model that is meant
+  pub found : status ≡ 0 → (s : Schedule) × IsAnswered program log answer (IsTaken model (taken.Found s)) × Puts before after (Imported s)
+      × (held ≡ put_under out (schedule_text s.model s.moves.items) (Some files))
+  -- they leave a clause false, and none before it
+  pub false_clause : status ≡ 1 → (n : ℕ) × IsAnswered program log answer (IsTaken model (taken.False n)) × Puts before after (ClauseFalse n)
+  pub refused : status ≡ 3 → (r : TextFault) × IsRefusal program r × Puts before after (ProgramRefused r)
+  pub log_refused : status ≡ 4 → (r : LogRefusal) × IsImportAnswer program log answer model (LogRefused r) × Puts before after (LogRefused r)
+  pub answer_refused : status ≡ 5 → (line : ℕ) × IsImportAnswer program log answer model (AnswerRefused line) × Puts before after (AnswerRefused line)
+  -- where the values satisfy the clauses, and no file is too long, there is such a schedule
+  pub complete : IsAnswered program log answer (AreSatisfying model) → length program ≤ limit_of input.Program → length log ≤ limit_of input.Log
+      → length answer ≤ limit_of input.Answer → IsStatus status 0
+  -- and no other but those of every command
+  pub alone : (status ≡ 0) ⊎ (status ≡ 1) ⊎ (status ≡ 3) ⊎ (status ≡ 4) ⊎ (status ≡ 5) ⊎ IsStatus status 6
+
+-- the answers of a command, by status, over what is held before and after it
+abbrev pub CommandAnswers : Called → Files → Option Files → ℕ → SinkTells → SinkTells → Type 0
+CommandAnswers (Lists program) files held = ListAnswers (bytes_at files program)
+CommandAnswers (Replays program log schedule) files held = ReplayAnswers (bytes_at files program) (bytes_at files log) (bytes_at files schedule)
+CommandAnswers (Records program log model seed steps) files held = RecordAnswers (bytes_at files program) model seed steps
+CommandAnswers (Migrates program log out) files held = MigrateAnswers (bytes_at files program) (bytes_at files log)
+CommandAnswers (Solves program log out model budget) files held =
+    SolveAnswers files (bytes_at files program) (bytes_at files log) out model budget held
+CommandAnswers (Checks program log refutation) files held = CheckAnswers (bytes_at files program) (bytes_at files log) (bytes_at files refutation)
+CommandAnswers (Workloads workers seed) files held = WorkloadAnswers workers seed
+CommandAnswers (Exports program log out model) files held = CnfAnswers files (bytes_at files program) (bytes_at files log) out model held
+CommandAnswers (Imports program log answer out model) files held =
+    ImportAnswers files (bytes_at files program) (bytes_at files log) (bytes_at files answer) out model held

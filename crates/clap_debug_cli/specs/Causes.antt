@@ -1,5 +1,5 @@
 -- Why an answer is given: what the words are, what the shelf did, and what the bytes that it gave say.
-use Rattle.std.specs.Prelude.{◌≡◌, ◌⊎◌, ℕ, ◌≤◌, List, [], ◌∷◌, length, Some, None, IsSomeAnd}
+use Rattle.std.specs.Prelude.{◌≡◌, ◌⊎◌, ℕ, ℤ, ◌≤◌, List, [], ◌∷◌, length, Option, Some, None, Ok, Err, IsSomeAnd}
 use Rattle.tc_base.specs.declared.model.Model.{Model}
 use Rattle.tc_base.specs.Buffers.{buffer_of}
 use Rattle.tc_base.specs.Logs.{Log}
@@ -8,16 +8,38 @@ use Rattle.tc_io.specs.Outside.{ShelfTells, Kept, KeptPart}
 use Rattle.path_log.specs.Faults.{BreaksAt as LogBreaksAt}
 use Rattle.path_log.specs.Texts.{StoredLog}
 use Rattle.schedule_file.specs.Faults.{BreaksAt as ScheduleBreaksAt}
+use Rattle.schedule_file.specs.Schedules.{schedule_text}
 use Rattle.schedule_replay.specs.Verdicts.{IsVerdict}
 use Rattle.path_walk.specs.Fits.{Fits, IsFirst}
-use Rattle.clap_debug_words.specs.Calls.{Called, Lists, Replays, Records, Migrates, call_of}
-use Rattle.clap_debug_cli.specs.Files.{IsLog, IsOfOther, Schedule, IsSchedule}
+use Rattle.path_walk.specs.declared.fault.WalkFault.TheVariants as walk
+use Rattle.cnf_core.specs.Clauses.{Formula}
+use Rattle.dimacs_text.specs.Answers.{answer as answer_in}
+use Rattle.dimacs_text.specs.Texts.{cnf_text}
+use Rattle.refute_check.specs.Refutations.{check}
+use Rattle.refute_check.specs.declared.line.Line.{Line}
+use Rattle.refute_check.specs.declared.verdict.CheckFault.{CheckFault}
+use Rattle.refute_check.specs.declared.verdict.Checked.TheVariants.{Closed, Open}
+use Rattle.clap_system.specs.Faults.{IsBuildFault, limit_of}
+use Rattle.clap_system.specs.declared.fault.BuildFault.TheVariants as build
+use Rattle.clap_solve.specs.Clauses.{model_clauses}
+use Rattle.clap_solve.specs.Solved.{IsWithin}
+use Rattle.clap_solve.specs.declared.imported.Imported.TheVariants as taken
+use Rattle.clap_solve.specs.declared.answer.Answer.{Answer as Found}
+use Rattle.clap_solve.specs.declared.answer.Answer.TheVariants as found
+use Rattle.clap_debug_words.specs.Calls.{Called, Lists, Replays, Records, Migrates, Solves, Checks, Workloads, Exports, Imports, call_of}
+use Rattle.clap_debug_cli.specs.Files.{IsLog, IsOfOther, Schedule, IsSchedule, IsRefutation, IsBrokenAt}
 use Rattle.clap_debug_cli.specs.Inputs.{Texts, inputs_of, AreWithin, IsTooLong, GaveAll, FailsToRead, PassesLimit}
 use Rattle.tc_compile.specs.Programs.{IsCodeOf, IsRefusal}
 use Rattle.clap_debug_cli.specs.Recorded.{ComesTo, EndsSo, IsRecorded}
 use Rattle.clap_debug_cli.specs.Migrated.{IsMigrated, excess_of}
+use Rattle.clap_debug_cli.specs.Solved.{IsSearched, IsSolution, solution_text}
+use Rattle.clap_debug_cli.specs.Checked.{IsOfLine}
+use Rattle.clap_debug_cli.specs.Worked.{IsWorked, seeded_text}
+use Rattle.clap_debug_cli.specs.Solvers.{IsTaken, clauses_for}
 use Rattle.schedule_replay.specs.declared.verdict.Verdict.{Verdict}
+use Rattle.schedule_replay.specs.declared.verdict.Verdict.TheVariants as verdict
 use Rattle.tc_record.specs.Logged.{most_log_bytes}
+use Rattle.tc_workload.specs.Workload.{workload_log}
 use Rattle.clap_debug_cli.specs.declared.answer.Answer.{Answer}
 use Rattle.clap_debug_cli.specs.declared.answer.Answer.TheVariants.{
   Usage,
@@ -32,9 +54,20 @@ use Rattle.clap_debug_cli.specs.declared.answer.Answer.TheVariants.{
   RunEnded,
   LogOver,
   Migrated,
+  RefutationRefused,
+  Solved,
+  Accepted,
+  LineRefused,
+  Worked,
+  AnswerRefused,
+  Exported,
+  Imported,
+  ClauseFalse,
   WriteFault,
   NoMemory,
 }
+use Rattle.clap_debug_cli.specs.declared.answer.Solution.{Solution}
+use Rattle.schedule_file.specs.declared.schedule.Schedule.{Schedule as MadeSchedule}
 use Rattle.clap_debug_cli.specs.declared.answer.LogRefusal.{LogRefusal}
 use Rattle.clap_debug_cli.specs.declared.answer.LogRefusal.TheVariants.{Form, OtherProgram, Unfit}
 
@@ -85,29 +118,107 @@ IsRecordAnswer program model seed steps (Recorded o) = ComesTo program model see
 IsRecordAnswer program model seed steps (RunEnded e) = EndsSo program model seed steps e
 IsRecordAnswer program model seed steps _ = ⊥
 
--- The answer of `migrate` to a program and a log: that of the first test that fails.
+-- The answer to a program and a log: that of the first test that fails, and else what the command makes of them.
 
--- of the log of a code: the limits are tested before the fit
+-- of the log with its digest
+abbrev pub IsStoredAnswer : (program : List ℕ) → StoredLog → (Answer → Type 0) → Answer → Type 0
+IsStoredAnswer program run P (LogRefused OtherProgram) = IsOfOther program run
+IsStoredAnswer program run P a = (IsOfOther program run → ⊥) × P a
+
+-- of the text of the log
+abbrev pub IsLogAnswer : (log : List ℕ) → (StoredLog → Answer → Type 0) → Answer → Type 0
+IsLogAnswer log P (LogRefused (Form offset)) = LogBreaksAt log offset
+IsLogAnswer log P a = (run : StoredLog) × IsLog log run × P run a
+
+-- of the text of the program
+abbrev pub IsProgramAnswer : (program : List ℕ) → (Code → Answer → Type 0) → Answer → Type 0
+IsProgramAnswer program P (ProgramRefused r) = IsRefusal program r
+IsProgramAnswer program P a = (code : Code) × IsCodeOf program code × P code a
+
+-- of both texts
+abbrev pub IsTextsAnswer : (program log : List ℕ) → (Code → StoredLog → Answer → Type 0) → Answer → Type 0
+IsTextsAnswer program log P = IsProgramAnswer program (λ code. IsLogAnswer log (P code))
+
+-- `migrate` tests the limits of the log, and then that it fits the code
 abbrev pub IsFitAnswer : Code → Log → Answer → Type 0
 IsFitAnswer code log (LogOver e) = excess_of log ≡ Some e
 IsFitAnswer code log (LogRefused (Unfit name misfit)) = (excess_of log ≡ None) × IsFirst code log name misfit
 IsFitAnswer code log Migrated = (excess_of log ≡ None) × Fits code log
 IsFitAnswer code log _ = ⊥
 
--- of the log with its digest
-abbrev pub IsStoredAnswer : (program : List ℕ) → Code → StoredLog → Answer → Type 0
-IsStoredAnswer program code run (LogRefused OtherProgram) = IsOfOther program run
-IsStoredAnswer program code run a = (IsOfOther program run → ⊥) × IsFitAnswer code run.log a
-
--- of the text of the log
-abbrev pub IsLogAnswer : (program log : List ℕ) → Code → Answer → Type 0
-IsLogAnswer program log code (LogRefused (Form offset)) = LogBreaksAt log offset
-IsLogAnswer program log code a = (run : StoredLog) × IsLog log run × IsStoredAnswer program code run a
-
--- of both texts
 abbrev pub IsMigrateAnswer : (program log : List ℕ) → Answer → Type 0
-IsMigrateAnswer program log (ProgramRefused r) = IsRefusal program r
-IsMigrateAnswer program log a = (code : Code) × IsCodeOf program code × IsLogAnswer program log code a
+IsMigrateAnswer program log = IsTextsAnswer program log (λ code run. IsStoredAnswer program run (IsFitAnswer code run.log))
+
+-- `solve` and `check` test the limits of the log, that it fits the code, and the limits of its paths
+abbrev pub IsLimitAnswer : Code → Log → (Answer → Type 0) → Answer → Type 0
+IsLimitAnswer code log P (LogOver e) = IsBuildFault code log (build.Limit e.which e.number (limit_of e.which))
+IsLimitAnswer code log P (LogRefused (Unfit name misfit)) = IsBuildFault code log (build.Walk (walk.Unfit name misfit))
+IsLimitAnswer code log P a = IsWithin code log × P a
+
+-- then `solve` searches
+abbrev pub IsSearchAnswer : Code → Log → Option Model → (budget : ℕ) → Answer → Type 0
+IsSearchAnswer code log model budget (Solved x) = IsSearched code log model budget x
+IsSearchAnswer code log model budget _ = ⊥
+
+abbrev pub IsSolveAnswer : (program log : List ℕ) → Option Model → (budget : ℕ) → Answer → Type 0
+IsSolveAnswer program log model budget =
+    IsTextsAnswer program log (λ code run. IsStoredAnswer program run (IsLimitAnswer code run.log (IsSearchAnswer code run.log model budget)))
+
+-- and `check` tests the form of the refutation before all of these, and its lines after them
+abbrev pub IsRefutationAnswer : (refutation : List ℕ) → (Model → List Line → Answer → Type 0) → Answer → Type 0
+IsRefutationAnswer refutation P (RefutationRefused line) = IsBrokenAt refutation line
+IsRefutationAnswer refutation P a = (model : Model) × (lines : List Line) × IsRefutation refutation model lines × P model lines a
+
+abbrev pub IsVerdictAnswer : Formula → List Line → Answer → Type 0
+IsVerdictAnswer f lines (Accepted v) = check f lines ≡ Ok v
+IsVerdictAnswer f lines (LineRefused n) = (fault : CheckFault) × (check f lines ≡ Err fault) × IsOfLine fault n
+IsVerdictAnswer f lines _ = ⊥
+
+abbrev pub IsClausesAnswer : (program : List ℕ) → Code → StoredLog → Model → List Line → Answer → Type 0
+IsClausesAnswer program code run model lines =
+    IsStoredAnswer program run (IsLimitAnswer code run.log (IsVerdictAnswer (model_clauses model code run.log) lines))
+
+abbrev pub IsCheckAnswer : (program log refutation : List ℕ) → Answer → Type 0
+IsCheckAnswer program log refutation = IsTextsAnswer program log (λ code run. IsRefutationAnswer refutation (IsClausesAnswer program code run))
+
+-- `workload` makes a program and a log, tests them as `solve` does, and searches twice
+abbrev pub IsWorkAnswer : Code → (workers seed : ℕ) → Answer → Type 0
+IsWorkAnswer code workers seed (Worked x) = IsWorked code workers seed x
+IsWorkAnswer code workers seed _ = ⊥
+
+abbrev pub IsWorkloadAnswer : (workers seed : ℕ) → Answer → Type 0
+IsWorkloadAnswer workers seed =
+    IsProgramAnswer (seeded_text workers seed) (λ code. IsLimitAnswer code (workload_log workers) (IsWorkAnswer code workers seed))
+
+-- `cnf` tests what `solve` does
+abbrev pub IsClauseListAnswer : Option Model → Code → Log → Answer → Type 0
+IsClauseListAnswer model code log (Exported f) = f ≡ clauses_for model code log
+IsClauseListAnswer model code log _ = ⊥
+
+abbrev pub IsCnfAnswer : (program log : List ℕ) → Option Model → Answer → Type 0
+IsCnfAnswer program log model =
+    IsTextsAnswer program log (λ code run. IsStoredAnswer program run (IsLimitAnswer code run.log (IsClauseListAnswer model code run.log)))
+
+-- and so does `import`, but tests the form of the solver's answer where `check` does that of a refutation
+abbrev pub IsLiteralsAnswer : (answer : List ℕ) → (List ℤ → Answer → Type 0) → Answer → Type 0
+IsLiteralsAnswer answer P (AnswerRefused line) = answer_in answer ≡ Err line
+IsLiteralsAnswer answer P a = (literals : List ℤ) × (answer_in answer ≡ Ok literals) × P literals a
+
+abbrev pub IsTakenAnswer : Option Model → Code → Log → List ℤ → Answer → Type 0
+IsTakenAnswer model code log literals (Imported schedule) = IsTaken model (taken.Found schedule) code log literals
+IsTakenAnswer model code log literals (ClauseFalse number) = IsTaken model (taken.False number) code log literals
+IsTakenAnswer model code log literals _ = ⊥
+
+abbrev pub IsImportAnswer : (program log answer : List ℕ) → Option Model → Answer → Type 0
+IsImportAnswer program log answer model = IsTextsAnswer program log (λ code run. IsLiteralsAnswer answer
+    (λ literals. IsStoredAnswer program run (IsLimitAnswer code run.log (IsTakenAnswer model code run.log literals))))
+
+-- What is answered where `solve` kept this text of what it found: `replay` that the schedule reproduces the log, and `check` that it
+-- accepts the refutation.
+abbrev pub IsAcceptedAs : (program log text : List ℕ) → Found → Type 0
+IsAcceptedAs program log text (found.Found _) = IsReplayAnswer program log text (Replayed verdict.Reproduces)
+IsAcceptedAs program log text (found.Impossible _) = IsCheckAnswer program log text (Accepted Closed)
+IsAcceptedAs program log text (found.Spent _) = IsCheckAnswer program log text (Accepted Open)
 
 -- the answer of a command to what its inputs hold, none of which is too long
 abbrev pub IsWorkOf : Called → Texts → Answer → Type 0
@@ -115,6 +226,11 @@ IsWorkOf (Lists _) (program ∷ []) a = IsListAnswer program a
 IsWorkOf (Replays _ _ _) (program ∷ log ∷ schedule ∷ []) a = IsReplayAnswer program log schedule a
 IsWorkOf (Records _ _ model seed steps) (program ∷ []) a = IsRecordAnswer program model seed steps a
 IsWorkOf (Migrates _ _ _) (program ∷ log ∷ []) a = IsMigrateAnswer program log a
+IsWorkOf (Solves _ _ _ model budget) (program ∷ log ∷ []) a = IsSolveAnswer program log model budget a
+IsWorkOf (Checks _ _ _) (program ∷ log ∷ refutation ∷ []) a = IsCheckAnswer program log refutation a
+IsWorkOf (Workloads workers seed) [] a = IsWorkloadAnswer workers seed a
+IsWorkOf (Exports _ _ _ model) (program ∷ log ∷ []) a = IsCnfAnswer program log model a
+IsWorkOf (Imports _ _ _ _ model) (program ∷ log ∷ answer ∷ []) a = IsImportAnswer program log answer model a
 IsWorkOf _ _ a = ⊥
 
 -- the answer of a command to what its inputs hold
@@ -122,26 +238,42 @@ abbrev pub IsAnswerTo : Called → Texts → Answer → Type 0
 IsAnswerTo call t (TooLong i) = IsTooLong (inputs_of call) t i
 IsAnswerTo call t a = AreWithin (inputs_of call) t × IsWorkOf call t a
 
--- what a command may keep of its inputs: `record` the text of the log of a run that failed or came to a deadlock, `migrate` that of the log in format 2, which isn't long
+-- what a command may keep of its inputs: `record` the text of the log of a run that failed or came to a deadlock, `migrate` that of the
+-- log in format 2, which isn't long, `solve` that of what it found, `cnf` that of the clauses, and `import` that of the schedule
 abbrev pub IsResult : Called → Texts → List ℕ → Type 0
 IsResult (Records _ _ model seed steps) (program ∷ []) text = IsRecorded program model seed steps text
 IsResult (Migrates _ _ _) (program ∷ log ∷ []) text = IsMigrated program log text × (length text ≤ most_log_bytes)
+IsResult (Solves _ _ _ model budget) (program ∷ log ∷ []) text = (x : Solution) × IsSolution program log model budget x × (text ≡ solution_text x)
+IsResult (Exports _ _ _ model) (program ∷ log ∷ []) text = (f : Formula) × IsCnfAnswer program log model (Exported f) × (text ≡ cnf_text f)
+IsResult (Imports _ _ _ _ model) (program ∷ log ∷ answer ∷ []) text =
+    (s : MadeSchedule) × IsImportAnswer program log answer model (Imported s) × (text ≡ schedule_text s.model s.moves.items)
 IsResult _ _ text = ⊥
 
 -- the name under which a command keeps it, and whether this is that name
 abbrev pub IsOutput : Called → List ℕ → Type 0
 IsOutput (Records _ log _ _ _) name = name ≡ log
 IsOutput (Migrates _ _ out) name = name ≡ out
+IsOutput (Solves _ _ out _ _) name = name ≡ out
+IsOutput (Exports _ _ out _) name = name ≡ out
+IsOutput (Imports _ _ _ out _) name = name ≡ out
 IsOutput _ name = ⊥
 
 -- a result was kept under the command's name for it
 abbrev pub KeepsResult : Called → Texts → ShelfTells → ShelfTells → Type 0
 KeepsResult call t old new = (name : List ℕ) × (text : List ℕ) × IsOutput call name × IsResult call t text × Kept old new name text
 
--- what a command does to the shelf once it has its inputs: with a run that has a log, and with a log in format 2, it keeps a result, and else nothing
+-- this text was kept under the command's name for its result
+abbrev pub KeepsText : Called → List ℕ → ShelfTells → ShelfTells → Type 0
+KeepsText call text old new = (name : List ℕ) × IsOutput call name × Kept old new name text
+
+-- what a command does to the shelf once it has its inputs: with a run that has a log, a log in format 2, what a search found, the
+-- clauses of a log, and a schedule of another solver's answer, it keeps a result, and else nothing
 abbrev pub DoesWith : Called → Texts → Answer → ShelfTells → ShelfTells → Type 0
 DoesWith call t (Recorded _) old new = KeepsResult call t old new
 DoesWith call t Migrated old new = KeepsResult call t old new
+DoesWith call t (Solved x) old new = KeepsText call (solution_text x) old new
+DoesWith call t (Exported f) old new = KeepsText call (cnf_text f) old new
+DoesWith call t (Imported s) old new = KeepsText call (schedule_text s.model s.moves.items) old new
 DoesWith call t _ old new = new ≡ old
 
 -- a result couldn't be kept under this name

@@ -1,10 +1,17 @@
--- Logs and schedules as the bytes of files, and what is said of bytes that are none.
-use Rattle.std.specs.Prelude.{◌≡◌, ◌≢◌, ℕ, List, IsSomeAnd}
+-- Logs, schedules and refutations as the bytes of files, and what is said of bytes that are none.
+use Rattle.std.specs.Prelude.{◌≡◌, ◌≢◌, ℕ, List, ◌∷◌, Option, Some, None, is_some, IsSomeAnd, if◌then◌else◌}
 use Rattle.sha2.specs.Sha256.{sha256}
 use Rattle.tc_base.specs.declared.model.Model.{Model}
 use Rattle.tc_base.specs.declared.moves.Move.{Move}
 use Rattle.path_log.specs.Texts.{StoredLog, HasText, log_text}
 use Rattle.schedule_file.specs.Schedules.{HaveText, schedule_text}
+use Rattle.refute_check.specs.Laws.{IsWhole}
+use Rattle.refute_check.specs.Reading.{ReadsTo, beginning}
+use Rattle.refute_check.specs.Texts.{refutation_text}
+use Rattle.refute_check.specs.declared.head.Head.{Head}
+use Rattle.refute_check.specs.declared.line.Line.{Line}
+use Rattle.refute_check.specs.declared.text.Taken.{Taken}
+use Rattle.refute_check.specs.declared.text.Taken.TheVariants.{Header}
 
 -- the bytes are the log's
 pub record IsLog (bytes : List ℕ) (log : StoredLog) : Type 0 where
@@ -24,3 +31,21 @@ pub record Schedule : Type 0 where
 pub record IsSchedule (bytes : List ℕ) (schedule : Schedule) : Type 0 where
   pub have_text : HaveText schedule.model schedule.moves
   pub text : bytes ≡ schedule_text schedule.model schedule.moves
+
+-- the first line of a refutation that speaks of all schedules, however often they switch threads
+abbrev pub head_of : Model → Head
+head_of model = record { model = model; switches = None }
+
+-- the bytes are those of a refutation under this memory model, with these lines after the first one
+pub record IsRefutation (bytes : List ℕ) (model : Model) (lines : List Line) : Type 0 where
+  pub whole : IsWhole (head_of model) lines
+  pub text : bytes ≡ refutation_text (head_of model) lines
+
+-- the first line that breaks the form, where a first line may name no number of switches
+abbrev pub first_broken : List Taken → Option ℕ → Option ℕ
+first_broken (Header head ∷ _) broken = if is_some head.switches then Some 1 else broken
+first_broken _ broken = broken
+
+-- the line of this number, from 1, is the first that breaks the form of a refutation
+abbrev pub IsBrokenAt : List ℕ → ℕ → Type 0
+IsBrokenAt bytes line = (taken : List Taken) × (broken : Option ℕ) × ReadsTo beginning bytes taken broken × (first_broken taken broken ≡ Some line)

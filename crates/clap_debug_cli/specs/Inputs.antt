@@ -1,47 +1,77 @@
--- The files that a command reads, and what becomes of their fetches.
+-- The files that a command reads, and what becomes of reading them.
 use Rattle.std.specs.Prelude.{◌≡◌, ◌⊎◌, ℕ, ◌<◌, ◌≤◌, List, [], ◌∷◌, length, map, codes}
 use Rattle.tc_base.specs.declared.limits.TheConstants.{PROGRAM_BYTES, LOG_BYTES, SCHEDULE_BYTES}
-use Rattle.tc_io.specs.Outside.{Files, ShelfTells, Gave, FailedToGive, WasTooLong, bytes_at}
-use Rattle.clap_debug_words.specs.Calls.{Called, Lists, Replays, Records, Migrates}
+use Rattle.tc_io.specs.Outside.{Files, ShelfTells, Gave, FailedToGive, WasTooLong, GaveReading, FailedReading, bytes_at}
+use Rattle.clap_debug_words.specs.Calls.{Called, Lists, Replays, Records, Migrates, Solves, Checks, Workloads, Exports, Imports}
 use Rattle.clap_debug_cli.specs.declared.input.Input.{Input}
-use Rattle.clap_debug_cli.specs.declared.input.Input.TheVariants.{Program, Log, Schedule}
+use Rattle.clap_debug_cli.specs.declared.input.Input.TheVariants.{Program, Log, Schedule, Answer}
+use Rattle.clap_debug_cli.specs.declared.input.TheConstants.{ANSWER_BYTES}
 
 -- the most bytes of an input
 abbrev pub limit_of : Input → ℕ
 limit_of Program = PROGRAM_BYTES
 limit_of Log = LOG_BYTES
 limit_of Schedule = SCHEDULE_BYTES
+limit_of Answer = ANSWER_BYTES
 
 abbrev pub input_text : Input → List ℕ
 input_text Program = codes "program"
 input_text Log = codes "log"
 input_text Schedule = codes "schedule"
+input_text Answer = codes "answer"
 
--- an input, and the word that names it
-pub record Wanted : Type 0 where
-  pub input : Input
-  pub name : List ℕ
+-- an input, and the word that names it: a file that is fetched, or one of any length that is read in pieces
+pub data Wanted : Type 0 where
+  Whole : (input : Input) (name : List ℕ) → Wanted
+  InPieces : (name : List ℕ) → Wanted
 
-abbrev pub wanted : Input → List ℕ → Wanted
-wanted input name = record { input = input; name = name }
+abbrev pub name_of : Wanted → List ℕ
+name_of (Whole input name) = name
+name_of (InPieces name) = name
 
--- the inputs of a command, in the order in which they are fetched
+-- the inputs of a command, in the order in which they are read
 abbrev pub inputs_of : Called → List Wanted
-inputs_of (Lists program) = wanted Program program ∷ []
-inputs_of (Replays program log schedule) = wanted Program program ∷ wanted Log log ∷ wanted Schedule schedule ∷ []
-inputs_of (Records program _ _ _ _) = wanted Program program ∷ []
-inputs_of (Migrates program log _) = wanted Program program ∷ wanted Log log ∷ []
+inputs_of (Lists program) = Whole Program program ∷ []
+inputs_of (Replays program log schedule) = Whole Program program ∷ Whole Log log ∷ Whole Schedule schedule ∷ []
+inputs_of (Records program _ _ _ _) = Whole Program program ∷ []
+inputs_of (Migrates program log _) = Whole Program program ∷ Whole Log log ∷ []
+inputs_of (Solves program log _ _ _) = Whole Program program ∷ Whole Log log ∷ []
+inputs_of (Checks program log refutation) = Whole Program program ∷ Whole Log log ∷ InPieces refutation ∷ []
+inputs_of (Workloads _ _) = []
+inputs_of (Exports program log _ _) = Whole Program program ∷ Whole Log log ∷ []
+inputs_of (Imports program log answer _ _) = Whole Program program ∷ Whole Log log ∷ Whole Answer answer ∷ []
 
 -- what inputs hold, in their order
 abbrev pub Texts : Type 0
 Texts = List (List ℕ)
 
 abbrev pub texts_under : Files → Called → Texts
-texts_under files call = map (λ w. bytes_at files w.name) (inputs_of call)
+texts_under files call = map (λ w. bytes_at files (name_of w)) (inputs_of call)
 
 -- the shelf gave these bytes of an input
 abbrev pub GaveInput : Wanted → ShelfTells → ShelfTells → List ℕ → Type 0
-GaveInput w old new bytes = Gave old new w.name (limit_of w.input) bytes
+GaveInput (Whole input name) old new bytes = Gave old new name (limit_of input) bytes
+GaveInput (InPieces name) old new bytes = GaveReading old new name bytes
+
+-- it failed to give an input
+abbrev pub FailedInput : Wanted → ShelfTells → ShelfTells → Type 0
+FailedInput (Whole input name) old new = FailedToGive old new name (limit_of input)
+FailedInput (InPieces name) old new = FailedReading old new name
+
+-- the input is this one, and was longer than its limit
+abbrev pub PassedLimit : Wanted → ShelfTells → ShelfTells → Input → Type 0
+PassedLimit (Whole input name) old new i = (i ≡ input) × WasTooLong old new name (limit_of input)
+PassedLimit (InPieces name) old new i = ⊥
+
+-- a text isn't longer than the limit of its input
+abbrev pub IsWithinLimit : Wanted → List ℕ → Type 0
+IsWithinLimit (Whole input name) text = length text ≤ limit_of input
+IsWithinLimit (InPieces name) text = Unit {0}
+
+-- the input is this one, and the text is longer than its limit
+abbrev pub IsPastLimit : Wanted → List ℕ → Input → Type 0
+IsPastLimit (Whole input name) text i = (i ≡ input) × (limit_of input < length text)
+IsPastLimit (InPieces name) text i = ⊥
 
 -- the shelf gave these inputs one after the other, and nothing else
 abbrev pub GaveAll : List Wanted → ShelfTells → ShelfTells → Texts → Type 0
@@ -56,21 +86,20 @@ GoesOn w old P = (s : ShelfTells) × (bytes : List ℕ) × GaveInput w old s byt
 -- the shelf failed at the input of this name, and gave those before it
 abbrev pub FailsToRead : List Wanted → ShelfTells → ShelfTells → List ℕ → Type 0
 FailsToRead [] old new name = ⊥
-FailsToRead (w ∷ ws) old new name =
-    ((name ≡ w.name) × FailedToGive old new name (limit_of w.input)) ⊎ GoesOn w old (λ s. FailsToRead ws s new name)
+FailsToRead (w ∷ ws) old new name = ((name ≡ name_of w) × FailedInput w old new) ⊎ GoesOn w old (λ s. FailsToRead ws s new name)
 
 -- this input was longer than its limit, and the shelf gave those before it
 abbrev pub PassesLimit : List Wanted → ShelfTells → ShelfTells → Input → Type 0
 PassesLimit [] old new i = ⊥
-PassesLimit (w ∷ ws) old new i = ((i ≡ w.input) × WasTooLong old new w.name (limit_of w.input)) ⊎ GoesOn w old (λ s. PassesLimit ws s new i)
+PassesLimit (w ∷ ws) old new i = PassedLimit w old new i ⊎ GoesOn w old (λ s. PassesLimit ws s new i)
 
 -- no text is longer than the limit of its input
 abbrev pub AreWithin : List Wanted → Texts → Type 0
 AreWithin [] [] = Unit {0}
-AreWithin (w ∷ ws) (t ∷ ts) = (length t ≤ limit_of w.input) × AreWithin ws ts
+AreWithin (w ∷ ws) (t ∷ ts) = IsWithinLimit w t × AreWithin ws ts
 AreWithin _ _ = ⊥
 
 -- the text of this input is the first that is longer than its limit
 abbrev pub IsTooLong : List Wanted → Texts → Input → Type 0
-IsTooLong (w ∷ ws) (t ∷ ts) i = ((i ≡ w.input) × (limit_of w.input < length t)) ⊎ ((length t ≤ limit_of w.input) × IsTooLong ws ts i)
+IsTooLong (w ∷ ws) (t ∷ ts) i = IsPastLimit w t i ⊎ (IsWithinLimit w t × IsTooLong ws ts i)
 IsTooLong _ _ i = ⊥

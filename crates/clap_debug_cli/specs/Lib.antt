@@ -2,6 +2,10 @@ pub mod Files
 pub mod Inputs
 pub mod Recorded
 pub mod Migrated
+pub mod Solved
+pub mod Worked
+pub mod Solvers
+pub mod Checked
 pub mod Answers
 pub mod Causes
 pub mod Call

@@ -5,9 +5,9 @@ use Rattle.tc_base.specs.Logs.{Log, ThreadPath}
 use Rattle.tc_code.specs.Code.{Code}
 use Rattle.path_log.specs.Texts.{StoredLog, log_text}
 use Rattle.path_walk.specs.Fits.{Fits}
-use Rattle.tc_record.specs.Ends.{limit_of}
-use Rattle.tc_record.specs.declared.end.Which.{Which}
-use Rattle.tc_record.specs.declared.end.Which.TheVariants.{Threads, Depth}
+use Rattle.clap_system.specs.Faults.{limit_of}
+use Rattle.clap_system.specs.declared.fault.Which.{Which}
+use Rattle.clap_system.specs.declared.fault.Which.TheVariants.{Threads, Depth}
 use Rattle.clap_debug_cli.specs.Files.{IsLog, IsOfOther}
 use Rattle.tc_compile.specs.Programs.{IsCodeOf}
 use Rattle.clap_debug_cli.specs.Recorded.{with_digest}

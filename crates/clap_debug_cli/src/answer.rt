@@ -10,17 +10,34 @@ ghost use Rattle.clap_debug_cli.specs.Answers.{
   over_line,
   usage_text,
   which_text,
+  excess_text,
+  solution_line,
+  solution_status,
+  checked_line,
+  checked_status,
   failure_line,
   outcome_line,
   ending_line,
   ending_status,
+  end_word,
+  found_words,
+  work_line,
+  work_status,
+  clauses_line,
+  schedule_line,
 };
 ghost use Rattle.clap_debug_cli.specs.declared.answer.Answer.TheVariants as answer;
+ghost use Rattle.clap_debug_cli.specs.helpers.Lines.{count_line};
 
 use crate::input::Input;
+use clap_solve::Answer as Found;
+use clap_system::{BuildFault, Which as WhichInLog};
+use cnf_core::Cnf;
+use dimacs_text::AnswerFault;
 use path_log::LogFault;
 use path_walk::{Misfit, WalkFault};
-use schedule_file::ScheduleFault;
+use refute_check::Checked;
+use schedule_file::{Schedule, ScheduleFault};
 use schedule_replay::Verdict;
 use std::alloc::{AllocError, Global};
 use std::fmt;
@@ -77,8 +94,18 @@ pub(crate) enum LogRefusal {
 /// More of something than a log may have, and how many.
 #[derive(Clone, Copy, Debug, PartialEq, Eq)]
 pub(crate) struct Excess {
-    pub(crate) which: Which,
-    pub(crate) number: usize,
+    pub(crate) which: WhichInLog,
+    pub(crate) number: u64,
+}
+
+/// What a search for a schedule found.
+#[derive(Debug, Drop)]
+pub(crate) struct Solution {
+    /// The memory model under which it searched.
+    pub(crate) model: tc_base::Model,
+    /// How many conflicts it might have.
+    pub(crate) budget: u32,
+    pub(crate) answer: Found,
 }
 
 /// A failure of a run.
@@ -112,6 +139,34 @@ pub(crate) enum Ending {
     Over(Which),
 }
 
+/// How a run of a workload ended.
+#[derive(Clone, Copy, Debug, PartialEq, Eq)]
+pub(crate) enum RunEnd {
+    /// A thread failed.
+    Failed,
+    /// Every thread exited.
+    Finished,
+    /// No move was enabled, and not every thread had exited.
+    Deadlock,
+    /// It passed a limit.
+    Limit,
+    /// It made as many moves as it might.
+    StepLimit,
+}
+
+/// What came of a workload.
+#[derive(Debug, Drop)]
+pub(crate) struct Work {
+    pub(crate) workers: u32,
+    pub(crate) seed: u64,
+    /// How the run that the seed chose ended.
+    pub(crate) end: RunEnd,
+    /// What was found under total store order.
+    pub(crate) tso: Found,
+    /// What was found under sequential consistency.
+    pub(crate) sc: Found,
+}
+
 /// What is answered.
 #[derive(Drop)]
 pub(crate) enum Answer<'a> {
@@ -139,6 +194,24 @@ pub(crate) enum Answer<'a> {
     LogOver(Excess),
     /// The log is kept in format 2.
     Migrated,
+    /// The third file is no refutation, from the line of this number on.
+    RefutationRefused(u32),
+    /// The search found this, and its text is kept.
+    Solved(Solution),
+    /// The lines of the refutation pass, and show this.
+    Accepted(Checked),
+    /// The line of the refutation of this number is the first that doesn't pass.
+    LineRefused(u32),
+    /// This came of a workload.
+    Worked(Work),
+    /// The third file is no answer of a solver, from the line of this number on.
+    AnswerRefused(usize),
+    /// These are the clauses of the log, and their text is kept.
+    Exported(Cnf),
+    /// The solver's answer satisfies the clauses of the log, and the text of this schedule is kept.
+    Imported(Schedule),
+    /// The clause of this number is the first that it leaves false.
+    ClauseFalse(u32),
     /// A result couldn't be kept under this name.
     WriteFault(FileName<'a>),
     /// There is no memory.
@@ -187,6 +260,20 @@ impl<'a> From<ScheduleFault> for Answer<'a> {
     }
 }
 
+impl<'a> From<AnswerFault> for Answer<'a> {
+    ghost use Rattle.std.specs.Prelude.{◌≡◌};
+    ghost use Rattle.clap_debug_cli.specs.helpers.Faults.{literals_answer};
+
+    ghost from_gives = { λ fault answer. answer ≡ literals_answer fault };
+
+    fn from(fault: AnswerFault) -> Self {
+        match fault {
+            AnswerFault::Form(line) => Answer::AnswerRefused(line),
+            AnswerFault::Memory => Answer::NoMemory,
+        }
+    }
+}
+
 impl<'a> From<WalkFault> for Answer<'a> {
     ghost use Rattle.std.specs.Prelude.{◌≡◌};
     ghost use Rattle.clap_debug_cli.specs.helpers.Faults.{walk_answer};
@@ -215,6 +302,21 @@ impl<'a> From<SeededFault> for Answer<'a> {
     }
 }
 
+impl<'a> From<BuildFault> for Answer<'a> {
+    ghost use Rattle.std.specs.Prelude.{◌≡◌};
+    ghost use Rattle.clap_debug_cli.specs.helpers.Faults.{build_answer};
+
+    ghost from_gives = { λ fault answer. answer ≡ build_answer fault };
+
+    fn from(fault: BuildFault) -> Self {
+        match fault {
+            BuildFault::Limit(which, number, _) => Answer::LogOver(Excess { which, number }),
+            BuildFault::Walk(fault) => Answer::from(fault),
+            BuildFault::Memory => Answer::NoMemory,
+        }
+    }
+}
+
 impl<'a> From<AllocError> for Answer<'a> {
     ghost use Rattle.std.specs.Prelude.{◌≡◌};
     ghost use Rattle.clap_debug_cli.specs.declared.answer.Answer.TheVariants.{NoMemory};
@@ -234,6 +336,8 @@ const USAGE: &str = concat!(
     "usage: clap_debug list PROGRAM\n",
     "usage: clap_debug workload N SEED\n",
     "usage: clap_debug migrate PROGRAM LOG OUT\n",
+    "usage: clap_debug cnf PROGRAM LOG OUT [--model sc|tso|pso]\n",
+    "usage: clap_debug import PROGRAM LOG ANSWER OUT [--model sc|tso|pso]\n",
 );
 
 /// What is written.
@@ -253,8 +357,19 @@ pub(crate) fn line(alloc: Global, answer: &Answer) -> Result<Vec<u8>, AllocError
         Answer::Replayed(verdict) => bytes(verdict_line(alloc, verdict)),
         Answer::Recorded(outcome) => bytes(outcome_line(alloc, outcome)),
         Answer::RunEnded(ending) => bytes(ending_line(alloc, *ending)),
-        Answer::LogOver(excess) => bytes(over_line(alloc, excess.which, excess.number as u64)),
+        Answer::LogOver(excess) => bytes(excess_line(alloc, *excess)),
         Answer::Migrated => bytes(String::from_str(alloc, "migrated\n")),
+        Answer::RefutationRefused(line) => bytes(format!(in alloc;
+            "refutation refused: line {line}\n"
+        )),
+        Answer::Solved(solution) => bytes(solution_line(alloc, solution)),
+        Answer::Accepted(checked) => bytes(String::from_str(alloc, checked_line(*checked))),
+        Answer::LineRefused(line) => bytes(format!(in alloc; "line {line} refused\n")),
+        Answer::Worked(work) => bytes(work_line(alloc, work)),
+        Answer::AnswerRefused(line) => bytes(format!(in alloc; "answer refused: line {line}\n")),
+        Answer::Exported(clauses) => bytes(clauses_line(alloc, clauses)),
+        Answer::Imported(schedule) => bytes(schedule_line(alloc, schedule)),
+        Answer::ClauseFalse(number) => bytes(format!(in alloc; "clause {number} false\n")),
         Answer::WriteFault(name) => bytes(format!(in alloc; "write fault: {name}\n")),
         Answer::NoMemory => bytes(String::from_str(alloc, "no memory\n")),
     }
@@ -306,6 +421,7 @@ fn input_text(input: Input) -> &'static str
         Input::Program => "program",
         Input::Log => "log",
         Input::Schedule => "schedule",
+        Input::Answer => "answer",
     }
 }
 
@@ -344,16 +460,115 @@ fn ending_line(alloc: Global, ending: Ending) -> Result<String, AllocError>
     match ending {
         Ending::Finished => String::from_str(alloc, "finished\n"),
         Ending::StepLimit(moves) => format!(in alloc; "no failure in {moves} moves\n"),
-        Ending::Over(which) => over_line(alloc, which, which.limit() + 1),
+        Ending::Over(which) => over_line(
+            alloc,
+            which_text(which),
+            which.limit() + 1,
+            which.limit(),
+        ),
     }
 }
 
-fn over_line(alloc: Global, which: Which, number: u64) -> Result<String, AllocError>
-    ensures { IfOk result (λ text. string_bytes text ≡ over_line which number) }
+fn excess_line(alloc: Global, excess: Excess) -> Result<String, AllocError>
+    ensures { IfOk result (λ text. string_bytes text ≡ line_of (answer.LogOver excess)) }
 {
-    let limit = which.limit();
-    let which = which_text(which);
-    format!(in alloc; "limit {which} {number} of {limit}\n")
+    let Excess { which, number } = excess;
+    over_line(alloc, excess_text(which), number, which.limit())
+}
+
+fn over_line(alloc: Global, what: &str, number: u64, most: u64) -> Result<String, AllocError>
+    ensures { IfOk result (λ text. string_bytes text ≡ over_line what.now number most) }
+{
+    format!(in alloc; "limit {what} {number} of {most}\n")
+}
+
+fn solution_line(alloc: Global, solution: &Solution) -> Result<String, AllocError>
+    ensures { IfOk result (λ text. string_bytes text ≡ solution_line solution.now) }
+{
+    match &solution.answer {
+        Found::Found(schedule) => schedule_line(alloc, schedule),
+        Found::Impossible(derivation) => {
+            let lines = derivation.lines().len();
+            format!(in alloc; "impossible, {lines} lines\n")
+        }
+        Found::Spent(_) => {
+            let conflicts = solution.budget;
+            format!(in alloc; "spent after {conflicts} conflicts\n")
+        }
+    }
+}
+
+fn schedule_line(alloc: Global, schedule: &Schedule) -> Result<String, AllocError>
+    ensures { IfOk result (λ text. string_bytes text ≡ schedule_line schedule.now) }
+{
+    let moves = schedule.moves.len();
+    format!(in alloc; "schedule {moves} moves\n")
+}
+
+fn clauses_line(alloc: Global, clauses: &Cnf) -> Result<String, AllocError>
+    ensures { IfOk result (λ text. string_bytes text ≡ clauses_line clauses.now) }
+{
+    count_line(alloc, clauses.vars(), clauses.len())
+}
+
+fn count_line(alloc: Global, variables: u32, clauses: usize) -> Result<String, AllocError>
+    ensures { IfOk result (λ text. string_bytes text ≡ count_line variables clauses) }
+{
+    format!(in alloc; "cnf {variables} variables, {clauses} clauses\n")
+}
+
+fn work_line(alloc: Global, work: &Work) -> Result<String, AllocError>
+    ensures { IfOk result (λ text. string_bytes text ≡ work_line work.now) }
+{
+    let (workers, seed, end) = (work.workers, work.seed, end_word(work.end));
+    let tso = found_words(alloc, &work.tso)?;
+    let sc = found_words(alloc, &work.sc)?;
+    format!(in alloc; "workload {workers} {seed}: record {end}, tso {tso}, sc {sc}\n")
+}
+
+fn found_words(alloc: Global, found: &Found) -> Result<String, AllocError>
+    ensures { IfOk result (λ text. string_bytes text ≡ found_words found.now) }
+{
+    match found {
+        Found::Found(schedule) => {
+            let moves = schedule.moves.len();
+            format!(in alloc; "{moves} moves")
+        }
+        Found::Impossible(_) => String::from_str(alloc, "impossible"),
+        Found::Spent(_) => String::from_str(alloc, "spent"),
+    }
+}
+
+fn end_word(end: RunEnd) -> &'static str
+    ensures { result.now ≡ end_word end }
+{
+    match end {
+        RunEnd::Failed => "failed",
+        RunEnd::Finished => "finished",
+        RunEnd::Deadlock => "deadlock",
+        RunEnd::Limit => "limit",
+        RunEnd::StepLimit => "step-limit",
+    }
+}
+
+fn checked_line(checked: Checked) -> &'static str
+    ensures { result.now ≡ checked_line checked }
+{
+    match checked {
+        Checked::Closed => "accepted, impossible\n",
+        Checked::Open => "accepted, open\n",
+    }
+}
+
+fn excess_text(which: WhichInLog) -> &'static str
+    ensures { result.now ≡ excess_text which }
+{
+    match which {
+        WhichInLog::Threads => "threads",
+        WhichInLog::Depth => "depth",
+        WhichInLog::Events => "events",
+        WhichInLog::Operators => "operators",
+    }
 }
 
 fn which_text(which: Which) -> &'static str
@@ -376,11 +591,20 @@ pub(crate) fn status(answer: &Answer) -> u8
         Answer::Replayed(_) => 1,
         Answer::Recorded(_) => 0,
         Answer::Migrated => 0,
+        Answer::Solved(solution) => solution_status(solution),
+        Answer::Accepted(checked) => checked_status(*checked),
+        Answer::LineRefused(_) => 1,
+        Answer::Worked(work) => work_status(work),
+        Answer::Exported(_) => 0,
+        Answer::Imported(_) => 0,
+        Answer::ClauseFalse(_) => 1,
         Answer::RunEnded(ending) => ending_status(*ending),
         Answer::Usage => 2,
         Answer::ProgramRefused(_) => 3,
         Answer::LogRefused(_) => 4,
         Answer::ScheduleRefused(_) => 5,
+        Answer::RefutationRefused(_) => 5,
+        Answer::AnswerRefused(_) => 5,
         Answer::TooLong(_) => 6,
         Answer::LogOver(_) => 6,
         Answer::ReadFault(_) => 7,
@@ -396,5 +620,33 @@ fn ending_status(ending: Ending) -> u8
         Ending::Finished => 1,
         Ending::Over(_) => 6,
         Ending::StepLimit(_) => 10,
+    }
+}
+
+fn solution_status(solution: &Solution) -> u8
+    ensures { result ≡ solution_status solution.now }
+{
+    match &solution.answer {
+        Found::Found(_) => 0,
+        Found::Impossible(_) => 1,
+        Found::Spent(_) => 10,
+    }
+}
+
+fn work_status(work: &Work) -> u8
+    ensures { result ≡ work_status work.now }
+{
+    match (&work.tso, &work.sc) {
+        (Found::Spent(_), _) | (_, Found::Spent(_)) => 10,
+        _ => 0,
+    }
+}
+
+fn checked_status(checked: Checked) -> u8
+    ensures { result ≡ checked_status checked }
+{
+    match checked {
+        Checked::Closed => 0,
+        Checked::Open => 10,
     }
 }

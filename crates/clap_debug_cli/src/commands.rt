@@ -1,15 +1,20 @@
 //! The commands: what each reads, what it works out, and what it keeps and says.
 ghost use Rattle.std.specs.Prelude.{◌≡◌, IfErr, OnOk};
-ghost use Rattle.tc_io.specs.Outside.{Kept};
-ghost use Rattle.clap_debug_words.specs.Calls.{Lists, Replays, Records, Migrates};
+ghost use Rattle.tc_io.specs.Outside.{Kept, ShelfTells};
+ghost use Rattle.clap_debug_words.specs.Calls.{Lists, Replays, Records, Migrates, Solves, Checks, Workloads, Exports, Imports};
 ghost use Rattle.clap_debug_cli.specs.Causes.{IsCauseOf};
 ghost use Rattle.clap_debug_cli.specs.helpers.Refused.{IsEither, IsWhyUnkept};
 
 use crate::answer::{Answer, FileName};
+use crate::check::checked;
 use crate::input::{Input, fetch};
 use crate::migrate::migrated;
 use crate::replay::replayed;
 use crate::run::recorded;
+use crate::solve::solved;
+use crate::solvers::{exported, imported};
+use crate::workload::worked;
+use clap_debug_words::{Budget, Workers};
 use std::alloc::Global;
 use tc_base::Model;
 use tc_compile::compile;
@@ -79,6 +84,93 @@ pub(crate) fn migrate_log<'a, H: Shelf>(
     let text = migrated(alloc, &program, &log)?;
     keep(alloc, shelf, out, &text)?;
     Ok(Answer::Migrated)
+}
+
+/// `solve PROGRAM LOG OUT`: keeps a schedule that leads to the failure or the deadlock of the log, or a refutation that shows
+/// that there is none, or how far the search came.
+pub(crate) fn solve_log<'a, H: Shelf>(
+    alloc: Global,
+    shelf: &mut H,
+    program: &'a str,
+    log: &'a str,
+    out: &'a str,
+    model: Option<Model>,
+    budget: Budget,
+) -> Result<Answer<'a>, Answer<'a>>
+    ensures { IsEither result (IsCauseOf (Solves program.now log.now out.now model budget.conflicts) (H.tells shelf.old) (H.tells shelf.new)) }
+{
+    let program = fetch(alloc, shelf, Input::Program, program)?;
+    let log = fetch(alloc, shelf, Input::Log, log)?;
+    let (solution, text) = solved(alloc, &program, &log, model, budget)?;
+    keep(alloc, shelf, out, &text)?;
+    Ok(Answer::Solved(solution))
+}
+
+/// `check PROGRAM LOG REFUTATION`: whether the refutation shows that nothing leads to the failure or the deadlock of the log.
+pub(crate) fn check_refutation<'a, H: Shelf>(
+    alloc: Global,
+    shelf: &mut H,
+    program: &'a str,
+    log: &'a str,
+    refutation: &'a str,
+) -> Result<Answer<'a>, Answer<'a>>
+    ensures { IsEither result (IsCauseOf (Checks program.now log.now refutation.now) (H.tells shelf.old) (H.tells shelf.new)) }
+{
+    let program = fetch(alloc, shelf, Input::Program, program)?;
+    let log = fetch(alloc, shelf, Input::Log, log)?;
+    let checked = checked(alloc, shelf, &program, &log, refutation)?;
+    Ok(Answer::Accepted(checked))
+}
+
+/// `workload N SEED`: how a run of a generated program ends, and what searches for a schedule of its log find.
+pub(crate) fn try_workload<'a>(
+    alloc: Global,
+    workers: Workers,
+    seed: u64,
+) -> Result<Answer<'a>, Answer<'a>>
+    ensures { IsEither result (λ answer. (tells : ShelfTells) → IsCauseOf (Workloads workers.count seed) tells tells answer) }
+{
+    let work = worked(alloc, workers, seed)?;
+    Ok(Answer::Worked(work))
+}
+
+/// `cnf PROGRAM LOG OUT`: keeps the clauses of the log, which other solvers can read.
+pub(crate) fn export_clauses<'a, H: Shelf>(
+    alloc: Global,
+    shelf: &mut H,
+    program: &'a str,
+    log: &'a str,
+    out: &'a str,
+    model: Option<Model>,
+) -> Result<Answer<'a>, Answer<'a>>
+    ensures { IsEither result (IsCauseOf (Exports program.now log.now out.now model) (H.tells shelf.old) (H.tells shelf.new)) }
+{
+    let program = fetch(alloc, shelf, Input::Program, program)?;
+    let log = fetch(alloc, shelf, Input::Log, log)?;
+    let (clauses, text) = exported(alloc, &program, &log, model)?;
+    keep(alloc, shelf, out, &text)?;
+    Ok(Answer::Exported(clauses))
+}
+
+/// `import PROGRAM LOG ANSWER OUT`: keeps a schedule of what another solver answers, or says the first clause that it leaves
+/// false.
+pub(crate) fn import_answer<'a, H: Shelf>(
+    alloc: Global,
+    shelf: &mut H,
+    program: &'a str,
+    log: &'a str,
+    answer: &'a str,
+    out: &'a str,
+    model: Option<Model>,
+) -> Result<Answer<'a>, Answer<'a>>
+    ensures { IsEither result (IsCauseOf (Imports program.now log.now answer.now out.now model) (H.tells shelf.old) (H.tells shelf.new)) }
+{
+    let program = fetch(alloc, shelf, Input::Program, program)?;
+    let log = fetch(alloc, shelf, Input::Log, log)?;
+    let answer = fetch(alloc, shelf, Input::Answer, answer)?;
+    let (schedule, text) = imported(alloc, &program, &log, &answer, model)?;
+    keep(alloc, shelf, out, &text)?;
+    Ok(Answer::Imported(schedule))
 }
 
 /// Keeps a result.

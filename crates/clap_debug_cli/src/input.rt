@@ -3,7 +3,7 @@ ghost use Rattle.std.specs.Prelude.{◌≡◌, ◌≤◌, length, IfOk, IfErr, O
 ghost use Rattle.tc_base.specs.declared.limits.TheConstants.{PROGRAM_BYTES};
 ghost use Rattle.tc_compile.specs.Programs.{IsCodeOf};
 ghost use Rattle.clap_debug_cli.specs.Files.{IsLog, IsOfOther};
-ghost use Rattle.clap_debug_cli.specs.Inputs.{limit_of, wanted, GaveInput};
+ghost use Rattle.clap_debug_cli.specs.Inputs.{limit_of, Whole, GaveInput};
 ghost use Rattle.clap_debug_cli.specs.helpers.Refused.{IsWhyMissing, IsWhyUnread, IsWhyOther};
 
 use crate::answer::{Answer, FileName, LogRefusal};
@@ -14,12 +14,17 @@ use tc_code::Code;
 use tc_compile::compile;
 use tc_io::{FetchFault, Shelf};
 
+/// The most bytes of a solver's answer.
+const ANSWER_BYTES: u64 = 67_108_864;
+
 /// One of the files.
 #[derive(Clone, Copy, Debug, PartialEq, Eq)]
 pub(crate) enum Input {
     Program,
     Log,
     Schedule,
+    /// A solver's answer.
+    Answer,
 }
 
 impl Input {
@@ -31,6 +36,7 @@ impl Input {
             Input::Program => PROGRAM_BYTES,
             Input::Log => LOG_BYTES,
             Input::Schedule => SCHEDULE_BYTES,
+            Input::Answer => ANSWER_BYTES,
         }
     }
 }
@@ -42,8 +48,8 @@ pub(crate) fn fetch<'a, H: Shelf>(
     input: Input,
     name: &'a str,
 ) -> Result<Vec<u8>, Answer<'a>>
-    ensures gave { IfOk result (λ bytes. GaveInput (wanted input name.now) (H.tells shelf.old) (H.tells shelf.new) bytes.items) }
-    ensures missing { IfErr result (IsWhyMissing (wanted input name.now) (H.tells shelf.old) (H.tells shelf.new)) }
+    ensures gave { IfOk result (λ bytes. GaveInput (Whole input name.now) (H.tells shelf.old) (H.tells shelf.new) bytes.items) }
+    ensures missing { IfErr result (IsWhyMissing (Whole input name.now) (H.tells shelf.old) (H.tells shelf.new)) }
 {
     match shelf.fetch(alloc, name, input.limit()) {
         Ok(bytes) => Ok(bytes),

@@ -1,31 +1,41 @@
 //! The top call: from the words and the files that come in to the line and the status that go out.
 #![tactic(auto)]
 
-ghost use Rattle.std.specs.Prelude.{◌≡◌, ◌≤◌, ℕ, List, Some, length, map, string_bytes};
+ghost use Rattle.std.specs.Prelude.{◌≡◌, ◌≤◌, ℕ, List, Option, Some, true, length, map, string_bytes, unwrap_or};
 ghost use Rattle.sha2.specs.Sha256.{sha256};
+ghost use Rattle.tc_base.specs.declared.model.Model.{Model};
 ghost use Rattle.path_log.specs.Texts.{StoredLog};
 ghost use Rattle.tc_record.specs.Logged.{most_log_bytes};
 ghost use Rattle.clap_debug_words.specs.Calls.{plain_call};
 ghost use Rattle.clap_debug_cli.specs.declared.answer.Answer.TheVariants.{NoMemory};
-ghost use Rattle.clap_debug_cli.specs.Causes.{IsCause, IsCauseOf};
+ghost use Rattle.clap_debug_cli.specs.Causes.{IsAcceptedAs, IsCause, IsCauseOf};
 ghost use Rattle.clap_debug_cli.specs.Call.{IfTold, Says, SaysNoMore, CallAnswers, ToldAnswers, CommandAnswers};
 ghost use Rattle.clap_debug_cli.specs.Files.{IsLog};
 ghost use Rattle.clap_debug_cli.specs.Inputs.{texts_under};
 ghost use Rattle.clap_debug_cli.specs.Migrated.{IsMigrated};
-ghost use Rattle.clap_debug_cli.specs.Recorded.{with_digest};
+ghost use Rattle.clap_debug_cli.specs.Recorded.{IsRecorded, with_digest};
+ghost use Rattle.clap_debug_cli.specs.Solved.{IsPossible, IsSolution, allows, solution_text};
+ghost use Rattle.clap_debug_cli.specs.declared.answer.Solution.{Solution};
 ghost use Rattle.clap_debug_cli.specs.helpers.Refused.{IsEither};
 
 mod answer;
+mod check;
 mod commands;
 mod input;
 mod migrate;
 mod output;
 mod replay;
 mod run;
+mod solve;
+mod solvers;
+mod workload;
 
 use answer::{Answer, line, status};
 use clap_debug_words::{Call, call_of};
-use commands::{list_program, migrate_log, record_run, replay_schedule};
+use commands::{
+    check_refutation, export_clauses, import_answer, list_program, migrate_log, record_run,
+    replay_schedule, solve_log, try_workload,
+};
 use std::alloc::Global;
 use tc_io::{PutFault, Shelf, Sink};
 
@@ -43,7 +53,7 @@ pub fn clap_debug<H: Shelf, K: Sink>(
     ensures told { IfTold (map string_bytes words.now) (H.tells shelf.old).held
         (λ call files. ToldAnswers call (texts_under files call) result (K.tells sink.old) (K.tells sink.new)) }
     ensures command { IfTold (map string_bytes words.now) (H.tells shelf.old).held
-        (λ call files. CommandAnswers call files result (K.tells sink.old) (K.tells sink.new)) }
+        (λ call files. CommandAnswers call files (H.tells shelf.new).held result (K.tells sink.old) (K.tells sink.new)) }
 {
     let answer = answered(alloc, words, shelf);
     say(alloc, &answer, sink)
@@ -59,6 +69,21 @@ pub fn migrating_keeps_the_log()
         → text ≡ log }
     // The text isn't too long for a log's: it has at most half of the bytes that a log may have.
     ensures short { (program log text : List ℕ) → IsMigrated program log text → length text ≤ most_log_bytes }
+{}
+
+/// Some moves reproduce a log that `record` wrote, under its memory model and under each that allows more. So `solve` never
+/// calls it impossible there.
+pub fn recorded_logs_are_possible()
+    ensures { (program log : List ℕ) (made : Model) (seed steps : ℕ) (model : Option Model) → IsRecorded program made seed steps log
+        → allows made (unwrap_or model made) ≡ true → IsPossible program log model }
+{}
+
+/// What `solve` keeps is accepted: with the same program and log `replay` answers that its schedule reproduces the log, and
+/// `check` that its refutation shows the log to be impossible, or that it is open. So by `told.exactly` of [`clap_debug`] the
+/// status is 0, and 10 where it is open, but for devices, memory and a file that is too long.
+pub fn solutions_are_accepted()
+    ensures { (program log : List ℕ) (model : Option Model) (budget : ℕ) (x : Solution) → IsSolution program log model budget x
+        → IsAcceptedAs program log (solution_text x) x.answer }
 {}
 
 /// What is answered to the words.
@@ -99,6 +124,32 @@ fn answer_to<'a, H: Shelf>(
             steps,
         } => record_run(alloc, shelf, program, log, model, seed, steps),
         Call::Migrate { program, log, out } => migrate_log(alloc, shelf, program, log, out),
+        Call::Solve {
+            program,
+            log,
+            out,
+            model,
+            budget,
+        } => solve_log(alloc, shelf, program, log, out, model, budget),
+        Call::Check {
+            program,
+            log,
+            refutation,
+        } => check_refutation(alloc, shelf, program, log, refutation),
+        Call::Workload { workers, seed } => try_workload(alloc, workers, seed),
+        Call::Cnf {
+            program,
+            log,
+            out,
+            model,
+        } => export_clauses(alloc, shelf, program, log, out, model),
+        Call::Import {
+            program,
+            log,
+            answer,
+            out,
+            model,
+        } => import_answer(alloc, shelf, program, log, answer, out, model),
     }
 }
 

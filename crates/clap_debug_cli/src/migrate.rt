@@ -9,12 +9,12 @@ ghost use Rattle.clap_debug_cli.specs.helpers.Refused.{Refuses};
 use crate::answer::{Answer, Excess};
 use crate::input::{of_program, read_both};
 use crate::output::text_with_digest;
+use clap_system::Which;
 use path_log::{Log, ThreadPath};
 use path_walk::walk;
 use std::alloc::Global;
 use tc_base::limits::{DEPTH, THREADS};
 use tc_code::Code;
-use tc_record::Which;
 
 /// The text of the log in format 2 with the digest of the program.
 pub(crate) fn migrated<'a>(alloc: Global, program: &[u8], log: &[u8]) -> Result<Vec<u8>, Answer<'a>>
@@ -50,13 +50,13 @@ fn excess_of(log: &Log) -> Option<Excess>
     if count > THREADS {
         return Some(Excess {
             which: Which::Threads,
-            number: count,
+            number: count as u64,
         });
     }
     let depth = too_deep(log.threads())?;
     Some(Excess {
         which: Which::Depth,
-        number: depth,
+        number: depth as u64,
     })
 }
 

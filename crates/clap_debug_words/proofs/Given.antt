@@ -36,7 +36,8 @@ use Rattle.clap.specs.Walk.{answers_to, nothing_held, rows_after, stop_after, wa
 use Rattle.clap.proofs.WalkLemmas.{both}
 use Rattle.clap.specs.ValueTests.{accepts, is_unsigned_in}
 use Rattle.clap.specs.declared.builder.value_parser.ValueParser.TheVariants as parser
-use Rattle.tc_base.specs.declared.limits.TheConstants.{MOVES}
+use Rattle.tc_base.specs.declared.limits.TheConstants.{BUDGET, MOVES}
+use Rattle.clap_debug_words.specs.declared.workers.TheConstants.{WORKERS}
 use Rattle.clap_debug_words.specs.CommandLine.{command_line, words_taken, last_seed, lent_texts, model_names}
 use Rattle.clap_debug_words.specs.Given.{HasFiles, HasValues}
 use Rattle.clap_debug_words.proofs.Fits.{AreSetters, Fitness, all_fit, level_fit, level_given, read_fit}
@@ -46,6 +47,8 @@ abbrev fitness : Fitness
 fitness id v = if bytes_eq id (codes "model") then accepts false (parser.Names (lent_texts model_names)) v
     else if bytes_eq id (codes "seed") then is_unsigned_in 0 last_seed v
     else if bytes_eq id (codes "steps") then is_unsigned_in 1 MOVES v
+    else if bytes_eq id (codes "budget") then is_unsigned_in 1 BUDGET v
+    else if bytes_eq id (codes "workers") then is_unsigned_in 1 WORKERS v
     else true
 
 -- the files and the values that stand there
@@ -105,7 +108,37 @@ migrate_has : (rows : List Row) → given_in (sub_at 3) rows ≡ true → HasFil
 migrate_has rows e =
     let a = both (is_some (first_of (codes "program") rows)) _ e in
     let b = both (is_some (first_of (codes "log") rows)) _ a.1 in
-    inr (inr (inr (refl, a.0, b.0, (both (is_some (first_of (codes "out") rows)) _ b.1).0)))
+    inr (inr (inr (inl (refl, a.0, b.0, (both (is_some (first_of (codes "out") rows)) _ b.1).0))))
+
+solve_has : (rows : List Row) → given_in (sub_at 4) rows ≡ true → HasFiles (codes "solve", rows)
+solve_has rows e =
+    let a = both (is_some (first_of (codes "program") rows)) _ e in
+    let b = both (is_some (first_of (codes "log") rows)) _ a.1 in
+    inr (inr (inr (inr (inl (refl, a.0, b.0, (both (is_some (first_of (codes "out") rows)) _ b.1).0)))))
+
+check_has : (rows : List Row) → given_in (sub_at 5) rows ≡ true → HasFiles (codes "check", rows)
+check_has rows e =
+    let a = both (is_some (first_of (codes "program") rows)) _ e in
+    let b = both (is_some (first_of (codes "log") rows)) _ a.1 in
+    inr (inr (inr (inr (inr (inl (refl, a.0, b.0, (both (is_some (first_of (codes "refutation") rows)) _ b.1).0))))))
+
+workload_has : (rows : List Row) → given_in (sub_at 6) rows ≡ true → HasFiles (codes "workload", rows)
+workload_has rows e =
+    let a = both (is_some (first_of (codes "workers") rows)) _ e in
+    inr (inr (inr (inr (inr (inr (inl (refl, a.0, (both (is_some (first_of (codes "seed") rows)) _ a.1).0)))))))
+
+cnf_has : (rows : List Row) → given_in (sub_at 7) rows ≡ true → HasFiles (codes "cnf", rows)
+cnf_has rows e =
+    let a = both (is_some (first_of (codes "program") rows)) _ e in
+    let b = both (is_some (first_of (codes "log") rows)) _ a.1 in
+    inr (inr (inr (inr (inr (inr (inr (inl (refl, a.0, b.0, (both (is_some (first_of (codes "out") rows)) _ b.1).0))))))))
+
+import_has : (rows : List Row) → given_in (sub_at 8) rows ≡ true → HasFiles (codes "import", rows)
+import_has rows e =
+    let a = both (is_some (first_of (codes "program") rows)) _ e in
+    let b = both (is_some (first_of (codes "log") rows)) _ a.1 in
+    let c = both (is_some (first_of (codes "answer") rows)) _ b.1 in
+    inr (inr (inr (inr (inr (inr (inr (inr (refl, a.0, b.0, c.0, (both (is_some (first_of (codes "out") rows)) _ c.1).0))))))))
 
 if_some : (o : Option Text) (P : Text → Type 0) → ((v : Text) → o ≡ Some v → P v) → IfSome o P
 if_some None P h = tt
@@ -117,6 +150,8 @@ fit_values name rows fit = record {
   model = if_some _ _ (λ v at. read_fit fitness (codes "model") rows v fit at);
   seed = if_some _ _ (λ v at. read_fit fitness (codes "seed") rows v fit at);
   steps = if_some _ _ (λ v at. read_fit fitness (codes "steps") rows v fit at);
+  budget = if_some _ _ (λ v at. read_fit fitness (codes "budget") rows v fit at);
+  workers = if_some _ _ (λ v at. read_fit fitness (codes "workers") rows v fit at);
 }
 
 list_sets : AreSetters fitness (sub_at 0).rules
@@ -132,6 +167,54 @@ migrate_sets : AreSetters fitness (sub_at 3).rules
 migrate_sets = (
   record { sets = refl; least = refl; test = λ v. refl; reads = refl },
   (record { sets = refl; least = refl; test = λ v. refl; reads = refl }, (record { sets = refl; least = refl; test = λ v. refl; reads = refl }, tt)),
+)
+
+check_sets : AreSetters fitness (sub_at 5).rules
+check_sets = (
+  record { sets = refl; least = refl; test = λ v. refl; reads = refl },
+  (record { sets = refl; least = refl; test = λ v. refl; reads = refl }, (record { sets = refl; least = refl; test = λ v. refl; reads = refl }, tt)),
+)
+
+workload_sets : AreSetters fitness (sub_at 6).rules
+workload_sets = (
+  record { sets = refl; least = refl; test = λ v. refl; reads = refl },
+  (record { sets = refl; least = refl; test = λ v. refl; reads = refl }, tt),
+)
+
+cnf_sets : AreSetters fitness (sub_at 7).rules
+cnf_sets = (
+  record { sets = refl; least = refl; test = λ v. refl; reads = refl },
+  (
+    record { sets = refl; least = refl; test = λ v. refl; reads = refl },
+    (record { sets = refl; least = refl; test = λ v. refl; reads = refl }, (record { sets = refl; least = refl; test = λ v. refl; reads = refl }, tt)),
+  ),
+)
+
+import_sets : AreSetters fitness (sub_at 8).rules
+import_sets = (
+  record { sets = refl; least = refl; test = λ v. refl; reads = refl },
+  (
+    record { sets = refl; least = refl; test = λ v. refl; reads = refl },
+    (
+      record { sets = refl; least = refl; test = λ v. refl; reads = refl },
+      (record { sets = refl; least = refl; test = λ v. refl; reads = refl }, (record { sets = refl; least = refl; test = λ v. refl; reads = refl }, tt)),
+    ),
+  ),
+)
+
+solve_sets : AreSetters fitness (sub_at 4).rules
+solve_sets = (
+  record { sets = refl; least = refl; test = λ v. refl; reads = refl },
+  (
+    record { sets = refl; least = refl; test = λ v. refl; reads = refl },
+    (
+      record { sets = refl; least = refl; test = λ v. refl; reads = refl },
+      (
+        record { sets = refl; least = refl; test = λ v. refl; reads = refl },
+        (record { sets = refl; least = refl; test = λ v. refl; reads = refl }, tt),
+      ),
+    ),
+  ),
 )
 
 record_sets : AreSetters fitness (sub_at 2).rules
@@ -170,7 +253,37 @@ all_have = (
           migrate_has (rows_after (sub_at 3).rules [] words) (level_given fitness (sub_at 3) words migrate_sets e refl),
           fit_values (codes "migrate") _ (level_fit fitness (sub_at 3) [] words false migrate_sets e),
         ),
-        tt,
+        (
+          λ words e. (
+            solve_has (rows_after (sub_at 4).rules [] words) (level_given fitness (sub_at 4) words solve_sets e refl),
+            fit_values (codes "solve") _ (level_fit fitness (sub_at 4) [] words false solve_sets e),
+          ),
+          (
+            λ words e. (
+              check_has (rows_after (sub_at 5).rules [] words) (level_given fitness (sub_at 5) words check_sets e refl),
+              fit_values (codes "check") _ (level_fit fitness (sub_at 5) [] words false check_sets e),
+            ),
+            (
+              λ words e. (
+                workload_has (rows_after (sub_at 6).rules [] words) (level_given fitness (sub_at 6) words workload_sets e refl),
+                fit_values (codes "workload") _ (level_fit fitness (sub_at 6) [] words false workload_sets e),
+              ),
+              (
+                λ words e. (
+                  cnf_has (rows_after (sub_at 7).rules [] words) (level_given fitness (sub_at 7) words cnf_sets e refl),
+                  fit_values (codes "cnf") _ (level_fit fitness (sub_at 7) [] words false cnf_sets e),
+                ),
+                (
+                  λ words e. (
+                    import_has (rows_after (sub_at 8).rules [] words) (level_given fitness (sub_at 8) words import_sets e refl),
+                    fit_values (codes "import") _ (level_fit fitness (sub_at 8) [] words false import_sets e),
+                  ),
+                  tt,
+                ),
+              ),
+            ),
+          ),
+        ),
       ),
     ),
   ),

@@ -1,7 +1,7 @@
 -- Plain words are taken, with the values that stand there.
 use Rattle.std.proofs.Common.{◌≡◌, ◌∙◌, ◌==◌, ◌&&◌, ◌≤◌, ◌<◌, ℕ, ap, ap₂, refl, Bool, true, false, not, cond, List, [], ◌∷◌, Option, Some, None, codes}
 use Rattle.std.proofs.Common.{option_map, slice_index_or, unwrap_or, arith, ne_eqb, drop}
-use Rattle.std.specs.Prelude.{◌^◌, ◌++◌, IfSome}
+use Rattle.std.specs.Prelude.{◌^◌, ◌++◌, IfSome, nat_le}
 use Rattle.std.specs.Option.{option_map_or}
 use Rattle.std.specs.Fmt.{decimal}
 use Rattle.std.specs.Str.Parse.{IsNumeral, digits_value, without_leading_plus}
@@ -16,13 +16,14 @@ use Rattle.clap.proofs.OnLiterals.{clap_on_literals}
 use Rattle.clap.proofs.ValueTestLemmas.{Accepts-accepts}
 use Rattle.clap.proofs.WalkLemmas.{both}
 use Rattle.tc_base.specs.Models.{model_name}
-use Rattle.tc_base.specs.declared.limits.TheConstants.{MOVES}
+use Rattle.tc_base.specs.declared.limits.TheConstants.{BUDGET, MOVES}
 use Rattle.tc_base.specs.declared.model.Model.{Model}
 use Rattle.tc_base.specs.declared.model.Model.TheVariants.{Sc, Tso, Pso}
 use Rattle.clap_debug_words.specs.CommandLine.{command_line, lent_texts, model_names, words_taken}
-use Rattle.clap_debug_words.specs.Calls.{Called, call_of, called, model_in, number_in}
+use Rattle.clap_debug_words.specs.Calls.{Called, call_of, called, model_in, number_in, usual_budget}
 use Rattle.clap_debug_words.specs.Calls as calls
-use Rattle.clap_debug_words.specs.PlainWords.{Written, Lists, Replays, Records, Migrates}
+use Rattle.clap_debug_words.specs.declared.workers.TheConstants.{WORKERS}
+use Rattle.clap_debug_words.specs.PlainWords.{Written, Lists, Replays, Records, Migrates, Solves, Checks, Workloads, Exports, Imports}
 use Rattle.clap_debug_words.specs.PlainWords.{asked, is_between, is_name, is_plain, option_words, words_of}
 use Rattle.clap_debug_words.proofs.PlainWords.{ArePlain, IsPlainWord, Marked, level-marked, rows-marked}
 
@@ -91,6 +92,14 @@ migrate_says w p l o hp hl ho =
     let ms : List Marked = (true, p) ∷ (true, l) ∷ (true, o) ∷ [] in (
       ap (λ b. b && true) (level-marked (sub_at 3) ms (hp, (hl, (ho, tt)))),
       ap (λ (rows : List Row). Some (called (codes "migrate", rows))) (rows-marked (sub_at 3) ms (hp, (hl, (ho, tt)))),
+    )
+
+check_says : (w p l r : Text) → IsPlainWord p → IsPlainWord l → IsPlainWord r → Says (words_of w (Checks p l r)) (asked (Checks p l r))
+unfolding clap_on_literals
+check_says w p l r hp hl hr =
+    let ms : List Marked = (true, p) ∷ (true, l) ∷ (true, r) ∷ [] in (
+      ap (λ b. b && true) (level-marked (sub_at 5) ms (hp, (hl, (hr, tt)))),
+      ap (λ (rows : List Row). Some (called (codes "check", rows))) (rows-marked (sub_at 5) ms (hp, (hl, (hr, tt)))),
     )
 
 -- a text of an option's value is a plain word that passes
@@ -173,6 +182,79 @@ record_says w p l None None None hp hl sc hm hn hk =
       ap (λ (rows : List Row). Some (called (codes "record", rows))) (rows-marked (sub_at 2) ms plain),
     )
 
+abbrev solve_call : Text → Text → Text → Option Text → Option Text → Called
+solve_call p l o m n = calls.Solves p l o (option_map model_in m) (option_map_or (number_in 1 BUDGET usual_budget) n usual_budget)
+
+solve_says : (w p l o : Text) (m n : Option Text) → IsPlainWord p → IsPlainWord l → IsPlainWord o → Passes accepts_model m → Passes (is_unsigned_in 1 BUDGET) n
+    → Says (w ∷ codes "solve" ∷ p ∷ l ∷ o ∷ (option_words (codes "--model") m ++ option_words (codes "--budget") n)) (solve_call p l o m n)
+unfolding clap_on_literals
+solve_says w p l o (Some m) (Some n) hp hl ho hm hn =
+    let ms : List Marked = (true, p) ∷ (true, l) ∷ (true, o) ∷ (false, codes "--model") ∷ (true, m) ∷ (false, codes "--budget") ∷ (true, n) ∷ [] in
+    let plain : ArePlain ms = (hp, (hl, (ho, (hm.0, (hn.0, tt))))) in (
+      ap (λ b. b && true) (level-marked (sub_at 4) ms plain) ∙ level_true _ _ true (ended_true _ (settled_true _ hm.1)) (ended_true _ hn.1) refl,
+      ap (λ (rows : List Row). Some (called (codes "solve", rows))) (rows-marked (sub_at 4) ms plain),
+    )
+solve_says w p l o None (Some n) hp hl ho hm hn =
+    let ms : List Marked = (true, p) ∷ (true, l) ∷ (true, o) ∷ (false, codes "--budget") ∷ (true, n) ∷ [] in
+    let plain : ArePlain ms = (hp, (hl, (ho, (hn.0, tt)))) in (
+      ap (λ b. b && true) (level-marked (sub_at 4) ms plain) ∙ level_true true _ true refl (ended_true _ hn.1) refl,
+      ap (λ (rows : List Row). Some (called (codes "solve", rows))) (rows-marked (sub_at 4) ms plain),
+    )
+solve_says w p l o (Some m) None hp hl ho hm hn =
+    let ms : List Marked = (true, p) ∷ (true, l) ∷ (true, o) ∷ (false, codes "--model") ∷ (true, m) ∷ [] in
+    let plain : ArePlain ms = (hp, (hl, (ho, (hm.0, tt)))) in (
+      ap (λ b. b && true) (level-marked (sub_at 4) ms plain) ∙ level_true true _ true refl (ended_true _ hm.1) refl,
+      ap (λ (rows : List Row). Some (called (codes "solve", rows))) (rows-marked (sub_at 4) ms plain),
+    )
+solve_says w p l o None None hp hl ho hm hn =
+    let ms : List Marked = (true, p) ∷ (true, l) ∷ (true, o) ∷ [] in
+    let plain : ArePlain ms = (hp, (hl, (ho, tt))) in (
+      ap (λ b. b && true) (level-marked (sub_at 4) ms plain),
+      ap (λ (rows : List Row). Some (called (codes "solve", rows))) (rows-marked (sub_at 4) ms plain),
+    )
+
+workload_says : (f w s : Text) → IsPlainWord w → IsPlainWord s → is_unsigned_in 1 WORKERS w ≡ true → is_unsigned_in 0 18446744073709551615 s ≡ true
+    → Says (f ∷ codes "workload" ∷ w ∷ s ∷ []) (calls.Workloads (number_in 1 WORKERS 1 w) (number_in 0 18446744073709551615 0 s))
+unfolding clap_on_literals
+workload_says f w s hw hs pw ps =
+    let ms : List Marked = (true, w) ∷ (true, s) ∷ [] in
+    let plain : ArePlain ms = (hw, (hs, tt)) in (
+      ap (λ b. b && true) (level-marked (sub_at 6) ms plain) ∙ level_true _ _ true (settled_true _ pw) (ended_true _ ps) refl,
+      ap (λ (rows : List Row). Some (called (codes "workload", rows))) (rows-marked (sub_at 6) ms plain),
+    )
+
+export_says : (w p l o : Text) (m : Option Text) → IsPlainWord p → IsPlainWord l → IsPlainWord o → Passes accepts_model m
+    → Says (w ∷ codes "cnf" ∷ p ∷ l ∷ o ∷ option_words (codes "--model") m) (calls.Exports p l o (option_map model_in m))
+unfolding clap_on_literals
+export_says w p l o (Some m) hp hl ho hm =
+    let ms : List Marked = (true, p) ∷ (true, l) ∷ (true, o) ∷ (false, codes "--model") ∷ (true, m) ∷ [] in
+    let plain : ArePlain ms = (hp, (hl, (ho, (hm.0, tt)))) in (
+      ap (λ b. b && true) (level-marked (sub_at 7) ms plain) ∙ level_true true _ true refl (ended_true _ hm.1) refl,
+      ap (λ (rows : List Row). Some (called (codes "cnf", rows))) (rows-marked (sub_at 7) ms plain),
+    )
+export_says w p l o None hp hl ho hm =
+    let ms : List Marked = (true, p) ∷ (true, l) ∷ (true, o) ∷ [] in
+    let plain : ArePlain ms = (hp, (hl, (ho, tt))) in (
+      ap (λ b. b && true) (level-marked (sub_at 7) ms plain),
+      ap (λ (rows : List Row). Some (called (codes "cnf", rows))) (rows-marked (sub_at 7) ms plain),
+    )
+
+import_says : (w p l a o : Text) (m : Option Text) → IsPlainWord p → IsPlainWord l → IsPlainWord a → IsPlainWord o → Passes accepts_model m
+    → Says (w ∷ codes "import" ∷ p ∷ l ∷ a ∷ o ∷ option_words (codes "--model") m) (calls.Imports p l a o (option_map model_in m))
+unfolding clap_on_literals
+import_says w p l a o (Some m) hp hl ha ho hm =
+    let ms : List Marked = (true, p) ∷ (true, l) ∷ (true, a) ∷ (true, o) ∷ (false, codes "--model") ∷ (true, m) ∷ [] in
+    let plain : ArePlain ms = (hp, (hl, (ha, (ho, (hm.0, tt))))) in (
+      ap (λ b. b && true) (level-marked (sub_at 8) ms plain) ∙ level_true true _ true refl (ended_true _ hm.1) refl,
+      ap (λ (rows : List Row). Some (called (codes "import", rows))) (rows-marked (sub_at 8) ms plain),
+    )
+import_says w p l a o None hp hl ha ho hm =
+    let ms : List Marked = (true, p) ∷ (true, l) ∷ (true, a) ∷ (true, o) ∷ [] in
+    let plain : ArePlain ms = (hp, (hl, (ha, (ho, tt)))) in (
+      ap (λ b. b && true) (level-marked (sub_at 8) ms plain),
+      ap (λ (rows : List Row). Some (called (codes "import", rows))) (rows-marked (sub_at 8) ms plain),
+    )
+
 names_model : (m : Model) → IsPlainWord (model_name m) × (accepts_model (model_name m) ≡ true) × (model_in (model_name m) ≡ m)
 names_model Sc = (record { no_dash = refl; no_end = refl }, refl, refl)
 names_model Tso = (record { no_dash = refl; no_end = refl }, refl, refl)
@@ -181,6 +263,10 @@ names_model Pso = (record { no_dash = refl; no_end = refl }, refl, refl)
 model_written : (m : Option Model) → Passes accepts_model (option_map model_name m) × (option_map_or model_in (option_map model_name m) Sc ≡ unwrap_or m Sc)
 model_written None = (tt, refl)
 model_written (Some m) = let f = names_model m in ((f.0, f.1), f.2)
+
+model_left_out : (m : Option Model) → Passes accepts_model (option_map model_name m) × (option_map model_in (option_map model_name m) ≡ m)
+model_left_out None = (tt, refl)
+model_left_out (Some m) = let f = names_model m in ((f.0, f.1), ap Some f.2)
 
 number_written : (low high default : ℕ) → high < 2 ^ 64 → (n : Option ℕ) → option_map_or (is_between low high) n true ≡ true
     → Passes (is_unsigned_in low high) (option_map decimal n) × (option_map_or (number_in low high default) (option_map decimal n) default
@@ -217,6 +303,40 @@ plain_says first (Migrates p l o) e =
     let a = both _ _ e in
     let b = both _ _ a.1 in
     migrate_says first p l o (name_plain p a.0) (name_plain l b.0) (name_plain o b.1)
+plain_says first (Checks p l r) e =
+    let a = both _ _ e in
+    let b = both _ _ a.1 in
+    check_says first p l r (name_plain p a.0) (name_plain l b.0) (name_plain r b.1)
+plain_says first (Workloads n s) e =
+    let a = both (is_between 1 WORKERS n) (is_between 0 18446744073709551615 s) e in
+    let few = both (nat_le 1 n) (nat_le n WORKERS) a.0 in
+    let low = both (nat_le 0 s) (nat_le s 18446744073709551615) a.1 in
+    let w = written 1 WORKERS 1 n (omega arith) (leb-true _ _ few.0) (leb-true _ _ few.1) in
+    let v = written 0 18446744073709551615 0 s (omega arith) (leb-true _ _ low.0) (leb-true _ _ low.1) in
+    as_call (words_of first (Workloads n s)) _ _ (ap₂ (λ x y. calls.Workloads x y) w.value v.value)
+    (workload_says first (decimal n) (decimal s) w.plain v.plain w.accepted v.accepted)
+plain_says first (Exports p l o model) e =
+    let a = both _ _ e in
+    let b = both _ _ a.1 in
+    let m = model_left_out model in
+    as_call (words_of first (Exports p l o model)) _ _ (ap (λ n. calls.Exports p l o n) m.1)
+    (export_says first p l o (option_map model_name model) (name_plain p a.0) (name_plain l b.0) (name_plain o b.1) m.0)
+plain_says first (Imports p l r o model) e =
+    let a = both _ _ e in
+    let b = both _ _ a.1 in
+    let c = both _ _ b.1 in
+    let m = model_left_out model in
+    as_call (words_of first (Imports p l r o model)) _ _ (ap (λ n. calls.Imports p l r o n) m.1)
+    (import_says first p l r o (option_map model_name model) (name_plain p a.0) (name_plain l b.0) (name_plain r c.0) (name_plain o c.1) m.0)
+plain_says first (Solves p l o model budget) e =
+    let a = both (is_name p && (is_name l && is_name o)) _ e in
+    let names = both (is_name p) (is_name l && is_name o) a.0 in
+    let files = both (is_name l) (is_name o) names.1 in
+    let m = model_left_out model in
+    let n = number_written 1 BUDGET usual_budget (omega arith) budget a.1 in
+    as_call (words_of first (Solves p l o model budget)) _ _ (λ i. calls.Solves p l o (m.1 i) (n.1 i))
+    (solve_says first p l o (option_map model_name model) (option_map decimal budget) (name_plain p names.0) (name_plain l files.0) (name_plain o files.1)
+    m.0 n.0)
 
 -- plain words are taken, with the values that stand there
 pub plain_taken : (first : Text) (w : Written) → is_plain w ≡ true → call_of (words_of first w) ≡ Some (asked w)

@@ -5,10 +5,11 @@ use Rattle.std.specs.Str.Parse.{digits_value, without_leading_plus}
 use Rattle.clap.specs.Words.{Row, Text, first_of, one_of, subcommand_of}
 use Rattle.clap.specs.ValueTests.{is_unsigned_in}
 use Rattle.tc_base.specs.Models.{model_name}
-use Rattle.tc_base.specs.declared.limits.TheConstants.{MOVES}
+use Rattle.tc_base.specs.declared.limits.TheConstants.{BUDGET, MOVES}
 use Rattle.tc_base.specs.declared.model.Model.{Model}
 use Rattle.tc_base.specs.declared.model.Model.TheVariants.{Sc, Tso, Pso}
 use Rattle.clap_debug_words.specs.CommandLine.{command_line, words_taken, last_seed}
+use Rattle.clap_debug_words.specs.declared.workers.TheConstants.{WORKERS}
 use Rattle.clap_debug_words.specs.declared.Call.{Call}
 use Rattle.clap_debug_words.specs.declared.Call.TheVariants as call
 
@@ -18,6 +19,13 @@ pub data Called : Type 0 where
   Replays : (program log schedule : Text) → Called
   Records : (program log : Text) (model : Model) (seed steps : ℕ) → Called
   Migrates : (program log out : Text) → Called
+  -- without a model, the log's is meant
+  Solves : (program log out : Text) (model : Option Model) (budget : ℕ) → Called
+  Checks : (program log refutation : Text) → Called
+  Workloads : (workers seed : ℕ) → Called
+  -- again without a model, the log's is meant
+  Exports : (program log out : Text) (model : Option Model) → Called
+  Imports : (program log answer out : Text) (model : Option Model) → Called
 
 -- the text that stands for a positional
 abbrev pub text_of : Text → List Row → Text
@@ -27,7 +35,7 @@ text_of id rows = unwrap_or (first_of id rows) []
 abbrev pub number_in : (low high default : ℕ) → Text → ℕ
 number_in low high default text = if is_unsigned_in low high text then digits_value 10 (without_leading_plus text) else default
 
--- the number of an option
+-- the number of an option or a positional
 abbrev pub number_of : (low high default : ℕ) → Text → List Row → ℕ
 number_of low high default id rows = option_map_or (number_in low high default) (one_of id rows) default
 
@@ -43,17 +51,39 @@ model_in name = if bytes_eq name (model_name Tso) then Tso else if bytes_eq name
 abbrev pub model_of : List Row → Model
 model_of rows = model_in (text_of (codes "model") rows)
 
+-- the memory model of an option that may be left out
+abbrev pub written_model : List Row → Option Model
+written_model rows = option_map model_in (first_of (codes "model") rows)
+
 abbrev pub seed_of : List Row → ℕ
 seed_of rows = number_of 0 last_seed 0 (codes "seed") rows
 
+abbrev pub workers_of : List Row → ℕ
+workers_of rows = number_of 1 WORKERS 1 (codes "workers") rows
+
 abbrev pub steps_of : List Row → ℕ
 steps_of rows = number_of 1 MOVES MOVES (codes "steps") rows
+
+-- the conflicts of a search where no number is written
+abbrev pub usual_budget : ℕ
+usual_budget = 1000000
+
+abbrev pub budget_of : List Row → ℕ
+budget_of rows = number_of 1 BUDGET usual_budget (codes "budget") rows
 
 -- the call of a subcommand's name and matches
 abbrev pub called : Text × List Row → Called
 called p = if bytes_eq p.0 (codes "list") then Lists (text_of (codes "program") p.1)
     else if bytes_eq p.0 (codes "replay") then Replays (text_of (codes "program") p.1) (text_of (codes "log") p.1) (text_of (codes "schedule") p.1)
     else if bytes_eq p.0 (codes "migrate") then Migrates (text_of (codes "program") p.1) (text_of (codes "log") p.1) (text_of (codes "out") p.1)
+    else if bytes_eq p.0 (codes "solve") then
+    Solves (text_of (codes "program") p.1) (text_of (codes "log") p.1) (text_of (codes "out") p.1) (written_model p.1) (budget_of p.1)
+    else if bytes_eq p.0 (codes "check") then Checks (text_of (codes "program") p.1) (text_of (codes "log") p.1) (text_of (codes "refutation") p.1)
+    else if bytes_eq p.0 (codes "workload") then Workloads (workers_of p.1) (seed_of p.1)
+    else if bytes_eq p.0 (codes "cnf") then
+    Exports (text_of (codes "program") p.1) (text_of (codes "log") p.1) (text_of (codes "out") p.1) (written_model p.1)
+    else if bytes_eq p.0 (codes "import") then
+    Imports (text_of (codes "program") p.1) (text_of (codes "log") p.1) (text_of (codes "answer") p.1) (text_of (codes "out") p.1) (written_model p.1)
     else Records (text_of (codes "program") p.1) (text_of (codes "log") p.1) (model_of p.1) (seed_of p.1) (steps_of p.1)
 
 -- the call that the words ask for, where they are taken
@@ -66,3 +96,8 @@ plain_call (call.List program) = Lists program.now
 plain_call (call.Replay program log schedule) = Replays program.now log.now schedule.now
 plain_call (call.Record program log model seed steps) = Records program.now log.now model seed steps
 plain_call (call.Migrate program log out) = Migrates program.now log.now out.now
+plain_call (call.Solve program log out model budget) = Solves program.now log.now out.now model budget.conflicts
+plain_call (call.Check program log refutation) = Checks program.now log.now refutation.now
+plain_call (call.Workload workers seed) = Workloads workers.count seed
+plain_call (call.Cnf program log out model) = Exports program.now log.now out.now model
+plain_call (call.Import program log answer out model) = Imports program.now log.now answer.now out.now model

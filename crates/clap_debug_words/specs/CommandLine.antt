@@ -6,16 +6,25 @@ use Rattle.clap.specs.Simple.{new_shape}
 use Rattle.clap.specs.declared.builder.value_parser.ValueParser.{ValueParser}
 use Rattle.clap.specs.declared.builder.value_parser.ValueParser.TheVariants as parser
 use Rattle.tc_base.specs.Models.{model_name}
-use Rattle.tc_base.specs.declared.limits.TheConstants.{MOVES}
+use Rattle.tc_base.specs.declared.limits.TheConstants.{BUDGET, MOVES}
 use Rattle.tc_base.specs.declared.model.Model.TheVariants.{Sc, Tso, Pso}
+use Rattle.clap_debug_words.specs.declared.workers.TheConstants.{WORKERS}
 
 -- a required positional
 abbrev pub positional : Text → Rule
 positional name = record (new_rule name) { required = true }
 
+-- a required positional that takes some values alone
+abbrev pub positional_of : Text → ValueParser → Rule
+positional_of name values = record (new_rule name) { required = true; parser = Some values }
+
 -- an option that takes one value, and has this one where it isn't written
 abbrev pub option : Text → Text → ValueParser → Rule
 option name default values = record (new_rule name) { long = Some name; defaults = default ∷ []; parser = Some values }
+
+-- an option that takes one value where it is written
+abbrev pub option_alone : Text → ValueParser → Rule
+option_alone name values = record (new_rule name) { long = Some name; parser = Some values }
 
 -- the names of the memory models, wherever they lie in memory
 abbrev pub ModelNames : Type 0
@@ -65,6 +74,50 @@ migration = record (new_shape (codes "migrate")) {
   rules = positional (codes "program") ∷ positional (codes "log") ∷ positional (codes "out") ∷ [];
 }
 
+-- `solve PROGRAM LOG OUT [--model sc|tso|pso] [--budget N]`
+abbrev pub solving : ModelNames → Shape
+solving names = record (new_shape (codes "solve")) {
+  rules = positional (codes "program")
+      ∷ positional (codes "log")
+      ∷ positional (codes "out")
+      ∷ option_alone (codes "model") (parser.Names names)
+      ∷ option (codes "budget") (codes "1000000") (parser.Unsigned 1 BUDGET)
+      ∷ [];
+}
+
+-- `check PROGRAM LOG REFUTATION`
+abbrev pub checking : Shape
+checking = record (new_shape (codes "check")) {
+  rules = positional (codes "program") ∷ positional (codes "log") ∷ positional (codes "refutation") ∷ [];
+}
+
+-- `workload N SEED`
+abbrev pub workload : Shape
+workload = record (new_shape (codes "workload")) {
+  rules = positional_of (codes "workers") (parser.Unsigned 1 WORKERS) ∷ positional_of (codes "seed") (parser.Unsigned 0 last_seed) ∷ [];
+}
+
+-- `cnf PROGRAM LOG OUT [--model sc|tso|pso]`
+abbrev pub cnf : ModelNames → Shape
+cnf names = record (new_shape (codes "cnf")) {
+  rules = positional (codes "program")
+      ∷ positional (codes "log")
+      ∷ positional (codes "out")
+      ∷ option_alone (codes "model") (parser.Names names)
+      ∷ [];
+}
+
+-- `import PROGRAM LOG ANSWER OUT [--model sc|tso|pso]`
+abbrev pub import : ModelNames → Shape
+import names = record (new_shape (codes "import")) {
+  rules = positional (codes "program")
+      ∷ positional (codes "log")
+      ∷ positional (codes "answer")
+      ∷ positional (codes "out")
+      ∷ option_alone (codes "model") (parser.Names names)
+      ∷ [];
+}
+
 -- a command that wants a subcommand and knows no help
 abbrev pub commands : App → App
 commands a = record a {
@@ -79,7 +132,7 @@ commands a = record a {
 abbrev pub command_line_at : ModelNames → App
 command_line_at names = record {
   top = record (commands (new_app (codes "clap_debug"))).top { is_leaf = false };
-  subs = list ∷ replay ∷ recording names ∷ migration ∷ [];
+  subs = list ∷ replay ∷ recording names ∷ migration ∷ solving names ∷ checking ∷ workload ∷ cnf names ∷ import names ∷ [];
 }
 
 -- the whole command

@@ -1,22 +1,28 @@
--- Words as a user writes them: any first word, a command, the names of its files, and then any of its options in their order.
+-- Words as a user writes them: any first word, a command, the names of its files or its numbers, and then any of its options in their order.
 use Rattle.std.specs.Prelude.{ℕ, ◌==◌, ◌&&◌, not, Bool, true, false, List, [], ◌∷◌, ◌++◌, Option, Some, None, codes, nat_le, option_map, unwrap_or}
 use Rattle.std.specs.Option.{option_map_or}
 use Rattle.std.specs.Fmt.{decimal}
 use Rattle.clap.specs.Words.{Text}
 use Rattle.tc_base.specs.declared.model.Model.{Model}
 use Rattle.tc_base.specs.Models.{model_name}
-use Rattle.tc_base.specs.declared.limits.TheConstants.{MOVES}
+use Rattle.tc_base.specs.declared.limits.TheConstants.{BUDGET, MOVES}
 use Rattle.tc_base.specs.declared.model.Model.TheVariants.{Sc}
+use Rattle.clap_debug_words.specs.declared.workers.TheConstants.{WORKERS}
 use Rattle.clap_debug_words.specs.CommandLine.{last_seed}
-use Rattle.clap_debug_words.specs.Calls.{Called}
+use Rattle.clap_debug_words.specs.Calls.{Called, usual_budget}
 use Rattle.clap_debug_words.specs.Calls as calls
 
--- a command with its files, and the options that are written
+-- a command with its files or numbers, and the options that are written
 pub data Written : Type 0 where
   Lists : (program : Text) → Written
   Replays : (program log schedule : Text) → Written
   Records : (program log : Text) (model : Option Model) (seed steps : Option ℕ) → Written
   Migrates : (program log out : Text) → Written
+  Solves : (program log out : Text) (model : Option Model) (budget : Option ℕ) → Written
+  Checks : (program log refutation : Text) → Written
+  Workloads : (workers seed : ℕ) → Written
+  Exports : (program log out : Text) (model : Option Model) → Written
+  Imports : (program log answer out : Text) (model : Option Model) → Written
 
 -- an option and its value, where it is written
 abbrev pub option_words : Text → Option Text → List Text
@@ -31,6 +37,13 @@ words_of first (Records program log model seed steps) = first ∷ codes "record"
     ++ (option_words (codes "--seed") (option_map decimal seed)
     ++ option_words (codes "--steps") (option_map decimal steps)))
 words_of first (Migrates program log out) = first ∷ codes "migrate" ∷ program ∷ log ∷ out ∷ []
+words_of first (Solves program log out model budget) = first ∷ codes "solve" ∷ program ∷ log ∷ out
+    ∷ (option_words (codes "--model") (option_map model_name model) ++ option_words (codes "--budget") (option_map decimal budget))
+words_of first (Checks program log refutation) = first ∷ codes "check" ∷ program ∷ log ∷ refutation ∷ []
+words_of first (Workloads workers seed) = first ∷ codes "workload" ∷ decimal workers ∷ decimal seed ∷ []
+words_of first (Exports program log out model) = first ∷ codes "cnf" ∷ program ∷ log ∷ out ∷ option_words (codes "--model") (option_map model_name model)
+words_of first (Imports program log answer out model) = first ∷ codes "import" ∷ program ∷ log ∷ answer ∷ out
+    ∷ option_words (codes "--model") (option_map model_name model)
 
 -- a name isn't empty and doesn't begin with `-`
 abbrev pub is_name : Text → Bool
@@ -47,10 +60,20 @@ is_plain (Replays program log schedule) = is_name program && (is_name log && is_
 is_plain (Records program log model seed steps) = (is_name program && is_name log)
     && (option_map_or (is_between 0 last_seed) seed true && option_map_or (is_between 1 MOVES) steps true)
 is_plain (Migrates program log out) = is_name program && (is_name log && is_name out)
+is_plain (Solves program log out model budget) = (is_name program && (is_name log && is_name out)) && option_map_or (is_between 1 BUDGET) budget true
+is_plain (Checks program log refutation) = is_name program && (is_name log && is_name refutation)
+is_plain (Workloads workers seed) = is_between 1 WORKERS workers && is_between 0 last_seed seed
+is_plain (Exports program log out model) = is_name program && (is_name log && is_name out)
+is_plain (Imports program log answer out model) = is_name program && (is_name log && (is_name answer && is_name out))
 
--- what they ask for: what isn't written is sequential consistency, seed 0 and a million moves
+-- what they ask for: what isn't written is sequential consistency, or of `solve`, `cnf` and `import` the model of the log, seed 0 and a million moves or conflicts
 abbrev pub asked : Written → Called
 asked (Lists program) = calls.Lists program
 asked (Replays program log schedule) = calls.Replays program log schedule
 asked (Records program log model seed steps) = calls.Records program log (unwrap_or model Sc) (unwrap_or seed 0) (unwrap_or steps MOVES)
 asked (Migrates program log out) = calls.Migrates program log out
+asked (Solves program log out model budget) = calls.Solves program log out model (unwrap_or budget usual_budget)
+asked (Checks program log refutation) = calls.Checks program log refutation
+asked (Workloads workers seed) = calls.Workloads workers seed
+asked (Exports program log out model) = calls.Exports program log out model
+asked (Imports program log answer out model) = calls.Imports program log answer out model

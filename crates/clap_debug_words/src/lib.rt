@@ -5,21 +5,35 @@ ghost use Rattle.std.specs.Prelude.{◌≡◌, ◌≤◌, List, Some, true, fals
 ghost use Rattle.clap.specs.Words.{app_of, found_of, rows_of, rule_of, shape_of, subcommand_of, subcommand_rows_of, Text};
 ghost use Rattle.clap_debug_words.specs.CommandLine as spec;
 ghost use Rattle.clap_debug_words.specs.CommandLine.{AreModelNames, command_line, words_taken};
-ghost use Rattle.clap_debug_words.specs.Calls.{plain_call, called, call_of, text_of, model_of, number_of, steps_of, within};
+ghost use Rattle.clap_debug_words.specs.Calls.{plain_call, called, call_of, text_of, model_in, model_of, written_model, number_of, seed_of, steps_of, budget_of, workers_of, within};
 ghost use Rattle.clap_debug_words.specs.PlainWords.{Written, asked, is_plain, words_of};
 ghost use Rattle.clap_debug_words.specs.Given.{HasFiles, HasValues};
 
+mod budget;
+mod workers;
+
+pub use budget::{Budget, USUAL_BUDGET};
 use clap::builder::ValueParser;
 use clap::error::ErrorKind;
 use clap::{Arg, ArgMatches, Command};
 use std::alloc::{AllocError, Global};
 use tc_base::Model;
-use tc_base::limits::MOVES;
+use tc_base::limits::{BUDGET, MOVES};
+pub use workers::{WORKERS, Workers};
 
 static MODEL_NAMES: [&str; 3] = ["sc", "tso", "pso"];
 
 /// The most moves of a recorded run.
 const MOST_MOVES: u64 = MOVES as u64;
+
+/// The most conflicts of a search.
+const MOST_CONFLICTS: u64 = BUDGET as u64;
+
+/// The most workers of a workload.
+const MOST_WORKERS: u64 = WORKERS as u64;
+
+/// The conflicts of a search where no number is written.
+const USUAL_CONFLICTS: u64 = USUAL_BUDGET as u64;
 
 /// What the words ask for.
 #[derive(Clone, Copy, Debug)]
@@ -47,6 +61,42 @@ pub enum Call<'a> {
         program: &'a str,
         log: &'a str,
         out: &'a str,
+    },
+    /// Look for a schedule that leads to the failure of the log, or for a refutation that shows that none does. Without a
+    /// model the log's is meant.
+    Solve {
+        program: &'a str,
+        log: &'a str,
+        out: &'a str,
+        model: Option<Model>,
+        budget: Budget,
+    },
+    /// Check a refutation.
+    Check {
+        program: &'a str,
+        log: &'a str,
+        refutation: &'a str,
+    },
+    /// Make a program of so many workers, which read one another's cells as a seed chooses; run it by moves that the seed
+    /// chooses, and solve the log in which each worker reads before any writes.
+    Workload {
+        workers: Workers,
+        seed: u64,
+    },
+    /// Write the clauses of the log for other solvers. Without a model the log's is meant.
+    Cnf {
+        program: &'a str,
+        log: &'a str,
+        out: &'a str,
+        model: Option<Model>,
+    },
+    /// Make a schedule of what another solver answers to the clauses of the log. Without a model the log's is meant.
+    Import {
+        program: &'a str,
+        log: &'a str,
+        answer: &'a str,
+        out: &'a str,
+        model: Option<Model>,
     },
 }
 
@@ -108,12 +158,46 @@ fn called<'a>(name: &str, matches: &ArgMatches<'a>) -> Call<'a>
             log: text(matches, "log"),
             out: text(matches, "out"),
         }
+    } else if name == "solve" {
+        Call::Solve {
+            program: text(matches, "program"),
+            log: text(matches, "log"),
+            out: text(matches, "out"),
+            model: written_model(matches),
+            budget: budget_in(matches),
+        }
+    } else if name == "check" {
+        Call::Check {
+            program: text(matches, "program"),
+            log: text(matches, "log"),
+            refutation: text(matches, "refutation"),
+        }
+    } else if name == "workload" {
+        Call::Workload {
+            workers: workers_in(matches),
+            seed: seed_in(matches),
+        }
+    } else if name == "cnf" {
+        Call::Cnf {
+            program: text(matches, "program"),
+            log: text(matches, "log"),
+            out: text(matches, "out"),
+            model: written_model(matches),
+        }
+    } else if name == "import" {
+        Call::Import {
+            program: text(matches, "program"),
+            log: text(matches, "log"),
+            answer: text(matches, "answer"),
+            out: text(matches, "out"),
+            model: written_model(matches),
+        }
     } else {
         Call::Record {
             program: text(matches, "program"),
             log: text(matches, "log"),
             model: model_in(matches),
-            seed: number(matches, "seed", 0, u64::MAX, 0),
+            seed: seed_in(matches),
             steps: steps_in(matches),
         }
     }
@@ -123,13 +207,46 @@ fn called<'a>(name: &str, matches: &ArgMatches<'a>) -> Call<'a>
 fn model_in(matches: &ArgMatches<'_>) -> Model
     ensures { result ≡ model_of (rows_of (found_of matches.now)) }
 {
-    let name = text(matches, "model");
+    model_named(text(matches, "model"))
+}
+
+/// The value of `--model`, where it is written.
+fn written_model(matches: &ArgMatches<'_>) -> Option<Model>
+    ensures { result ≡ written_model (rows_of (found_of matches.now)) }
+{
+    match matches.get_str("model") {
+        Some(name) => Some(model_named(name)),
+        None => None,
+    }
+}
+
+/// The memory model of a name.
+fn model_named(name: &str) -> Model
+    ensures { result ≡ model_in name.now }
+{
     if name == Model::Tso.name() {
         Model::Tso
     } else if name == Model::Pso.name() {
         Model::Pso
     } else {
         Model::Sc
+    }
+}
+
+/// The seed.
+fn seed_in(matches: &ArgMatches<'_>) -> u64
+    ensures { result ≡ seed_of (rows_of (found_of matches.now)) }
+{
+    number(matches, "seed", 0, u64::MAX, 0)
+}
+
+/// The number of workers.
+fn workers_in(matches: &ArgMatches<'_>) -> Workers
+    ensures { result.count ≡ workers_of (rows_of (found_of matches.now)) }
+{
+    let count = number(matches, "workers", 1, MOST_WORKERS, 1);
+    Workers {
+        count: count as u32,
     }
 }
 
@@ -141,9 +258,20 @@ fn steps_in(matches: &ArgMatches<'_>) -> u32
     steps as u32
 }
 
-/// The value of an option that takes a number.
+/// The value of `--budget`.
+fn budget_in(matches: &ArgMatches<'_>) -> Budget
+    ensures { result.conflicts ≡ budget_of (rows_of (found_of matches.now)) }
+{
+    let conflicts = number(matches, "budget", 1, MOST_CONFLICTS, USUAL_CONFLICTS);
+    Budget {
+        conflicts: conflicts as u32,
+    }
+}
+
+/// The value of an option or a positional that takes a number.
 fn number(matches: &ArgMatches<'_>, id: &str, low: u64, high: u64, default: u64) -> u64
     ensures value { result ≡ number_of low high default id.now (rows_of (found_of matches.now)) }
+    ensures least { low ≤ default → low ≤ result }
     ensures within { default ≤ high → result ≤ high }
 {
     within(matches.get_one::<u64>(id), low, high, default)
@@ -152,6 +280,7 @@ fn number(matches: &ArgMatches<'_>, id: &str, low: u64, high: u64, default: u64)
 /// The number, where it is in the range.
 fn within(number: Option<u64>, low: u64, high: u64, default: u64) -> u64
     ensures value { result ≡ within low high default number }
+    ensures least { low ≤ default → low ≤ result }
     ensures within { default ≤ high → result ≤ high }
 {
     match number {
@@ -175,7 +304,12 @@ fn command_line<'a>(alloc: Global, names: &'a [&'a str]) -> Result<Command<'a>, 
         .subcommand(list(alloc)?)?
         .subcommand(replay(alloc)?)?
         .subcommand(recording(alloc, names)?)?
-        .subcommand(migration(alloc)?)
+        .subcommand(migration(alloc)?)?
+        .subcommand(solving(alloc, names)?)?
+        .subcommand(checking(alloc)?)?
+        .subcommand(workload(alloc)?)?
+        .subcommand(cnf(alloc, names)?)?
+        .subcommand(import(alloc, names)?)
 }
 
 /// The command, where it wants a subcommand and knows no help.
@@ -235,6 +369,71 @@ fn migration<'a>(alloc: Global) -> Result<Command<'a>, AllocError>
         .arg(positional(alloc, "out"))
 }
 
+/// `solve PROGRAM LOG OUT [--model sc|tso|pso] [--budget N]`.
+fn solving<'a>(alloc: Global, names: &'a [&'a str]) -> Result<Command<'a>, AllocError>
+    ensures { IfOk result (λ command. shape_of command ≡ spec.solving names.entry) }
+{
+    let model = option_alone(alloc, "model", ValueParser::from(names));
+    let budget = option(
+        alloc,
+        "budget",
+        "1000000",
+        ValueParser::unsigned(1, MOST_CONFLICTS),
+    );
+    Command::new(alloc, "solve")
+        .arg(positional(alloc, "program"))?
+        .arg(positional(alloc, "log"))?
+        .arg(positional(alloc, "out"))?
+        .arg(model)?
+        .arg(budget)
+}
+
+/// `check PROGRAM LOG REFUTATION`.
+fn checking<'a>(alloc: Global) -> Result<Command<'a>, AllocError>
+    ensures { IfOk result (λ command. shape_of command ≡ spec.checking) }
+{
+    Command::new(alloc, "check")
+        .arg(positional(alloc, "program"))?
+        .arg(positional(alloc, "log"))?
+        .arg(positional(alloc, "refutation"))
+}
+
+/// `workload N SEED`.
+fn workload<'a>(alloc: Global) -> Result<Command<'a>, AllocError>
+    ensures { IfOk result (λ command. shape_of command ≡ spec.workload) }
+{
+    let workers = ValueParser::unsigned(1, MOST_WORKERS);
+    let seed = ValueParser::unsigned(0, u64::MAX);
+    Command::new(alloc, "workload")
+        .arg(positional_of(alloc, "workers", workers))?
+        .arg(positional_of(alloc, "seed", seed))
+}
+
+/// `cnf PROGRAM LOG OUT [--model sc|tso|pso]`.
+fn cnf<'a>(alloc: Global, names: &'a [&'a str]) -> Result<Command<'a>, AllocError>
+    ensures { IfOk result (λ command. shape_of command ≡ spec.cnf names.entry) }
+{
+    let model = option_alone(alloc, "model", ValueParser::from(names));
+    Command::new(alloc, "cnf")
+        .arg(positional(alloc, "program"))?
+        .arg(positional(alloc, "log"))?
+        .arg(positional(alloc, "out"))?
+        .arg(model)
+}
+
+/// `import PROGRAM LOG ANSWER OUT [--model sc|tso|pso]`.
+fn import<'a>(alloc: Global, names: &'a [&'a str]) -> Result<Command<'a>, AllocError>
+    ensures { IfOk result (λ command. shape_of command ≡ spec.import names.entry) }
+{
+    let model = option_alone(alloc, "model", ValueParser::from(names));
+    Command::new(alloc, "import")
+        .arg(positional(alloc, "program"))?
+        .arg(positional(alloc, "log"))?
+        .arg(positional(alloc, "answer"))?
+        .arg(positional(alloc, "out"))?
+        .arg(model)
+}
+
 /// The names of the memory models.
 fn model_names() -> &'static [&'static str]
     ensures { AreModelNames result }
@@ -253,10 +452,26 @@ fn option<'a>(alloc: Global, name: &'a str, default: &'a str, parser: ValueParse
         .value_parser(parser)
 }
 
+/// An option that takes one value where it is written.
+fn option_alone<'a>(alloc: Global, name: &'a str, parser: ValueParser<'a>) -> Arg<'a>
+    ensures rule { rule_of result ≡ spec.option_alone name.entry.now parser.entry }
+    ensures local { result.global ≡ false }
+{
+    Arg::new(alloc, name).long(name).value_parser(parser)
+}
+
 /// A required positional.
 fn positional<'a>(alloc: Global, name: &'a str) -> Arg<'a>
     ensures rule { rule_of result ≡ spec.positional name.entry.now }
     ensures local { result.global ≡ false }
 {
     Arg::new(alloc, name).required(true)
+}
+
+/// A required positional that takes some values alone.
+fn positional_of<'a>(alloc: Global, name: &'a str, parser: ValueParser<'a>) -> Arg<'a>
+    ensures rule { rule_of result ≡ spec.positional_of name.entry.now parser.entry }
+    ensures local { result.global ≡ false }
+{
+    Arg::new(alloc, name).required(true).value_parser(parser)
 }

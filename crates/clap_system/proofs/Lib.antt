@@ -7,3 +7,4 @@ pub mod Few
 pub mod Built
 pub mod Whole
 pub mod Deep
+pub mod Choices

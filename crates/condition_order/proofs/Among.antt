@@ -106,7 +106,7 @@ module _ (paths : Paths) (symbolic : Symbolic) (w : World) (of : IsWorldOf paths
     | inr broadcast ↦ (record { event = g; all = true }, broadcast_among paths w g c broadcast, refl)
   ]
 
-  sleep_at : (s g : ℕ) → ender_of w s ≡ Some g → (x : Of Sleep) × (slice_get (all_sleeps paths) s ≡ Some x)
+  pub sleep_at : (s g : ℕ) → ender_of w s ≡ Some g → (x : Of Sleep) × (slice_get (all_sleeps paths) s ≡ Some x)
   sleep_at s g ends = by (slice_get (all_sleeps paths) s) refl
     where
       by : (o : Option (Of Sleep)) → slice_get (all_sleeps paths) s ≡ o → (x : Of Sleep) × (slice_get (all_sleeps paths) s ≡ Some x)

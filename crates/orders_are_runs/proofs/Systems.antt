@@ -1,8 +1,6 @@
 -- The formula of a log is true in some world exactly where some order is lawful.
 use Rattle.std.proofs.Common.{◌≡◌, true, List, [], ◌++◌, refl, sym, subst}
-use Rattle.std.proofs.lemmas.Option.{none-some}
 use Rattle.std.specs.Prelude.{◌↔◌, fold}
-use Rattle.std.specs.List.{IsDistinct}
 use Rattle.tc_base.specs.Buffers.{BufferOps}
 use Rattle.tc_base.specs.Logs.{Log}
 use Rattle.tc_base.specs.declared.model.Model.{Model}
@@ -17,7 +15,7 @@ use Rattle.path_walk.specs.Fits.{Fits}
 use Rattle.path_walk.specs.Paths.{ArePaths, Paths, paths_of}
 use Rattle.run_follows.specs.Follow.{moves_for}
 use Rattle.run_history.specs.History.{history}
-use Rattle.sym_terms.specs.Terms.{AreTerms, same_node, with_node}
+use Rattle.sym_terms.specs.Terms.{AreTerms, with_node}
 use Rattle.sym_exec.specs.Executed.{Executed, executed}
 use Rattle.sym_exec.specs.Making.{Grows}
 use Rattle.sym_exec.proofs.Grown.{grows_both}
@@ -34,19 +32,12 @@ use Rattle.world_plan.specs.Plan.{plan}
 use Rattle.plan_runs.proofs.Laws.{given}
 use Rattle.plan_runs.proofs.Runs.{plan_reproduces}
 use Rattle.run_lawful.proofs.Lawful.{is_lawful}
-use Rattle.run_world.specs.WorldOf.{world_in}
+use Rattle.run_lawful.specs.world.WorldOf.{world_in}
 use Rattle.clap_system.specs.Systems.{System, system_of}
 use Rattle.clap_system.proofs.Exact.{lawful_where_true, true_where_lawful}
 use Rattle.clap_system.proofs.Needs.{parts_exact}
 use Rattle.orders_are_runs.specs.Possible.{IsPossible}
-
-none_twice : IsDistinct same_node []
-unfolding IsDistinct
-none_twice = tt
-
--- no terms are terms
-no_terms : AreTerms []
-no_terms = record { distinct = none_twice; earlier = λ id node at. absurd (none-some node at) }
+use Rattle.orders_are_runs.proofs.Terms.{no_terms, system_terms}
 
 module _ {B : Type 0} (ops : BufferOps B) (model : Model) (bound : Binding) (code : Code) (log : Log) (laws : Laws ops model bound) (lawful : IsLawful code)
     (is : is_log log ≡ true) (fits : Fits code log) where
@@ -63,7 +54,7 @@ module _ {B : Type 0} (ops : BufferOps B) (model : Model) (bound : Binding) (cod
   are_paths = record { log = log; fits = fits; are = refl }
 
   -- the formula's terms are those of the execution, and more
-  grows : Grows x.nodes s.nodes
+  pub grows : Grows x.nodes s.nodes
   grows =
       let own = own_needs ops.buffered bound paths x.symbolic x.nodes in
       let between = fold with_node x.nodes own in
@@ -82,39 +73,52 @@ module _ {B : Type 0} (ops : BufferOps B) (model : Model) (bound : Binding) (cod
       same = more_mean_same ops.buffered bound code paths x.symbolic w x.nodes grows.0 (have_terms code lawful paths [])
           (λ t c y at among. have_tests code lawful paths [] t c y at among)
 
-  module _ (terms : AreTerms s.nodes) where
-    pub possible_is_run : IsPossible ops.buffered bound code log → (moves : List Move) × Reproduces ops code log moves
-    possible_is_run p =
-        let parts = parts_exact ops.buffered bound code paths p.world laws.same_cell lawful are_paths terms p.is p.of in
-        let all = lawful_where_true ops.buffered bound code paths x.symbolic s.nodes p.world parts p.holds in
-        let world : IsLawfulWorld ops model bound code log [] p.world = record {
-          laws = laws;
-          code_is = lawful;
-          log_is = is;
-          fits = fits;
-          lives = p.lives;
-          terms = no_terms;
-          world = p.is;
-          of = p.of;
-          lawful = record { meets = λ g. (rule_stays p.world g).1 (all.meets g) };
-        } in (
-          moves_for bound (plan ops.buffered code paths p.world),
-          plan_reproduces ops model bound code log [] p.world world (given ops model bound code log [] p.world world),
-        )
+  terms : AreTerms s.nodes
+  terms = system_terms ops.buffered bound code paths lawful
 
-    pub run_is_possible : (moves : List Move) → Reproduces ops code log moves → IsPossible ops.buffered bound code log
-    run_is_possible moves again = record {
+  -- a world in which the formula is true is lawful
+  pub possible_is_lawful : (p : IsPossible ops.buffered bound code log) → IsLawfulWorld ops model bound code log [] p.world
+  possible_is_lawful p =
+      let parts = parts_exact ops.buffered bound code paths p.world laws.same_cell lawful are_paths terms p.is p.of in
+      let all = lawful_where_true ops.buffered bound code paths x.symbolic s.nodes p.world parts p.holds in
+      record {
+        laws = laws;
+        code_is = lawful;
+        log_is = is;
+        fits = fits;
+        lives = p.lives;
+        terms = no_terms;
+        world = p.is;
+        of = p.of;
+        lawful = record { meets = λ g. (rule_stays p.world g).1 (all.meets g) };
+      }
+
+  pub possible_is_run : IsPossible ops.buffered bound code log → (moves : List Move) × Reproduces ops code log moves
+  possible_is_run p = (
+    moves_for bound (plan ops.buffered code paths p.world),
+    plan_reproduces ops model bound code log [] p.world (possible_is_lawful p) (given ops model bound code log [] p.world (possible_is_lawful p)),
+  )
+
+  module _ (moves : List Move) (again : Reproduces ops code log moves) where
+    -- the world of a run
+    abbrev pub run_world : World
+    run_world = world_in ops.buffered paths x.symbolic (history ops code moves)
+
+    -- is such a world
+    pub run_is_possible : IsPossible ops.buffered bound code log
+    run_is_possible = record {
       lives = l.lives;
-      world = w;
+      world = run_world;
       is = l.world;
       of = l.of;
-      holds = true_where_lawful ops.buffered bound code paths x.symbolic s.nodes w
-          (parts_exact ops.buffered bound code paths w laws.same_cell lawful are_paths terms l.world l.of)
-          (record { meets = λ g. (rule_stays w g).0 (l.lawful.meets g) });
+      holds = true_where_lawful ops.buffered bound code paths x.symbolic s.nodes run_world
+          (parts_exact ops.buffered bound code paths run_world laws.same_cell lawful are_paths terms l.world l.of)
+          (record { meets = λ g. (rule_stays run_world g).0 (l.lawful.meets g) });
     }
       where
-        w : World
-        w = world_in ops.buffered paths x.symbolic (history ops code moves)
-
-        l : IsLawfulWorld ops model bound code log [] w
+        l : IsLawfulWorld ops model bound code log [] run_world
         l = is_lawful ops model bound laws code lawful log is [] no_terms moves again
+
+    pub run_world_is : run_is_possible.world ≡ run_world
+    unfolding run_is_possible
+    run_world_is = refl

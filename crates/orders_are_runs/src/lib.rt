@@ -17,7 +17,6 @@ ghost use Rattle.sym_terms.specs.Terms.{AreTerms};
 ghost use Rattle.sym_terms.specs.declared.node.Node.{Node};
 ghost use Rattle.order_formula.specs.Worlds.{World};
 ghost use Rattle.world_plan.specs.Going.{IsLawfulWorld};
-ghost use Rattle.clap_system.specs.Systems.{system_of};
 ghost use Rattle.orders_are_runs.specs.Possible.{IsPossible};
 
 /// Some order of the events of a log's paths is lawful, the paths not being dead, exactly where some moves reproduce the log, a
@@ -31,6 +30,6 @@ pub fn orders_are_runs<B>()
 /// The formula of a log that fits is true in some world of its paths, which aren't dead, exactly where some moves reproduce the log.
 pub fn systems_are_runs<B>()
     ensures { (ops : BufferOps B) (model : Model) (bound : Binding) (code : Code) (log : Log)
-        → Laws ops model bound → IsLawful code → is_log log ≡ true → Fits code log → AreTerms (system_of ops.buffered bound code log).nodes
+        → Laws ops model bound → IsLawful code → is_log log ≡ true → Fits code log
         → IsPossible ops.buffered bound code log ↔ ((moves : List Move) × Reproduces ops code log moves) }
 {}

@@ -6,3 +6,6 @@ pub mod Prefixes
 pub mod Blocked
 pub mod Logs
 pub mod Deeds
+pub mod of_history
+pub mod of_events
+pub mod of_stuck

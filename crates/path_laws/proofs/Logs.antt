@@ -43,7 +43,7 @@ use Rattle.run_laws.proofs.Created.{reached_is_created}
 use Rattle.run_laws.proofs.Exits.{exited_past_exit, has_next}
 use Rattle.run_laws.proofs.Main.{main_is_there}
 use Rattle.run_laws.proofs.Stuck.{stuck_waits}
-use Rattle.run_pending.proofs.Stuck.{stuck_is_drained}
+use Rattle.run_history.proofs.of_pending.Stuck.{stuck_is_drained}
 use Rattle.path_log.proofs.Lists.{get_seam}
 use Rattle.path_laws.specs.Along.{IsAlong}
 use Rattle.path_laws.specs.Prefixes.{fails_by}

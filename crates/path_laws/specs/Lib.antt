@@ -1,3 +1,6 @@
 pub mod Along
 pub mod Deeds
 pub mod Prefixes
+pub mod history
+pub mod events
+pub mod stuck

@@ -25,6 +25,10 @@ ghost use Rattle.path_laws.specs.Along.{IsAlong};
 ghost use Rattle.path_laws.specs.Deeds.{number_by, event_by, events_before};
 ghost use Rattle.path_laws.specs.Prefixes.{AreOnPaths};
 
+pub mod events;
+pub mod history;
+pub mod stuck;
+
 /// After each run a thread that hasn't failed is where its path so far leads: the places of its steps are told by its
 /// function and its outcomes, and so are its place, what it holds and its thread variables.
 pub fn threads_go_along<B>()

@@ -17,7 +17,7 @@ use Rattle.path_walk.specs.Paths.{Walk, Paths, paths_of}
 use Rattle.path_walk.specs.declared.event.Event.{Event}
 use Rattle.path_walk.specs.declared.event.EventKind.{EventKind}
 use Rattle.path_walk.specs.declared.event.EventKind.TheVariants as kind
-use Rattle.path_history.specs.Along.{IsThread}
+use Rattle.path_laws.specs.history.Along.{IsThread}
 use Rattle.sym_terms.specs.declared.node.Node.{Node}
 use Rattle.order_formula.specs.Worlds.{World}
 use Rattle.order_formula.specs.declared.group.Group.TheVariants.{Own}

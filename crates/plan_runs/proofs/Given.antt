@@ -14,14 +14,14 @@ use Rattle.run_history.specs.History.{Deed, Did, Drained, pending}
 use Rattle.run_history.specs.Locals.{asks_next}
 use Rattle.run_history.specs.Told.{steps_in, owner_in, waiting_in, is_thread_in, has_exited_in}
 use Rattle.run_follows.specs.Follow.{taken_in, IsNextDrain}
-use Rattle.run_stuck.specs.Stuck.{AllDrained, AllAreBlocked}
+use Rattle.run_follows.specs.blocked.Stuck.{AllDrained, AllAreBlocked}
 use Rattle.path_walk.specs.Events.{takes}
 use Rattle.path_walk.specs.Paths.{Walk, paths_of}
 use Rattle.path_walk.specs.declared.event.Event.{Event}
 use Rattle.path_walk.specs.declared.event.EventKind.{EventKind}
 use Rattle.path_walk.specs.declared.event.EventKind.TheVariants as kind
 use Rattle.path_laws.specs.Deeds.{kind_of}
-use Rattle.path_history.specs.Along.{IsAlongPaths, IsThread, AllHaveDone, AllAreThere}
+use Rattle.path_laws.specs.history.Along.{IsAlongPaths, IsThread, AllHaveDone, AllAreThere}
 use Rattle.sym_exec.specs.Executed.{Course}
 use Rattle.sym_exec.specs.declared.symbolic.Access.{Access}
 use Rattle.sym_terms.specs.declared.node.Node.{Node}

@@ -18,11 +18,11 @@ use Rattle.path_walk.specs.Paths.{Walk, Paths, paths_of}
 use Rattle.path_walk.specs.declared.event.Event.{Event}
 use Rattle.path_walk.specs.declared.event.EventKind.TheVariants as kind
 use Rattle.path_walk.specs.declared.event.Sleep.{Sleep}
-use Rattle.path_history.specs.Along.{IsThread}
-use Rattle.path_events.proofs.Events.{event_within}
-use Rattle.path_events.proofs.Lists.{in_contains}
-use Rattle.path_history.proofs.Stays.{start_along}
-use Rattle.path_history.proofs.Walks.{walk_is, few_steps}
+use Rattle.path_laws.specs.history.Along.{IsThread}
+use Rattle.path_laws.proofs.of_events.Events.{event_within}
+use Rattle.path_laws.proofs.of_events.Lists.{in_contains}
+use Rattle.path_laws.proofs.of_history.Stays.{start_along}
+use Rattle.path_laws.proofs.of_history.Walks.{walk_is, few_steps}
 use Rattle.sym_terms.specs.declared.node.Node.{Node}
 use Rattle.order_formula.specs.Worlds.{World, position}
 use Rattle.order_formula.specs.declared.group.Group.TheVariants.{Own}

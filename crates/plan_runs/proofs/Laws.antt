@@ -17,16 +17,16 @@ use Rattle.lawful_order.specs.Memory.{is_store}
 use Rattle.world_plan.specs.Going.{IsLawfulWorld, SleepUntilEnded}
 use Rattle.world_plan.specs.Plan.{other_of}
 use Rattle.world_plan.specs.Sights.{Sight}
-use Rattle.plan_memory.proofs.Empty.{empty_there, all_there as all_drain}
-use Rattle.plan_memory.proofs.Drained.{step_drained, event_drained, drain_drained}
-use Rattle.plan_memory.proofs.Shown.{quiet_order, event_order, drain_order}
-use Rattle.plan_memory.proofs.Turn.{has_turn}
-use Rattle.plan_memory.proofs.Taken.{takes_its}
-use Rattle.plan_waits.proofs.Asleep.{event_until, step_until, drained_until}
-use Rattle.plan_waits.proofs.Blocked.{all_blocked}
-use Rattle.plan_waits.proofs.Free.{is_free}
-use Rattle.plan_waits.proofs.Threads.{has_exited, there_at, all_there}
-use Rattle.plan_waits.proofs.Waking.{waits_no_more, finds_its_own, finds_none}
+use Rattle.plan_runs.proofs.of_memory.Empty.{empty_there, all_there as all_drain}
+use Rattle.plan_runs.proofs.of_memory.Drained.{step_drained, event_drained, drain_drained}
+use Rattle.plan_runs.proofs.of_memory.Shown.{quiet_order, event_order, drain_order}
+use Rattle.plan_runs.proofs.of_memory.Turn.{has_turn}
+use Rattle.plan_runs.proofs.of_memory.Taken.{takes_its}
+use Rattle.plan_runs.proofs.of_waits.Asleep.{event_until, step_until, drained_until}
+use Rattle.plan_runs.proofs.of_waits.Blocked.{all_blocked}
+use Rattle.plan_runs.proofs.of_waits.Free.{is_free}
+use Rattle.plan_runs.proofs.of_waits.Threads.{has_exited, there_at, all_there}
+use Rattle.plan_runs.proofs.of_waits.Waking.{waits_no_more, finds_its_own, finds_none}
 use Rattle.plan_runs.proofs.Given.{IsQuiet, Given}
 
 -- a quiet step shows nothing

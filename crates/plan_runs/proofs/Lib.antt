@@ -8,3 +8,5 @@ pub mod End
 pub mod Rest
 pub mod Runs
 pub mod Laws
+pub mod of_memory
+pub mod of_waits

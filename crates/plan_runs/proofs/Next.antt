@@ -16,12 +16,12 @@ use Rattle.run_history.specs.Told.{steps_in, is_thread_in, failed_in}
 use Rattle.run_follows.specs.Follow.{taken_in, may_do_in, OtherIs, MayFollow}
 use Rattle.path_walk.specs.Paths.{Walk, Paths, ArePaths, paths_of}
 use Rattle.path_laws.specs.Deeds.{kind_of}
-use Rattle.path_history.specs.Along.{IsThread}
-use Rattle.path_history.specs.Next.{failing_next, IsNextOnPath}
-use Rattle.path_history.proofs.Next.{next_on_path}
-use Rattle.path_history.proofs.Stays.{step_stays}
-use Rattle.path_history.proofs.Told.{run_of}
-use Rattle.path_history.proofs.Walks.{thread_path_at}
+use Rattle.path_laws.specs.history.Along.{IsThread}
+use Rattle.path_laws.specs.history.Next.{failing_next, IsNextOnPath}
+use Rattle.path_laws.proofs.of_history.Next.{next_on_path}
+use Rattle.path_laws.proofs.of_history.Stays.{step_stays}
+use Rattle.path_laws.proofs.of_history.Told.{run_of}
+use Rattle.path_laws.proofs.of_history.Walks.{thread_path_at}
 use Rattle.sym_terms.specs.declared.node.Node.{Node}
 use Rattle.sym_exec.specs.Executed.{Course, Executed}
 use Rattle.sym_laws.specs.Valued.{found}

@@ -23,8 +23,8 @@ use Rattle.path_walk.specs.Fits.{fails_in}
 use Rattle.path_walk.specs.Paths.{Walk, Paths, paths_of}
 use Rattle.path_walk.specs.declared.event.Event.{Event}
 use Rattle.path_walk.specs.declared.event.EventKind.TheVariants as kind
-use Rattle.path_history.specs.Along.{IsThread, HasDoneAll, AllHaveDone, AllAreThere}
-use Rattle.path_history.proofs.Walks.{few_steps}
+use Rattle.path_laws.specs.history.Along.{IsThread, HasDoneAll, AllHaveDone, AllAreThere}
+use Rattle.path_laws.proofs.of_history.Walks.{few_steps}
 use Rattle.sym_exec.specs.Executed.{has_failed}
 use Rattle.sym_terms.specs.declared.node.Node.{Node}
 use Rattle.order_formula.specs.Worlds.{World}

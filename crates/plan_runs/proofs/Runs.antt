@@ -20,18 +20,18 @@ use Rattle.run_history.specs.Told.{failed_in}
 use Rattle.run_follows.specs.Follow.{IsLeftIn, IsStuckIn, NothingFollows, moves_for}
 use Rattle.run_follows.specs.Logged.{EndsAsIn}
 use Rattle.run_follows.proofs.Reproduced.{deeds_reproduce}
-use Rattle.run_stuck.specs.Stuck.{AllDrained, AllAreBlocked}
-use Rattle.run_stuck.proofs.Stuck.{nothing_follows}
+use Rattle.run_follows.specs.blocked.Stuck.{AllDrained, AllAreBlocked}
+use Rattle.run_follows.proofs.of_blocked.Stuck.{nothing_follows}
 use Rattle.path_log.specs.Texts.{is_there, rises_from}
 use Rattle.path_walk.specs.Fits.{fails_in}
 use Rattle.path_walk.specs.Paths.{Walk, Paths, paths_of, have_exited}
 use Rattle.path_walk.specs.declared.event.Blocked.{Blocked}
 use Rattle.path_laws.specs.Prefixes.{fails_by}
-use Rattle.path_history.specs.Along.{IsThread, AllAreThere}
-use Rattle.path_history.proofs.Logged.{all_there, goes_as_logged}
-use Rattle.path_history.proofs.Told.{RunOf, run_of, along_is_run, thread_of, steps_of, local_is}
-use Rattle.path_history.proofs.Walks.{walk_is}
-use Rattle.path_stuck.proofs.Rests.{left_blocked}
+use Rattle.path_laws.specs.history.Along.{IsThread, AllAreThere}
+use Rattle.path_laws.proofs.of_history.Logged.{all_there, goes_as_logged}
+use Rattle.path_laws.proofs.of_history.Told.{RunOf, run_of, along_is_run, thread_of, steps_of, local_is}
+use Rattle.path_laws.proofs.of_history.Walks.{walk_is}
+use Rattle.path_laws.proofs.of_stuck.Rests.{left_blocked}
 use Rattle.sym_exec.specs.Executed.{has_failed}
 use Rattle.sym_laws.proofs.Follows.{walk_at}
 use Rattle.sym_terms.specs.declared.node.Node.{Node}

@@ -20,8 +20,8 @@ use Rattle.path_walk.specs.declared.event.Event.{Event}
 use Rattle.path_walk.specs.declared.event.EventKind.{EventKind}
 use Rattle.path_walk.specs.declared.event.EventKind.TheVariants as kind
 use Rattle.path_laws.specs.Deeds.{kind_of}
-use Rattle.path_history.specs.Along.{IsThread}
-use Rattle.path_history.proofs.Stays.{drain_stays}
+use Rattle.path_laws.specs.history.Along.{IsThread}
+use Rattle.path_laws.proofs.of_history.Stays.{drain_stays}
 use Rattle.sym_terms.specs.declared.node.Node.{Node}
 use Rattle.sym_exec.specs.Executed.{Course}
 use Rattle.sym_exec.specs.declared.symbolic.Access.{Access}

@@ -18,6 +18,9 @@ ghost use Rattle.world_plan.specs.Going.{IsLawfulWorld, HaveDrained};
 ghost use Rattle.world_plan.specs.Plan.{end_of, plan};
 ghost use Rattle.world_plan.specs.Sights.{AreInOrder};
 
+pub mod memory;
+pub mod waits;
+
 /// The moves of the plan of a lawful world reproduce the log, a failure or a deadlock, under the memory model: what they do is
 /// the plan, and the events of the paths take place in the order of the world. Of the stores that wait in buffers those have
 /// drained that come before the failing event, and in a deadlock all.

@@ -5,5 +5,6 @@ pub mod Guesses
 pub mod Heads
 pub mod Cuts
 pub mod Wholes
+pub mod Written
 pub mod ReadTexts
 pub mod Pieces

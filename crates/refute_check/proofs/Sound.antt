@@ -1,10 +1,10 @@
 -- A clause that a line adds is true wherever the kept clauses are.
-use Rattle.std.proofs.Common.{◌≡◌, ◌≢◌, ℕ, suc, zero, ◌+◌, List, [], ◌∷◌, ◌++◌, map, ℤ, pos, negsuc, neg_ℤ, refl, ap, sym, ◌∙◌, subst}
+use Rattle.std.proofs.Common.{◌≡◌, ◌≢◌, ℕ, suc, zero, ◌+◌, List, [], ◌∷◌, ◌++◌, map, ℤ, pos, negsuc, neg_ℤ, refl, ap, sym, ◌∙◌, subst, arith}
 use Rattle.std.proofs.Common.{Bool, true, false, not, cond, Option, Some, None, Ok, inl, inr}
 use Rattle.std.proofs.Math.IntN.{neg_ℤ-neg_ℤ}
 use Rattle.std.proofs.lemmas.Bool.{and_parts, or_cases, or_parts, or_right, not-true}
 use Rattle.std.specs.Prelude.{◌||◌, is_some, IfSome, if◌then◌else◌}
-use Rattle.std.specs.List.{fold}
+use Rattle.std.specs.List.{Contains, fold}
 use Rattle.std.specs.Option.{option_map_or}
 use Rattle.std.specs.Ordering.{nat_cmp, int_eq, eq_by_cmp}
 use Rattle.std.specs.Cmp.{nat_cmp_total, signed_Decides}
@@ -23,9 +23,13 @@ use Rattle.refute_check.specs.declared.verdict.CheckFault.{CheckFault}
 use Rattle.refute_check.specs.declared.verdict.CheckFault.TheVariants.{NoVariable, NoClause, Hint}
 use Rattle.refute_check.specs.declared.verdict.Checked.TheVariants.{Closed}
 
--- each kept clause is true
+-- a kept clause is true
+abbrev pub IsTrueAt : Valuation → KeptClauses → ℕ → Type 0
+IsTrueAt v kept n = IfSome (get kept n) (λ c. clause_true v c ≡ true)
+
+-- each is
 abbrev AreTrue : Valuation → KeptClauses → Type 0
-AreTrue v kept = (n : ℕ) → IfSome (get kept n) (λ c. clause_true v c ≡ true)
+AreTrue v kept = (n : ℕ) → IsTrueAt v kept n
 
 chosen : (v : Valuation) (b : Bool) (x y : Option (List ℤ)) → IfSome x (λ c. clause_true v c ≡ true) → IfSome y (λ c. clause_true v c ≡ true)
     → IfSome (cond b x y) (λ c. clause_true v c ≡ true)
@@ -100,28 +104,29 @@ by-kept : (v : Valuation) (o : Option (List ℤ)) (f : List ℤ → Option Check
 by-kept v None f d h k e = e
 by-kept v (Some c) f d h k e = k c h
 
--- hints from literals that are false show a conflict only where some kept clause is false
-hints-sound : (v : Valuation) (n : ℕ) (kept : KeptClauses) (given : List ℤ) (hs : List ℕ) → AreTrue v kept → AreFalse v given
-    → hints_fault n kept given hs ≢ None
+-- hints from literals that are false show a conflict only where some clause that they name is false
+hints-sound : (v : Valuation) (n : ℕ) (kept : KeptClauses) (given : List ℤ) (hs : List ℕ) → ((h : ℕ) → Contains hs h → IsTrueAt v kept h)
+    → AreFalse v given → hints_fault n kept given hs ≢ None
 hints-sound v n kept given [] h f = λ e. cc
 hints-sound v n kept given (i ∷ hs) h f =
     by-kept v (get kept i)
     (λ c. by_left (what_is_left given c) (if is_nil hs then None else Some (Hint n)) (λ l. hints_fault n kept (given ++ l ∷ []) hs) (Some (Hint n)))
     (Some (NoClause n))
-    (h i)
+    (h i (0, omega arith, refl))
     (λ c t. by-counted v (left given c) (if is_nil hs then None else Some (Hint n)) (Some (Hint n)) (λ l. hints_fault n kept (given ++ l ∷ []) hs)
-    (left-true v given c f t) (λ e. cc) (λ l u. hints-sound v n kept (given ++ l ∷ []) hs h (AreFalse-more v given l f u)))
+    (left-true v given c f t) (λ e. cc)
+    (λ l u. hints-sound v n kept (given ++ l ∷ []) hs (λ j a. h j (suc a.0, omega (arith, a.1), a.2)) (AreFalse-more v given l f u)))
     (λ e. cc)
 
--- a line that passes adds a clause that is true wherever the kept ones are
+-- a line that passes adds a clause that is true wherever those are that its hints name
 clause-step : (v : Valuation) (n vars : ℕ) (kept : KeptClauses) (lits : List ℤ) (hints : List ℕ) (w b : Bool) → clause_true v lits ≡ b
-    → AreTrue v kept → (if w then hints_fault n kept (map neg_ℤ lits) hints else Some (NoVariable n)) ≡ None → clause_true v lits ≡ true
+    → ((h : ℕ) → Contains hints h → IsTrueAt v kept h) → (if w then hints_fault n kept (map neg_ℤ lits) hints else Some (NoVariable n)) ≡ None → clause_true v lits ≡ true
 clause-step v n vars kept lits hints w true e h p = e
 clause-step v n vars kept lits hints true false e h p = absurd (hints-sound v n kept (map neg_ℤ lits) hints h (AreFalse-line v lits e) p)
 clause-step v n vars kept lits hints false false e h p = absurd (cc)
 
-clause-sound : (v : Valuation) (n vars : ℕ) (kept : KeptClauses) (lits : List ℤ) (hints : List ℕ) → AreTrue v kept
-    → clause_fault n vars kept lits hints ≡ None → clause_true v lits ≡ true
+pub clause-sound : (v : Valuation) (n vars : ℕ) (kept : KeptClauses) (lits : List ℤ) (hints : List ℕ)
+    → ((h : ℕ) → Contains hints h → IsTrueAt v kept h) → clause_fault n vars kept lits hints ≡ None → clause_true v lits ≡ true
 clause-sound v n vars kept lits hints h p = clause-step v n vars kept lits hints (is_within vars lits) (clause_true v lits) refl h p
 
 -- the kept clauses are true, and no empty clause was added
@@ -136,7 +141,7 @@ not-nil v (l ∷ lits) t = refl
 judged-sound : (v : Valuation) (s : Checking) (l : Line) (o : Option CheckFault) → line_fault (s.line + 1) s.vars s.kept l ≡ o → StaysTrue v s
     → StaysTrue v (judged o s l)
 judged-sound v s (Add lits hints) None e h =
-    let t : clause_true v lits ≡ true = clause-sound v (s.line + 1) s.vars s.kept lits hints h.kept e in
+    let t : clause_true v lits ≡ true = clause-sound v (s.line + 1) s.vars s.kept lits hints (λ n i. h.kept n) e in
     let f : is_nil lits ≡ false = not-nil v lits t in
     record {
       kept = AreTrue-insert v s.kept s.next lits h.kept t;

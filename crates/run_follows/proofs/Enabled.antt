@@ -29,9 +29,9 @@ use Rattle.run_history.specs.Told.{failed_in}
 use Rattle.run_history.proofs.Locals.{LocalsAre, keeps_locals, opening_locals}
 use Rattle.run_history.proofs.Shared.{MemoryIs, keeps_memory, opening_memory, OwnersAre, keeps_owners, opening_owners}
 use Rattle.run_history.proofs.Shared.{WaitersAre, keeps_waiters, opening_waiters, FailureIs, keeps_failure}
-use Rattle.run_pending.proofs.Apart.{DeedsAre, keeps_deeds, opening_deeds}
-use Rattle.run_pending.proofs.Issues.{Rises, whats, SplitAt, split_at}
-use Rattle.run_pending.proofs.Turns.{next_by_steps, split_by_steps}
+use Rattle.run_history.proofs.of_pending.Apart.{DeedsAre, keeps_deeds, opening_deeds}
+use Rattle.run_history.proofs.of_pending.Issues.{Rises, whats, SplitAt, split_at}
+use Rattle.run_history.proofs.of_pending.Turns.{next_by_steps, split_by_steps}
 use Rattle.run_laws.proofs.Asks.{AsksOf}
 use Rattle.run_history.proofs.Frame.{Keeps, holds_after}
 

@@ -27,12 +27,12 @@ use Rattle.run_history.specs.History.{Deed, Did, Drained, pending_issues, pendin
 use Rattle.run_history.specs.Told.{is_thread_in, has_exited_in, children_in, failed_in, waiting_in}
 use Rattle.run_follows.specs.Follow.{may_do_in, is_allowed_in}
 use Rattle.run_follows.specs.Follow.{OtherIs, MayFollow, AllFollow, IsLeftIn, StepsAreOfThreads}
-use Rattle.run_pending.specs.Deeds.{name_of}
+use Rattle.run_history.specs.pending.Deeds.{name_of}
 use Rattle.run_history.specs.Locals.{asks_next}
 use Rattle.run_laws.proofs.Basics.{unless}
-use Rattle.run_pending.proofs.Issues.{split_at}
-use Rattle.run_pending.proofs.Buffers.{deed_is}
-use Rattle.run_pending.proofs.Apart.{last_or_before}
+use Rattle.run_history.proofs.of_pending.Issues.{split_at}
+use Rattle.run_history.proofs.of_pending.Buffers.{deed_is}
+use Rattle.run_history.proofs.of_pending.Apart.{last_or_before}
 use Rattle.run_laws.proofs.Asks.{AsksOf, next_asks_within}
 use Rattle.run_follows.proofs.Enabled.{Tells, keeps_tells, opening_tells, drains_by_buffers, next_drain, empty_told, taken_told, allowed_told}
 use Rattle.run_history.proofs.Threads.{number_is, children_are}

@@ -31,10 +31,10 @@ use Rattle.run_history.specs.Locals.{asks_next}
 use Rattle.run_history.specs.Told.{steps_in, failed_in, waiting_in}
 use Rattle.run_follows.specs.Follow.{may_do_in, is_allowed_in, taken_in, OtherIs, IsNextDrain, MayFollow}
 use Rattle.run_follows.specs.Follow.{AllFollow, move_for, moves_for}
-use Rattle.run_pending.proofs.Issues.{Rises, whats, SplitAt}
-use Rattle.run_pending.proofs.In.{In, all_in, in_at}
-use Rattle.run_pending.proofs.Turns.{split_by_steps}
-use Rattle.run_pending.proofs.Buffers.{deed_is}
+use Rattle.run_history.proofs.of_pending.Issues.{Rises, whats, SplitAt}
+use Rattle.run_history.proofs.of_pending.In.{In, all_in, in_at}
+use Rattle.run_history.proofs.of_pending.Turns.{split_by_steps}
+use Rattle.run_history.proofs.of_pending.Buffers.{deed_is}
 use Rattle.run_laws.proofs.Asks.{AsksOf, next_asks_within}
 use Rattle.run_laws.proofs.Stuck.{signals}
 use Rattle.run_follows.proofs.Enabled.{Tells, keeps_tells, opening_tells, empty_told, taken_told, allowed_told}

@@ -15,7 +15,7 @@ use Rattle.store_buffers.specs.Pending.{stores, Binding, form_of}
 use Rattle.run_history.specs.History.{Deed, Did, Drained, pending}
 use Rattle.run_history.specs.Locals.{asks_next}
 use Rattle.run_history.specs.Told.{value_in, owner_in, waiting_in, is_thread_in, steps_in, children_in, has_exited_in, failed_in}
-use Rattle.run_pending.specs.Deeds.{MayDrainNext}
+use Rattle.run_history.specs.pending.Deeds.{MayDrainNext}
 
 -- a load takes the newest of the thread's pending stores to the cell, else what memory has
 abbrev pub seen_in : Bool → Code → List Deed → Name → ℕ → ℤ

@@ -1,2 +1,4 @@
 pub mod Follow
 pub mod Logged
+pub mod blocked
+pub mod deeds

@@ -24,6 +24,9 @@ ghost use Rattle.tc_code.specs.Lawful.{IsLawful};
 ghost use Rattle.tc_base.specs.declared.moves.Move.TheVariants as move;
 ghost use Rattle.tc_code.specs.declared.instr.Instr.{Instr};
 
+pub mod blocked;
+pub mod deeds;
+
 /// A load takes the newest of the thread's pending stores to the cell, else the last store that reached it, else the
 /// value at the start.
 pub fn loads_are_told<B>()

@@ -6,3 +6,4 @@ pub mod Lists
 pub mod Locals
 pub mod Shared
 pub mod Threads
+pub mod of_pending

@@ -3,3 +3,4 @@ pub mod Ints
 pub mod Last
 pub mod Locals
 pub mod Told
+pub mod pending

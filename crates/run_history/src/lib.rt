@@ -28,6 +28,8 @@ ghost use Rattle.run_history.specs.Locals.{locals_in};
 ghost use Rattle.run_history.specs.Last.{IsLast, brings, waits_by};
 ghost use Rattle.run_history.specs.Told.{value_in, owner_by, owner_in, waiting_in, is_thread_in, steps_in, children_in, has_exited_in, failed_in};
 
+pub mod pending;
+
 /// Each move adds what it does.
 pub fn moves_add_deeds<B>()
     ensures { (ops : BufferOps B) (code : Code) (moves : List Move) (s u : State B) (m : Move)

@@ -22,18 +22,18 @@ use Rattle.order_formula.specs.declared.group.Group.{Group}
 use Rattle.order_formula.specs.declared.group.Group.TheVariants.{Own, Child, Read, Mutex, Condition, Test, Stuck}
 use Rattle.lawful_order.specs.Lawful as order
 use Rattle.world_plan.specs.Going.{IsLawfulWorld}
-use Rattle.run_world.specs.WorldOf.{world_in}
-use Rattle.run_world.proofs.Loads.{agrees}
-use Rattle.run_world.proofs.Ordered.{is_order}
-use Rattle.run_world.proofs.Run.{seen}
-use Rattle.run_world.proofs.Worlds.{is_world, is_world_of}
-use Rattle.run_own.proofs.Own.{own_rule}
-use Rattle.run_own.proofs.Tests.{test_rule}
-use Rattle.run_reads.proofs.Takes.{read_rule}
-use Rattle.run_waits.proofs.Children.{child_rule}
-use Rattle.run_waits.proofs.Conditions.{condition_rule}
-use Rattle.run_waits.proofs.Mutexes.{mutex_rule}
-use Rattle.run_waits.proofs.Stuck.{stuck_rule}
+use Rattle.run_lawful.specs.world.WorldOf.{world_in}
+use Rattle.run_lawful.proofs.of_world.Loads.{agrees}
+use Rattle.run_lawful.proofs.of_world.Ordered.{is_order}
+use Rattle.run_lawful.proofs.of_world.Run.{seen}
+use Rattle.run_lawful.proofs.of_world.Worlds.{is_world, is_world_of}
+use Rattle.run_lawful.proofs.of_own.Own.{own_rule}
+use Rattle.run_lawful.proofs.of_own.Tests.{test_rule}
+use Rattle.run_lawful.proofs.of_reads.Takes.{read_rule}
+use Rattle.run_lawful.proofs.of_waits.Children.{child_rule}
+use Rattle.run_lawful.proofs.of_waits.Conditions.{condition_rule}
+use Rattle.run_lawful.proofs.of_waits.Mutexes.{mutex_rule}
+use Rattle.run_lawful.proofs.of_waits.Stuck.{stuck_rule}
 
 module _ {B : Type 0} (ops : BufferOps B) (model : Model) (bound : Binding) (laws : Laws ops model bound) (code : Code) (lawful : IsLawful code) (log : Log)
     (is : is_log log ≡ true) (nodes : List Node) (terms : AreTerms nodes) (moves : List Move) (again : Reproduces ops code log moves) where

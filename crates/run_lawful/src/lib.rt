@@ -19,7 +19,12 @@ ghost use Rattle.sym_terms.specs.declared.node.Node.{Node};
 ghost use Rattle.sym_laws.specs.Valued.{found};
 ghost use Rattle.world_plan.specs.Going.{IsLawfulWorld};
 ghost use Rattle.world_plan.specs.Sights.{AreInOrder};
-ghost use Rattle.run_world.specs.WorldOf.{world_in};
+ghost use Rattle.run_lawful.specs.world.WorldOf.{world_in};
+
+pub mod own;
+pub mod reads;
+pub mod waits;
+pub mod world;
 
 /// Where moves reproduce a log, under any memory model that keeps its laws, the world of their history is lawful, and has the
 /// events in the order in which they take place.

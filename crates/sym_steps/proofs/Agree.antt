@@ -5,7 +5,7 @@ use Rattle.std.proofs.lemmas.Option.{none-some, same_Some}
 use Rattle.tc_base.specs.Names.{Name}
 use Rattle.tc_base.specs.declared.request.Request.{Request}
 use Rattle.run_history.specs.History.{Deed, Did, Drained}
-use Rattle.run_pending.specs.Deeds.{name_of}
+use Rattle.run_history.specs.pending.Deeds.{name_of}
 use Rattle.sym_exec.specs.Executed.{Course, Symbolic}
 use Rattle.sym_exec.specs.declared.symbolic.Access.{Access}
 use Rattle.sym_laws.specs.Valued.{IsOneOf, AgreesWith}

@@ -31,7 +31,7 @@ use Rattle.run_history.specs.Told.{steps_in, children_in, failed_in}
 use Rattle.run_history.proofs.Ints.{models_pass_ints}
 use Rattle.run_history.proofs.Threads.{children_are}
 use Rattle.run_follows.specs.Follow.{OtherIs}
-use Rattle.run_pending.proofs.In.{In, in_left, in_right}
+use Rattle.run_history.proofs.of_pending.In.{In, in_left, in_right}
 use Rattle.path_log.specs.Texts.{is_log}
 use Rattle.path_log.proofs.Lists.{get_seam}
 use Rattle.path_walk.specs.Events.{kind_with}
@@ -43,14 +43,14 @@ use Rattle.path_walk.specs.Steps as path
 use Rattle.path_walk.specs.declared.event.Event.{Event}
 use Rattle.path_walk.specs.declared.event.EventKind.{EventKind}
 use Rattle.path_laws.specs.Deeds.{kind_of}
-use Rattle.path_history.specs.Along.{IsAlongPaths, IsThread}
-use Rattle.path_history.specs.Next.{fails_next, IsNextOnPath, BranchesAlong}
-use Rattle.path_history.proofs.Told.{RunOf, run_of}
-use Rattle.path_history.proofs.Walks.{IsWalk, walk_is, thread_path_at}
-use Rattle.path_history.proofs.Next.{asks_told, thread_next, steps_left, next_leads, has_marks, as_wanted, path_step, fails_there}
-use Rattle.path_events.proofs.Lists.{each_of, each_in, contains_in, all_pass}
-use Rattle.path_events.proofs.Marked.{event_at, event_found}
-use Rattle.path_events.proofs.Sites.{last_is_site}
+use Rattle.path_laws.specs.history.Along.{IsAlongPaths, IsThread}
+use Rattle.path_laws.specs.history.Next.{fails_next, IsNextOnPath, BranchesAlong}
+use Rattle.path_laws.proofs.of_history.Told.{RunOf, run_of}
+use Rattle.path_laws.proofs.of_history.Walks.{IsWalk, walk_is, thread_path_at}
+use Rattle.path_laws.proofs.of_history.Next.{asks_told, thread_next, steps_left, next_leads, has_marks, as_wanted, path_step, fails_there}
+use Rattle.path_laws.proofs.of_events.Lists.{each_of, each_in, contains_in, all_pass}
+use Rattle.path_laws.proofs.of_events.Marked.{event_at, event_found}
+use Rattle.path_laws.proofs.of_events.Sites.{last_is_site}
 use Rattle.sym_terms.specs.Terms.{AreTerms}
 use Rattle.sym_terms.specs.declared.node.Node.{Node}
 use Rattle.sym_exec.specs.Making.{Grows}

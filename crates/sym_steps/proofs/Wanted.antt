@@ -18,7 +18,7 @@ use Rattle.run_history.specs.Told.{fails, children_in}
 use Rattle.run_history.proofs.Lists.{last_or-push}
 use Rattle.run_follows.specs.Follow.{OtherIs}
 use Rattle.path_walk.specs.Steps.{is_site}
-use Rattle.path_history.specs.Next.{IsAsWanted}
+use Rattle.path_laws.specs.history.Next.{IsAsWanted}
 use Rattle.path_walk.specs.Events.{kind_with}
 use Rattle.path_walk.specs.Marks.{Marks}
 use Rattle.path_walk.specs.declared.event.EventKind.TheVariants as kind

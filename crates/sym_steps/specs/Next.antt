@@ -14,7 +14,7 @@ use Rattle.path_walk.specs.Paths.{Walk}
 use Rattle.path_walk.specs.declared.event.Event.{Event}
 use Rattle.path_walk.specs.declared.event.EventKind.{EventKind}
 use Rattle.path_laws.specs.Deeds.{kind_of}
-use Rattle.path_history.specs.Next.{failing_next, IsNextOnPath, BranchesAlong}
+use Rattle.path_laws.specs.history.Next.{failing_next, IsNextOnPath, BranchesAlong}
 use Rattle.sym_terms.specs.declared.node.Node.{Node}
 use Rattle.sym_exec.specs.Alone.{asked_by, cell_by, outcome_by}
 use Rattle.sym_exec.specs.Executed.{Course}

@@ -20,14 +20,16 @@ ghost use Rattle.run_history.specs.Told.{failed_in};
 ghost use Rattle.path_log.specs.Texts.{is_log};
 ghost use Rattle.path_walk.specs.Fits.{Fits};
 ghost use Rattle.path_walk.specs.Paths.{Walk, paths_of};
-ghost use Rattle.path_history.specs.Along.{IsAlongPaths, IsThread};
-ghost use Rattle.path_history.specs.Next.{IsNextOnPath};
+ghost use Rattle.path_laws.specs.history.Along.{IsAlongPaths, IsThread};
+ghost use Rattle.path_laws.specs.history.Next.{IsNextOnPath};
 ghost use Rattle.sym_terms.specs.Terms.{AreTerms};
 ghost use Rattle.sym_terms.specs.declared.node.Node.{Node};
 ghost use Rattle.sym_exec.specs.Executed.{Course, Symbolic};
 ghost use Rattle.sym_exec.specs.declared.symbolic.Access.{Access};
 ghost use Rattle.sym_laws.specs.Valued.{IsOneOf, AgreesWith, HasValues, found};
 ghost use Rattle.sym_steps.specs.Next.{TestsAreMet, IsToldNext};
+
+pub mod accesses;
 
 /// Loads go on agreeing with a history where a step takes what its symbol stands for. So they do with a drain more, and with
 /// the first deeds.

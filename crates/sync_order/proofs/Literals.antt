@@ -1,9 +1,8 @@
--- What holds of all literals here: they name steps that are events, sleeps and events by their places, and no terms.
-use Rattle.std.proofs.Common.{◌≡◌, ℕ, ◌<◌, Bool, true, false, List, [], ◌∷◌, ◌++◌, map, filter, length, Some, inl, inr, subst}
+-- What holds of all literals here: they name steps that are events, sleeps with what may end them, and no terms.
+use Rattle.std.proofs.Common.{◌≡◌, ℕ, Bool, true, false, List, [], ◌∷◌, ◌++◌, map, filter, Some, inl, inr, subst}
 use Rattle.std.proofs.Common.{if◌then◌else◌, not, ◌&&◌, ◌==◌}
-use Rattle.std.specs.Prelude.{option_to_list}
+use Rattle.std.specs.Prelude.{option_to_list, slice_get}
 use Rattle.std.specs.List.{All, Contains}
-use Rattle.std.proofs.lemmas.Option.{slice_get_within}
 use Rattle.std.proofs.lemmas.List.Elements.{All-nil, Contains-append_cases}
 use Rattle.path_walk.specs.Paths.{Walk, Paths}
 use Rattle.path_walk.specs.declared.event.Blocked.{Blocked}
@@ -11,16 +10,16 @@ use Rattle.path_walk.specs.declared.event.Blocked.TheVariants.{Lock, Wake, Join}
 use Rattle.path_walk.specs.declared.event.Event.{Event}
 use Rattle.path_walk.specs.declared.event.Link.{Link}
 use Rattle.path_walk.specs.declared.event.Region.{Region}
+use Rattle.path_walk.specs.declared.event.Sleep.{Sleep}
 use Rattle.order_formula.specs.declared.formula.Body.{Body}
 use Rattle.order_formula.specs.declared.formula.Body.TheVariants.{Any, Read}
 use Rattle.order_formula.specs.declared.formula.Conjunct.{Conjunct}
 use Rattle.order_formula.specs.declared.group.Group.{Group}
 use Rattle.order_formula.specs.declared.group.Group.TheVariants.{Child, Mutex}
-use Rattle.order_formula.specs.declared.literal.Atom.TheVariants.{Ends}
 use Rattle.order_formula.specs.declared.literal.Literal.{Literal}
 use Rattle.lawful_order.specs.Events.{Of, all_events, all_sleeps, HasEvent, HasRegion, Creates, Joins}
-use Rattle.condition_order.specs.Conditions.{enders, fails}
-use Rattle.condition_order.proofs.Within.{ender_within}
+use Rattle.condition_order.specs.Conditions.{enders}
+use Rattle.condition_order.specs.declared.wait.Ender.{Ender}
 use Rattle.sync_order.specs.Children.{is_exit, exit_before, children_formula}
 use Rattle.sync_order.specs.Mutexes.{left_at, left_before, mutexes_formula}
 use Rattle.order_events.specs.Parts.{comes_before, one_of}
@@ -39,7 +38,7 @@ module _ (L : Literal → Type 0) where
   abbrev pub Has : Conjunct → Type 0
   Has z = BodyHas z.body
 
-  one_has : (g : Group) (ls : List Literal) → ((l : Literal) → Contains ls l → L l) → Has (one_of g ls)
+  pub one_has : (g : Group) (ls : List Literal) → ((l : Literal) → Contains ls l → L l) → Has (one_of g ls)
   one_has g ls each = each_in (All L) (map (λ (l : Literal). l ∷ []) ls) (λ c i.
       let m = of_map (λ (l : Literal). l ∷ []) c ls i in
       subst (All L) m.2 (each_in L (m.0 ∷ []) (λ k j. subst L (of_one k m.0 j) (each m.0 m.1))))
@@ -52,7 +51,8 @@ pub record AreLiterals (paths : Paths) (Step : (t k : ℕ) → Type 0) (L : Lite
   pub taken : (t : ℕ) (r : Region) → HasRegion paths t r → Step t r.«from»
   pub left : (t k : ℕ) (r : Region) → HasRegion paths t r → r.to ≡ Some k → Step t k
   pub before : (t k u j : ℕ) → Step t k → Step u j → L (comes_before (all_events paths) t k u j)
-  pub unended : (s g : ℕ) → s < length (all_sleeps paths) → g < length (all_events paths) → L (fails (Ends s g))
+  pub unended : (s : ℕ) (x : Of Sleep) (g : Ender) → slice_get (all_sleeps paths) s ≡ Some x → Contains (enders (all_events paths) x.it.condition) g
+      → L (unended_by s g)
 
 module _ (paths : Paths) (Step : (t k : ℕ) → Type 0) (L : Literal → Type 0) (are : AreLiterals paths Step L) where
   pub in_children : (z : Conjunct) → Contains (children_formula paths) z → Has L z
@@ -94,7 +94,7 @@ module _ (paths : Paths) (Step : (t k : ℕ) → Type 0) (L : Literal → Type 0
       let c = s.element.it.condition in
       let own = of_if (s.element.thread == t && s.element.it.step == k) l (unended (all_events paths) s.place c) s.there in
       let g = of_map (unended_by s.place) l (enders (all_events paths) c) own.1 in
-      subst L g.2 (are.unended s.place g.0.event (slice_get_within (all_sleeps paths) s.place s.element s.at) (ender_within paths c g.0 g.1))
+      subst L g.2 (are.unended s.place s.element g.0 s.at g.1)
 
   one_case : (ls : List Literal) → All L ls → All (All L) (ls ∷ [])
   one_case ls all = each_in (All L) (ls ∷ []) (λ c i. subst (All L) (of_one c ls i) all)

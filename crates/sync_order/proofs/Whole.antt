@@ -3,6 +3,7 @@ use Rattle.std.proofs.Common.{◌≡◌, ◌∙◌, ℕ, ◌<◌, Bool, true, Li
 use Rattle.std.specs.List.{All, Contains}
 use Rattle.std.proofs.lemmas.Bool.{false≢true}
 use Rattle.std.proofs.lemmas.List.Elements.{All-append}
+use Rattle.std.proofs.lemmas.Option.{slice_get_within}
 use Rattle.tc_code.specs.Code.{Code}
 use Rattle.path_walk.specs.Paths.{Paths}
 use Rattle.store_buffers.specs.Pending.{Binding}
@@ -24,7 +25,7 @@ use Rattle.condition_order.specs.Conditions.{condition_formula}
 use Rattle.condition_order.proofs.Atoms.{no_terms}
 use Rattle.condition_order.proofs.Exact.{exact}
 use Rattle.condition_order.proofs.Groups.{have_their_group}
-use Rattle.condition_order.proofs.Within.{of_the_order}
+use Rattle.condition_order.proofs.Within.{ender_within, of_the_order}
 use Rattle.sync_order.specs.Children.{children_formula}
 use Rattle.sync_order.specs.Mutexes.{mutexes_formula}
 use Rattle.sync_order.specs.Stuck.{stuck_formula}
@@ -94,7 +95,7 @@ module _ (paths : Paths) where
     exactly (Test t line) other = absurd (false≢true other)
 
   -- what holds of each conjunct of the parts
-  each_part : (P : Conjunct → Type 0) → ((z : Conjunct) → Contains (children_formula paths) z → P z)
+  pub each_part : (P : Conjunct → Type 0) → ((z : Conjunct) → Contains (children_formula paths) z → P z)
       → ((z : Conjunct) → Contains (mutexes_formula paths) z → P z) → All P (condition_formula paths)
       → ((z : Conjunct) → Contains (stuck_formula paths) z → P z) → All P (sync_formula paths)
   each_part P children mutexes conditions stuck =
@@ -120,7 +121,7 @@ module _ (paths : Paths) where
     taken = λ t r has. tt;
     left = λ t k r has is. tt;
     before = λ t k u j one other. tt;
-    unended = λ s g one other. tt;
+    unended = λ s x g at among. tt;
   }
 
   of_terms : (terms : ℕ) (b : Body) → BodyHas (LiteralIsOf terms) b → BodyIsOf terms b
@@ -147,7 +148,10 @@ module _ (paths : Paths) where
       taken = whole.taken;
       left = whole.left;
       before = λ t k u j one other. (step_in_order t k one, step_in_order u j other);
-      unended = λ s g one other. (subst (λ n. s < n) (sym sleeps) one, subst (λ n. g < n) (sym events) other);
+      unended = λ s x g at among. (
+        subst (λ n. s < n) (sym sleeps) (slice_get_within (all_sleeps paths) s x at),
+        subst (λ n. g.event < n) (sym events) (ender_within paths x.it.condition g among),
+      );
     }
 
     in_order : (b : Body) → BodyHas (LiteralIsIn o) b → BodyIsIn o b

@@ -1,6 +1,6 @@
 -- Readers, and shelves over real files.
-use Rattle.std.specs.Prelude.{◌≡◌, ℕ, ◌≤◌, List, length, Option, None}
-use Rattle.std.specs.Io.KnownBytes.{Consumes}
+use Rattle.std.specs.Prelude.{◌≡◌, ℕ, ◌≤◌, List, [], length, Option, Some, None, IsSomeAnd, option_map}
+use Rattle.std.specs.Io.KnownBytes.{Consumes, IsAtEnd}
 use Rattle.tc_io.specs.Faults.{PlainFaults, no_faults}
 use Rattle.tc_io.specs.Outside.{ShelfTells, counted_on}
 
@@ -11,15 +11,33 @@ pub record GaveAtMost (limit : ℕ) (old new : Option (List ℕ)) (before now : 
   pub counted : now ≡ counted_on before (length bytes)
   pub lost : Consumes old new bytes
 
--- a shelf over real files: how many bytes were taken, and its faults
-pub record PlainFileShelf : Type 0 where
+-- a file that is being read, under its name
+pub record PlainOpen (F : Type 0) : Type 0 where
+  pub name : List ℕ
+  pub file : F
+
+-- a shelf over real files: how many bytes were taken, its faults, and the open reading, where one is open
+pub record PlainFileShelf (F : Type 0) : Type 0 where
   pub taken : ℕ
   pub faults : PlainFaults
+  pub reading : Option (PlainOpen F)
 
 -- one from which nothing was fetched
-abbrev pub new_file_shelf : PlainFileShelf
-new_file_shelf = record { taken = 0; faults = no_faults }
+abbrev pub new_file_shelf : {F : Type 0} → PlainFileShelf F
+new_file_shelf = record { taken = 0; faults = no_faults; reading = None }
 
 -- what it tells: nothing of what it holds
-abbrev pub file_tells : PlainFileShelf → ShelfTells
-file_tells shelf = record { held = None; faults = shelf.faults.count; taken = shelf.taken; last_fault = shelf.faults.last }
+abbrev pub file_tells : {F : Type 0} → PlainFileShelf F → ShelfTells
+file_tells shelf = record {
+  held = None;
+  faults = shelf.faults.count;
+  taken = shelf.taken;
+  last_fault = shelf.faults.last;
+  open_name = option_map (λ r. r.name) shelf.reading;
+  reading = None;
+}
+
+-- the file that is being read gave these bytes and stays open; where it tells what it has left, it lost these and no others, and none are given only at its end
+abbrev pub ReadOn : {F : Type 0} → (remaining : F → Option (List ℕ)) → (old new : Option (PlainOpen F)) → List ℕ → Type 0
+ReadOn {F} remaining old new bytes = IsSomeAnd old (λ was. (now : F) × (new ≡ Some (record was { file = now }))
+    × Consumes (remaining was.file) (remaining now) bytes × (bytes ≡ [] → IsAtEnd (remaining now)))

@@ -5,18 +5,18 @@ ghost use Rattle.tc_io.specs.Outside.{counted_on};
 
 use std::marker::Model;
 
-/// Which of a shelf's two calls.
+/// What a call of a shelf was to do.
 #[derive(Clone, Copy)]
-pub enum Call {
-    Fetch,
-    Keep,
+pub enum Access {
+    Read,
+    Write,
 }
 
-/// How often a shelf failed, and the call that failed last, with its name.
+/// How often a shelf failed, and what the call that failed last was to do, with its name.
 #[derive(Drop)]
 pub struct Faults {
     count: u64,
-    last: Option<(Call, String)>,
+    last: Option<(Access, String)>,
 }
 
 impl Model for Faults {
@@ -39,10 +39,10 @@ impl Faults {
     }
 
     /// Counts a call with this name that failed.
-    pub fn add(&mut self, call: Call, name: String)
-        ensures { self.new ≡ record { count = counted_on self.old.count 1; last = Some (fault_of call (string_bytes name)) } }
+    pub fn add(&mut self, access: Access, name: String)
+        ensures { self.new ≡ record { count = counted_on self.old.count 1; last = Some (fault_of access (string_bytes name)) } }
     {
         self.count = self.count.saturating_add(1);
-        self.last = Some((call, name));
+        self.last = Some((access, name));
     }
 }

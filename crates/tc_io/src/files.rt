@@ -1,20 +1,37 @@
 //! The files of the system and its writers as a shelf and a sink: the edge that is trusted.
 //!
 //! As a shelf and a sink these tell nothing of what they hold or wrote, since real files and standard output don't.
-//! What a reader gives is promised by [`read_up_to`]; `FileShelf` opens the file of a name and reads it so. What a
-//! writer has is promised by [`write_whole`], where the writer tells that; `FileShelf` creates or truncates the file of a
-//! name and writes it so, and `StdSink` writes so to the writer it has. They count each failure, and stop on every input.
-ghost use Rattle.std.specs.Prelude.{◌≡◌, ◌≢◌, ◌+◌, ◌≤◌, ◌<◌, ◌⊎◌, length, take, IfOk, IfSome, OnOk, IsErrOf, Err, None, ℕ};
+//! What a reader gives is promised by [`read_up_to`]; `FileShelf` opens the file of a name and reads it so, or keeps it
+//! open and reads once for each piece. What a writer has is promised by [`write_whole`], where the writer tells that;
+//! `FileShelf` creates or truncates the file of a name and writes it so, and `StdSink` writes so to the writer it has.
+//! They count each failure, and stop on every input.
+ghost use Rattle.std.specs.Prelude.{◌≡◌, ◌≢◌, ◌+◌, ◌≤◌, ◌<◌, ◌⊎◌, length, take, IfOk, IfSome, IsSome, OnOk, IsErrOf, Err, None, ℕ};
 ghost use Rattle.std.specs.Io.KnownBytes.{Appends, Consumes, IsAtEnd};
-ghost use Rattle.tc_io.specs.Files.{GaveAtMost, file_tells, new_file_shelf};
-ghost use Rattle.tc_io.specs.Outside.{Gave, FailedToGive, WasTooLong, TookPart, Kept, KeptPart, counted_on};
+ghost use Rattle.tc_io.specs.Files.{GaveAtMost, ReadOn, file_tells, new_file_shelf};
+ghost use Rattle.tc_io.specs.Outside.{Gave, FailedToGive, WasTooLong, TookPart, Kept, KeptPart, GavePiece, FailedToGivePiece, closed, counted_on};
 
-use crate::faults::{Call, Faults};
-use crate::{FetchFault, KeepFault, PutFault, Shelf, Sink};
+use crate::faults::{Access, Faults};
+use crate::{FetchFault, KeepFault, OpenFault, PieceFault, PutFault, Shelf, Sink};
 use std::alloc::Global;
 use std::fs::{File, Files};
 use std::io::{Read, Write};
 use std::marker::Model;
+
+/// A file that is being read, under its name.
+#[derive(Drop)]
+struct Open<F: Drop> {
+    name: String,
+    file: F,
+}
+
+impl<F: Drop> Model for Open<F> {
+    ghost use Rattle.std.specs.Prelude.{string_bytes};
+    ghost use Rattle.tc_io.specs.Files.{PlainOpen};
+
+    ghost Value = { PlainOpen F };
+
+    ghost view = { λ o. record { name = string_bytes o.name; file = o.file } };
+}
 
 /// The files of the system, under their paths.
 #[derive(Drop)]
@@ -22,14 +39,15 @@ pub struct FileShelf<R: Files + Drop> {
     files: R,
     taken: u64,
     faults: Faults,
+    reading: Option<Open<R::File>>,
 }
 
 impl<R: Files + Drop> Model for FileShelf<R> {
     ghost use Rattle.tc_io.specs.Files.{PlainFileShelf};
 
-    ghost Value = { PlainFileShelf };
+    ghost Value = { PlainFileShelf R.File };
 
-    ghost view = { λ s. record { taken = s.taken; faults = s.faults } };
+    ghost view = { λ s. record { taken = s.taken; faults = s.faults; reading = s.reading } };
 }
 
 impl<R: Files + Drop> FileShelf<R> {
@@ -41,6 +59,7 @@ impl<R: Files + Drop> FileShelf<R> {
             files,
             taken: 0,
             faults: Faults::new(),
+            reading: None,
         }
     }
 
@@ -69,6 +88,7 @@ impl<R: Files + Drop> Shelf for FileShelf<R> {
         ensures counted { (self.new.taken ≡ self.old.taken) ⊎ ((file : R.File) × (after : R.File)
             × GaveAtMost (limit + 1) (R.File.remaining file) (R.File.remaining after) self.old.taken self.new.taken) }
     {
+        self.reading = None;
         let Ok(copy) = String::from_str(alloc, name) else {
             return Err(FetchFault::Memory);
         };
@@ -77,7 +97,7 @@ impl<R: Files + Drop> Shelf for FileShelf<R> {
             Err(_) => Err(FetchFault::Failed),
         };
         if let Err(FetchFault::Failed) = answer {
-            self.faults.add(Call::Fetch, copy);
+            self.faults.add(Access::Read, copy);
         }
         answer
     }
@@ -88,11 +108,12 @@ impl<R: Files + Drop> Shelf for FileShelf<R> {
     fn keep(&mut self, alloc: Global, name: &str, bytes: &[u8]) -> Result<(), KeepFault>
         ensures ok { OnOk result (Kept (file_tells self.old) (file_tells self.new) name.now bytes.now) }
         ensures failed { IsErrOf result KeepFault.Failed → KeptPart (file_tells self.old) (file_tells self.new) name.now bytes.now }
-        ensures memory { IsErrOf result KeepFault.Memory → file_tells self.new ≡ file_tells self.old }
+        ensures memory { IsErrOf result KeepFault.Memory → file_tells self.new ≡ closed (file_tells self.old) }
 
         // A file was opened, and took all of the bytes, where files tell that.
         ensures opened { OnOk result ((file : R.File) × (new : R.File) × Appends (R.File.contents file) (R.File.contents new) bytes.now) }
     {
+        self.reading = None;
         let Ok(copy) = String::from_str(alloc, name) else {
             return Err(KeepFault::Memory);
         };
@@ -101,8 +122,55 @@ impl<R: Files + Drop> Shelf for FileShelf<R> {
                 return Ok(());
             }
         }
-        self.faults.add(Call::Keep, copy);
+        self.faults.add(Access::Write, copy);
         Err(KeepFault::Failed)
+    }
+
+    fn open(&mut self, alloc: Global, name: &str) -> Result<(), OpenFault> {
+        self.reading = None;
+        let Ok(copy) = String::from_str(alloc, name) else {
+            return Err(OpenFault::Memory);
+        };
+        match File::open(&self.files, name) {
+            Ok(file) => {
+                self.reading = Some(Open { name: copy, file });
+                Ok(())
+            }
+            Err(_) => {
+                self.faults.add(Access::Read, copy);
+                Err(OpenFault::Failed)
+            }
+        }
+    }
+
+    /// One read of the file that was opened. A read of none is the end, and each error is a failure, an interruption too.
+    fn piece(&mut self, buf: &mut [u8]) -> Result<usize, PieceFault>
+        requires opened { IsSome (file_tells self.old).open_name }
+        requires room { 0 < length buf.old }
+        ensures within { IfOk result (λ count. count ≤ length buf.new) }
+        ensures ok { IfOk result (λ count. GavePiece (file_tells self.old) (file_tells self.new) (take count buf.new)) }
+        ensures failed { IsErrOf result PieceFault.Failed → FailedToGivePiece (file_tells self.old) (file_tells self.new) (length buf.new) }
+
+        // The file that was opened gave the bytes, where files tell that.
+        ensures given { IfOk result (λ count. ReadOn R.File.remaining self.old.reading self.new.reading (take count buf.new)) }
+        ensures none { IsErrOf result PieceFault.Failed → self.new.taken ≡ self.old.taken }
+    {
+        let Open { name, mut file } = self.reading.take().unwrap();
+        match file.read(buf) {
+            Ok(count) => {
+                self.taken = self.taken.saturating_add(count as u64);
+                self.reading = Some(Open { name, file });
+                Ok(count)
+            }
+            Err(_) => {
+                self.faults.add(Access::Read, name);
+                Err(PieceFault::Failed)
+            }
+        }
+    }
+
+    fn is_open(&self) -> bool {
+        self.reading.is_some()
     }
 }
 

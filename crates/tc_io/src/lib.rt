@@ -1,17 +1,36 @@
 //! The outside world as two traits: a [`Shelf`] of named bytes, and a [`Sink`] where answers go.
 //!
+//! A shelf gives the bytes of a name whole, by a fetch, or piece by piece, by a reading that is opened and then gives them.
+//!
 //! Module `mem` has them in memory, failing where a test tells them to or never; module `files` has the files of
 //! the system and its writers, and is the edge that is trusted.
 #![tactic(auto)]
 
-ghost use Rattle.std.specs.Prelude.{◌≡◌, IfOk, OnOk, IsErrOf};
-ghost use Rattle.tc_io.specs.Outside.{ShelfTells, SinkTells, Gave, FailedToGive, WasTooLong, TookPart, Kept, KeptPart, Wrote, WrotePart};
+ghost use Rattle.std.specs.Prelude.{◌≡◌, ◌≤◌, ◌<◌, length, take, is_some, IsSome, IfOk, OnOk, IsErrOf};
+ghost use Rattle.tc_io.specs.Outside.{
+  ShelfTells,
+  SinkTells,
+  closed,
+  Gave,
+  FailedToGive,
+  WasTooLong,
+  TookPart,
+  Kept,
+  KeptPart,
+  Opened,
+  FailedToOpen,
+  GavePiece,
+  FailedToGivePiece,
+  Wrote,
+  WrotePart,
+};
 
 mod faults;
 pub mod files;
 pub mod mem;
 mod named;
 mod plan;
+mod reading;
 
 use std::alloc::Global;
 
@@ -35,6 +54,22 @@ pub enum KeepFault {
     Memory,
 }
 
+/// Why no reading was opened.
+#[derive(Clone, Copy, Debug, PartialEq, Eq)]
+pub enum OpenFault {
+    /// The shelf failed, as it does where the name isn't there.
+    Failed,
+    /// The copy of the name found no memory.
+    Memory,
+}
+
+/// Why a piece wasn't given.
+#[derive(Clone, Copy, Debug, PartialEq, Eq)]
+pub enum PieceFault {
+    /// The shelf failed, maybe after some of the bytes.
+    Failed,
+}
+
 /// Why a put wasn't done.
 #[derive(Clone, Copy, Debug, PartialEq, Eq)]
 pub enum PutFault {
@@ -47,8 +82,11 @@ pub enum PutFault {
 /// Bytes under names, as a folder of files.
 ///
 /// What a shelf doesn't tell it doesn't promise: of real files nothing is known but what came out of them.
+///
+/// At most one reading is open. A fetch, a keep and another open end it, whatever they answer.
 pub trait Shelf {
-    /// What it tells: what it holds, how often it failed, how many bytes were taken, and the call that failed last.
+    /// What it tells: what it holds, how often it failed, how many bytes were taken, the call that failed last, and of
+    /// the open reading its name and what it is still to give.
     ghost tells: { Self → ShelfTells };
 
     /// The bytes under a name, at most `limit` of them.
@@ -68,7 +106,29 @@ pub trait Shelf {
     fn keep(&mut self, alloc: Global, name: &str, bytes: &[u8]) -> Result<(), KeepFault>
         ensures ok { OnOk result (Kept (tells self.old) (tells self.new) name.now bytes.now) }
         ensures failed { IsErrOf result KeepFault.Failed → KeptPart (tells self.old) (tells self.new) name.now bytes.now }
-        ensures memory { IsErrOf result KeepFault.Memory → tells self.new ≡ tells self.old };
+        ensures memory { IsErrOf result KeepFault.Memory → tells self.new ≡ closed (tells self.old) };
+
+    /// Opens a reading of the bytes under a name.
+    ///
+    /// Before anything else it copies the name, so that a fault always has one, also that of a piece.
+    fn open(&mut self, alloc: Global, name: &str) -> Result<(), OpenFault>
+        ensures ok { OnOk result (Opened (tells self.old) (tells self.new) name.now) }
+        ensures failed { IsErrOf result OpenFault.Failed → FailedToOpen (tells self.old) (tells self.new) name.now }
+        ensures memory { IsErrOf result OpenFault.Memory → tells self.new ≡ closed (tells self.old) };
+
+    /// The next bytes of the open reading, in front of the buffer, and how many they are: none only at its end.
+    ///
+    /// It takes no memory.
+    fn piece(&mut self, buf: &mut [u8]) -> Result<usize, PieceFault>
+        requires opened { IsSome (tells self.old).open_name }
+        requires room { 0 < length buf.old }
+        ensures within { IfOk result (λ count. count ≤ length buf.new) }
+        ensures ok { IfOk result (λ count. GavePiece (tells self.old) (tells self.new) (take count buf.new)) }
+        ensures failed { IsErrOf result PieceFault.Failed → FailedToGivePiece (tells self.old) (tells self.new) (length buf.new) };
+
+    /// Whether a reading is open.
+    fn is_open(&self) -> bool
+        ensures { result ≡ is_some (tells self.now).open_name };
 }
 
 /// Where answers go, as standard output.

@@ -22,29 +22,46 @@ ghost use Rattle.std.specs.Prelude.{
   Err,
   OnOk,
   OnErr,
+  ◌↔◌,
 };
 ghost use Rattle.std.specs.FinMap as map;
-ghost use Rattle.tc_io.specs.Mem.{empty_shelf, empty_sink, empty_sure_shelf, mem_tells, sink_tells, taken_after};
-ghost use Rattle.tc_io.specs.Outside.{Gave, FailedToGive, WasTooLong, TookPart, Kept, KeptPart, Wrote, WrotePart};
+ghost use Rattle.tc_io.specs.Mem.{empty_shelf, empty_sink, empty_sure_shelf, mem_tells, sink_tells, taken_after, taken_after_piece};
+ghost use Rattle.tc_io.specs.Outside.{
+  Gave,
+  FailedToGive,
+  WasTooLong,
+  TookPart,
+  Kept,
+  KeptPart,
+  Opened,
+  FailedToOpen,
+  GavePiece,
+  FailedToGivePiece,
+  Wrote,
+  WrotePart,
+  closed,
+};
 ghost use Rattle.tc_io.specs.Plan.{told_at, with_call};
 
-use crate::faults::{Call, Faults};
+use crate::faults::{Access, Faults};
 use crate::named::NamedBytes;
 pub use crate::plan::Fail;
 use crate::plan::Plan;
-use crate::{FetchFault, KeepFault, PutFault, Shelf, Sink};
+use crate::reading::Reading;
+use crate::{FetchFault, KeepFault, OpenFault, PieceFault, PutFault, Shelf, Sink};
 use std::alloc::{AllocError, Global};
 use std::marker::Model;
 
 /// A shelf in memory, which tells what it holds, and fails where it is told to.
 ///
-/// A fetch of a name that isn't there fails too.
+/// A fetch of a name that isn't there fails too, and so does an open.
 #[derive(Drop)]
 pub struct MemShelf {
     files: NamedBytes,
     plan: Plan,
     taken: u64,
     faults: Faults,
+    reading: Option<Reading>,
 }
 
 impl Model for MemShelf {
@@ -56,7 +73,7 @@ impl Model for MemShelf {
 
     ghost coded = { Prim.hlevel (codes, named.the_row.coded) };
 
-    ghost view = { λ s. record { held = s.files; plan = s.plan; taken = s.taken; faults = s.faults } };
+    ghost view = { λ s. record { held = s.files; plan = s.plan; taken = s.taken; faults = s.faults; reading = s.reading } };
 }
 
 impl MemShelf {
@@ -69,6 +86,7 @@ impl MemShelf {
             plan: Plan::new(alloc),
             taken: 0,
             faults: Faults::new(),
+            reading: None,
         }
     }
 
@@ -80,7 +98,7 @@ impl MemShelf {
         self.files.insert(alloc, name, bytes)
     }
 
-    /// Tells it of a call that is to fail, fetches and keeps counted together. Of two for one call the first counts.
+    /// Tells it of a call that is to fail, all calls that read or write counted together. Of two for one call the first counts.
     pub fn fail(&mut self, fail: Fail) -> Result<(), AllocError>
         ensures ok { OnOk result (self.new ≡ record self.old { plan = record self.old.plan { fails = self.old.plan.fails ++ fail ∷ [] } }) }
         ensures err { OnErr result (self.new ≡ self.old) }
@@ -105,9 +123,10 @@ impl Shelf for MemShelf {
         ensures told { (result ≢ Err FetchFault.Memory) → IsSome (told_at self.new.plan) → result ≡ Err FetchFault.Failed }
         ensures cause { IsErrOf result FetchFault.Failed → IsSome (told_at self.new.plan) ⊎ (map.get self.old.held name.now ≡ None) }
         // The call is counted and the bytes are taken, or there was no memory for the name.
-        ensures taken { ((result ≡ Err FetchFault.Memory) × (self.new ≡ self.old))
+        ensures taken { ((result ≡ Err FetchFault.Memory) × (self.new ≡ record self.old { reading = None }))
             ⊎ ((self.new.plan ≡ with_call self.old.plan) × (self.new.taken ≡ taken_after self.old self.new.plan name.now limit)) }
     {
+        self.reading = None;
         let Ok(copy) = String::from_str(alloc, name) else {
             return Err(FetchFault::Memory);
         };
@@ -120,7 +139,7 @@ impl Shelf for MemShelf {
                 let there = found.map_or(0, |bytes| bytes.len());
                 let after = told.map_or(0, |after| after as u64);
                 self.taken = self.taken.saturating_add(after.min(taken_by(there, limit)));
-                self.faults.add(Call::Fetch, copy);
+                self.faults.add(Access::Read, copy);
                 Err(FetchFault::Failed)
             }
         }
@@ -129,7 +148,7 @@ impl Shelf for MemShelf {
     fn keep(&mut self, alloc: Global, name: &str, bytes: &[u8]) -> Result<(), KeepFault>
         ensures ok { OnOk result (Kept (mem_tells self.old) (mem_tells self.new) name.now bytes.now) }
         ensures failed { IsErrOf result KeepFault.Failed → KeptPart (mem_tells self.old) (mem_tells self.new) name.now bytes.now }
-        ensures memory { IsErrOf result KeepFault.Memory → mem_tells self.new ≡ mem_tells self.old }
+        ensures memory { IsErrOf result KeepFault.Memory → mem_tells self.new ≡ closed (mem_tells self.old) }
 
         // What this shelf alone says: which keeps fail, and after how many bytes.
         ensures told { OnOk result (told_at self.new.plan ≡ None) }
@@ -137,6 +156,7 @@ impl Shelf for MemShelf {
             (λ after. self.new.held ≡ map.insert self.old.held name.now (take after bytes.now)) }
         ensures counted { (result ≢ Err KeepFault.Memory) → self.new.plan ≡ with_call self.old.plan }
     {
+        self.reading = None;
         let Ok(copy) = String::from_str(alloc, name) else {
             return Err(KeepFault::Memory);
         };
@@ -148,8 +168,66 @@ impl Shelf for MemShelf {
         if told.is_none() {
             return Ok(());
         }
-        self.faults.add(Call::Keep, copy);
+        self.faults.add(Access::Write, copy);
         Err(KeepFault::Failed)
+    }
+
+    fn open(&mut self, alloc: Global, name: &str) -> Result<(), OpenFault>
+        ensures ok { OnOk result (Opened (mem_tells self.old) (mem_tells self.new) name.now) }
+        ensures failed { IsErrOf result OpenFault.Failed → FailedToOpen (mem_tells self.old) (mem_tells self.new) name.now }
+        ensures memory { IsErrOf result OpenFault.Memory → mem_tells self.new ≡ closed (mem_tells self.old) }
+
+        // What this shelf alone says: which opens fail.
+        ensures there { OnOk result (IsSome (map.get self.old.held name.now) × (told_at self.new.plan ≡ None)) }
+        ensures cause { IsErrOf result OpenFault.Failed → IsSome (told_at self.new.plan) ⊎ (map.get self.old.held name.now ≡ None) }
+        ensures counted { (result ≢ Err OpenFault.Memory) → self.new.plan ≡ with_call self.old.plan }
+    {
+        self.reading = None;
+        let Ok(copy) = String::from_str(alloc, name) else {
+            return Err(OpenFault::Memory);
+        };
+        match (self.plan.call(), self.files.get(name)) {
+            (None, Some(_)) => {
+                self.reading = Some(Reading::new(copy));
+                Ok(())
+            }
+            _ => {
+                self.faults.add(Access::Read, copy);
+                Err(OpenFault::Failed)
+            }
+        }
+    }
+
+    fn piece(&mut self, buf: &mut [u8]) -> Result<usize, PieceFault>
+        requires opened { IsSome (mem_tells self.old).open_name }
+        requires room { 0 < length buf.old }
+        ensures within { IfOk result (λ count. count ≤ length buf.new) }
+        ensures ok { IfOk result (λ count. GavePiece (mem_tells self.old) (mem_tells self.new) (take count buf.new)) }
+        ensures failed { IsErrOf result PieceFault.Failed → FailedToGivePiece (mem_tells self.old) (mem_tells self.new) (length buf.new) }
+
+        // What this shelf alone says: which pieces fail, and how many bytes come.
+        ensures told { IsSome (told_at self.new.plan) ↔ (result ≡ Err PieceFault.Failed) }
+        ensures counted { self.new.plan ≡ with_call self.old.plan }
+        ensures taken { self.new.taken ≡ taken_after_piece self.old self.new.plan (length buf.old) }
+    {
+        let told = self.plan.call();
+        let mut reading = self.reading.take().unwrap();
+        let bytes = self.files.bytes(reading.name());
+        let Some(after) = told else {
+            let count = reading.give(bytes, buf);
+            self.taken = self.taken.saturating_add(count as u64);
+            self.reading = Some(reading);
+            return Ok(count);
+        };
+        let room = after.min(buf.len());
+        let count = reading.give(bytes, &mut buf[..room]);
+        self.taken = self.taken.saturating_add(count as u64);
+        self.faults.add(Access::Read, reading.into_name());
+        Err(PieceFault::Failed)
+    }
+
+    fn is_open(&self) -> bool {
+        self.reading.is_some()
     }
 }
 
@@ -258,11 +336,12 @@ fn append(written: &mut Vec<u8>, bytes: &[u8]) -> Result<(), PutFault>
     }
 }
 
-/// A shelf in memory that never fails: a name that isn't there reads as no bytes.
+/// A shelf in memory that never fails: a name that isn't there reads as no bytes, also when it is opened.
 #[derive(Drop)]
 pub struct SureShelf {
     files: NamedBytes,
     taken: u64,
+    reading: Option<Reading>,
 }
 
 impl Model for SureShelf {
@@ -274,7 +353,7 @@ impl Model for SureShelf {
 
     ghost coded = { Prim.hlevel (codes, named.the_row.coded) };
 
-    ghost view = { λ s. record { held = s.files; taken = s.taken } };
+    ghost view = { λ s. record { held = s.files; taken = s.taken; reading = s.reading } };
 }
 
 impl SureShelf {
@@ -285,6 +364,7 @@ impl SureShelf {
         SureShelf {
             files: NamedBytes::new(alloc),
             taken: 0,
+            reading: None,
         }
     }
 
@@ -303,16 +383,42 @@ impl Shelf for SureShelf {
     ghost tells = { sure_shelf_tells };
 
     fn fetch(&mut self, alloc: Global, name: &str, limit: u64) -> Result<Vec<u8>, FetchFault> {
-        let bytes = self.files.get(name).unwrap_or(&[]);
+        self.reading = None;
+        let bytes = self.files.bytes(name);
         self.taken = self.taken.saturating_add(taken_by(bytes.len(), limit));
         copy_within(alloc, bytes, limit)
     }
 
     fn keep(&mut self, alloc: Global, name: &str, bytes: &[u8]) -> Result<(), KeepFault> {
+        self.reading = None;
         match self.files.insert(alloc, name, bytes) {
             Ok(()) => Ok(()),
             Err(_) => Err(KeepFault::Memory),
         }
+    }
+
+    fn open(&mut self, alloc: Global, name: &str) -> Result<(), OpenFault> {
+        self.reading = None;
+        match String::from_str(alloc, name) {
+            Ok(copy) => {
+                self.reading = Some(Reading::new(copy));
+                Ok(())
+            }
+            Err(_) => Err(OpenFault::Memory),
+        }
+    }
+
+    fn piece(&mut self, buf: &mut [u8]) -> Result<usize, PieceFault> {
+        let mut reading = self.reading.take().unwrap();
+        let bytes = self.files.bytes(reading.name());
+        let count = reading.give(bytes, buf);
+        self.taken = self.taken.saturating_add(count as u64);
+        self.reading = Some(reading);
+        Ok(count)
+    }
+
+    fn is_open(&self) -> bool {
+        self.reading.is_some()
     }
 }
 

@@ -1,6 +1,7 @@
 //! Bytes by name, in memory.
 ghost use Rattle.std.specs.Prelude.{◌≡◌, OnOk, OnErr, option_map};
 ghost use Rattle.std.specs.FinMap as map;
+ghost use Rattle.tc_io.specs.Outside.{bytes_at};
 
 use std::alloc::{AllocError, Global};
 use std::collections::BTreeMap;
@@ -41,6 +42,13 @@ impl NamedBytes {
             Some(bytes) => Some(bytes.as_slice()),
             None => None,
         }
+    }
+
+    /// The bytes under a name, and none where it isn't there.
+    pub fn bytes(&self, name: &str) -> &[u8]
+        ensures { result.now ≡ bytes_at self.now name.now }
+    {
+        self.get(name).unwrap_or(&[])
     }
 
     /// Puts a copy of the bytes under the name, in place of what was there.

@@ -1,5 +1,5 @@
 -- Seeded runs, turn by turn.
-use Rattle.std.proofs.Common.{◌≡◌, ◌∙◌, ℕ, zero, suc, ◌+◌, ◌-◌, ◌<◌, List, [], ◌∷◌, ◌++◌, append_assoc, append-nil}
+use Rattle.std.proofs.Common.{◌≡◌, ◌∙◌, ℕ, zero, suc, ◌+◌, ◌-◌, ◌<◌, ◌≤◌, List, [], ◌∷◌, ◌++◌, length, append_assoc, append-nil}
 use Rattle.std.proofs.Common.{Option, Some, None, IsSome, refl, ap, sym, arith}
 use Rattle.std.specs.Option.{option_map_or}
 use Rattle.rand_core.specs.Steps.{stream_of, first_words}
@@ -15,7 +15,7 @@ use Rattle.tc_machine.proofs.Listing.{listed_is_enabled}
 use Rattle.tc_record.specs.declared.end.End.{End}
 use Rattle.tc_record.specs.declared.end.End.TheVariants as end
 use Rattle.tc_record.specs.Ends.{end_at, end_without_moves}
-use Rattle.tc_record.specs.Seeded.{Ended, ended, behind, chosen, making, seeded_from, seeded_run}
+use Rattle.tc_record.specs.Seeded.{Ended, ended, behind, chosen, making, seed_words, seeded_from, seeded_run}
 use Rattle.tc_record.specs.helpers.Turns.{IsTurn}
 
 -- Words.
@@ -32,6 +32,29 @@ words_of_seed zero seed = refl
 words_of_seed (suc k) seed =
     ap (λ (p : ℕ × Stream). p.0 ∷ words k p.1) (next_u64-stream_of splitmix_steps seed)
     ∙ ap (λ ws. (mix_u64 seed).0 ∷ ws) (words_of_seed k (mix_u64 seed).1)
+
+pub length-words : (k : ℕ) (s : Stream) → length (words k s) ≡ k
+length-words zero s = refl
+length-words (suc k) s = ap suc (length-words k (next_u64 s).1)
+
+-- some words and the rest of so many, before and after the next
+
+pub none_drawn : (rng seed count : ℕ) → rng ≡ seed → words (count - 0) (stream_of splitmix_steps rng) ≡ seed_words seed count
+none_drawn rng seed count same =
+    let none : count - 0 ≡ count = omega arith in
+    ap (λ n. words (count - 0) (stream_of splitmix_steps n)) same ∙ ap (λ k. words k (stream_of splitmix_steps seed)) none ∙ words_of_seed count seed
+
+pub next_drawn : (front : List ℕ) (word : ℕ) (old new : Stream) (i count : ℕ) → i < count → (word, new) ≡ next_u64 old
+    → (front ++ word ∷ []) ++ words (count - (i + 1)) new ≡ front ++ words (count - i) old
+next_drawn front word old new i count some gives =
+    let one : count - i ≡ suc (count - (i + 1)) = omega (arith, some) in
+    append_assoc front (word ∷ []) (words (count - (i + 1)) new) ∙ ap (λ (p : ℕ × Stream). front ++ (p.0 ∷ words (count - (i + 1)) p.1)) gives
+    ∙ ap (λ k. front ++ words k old) (sym one)
+
+pub all_drawn : (front : List ℕ) (s : Stream) (i count : ℕ) → count ≤ i → front ++ words (count - i) s ≡ front
+all_drawn front s i count end =
+    let none : count - i ≡ 0 = omega (arith, end) in
+    ap (λ k. front ++ words k s) none ∙ append-nil front
 
 -- Ended runs.
 

@@ -37,6 +37,10 @@ ended s e = record { moves = []; state = s; end = e }
 abbrev pub behind : {B : Type 0} → List Move → Ended B → Ended B
 behind ms run = record run { moves = ms ++ run.moves }
 
+-- the first words of the generator of a seed, which is SplitMix64
+abbrev pub seed_words : (seed n : ℕ) → List ℕ
+seed_words seed n = first_words mix_u64 n seed
+
 module _ {B : Type 0} (ops : BufferOps B) (code : Code) where
   -- the move that a word chooses, where one is enabled
   abbrev pub chosen : State B → ℕ → Option Move
@@ -51,9 +55,9 @@ module _ {B : Type 0} (ops : BufferOps B) (code : Code) where
   seeded_from s [] = ended s end.StepLimit
   seeded_from s (word ∷ words) = option_map_or (making s (λ u. seeded_from u words)) (chosen s word) (ended s (end_without_moves s))
 
-  -- the run of a seed: the words are the first of SplitMix64, as many as moves may be made
+  -- the run of a seed: it has as many words as moves may be made
   abbrev pub seeded_run : (seed steps : ℕ) → Ended B
-  seeded_run seed steps = seeded_from (opening ops code) (first_words mix_u64 steps seed)
+  seeded_run seed steps = seeded_from (opening ops code) (seed_words seed steps)
 
 -- what is answered of a run that ended
 abbrev pub IsAnswer : {B : Type 0} → Model → Ended B → Result Seeded SeededFault → Type 0

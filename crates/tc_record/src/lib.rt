@@ -7,8 +7,10 @@ mod laws;
 mod logged;
 mod recording;
 mod seeded;
+mod words;
 
 pub use end::Which;
 pub use laws::recorded_logs_fit;
 pub use recording::{record_run, run_seeded};
 pub use seeded::{Recorded, Seeded, SeededFault};
+pub use words::seed_words;

@@ -8,7 +8,10 @@
 ghost use Rattle.std.specs.Prelude.{◌<◌, ◌≤◌, ◌+◌};
 ghost use Rattle.bit_words.specs.Words.{AreWithin};
 
+mod orders;
+
 use anyhow::{Result, bail};
+use bit_blast::extend_values;
 use bit_ops::{Word, binary, unary};
 use cnf_core::{Assignment, Cnf, Lit, satisfies};
 use rand_core::{Rng, SeedableRng};
@@ -106,29 +109,6 @@ fn is_true(values: &[bool], lit: Lit) -> bool {
     }
 }
 
-/// Whether no literal is true.
-fn are_false(values: &[bool], lits: &[Lit]) -> bool {
-    for lit in lits {
-        if is_true(values, *lit) {
-            return false;
-        }
-    }
-    true
-}
-
-/// Makes the last literal of each clause true whose others are false, clause by clause.
-fn decide(cnf: &Cnf, values: &mut Vec<bool>) {
-    for place in 0..cnf.len() {
-        if let Some((last, others)) = cnf.clause(place).split_last() {
-            if are_false(values, others) {
-                if let Some(value) = values.get_mut(last.var() as usize - 1) {
-                    *value = !last.negative();
-                }
-            }
-        }
-    }
-}
-
 /// Adds the bits of a value, the lowest first.
 fn push_bits(values: &mut Vec<bool>, value: i32) -> Result<()> {
     for place in 0..32u32 {
@@ -153,8 +133,7 @@ impl Circuit {
         values.push(true)?;
         push_bits(&mut values, a)?;
         push_bits(&mut values, b)?;
-        values.resize(self.cnf.vars() as usize, false)?;
-        decide(&self.cnf, &mut values);
+        extend_values(&self.cnf, &mut values)?;
         let value = value_of(&values, &self.result);
         let assignment = Assignment::new(values);
         if assignment.vars() < self.cnf.vars() as usize {
@@ -231,5 +210,6 @@ fn run(rt: &(impl Print + AllocGlobal)) -> Result<()> {
 }
 
 fn main(rt: HostRuntime) -> Result<()> {
-    run(&rt)
+    run(&rt)?;
+    orders::run(&rt)
 }

@@ -22,7 +22,7 @@ pub fn clap_debug_surely(
     ensures told { IfTold (map string_bytes words.now) (Some shelf.old.held)
         (λ call files. ToldAnswers call (texts_under files call) result (sure_sink_tells sink.old) (sure_sink_tells sink.new)) }
     ensures command { IfTold (map string_bytes words.now) (Some shelf.old.held)
-        (λ call files. CommandAnswers call files result (sure_sink_tells sink.old) (sure_sink_tells sink.new)) }
+        (λ call files. CommandAnswers call files (Some shelf.new.held) result (sure_sink_tells sink.old) (sure_sink_tells sink.new)) }
     ensures no_read_fault { result ≢ 7 }
     ensures no_write_fault { result ≢ 8 }
 {

@@ -1,26 +1,72 @@
 //! Want of memory, and a call over a shelf and a sink that never fail.
+ghost use Rattle.std.specs.Prelude.{◌≡◌, false};
+
 use crate::clap_debug_surely;
 use clap_debug_cli::clap_debug;
 use std::alloc::Global;
 use std::test::Fail;
 use tc_io::mem::{Fail as ShelfFail, MemShelf, MemSink, SureShelf, SureSink};
-use tc_io::{FetchFault, KeepFault, PutFault, Shelf, Sink};
+use tc_io::{FetchFault, KeepFault, OpenFault, PieceFault, PutFault, Shelf, Sink};
 
-/// A shelf whose calls find no memory.
+/// A shelf of whose calls so many find memory, and those after them none.
 #[derive(Drop)]
-struct NoShelf;
+struct ScantShelf {
+    calls: u8,
+    reading: bool,
+    shelf: SureShelf,
+}
 
-impl Shelf for NoShelf {
-    ghost use Rattle.std.specs.Prelude.{None};
+impl ScantShelf {
+    /// Whether a call finds memory. It ends the reading that is open.
+    fn finds_memory(&mut self) -> bool
+        ensures shelf { self.new.shelf ≡ self.old.shelf }
+        ensures ended { self.new.reading ≡ false }
+    {
+        self.reading = false;
+        if self.calls == 0 {
+            return false;
+        }
+        self.calls -= 1;
+        true
+    }
+}
 
-    ghost tells = { λ _. record { held = None; faults = 0; taken = 0; last_fault = None } };
+impl Shelf for ScantShelf {
+    ghost use Rattle.std.specs.Prelude.{if◌then◌else◌};
+    ghost use Rattle.tc_io.specs.Mem.{sure_shelf_tells};
+    ghost use Rattle.tc_io.specs.Outside.{closed};
 
-    fn fetch(&mut self, _alloc: Global, _name: &str, _limit: u64) -> Result<Vec<u8>, FetchFault> {
-        Err(FetchFault::Memory)
+    ghost tells = { λ s. if s.reading then sure_shelf_tells s.shelf else closed (sure_shelf_tells s.shelf) };
+
+    fn fetch(&mut self, alloc: Global, name: &str, limit: u64) -> Result<Vec<u8>, FetchFault> {
+        if !self.finds_memory() {
+            return Err(FetchFault::Memory);
+        }
+        self.shelf.fetch(alloc, name, limit)
     }
 
-    fn keep(&mut self, _alloc: Global, _name: &str, _bytes: &[u8]) -> Result<(), KeepFault> {
-        Err(KeepFault::Memory)
+    fn keep(&mut self, alloc: Global, name: &str, bytes: &[u8]) -> Result<(), KeepFault> {
+        if !self.finds_memory() {
+            return Err(KeepFault::Memory);
+        }
+        self.shelf.keep(alloc, name, bytes)
+    }
+
+    fn open(&mut self, alloc: Global, name: &str) -> Result<(), OpenFault> {
+        if !self.finds_memory() {
+            return Err(OpenFault::Memory);
+        }
+        self.shelf.open(alloc, name)?;
+        self.reading = true;
+        Ok(())
+    }
+
+    fn piece(&mut self, buf: &mut [u8]) -> Result<usize, PieceFault> {
+        self.shelf.piece(buf)
+    }
+
+    fn is_open(&self) -> bool {
+        self.reading && self.shelf.is_open()
     }
 }
 
@@ -71,8 +117,13 @@ fn no_memory_to_fetch(rt: HostRuntime) -> Result<(), Fail> {
     for word in ["clap_debug", "replay", "p", "l", "o"] {
         words.push(String::from_str(alloc, word)?)?;
     }
+    let mut scant = ScantShelf {
+        calls: 0,
+        reading: false,
+        shelf: SureShelf::new(alloc),
+    };
     let mut sink = MemSink::new(alloc);
-    let status = clap_debug(alloc, &words, &mut NoShelf, &mut sink);
+    let status = clap_debug(alloc, &words, &mut scant, &mut sink);
     assert_eq!(rt; (status, sink.written()), (9, b"no memory\n".as_slice()));
     let mut shelf = SureShelf::new(alloc);
     shelf.hold(alloc, "p", b"int x; main { x = 1; assert(x == 2); }")?;

@@ -1,7 +1,7 @@
 //! What no clause says: what real files do, and that an interruption ends a call.
 ghost use Rattle.std.specs.Prelude.{◌≤◌, IfOk};
 
-use std::alloc::Allocator;
+use std::alloc::{AllocError, Allocator, Global};
 use std::fs::{Metadata, OpenFile, OpenOptions};
 use std::io::{self, ErrorKind, SeekFrom};
 use std::os::unix::fs::symlink;
@@ -10,7 +10,8 @@ use std::rt::Files;
 use std::time::SystemTime;
 use std::{env, fs, test};
 use tc_io::files::{FileShelf, StdSink, read_up_to};
-use tc_io::{FetchFault, KeepFault, PutFault, Shelf, Sink};
+use tc_io::mem::{Fail, MemShelf, SureShelf};
+use tc_io::{FetchFault, KeepFault, OpenFault, PieceFault, PutFault, Shelf, Sink};
 
 /// The name and the limit of a fetch, and what it is to answer: a text, or a fault.
 type Case<'a> = (&'a str, u64, Result<&'a str, FetchFault>);
@@ -35,6 +36,63 @@ fn keeps<H: Shelf>(
     for &(name, text, want) in cases {
         let answer = shelf.keep(rt.alloc(), name, text.as_bytes());
         assert!(rt; answer == want, "{text} under {name}");
+    }
+}
+
+/// The bytes that a reading of the name gives by pieces, and whether it comes to its end.
+fn read_by_pieces<H: Shelf>(
+    alloc: Global,
+    shelf: &mut H,
+    name: &str,
+    buf: &mut [u8],
+) -> Result<(Vec<u8>, bool), AllocError> {
+    let mut bytes = Vec::new(alloc);
+    if shelf.open(alloc, name).is_ok() {
+        for _ in 0..1000 {
+            if buf.is_empty() || !shelf.is_open() {
+                break;
+            }
+            match shelf.piece(buf) {
+                Ok(0) => return Ok((bytes, true)),
+                Ok(count) => bytes.extend_from_slice(&buf[..count])?,
+                Err(PieceFault::Failed) => break,
+            }
+        }
+    }
+    Ok((bytes, false))
+}
+
+/// Tests what a reading by pieces gives, and that it stays open only where it came to its end.
+fn reads<H: Shelf>(
+    rt: &(impl Abort + AllocGlobal),
+    shelf: &mut H,
+    name: &str,
+    buf: &mut [u8],
+    want: (&[u8], bool),
+) -> Result<(), AllocError> {
+    let (bytes, ended) = read_by_pieces(rt.alloc(), shelf, name, buf)?;
+    assert!(rt; (bytes.as_slice(), ended) == want, "{name} by pieces");
+    assert!(rt; shelf.is_open() == ended, "{name} afterwards");
+    Ok(())
+}
+
+/// Tests that a reading of the name is ended by a fetch, a keep and an open, whatever they answer.
+fn ends_readings<H: Shelf>(
+    rt: &(impl Abort + AllocGlobal),
+    shelf: &mut H,
+    name: &str,
+    missing: &str,
+) {
+    for turn in 0..4 {
+        assert!(rt; shelf.open(rt.alloc(), name) == Ok(()), "{turn}");
+        assert!(rt; shelf.is_open(), "{turn}");
+        match turn {
+            0 => fetches(rt, shelf, &[(name, 4, Ok("text"))]),
+            1 => fetches(rt, shelf, &[(missing, 4, Err(FetchFault::Failed))]),
+            2 => keeps(rt, shelf, &[(name, "text", Ok(()))]),
+            _ => assert!(rt; shelf.open(rt.alloc(), missing) == Err(OpenFault::Failed)),
+        }
+        assert!(rt; !shelf.is_open(), "{turn}");
     }
 }
 
@@ -208,6 +266,46 @@ fn each_byte_is_counted(rt: HostRuntime) {
     assert_eq!(rt; shelf.taken(), 6, "of a file that is too long");
 }
 
+#[test]
+fn a_piece_fails(rt: HostRuntime) -> Result<(), test::Fail> {
+    let mut shelf = FileShelf::new(ShortFiles);
+    reads(&rt, &mut shelf, "a", &mut [1; 8], (&[1; 3], false))?;
+    assert_eq!(rt; shelf.taken(), 3, "before a failure");
+    Ok(())
+}
+
+#[test]
+fn memory_by_pieces(rt: HostRuntime) -> Result<(), test::Fail> {
+    let alloc = rt.alloc();
+    // the call that fails, and after how many bytes; what is read, and whether it comes to its end
+    let cases: [(u64, usize, &str, &str, bool); 7] = [
+        (9, 0, "a", "0123456789", true),
+        (1, 0, "a", "", false),
+        (2, 3, "a", "", false),
+        (4, 0, "a", "01234567", false),
+        (5, 0, "a", "0123456789", false),
+        (9, 0, "empty", "", true),
+        (9, 0, "missing", "", false),
+    ];
+    for &(call, after, name, text, ended) in &cases {
+        let mut shelf = MemShelf::new(alloc);
+        shelf.hold(alloc, "a", b"0123456789")?;
+        shelf.hold(alloc, "empty", b"")?;
+        shelf.fail(Fail { call, after })?;
+        reads(&rt, &mut shelf, name, &mut [0; 4], (text.as_bytes(), ended))?;
+        fetches(&rt, &mut shelf, &[("a", 10, Ok("0123456789"))]);
+    }
+    let mut shelf = SureShelf::new(alloc);
+    shelf.hold(alloc, "a", b"0123456789")?;
+    for (name, text) in [("a", "0123456789"), ("missing", "")] {
+        reads(&rt, &mut shelf, name, &mut [0; 4], (text.as_bytes(), true))?;
+    }
+    let mut shelf = MemShelf::new(alloc);
+    shelf.hold(alloc, "a", b"text")?;
+    ends_readings(&rt, &mut shelf, "a", "missing");
+    Ok(())
+}
+
 /// Writes a file, and fetches it within limits about its length.
 fn fetches_file<H: Shelf>(
     rt: &(impl Abort + AllocGlobal + Files),
@@ -276,6 +374,38 @@ fn real_files(rt: HostRuntime) -> Result<(), test::Fail> {
     }
     assert!(rt; holds(&rt, folder.as_str(), &[])?, "its folder");
     Ok(fs::remove_dir(&rt, folder.as_str())?)
+}
+
+#[test]
+fn real_files_by_pieces(rt: HostRuntime) -> Result<(), test::Fail> {
+    let alloc = rt.alloc();
+    let folder = own_folder(&rt, "pieces")?;
+    let path = format!(in alloc; "{folder}/a")?;
+    let name = path.as_str();
+    let missing = format!(in alloc; "{folder}/b")?;
+    let mut bytes = Vec::new(alloc);
+    for place in 0..200_000u32 {
+        bytes.push((place % 251) as u8)?;
+    }
+    let mut buf = Vec::new(alloc);
+    buf.resize(65_536, 0)?;
+    let mut shelf = FileShelf::new(rt.clone()?);
+    for length in [0, 1, 65_536, 200_000] {
+        let text = &bytes[..length.min(bytes.len())];
+        fs::write(&rt, name, text)?;
+        reads(&rt, &mut shelf, name, &mut buf, (text, true))?;
+        assert!(rt; fs::read(&rt, name)?.as_slice() == text, "the file stays");
+        assert!(rt; holds(&rt, folder.as_str(), &["a"])?, "its folder");
+    }
+    assert_eq!(rt; shelf.taken(), 265_537, "taken");
+    fs::write(&rt, name, "text")?;
+    ends_readings(&rt, &mut shelf, name, missing.as_str());
+    // a folder opens, and no byte of it can be read
+    for unread in [missing.as_str(), folder.as_str()] {
+        reads(&rt, &mut shelf, unread, &mut buf, (&[], false))?;
+    }
+    assert!(rt; holds(&rt, folder.as_str(), &["a"])?, "its folder");
+    Ok(fs::remove_dir_all(&rt, folder.as_str())?)
 }
 
 #[test]

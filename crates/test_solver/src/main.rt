@@ -13,6 +13,7 @@
 //! - `pigeons`: how many in one hole less : the same; the same;
 //! - `solve`: variables : clauses : a budget; the answer, and how many values there are, or what the lines do;
 //! - `values`: the same; the values that come, each as the literal that is true;
+//! - `first`: variables : clauses : the values that are tried first, true for each `+`; the values that come, without a conflict;
 //! - `random`: a seed, and how many lists, variables and clauses; how many lists are satisfiable, once search, trial of all
 //!   values and checker agree on each.
 #![tactic(auto)]
@@ -50,6 +51,7 @@ fn answer(alloc: Global, part: &str, given: &str) -> Result<String> {
         "pigeons" => search::pigeon_runs(alloc, given),
         "solve" => search::solve(alloc, given),
         "values" => search::values(alloc, given),
+        "first" => search::first(alloc, given),
         "random" => search::random_lists(alloc, given),
         _ => bail!("no such part"),
     }

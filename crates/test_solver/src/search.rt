@@ -63,7 +63,7 @@ fn is_satisfiable(alloc: Global, cnf: &Cnf) -> Result<bool> {
 
 /// The runs of one search.
 fn all_runs(alloc: Global, cnf: &Cnf, runs: &str) -> Result<String> {
-    let mut search = Search::new(alloc, cnf)?;
+    let mut search = Search::new(alloc, cnf, &[])?;
     let mut told = String::new(alloc);
     for word in runs.split_whitespace() {
         if !told.is_empty() {
@@ -133,13 +133,28 @@ fn solved(alloc: Global, cnf: &Cnf, budget: &str) -> Result<Solved> {
     if budget == 0 || budget > MOST {
         bail!("so many clauses can't be learnt");
     }
-    Ok(solve_cnf(alloc, cnf, budget)?)
+    Ok(solve_cnf(alloc, cnf, &[], budget)?)
 }
 
 /// The values that `solve_cnf` gives, as literals that are true.
 pub(crate) fn values(alloc: Global, given: &str) -> Result<String> {
     let (cnf, budget) = parts_of(alloc, given)?;
-    let Solved::Sat(values) = solved(alloc, &cnf, budget)? else {
+    values_text(alloc, solved(alloc, &cnf, budget)?)
+}
+
+/// The same, where these values are tried first, each as a sign.
+pub(crate) fn first(alloc: Global, given: &str) -> Result<String> {
+    let (cnf, signs) = parts_of(alloc, given)?;
+    let mut first = Vec::new(alloc);
+    for sign in signs.bytes() {
+        first.push(sign == b'+')?;
+    }
+    values_text(alloc, solve_cnf(alloc, &cnf, first.as_slice(), 1)?)
+}
+
+/// The values of an answer, as literals that are true.
+fn values_text(alloc: Global, solved: Solved) -> Result<String> {
+    let Solved::Sat(values) = solved else {
         bail!("no values");
     };
     let mut text = String::new(alloc);
@@ -205,7 +220,7 @@ fn is_right(alloc: Global, cnf: &Cnf) -> Result<bool> {
 
 /// Whether a search that learns one clause in each run finds a list satisfiable.
 fn is_so_in_steps(alloc: Global, cnf: &Cnf) -> Result<bool> {
-    let mut search = Search::new(alloc, cnf)?;
+    let mut search = Search::new(alloc, cnf, &[])?;
     for _ in 0..1000 {
         let came = run(alloc, cnf, &mut search, 1)?;
         if came == Came::Satisfied || came == Came::Closed {
@@ -217,7 +232,7 @@ fn is_so_in_steps(alloc: Global, cnf: &Cnf) -> Result<bool> {
 
 /// Whether a list is found satisfiable at once.
 fn is_so_at_once(alloc: Global, cnf: &Cnf) -> Result<bool> {
-    match &solve_cnf(alloc, cnf, 1000)? {
+    match &solve_cnf(alloc, cnf, &[], 1000)? {
         Solved::Sat(values) if is_satisfied(cnf, values) => Ok(true),
         Solved::Sat(_) => bail!("a wrong assignment at once"),
         Solved::Unsat(_) => Ok(false),

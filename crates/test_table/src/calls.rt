@@ -5,32 +5,35 @@
 //!
 //! - `words WORD..`: the words of the call, with `''` for one that is empty;
 //! - `file NAME TEXT`: a file of the shelf, and its bytes;
-//! - `fetch CALL AFTER`, `keep CALL AFTER` and `put CALL AFTER`: the call of the shelf (fetches and keeps are counted
-//!   together) or the sink, by its number from 1, that is to fail, and after how many bytes;
-//! - `want STATUS "TEXT"`: the status, and what must be written. `usage` stands for the text of the line `usage "TEXT"`;
+//! - `fetch CALL AFTER`, `keep CALL AFTER` and `put CALL AFTER`: the call of the shelf (`fetch` and `keep` mean the same:
+//!   fetches, keeps, opens and pieces are counted together, a piece that finds the end too) or of the sink, by its number
+//!   from 1, that is to fail, and after how many bytes;
+//! - `want STATUS "TEXT"`: the status, and what must be written. `usage` stands for the text of the line `usage "TEXT"`,
+//!   and `"TEXT" number "TEXT"` for two texts with some number between them;
+//! - `then WORD..`: a further call, over the shelf as it stands then; its puts and what must come of it stand below;
+//! - `edit NAME "TEXT" "TEXT"`: in what stands under a name the first text becomes the second, before the next call;
+//! - `cut NAME "TEXT"`: what stands under a name ends before the last place of a text, before the next call;
 //! - `holds NAME "TEXT"`: what must stand under a name afterwards;
 //! - `stays NAME..`: names under which what stood there before must stand afterwards, or nothing.
 //!
 //! A line that is empty or begins with `#` says nothing. Texts are those of module `text`.
 use crate::halves;
-use crate::text::bytes_of;
+use crate::text::{bytes_of, quoted};
+use crate::turns::{Answer, Call, Edit, Turn, Want, fail_of, words_of};
 use anyhow::{Context, Result, bail};
 use std::alloc::Global;
 use std::collections::BTreeMap;
 use std::fmt::Write;
-use tc_io::mem::{Fail, MemShelf, MemSink};
+use tc_io::mem::{Fail, MemShelf};
 
-/// A call: its words, the files of the shelf, the calls of the shelf and the sink that are to fail; and what must come.
+/// Calls, one after another: the files of the shelf, its calls that are to fail; and what must stand there afterwards.
 #[derive(Clone, Drop)]
 pub struct Row {
     pub name: String,
-    pub words: Vec<String>,
+    pub turns: Vec<Turn>,
     files: BTreeMap<String, String>,
     fetches: Vec<Fail>,
-    puts: Vec<Fail>,
     usage: String,
-    status: Option<u8>,
-    written: String,
     after: BTreeMap<String, Option<String>>,
 }
 
@@ -61,7 +64,7 @@ impl Table {
 /// The rows of the table in standard input.
 pub fn rows_of(rt: &(impl Input + AllocGlobal)) -> Result<Vec<Row>> {
     let mut table = Table {
-        base: Row::new(rt.alloc()),
+        base: Row::new(rt.alloc())?,
         rows: Vec::new(rt.alloc()),
     };
     let mut number = 0u64;
@@ -75,18 +78,17 @@ pub fn rows_of(rt: &(impl Input + AllocGlobal)) -> Result<Vec<Row>> {
 }
 
 impl Row {
-    fn new(alloc: Global) -> Row {
-        Row {
+    fn new(alloc: Global) -> Result<Row> {
+        let mut turns = Vec::new(alloc);
+        turns.push(Turn::Call(Call::new(alloc, Vec::new(alloc))))?;
+        Ok(Row {
             name: String::new(alloc),
-            words: Vec::new(alloc),
+            turns,
             files: BTreeMap::new(alloc),
             fetches: Vec::new(alloc),
-            puts: Vec::new(alloc),
             usage: String::new(alloc),
-            status: None,
-            written: String::new(alloc),
             after: BTreeMap::new(alloc),
-        }
+        })
     }
 
     /// A shelf that holds its files, and fails where it says.
@@ -101,15 +103,6 @@ impl Row {
         Ok(shelf)
     }
 
-    /// A sink that fails where it says.
-    pub fn sink(&self, alloc: Global) -> Result<MemSink> {
-        let mut sink = MemSink::new(alloc);
-        for fail in &self.puts {
-            sink.fail(*fail)?;
-        }
-        Ok(sink)
-    }
-
     /// The names under which something must stand afterwards, or nothing.
     pub fn names(&self, alloc: Global) -> Result<Vec<String>> {
         let mut names = Vec::new(alloc);
@@ -119,35 +112,65 @@ impl Row {
         Ok(names)
     }
 
-    /// What must come.
-    pub fn wanted(&self, alloc: Global) -> Result<Came> {
-        let mut came = Came {
-            status: self.status.context("nothing is wanted")?,
-            written: bytes_of(alloc, self.written.as_str())?,
-            after: Vec::new(alloc),
-        };
+    /// Whether what came is what must come.
+    pub fn is_met(&self, alloc: Global, came: &Came) -> Result<bool> {
+        let mut answers = came.answers.iter();
+        for turn in &self.turns {
+            if let Turn::Call(call) = turn {
+                let answer = answers.next().context("a call without an answer")?;
+                if !call.is_met(alloc, answer)? {
+                    return Ok(false);
+                }
+            }
+        }
+        let mut after = came.after.iter();
         for (_, text) in &self.after {
-            came.after.push(match text {
+            let wanted = match text {
                 Some(text) => Some(bytes_of(alloc, text.as_str())?),
                 None => None,
-            })?;
+            };
+            if after.next() != Some(&wanted) {
+                return Ok(false);
+            }
         }
-        Ok(came)
+        Ok(true)
+    }
+
+    /// What must come, as the row writes it.
+    pub fn text(&self, alloc: Global) -> Result<String> {
+        let mut text = String::new(alloc);
+        for turn in &self.turns {
+            if let Turn::Call(call) = turn {
+                call.push_text(&mut text)?;
+            }
+        }
+        for (_, wanted) in &self.after {
+            match wanted {
+                Some(wanted) => write!(text, " \"{wanted}\"")?,
+                None => text.push_str(" nothing")?,
+            }
+        }
+        Ok(text)
     }
 
     fn read(&mut self, alloc: Global, key: &str, rest: &str) -> Result<()> {
         match key {
             "" if rest.is_empty() => {}
-            "words" => self.words = words_of(alloc, rest)?,
             "file" => {
                 let (name, text) = halves(rest);
                 let text = String::from_str(alloc, text)?;
                 self.files.insert(String::from_str(alloc, name)?, text)?;
             }
             "fetch" | "keep" => self.fetches.push(fail_of(rest)?)?,
-            "put" => self.puts.push(fail_of(rest)?)?,
             "usage" => self.usage = quoted(alloc, rest)?,
-            "want" => self.want(alloc, rest)?,
+            "then" => {
+                let words = words_of(alloc, rest)?;
+                self.turns.push(Turn::Call(Call::new(alloc, words)))?;
+            }
+            "edit" | "cut" => {
+                let edit = Edit::read(alloc, key, rest)?;
+                self.turns.push(Turn::Edit(edit))?;
+            }
             "holds" => {
                 let (name, text) = halves(rest);
                 let text = quoted(alloc, text)?;
@@ -156,19 +179,22 @@ impl Row {
             }
             "stays" => self.stay(alloc, rest)?,
             _ if key.starts_with('#') => {}
-            _ => bail!("no such line: {key:?}"),
+            _ => self.read_call(alloc, key, rest)?,
         }
         Ok(())
     }
 
-    fn want(&mut self, alloc: Global, rest: &str) -> Result<()> {
-        let (status, text) = halves(rest);
-        self.status = Some(status.parse::<u8>()?);
-        self.written = if text == "usage" {
-            self.usage.clone()?
-        } else {
-            quoted(alloc, text)?
+    /// Takes a line of the last call.
+    fn read_call(&mut self, alloc: Global, key: &str, rest: &str) -> Result<()> {
+        let Some(Turn::Call(call)) = self.turns.last_mut() else {
+            bail!("no call before {key:?}");
         };
+        match key {
+            "words" => call.words = words_of(alloc, rest)?,
+            "put" => call.puts.push(fail_of(rest)?)?,
+            "want" => call.want = Some(Want::read(alloc, self.usage.as_str(), rest)?),
+            _ => bail!("no such line: {key:?}"),
+        }
         Ok(())
     }
 
@@ -184,18 +210,20 @@ impl Row {
     }
 }
 
-/// What comes of a call: the status, what is written, and what stands under names afterwards.
-#[derive(PartialEq, Drop)]
+/// What comes of a row: the answer of each call, and what stands under names afterwards.
+#[derive(Drop)]
 pub struct Came {
-    pub status: u8,
-    pub written: Vec<u8>,
+    pub answers: Vec<Answer>,
     pub after: Vec<Option<Vec<u8>>>,
 }
 
 impl Came {
     /// As a row writes it.
     pub fn text(&self, alloc: Global) -> Result<String> {
-        let mut text = format!(in alloc; "{} \"{}\"", self.status, self.written.escape_ascii())?;
+        let mut text = String::new(alloc);
+        for answer in &self.answers {
+            answer.push_text(&mut text)?;
+        }
         for bytes in &self.after {
             match bytes {
                 Some(bytes) => write!(text, " \"{}\"", bytes.escape_ascii())?,
@@ -204,30 +232,4 @@ impl Came {
         }
         Ok(text)
     }
-}
-
-/// What stands between quotes.
-fn quoted(alloc: Global, text: &str) -> Result<String> {
-    let inside = text
-        .strip_prefix('"')
-        .and_then(|text| text.strip_suffix('"'))
-        .context("no text in quotes")?;
-    Ok(String::from_str(alloc, inside)?)
-}
-
-fn words_of(alloc: Global, rest: &str) -> Result<Vec<String>> {
-    let mut words = Vec::new(alloc);
-    for word in rest.split_whitespace() {
-        let text = if word == "''" { "" } else { word };
-        words.push(String::from_utf8(bytes_of(alloc, text)?)?)?;
-    }
-    Ok(words)
-}
-
-fn fail_of(rest: &str) -> Result<Fail> {
-    let (call, after) = halves(rest);
-    Ok(Fail {
-        call: call.parse()?,
-        after: after.parse()?,
-    })
 }

@@ -1,13 +1,14 @@
 //! Tables of rows, as they are read from standard input.
 //!
 //! Module `calls` says how a table of calls of the program is written, module `parts` how one of parts of it is, and
-//! module `text` how both write bytes. Module `answers` tells many answers of one row.
+//! module `text` how both write bytes. Module `turns` has the calls of a row, module `answers` tells many answers of one.
 #![tactic(auto)]
 
 pub mod answers;
 pub mod calls;
 pub mod parts;
 pub mod text;
+pub mod turns;
 
 use anyhow::Result;
 use std::env::{self, Env};

@@ -116,3 +116,12 @@ fn counted(piece: &str) -> (&str, Option<u32>) {
         _ => (piece, None),
     }
 }
+
+/// What stands between quotes, as it is written.
+pub fn quoted(alloc: Global, text: &str) -> Result<String> {
+    let inside = text
+        .strip_prefix('"')
+        .and_then(|text| text.strip_suffix('"'))
+        .context("no text in quotes")?;
+    Ok(String::from_str(alloc, inside)?)
+}

@@ -18,10 +18,10 @@ use Rattle.path_walk.specs.Paths.{Walk}
 use Rattle.path_walk.specs.Steps.{step_at, steps_at}
 use Rattle.path_walk.specs.declared.event.Event.{Event}
 use Rattle.path_walk.specs.declared.event.EventKind.TheVariants as kind
-use Rattle.path_history.specs.Along.{IsThread}
-use Rattle.path_history.proofs.Walks.{thread_path_at, walk_is}
-use Rattle.path_events.proofs.Events.{at_step}
-use Rattle.path_events.proofs.Lists.{in_contains}
+use Rattle.path_laws.specs.history.Along.{IsThread}
+use Rattle.path_laws.proofs.of_history.Walks.{thread_path_at, walk_is}
+use Rattle.path_laws.proofs.of_events.Events.{at_step}
+use Rattle.path_laws.proofs.of_events.Lists.{in_contains}
 use Rattle.sym_exec.specs.Executed.{has_failed}
 use Rattle.sym_laws.proofs.Names.{one_place, failing_is}
 

@@ -15,8 +15,8 @@ use Rattle.path_walk.specs.Fits.{Fits}
 use Rattle.path_walk.specs.Paths.{Walk, paths_of}
 use Rattle.path_walk.specs.declared.event.Event.{Event}
 use Rattle.path_walk.specs.declared.event.Sleep.{Sleep}
-use Rattle.path_events.specs.Done.{IsAsleepIn}
-use Rattle.path_history.specs.Along.{IsAlongPaths, IsThread}
+use Rattle.path_laws.specs.events.Done.{IsAsleepIn}
+use Rattle.path_laws.specs.history.Along.{IsAlongPaths, IsThread}
 use Rattle.sym_terms.specs.Terms.{AreTerms}
 use Rattle.sym_terms.specs.declared.node.Node.{Node}
 use Rattle.sym_laws.specs.Valued.{AgreesWith, found}

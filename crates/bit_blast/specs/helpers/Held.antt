@@ -1,5 +1,5 @@
 -- How a formula's clauses lie in memory.
-use Rattle.std.specs.Prelude.{◌≤◌, length}
+use Rattle.std.specs.Prelude.{◌<◌, ◌≤◌, length}
 use Rattle.bit_order.specs.Layouts.{base}
 use Rattle.bit_blast.specs.Blasted.{Blasted}
 use Rattle.bit_blast.specs.declared.blasted.Blasted.TheInside.{Inside}
@@ -7,8 +7,8 @@ use Rattle.bit_blast.specs.declared.blasted.Blasted.TheInside.{Inside}
 abbrev pub blasted_of : Inside → Blasted
 blasted_of b = record { layout = b.layout; clauses = b.clauses; conjuncts = b.conjuncts }
 
--- positions have 8 bits, the layout's variables are there, and each conjunct has its clause
+-- positions have 8 bits, the layout's variables are there if any are, and each conjunct has its clause
 pub record IsHeld (b : Inside) : Type 0 where
   pub events : b.layout.order.events ≤ 256
-  pub variables : (base b.layout).vars ≤ b.clauses.vars
+  pub variables : 0 < b.clauses.vars → (base b.layout).vars ≤ b.clauses.vars
   pub roots : b.conjuncts ≤ length b.clauses.clauses

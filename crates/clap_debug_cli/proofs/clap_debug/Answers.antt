@@ -1,5 +1,6 @@
 use Rattle.std.proofs.Common.{map, string_bytes}
-use Rattle.clap_debug_cli.proofs.Calls.{call_answers, told_answers, command_answers}
+use Rattle.clap_debug_cli.proofs.Calls.{call_answers}
+use Rattle.clap_debug_cli.proofs.CommandCalls.{told_answers, command_answers}
 use Rattle.clap_debug_cli.proofs.clap_debug.Goals as goal
 
 pub returns-clause-call : goal.returns-clause-call

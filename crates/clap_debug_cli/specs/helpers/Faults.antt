@@ -5,12 +5,17 @@ use Rattle.path_walk.specs.declared.fault.WalkFault.{WalkFault}
 use Rattle.path_walk.specs.declared.fault.WalkFault.TheVariants as walk
 use Rattle.schedule_file.specs.declared.fault.ScheduleFault.{ScheduleFault}
 use Rattle.schedule_file.specs.declared.fault.ScheduleFault.TheVariants as schedule
+use Rattle.dimacs_text.specs.declared.fault.AnswerFault.{AnswerFault}
+use Rattle.dimacs_text.specs.declared.fault.AnswerFault.TheVariants as answer
+use Rattle.clap_system.specs.declared.fault.BuildFault.{BuildFault}
+use Rattle.clap_system.specs.declared.fault.BuildFault.TheVariants as build
 use Rattle.tc_compile.specs.declared.fault.CompileFault.{CompileFault}
 use Rattle.tc_compile.specs.declared.fault.CompileFault.TheVariants as compile
 use Rattle.tc_record.specs.declared.seeded.SeededFault.{SeededFault}
 use Rattle.tc_record.specs.declared.seeded.SeededFault.TheVariants as seeded
 use Rattle.clap_debug_cli.specs.declared.answer.Answer.{Answer}
-use Rattle.clap_debug_cli.specs.declared.answer.Answer.TheVariants.{ProgramRefused, LogRefused, ScheduleRefused, RunEnded, NoMemory}
+use Rattle.clap_debug_cli.specs.declared.answer.Answer.TheVariants.{ProgramRefused, LogRefused, ScheduleRefused, AnswerRefused, RunEnded, LogOver, NoMemory}
+use Rattle.clap_debug_cli.specs.Migrated.{excess}
 use Rattle.clap_debug_cli.specs.declared.answer.LogRefusal.TheVariants.{Form, Unfit}
 use Rattle.clap_debug_cli.specs.declared.answer.Ending.TheVariants.{Over}
 
@@ -26,6 +31,10 @@ abbrev pub schedule_answer : ScheduleFault → Answer
 schedule_answer (schedule.Form line) = ScheduleRefused line
 schedule_answer schedule.Memory = NoMemory
 
+abbrev pub literals_answer : AnswerFault → Answer
+literals_answer (answer.Form line) = AnswerRefused line
+literals_answer answer.Memory = NoMemory
+
 abbrev pub walk_answer : WalkFault → Answer
 walk_answer (walk.Unfit name misfit) = LogRefused (Unfit name misfit)
 walk_answer walk.Memory = NoMemory
@@ -33,3 +42,8 @@ walk_answer walk.Memory = NoMemory
 abbrev pub seeded_answer : SeededFault → Answer
 seeded_answer (seeded.Limit which _ _) = RunEnded (Over which)
 seeded_answer seeded.Memory = NoMemory
+
+abbrev pub build_answer : BuildFault → Answer
+build_answer (build.Limit which number _) = LogOver (excess which number)
+build_answer (build.Walk fault) = walk_answer fault
+build_answer build.Memory = NoMemory

@@ -4,11 +4,15 @@ use Rattle.path_log.specs.Faults.{BreaksAt}
 use Rattle.path_log.specs.Texts.{StoredLog}
 use Rattle.tc_code.specs.Code.{Code}
 use Rattle.tc_compile.specs.Programs.{IsCodeOf, IsRefusal}
-use Rattle.tc_io.specs.Outside.{ShelfTells, FailedToGive, WasTooLong, KeptPart}
+use Rattle.tc_io.specs.Outside.{ShelfTells, KeptPart, closed}
 use Rattle.tc_record.specs.Seeded.{Ended}
+use Rattle.tc_base.specs.Logs.{Log}
+use Rattle.path_walk.specs.declared.fault.WalkFault.TheVariants as walk
+use Rattle.clap_system.specs.Faults.{IsBuildFault, limit_of}
+use Rattle.clap_system.specs.declared.fault.BuildFault.TheVariants as build
 use Rattle.clap_debug_cli.specs.Causes.{HeldStill}
 use Rattle.clap_debug_cli.specs.Files.{IsOfOther}
-use Rattle.clap_debug_cli.specs.Inputs.{Wanted, limit_of}
+use Rattle.clap_debug_cli.specs.Inputs.{Wanted, FailedInput, PassedLimit, name_of}
 use Rattle.clap_debug_cli.specs.Recorded.{HasEnded}
 use Rattle.clap_debug_cli.specs.declared.answer.Answer.{Answer}
 use Rattle.clap_debug_cli.specs.declared.answer.Answer.TheVariants.{
@@ -21,10 +25,15 @@ use Rattle.clap_debug_cli.specs.declared.answer.Answer.TheVariants.{
   Replayed,
   RunEnded,
   LogOver,
+  RefutationRefused,
+  Accepted,
+  LineRefused,
+  AnswerRefused,
+  ClauseFalse,
   WriteFault,
   NoMemory,
 }
-use Rattle.clap_debug_cli.specs.declared.answer.LogRefusal.TheVariants.{Form, OtherProgram}
+use Rattle.clap_debug_cli.specs.declared.answer.LogRefusal.TheVariants.{Form, OtherProgram, Unfit}
 
 -- either is an answer of which this holds
 abbrev pub IsEither : Result Answer Answer → (Answer → Type 0) → Type 0
@@ -32,8 +41,8 @@ IsEither result P = MatchResult result P P
 
 -- an input can't be had
 abbrev pub IsWhyMissing : Wanted → ShelfTells → ShelfTells → Answer → Type 0
-IsWhyMissing w old new (ReadFault name) = (name ≡ w.name) × FailedToGive old new name (limit_of w.input)
-IsWhyMissing w old new (TooLong i) = (i ≡ w.input) × WasTooLong old new w.name (limit_of w.input)
+IsWhyMissing w old new (ReadFault name) = (name ≡ name_of w) × FailedInput w old new
+IsWhyMissing w old new (TooLong i) = PassedLimit w old new i
 IsWhyMissing w old new NoMemory = HeldStill old new
 IsWhyMissing w old new _ = ⊥
 
@@ -47,6 +56,11 @@ Refuses P (Listed code) = P (Listed code)
 Refuses P (Replayed v) = P (Replayed v)
 Refuses P (RunEnded e) = P (RunEnded e)
 Refuses P (LogOver e) = P (LogOver e)
+Refuses P (RefutationRefused line) = P (RefutationRefused line)
+Refuses P (Accepted v) = P (Accepted v)
+Refuses P (LineRefused line) = P (LineRefused line)
+Refuses P (AnswerRefused line) = P (AnswerRefused line)
+Refuses P (ClauseFalse number) = P (ClauseFalse number)
 Refuses P _ = ⊥
 
 -- a program and a log aren't of their forms
@@ -69,6 +83,13 @@ IsEndOf run _ = ⊥
 
 -- a result wasn't kept under its name
 abbrev pub IsWhyUnkept : (name text : List ℕ) → ShelfTells → ShelfTells → Answer → Type 0
-IsWhyUnkept name text old new NoMemory = new ≡ old
+IsWhyUnkept name text old new NoMemory = new ≡ closed old
 IsWhyUnkept name text old new (WriteFault lost) = (lost ≡ name) × KeptPart old new name text
 IsWhyUnkept name text old new _ = ⊥
+
+-- the log of a code has no system
+abbrev pub IsWhyUnbuilt : Code → Log → Answer → Type 0
+IsWhyUnbuilt code log NoMemory = Unit {0}
+IsWhyUnbuilt code log (LogOver e) = IsBuildFault code log (build.Limit e.which e.number (limit_of e.which))
+IsWhyUnbuilt code log (LogRefused (Unfit name misfit)) = IsBuildFault code log (build.Walk (walk.Unfit name misfit))
+IsWhyUnbuilt code log _ = ⊥

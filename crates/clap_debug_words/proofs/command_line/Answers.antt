@@ -17,5 +17,19 @@ returns c =
     let migration_is : shape_of c.in_ok-migration.field-0 ≡ spec.migration = c.in_ok-migration.ensures in
     let recorded = c.in_ok-subcommand-3.ensures.shape (plain_fields _ (ap (λ (s : Shape). s.is_plain) recording_is)).globals
     ∙ ap₂ with_subcommand replayed recording_is in
-    IfOk-weaker c.subcommand-4.result _ _
-    (λ _ h. h.shape (plain_fields _ (ap (λ (s : Shape). s.is_plain) migration_is)).globals ∙ ap₂ with_subcommand recorded migration_is) c.subcommand-4.ensures
+    let migrated = c.in_ok-subcommand-4.ensures.shape (plain_fields _ (ap (λ (s : Shape). s.is_plain) migration_is)).globals
+    ∙ ap₂ with_subcommand recorded migration_is in
+    let solving_is : shape_of c.in_ok-solving.field-0 ≡ spec.solving c.args.names = c.in_ok-solving.ensures in
+    let solved = c.in_ok-subcommand-5.ensures.shape (plain_fields _ (ap (λ (s : Shape). s.is_plain) solving_is)).globals
+    ∙ ap₂ with_subcommand migrated solving_is in
+    let checking_is : shape_of c.in_ok-checking.field-0 ≡ spec.checking = c.in_ok-checking.ensures in
+    let checked = c.in_ok-subcommand-6.ensures.shape (plain_fields _ (ap (λ (s : Shape). s.is_plain) checking_is)).globals
+    ∙ ap₂ with_subcommand solved checking_is in
+    let workload_is : shape_of c.in_ok-workload.field-0 ≡ spec.workload = c.in_ok-workload.ensures in
+    let worked = c.in_ok-subcommand-7.ensures.shape (plain_fields _ (ap (λ (s : Shape). s.is_plain) workload_is)).globals
+    ∙ ap₂ with_subcommand checked workload_is in
+    let cnf_is : shape_of c.in_ok-cnf.field-0 ≡ spec.cnf c.args.names = c.in_ok-cnf.ensures in
+    let exported = c.in_ok-subcommand-8.ensures.shape (plain_fields _ (ap (λ (s : Shape). s.is_plain) cnf_is)).globals ∙ ap₂ with_subcommand worked cnf_is in
+    let import_is : shape_of c.in_ok-import.field-0 ≡ spec.import c.args.names = c.in_ok-import.ensures in
+    IfOk-weaker c.subcommand-9.result _ _
+    (λ _ h. h.shape (plain_fields _ (ap (λ (s : Shape). s.is_plain) import_is)).globals ∙ ap₂ with_subcommand exported import_is) c.subcommand-9.ensures

@@ -2,7 +2,7 @@ use Rattle.path_walk.specs.Paths.{paths_of}
 use Rattle.run_follows.specs.Follow.{moves_for}
 use Rattle.run_history.specs.History.{history}
 use Rattle.run_lawful.proofs.Lawful.{is_lawful}
-use Rattle.run_world.specs.WorldOf.{world_in}
+use Rattle.run_lawful.specs.world.WorldOf.{world_in}
 use Rattle.sym_laws.specs.Valued.{found}
 use Rattle.world_plan.specs.Plan.{plan}
 use Rattle.plan_runs.proofs.Laws.{given}

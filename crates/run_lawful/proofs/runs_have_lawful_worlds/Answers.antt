@@ -1,6 +1,6 @@
 use Rattle.sym_laws.specs.Valued.{found}
-use Rattle.run_world.proofs.Ordered.{is_order}
-use Rattle.run_world.proofs.Run.{done, paths, seen}
+use Rattle.run_lawful.proofs.of_world.Ordered.{is_order}
+use Rattle.run_lawful.proofs.of_world.Run.{done, paths, seen}
 use Rattle.run_lawful.proofs.Lawful.{is_lawful}
 use Rattle.run_lawful.proofs.runs_have_lawful_worlds.Goals as goal
 

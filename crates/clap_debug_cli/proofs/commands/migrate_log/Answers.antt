@@ -1,6 +1,6 @@
 use Rattle.std.proofs.Common.{rules, refl, [], ◌∷◌}
 use Rattle.clap_debug_words.specs.Calls.{Migrates}
-use Rattle.clap_debug_cli.specs.Inputs.{wanted}
+use Rattle.clap_debug_cli.specs.Inputs.{Whole}
 use Rattle.clap_debug_cli.specs.Migrated.{IsMigrated}
 use Rattle.clap_debug_cli.specs.declared.input.Input.TheVariants as input
 use Rattle.clap_debug_cli.proofs.Causes.{unkept_cause, work_cause}
@@ -12,8 +12,8 @@ pub returns-in_err-log : goal.returns-in_err-log
 returns-in_err-log g c =
     let tells = g.H.Shelf.tells in
     let call = Migrates c.args.program.now c.args.log.now c.args.out.now in
-    let program = wanted input.Program c.args.program.now in
-    let log = wanted input.Log c.args.log.now in
+    let program = Whole input.Program c.args.program.now in
+    let log = Whole input.Log c.args.log.now in
     let why = missing_cause call (tells c.args.shelf.now) (tells c.fetch-2.new.shelf) _
     (missing_later program (log ∷ []) (tells c.args.shelf.now) (tells c.fetch.new.shelf) (tells c.fetch-2.new.shelf) _ _ c.in_ok-program.ensures.gave
     (missing_first log [] (tells c.fetch.new.shelf) (tells c.fetch-2.new.shelf) _ c.in_err-log.ensures.missing)) in

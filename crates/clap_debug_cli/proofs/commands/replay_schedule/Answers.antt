@@ -1,6 +1,6 @@
 use Rattle.std.proofs.Common.{rules, refl, [], ◌∷◌}
 use Rattle.clap_debug_words.specs.Calls.{Replays}
-use Rattle.clap_debug_cli.specs.Inputs.{wanted}
+use Rattle.clap_debug_cli.specs.Inputs.{Whole}
 use Rattle.clap_debug_cli.specs.declared.input.Input.TheVariants as input
 use Rattle.clap_debug_cli.proofs.Causes.{work_cause}
 use Rattle.clap_debug_cli.proofs.Fetches.{missing_cause, missing_first, missing_later}
@@ -10,9 +10,9 @@ pub returns-in_err-log : goal.returns-in_err-log
 returns-in_err-log g c =
     let tells = g.H.Shelf.tells in
     let call = Replays c.args.program.now c.args.log.now c.args.schedule.now in
-    let program = wanted input.Program c.args.program.now in
-    let log = wanted input.Log c.args.log.now in
-    let schedule = wanted input.Schedule c.args.schedule.now in
+    let program = Whole input.Program c.args.program.now in
+    let log = Whole input.Log c.args.log.now in
+    let schedule = Whole input.Schedule c.args.schedule.now in
     let why = missing_cause call (tells c.args.shelf.now) (tells c.fetch-2.new.shelf) _
     (missing_later program (log ∷ schedule ∷ []) (tells c.args.shelf.now) (tells c.fetch.new.shelf) (tells c.fetch-2.new.shelf) _ _
     c.in_ok-program.ensures.gave
@@ -23,9 +23,9 @@ pub returns-in_err-schedule : goal.returns-in_err-schedule
 returns-in_err-schedule g c =
     let tells = g.H.Shelf.tells in
     let call = Replays c.args.program.now c.args.log.now c.args.schedule.now in
-    let program = wanted input.Program c.args.program.now in
-    let log = wanted input.Log c.args.log.now in
-    let schedule = wanted input.Schedule c.args.schedule.now in
+    let program = Whole input.Program c.args.program.now in
+    let log = Whole input.Log c.args.log.now in
+    let schedule = Whole input.Schedule c.args.schedule.now in
     let why = missing_cause call (tells c.args.shelf.now) (tells c.fetch-3.new.shelf) _
     (missing_later program (log ∷ schedule ∷ []) (tells c.args.shelf.now) (tells c.fetch.new.shelf) (tells c.fetch-3.new.shelf) _ _
     c.in_ok-program.ensures.gave

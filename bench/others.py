@@ -1,0 +1,165 @@
+#!/usr/bin/env python3
+"""Gives the clauses of logs to other solvers, and what they say back to the program: a row of docs/PERFORMANCE.md for each.
+
+  others.py [--models sc,tso,pso] [--seconds N] [--spoil N] FOLDER..
+
+runs out/clap_debug over each NAME.tc with its NAME.log in the folders, under the log's model where none is given. Where cadical finds
+an answer, its own and minisat's are imported and the schedules replayed. Where it finds none, its proof goes through
+tools/refutation.py, and the refutation is checked. Each proof is also spoilt N times at random, a line cut or a literal turned, and
+given to each model under which the log has a schedule: there nothing may be accepted. Ends with 1 where something isn't so.
+"""
+import argparse
+import glob
+import os
+import random
+import subprocess
+import sys
+import tempfile
+import time
+
+sys.dont_write_bytecode = True
+import machine
+
+TOP = os.path.dirname(os.path.dirname(os.path.abspath(__file__)))
+
+
+
+class Ran:
+    """What some words print, their status and their seconds."""
+
+    def __init__(self, limit, *words):
+        start = time.time()
+        try:
+            ran = subprocess.run(words, stdout=subprocess.PIPE, stderr=subprocess.DEVNULL, timeout=limit, check=False)
+            self.text, self.status = ran.stdout.decode(), ran.returncode
+        except subprocess.TimeoutExpired:
+            self.text, self.status = "too long", -1
+        self.seconds = time.time() - start
+        self.line = self.text.strip()
+
+
+class Log:
+    """A log under a model, with its files in a folder of its own."""
+
+    def __init__(self, folder, program, log, model, limit):
+        self.program, self.log, self.model, self.limit = program, log, model, limit
+        self.list, self.answer, self.proof, self.kept = (f"{folder}/{model}.{it}" for it in ("cnf", "answer", "proof", "kept"))
+        self.cnf = self.clap("cnf", self.list)
+        self.cadical = self.run("cadical", "-q", "--no-binary", self.list, self.proof)
+
+    def run(self, *words):
+        return Ran(self.limit, *words)
+
+    def clap(self, command, *files):
+        return self.run(f"{TOP}/out/clap_debug", command, self.program, self.log, *files, "--model", self.model)
+
+    def refute(self, proof, out):
+        return self.run(sys.executable, f"{TOP}/tools/refutation.py", "drat", self.list, proof, self.model, out)
+
+    def check(self, out):
+        """What `check` says: the model is the refutation's."""
+        return self.run(f"{TOP}/out/clap_debug", "check", self.program, self.log, out)
+
+    def imported(self, answer):
+        with open(self.answer, "w", encoding="ascii") as file:
+            file.write(answer)
+        found = self.clap("import", self.answer, self.kept)
+        return found, self.run(f"{TOP}/out/clap_debug", "replay", self.program, self.log, self.kept)
+
+
+def of_minisat(log):
+    """The answer of minisat, as solvers of today write it."""
+    model = log.proof
+    minisat = log.run("minisat", "-verb=0", log.list, model)
+    with open(model, encoding="ascii") as file:
+        lines = file.read().split("\n")
+    return minisat, f"s SATISFIABLE\nv {lines[1]}\n" if lines[0] == "SAT" else f"s {lines[0]}\n"
+
+
+def spoilt(chance, lines):
+    """A proof with a line cut or a literal turned."""
+    lines = list(lines)
+    place = chance.randrange(len(lines))
+    words = lines[place].split()
+    numbers = [k for k, word in enumerate(words) if word not in ("d", "0")]
+    if not numbers or chance.random() < 0.5:
+        del lines[place]
+        return lines
+    k = chance.choice(numbers)
+    words[k] = words[k][1:] if words[k].startswith("-") else "-" + words[k]
+    lines[place] = " ".join(words)
+    return lines
+
+
+def try_possible(log):
+    """A row, and how much in it isn't as it must be."""
+    found, replayed = log.imported(log.cadical.text)
+    minisat, answer = of_minisat(log)
+    other, again = log.imported(answer)
+    wrong = sum(it.line != "reproduces" for it in (replayed, again)) + sum(it.status != 0 for it in (found, other))
+    return f"{log.cadical.seconds:.2f} | {minisat.seconds:.2f} | {found.line} | | | {replayed.line}", wrong
+
+
+def try_impossible(log):
+    out = log.kept
+    made = log.refute(log.proof, out)
+    checked = log.check(out) if made.status == 0 else made
+    return (f"{log.cadical.seconds:.2f} | | {made.line} | {made.seconds:.2f} | {checked.seconds:.2f} | {checked.line}",
+            int(checked.line != "accepted, impossible"))
+
+
+def try_spoilt(chance, count, possible, impossible):
+    """How many refutations are accepted of logs that have a schedule, made of others' proofs, whole and spoilt."""
+    wrong = 0
+    for source in impossible:
+        with open(source.proof, encoding="ascii") as file:
+            lines = file.read().split("\n")[:-1]
+        for turn in range(count + 1 if lines else 0):
+            with open(source.answer, "w", encoding="ascii") as file:
+                file.write("\n".join(lines if turn == 0 else spoilt(chance, lines)) + "\n")
+            for target in possible:
+                made = target.refute(source.answer, target.kept)
+                if made.status == 0:
+                    accepted = target.check(target.kept)
+                    wrong += accepted.line == "accepted, impossible"
+    return wrong
+
+
+def main():
+    parser = argparse.ArgumentParser(usage=__doc__)
+    parser.add_argument("--models")
+    parser.add_argument("--seconds", type=float, default=120)
+    parser.add_argument("--spoil", type=int, default=0)
+    parser.add_argument("folders", nargs="+")
+    given = parser.parse_args()
+    chance, wrong, tried = random.Random(0), 0, 0
+    print("| log | model | clauses | solve | cadical | minisat | answer, or refutation | tool | check | what came |")
+    print("|---|---|---|---|---|---|---|---|---|---|")
+    for program in sorted(it for folder in given.folders for it in glob.glob(f"{folder}/*.tc")):
+        log = program[:-3] + ".log"
+        if not os.path.exists(log):
+            continue
+        with open(log, "rb") as bytes_:
+            own = machine.Log.read(bytes_.read()).model
+        logs = {True: [], False: []}
+        with tempfile.TemporaryDirectory() as folder:
+            for model in (given.models or own).split(","):
+                it = Log(folder, program, log, model, given.seconds)
+                solved = it.clap("solve", it.kept)
+                name = os.path.relpath(program[:-3], os.path.commonpath([os.path.abspath(it) for it in given.folders]))
+                row, bad = f"{it.cadical.line or 'too long'} | | | | | ", 1
+                if it.cadical.status in (10, 20):
+                    is_possible = it.cadical.status == 10
+                    logs[is_possible].append(it)
+                    row, bad = try_possible(it) if is_possible else try_impossible(it)
+                    bad += solved.status != (0 if is_possible else 1) and solved.status in (0, 1)
+                wrong += bad
+                clauses = it.cnf.line.split()[-2] if it.cnf.status == 0 else it.cnf.line
+                print(f"| {name} | {model} | {clauses} | {solved.seconds:.2f} | {row} |", flush=True)
+            tried += len(logs[True]) * len(logs[False]) * (given.spoil + 1)
+            wrong += try_spoilt(chance, given.spoil, logs[True], logs[False])
+    print(f"\n{tried} proofs of other models tried at logs that have a schedule; {wrong} answers that may not be")
+    return 1 if wrong else 0
+
+
+raise SystemExit(main())

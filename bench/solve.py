@@ -1,0 +1,84 @@
+#!/usr/bin/env python3
+"""Solves logs, and replays or checks each answer: a row of docs/PERFORMANCE.md for each, seconds of the user and the system.
+
+  solve.py [--models sc,tso,pso] [--budget N] [--seconds N] FOLDER..
+
+runs out/clap_debug over each NAME.tc with its NAME.log in the folders, under the log's model where none is given. Ends with 1
+where an answer isn't taken: a schedule that doesn't reproduce the log, or a refutation that isn't accepted.
+"""
+import argparse
+import glob
+import os
+import subprocess
+import sys
+import tempfile
+import time
+
+sys.dont_write_bytecode = True
+import machine
+
+TOP = os.path.dirname(os.path.dirname(os.path.abspath(__file__)))
+
+
+def megabytes(pid):
+    """The most memory that a process has had so far, or 0 once it has ended; what it had before it became the program isn't counted."""
+    with open(f"/proc/{pid}/status") as status:
+        return max((int(line.split()[1]) / 1024 for line in status if line.startswith("VmHWM")), default=0)
+
+
+def run(seconds, *words):
+    """What it prints, its status, processor seconds and megabytes; or None where it takes longer than so many seconds."""
+    with tempfile.TemporaryFile() as out:
+        child = subprocess.Popen([f"{TOP}/out/clap_debug", *words], stdout=out)
+        end, most = time.time() + seconds, 0
+        while True:
+            most = max(most, megabytes(child.pid))
+            pid, status, used = os.wait4(child.pid, os.WNOHANG)
+            if pid:
+                child.returncode = os.waitstatus_to_exitcode(status)
+                break
+            if time.time() > end:
+                child.kill()
+                os.wait4(child.pid, 0)
+                child.returncode = -9
+                return None
+            time.sleep(0.001)
+        out.seek(0)
+        return out.read().decode().strip(), child.returncode, used.ru_utime + used.ru_stime, most
+
+
+def main():
+    parser = argparse.ArgumentParser(usage=__doc__)
+    parser.add_argument("--models")
+    parser.add_argument("--budget", default="1000000")
+    parser.add_argument("--seconds", type=float, default=120)
+    parser.add_argument("folders", nargs="+")
+    given = parser.parse_args()
+    wrong = 0
+    print("| log | events | model | solve | seconds | MB | its answer | bytes | seconds | MB |\n|---|---|---|---|---|---|---|---|---|---|")
+    for program in sorted(it for folder in given.folders for it in glob.glob(f"{folder}/*.tc")):
+        log = program[:-3] + ".log"
+        if not os.path.exists(log):
+            continue
+        with open(program, newline="") as text, open(log, "rb") as bytes_:
+            code, read = machine.Code(text.read()), machine.Log.read(bytes_.read())
+        events = machine.shown(code, read).split("\n")[0].split()[-2]
+        for model in (given.models or read.model).split(","):
+            name = os.path.relpath(program[:-3], os.path.commonpath([os.path.abspath(it) for it in given.folders]))
+            with tempfile.NamedTemporaryFile() as out:
+                solved = run(given.seconds, "solve", program, log, out.name, "--model", model, "--budget", given.budget)
+                if solved is None:
+                    print(f"| {name} | {events} | {model} | more than {given.seconds:.0f} s | | | | | | |", flush=True)
+                    continue
+                answer, status, seconds, memory = solved
+                command = "replay" if status == 0 else "check"
+                taken, told, more, needed = run(given.seconds, command, program, log, out.name) or ("too long", -1, 0, 0)
+                wanted = {0: "reproduces", 1: "accepted, impossible", 10: "accepted, open"}.get(status)
+                wrong += taken != wanted
+                size = os.path.getsize(out.name)
+                print(f"| {name} | {events} | {model} | {answer} | {seconds:.2f} | {memory:.0f} | {taken} | {size:,} | {more:.2f} | {needed:.0f} |",
+                      flush=True)
+    return 1 if wrong else 0
+
+
+raise SystemExit(main())

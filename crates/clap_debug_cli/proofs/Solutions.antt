@@ -1,0 +1,93 @@
+-- What a search found, as an answer and as what is kept.
+use Rattle.std.proofs.Common.{◌≡◌, ap, sym, subst, refl, ℕ, List, Option, true, unwrap_or}
+use Rattle.tc_base.specs.Buffers.{buffer_of, no_buffer, fifo_buffer, cell_buffer}
+use Rattle.tc_base.specs.Logs.{Log}
+use Rattle.tc_base.specs.declared.model.Model.{Model}
+use Rattle.tc_base.specs.declared.model.Model.TheVariants.{Sc, Tso, Pso}
+use Rattle.tc_base.specs.declared.moves.Move.{Move}
+use Rattle.refute_check.specs.declared.line.Line.{Line}
+use Rattle.tc_code.specs.Code.{Code}
+use Rattle.tc_code.specs.Run.{Reproduces}
+use Rattle.path_log.specs.Texts.{StoredLog}
+use Rattle.store_buffers.specs.Pending.{binds_all, binds_cells}
+use Rattle.store_buffers.specs.helpers.Partial.{pso_laws}
+use Rattle.store_buffers.specs.helpers.Sequential.{sc_laws}
+use Rattle.store_buffers.specs.helpers.Total.{tso_laws}
+use Rattle.run_models.specs.Models.{moves_as}
+use Rattle.run_models.proofs.Simulation.{reproduces_under_more}
+use Rattle.clap_solve.specs.declared.answer.Answer.TheVariants as found
+use Rattle.tc_compile.proofs.OnePrograms.{one_code}
+use Rattle.clap_debug_cli.specs.Causes.{IsSolveAnswer}
+use Rattle.clap_debug_cli.specs.Recorded.{IsRecorded, run_of, with_digest}
+use Rattle.clap_debug_cli.specs.Solved.{IsPossible, IsSolution, allows, model_for, solution}
+use Rattle.clap_debug_cli.specs.declared.answer.Answer.TheVariants.{Solved}
+use Rattle.clap_debug_cli.specs.declared.answer.Solution.{Solution}
+use Rattle.clap_debug_cli.proofs.OneFiles.{one_log}
+
+-- what is answered was found
+pub solution_of : (program log : List ℕ) (model : Option Model) (budget : ℕ) (x : Solution) → IsSolveAnswer program log model budget (Solved x)
+    → IsSolution program log model budget x
+solution_of program log model budget x w = record {
+  code = w.0;
+  run = w.2.0;
+  programs = w.1;
+  logs = w.2.1;
+  recorded = w.2.2.0;
+  within = w.2.2.1.0;
+  searched = w.2.2.1.1;
+}
+
+pub solved_answer : (program log : List ℕ) (model : Option Model) (budget : ℕ) (x : Solution) → IsSolution program log model budget x
+    → IsSolveAnswer program log model budget (Solved x)
+solved_answer program log model budget x s = (s.code, s.programs, (s.run, s.logs, (s.recorded, (s.within, s.searched))))
+
+-- what is possible isn't called impossible
+module _ (program log : List ℕ) (model : Option Model) (budget : ℕ) (m : Model) (ls : List Line)
+    (s : IsSolution program log model budget (solution m budget (found.Impossible ls))) (p : IsPossible program log model) where
+  there : Reproduces (buffer_of (model_for model s.run.log)) s.code s.run.log p.moves
+  there =
+      subst (λ (r : StoredLog). Reproduces (buffer_of (model_for model r.log)) s.code r.log p.moves) (one_log log p.run s.run p.logs s.logs)
+      (subst (λ c. Reproduces (buffer_of (model_for model p.run.log)) c p.run.log p.moves) (one_code program p.code s.code p.programs s.programs) p.reproduces)
+
+  pub possible_or_not : ⊥
+  possible_or_not = s.searched.found.1 p.moves (subst (λ n. Reproduces (buffer_of n) s.code s.run.log p.moves) (sym s.searched.model_is) there)
+
+-- a model that allows more lets a log be reproduced too
+more : (m n : Model) → allows m n ≡ true → (code : Code) (log : Log) (moves : List Move) → Reproduces (buffer_of m) code log moves
+    → (others : List Move) × Reproduces (buffer_of n) code log others
+more Sc Sc e code log moves r = (moves, r)
+more Tso Tso e code log moves r = (moves, r)
+more Pso Pso e code log moves r = (moves, r)
+more Sc Tso e code log moves r = (
+  moves_as no_buffer code true binds_all moves,
+  reproduces_under_more no_buffer fifo_buffer Sc Tso binds_all binds_all sc_laws tso_laws (record { binds = λ _ _ b. b; buffers = λ _. refl }) code log moves r,
+)
+more Sc Pso e code log moves r = (
+  moves_as no_buffer code true binds_cells moves,
+  reproduces_under_more no_buffer cell_buffer Sc Pso binds_all binds_cells sc_laws pso_laws
+      (record { binds = λ _ _ b. refl; buffers = λ _. refl }) code log moves r,
+)
+more Tso Pso e code log moves r = (
+  moves_as fifo_buffer code true binds_cells moves,
+  reproduces_under_more fifo_buffer cell_buffer Tso Pso binds_all binds_cells tso_laws pso_laws
+      (record { binds = λ _ _ b. refl; buffers = λ _. refl }) code log moves r,
+)
+more Tso Sc e code log moves r = cc
+more Pso Sc e code log moves r = cc
+more Pso Tso e code log moves r = cc
+
+-- what was recorded is possible, under its model and under each that allows more
+pub recorded_possible : (program log : List ℕ) (made : Model) (seed steps : ℕ) (model : Option Model) → IsRecorded program made seed steps log
+    → allows made (unwrap_or model made) ≡ true → IsPossible program log model
+recorded_possible program log made seed steps model w e =
+    let is = w.2 in
+    let same : unwrap_or model made ≡ model_for model is.log = ap (unwrap_or model) (sym is.is.model) in
+    let others = more made (model_for model is.log) (subst (λ n. allows made n ≡ true) same e) w.0 is.log (run_of made w.0 seed steps).moves is.reproduced in
+    record {
+      code = w.0;
+      run = with_digest program is.log;
+      programs = w.1;
+      logs = record { has_text = is.has_text; text = is.is_text };
+      moves = others.0;
+      reproduces = others.1;
+    }

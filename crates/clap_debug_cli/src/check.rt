@@ -1,0 +1,288 @@
+//! Checking a refutation, of which no more is kept than the line that isn't ended and the clauses that may still be named.
+ghost use Rattle.std.specs.Prelude.{◌≡◌, ◌<◌, ◌≤◌, ◌++◌, ℕ, List, length, take, None, Ok, IfOk, IfErr, OnOk, IfSome, IsSome};
+ghost use Rattle.tc_base.specs.declared.limits.TheConstants.{PROGRAM_BYTES};
+ghost use Rattle.tc_code.specs.Code.{Code};
+ghost use Rattle.tc_io.specs.Outside.{Opened, GaveReading};
+ghost use Rattle.path_log.specs.Texts.{StoredLog};
+ghost use Rattle.refute_check.specs.Reading.{beginning, first_breach};
+ghost use Rattle.refute_check.specs.Refutations.{start, verdict};
+ghost use Rattle.clap_solve.specs.Clauses.{model_clauses};
+ghost use Rattle.clap_solve.specs.Solved.{IsWithin};
+ghost use Rattle.clap_system.specs.Faults.{IsBuildFault};
+ghost use Rattle.clap_debug_cli.specs.Causes.{IsCheckAnswer, IsClausesAnswer, IsRefutationAnswer};
+ghost use Rattle.clap_debug_cli.specs.Files.{IsOfOther};
+ghost use Rattle.clap_debug_cli.specs.Inputs.{InPieces};
+ghost use Rattle.clap_debug_cli.specs.declared.answer.Answer.TheVariants.{Accepted, RefutationRefused};
+ghost use Rattle.clap_debug_cli.specs.declared.check.Stage.TheVariants.{Begins};
+ghost use Rattle.clap_debug_cli.specs.helpers.Incoming.{HasRoom, IsBegun, IsRead, IsWhyUnaccepted, IsWhyUnchecked, IsWhyUnshown, stage_after};
+ghost use Rattle.clap_debug_cli.specs.helpers.Refused.{IsWhyMissing, Refuses};
+
+use crate::answer::{Answer, FileName};
+use crate::input::{of_program, read_both};
+use clap_solve::check_start;
+use clap_system::BuildFault;
+use path_log::Log;
+use refute_check::{CheckFault, Checked, Checker, Head, Line, RefutationText, Taken};
+use std::alloc::{AllocError, Global};
+use store_buffers::{PsoModel, Sc, TsoModel};
+use tc_base::Model;
+use tc_code::Code;
+use tc_io::{OpenFault, PieceFault, Shelf};
+
+/// The bytes that are read at once, at most.
+const PIECE: usize = 65_536;
+
+/// A program, its code, and a log of which a refutation speaks.
+#[derive(Drop)]
+struct Task<'p> {
+    program: &'p [u8],
+    code: Code,
+    log: Log,
+}
+
+/// What is made of the lines of a refutation.
+#[derive(Drop)]
+enum Stage<'a> {
+    /// Its first line isn't ended.
+    Begins,
+    /// Its first line names a number of switches: of such ones nothing is checked.
+    Counts,
+    /// Its lines aren't checked, since there is this to be answered.
+    Refuses(Answer<'a>),
+    /// They are checked.
+    Checks(Checker),
+}
+
+/// A refutation that is read.
+#[derive(Drop)]
+struct Incoming<'a> {
+    text: RefutationText,
+    stage: Stage<'a>,
+}
+
+/// What the refutation of this name shows. It is read to its end, whatever is found before.
+pub(crate) fn checked<'a, H: Shelf>(
+    alloc: Global,
+    shelf: &mut H,
+    program: &[u8],
+    log: &[u8],
+    name: &'a str,
+) -> Result<Checked, Answer<'a>>
+    requires { length program.now ≤ PROGRAM_BYTES }
+    ensures accepted { IfOk result (λ checked. (bytes : List ℕ) × GaveReading (H.tells shelf.old) (H.tells shelf.new) name.now bytes
+        × IsCheckAnswer program.now log.now bytes (Accepted checked)) }
+    ensures answer { IfErr result (IsWhyUnaccepted program.now log.now name.now (H.tells shelf.old) (H.tells shelf.new)) }
+{
+    match read_both(alloc, program, log) {
+        Ok((code, log)) => {
+            let incoming = read(alloc, shelf, name, &Task { program, code, log })?;
+            incoming.verdict()
+        }
+        Err(answer) => {
+            read_over(alloc, shelf, name)?;
+            Err(answer)
+        }
+    }
+}
+
+/// Opens a refutation.
+fn open<'a, H: Shelf>(alloc: Global, shelf: &mut H, name: &'a str) -> Result<(), Answer<'a>>
+    ensures opened { OnOk result (Opened (H.tells shelf.old) (H.tells shelf.new) name.now) }
+    ensures missing { IfErr result (IsWhyMissing (InPieces name.now) (H.tells shelf.old) (H.tells shelf.new)) }
+{
+    match shelf.open(alloc, name) {
+        Ok(()) => Ok(()),
+        Err(OpenFault::Failed) => Err(Answer::ReadFault(FileName::new(name))),
+        Err(OpenFault::Memory) => Err(Answer::NoMemory),
+    }
+}
+
+/// Reads a refutation to its end, and looks at none of it.
+fn read_over<'a, H: Shelf>(alloc: Global, shelf: &mut H, name: &'a str) -> Result<(), Answer<'a>>
+    ensures gave { OnOk result ((bytes : List ℕ) × GaveReading (H.tells shelf.old) (H.tells shelf.new) name.now bytes) }
+    ensures missing { IfErr result (IsWhyMissing (InPieces name.now) (H.tells shelf.old) (H.tells shelf.new)) }
+{
+    open(alloc, shelf, name)?;
+    let mut piece = [0u8; PIECE];
+    for _turn in 0..u64::MAX {
+        match shelf.piece(&mut piece) {
+            Ok(0) => return Ok(()),
+            Ok(_) => {}
+            Err(PieceFault::Failed) => return Err(Answer::ReadFault(FileName::new(name))),
+        }
+    }
+    // There is no memory that has so many pieces.
+    Err(Answer::NoMemory)
+}
+
+/// Reads a refutation to its end, and takes its lines.
+fn read<'a, H: Shelf>(
+    alloc: Global,
+    shelf: &mut H,
+    name: &'a str,
+    task: &Task,
+) -> Result<Incoming<'a>, Answer<'a>>
+    ensures gave { IfOk result (λ incoming. (bytes : List ℕ) × GaveReading (H.tells shelf.old) (H.tells shelf.new) name.now bytes
+        × IsRead task.now.program.now task.now.code task.now.log incoming bytes) }
+    ensures missing { IfErr result (IsWhyMissing (InPieces name.now) (H.tells shelf.old) (H.tells shelf.new)) }
+{
+    open(alloc, shelf, name)?;
+    let mut incoming = Incoming::new(alloc);
+    let mut piece = [0u8; PIECE];
+    for _turn in 0..u64::MAX {
+        match shelf.piece(&mut piece) {
+            Ok(0) => return Ok(incoming),
+            Ok(count) => incoming.take(alloc, task, &piece[..count])?,
+            Err(PieceFault::Failed) => return Err(Answer::ReadFault(FileName::new(name))),
+        }
+    }
+    // There is no memory that has so many pieces.
+    Err(Answer::NoMemory)
+}
+
+impl<'a> Incoming<'a> {
+    /// A refutation of which no byte was taken.
+    fn new(alloc: Global) -> Incoming<'a>
+        ensures text { result.text ≡ beginning }
+        ensures stage { result.stage ≡ Begins }
+    {
+        Incoming {
+            text: RefutationText::new(alloc),
+            stage: Stage::Begins,
+        }
+    }
+
+    /// Takes the next bytes.
+    fn take(&mut self, alloc: Global, task: &Task, bytes: &[u8]) -> Result<(), AllocError>
+        requires { (front : List ℕ) × IsRead task.now.program.now task.now.code task.now.log self.old front }
+        ensures { OnOk result ((front : List ℕ) → IsRead task.now.program.now task.now.code task.now.log self.old front
+            → IsRead task.now.program.now task.now.code task.now.log self.new (front ++ bytes.now)) }
+    {
+        let mut from = 0;
+        while from < bytes.len() {
+            from += self.take_line(alloc, task, &bytes[from..])?;
+        }
+        Ok(())
+    }
+
+    /// Takes bytes up to the first line's end, and says how many: all where the form is broken.
+    fn take_line(&mut self, alloc: Global, task: &Task, bytes: &[u8]) -> Result<usize, AllocError>
+        requires some { 0 < length bytes.now }
+        requires read { (front : List ℕ) × IsRead task.now.program.now task.now.code task.now.log self.old front }
+        ensures count { IfOk result (λ n. (0 < n) × (n ≤ length bytes.now)) }
+        ensures read { IfOk result (λ n. (front : List ℕ) → IsRead task.now.program.now task.now.code task.now.log self.old front
+            → IsRead task.now.program.now task.now.code task.now.log self.new (front ++ take n bytes.now)) }
+    {
+        let (count, taken) = self.text.take(bytes)?;
+        match taken {
+            Taken::More => {}
+            Taken::Header(head) => self.stage = begun(alloc, task, head),
+            Taken::Line(line) => self.stage.take(&line)?,
+            Taken::Form(_) => return Ok(bytes.len()),
+        }
+        Ok(count)
+    }
+
+    /// What was shown, where no more bytes come.
+    fn verdict(self) -> Result<Checked, Answer<'a>>
+        ensures accepted { IfOk result (λ checked. (program : List ℕ) (code : Code) (run : StoredLog) (bytes : List ℕ)
+            → IsRead program code run self.entry bytes → IsRefutationAnswer bytes (IsClausesAnswer program code run) (Accepted checked)) }
+        ensures answer { IfErr result (λ a. (program : List ℕ) (code : Code) (run : StoredLog) (bytes : List ℕ)
+            → IsRead program code run self.entry bytes → Refuses (IsRefutationAnswer bytes (IsClausesAnswer program code run)) a) }
+    {
+        let Incoming { text, stage } = self;
+        match stage {
+            Stage::Begins | Stage::Counts => Err(Answer::RefutationRefused(1)),
+            Stage::Refuses(answer) => {
+                finish(&text)?;
+                Err(answer)
+            }
+            Stage::Checks(checker) => {
+                finish(&text)?;
+                shown(&checker)
+            }
+        }
+    }
+}
+
+impl<'a> Stage<'a> {
+    /// Takes another line.
+    fn take(&mut self, line: &Line) -> Result<(), AllocError>
+        requires { HasRoom self.old }
+        ensures { OnOk result (self.new ≡ stage_after self.old line.now) }
+    {
+        let Stage::Checks(checker) = self else {
+            return Ok(());
+        };
+        match checker.add(line) {
+            Err(CheckFault::Memory) => Err(AllocError),
+            Ok(()) | Err(_) => Ok(()),
+        }
+    }
+}
+
+/// What is made of the first line.
+fn begun<'a>(alloc: Global, task: &Task, head: Head) -> Stage<'a>
+    ensures { IsBegun task.now.program.now task.now.code task.now.log head.model head.switches result }
+{
+    if head.switches.is_some() {
+        return Stage::Counts;
+    }
+    match start(alloc, task, head.model) {
+        Ok(checker) => Stage::Checks(checker),
+        Err(answer) => Stage::Refuses(answer),
+    }
+}
+
+/// A checker over the clauses of the log under a memory model.
+fn start<'a>(alloc: Global, task: &Task, model: Model) -> Result<Checker, Answer<'a>>
+    ensures checker { IfOk result (λ checker. checker ≡ start (model_clauses model task.now.code task.now.log.log)) }
+    ensures same { OnOk result (IsOfOther task.now.program.now task.now.log → ⊥) }
+    ensures within { OnOk result (IsWithin task.now.code task.now.log.log) }
+    ensures answer { IfErr result (IsWhyUnchecked task.now.program.now task.now.code task.now.log) }
+{
+    of_program(task.program, &task.log)?;
+    let checker = start_under(alloc, &task.code, &task.log, model)?;
+    Ok(checker)
+}
+
+fn start_under(alloc: Global, code: &Code, log: &Log, model: Model) -> Result<Checker, BuildFault>
+    ensures checker { IfOk result (λ checker. checker ≡ start (model_clauses model code.now log.now.log)) }
+    ensures within { OnOk result (IsWithin code.now log.now.log) }
+    ensures fault { IfErr result (IsBuildFault code.now log.now.log) }
+{
+    match model {
+        Model::Sc => check_start::<Sc>(alloc, code, log),
+        Model::Tso => check_start::<TsoModel>(alloc, code, log),
+        Model::Pso => check_start::<PsoModel>(alloc, code, log),
+    }
+}
+
+/// Tests that the bytes so far are those of a refutation.
+fn finish<'a>(text: &RefutationText) -> Result<(), Answer<'a>>
+    ensures ok { OnOk result (first_breach text.now ≡ None) }
+    ensures answer { IfErr result (λ a. IfSome (first_breach text.now) (λ line. a ≡ RefutationRefused line)) }
+    ensures broken { IfErr result (λ a. IsSome (first_breach text.now)) }
+{
+    match text.finish() {
+        Ok(()) => Ok(()),
+        Err(line) => Err(Answer::RefutationRefused(line)),
+    }
+}
+
+/// What the lines that a checker took show.
+fn shown<'a>(checker: &Checker) -> Result<Checked, Answer<'a>>
+    ensures checked { IfOk result (λ checked. verdict checker.now ≡ Ok checked) }
+    ensures answer { IfErr result (IsWhyUnshown checker.now) }
+{
+    match checker.verdict() {
+        Ok(checked) => Ok(checked),
+        Err(
+            CheckFault::NoVariable(line)
+            | CheckFault::NoClause(line)
+            | CheckFault::Hint(line)
+            | CheckFault::NoConflict(line),
+        ) => Err(Answer::LineRefused(line)),
+        Err(CheckFault::Memory) => Err(Answer::NoMemory),
+    }
+}

@@ -1,0 +1,14 @@
+//! The budget of a search.
+ghost use Rattle.std.specs.Prelude.{◌≤◌};
+ghost use Rattle.tc_base.specs.declared.limits.TheConstants.{BUDGET};
+
+/// The conflicts of a search where no number is written.
+pub const USUAL_BUDGET: u32 = 1_000_000;
+
+/// How many conflicts a search may have.
+#[derive(Clone, Copy, Debug)]
+pub struct Budget {
+    pub conflicts: u32,
+    ghost some: { 1 ≤ conflicts },
+    ghost room: { conflicts ≤ BUDGET },
+}

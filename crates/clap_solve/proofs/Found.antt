@@ -1,0 +1,56 @@
+-- What satisfies the clauses of a log says a world that has a schedule.
+use Rattle.std.proofs.Common.{◌≡◌, ◌∙◌, true, false, List, [], Bool, sym, ap, subst}
+use Rattle.std.specs.Prelude.{IsTrue, if◌then◌else◌}
+use Rattle.tc_base.specs.Buffers.{BufferOps}
+use Rattle.tc_base.specs.Logs.{Log}
+use Rattle.tc_base.specs.declared.model.Model.{Model}
+use Rattle.tc_code.specs.Code.{Code}
+use Rattle.tc_code.specs.Lawful.{IsLawful}
+use Rattle.store_buffers.specs.Laws.{Laws}
+use Rattle.store_buffers.specs.Pending.{Binding}
+use Rattle.path_log.specs.Texts.{is_log}
+use Rattle.order_formula.specs.Worlds.{World}
+use Rattle.cnf_core.specs.Clauses.{Valuation, satisfies, value_in}
+use Rattle.bit_order.specs.Readings.{world_of}
+use Rattle.bit_blast.specs.Blasted.{impossible}
+use Rattle.world_plan.specs.Going.{IsLawfulWorld}
+use Rattle.schedule_decode.specs.Decodable.{IsDecodable}
+use Rattle.clap_system.specs.Systems.{system_of}
+use Rattle.orders_are_runs.proofs.Systems.{grows, possible_is_lawful}
+use Rattle.clap_solve.specs.Clauses.{blasted_by}
+use Rattle.clap_solve.specs.Posed.{Posed, posed_of}
+use Rattle.clap_solve.specs.Solved.{IsWithin}
+use Rattle.clap_solve.proofs.Meaning.{possible}
+
+-- what satisfies the clauses of one satisfies those of the other
+pub own_satisfied : (p q : Posed) (v : Valuation) → p ≡ q → IsTrue (satisfies v p.blasted.clauses.clauses) → IsTrue (satisfies v q.blasted.clauses.clauses)
+own_satisfied p q v same satisfied = subst (λ (x : Posed). IsTrue (satisfies v x.blasted.clauses.clauses)) same satisfied
+
+-- and then the paths aren't dead
+pub lives : (buffered : Bool) (bound : Binding) (code : Code) (log : Log) → IsLawful code → IsWithin code log → (p : Posed)
+    → p ≡ posed_of buffered bound code log → (v : Valuation) → IsTrue (satisfies v p.blasted.clauses.clauses) → p.paths.dead ≡ false
+lives buffered bound code log lawful within p by v satisfied =
+    ap (λ (q : Posed). q.paths.dead) by
+    ∙ (possible buffered bound code log lawful within v (own_satisfied p (posed_of buffered bound code log) v by satisfied)).0.lives
+
+pub decodable : {B : Type 0} (ops : BufferOps B) (model : Model) (bound : Binding) (code : Code) (log : Log) → Laws ops model bound → IsLawful code
+    → is_log log ≡ true → IsWithin code log → (posed : Posed) → posed ≡ posed_of ops.buffered bound code log → (values : List Bool)
+    → IsTrue (satisfies (value_in values) posed.blasted.clauses.clauses) → (w : World) → w ≡ world_of posed.blasted.layout (value_in values)
+    → IsDecodable ops model bound code posed.paths posed.symbolic posed.nodes w
+decodable ops model bound code log laws lawful is within posed by values satisfied w is_said =
+    let v = value_in values in
+    let s = system_of ops.buffered bound code log in
+    let p = possible ops.buffered bound code log lawful within v (own_satisfied posed (posed_of ops.buffered bound code log) v by satisfied) in
+    let more = grows ops model bound code log laws lawful is within.fits in
+    let same : w ≡ p.0.world =
+    is_said ∙ ap (λ (q : Posed). world_of q.blasted.layout v) by
+    ∙ ap (λ (dead : Bool). world_of (if dead then impossible else blasted_by s).layout v) p.0.lives ∙ sym p.1 in
+    record {
+      log = log;
+      first = [];
+      more = more.0;
+      paths_are = ap (λ (q : Posed). q.paths) by;
+      symbolic_is = ap (λ (q : Posed). q.symbolic) by;
+      nodes_are = ap (λ (q : Posed). q.nodes) by ∙ more.1;
+      lawful = subst (IsLawfulWorld ops model bound code log []) (sym same) (possible_is_lawful ops model bound code log laws lawful is within.fits p.0);
+    }

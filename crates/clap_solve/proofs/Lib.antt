@@ -1,0 +1,7 @@
+pub mod Ordered
+pub mod Loads
+pub mod Room
+pub mod Meaning
+pub mod Found
+pub mod Answered
+mod Posing

@@ -1,0 +1,29 @@
+-- What another solver's answer comes to.
+use Rattle.std.specs.Prelude.{◌≡◌, ℕ, suc, List, ℤ, IsTrue}
+use Rattle.tc_base.specs.Buffers.{BufferOps}
+use Rattle.tc_base.specs.Logs.{Log}
+use Rattle.tc_base.specs.declared.model.Model.{Model}
+use Rattle.tc_code.specs.Code.{Code}
+use Rattle.tc_code.specs.Run.{Reproduces}
+use Rattle.store_buffers.specs.Pending.{Binding}
+use Rattle.cnf_core.specs.Clauses.{Formula, Valuation, satisfies, value_in}
+use Rattle.dimacs_text.specs.Values.{IsFirstFalse, assigned}
+use Rattle.clap_solve.specs.Clauses.{clauses_of}
+use Rattle.clap_solve.specs.declared.imported.Imported.{Imported}
+use Rattle.clap_solve.specs.declared.imported.Imported.TheVariants.{Found, False}
+
+-- the values that literals give the variables of some clauses
+abbrev pub values_of : Formula → List ℤ → Valuation
+values_of f literals = value_in (assigned f.vars literals)
+
+-- the clause of a number, from 1, is the first that they leave false
+abbrev pub IsFalseOf : Formula → List ℤ → ℕ → Type 0
+IsFalseOf f literals number = (place : ℕ) × (number ≡ suc place) × IsFirstFalse (values_of f literals) f.clauses place
+
+module _ {B : Type 0} (ops : BufferOps B) (model : Model) (bound : Binding) (code : Code) (log : Log) (literals : List ℤ) where
+  -- they satisfy the log's clauses, and a schedule of the model reproduces it; or a clause is the first that they leave false
+  abbrev pub IsImported : Imported → Type 0
+  IsImported (Found schedule) =
+      IsTrue (satisfies (values_of (clauses_of ops.buffered bound code log) literals) (clauses_of ops.buffered bound code log).clauses)
+      × (schedule.model ≡ model) × Reproduces ops code log schedule.moves.items
+  IsImported (False number) = IsFalseOf (clauses_of ops.buffered bound code log) literals number

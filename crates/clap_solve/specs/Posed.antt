@@ -1,0 +1,44 @@
+-- The clauses of a log, with all that they are made of.
+use Rattle.std.specs.Prelude.{◌≡◌, ◌≤◌, Bool, true, List}
+use Rattle.std.specs.List.{All}
+use Rattle.tc_base.specs.Logs.{Log}
+use Rattle.tc_base.specs.declared.limits.TheConstants.{STEPS}
+use Rattle.tc_code.specs.Code.{Code}
+use Rattle.tc_code.specs.Lawful.{IsLawful}
+use Rattle.store_buffers.specs.Pending.{Binding}
+use Rattle.path_log.specs.Texts.{is_log}
+use Rattle.path_walk.specs.Paths.{Paths, paths_of}
+use Rattle.sym_terms.specs.declared.node.Node.{Node}
+use Rattle.sym_exec.specs.Executed.{Symbolic}
+use Rattle.order_formula.specs.declared.formula.Conjunct.{Conjunct}
+use Rattle.bit_blast.specs.Blasted.{Blasted}
+use Rattle.clap_system.specs.Systems.{system_of}
+use Rattle.clap_solve.specs.Clauses.{blasted_of}
+use Rattle.clap_solve.specs.Solved.{IsWithin}
+
+pub record Posed : Type 0 where
+  pub paths : Paths
+  -- what the paths come to, with terms in place of values
+  pub symbolic : Symbolic
+  -- the terms
+  pub nodes : List Node
+  -- the rules of all groups: where the paths aren't dead, each conjunct has its clause at the end, in order
+  pub formula : List Conjunct
+  pub blasted : Blasted
+
+-- by whether there are buffers, and which stores are bound
+abbrev pub posed_of : Bool → Binding → Code → Log → Posed
+posed_of buffered bound code log = record {
+  paths = paths_of code log;
+  symbolic = (system_of buffered bound code log).symbolic;
+  nodes = (system_of buffered bound code log).nodes;
+  formula = (system_of buffered bound code log).formula;
+  blasted = blasted_of buffered bound code log;
+}
+
+-- what holds of all code and of each log, and that the log is within the limits
+pub record IsGiven (code : Code) (log : Log) : Type 0 where
+  pub lawful : IsLawful code
+  pub is_log : is_log log ≡ true
+  pub steps : All (λ t. t.path.steps ≤ STEPS) log.threads
+  pub within : IsWithin code log

@@ -1,0 +1,44 @@
+-- What a search for a schedule of a log comes to.
+use Rattle.std.specs.Prelude.{◌≡◌, ℕ, ◌≤◌, List}
+use Rattle.tc_base.specs.Buffers.{BufferOps}
+use Rattle.tc_base.specs.Logs.{Log}
+use Rattle.tc_base.specs.declared.limits.TheConstants.{EVENTS, OPERATORS}
+use Rattle.tc_base.specs.declared.model.Model.{Model}
+use Rattle.tc_base.specs.declared.moves.Move.{Move}
+use Rattle.tc_code.specs.Code.{Code}
+use Rattle.tc_code.specs.Run.{Reproduces}
+use Rattle.store_buffers.specs.Pending.{Binding}
+use Rattle.path_walk.specs.Fits.{Fits}
+use Rattle.path_walk.specs.Paths.{paths_of}
+use Rattle.refute_check.specs.Refutations.{IsClosed}
+use Rattle.cdcl_core.specs.Solving.{Solves}
+use Rattle.cdcl_core.specs.declared.progress.Solved.TheVariants as solved
+use Rattle.clap_system.specs.Faults.{IsShallow}
+use Rattle.clap_solve.specs.Clauses.{clauses_of}
+use Rattle.clap_solve.specs.declared.answer.Answer.{Answer}
+use Rattle.clap_solve.specs.declared.answer.Answer.TheVariants.{Found, Impossible, Spent}
+
+-- a log fits the code, and neither it nor its paths have too much of anything
+pub record IsWithin (code : Code) (log : Log) : Type 0 where
+  pub shallow : IsShallow log
+  pub fits : Fits code log
+  pub events : (paths_of code log).events ≤ EVENTS
+  pub operators : (paths_of code log).operators ≤ OPERATORS
+
+module _ {B : Type 0} (ops : BufferOps B) where
+  -- no moves reproduce the log
+  abbrev pub IsImpossible : Code → Log → Type 0
+  IsImpossible code log = (moves : List Move) → Reproduces ops code log moves → ⊥
+
+  module _ (model : Model) (bound : Binding) (code : Code) (log : Log) (budget : ℕ) where
+    -- a schedule is of the model and reproduces the log; a derivation is closed on the log's clauses, and no moves reproduce it; or it is
+    -- open, fresh and deletes few clauses, and has as many added lines as the budget says, none of them empty
+    abbrev pub IsAnswer : Answer → Type 0
+    IsAnswer (Found schedule) = (schedule.model ≡ model) × Reproduces ops code log schedule.moves.items
+    IsAnswer (Impossible lines) = IsClosed (clauses_of ops.buffered bound code log) lines × IsImpossible code log
+    IsAnswer (Spent lines) = Solves (clauses_of ops.buffered bound code log) budget (solved.Spent lines)
+
+    -- so is the answer, and the log is within the limits
+    pub record IsSolved (answer : Answer) : Type 0 where
+      pub within : IsWithin code log
+      pub is : IsAnswer answer

@@ -1,0 +1,3 @@
+-- No promise speaks of what stands in this folder: private contracts alone cite it.
+pub mod From
+pub mod Searched

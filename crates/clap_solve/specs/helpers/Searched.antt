@@ -1,0 +1,60 @@
+-- What a search of a log's clauses comes to.
+use Rattle.std.specs.Prelude.{◌≡◌, ◌<◌, ◌≤◌, ℕ, suc, Bool, true, false, IsTrue, List, length}
+use Rattle.tc_base.specs.Buffers.{BufferOps}
+use Rattle.tc_base.specs.Logs.{Log}
+use Rattle.tc_base.specs.declared.model.Model.{Model}
+use Rattle.tc_base.specs.declared.moves.Move.{Move}
+use Rattle.tc_code.specs.Code.{Code}
+use Rattle.tc_code.specs.Run.{Reproduces}
+use Rattle.store_buffers.specs.Pending.{Binding}
+use Rattle.path_log.specs.Texts.{is_log}
+use Rattle.path_walk.specs.Fits.{Fits}
+use Rattle.path_walk.specs.Paths.{paths_of}
+use Rattle.cnf_core.specs.Clauses.{satisfies, value_in}
+use Rattle.dimacs_text.specs.Values.{IsFirstFalse}
+use Rattle.cdcl_core.specs.declared.progress.Solved.{Solved}
+use Rattle.cdcl_core.specs.declared.progress.Solved.TheVariants as solved
+use Rattle.clap_solve.specs.Posed.{IsGiven, Posed, posed_of}
+use Rattle.clap_solve.specs.declared.answer.Answer.{Answer}
+use Rattle.clap_solve.specs.declared.answer.Answer.TheVariants.{Found, Impossible, Spent}
+use Rattle.clap_solve.specs.declared.imported.Imported.{Imported}
+use Rattle.clap_solve.specs.declared.imported.Imported.TheVariants as imported
+
+module _ (buffered : Bool) (bound : Binding) (code : Code) (p : Posed) where
+  -- all this is of some log, and there is a value for each variable
+  pub record IsPosed (values : List Bool) : Type 0 where
+    pub log : Log
+    pub given : IsGiven code log
+    pub posed : p ≡ posed_of buffered bound code log
+    pub variables : p.paths.dead ≡ false → 0 < p.blasted.clauses.vars
+    pub all : p.blasted.clauses.vars ≤ length values
+
+  -- and the values satisfy the clauses
+  pub record IsSatisfied (values : List Bool) : Type 0 where
+    pub posed : IsPosed values
+    pub satisfies : IsTrue (satisfies (value_in values) p.blasted.clauses.clauses)
+
+  -- so do those that a search found, if it found any
+  abbrev pub IsSearched : Solved → Type 0
+  IsSearched (solved.Sat values) = IsSatisfied values
+  IsSearched _ = Unit {0}
+
+module _ {B : Type 0} (ops : BufferOps B) (code : Code) (p : Posed) where
+  -- moves reproduce each log of these paths
+  abbrev pub ReproduceEach : List Move → Type 0
+  ReproduceEach moves = (log : Log) → is_log log ≡ true → Fits code log → paths_of code log ≡ p.paths → Reproduces ops code log moves
+
+  module _ (model : Model) where
+    -- the answer that a search comes to: a schedule of such moves, or its own derivation
+    abbrev pub IsAnsweredOn : Solved → Answer → Type 0
+    IsAnsweredOn (solved.Sat values) (Found schedule) = (schedule.model ≡ model) × ReproduceEach schedule.moves.items
+    IsAnsweredOn (solved.Unsat lines) (Impossible own) = own ≡ lines
+    IsAnsweredOn (solved.Spent lines) (Spent own) = own ≡ lines
+    IsAnsweredOn _ _ = ⊥
+
+    -- what values come to: a schedule of such moves, where they satisfy the clauses; or the first clause that they leave false
+    abbrev pub IsImportedOn : List Bool → Imported → Type 0
+    IsImportedOn values (imported.Found schedule) =
+        IsTrue (satisfies (value_in values) p.blasted.clauses.clauses) × (schedule.model ≡ model) × ReproduceEach schedule.moves.items
+    IsImportedOn values (imported.False number) =
+        (place : ℕ) × (number ≡ suc place) × IsFirstFalse (value_in values) p.blasted.clauses.clauses place

@@ -1,0 +1,49 @@
+//! Derivations that are held against the clauses of a log.
+ghost use Rattle.std.specs.Prelude.{◌≡◌, IfOk, IfErr, OnOk, Ok};
+ghost use Rattle.refute_check.specs.Refutations.{check, start};
+ghost use Rattle.refute_check.specs.declared.verdict.Checked.TheVariants.{Closed};
+ghost use Rattle.clap_system.specs.Faults.{IsBuildFault};
+ghost use Rattle.clap_solve.specs.Clauses.{clauses_of};
+ghost use Rattle.clap_solve.specs.Faults.{IsCheckImpossibleFault};
+ghost use Rattle.clap_solve.specs.Solved.{IsImpossible, IsWithin};
+
+use crate::CheckImpossibleFault;
+use crate::posed::pose;
+use clap_system::BuildFault;
+use path_log::Log;
+use refute_check::{Checked, Checker, Derivation, check};
+use std::alloc::Global;
+use store_buffers::MemoryModel;
+use tc_code::Code;
+
+/// A checker over the clauses of a log, before any line: the same clauses in which [`solve`](crate::solve) searches.
+///
+/// Where it comes to a closed derivation, no moves reproduce the log: [`closed_is_impossible`](crate::laws::closed_is_impossible).
+pub fn check_start<M: MemoryModel>(
+    alloc: Global,
+    code: &Code,
+    log: &Log,
+) -> Result<Checker, BuildFault>
+    ensures ok { IfOk result (λ checker. checker ≡ start (clauses_of M.BUFFERED M.bound code.now log.now.log)) }
+    ensures within { OnOk result (IsWithin code.now log.now.log) }
+    ensures err { IfErr result (IsBuildFault code.now log.now.log) }
+{
+    let posed = pose::<M>(alloc, code, log)?;
+    Ok(Checker::new(alloc, posed.clauses())?)
+}
+
+/// What a whole derivation shows over the clauses of a log, whoever made it.
+pub fn check_impossible<M: MemoryModel>(
+    alloc: Global,
+    code: &Code,
+    log: &Log,
+    derivation: &Derivation,
+) -> Result<Checked, CheckImpossibleFault>
+    ensures ok { IfOk result (λ checked. check (clauses_of M.BUFFERED M.bound code.now log.now.log) derivation.now ≡ Ok checked) }
+    ensures within { OnOk result (IsWithin code.now log.now.log) }
+    ensures impossible { result ≡ Ok Closed → IsImpossible M.ops code.now log.now.log }
+    ensures err { IfErr result (IsCheckImpossibleFault M.BUFFERED M.bound code.now log.now.log derivation.now) }
+{
+    let posed = pose::<M>(alloc, code, log)?;
+    Ok(check(alloc, posed.clauses(), derivation)?)
+}

@@ -1,0 +1,19 @@
+//! From a program and a log to a schedule that reproduces it, or to a derivation that shows that none does.
+#![tactic(auto)]
+
+mod answer;
+mod checking;
+mod fault;
+mod imported;
+mod importing;
+pub mod laws;
+mod posed;
+mod solving;
+
+pub use answer::Answer;
+pub use checking::{check_impossible, check_start};
+pub use fault::CheckImpossibleFault;
+pub use imported::Imported;
+pub use importing::take_answer;
+pub use posed::{Posed, clauses, pose};
+pub use solving::solve;

@@ -1,0 +1,161 @@
+//! A log's clauses, with all that they are made of.
+ghost use Rattle.std.specs.Prelude.{◌≡◌, ◌≤◌, ◌<◌, false, length, IfOk, IfErr, OnOk, if◌then◌else◌};
+ghost use Rattle.std.specs.List.{All};
+ghost use Rattle.tc_base.specs.declared.limits.TheConstants.{STEPS};
+ghost use Rattle.order_formula.specs.Formulas.{IsOf};
+ghost use Rattle.order_formula.specs.Orders.{ConjunctIsIn};
+ghost use Rattle.bit_blast.specs.Blasted.{blast, impossible};
+ghost use Rattle.clap_system.specs.Faults.{IsBuildFault};
+ghost use Rattle.clap_solve.specs.Clauses.{clauses_of};
+ghost use Rattle.clap_solve.specs.Posed.{IsGiven, posed_of};
+ghost use Rattle.clap_solve.specs.Solved.{IsWithin};
+
+use bit_blast::{Blasted, blast};
+use clap_system::{BuildFault, build};
+use cnf_core::Cnf;
+use order_formula::{Formula, Order};
+use path_log::{Log, ThreadPath};
+use path_walk::Paths;
+use std::alloc::{AllocError, Global};
+use std::marker::Model;
+use store_buffers::MemoryModel;
+use sym_exec::Symbolic;
+use sym_terms::Terms;
+use tc_code::Code;
+
+/// The clauses of a log, with all that they are made of: by it values that satisfy them are read as a schedule, and a clause as a
+/// rule of the program. Contracts see a record of the parts.
+#[derive(Debug, Drop)]
+pub struct Posed {
+    paths: Paths,
+    symbolic: Symbolic,
+    terms: Terms,
+    formula: Formula,
+    blasted: Blasted,
+}
+
+impl Model for Posed {
+    ghost use Rattle.clap_solve.specs.Posed.{Posed as PlainPosed};
+
+    ghost Value = { PlainPosed };
+
+    ghost view = { λ p. record { paths = p.paths; symbolic = p.symbolic; nodes = p.terms; formula = p.formula; blasted = p.blasted } };
+}
+
+impl Posed {
+    /// The paths of the log.
+    pub fn paths(&self) -> &Paths
+        ensures { result.now ≡ self.now.paths }
+    {
+        &self.paths
+    }
+
+    /// What they come to, with terms in place of values.
+    pub fn symbolic(&self) -> &Symbolic
+        ensures { result.now ≡ self.now.symbolic }
+    {
+        &self.symbolic
+    }
+
+    /// The terms of their execution and of the formula.
+    pub fn terms(&self) -> &Terms
+        ensures { result.now ≡ self.now.nodes }
+    {
+        &self.terms
+    }
+
+    /// The formula, of which each conjunct has the group of its rule.
+    pub fn formula(&self) -> &Formula
+        ensures { result.now ≡ self.now.formula }
+    {
+        &self.formula
+    }
+
+    /// The clauses, with the layout of their variables and the place of each conjunct's clause.
+    pub fn blasted(&self) -> &Blasted
+        ensures { result.now ≡ self.now.blasted }
+    {
+        &self.blasted
+    }
+
+    /// The clauses.
+    pub fn clauses(&self) -> &Cnf
+        ensures { result.now ≡ self.now.blasted.clauses }
+    {
+        self.blasted.clauses()
+    }
+
+    /// The clauses, without taking memory.
+    pub fn into_clauses(self) -> Cnf
+        ensures { result ≡ self.blasted.clauses }
+    {
+        self.blasted.into_clauses()
+    }
+}
+
+/// The clauses of a log, under a memory model, with all that they are made of.
+///
+/// Refused is what has no clauses; which log that is, [`build`](clap_system::build) says. Where the paths are dead, the clauses are
+/// those of what is impossible, and the formula has none.
+pub fn pose<M: MemoryModel>(alloc: Global, code: &Code, log: &Log) -> Result<Posed, BuildFault>
+    ensures posed { IfOk result (λ posed. posed ≡ posed_of M.BUFFERED M.bound code.now log.now.log) }
+    ensures variables { IfOk result (λ posed. posed.paths.dead ≡ false → 0 < posed.blasted.clauses.vars) }
+    ensures given { OnOk result (IsGiven code.now log.now.log) }
+    ensures err { IfErr result (IsBuildFault code.now log.now.log) }
+{
+    // Lawful code, and a log whose names rise.
+    let _functions = code.functions();
+    read_steps(log.threads());
+    let (paths, symbolic, terms, order, formula) = build::<M>(alloc, code, log)?.into_parts();
+    let dead = paths.dead();
+    let blasted = blasted(alloc, dead, &terms, &formula, order, symbolic.loads())?;
+    Ok(Posed {
+        paths,
+        symbolic,
+        terms,
+        formula,
+        blasted,
+    })
+}
+
+/// The clauses of a log, under a memory model: those in which [`solve`](crate::solve) searches.
+///
+/// Something satisfies them exactly where some moves reproduce the log: [`clauses_are_runs`](crate::laws::clauses_are_runs). So any
+/// solver may search in their place. Refused is what [`pose`] refuses.
+pub fn clauses<M: MemoryModel>(alloc: Global, code: &Code, log: &Log) -> Result<Cnf, BuildFault>
+    ensures ok { IfOk result (λ clauses. clauses ≡ clauses_of M.BUFFERED M.bound code.now log.now.log) }
+    ensures within { OnOk result (IsWithin code.now log.now.log) }
+    ensures err { IfErr result (IsBuildFault code.now log.now.log) }
+{
+    Ok(pose::<M>(alloc, code, log)?.into_clauses())
+}
+
+/// Reads the steps of each thread, which a log counts in 16 bits.
+fn read_steps(threads: &[ThreadPath])
+    ensures { All (λ t. t.path.steps ≤ STEPS) threads.now }
+{
+    for thread in threads {
+        let _steps = thread.steps();
+    }
+}
+
+/// The clauses of a formula, or of what is impossible where the paths are dead.
+fn blasted(
+    alloc: Global,
+    dead: bool,
+    terms: &Terms,
+    formula: &Formula,
+    order: Order,
+    loads: u32,
+) -> Result<Blasted, AllocError>
+    requires terms { IsOf (length terms.now) formula.now }
+    requires events { order.events ≤ 256 }
+    requires within { All (ConjunctIsIn order) formula.now }
+    ensures blasted { IfOk result (λ blasted. blasted ≡ (if dead then impossible else blast terms.now formula.now order loads)) }
+    ensures variables { IfOk result (λ blasted. dead ≡ false → 0 < blasted.clauses.vars) }
+{
+    if dead {
+        return Blasted::impossible(alloc);
+    }
+    blast(alloc, terms, formula, order, loads)
+}

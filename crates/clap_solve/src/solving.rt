@@ -1,0 +1,95 @@
+//! The search for a schedule.
+ghost use Rattle.std.specs.Prelude.{◌≡◌, ◌≤◌, length, IfOk, IfErr};
+ghost use Rattle.tc_base.specs.declared.limits.TheConstants.{BUDGET, EVENTS};
+ghost use Rattle.lawful_order.specs.Events.{all_events};
+ghost use Rattle.clap_system.specs.Faults.{IsBuildFault};
+ghost use Rattle.clap_solve.specs.Solved.{IsSolved};
+ghost use Rattle.clap_solve.specs.helpers.Searched.{IsAnsweredOn, IsSatisfied, IsSearched, ReproduceEach};
+
+use crate::Answer;
+use crate::posed::{Posed, pose};
+use cdcl_core::{Solved, solve_cnf};
+use clap_system::BuildFault;
+use cnf_core::Assignment;
+use first_run::first_world;
+use path_log::Log;
+use schedule_decode::decode;
+use schedule_file::Schedule;
+use std::alloc::{AllocError, Global};
+use store_buffers::MemoryModel;
+use tc_code::Code;
+
+/// Searches for a schedule that leads the machine of a memory model to the end that a log tells of, each thread along its path,
+/// until there is one, or a derivation that there is none, or so many clauses are learnt.
+///
+/// Refused is what has no clauses; which log that is, [`build`](clap_system::build) says.
+pub fn solve<M: MemoryModel>(
+    alloc: Global,
+    code: &Code,
+    log: &Log,
+    budget: u32,
+) -> Result<Answer, BuildFault>
+    requires some { 1 ≤ budget }
+    requires room { budget ≤ BUDGET }
+    ensures ok { IfOk result (IsSolved M.ops M.MODEL M.bound code.now log.now.log budget) }
+    ensures err { IfErr result (IsBuildFault code.now log.now.log) }
+{
+    let posed = pose::<M>(alloc, code, log)?;
+    let first = first_values::<M>(alloc, code, &posed)?;
+    let solved = solve_cnf(alloc, posed.clauses(), first.as_slice(), budget)?;
+    Ok(answer::<M>(alloc, code, &posed, solved)?)
+}
+
+/// The values that a search tries first: those of the world of one run along the paths.
+fn first_values<M: MemoryModel>(
+    alloc: Global,
+    code: &Code,
+    posed: &Posed,
+) -> Result<Vec<bool>, AllocError>
+    requires { length (all_events posed.now.paths) ≤ EVENTS }
+{
+    let world = first_world::<M>(alloc, code, posed.paths(), posed.symbolic(), posed.terms())?;
+    posed.blasted().first_values(alloc, &world)
+}
+
+/// The answer that a search of a log's clauses comes to.
+fn answer<M: MemoryModel>(
+    alloc: Global,
+    code: &Code,
+    posed: &Posed,
+    solved: Solved,
+) -> Result<Answer, AllocError>
+    requires { IsSearched M.BUFFERED M.bound code.now posed.now solved }
+    ensures { IfOk result (IsAnsweredOn M.ops code.now posed.now M.MODEL solved) }
+{
+    match solved {
+        Solved::Sat(assignment) => {
+            let schedule = schedule::<M>(alloc, code, posed, &assignment)?;
+            Ok(Answer::Found(schedule))
+        }
+        Solved::Unsat(derivation) => Ok(Answer::Impossible(derivation)),
+        Solved::Spent(derivation) => Ok(Answer::Spent(derivation)),
+    }
+}
+
+/// The schedule of the world that is said by what satisfies a log's clauses.
+pub(crate) fn schedule<M: MemoryModel>(
+    alloc: Global,
+    code: &Code,
+    posed: &Posed,
+    assignment: &Assignment,
+) -> Result<Schedule, AllocError>
+    requires { IsSatisfied M.BUFFERED M.bound code.now posed.now assignment.now }
+    ensures model { IfOk result (λ schedule. schedule.model ≡ M.MODEL) }
+    ensures reproduces { IfOk result (λ schedule. ReproduceEach M.ops code.now posed.now schedule.moves.items) }
+{
+    let world = posed.blasted().world(alloc, assignment)?;
+    decode::<M>(
+        alloc,
+        code,
+        posed.paths(),
+        posed.symbolic(),
+        posed.terms(),
+        &world,
+    )
+}

@@ -1,0 +1,3 @@
+pub mod FirstFalse
+pub mod Firsts
+pub mod Readings

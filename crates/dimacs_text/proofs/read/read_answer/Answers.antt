@@ -1,0 +1,29 @@
+use Rattle.std.proofs.Common.{◌≡◌, ◌∙◌, ◌<◌, length, sym, arith}
+use Rattle.std.proofs.lemmas.Bool.Decides.{nat_tests}
+use Rattle.dimacs_text.specs.Answers.{is_line_feed}
+use Rattle.dimacs_text.proofs.Firsts.{shorter}
+use Rattle.dimacs_text.proofs.Readings.{breaks, reads_on}
+use Rattle.dimacs_text.proofs.read.read_answer.Goals as goal
+
+pub returns-in_default-clause-refused : goal.returns-in_default-clause-refused
+returns-in_default-clause-refused c =
+    let some : 0 < length c.loop-rest.rest.now = grind (arith, nat_tests) in
+    c.loop-rest.invariant.same
+    ∙ breaks c.loop-rest.number c.loop-rest.said c.loop-rest.rest.now c.next_line.result.0.now c.next_line.result.1.now some c.next_line.ensures.first
+    c.next_line.ensures.behind (sym c.in_default.is ∙ c.in_ok-next.ensures)
+
+pub loop-rest-smaller : goal.loop-rest-smaller
+loop-rest-smaller c =
+    let some : 0 < length c.loop-rest.rest.now = grind (arith, nat_tests) in
+    shorter is_line_feed c.loop-rest.rest.now c.next_line.result.1.now some c.next_line.ensures.behind
+
+pub loop-rest-preserved : goal.loop-rest-preserved
+loop-rest-preserved c =
+    let some : 0 < length c.loop-rest.rest.now = grind (arith, nat_tests) in
+    let less = shorter is_line_feed c.loop-rest.rest.now c.next_line.result.1.now some c.next_line.ensures.behind in
+    record {
+      same = c.loop-rest.invariant.same
+          ∙ reads_on c.loop-rest.number c.loop-rest.said c.loop-rest.rest.now c.next_line.result.0.now c.next_line.result.1.now some c.next_line.ensures.first
+          c.next_line.ensures.behind c.in-Some.next (sym c.in-Some.is ∙ c.in_ok-next.ensures);
+      few = omega (arith, c.loop-rest.invariant.few, less);
+    }

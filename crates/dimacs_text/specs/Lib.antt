@@ -1,0 +1,5 @@
+pub mod Answers
+pub mod Faults
+pub mod Texts
+pub mod Values
+pub mod helpers

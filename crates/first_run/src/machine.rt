@@ -1,0 +1,301 @@
+//! The threads, memory and mutexes of the run.
+
+use crate::thread::{Pending, Place, Thread, wants_drained};
+use crate::written::Written;
+use path_walk::{Event, EventKind, Paths, Walk};
+use std::alloc::{AllocError, Global};
+use store_buffers::MemoryModel;
+use sym_exec::Symbolic;
+use tc_code::Code;
+
+/// The threads, in the order of their names, the values in memory, and who has each mutex.
+#[derive(Drop)]
+pub(crate) struct Machine<'a> {
+    pub threads: Vec<Thread<'a>>,
+    memory: Vec<i32>,
+    owners: Vec<Option<usize>>,
+}
+
+/// What a look ahead has changed.
+#[derive(Drop)]
+pub(crate) struct Before {
+    thread: usize,
+    at: Place,
+    pending: Vec<Pending>,
+    waits_on: Option<u32>,
+    cells: Vec<(u32, i32)>,
+}
+
+impl<'a> Machine<'a> {
+    /// The machine before any thread has begun.
+    pub fn new(
+        alloc: Global,
+        code: &Code,
+        paths: &'a Paths,
+        symbolic: &'a Symbolic,
+    ) -> Result<Machine<'a>, AllocError> {
+        let mut threads = Vec::new(alloc);
+        let (mut events, mut sleeps): (usize, usize) = (0, 0);
+        for (walk, course) in paths.threads().iter().zip(symbolic.threads()) {
+            threads.push(Thread::new(alloc, walk, course, events, sleeps))?;
+            events = events.saturating_add(walk.events().len());
+            sleeps = sleeps.saturating_add(walk.sleeps().len());
+        }
+        Ok(Machine {
+            threads,
+            memory: code.memory().to_vec(alloc)?,
+            owners: vec![in alloc; None; code.mutexes() as usize]?,
+        })
+    }
+
+    /// What a thread does next, if it isn't at its end.
+    pub fn next(&self, number: usize) -> Option<Event> {
+        self.threads.get(number)?.next()
+    }
+
+    /// How far a thread is.
+    pub fn place(&self, number: usize) -> Option<Place> {
+        Some(self.threads.get(number)?.at)
+    }
+
+    /// The pending stores of a thread.
+    pub fn pending(&self, number: usize) -> &[Pending] {
+        match self.threads.get(number) {
+            Some(thread) => &thread.pending,
+            None => &[],
+        }
+    }
+
+    /// How much of its path a thread has done.
+    pub fn share(&self, number: usize) -> usize {
+        match self.threads.get(number) {
+            Some(thread) => thread.share(),
+            None => usize::MAX,
+        }
+    }
+
+    /// Whether a thread's pending stores have to reach memory before it goes on.
+    pub fn drains_first(&self, number: usize) -> bool {
+        match self.threads.get(number) {
+            Some(thread) => thread.drains_first(),
+            None => false,
+        }
+    }
+
+    /// What a cell has.
+    pub fn cell(&self, cell: u32) -> i32 {
+        self.memory.get(cell as usize).copied().unwrap_or(0)
+    }
+
+    /// A cell takes a value; whether that changes it.
+    pub fn set_cell(&mut self, cell: u32, value: i32) -> bool {
+        match self.memory.get_mut(cell as usize) {
+            Some(place) => {
+                let changes = *place != value;
+                *place = value;
+                changes
+            }
+            None => false,
+        }
+    }
+
+    /// What a load of a thread takes from a cell.
+    pub fn read(&self, thread: &Thread, cell: u32) -> i32 {
+        thread.forward(cell).unwrap_or(self.cell(cell))
+    }
+
+    /// Whether a thread other than this one may still write to a cell.
+    pub fn others_may_write(&self, thread: usize, cell: u32) -> bool {
+        for (other, found) in self.threads.iter().enumerate() {
+            if other != thread && found.may_write(cell) {
+                return true;
+            }
+        }
+        false
+    }
+
+    /// A thread is ahead, has these pending stores, and cells have what it wrote, till `go_back`.
+    pub fn go_ahead(
+        &mut self,
+        alloc: Global,
+        number: usize,
+        at: Place,
+        pending: Vec<Pending>,
+        written: &Written,
+    ) -> Result<Before, AllocError> {
+        let mut before = Before {
+            thread: number,
+            at,
+            pending,
+            waits_on: self.sleep_before(number, at),
+            cells: Vec::new(alloc),
+        };
+        self.exchange(&mut before);
+        for (cell, value) in written.as_slice() {
+            if let Some(value) = value {
+                before.cells.push((*cell, self.cell(*cell)))?;
+                self.set_cell(*cell, *value);
+            }
+        }
+        Ok(before)
+    }
+
+    /// The condition on which a thread waits that has just come to a place.
+    fn sleep_before(&self, number: usize, at: Place) -> Option<u32> {
+        match self.threads.get(number)?.event(at)?.kind {
+            EventKind::Wake { condition, .. } => Some(condition),
+            _ => None,
+        }
+    }
+
+    /// All is as before.
+    pub fn go_back(&mut self, before: Before) {
+        let mut before = before;
+        for (cell, value) in before.cells.iter().rev() {
+            self.set_cell(*cell, *value);
+        }
+        self.exchange(&mut before);
+    }
+
+    /// A thread's place and pending stores are exchanged for others.
+    fn exchange(&mut self, other: &mut Before) {
+        if let Some(thread) = self.threads.get_mut(other.thread) {
+            std::mem::swap(&mut thread.at, &mut other.at);
+            std::mem::swap(&mut thread.pending, &mut other.pending);
+            std::mem::swap(&mut thread.waits_on, &mut other.waits_on);
+        }
+    }
+
+    /// Whether no thread has a mutex.
+    pub fn is_free(&self, mutex: u32) -> bool {
+        !matches!(self.owners.get(mutex as usize), Some(Some(_)))
+    }
+
+    /// Whether a thread has some mutex.
+    pub fn has_mutex(&self, thread: usize) -> bool {
+        self.owners.iter().any(|owner| *owner == Some(thread))
+    }
+
+    /// A mutex has an owner from now on, or none.
+    pub fn set_owner(&mut self, mutex: u32, owner: Option<usize>) {
+        if let Some(place) = self.owners.get_mut(mutex as usize) {
+            *place = owner;
+        }
+    }
+
+    /// The child of a thread by its number.
+    pub fn child(&self, parent: &Walk, number: u32) -> Option<usize> {
+        for (place, thread) in self.threads.iter().enumerate() {
+            if is_child(parent, number, thread.walk) {
+                return Some(place);
+            }
+        }
+        None
+    }
+
+    /// Whether the child of a thread by its number has done all its path.
+    pub fn is_child_done(&self, parent: &Walk, number: u32) -> bool {
+        match self.child(parent, number) {
+            Some(child) => self.next(child).is_none(),
+            None => false,
+        }
+    }
+
+    /// Whether all threads but one have done their paths.
+    fn others_are_done(&self, thread: usize) -> bool {
+        for (other, found) in self.threads.iter().enumerate() {
+            if other != thread && !found.is_done() {
+                return false;
+            }
+        }
+        true
+    }
+
+    /// Whether the machine lets a thread do its next event.
+    pub fn lets(&self, number: usize) -> bool {
+        let Some(thread) = self.threads.get(number) else {
+            return false;
+        };
+        let Some(event) = thread.next() else {
+            return false;
+        };
+        thread.has_begun
+            && (thread.pending.is_empty() || !wants_drained(event.kind))
+            && self.meets(number, thread, event)
+    }
+
+    /// Whether the other threads let an event of a thread be. The failing one is let in as the last of all.
+    fn meets(&self, number: usize, thread: &Thread, event: Event) -> bool {
+        match event.kind {
+            EventKind::Lock(mutex) => self.is_free(mutex),
+            EventKind::Wake { mutex, .. } => thread.waits_on.is_none() && self.is_free(mutex),
+            EventKind::Join(child) => self.is_child_done(thread.walk, child),
+            EventKind::Fail => self.others_are_done(number),
+            _ => true,
+        }
+    }
+
+    /// A thread that can do its next event at once, since nothing that is still to be chosen depends on when it is done.
+    pub fn free_thread<M: MemoryModel>(&self) -> Option<usize> {
+        (0..self.threads.len()).find(|number| self.is_free_to_go::<M>(*number))
+    }
+
+    fn is_free_to_go<M: MemoryModel>(&self, number: usize) -> bool {
+        match self.next(number) {
+            Some(event) => is_silent::<M>(event.kind) && self.lets(number),
+            None => false,
+        }
+    }
+
+    /// The thread that leaves its path where none can go on along it: of those that the machine lets go on, or else of all that aren't
+    /// done, the one that has done least.
+    pub fn last_thread(&self) -> Option<usize> {
+        self.least(true).or(self.least(false))
+    }
+
+    fn least(&self, only_let: bool) -> Option<usize> {
+        let mut found: Option<usize> = None;
+        for (number, thread) in self.threads.iter().enumerate() {
+            if !thread.is_done() && (!only_let || self.lets(number)) {
+                match found {
+                    Some(other) if self.share(other) <= thread.share() => {}
+                    _ => found = Some(number),
+                }
+            }
+        }
+        found
+    }
+}
+
+/// Whether an event of that kind is seen by no other thread that doesn't wait for it.
+fn is_silent<M: MemoryModel>(kind: EventKind) -> bool {
+    match kind {
+        EventKind::Store => M::BUFFERED,
+        EventKind::Fence
+        | EventKind::Exit
+        | EventKind::Create(_)
+        | EventKind::Join(_)
+        | EventKind::Unlock(_) => true,
+        _ => false,
+    }
+}
+
+/// Whether a thread is the child of another by its number.
+fn is_child(parent: &Walk, number: u32, thread: &Walk) -> bool {
+    match thread.name().children().split_last() {
+        Some((last, before)) => *last == number && before == parent.name().children(),
+        None => false,
+    }
+}
+
+/// A pending store, if it may reach memory before those that are older.
+pub(crate) fn drainable<M: MemoryModel>(pending: &[Pending], store: usize) -> Option<Pending> {
+    let drained = *pending.get(store)?;
+    for older in 0..store {
+        let other = *pending.get(older)?;
+        if M::bound(other.cell == drained.cell, other.bars != drained.bars) {
+            return None;
+        }
+    }
+    Some(drained)
+}

@@ -1,0 +1,127 @@
+//! Values of terms while some loads are still to come.
+
+use std::alloc::{AllocError, Global};
+use sym_exec::Cell;
+use sym_terms::{Id, Node, Terms};
+use tc_base::arith;
+
+/// How many terms are worked out for a look ahead.
+const SUPPOSED: usize = 200;
+
+/// The values that loads took, and those of the terms over them.
+///
+/// A thread's terms over a load are made after the load's symbol and before the symbol of the next one, so each load that takes a
+/// value changes only the terms between the two.
+#[derive(Drop)]
+pub(crate) struct Values<'a> {
+    nodes: &'a [Node],
+    /// The place of each load's symbol, in order.
+    symbols: Vec<usize>,
+    loads: Vec<Option<i32>>,
+    known: Vec<Option<i32>>,
+}
+
+impl<'a> Values<'a> {
+    /// No load has taken a value.
+    pub fn new(alloc: Global, terms: &'a Terms, loads: u32) -> Result<Values<'a>, AllocError> {
+        let nodes = terms.nodes();
+        let mut values = Values {
+            nodes,
+            symbols: symbols(alloc, nodes)?,
+            loads: vec![in alloc; None; loads as usize]?,
+            known: vec![in alloc; None; nodes.len()]?,
+        };
+        values.renew_all();
+        Ok(values)
+    }
+
+    /// The value of a term, where that is known.
+    pub fn of(&self, term: Id) -> Option<i32> {
+        *self.known.get(term.place())?
+    }
+
+    /// The value that a load took, where that is known.
+    pub fn load(&self, load: usize) -> Option<i32> {
+        *self.loads.get(load)?
+    }
+
+    /// The number of a cell, where that is known, and inside its array.
+    pub fn cell(&self, cell: Cell) -> Option<u32> {
+        match cell {
+            Cell::Fixed(number) => Some(number),
+            Cell::Element {
+                first,
+                length,
+                index,
+            } => {
+                let index = u32::try_from(self.of(index)?).ok()?;
+                if index < length {
+                    first.checked_add(index)
+                } else {
+                    None
+                }
+            }
+        }
+    }
+
+    /// A load takes a value.
+    pub fn take(&mut self, load: u32, value: i32) {
+        self.set(load as usize, Some(value), usize::MAX);
+    }
+
+    /// A load would take a value, or one that isn't known. It is for a look ahead, so that only the next terms are worked out.
+    pub fn suppose(&mut self, load: u32, value: Option<i32>) {
+        self.set(load as usize, value, SUPPOSED);
+    }
+
+    /// A load has a value from now on, and so have so many terms at most.
+    fn set(&mut self, load: usize, value: Option<i32>, terms: usize) {
+        if let Some(taken) = self.loads.get_mut(load) {
+            *taken = value;
+        }
+        let from = self.symbol(load);
+        let to = self.symbol(load.saturating_add(1));
+        self.renew(from, to.min(from.saturating_add(terms)));
+    }
+
+    /// Works out all terms anew, as is needed where a child is handed terms of its parent.
+    pub fn renew_all(&mut self) {
+        self.renew(0, self.nodes.len());
+    }
+
+    /// The place of a load's symbol, and the end of the terms where there is none.
+    fn symbol(&self, load: usize) -> usize {
+        self.symbols.get(load).copied().unwrap_or(self.nodes.len())
+    }
+
+    /// Works out the terms from one place up to another anew.
+    fn renew(&mut self, from: usize, to: usize) {
+        for place in from..to {
+            let value = self.worked_out(place);
+            if let Some(known) = self.known.get_mut(place) {
+                *known = value;
+            }
+        }
+    }
+
+    /// The value of the term at a place, by those of its parts.
+    fn worked_out(&self, place: usize) -> Option<i32> {
+        match *self.nodes.get(place)? {
+            Node::Constant(number) => Some(number),
+            Node::Symbol(load) => self.load(load as usize),
+            Node::Unary(op, a) => Some(arith::unary(op, self.of(a)?)),
+            Node::Binary(op, a, b) => Some(arith::binary(op, self.of(a)?, self.of(b)?)),
+        }
+    }
+}
+
+/// The places of the symbols of loads, which are made in the order of the loads.
+fn symbols(alloc: Global, nodes: &[Node]) -> Result<Vec<usize>, AllocError> {
+    let mut places = Vec::new(alloc);
+    for (place, node) in nodes.iter().enumerate() {
+        if matches!(node, Node::Symbol(_)) {
+            places.push(place)?;
+        }
+    }
+    Ok(places)
+}

@@ -1,9 +1,0 @@
-use Rattle.path_history.proofs.Told.{first_along}
-use Rattle.path_history.proofs.Stays.{start_along}
-use Rattle.path_history.proofs.beginnings_are_along.Goals as goal
-
-pub returns-clause-start : goal.returns-clause-start
-returns-clause-start g c = λ ops model bound code log laws lawful. start_along ops model bound laws code lawful log
-
-pub returns-clause-first : goal.returns-clause-first
-returns-clause-first g c = λ ops model bound code log first later laws lawful. first_along ops model bound laws code lawful log first later

@@ -1,0 +1,16 @@
+use Rattle.path_laws.proofs.of_events.Lists.{in_contains, contains_in}
+use Rattle.path_laws.proofs.of_events.Events.{event_done, done_event, whole_events}
+use Rattle.path_laws.proofs.events.events_are_done.Goals as goal
+
+pub returns-clause-done : goal.returns-clause-done
+returns-clause-done g c = λ ops model bound code log h j w x laws lawful is fits along there i.
+    event_done ops model bound laws code lawful log is fits h along j w there x (in_contains x w.events i)
+
+pub returns-clause-events : goal.returns-clause-events
+returns-clause-events g c = λ ops model bound code log h j w k asked laws lawful is fits along there done.
+    let x = done_event ops model bound laws code lawful log is fits h along j w there k asked done in
+    (x.0, contains_in x.0 w.events x.1, x.2, x.3, x.4)
+
+pub returns-clause-whole : goal.returns-clause-whole
+returns-clause-whole g c = λ ops model bound code log h j w laws lawful is fits along there.
+    whole_events ops model bound laws code lawful log is fits h along j w there

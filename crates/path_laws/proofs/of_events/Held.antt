@@ -1,0 +1,76 @@
+-- What a thread of a run holds is told by the events of its path so far.
+use Rattle.std.proofs.Common.{◌≡◌, ◌∙◌, ℕ, ◌+◌, ◌≤◌, ◌<◌, Bool, true, false, List, [], ◌∷◌, ◌++◌, length, take}
+use Rattle.std.proofs.Common.{Option, sym, ap, subst, arith, slice_index_or}
+use Rattle.std.specs.Prelude.{unwrap_or}
+use Rattle.std.proofs.lemmas.List.{length-map, length-replicate, take-map}
+use Rattle.tc_base.specs.Buffers.{BufferOps}
+use Rattle.tc_base.specs.Logs.{Log, Path}
+use Rattle.tc_base.specs.Names.{Name}
+use Rattle.tc_base.specs.States.{Local, Thread}
+use Rattle.tc_base.specs.declared.model.Model.{Model}
+use Rattle.tc_code.specs.Code.{Code}
+use Rattle.tc_code.specs.Lawful.{IsLawful}
+use Rattle.tc_code.specs.Step.{holds, stepped}
+use Rattle.tc_code.proofs.Facts.{at_its_place}
+use Rattle.store_buffers.specs.Laws.{Laws}
+use Rattle.store_buffers.specs.Pending.{Binding}
+use Rattle.run_laws.proofs.Basics.{index_or-replicate}
+use Rattle.path_log.specs.Texts.{is_log}
+use Rattle.path_walk.specs.Fits.{fails_in, Fits}
+use Rattle.path_walk.specs.Marks.{unmarked, marks_after, has_mutex}
+use Rattle.path_walk.specs.Paths.{Walk}
+use Rattle.path_walk.specs.Steps.{step_at, steps_at}
+use Rattle.path_laws.specs.Along.{HasMarks}
+use Rattle.path_laws.specs.Prefixes.{fails_by}
+use Rattle.path_laws.proofs.Local.{marks-append, steps_push, now}
+use Rattle.path_laws.proofs.States.{Stands, fail_is_site}
+use Rattle.path_laws.proofs.of_history.Walks.{IsWalking}
+use Rattle.path_laws.proofs.of_events.Marked.{events_from}
+use Rattle.path_laws.proofs.of_events.Regions.{held_upto, held_is, site_marks}
+use Rattle.path_laws.proofs.of_events.Sites.{walk_fails_at_site}
+
+-- where a thread stands, also after it failed, it has what the marks of its path so far say
+stands_marks : (code : Code) (b : Bool) (t : Local) (ps : List ℕ) → Stands code b t ps
+    → HasMarks t (marks_after (unmarked code t.function) (steps_at code t.function ps))
+stands_marks code false t ps h = h.marks
+stands_marks code true t ps h =
+    let a = h.before in
+    let f = a.function in
+    let at = at_its_place code a h.instr h.at in
+    let site = fail_is_site a h.instr h.asks in
+    let same : marks_after (unmarked code f) (steps_at code f (h.front ++ a.instruction ∷ [])) ≡ marks_after (unmarked code f) (steps_at code f h.front) =
+    ap (marks_after (unmarked code f)) (steps_push code a a h.instr h.front h.along at)
+    ∙ marks-append (unmarked code f) (steps_at code f h.front) (now code a a h.instr h.front h.along at ∷ [])
+    ∙ site_marks (marks_after (unmarked code f) (steps_at code f h.front)) h.instr site in
+    let m = h.along.marks in
+    subst (λ (x : Local). HasMarks x (marks_after (unmarked code x.function) (steps_at code x.function ps))) (sym h.is)
+    (subst (λ xs. HasMarks (stepped a) (marks_after (unmarked code f) (steps_at code f xs))) (sym h.all)
+    (subst (HasMarks (stepped a)) (sym same) (record { held = m.held; handles = m.handles; children = m.children })))
+
+module _ {B : Type 0} (ops : BufferOps B) (model : Model) (bound : Binding) (laws : Laws ops model bound) (code : Code) (lawful : IsLawful code) (log : Log)
+    (is : is_log log ≡ true) (fits : Fits code log) (w : Walk) (t : Thread B) (failed : Option Name)
+    (k : IsWalking ops model bound laws code lawful log is fits w t failed) where
+  pub thread_marks : HasMarks t.local (marks_after (unmarked code w.function) (take t.local.steps (steps_at code w.function w.places)))
+  thread_marks =
+      let n = t.local.steps in
+      subst (λ ss. HasMarks t.local (marks_after (unmarked code w.function) ss)) (sym (take-map (step_at code w.function) n w.places))
+      (subst (λ f. HasMarks t.local (marks_after (unmarked code f) (steps_at code f (take n w.places)))) k.function
+      (subst (λ ps. HasMarks t.local (marks_after (unmarked code t.local.function) (steps_at code t.local.function (take n ps)))) k.places
+      (stands_marks code (fails_by failed w.name) t.local _ k.so.stands)))
+
+  -- so it holds a mutex where the last of these events that is about it takes it
+  pub holds_told : (m : ℕ) → m < code.mutexes → holds t.local m ≡ unwrap_or (held_upto m t.local.steps w.events) false
+  holds_told m within =
+      let n = t.local.steps in
+      let ss = steps_at code w.function w.places in
+      let start = unmarked code w.function in
+      let number : 0 + n ≡ n = omega arith in
+      let few : n ≤ length ss =
+      omega (arith, k.so.on.steps, ap (λ (p : Path). p.steps) k.path, k.walk.long, length-map w.places (step_at code w.function)) in
+      let none : has_mutex start m ≡ false = index_or-replicate code.mutexes m false in
+      ap (λ xs. slice_index_or xs m false) (sym thread_marks.held)
+      ∙ held_is m code w.function (fails_in log w.name) 0 start ss n (omega (arith, within, length-replicate code.mutexes false)) few
+      (walk_fails_at_site code log w k.walk)
+      ∙ ap (λ i. unwrap_or (held_upto m i (events_from code w.function (fails_in log w.name) 0 start ss)) (has_mutex start m)) number
+      ∙ ap (λ es. unwrap_or (held_upto m n es) (has_mutex start m)) (sym k.walk.events)
+      ∙ ap (unwrap_or (held_upto m n w.events)) none

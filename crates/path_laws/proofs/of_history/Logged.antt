@@ -1,0 +1,182 @@
+-- Whole paths go as logged.
+use Rattle.std.proofs.Common.{◌≡◌, ◌∙◌, inl, inr, ℕ, zero, suc, ◌≤◌, true, List, [], ◌∷◌, ◌++◌, length}
+use Rattle.std.proofs.Common.{Option, Some, None, Ok, refl, sym, ap, ap₂, subst, arith, append-nil}
+use Rattle.std.specs.Prelude.{slice_get, option_map, is_some}
+use Rattle.std.specs.FinMap as fin
+use Rattle.std.proofs.lemmas.List.{length-append, take_all}
+use Rattle.std.proofs.lemmas.Option.{none-some, same_Some, slice_get_within, option_and_then_some}
+use Rattle.tc_base.specs.Buffers.{BufferOps}
+use Rattle.tc_base.specs.Logs.{Log, Path, path_under}
+use Rattle.tc_base.specs.Names.{Name, child}
+use Rattle.tc_base.specs.States.{Thread, State}
+use Rattle.tc_base.specs.declared.model.Model.{Model}
+use Rattle.tc_base.specs.declared.moves.Move.{Move}
+use Rattle.tc_base.proofs.Names.{parent_of}
+use Rattle.tc_code.specs.Code.{Code}
+use Rattle.tc_code.specs.Lawful.{IsLawful}
+use Rattle.tc_code.specs.Run.{Reproduces, path_of}
+use Rattle.store_buffers.specs.Laws.{Laws}
+use Rattle.store_buffers.specs.Pending.{Binding}
+use Rattle.run_laws.proofs.Basics.{some_value}
+use Rattle.run_laws.proofs.Created.{reached_is_created}
+use Rattle.run_laws.proofs.Main.{main_is_there}
+use Rattle.run_history.specs.History.{Deed, history}
+use Rattle.run_history.specs.Told.{is_thread_in, steps_in}
+use Rattle.run_follows.specs.Logged.{path_by, path_told, EndsAsIn, GoesAsLogged}
+use Rattle.path_log.specs.Texts.{is_log}
+use Rattle.path_walk.specs.Fits.{started, places_in, child_function, function_of, Fits}
+use Rattle.path_walk.specs.Paths.{Walk}
+use Rattle.path_walk.specs.Steps.{places_from, steps_at}
+use Rattle.path_walk.proofs.Faults.{option_is, function_of_child, no_child, fitting}
+use Rattle.path_laws.specs.Prefixes.{fails_by}
+use Rattle.path_laws.proofs.Logs.{created_count, reproduced_fits}
+use Rattle.path_laws.proofs.Prefixes.{thread_path, IsSoFar, so_far}
+use Rattle.path_laws.proofs.States.{Stands, stands_places}
+use Rattle.path_laws.specs.history.Along.{IsAlongPaths, IsThread, IsNameOfThread, AllHaveDone, AllAreThere}
+use Rattle.path_laws.proofs.of_history.Told.{RunOf, run_of, reached, steps_of, reproduced_run}
+use Rattle.path_laws.proofs.of_history.Walks.{IsWalking, walking, walk_is, named}
+use Rattle.path_laws.proofs.of_history.Whole.{stands_all, went_all}
+
+module _ {B : Type 0} (ops : BufferOps B) (model : Model) (bound : Binding) (laws : Laws ops model bound) (code : Code) (lawful : IsLawful code) (log : Log) where
+  -- What reproduces a log does all steps of its paths.
+  module _ (is : is_log log ≡ true) (moves : List Move) (again : Reproduces ops code log moves) where
+    abbrev all : RunOf ops model bound laws code lawful log (history ops code moves)
+    all = reproduced_run ops model bound laws code lawful log moves again
+
+    module _ (j : ℕ) (w : Walk) (there : IsThread code log j w) where
+      thread_again : (t : Thread B) × (fin.get again.state.threads w.name ≡ Some t)
+      thread_again = by (fin.get again.state.threads w.name) refl
+        where
+          under : option_map path_of (fin.get again.state.threads w.name)
+              ≡ Some (walk_is code log is (reproduced_fits code ops model bound laws lawful log moves again) j w there).path
+          under = again.paths w.name ∙ (walk_is code log is (reproduced_fits code ops model bound laws lawful log moves again) j w there).under
+
+          by : (o : Option (Thread B)) → fin.get again.state.threads w.name ≡ o → (t : Thread B) × (fin.get again.state.threads w.name ≡ Some t)
+          by None none = absurd (none-some _ (sym (ap (option_map path_of) none) ∙ under))
+          by (Some t) here = (t, here)
+
+      pub is_there : is_thread_in (history ops code moves) w.name ≡ true
+      is_there = sym (all.told.tells.deeds.buffers.threads.there w.name) ∙ ap is_some thread_again.1
+
+      pub has_done : steps_in (history ops code moves) w.name ≡ length w.places
+      has_done =
+          let t = thread_again in
+          let k = walk_is code log is (reproduced_fits code ops model bound laws lawful log moves again) j w there in
+          let path : path_of t.0 ≡ k.path = same_Some (path_of t.0) k.path (sym (thread_path ops code log moves again w.name t.0 t.1) ∙ k.under) in
+          omega (
+            arith,
+            steps_of ops model bound laws code lawful log (history ops code moves) all w.name t.0 t.1,
+            k.long,
+            ap (λ (p : Path). p.steps) path,
+          )
+
+  -- A history in which each thread has done all its steps.
+  module _ (is : is_log log ≡ true) (fits : Fits code log) (h : List Deed) (along : IsAlongPaths ops.buffered bound code log h)
+      (done : AllHaveDone code log h) where
+    abbrev r : RunOf ops model bound laws code lawful log h
+    r = run_of ops model bound laws code lawful log h along
+
+    abbrev s : State B
+    s = r.state
+
+    -- a thread that is there has gone its whole path
+    module _ (n : Name) (t : Thread B) (here : fin.get s.threads n ≡ Some t) where
+      abbrev p : IsNameOfThread code log n
+      p = named code log is fits n (r.on n t here).path (r.on n t here).there
+
+      abbrev w : Walk
+      w = p.walk
+
+      here_too : fin.get s.threads w.name ≡ Some t
+      here_too = ap (fin.get s.threads) p.name ∙ here
+
+      abbrev k : IsWalking ops model bound laws code lawful log is fits w t s.failed
+      k = walking ops model bound laws code lawful log is fits h r p.place w t p.there here_too
+
+      went_its_path : Some (path_by t.local) ≡ path_under n log.threads
+      went_its_path =
+          ap (λ q. Some q) (went_all ops model bound laws code lawful log is fits h r p.place w p.there t here_too (done p.place w p.there))
+          ∙ sym k.walk.under ∙ ap (λ m. path_under m log.threads) p.name
+
+      function_told : function_of code log n ≡ Some t.local.function
+      function_told = ap (function_of code log) (sym p.name) ∙ k.walk.function ∙ ap (λ f. Some f) (sym k.function)
+
+      -- and its children are there
+      child_there : (j f : ℕ) → child_function code log n t.local.function (suc j) ≡ Some f → (c : Thread B) × (fin.get s.threads (child n (suc j)) ≡ Some c)
+      child_there j f creates =
+          let g = t.local.function in
+          let at : slice_get (started (steps_at code g w.places)) j ≡ Some f =
+          ap (λ ps. slice_get (started (steps_at code g ps)) j) (sym k.places ∙ ap (λ m. places_in code log m g) p.name) ∙ creates in
+          let within = slice_get_within (started (steps_at code g w.places)) j f at in
+          let count = created_count code (fails_by s.failed w.name) t.local w.places
+          (stands_all ops model bound laws code lawful log is fits h r p.place w p.there t here_too (done p.place w p.there)) in
+          some_value (fin.get s.threads (child n (suc j)))
+          ((reached_is_created ops code s (reached ops model bound laws code lawful log h r)).child_is_there n t (suc j) here
+          (record { first = omega arith; last = omega (arith, count, within) }))
+
+    by_number : (n q : Name) (t : Thread B) (k f : ℕ) → fin.get s.threads q ≡ Some t → child_function code log q t.local.function k ≡ Some f → n ≡ child q k
+        → (c : Thread B) × (fin.get s.threads n ≡ Some c)
+    by_number n q t zero f here creates name = absurd (none-some f creates)
+    by_number n q t (suc j) f here creates name = let c = child_there q t here j f creates in (c.0, ap (fin.get s.threads) name ∙ c.1)
+
+    by_parent : (n q : Name) (p : Path) (k : ℕ) → path_under n log.threads ≡ Some p → n ≡ child q k
+        → ((c : Path) → path_under q log.threads ≡ Some c → (t : Thread B) × (fin.get s.threads q ≡ Some t))
+        → (t : Thread B) × (fin.get s.threads n ≡ Some t)
+    by_parent n q p k under name parent =
+        let f = fitting code log n p under (fits n) in
+        let function : function_of code log (child q k) ≡ Some f.0 = ap (function_of code log) (sym name) ∙ f.1 in
+        elim (option_is (path_under q log.threads)) [
+          | inl none ↦ absurd (none-some f.0 (sym (no_child code log q k none) ∙ function))
+          | inr has ↦
+              let t = parent has.0 has.1 in
+              option_and_then_some (λ g. child_function code log q g k) (function_of code log q) f.0 (sym (function_of_child code log q k) ∙ function)
+              (λ g of creates.
+              let same : g ≡ t.0.local.function = same_Some g t.0.local.function (sym of ∙ function_told q t.0 t.1) in
+              by_number n q t.0 k f.0 t.1 (ap (λ a. child_function code log q a k) (sym same) ∙ creates) name)
+        ]
+
+    main_there : (n : Name) → n ≡ [] → (t : Thread B) × (fin.get s.threads n ≡ Some t)
+    main_there n main =
+        let t = some_value (fin.get s.threads []) (main_is_there ops code s (reached ops model bound laws code lawful log h r)) in
+        (t.0, ap (fin.get s.threads) main ∙ t.1)
+
+    -- so all threads of the log are there, by the length of their names
+    there_by : (m : ℕ) (n : Name) (p : Path) → length n ≤ m → path_under n log.threads ≡ Some p → (t : Thread B) × (fin.get s.threads n ≡ Some t)
+    there_by zero n p few under =
+        elim (parent_of n) [
+          | inl main ↦ main_there n main
+          | inr q ↦ absurd (omega (arith, few, ap length q.name, length-append q.parent (q.number ∷ [])))
+        ]
+    there_by (suc m) n p few under =
+        elim (parent_of n) [
+          | inl main ↦ main_there n main
+          | inr q ↦
+              by_parent n q.parent p q.number under q.name
+              (λ c at. there_by m q.parent c (omega (arith, few, ap length q.name, length-append q.parent (q.number ∷ []))) at)
+        ]
+
+    pub all_there : AllAreThere code log h
+    all_there j w there =
+        let k = walk_is code log is fits j w there in
+        let t = there_by (length w.name) w.name k.path (omega arith) k.under in
+        sym (r.told.tells.deeds.buffers.threads.there w.name) ∙ ap is_some t.1
+
+    told_path : (n : Name) → path_told code h n ≡ path_under n log.threads
+    told_path n = ap (option_map path_by) (r.told.tells.locals n) ∙ by (fin.get s.threads n) refl
+      where
+        by : (o : Option (Thread B)) → fin.get s.threads n ≡ o
+            → option_map path_by (option_map (λ (t : Thread B). t.local) (fin.get s.threads n)) ≡ path_under n log.threads
+        by None none =
+            ap (λ o. option_map path_by (option_map (λ (t : Thread B). t.local) o)) none
+            ∙ elim (option_is (path_under n log.threads)) [
+              | inl absent ↦ sym absent
+              | inr has ↦
+                  let t = there_by (length n) n has.0 (omega arith) has.1 in
+                  absurd (none-some t.0 (sym none ∙ t.1))
+            ]
+        by (Some t) here =
+            ap (λ o. option_map path_by (option_map (λ (t : Thread B). t.local) o)) here
+            ∙ went_its_path n t here
+
+    pub goes_as_logged : EndsAsIn ops.buffered bound code log.failing log.threads h → GoesAsLogged ops.buffered bound code log h
+    goes_as_logged ends = record { ends = ends; paths = told_path }

@@ -1,0 +1,34 @@
+-- What a path says that its thread is blocked at in a deadlock.
+use Rattle.std.specs.Prelude.{◌≡◌, ℕ, ◌+◌, ◌-◌, List, length, Some, None, slice_get}
+use Rattle.tc_base.specs.declared.request.Request.{Request}
+use Rattle.tc_base.specs.declared.request.Request.TheVariants.{Acquire, EndWait, Await}
+use Rattle.tc_code.specs.Code.{Code}
+use Rattle.run_history.specs.History.{Deed}
+use Rattle.run_history.specs.Locals.{asks_next}
+use Rattle.run_follows.specs.blocked.Stuck.{IsBlockedIn}
+use Rattle.path_walk.specs.Paths.{Walk}
+use Rattle.path_walk.specs.declared.event.Blocked.{Blocked}
+use Rattle.path_walk.specs.declared.event.Blocked.TheVariants.{Lock, Wake, Join}
+use Rattle.path_walk.specs.declared.event.Sleep.{Sleep}
+
+-- what the thread asks there
+abbrev pub asked_at : Blocked → Request
+asked_at (Lock m) = Acquire m
+asked_at (Wake c m k) = EndWait c m
+asked_at (Join k) = Await k
+
+-- it asks that next, and it is blocked
+pub record IsBlockedAt (code : Code) (h : List Deed) (w : Walk) (b : Blocked) : Type 0 where
+  pub is : w.blocked ≡ Some b
+  pub asks : asks_next code h w.name ≡ Some (asked_at b)
+  pub blocked : IsBlockedIn h w.name (asked_at b)
+
+-- the last sleep of a path, with which the path ends
+pub record IsLastSleep (w : Walk) (c m k : ℕ) : Type 0 where
+  pub sleep : Sleep
+  pub last : slice_get w.sleeps (length w.sleeps - 1) ≡ Some sleep
+  pub step : sleep.step ≡ k
+  pub condition : sleep.condition ≡ c
+  pub mutex : sleep.mutex ≡ m
+  pub wake : sleep.wake ≡ None
+  pub ends : k + 1 ≡ length w.places

@@ -1,5 +1,0 @@
-use Rattle.plan_memory.proofs.Empty.{all_there}
-use Rattle.plan_memory.proofs.all_stores_drain.Goals as goal
-
-pub returns : goal.returns
-returns g c = λ ops model bound code log nodes w p h l. all_there ops model bound code log nodes w l p h

@@ -1,6 +1,0 @@
-use Rattle.plan_memory.proofs.Taken.{takes_its}
-use Rattle.plan_memory.proofs.loads_take_theirs.Goals as goal
-
-pub returns : goal.returns
-returns g c = λ ops model bound code log nodes w p h t q x r course a m l at asks there among step takes.
-    takes_its ops model bound code log nodes w l p h t q x at r asks course a m there among step takes

@@ -1,0 +1,113 @@
+-- The turn of a store whose position has come.
+use Rattle.std.proofs.Common.{◌≡◌, ◌∙◌, inl, inr, ℕ, ◌<◌, ◌≤◌, ◌==◌, ℤ, true, false, cond, List, [], ◌∷◌}
+use Rattle.std.proofs.Common.{Some, refl, ap, ap₂, sym, subst, arith}
+use Rattle.std.specs.List.{Contains, find}
+use Rattle.std.specs.Option.{option_map_or}
+use Rattle.std.proofs.lemmas.Bool.{true≢false, and_parts, false_from_ne_true, eq-eqb, ne_eqb}
+use Rattle.tc_base.specs.Buffers.{BufferOps}
+use Rattle.tc_base.specs.Logs.{Log}
+use Rattle.tc_base.specs.declared.model.Model.{Model}
+use Rattle.tc_code.specs.Code.{Code}
+use Rattle.store_buffers.specs.Pending.{Binding}
+use Rattle.run_history.specs.History.{Deed, Drained, Issue, has_drained, pending_issues}
+use Rattle.run_history.specs.Told.{steps_in}
+use Rattle.run_history.specs.pending.Deeds.{IsIssuedIn, has_bar_between}
+use Rattle.run_history.proofs.of_pending.Apart.{a_store}
+use Rattle.run_history.proofs.of_pending.In.{In, all_in}
+use Rattle.run_history.proofs.of_pending.Issues.{Rises}
+use Rattle.run_history.proofs.of_pending.Turns.{store_pending}
+use Rattle.run_follows.specs.Follow.{IsNextDrain}
+use Rattle.path_walk.specs.Paths.{Walk}
+use Rattle.path_walk.specs.declared.event.Event.{Event}
+use Rattle.path_walk.specs.declared.event.EventKind.{EventKind}
+use Rattle.path_walk.specs.declared.event.EventKind.TheVariants as kind
+use Rattle.path_laws.specs.history.Along.{IsThread}
+use Rattle.path_laws.proofs.of_history.Told.{run_of}
+use Rattle.path_laws.proofs.of_events.Bars.{told}
+use Rattle.path_laws.proofs.of_events.Lists.{in_contains, contains_in}
+use Rattle.sym_terms.specs.declared.node.Node.{Node}
+use Rattle.order_formula.specs.Worlds.{World}
+use Rattle.lawful_order.specs.Memory.{is_store}
+use Rattle.world_plan.specs.Going.{IsLawfulWorld, HasGone, is_pending, place}
+use Rattle.world_plan.specs.Plan.{drain_of, drains_next}
+use Rattle.plan_runs.proofs.of_memory.Accesses.{written, issue_asks, access_of, cells_of_steps, bound_before}
+use Rattle.plan_runs.proofs.of_memory.Empty.{passed_has_drained}
+use Rattle.plan_runs.proofs.of_memory.Issued.{issue_event, event_issued}
+
+-- where numbers rise, each is found
+found_by_number : (is : List Issue) (i : Issue) → Rises is → In i is → find (λ (y : Issue). y.number == i.number) is ≡ Some i
+found_by_number [] i rises a = absurd a
+found_by_number (x ∷ is) i rises (inl e) =
+    ap (λ b. cond b (Some x) (find (λ (y : Issue). y.number == i.number) is)) (eq-eqb x.number i.number (ap (λ (y : Issue). y.number) e))
+    ∙ ap (λ y. Some y) e
+found_by_number (x ∷ is) i rises (inr a) =
+    let less = all_in (λ (y : Issue). x.number < y.number) is i rises.0 a in
+    ap (λ b. cond b (Some x) (find (λ (y : Issue). y.number == i.number) is)) (ne_eqb x.number i.number (λ same. omega (arith, less, same)))
+    ∙ found_by_number is i rises.1 a
+
+-- only a store waits in a buffer
+is_kind_store : (k : EventKind) → is_store k ≡ true → k ≡ kind.Store
+is_kind_store kind.Store e = refl
+is_kind_store kind.Load e = absurd (true≢false (sym e))
+is_kind_store k e = absurd (true≢false (sym e))
+
+module _ {B : Type 0} (ops : BufferOps B) (model : Model) (bound : Binding) (code : Code) (log : Log) (nodes : List Node) (w : World)
+    (l : IsLawfulWorld ops model bound code log nodes w) (p : ℕ) (h : List Deed) (g : HasGone ops.buffered bound code log nodes w p h) (t : ℕ) (q : Walk)
+    (there : IsThread code log t q) where
+  -- whether an issued store is still in its buffer, by its position
+  pub is_waiting : (x : Event) → Contains q.events x → is_pending ops.buffered x ≡ true → p ≤ place code log w t x → has_drained h q.name x.step ≡ false
+  is_waiting x i pending late =
+      false_from_ne_true (has_drained h q.name x.step) (λ has. let before = (g.drained t q x there i pending).0 has in omega (arith, before, late))
+
+  module _ (x : Event) (among : Contains q.events x) (pending : is_pending ops.buffered x ≡ true) (at : place code log w t x ≡ p)
+      (done : x.step < steps_in h q.name) where
+    abbrev both : (ops.buffered ≡ true) × (is_store x.kind ≡ true)
+    both = and_parts ops.buffered (is_store x.kind) pending
+
+    abbrev store : x.kind ≡ kind.Store
+    store = is_kind_store x.kind both.1
+
+    issued : (c : ℕ) × (v : ℤ) × IsIssuedIn h q.name x.step c v
+    issued =
+        event_issued ops model bound l.laws code l.code_is log l.log_is l.fits h g.along t q there x (in_contains x q.events among) store done
+
+    waits : has_drained h q.name x.step ≡ false
+    waits = is_waiting x among pending (omega (arith, at))
+
+    -- what is bound before it has drained
+    free : (c : ℕ) (v : ℤ) → IsIssuedIn h q.name x.step c v → (j d : ℕ) (u : ℤ) → IsIssuedIn h q.name j d u → has_drained h q.name j ≡ false → j < x.step
+        → bound (d == c) (has_bar_between h q.name j x.step) ≡ true → ⊥
+    free c v mine j d u its none less binds =
+        let y = issue_event ops model bound l.laws code l.code_is log l.log_is l.fits h g.along t q there j d u its in
+        let i = contains_in y.0 q.events y.1 in
+        let a = access_of ops model bound code log nodes w l h g.along g.agrees t q there j (written d u) (issue_asks h q.name j d u its) in
+        let b = access_of ops model bound code log nodes w l h g.along g.agrees t q there x.step (written c v) (issue_asks h q.name x.step c v mine) in
+        let cells = cells_of_steps ops model bound code log nodes w l h g.along g.agrees t j x.step (written d u) (written c v) a b y.0 x y.2 refl in
+        let lt : y.0.step < x.step = omega (arith, y.2, less) in
+        let bars = told ops model bound l.laws code l.code_is log l.log_is l.fits h g.along t q there y.0 x y.1 (in_contains x q.events among) lt
+        (omega (arith, done)) in
+        let before = bound_before ops model bound code log nodes w l t q y.0 x there i among lt store
+        (ap₂ bound cells (sym bars ∙ ap (λ m. has_bar_between h q.name m x.step) y.2) ∙ binds) in
+        let drained = passed_has_drained ops model bound code log nodes w l p h g t q there both.0 y.0 y.1 y.3 (omega (arith, before, at)) in
+        true≢false (sym drained ∙ ap (has_drained h q.name) y.2 ∙ none)
+
+    pub has_turn : (c : ℕ) × (v : ℤ) × IsNextDrain ops.buffered bound h q.name x.step c v
+        × (drains_next ops.buffered h q.name x.step ≡ Drained q.name x.step c v ∷ [])
+    has_turn =
+        let i = issued in
+        let one = a_store x.step (record { cell = i.0; value = i.1 }) in
+        let run = run_of ops model bound l.laws code l.code_is log h g.along in
+        let waiting = subst (λ b. In one (pending_issues b h q.name)) (sym both.0) (store_pending h q.name x.step i.0 i.1 i.2 waits) in (
+          i.0,
+          i.1,
+          record {
+            buffers = both.0;
+            next = record {
+              issued = i.2;
+              pending = waits;
+              is_free = λ j d u its none less. false_from_ne_true _ (free i.0 i.1 i.2 j d u its none less);
+            };
+          },
+          ap (λ o. option_map_or (λ (z : Issue). drain_of q.name z.number z.what) o [])
+              (found_by_number (pending_issues ops.buffered h q.name) one (run.told.tells.deeds.buffers.numbers q.name).rises waiting),
+        )

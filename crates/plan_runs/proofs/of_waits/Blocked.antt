@@ -1,0 +1,122 @@
+-- At the end of a deadlock each thread is blocked.
+use Rattle.std.proofs.Common.{◌≡◌, ◌∙◌, inl, inr, ℕ, ◌<◌, true, List, Some, refl, sym, ap, subst, arith}
+use Rattle.std.specs.Prelude.{is_some, option_map}
+use Rattle.std.specs.FinMap as fin
+use Rattle.std.specs.List.{Contains}
+use Rattle.std.proofs.lemmas.Bool.{false_from_ne_true}
+use Rattle.std.proofs.lemmas.Option.{none-some}
+use Rattle.tc_base.specs.Buffers.{BufferOps}
+use Rattle.tc_base.specs.Logs.{Log}
+use Rattle.tc_base.specs.Names.{Name, child}
+use Rattle.tc_base.specs.States.{Thread}
+use Rattle.tc_base.specs.declared.failing.Failing.TheVariants.{Deadlock}
+use Rattle.tc_base.specs.declared.model.Model.{Model}
+use Rattle.tc_code.specs.Code.{Code}
+use Rattle.store_buffers.specs.Pending.{Binding}
+use Rattle.run_laws.proofs.Basics.{found, some_is, some_value}
+use Rattle.run_history.specs.History.{Deed}
+use Rattle.run_history.specs.Told.{owner_in, is_thread_in, steps_in, has_exited_in}
+use Rattle.run_history.proofs.of_pending.In.{In}
+use Rattle.run_follows.specs.blocked.Stuck.{IsBlockedIn, IsBlockedNext, AllAreBlocked}
+use Rattle.path_walk.specs.Paths.{Walk, Paths, paths_of}
+use Rattle.path_walk.specs.declared.event.Blocked.{Blocked}
+use Rattle.path_walk.specs.declared.event.Blocked.TheVariants as blocked
+use Rattle.path_laws.specs.history.Along.{IsThread, AllHaveDone}
+use Rattle.path_laws.proofs.of_history.Told.{RunOf, run_of, thread_of}
+use Rattle.path_laws.proofs.of_history.Walks.{thread_named}
+use Rattle.path_laws.proofs.of_events.Events.{event_within}
+use Rattle.path_laws.proofs.of_events.Lists.{in_contains}
+use Rattle.path_laws.proofs.of_events.Owners.{region_owned}
+use Rattle.path_laws.proofs.of_events.Waiters.{exits_told}
+use Rattle.path_laws.specs.stuck.Blocked.{asked_at}
+use Rattle.path_laws.proofs.of_stuck.Ends.{at_last_sleep}
+use Rattle.path_laws.proofs.of_stuck.Rests.{asks_blocked, left_blocked}
+use Rattle.sym_terms.specs.declared.node.Node.{Node}
+use Rattle.order_formula.specs.Worlds.{World}
+use Rattle.order_formula.specs.declared.group.Group.TheVariants.{Stuck}
+use Rattle.lawful_order.specs.Stuck.{IsHeld}
+use Rattle.order_events.proofs.Lists.{at_in}
+use Rattle.world_plan.specs.Going.{IsLawfulWorld, HasGone}
+use Rattle.plan_runs.proofs.of_waits.Begun.{region_event}
+use Rattle.plan_runs.proofs.of_waits.Sleepers.{sleep_number}
+use Rattle.plan_runs.proofs.of_waits.Waking.{waits}
+use Rattle.plan_runs.proofs.of_waits.Worlds.{walk}
+
+module _ {B : Type 0} (ops : BufferOps B) (model : Model) (bound : Binding) (code : Code) (log : Log) (nodes : List Node) (w : World)
+    (lawful : IsLawfulWorld ops model bound code log nodes w) (p : ℕ) (h : List Deed) (gone : HasGone ops.buffered bound code log nodes w p h)
+    (deadlock : log.failing ≡ Deadlock) (done : AllHaveDone code log h) where
+  abbrev paths : Paths
+  paths = paths_of code log
+
+  abbrev r : RunOf ops model bound lawful.laws code lawful.code_is log h
+  r = run_of ops model bound lawful.laws code lawful.code_is log h gone.along
+
+  -- a mutex that is held at the end is owned
+  held_is_owned : (m : ℕ) → IsHeld paths w m → (n : Name) × (owner_in h m ≡ Some n)
+  held_is_owned m held =
+      let v = held.there.0 in
+      let there = held.there.1 in
+      let k = walk ops model bound code log nodes w lawful held.thread v there in
+      let e = region_event v.events held.region (subst (In held.region) k.regions (in_contains held.region v.regions held.there.2)) in
+      let within = event_within code log v k e.event e.there in (
+        v.name,
+        (region_owned ops model bound lawful.laws code lawful.code_is log lawful.log_is lawful.fits h gone.along held.thread v there m).1 (
+          held.region,
+          held.there.2,
+          held.of,
+          record {
+            begun = omega (arith, within, e.step, done held.thread v there);
+            lasts = λ j left. absurd (none-some j (sym held.lasts ∙ left));
+          },
+        ),
+      )
+
+  owned : (m : ℕ) → IsHeld paths w m → is_some (owner_in h m) ≡ true
+  owned m held = let o = held_is_owned m held in some_is (owner_in h m) o.0 o.1
+
+  -- a child that has exited is a thread
+  exited_there : (n : Name) → has_exited_in h n ≡ true → is_thread_in h n ≡ true
+  exited_there n gone_from =
+      let t = found (λ (t : Thread B). t.local.has_exited) (fin.get r.state.threads n) (r.told.tells.deeds.buffers.threads.exits n ∙ gone_from) in
+      sym (r.told.tells.deeds.buffers.threads.there n) ∙ ap is_some t.1
+
+  blocked_at : (t : ℕ) (q : Walk) (there : IsThread code log t q) (b : Blocked) → q.blocked ≡ Some b → IsBlockedIn h q.name (asked_at b)
+  blocked_at t q there (blocked.Lock m) is = owned m ((lawful.lawful.meets (Stuck t)).stuck q (blocked.Lock m) there is)
+  blocked_at t q there (blocked.Wake c m k) is =
+      elim ((lawful.lawful.meets (Stuck t)).stuck q (blocked.Wake c m k) there is) [
+        | inl held ↦ inr (owned m held)
+        | inr sleeps_on ↦
+            let l = at_last_sleep code lawful.code_is log q (walk ops model bound code log nodes w lawful t q there) c m k is in
+            let among : Contains q.sleeps l.sleep = at_in q.sleeps _ l.sleep l.last in
+            let n = sleep_number paths t q l.sleep there among in
+            let none = sleeps_on n.0 (record { thread = t; it = l.sleep }) n.1 refl l.step in
+            let begun : l.sleep.step < steps_in h q.name = omega (arith, l.step, l.ends, done t q there) in
+            let asleep = (gone.sleeps n.0 (record { thread = t; it = l.sleep }) q n.1 there begun).1 (λ g ends. absurd (none-some g (sym none ∙ ends))) in
+            inl ((waits ops model bound code log nodes w lawful p h gone t q c there).1 (l.sleep, among, l.condition, asleep))
+      ]
+  blocked_at t q there (blocked.Join k) is =
+      false_from_ne_true (has_exited_in h (child q.name k)) (λ gone_from.
+      let n = thread_named ops model bound lawful.laws code lawful.code_is log lawful.log_is lawful.fits h (child q.name k) gone.along
+      (exited_there (child q.name k) gone_from) in
+      let e = (exits_told ops model bound lawful.laws code lawful.code_is log lawful.log_is lawful.fits h gone.along n.place n.walk n.there).0
+      (ap (has_exited_in h) n.name ∙ gone_from) in
+      (lawful.lawful.meets (Stuck t)).stuck q (blocked.Join k) there is n.place e.0 (q, n.walk, there, n.there, n.name) (n.walk, n.there, e.1) e.2)
+
+  pub all_blocked : AllAreBlocked code h
+  all_blocked n left =
+      let o = thread_named ops model bound lawful.laws code lawful.code_is log lawful.log_is lawful.fits h n gone.along left.there in
+      let q = o.walk in
+      let is_there : is_thread_in h q.name ≡ true = ap (is_thread_in h) o.name ∙ left.there in
+      let t = thread_of ops model bound lawful.laws code lawful.code_is log h r q.name is_there in
+      let last = done o.place q o.there in
+      let some = (left_blocked ops model bound lawful.laws code lawful.code_is log lawful.log_is lawful.fits h r o.place q o.there last deadlock t.0 t.1).0
+      (ap (has_exited_in h) o.name ∙ left.going) in
+      let b = some_value q.blocked some in
+      subst (IsBlockedNext code h) o.name
+      (record {
+        request = asked_at b.0;
+        asks =
+            asks_blocked ops model bound lawful.laws code lawful.code_is log lawful.log_is lawful.fits h r o.place q o.there last deadlock t.0 t.1
+            ∙ ap (λ x. option_map asked_at x) b.1;
+        blocked = blocked_at o.place q o.there b.0 b.1;
+      })

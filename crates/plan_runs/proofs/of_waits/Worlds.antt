@@ -1,0 +1,58 @@
+-- What a lawful world and the paths that it is of have.
+use Rattle.std.proofs.Common.{◌≡◌, ◌∙◌, inl, inr, ℕ, ◌<◌, Bool, true, false, not, ◌&&◌, ◌||◌, List, refl, sym, ap, subst}
+use Rattle.std.specs.List.{Contains}
+use Rattle.std.proofs.Math.Bool.{and-false}
+use Rattle.std.proofs.lemmas.Bool.{false≢true}
+use Rattle.tc_base.specs.Buffers.{BufferOps}
+use Rattle.tc_base.specs.Logs.{Log}
+use Rattle.tc_base.specs.declared.model.Model.{Model}
+use Rattle.tc_code.specs.Code.{Code}
+use Rattle.store_buffers.specs.Pending.{Binding}
+use Rattle.run_history.specs.History.{Deed}
+use Rattle.run_history.specs.Told.{steps_in}
+use Rattle.path_walk.specs.Fits.{fails_in}
+use Rattle.path_walk.specs.Marks.{unmarked}
+use Rattle.path_walk.specs.Paths.{Walk, paths_of}
+use Rattle.path_walk.specs.Steps.{steps_at}
+use Rattle.path_walk.specs.declared.event.Event.{Event}
+use Rattle.path_laws.specs.history.Along.{IsThread}
+use Rattle.path_laws.proofs.of_history.Walks.{IsWalk, walk_is}
+use Rattle.path_laws.proofs.of_events.Marked.{Rising, events_rise}
+use Rattle.sym_terms.specs.declared.node.Node.{Node}
+use Rattle.order_formula.specs.Worlds.{World}
+use Rattle.order_formula.specs.declared.group.Group.TheVariants.{Own}
+use Rattle.lawful_order.specs.Memory.{is_store}
+use Rattle.lawful_order.specs.Whole.{AreWhole}
+use Rattle.order_events.proofs.Whole.{whole}
+use Rattle.world_plan.specs.Going.{IsLawfulWorld, HasGone, place}
+
+kept_by : (buffered store rest : Bool) → store ≡ false → (not (buffered && store) || rest) ≡ true
+kept_by b s rest none = ap (λ c. not (b && c) || rest) none ∙ ap (λ c. not c || rest) (and-false b)
+
+module _ {B : Type 0} (ops : BufferOps B) (model : Model) (bound : Binding) (code : Code) (log : Log) (nodes : List Node) (w : World)
+    (lawful : IsLawfulWorld ops model bound code log nodes w) where
+  pub are_whole : AreWhole (paths_of code log)
+  are_whole = whole code (paths_of code log) (record { log = log; fits = lawful.fits; are = refl })
+
+  pub walk : (t : ℕ) (q : Walk) → IsThread code log t q → IsWalk code log q
+  walk t q there = walk_is code log lawful.log_is lawful.fits t q there
+
+  pub rising : (t : ℕ) (q : Walk) → IsThread code log t q → Rising q.events
+  rising t q there =
+      subst Rising (sym (walk t q there).events)
+      (events_rise code q.function (fails_in log q.name) 0 (unmarked code q.function) (steps_at code q.function q.places))
+
+  -- an event that is no store comes before the later ones of its thread
+  pub in_turn : (t : ℕ) (q : Walk) (x y : Event) → IsThread code log t q → Contains q.events x → Contains q.events y → is_store x.kind ≡ false
+      → x.step < y.step → place code log w t x < place code log w t y
+  in_turn t q x y there i j none less =
+      (lawful.lawful.meets (Own t)).own x y (q, there, i) (q, there, j) less (kept_by ops.buffered (is_store x.kind) _ none)
+
+  -- such an event comes before a position exactly where it is done
+  pub went_before : (p : ℕ) (h : List Deed) (t : ℕ) (q : Walk) (x : Event) → HasGone ops.buffered bound code log nodes w p h → IsThread code log t q
+      → Contains q.events x → is_store x.kind ≡ false → x.step < steps_in h q.name → place code log w t x < p
+  went_before p h t q x gone there i none done =
+      elim (gone.only t q x there i done) [
+        | inl before ↦ before
+        | inr waits ↦ absurd (false≢true (sym (and-false ops.buffered) ∙ ap (λ c. ops.buffered && c) (sym none) ∙ waits))
+      ]

@@ -1,0 +1,100 @@
+//! What memory and store buffers have when an event of a lawful world comes, where a history has gone up to its position.
+//! Each function's clause is a law, and its body does nothing.
+ghost use Rattle.std.specs.Prelude.{◌≡◌, ◌<◌, ℕ, ℤ, pos, true, false, Option, Some, None, List, [], ◌∷◌, ◌++◌, suc, slice_get, slice_index_or};
+ghost use Rattle.std.specs.List.{Contains};
+ghost use Rattle.tc_base.specs.Buffers.{BufferOps};
+ghost use Rattle.tc_base.specs.Logs.{Log};
+ghost use Rattle.tc_base.specs.Names.{Name};
+ghost use Rattle.tc_base.specs.declared.model.Model.{Model};
+ghost use Rattle.tc_base.specs.declared.request.Request.{Request};
+ghost use Rattle.tc_code.specs.Code.{Code};
+ghost use Rattle.store_buffers.specs.Pending.{Binding};
+ghost use Rattle.run_history.specs.History.{Deed, Did, Drained};
+ghost use Rattle.run_history.specs.Locals.{asks_next};
+ghost use Rattle.run_history.specs.Told.{steps_in};
+ghost use Rattle.run_follows.specs.Follow.{IsNextDrain, taken_in};
+ghost use Rattle.run_follows.specs.blocked.Stuck.{HasDrained, AllDrained};
+ghost use Rattle.path_walk.specs.Paths.{Walk, paths_of};
+ghost use Rattle.path_walk.specs.declared.event.Event.{Event};
+ghost use Rattle.path_laws.specs.history.Along.{IsThread};
+ghost use Rattle.sym_terms.specs.declared.node.Node.{Node};
+ghost use Rattle.sym_exec.specs.Executed.{Course};
+ghost use Rattle.sym_exec.specs.declared.symbolic.Access.{Access};
+ghost use Rattle.sym_laws.specs.Valued.{found};
+ghost use Rattle.order_formula.specs.Worlds.{World};
+ghost use Rattle.lawful_order.specs.Memory.{may_overtake};
+ghost use Rattle.world_plan.specs.Going.{IsLawfulWorld, HasGone, IsAtEvent, HaveDrained, is_pending, place};
+ghost use Rattle.world_plan.specs.Plan.{drains_next};
+ghost use Rattle.world_plan.specs.Sights.{AreInOrder, sight_of};
+
+/// A thread that is about to do what may not overtake its stores has all of them in memory.
+pub fn buffers_are_empty<B>()
+    ensures { (ops : BufferOps B) (model : Model) (bound : Binding) (code : Code) (log : Log) (nodes : List Node) (w : World)
+        (p : ℕ) (h : List Deed) (t : ℕ) (q : Walk) (x : Event)
+        → IsLawfulWorld ops model bound code log nodes w → IsAtEvent ops.buffered bound code log nodes w p h t q x
+        → may_overtake x.kind ≡ false → HasDrained ops.buffered h q.name }
+{}
+
+/// A thread that is about to load takes the value that the world says.
+pub fn loads_take_theirs<B>()
+    ensures { (ops : BufferOps B) (model : Model) (bound : Binding) (code : Code) (log : Log) (nodes : List Node) (w : World)
+        (p : ℕ) (h : List Deed) (t : ℕ) (q : Walk) (x : Event) (r : Request) (c : Course) (a : Access) (m : ℕ)
+        → IsLawfulWorld ops model bound code log nodes w → IsAtEvent ops.buffered bound code log nodes w p h t q x
+        → asks_next code h q.name ≡ Some r
+        → slice_get (found code log nodes).symbolic.threads t ≡ Some c → Contains c.accesses a → a.step ≡ x.step → a.takes ≡ Some m
+        → slice_index_or w.loads m (pos 0) ≡ taken_in ops.buffered code h q.name r }
+{}
+
+/// When the position of a store that its thread has issued comes, it is its turn to reach memory.
+pub fn drains_have_their_turn<B>()
+    ensures { (ops : BufferOps B) (model : Model) (bound : Binding) (code : Code) (log : Log) (nodes : List Node) (w : World)
+        (p : ℕ) (h : List Deed) (t : ℕ) (q : Walk) (x : Event)
+        → IsLawfulWorld ops model bound code log nodes w → HasGone ops.buffered bound code log nodes w p h
+        → IsThread code log t q → Contains q.events x → is_pending ops.buffered x ≡ true → place code log w t x ≡ p → x.step < steps_in h q.name
+        → (c : ℕ) × (v : ℤ) × IsNextDrain ops.buffered bound h q.name x.step c v
+        × (drains_next ops.buffered h q.name x.step ≡ Drained q.name x.step c v ∷ []) }
+{}
+
+/// A step leaves in memory what was there, and so do the drains that have come; where it is the event at the position, and no
+/// store of a buffer, they are those before the next position. So they are with the drain of the store at the position.
+pub fn drains_go_on<B>()
+    ensures step { (ops : BufferOps B) (model : Model) (bound : Binding) (code : Code) (log : Log) (nodes : List Node) (w : World)
+        (p : ℕ) (h : List Deed) (n : Name) (k : ℕ) (r : Request) (took : ℤ) (other : Option Name)
+        → IsLawfulWorld ops model bound code log nodes w → HasGone ops.buffered bound code log nodes w p h
+        → HaveDrained code log w ops.buffered p (h ++ Did n k r took other ∷ []) }
+    ensures event { (ops : BufferOps B) (model : Model) (bound : Binding) (code : Code) (log : Log) (nodes : List Node) (w : World)
+        (p : ℕ) (h : List Deed) (t : ℕ) (q : Walk) (x : Event) (r : Request) (took : ℤ) (other : Option Name)
+        → IsLawfulWorld ops model bound code log nodes w → IsAtEvent ops.buffered bound code log nodes w p h t q x
+        → is_pending ops.buffered x ≡ false
+        → HaveDrained code log w ops.buffered (suc p) (h ++ Did q.name x.step r took other ∷ []) }
+    ensures drain { (ops : BufferOps B) (model : Model) (bound : Binding) (code : Code) (log : Log) (nodes : List Node) (w : World)
+        (p : ℕ) (h : List Deed) (t : ℕ) (q : Walk) (x : Event) (c : ℕ) (v : ℤ)
+        → IsLawfulWorld ops model bound code log nodes w → HasGone ops.buffered bound code log nodes w p h
+        → IsThread code log t q → Contains q.events x → is_pending ops.buffered x ≡ true → place code log w t x ≡ p
+        → HaveDrained code log w ops.buffered (suc p) (h ++ Drained q.name x.step c v ∷ []) }
+{}
+
+/// What takes place by a step that shows nothing, by the event at the position, or by its drain, does so in the world's order.
+pub fn orders_go_on<B>()
+    ensures quiet { (ops : BufferOps B) (model : Model) (bound : Binding) (code : Code) (log : Log) (nodes : List Node) (w : World)
+        (p : ℕ) (h : List Deed) (d : Deed)
+        → IsLawfulWorld ops model bound code log nodes w → HasGone ops.buffered bound code log nodes w p h
+        → sight_of ops.buffered d ≡ None → AreInOrder ops.buffered (paths_of code log) w (h ++ d ∷ []) }
+    ensures event { (ops : BufferOps B) (model : Model) (bound : Binding) (code : Code) (log : Log) (nodes : List Node) (w : World)
+        (p : ℕ) (h : List Deed) (t : ℕ) (q : Walk) (x : Event) (r : Request) (took : ℤ) (other : Option Name)
+        → IsLawfulWorld ops model bound code log nodes w → IsAtEvent ops.buffered bound code log nodes w p h t q x
+        → AreInOrder ops.buffered (paths_of code log) w (h ++ Did q.name x.step r took other ∷ []) }
+    ensures drain { (ops : BufferOps B) (model : Model) (bound : Binding) (code : Code) (log : Log) (nodes : List Node) (w : World)
+        (p : ℕ) (h : List Deed) (t : ℕ) (q : Walk) (x : Event) (c : ℕ) (v : ℤ)
+        → IsLawfulWorld ops model bound code log nodes w → HasGone ops.buffered bound code log nodes w p h
+        → IsThread code log t q → Contains q.events x → place code log w t x ≡ p
+        → AreInOrder ops.buffered (paths_of code log) w (h ++ Drained q.name x.step c v ∷ []) }
+{}
+
+/// Where all events' positions are before that up to which a history has gone, no store is pending.
+pub fn all_stores_drain<B>()
+    ensures { (ops : BufferOps B) (model : Model) (bound : Binding) (code : Code) (log : Log) (nodes : List Node) (w : World) (p : ℕ) (h : List Deed)
+        → IsLawfulWorld ops model bound code log nodes w → HasGone ops.buffered bound code log nodes w p h
+        → ((t : ℕ) (q : Walk) (x : Event) → IsThread code log t q → Contains q.events x → place code log w t x < p)
+        → AllDrained ops.buffered h }
+{}

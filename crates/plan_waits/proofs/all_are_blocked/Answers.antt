@@ -1,6 +1,0 @@
-use Rattle.plan_waits.proofs.Blocked.{all_blocked}
-use Rattle.plan_waits.proofs.all_are_blocked.Goals as goal
-
-pub returns : goal.returns
-returns g c = λ ops model bound code log nodes w p h lawful deadlock gone done.
-    all_blocked ops model bound code log nodes w lawful p h gone deadlock done

@@ -1,6 +1,0 @@
-use Rattle.plan_waits.proofs.Threads.{has_exited}
-use Rattle.plan_waits.proofs.joins_find_exits.Goals as goal
-
-pub returns : goal.returns
-returns g c = λ ops model bound code log nodes w p h t q x k lawful at joins.
-    has_exited ops model bound code log nodes w lawful p h t q x at k joins

@@ -1,6 +1,0 @@
-use Rattle.plan_waits.proofs.Free.{is_free}
-use Rattle.plan_waits.proofs.mutexes_are_free.Goals as goal
-
-pub returns : goal.returns
-returns g c = λ ops model bound code log nodes w p h t q x m lawful at takes_it.
-    is_free ops model bound code log nodes w lawful p h t q x at m takes_it

@@ -1,0 +1,63 @@
+//! Which clauses of a formula a derivation rests on.
+#![tactic(auto)]
+
+ghost use Rattle.std.specs.Prelude.{◌≡◌, ◌<◌, ◌≤◌, length, map, IfOk};
+ghost use Rattle.std.specs.List.{All};
+ghost use Rattle.refute_check.specs.Refutations.{IsClosed};
+ghost use Rattle.refute_core.specs.Laws.{ReachedAreUnsatisfiable};
+ghost use Rattle.refute_core.specs.Reached.{AreReached, hints_used};
+ghost use Rattle.refute_core.specs.helpers.Marks.{AreMarked};
+
+use cnf_core::Cnf;
+use refute_check::{Derivation, Line, Numbers};
+use std::alloc::{AllocError, Global};
+
+/// Nothing satisfies the clauses of a formula that a closed derivation reaches.
+pub fn reached_are_unsatisfiable()
+    ensures { ReachedAreUnsatisfiable }
+{}
+
+/// Of each clause of a formula, in order, whether a closed derivation reaches it. The derivation is gone through once, backwards from
+/// its first empty clause.
+pub fn reached(alloc: Global, cnf: &Cnf, derivation: &Derivation) -> Result<Vec<bool>, AllocError>
+    requires { IsClosed cnf.now derivation.now }
+    ensures { IfOk result (λ marks. AreReached cnf.now derivation.now marks.items) }
+{
+    let hints = hints_used(alloc, derivation.lines())?;
+    let size = cnf.len();
+    let mut marks = vec![in alloc; false; size + hints.len()]?;
+    marks[size + hints.len() - 1] = true;
+    for place in (0..hints.len()).rev() {
+        if marks[size + place] {
+            mark(&mut marks, hints[place].as_slice());
+        }
+    }
+    marks.truncate(size);
+    Ok(marks)
+}
+
+/// The hints of the clauses that lines add, in order, up to the first empty clause.
+fn hints_used(alloc: Global, lines: &[Line]) -> Result<Vec<&Numbers>, AllocError>
+    ensures { IfOk result (λ hints. map (λ h. h.now) hints.items ≡ hints_used lines.now) }
+{
+    let mut hints = Vec::new(alloc);
+    for line in lines {
+        if let Line::Add(clause, numbers) = line {
+            hints.push(numbers)?;
+            if clause.literals().is_empty() {
+                break;
+            }
+        }
+    }
+    Ok(hints)
+}
+
+/// Marks the clauses of some numbers, which are from 1.
+fn mark(marks: &mut [bool], numbers: &[u32])
+    requires { All (λ n. (0 < n) × (n ≤ length marks.old)) numbers.now }
+    ensures { AreMarked marks.old numbers.now marks.new }
+{
+    for number in numbers {
+        marks[*number as usize - 1] = true;
+    }
+}

@@ -1,0 +1,136 @@
+-- The accesses of the paths, and the deeds that do them.
+use Rattle.std.proofs.Common.{◌≡◌, ◌∙◌, inl, inr, ℕ, ◌<◌, ◌==◌, ℤ, pos, true, List, [], ◌∷◌, Option, Some, refl, sym, ap, subst, arith, slice_index_or}
+use Rattle.std.specs.Prelude.{slice_get}
+use Rattle.std.specs.List.{Contains}
+use Rattle.std.proofs.lemmas.Bool.{cases_order}
+use Rattle.std.proofs.lemmas.Option.{same_Some}
+use Rattle.tc_base.specs.Buffers.{BufferOps}
+use Rattle.tc_base.specs.Logs.{Log}
+use Rattle.tc_base.specs.Names.{Name}
+use Rattle.tc_base.specs.declared.model.Model.{Model}
+use Rattle.tc_base.specs.declared.moves.Move.{Move}
+use Rattle.tc_base.specs.declared.request.Request.{Request}
+use Rattle.tc_code.specs.Code.{Code}
+use Rattle.tc_code.specs.Lawful.{IsLawful}
+use Rattle.tc_code.specs.Run.{Reproduces}
+use Rattle.store_buffers.specs.Laws.{Laws}
+use Rattle.store_buffers.specs.Pending.{Binding}
+use Rattle.run_history.specs.History.{Deed, Did, history}
+use Rattle.run_history.specs.Told.{steps_in}
+use Rattle.run_history.proofs.of_pending.In.{In, in_split}
+use Rattle.path_log.specs.Texts.{is_log}
+use Rattle.path_walk.specs.Fits.{Fits}
+use Rattle.path_walk.specs.Paths.{Walk, Paths, paths_of}
+use Rattle.path_laws.specs.history.Along.{IsAlongPaths, IsThread}
+use Rattle.path_laws.proofs.of_history.Walks.{walk_is, thread_path_at}
+use Rattle.path_laws.proofs.of_events.Events.{event_within}
+use Rattle.path_laws.proofs.of_events.Lists.{contains_in, in_contains}
+use Rattle.sym_terms.specs.Terms.{AreTerms}
+use Rattle.sym_terms.specs.declared.node.Node.{Node}
+use Rattle.sym_exec.specs.Alone.{Asked, asked_by, asked_in, cell_by}
+use Rattle.sym_exec.specs.Executed.{Course, Symbolic}
+use Rattle.sym_exec.specs.declared.symbolic.Access.{Access}
+use Rattle.sym_laws.specs.Valued.{AgreesWith, found}
+use Rattle.sym_laws.proofs.Follows.{found_at_log}
+use Rattle.sym_events.proofs.Whole.{is_executed}
+use Rattle.order_formula.specs.Worlds.{World}
+use Rattle.order_events.proofs.Lists.{in_at}
+use Rattle.lawful_order.specs.Cells.{is_same_cell, value_at_start}
+use Rattle.lawful_order.specs.Reads.{HasAccess}
+use Rattle.lawful_order.specs.Whole.{IsExecutedBy, HasStep}
+use Rattle.sym_steps.specs.accesses.Asked.{IsAskedIn, IsReachedIn}
+use Rattle.sym_steps.proofs.of_accesses.Asked.{access_asked, asked_access}
+use Rattle.sym_steps.proofs.of_accesses.Reached.{same_cells, cell_begins}
+use Rattle.run_lawful.proofs.of_world.Run.{fits, along, all_steps}
+
+module _ {B : Type 0} (ops : BufferOps B) (model : Model) (bound : Binding) (laws : Laws ops model bound) (code : Code) (lawful : IsLawful code) (log : Log)
+    (is : is_log log ≡ true) (nodes : List Node) (terms : AreTerms nodes) (moves : List Move) (again : Reproduces ops code log moves) (w : World)
+    (agrees : AgreesWith (found code log nodes).symbolic w.loads (history ops code moves)) where
+  abbrev h : List Deed
+  h = history ops code moves
+
+  abbrev symbolic : Symbolic
+  symbolic = (found code log nodes).symbolic
+
+  abbrev later : List Node
+  later = (found code log nodes).nodes
+
+  abbrev paths : Paths
+  paths = paths_of code log
+
+  abbrev fit : Fits code log
+  fit = fits ops model bound laws code lawful log is moves again
+
+  abbrev go : IsAlongPaths ops.buffered bound code log h
+  go = along ops model bound laws code lawful log is moves again
+
+  executed_so : IsExecutedBy paths symbolic
+  executed_so = is_executed code paths nodes (record { log = log; fits = fit; are = refl })
+
+  -- each access is a step of its thread, and is done
+  pub access_step : (t : ℕ) (a : Access) → HasAccess symbolic t a → HasStep paths t a.step
+  access_step t a has = let x = executed_so.accesses t a has in (x.0, x.1, x.2)
+
+  access_walk : (t : ℕ) (a : Access) → HasAccess symbolic t a → (q : Walk) × IsThread code log t q × (a.step < steps_in h q.name)
+  access_walk t a has =
+      let x = executed_so.accesses t a has in
+      let q = x.1.0 in
+      let inside = event_within code log q (walk_is code log is fit t q x.1.1) x.0 (in_contains x.0 q.events x.1.2) in
+      let many = all_steps ops model bound laws code lawful log is moves again t q x.1.1 in
+      (q, x.1.1, omega (arith, inside, many, x.2))
+
+  access_reached : (t : ℕ) (a : Access) → HasAccess symbolic t a → IsReachedIn code log nodes h t a
+  access_reached t a has =
+      let q = access_walk t a has in record { walk = q.0; course = has.0; thread = q.1; there = has.1; among = has.2; reached = inl q.2 }
+
+  -- two of them are to one cell where they ask for one, and this has at the start what memory has there
+  pub same_cell : (t : ℕ) (a : Access) (u : ℕ) (b : Access) → HasAccess symbolic t a → HasAccess symbolic u b
+      → is_same_cell later w a.cell b.cell ≡ (cell_by later w.loads a.cell == cell_by later w.loads b.cell)
+  same_cell t a u b has and =
+      same_cells ops model bound laws code lawful log is fit nodes w terms h go agrees t u a b (access_reached t a has) (access_reached u b and)
+
+  pub starts_so : (t : ℕ) (a : Access) → HasAccess symbolic t a
+      → value_at_start code a.cell ≡ slice_index_or code.memory (cell_by later w.loads a.cell) (pos 0)
+  starts_so t a has = cell_begins ops model bound laws code lawful log is fit nodes w.loads terms h go agrees t a (access_reached t a has)
+
+  -- the deed of an access
+  pub record HasDeed (t : ℕ) (a : Access) : Type 0 where
+    pub walk : Walk
+    pub thread : IsThread code log t walk
+    pub asked : IsAskedIn h walk.name a.step (asked_in later w.loads a)
+
+  pub deed_of : (t : ℕ) (a : Access) → HasAccess symbolic t a → HasDeed t a
+  deed_of t a has =
+      let q = access_walk t a has in
+      record {
+        walk = q.0;
+        thread = q.1;
+        asked = access_asked ops model bound laws code lawful log is fit nodes w.loads terms h go agrees t q.0 has.0 q.1 has.1 a
+            (in_contains a has.0.accesses has.2) q.2;
+      }
+
+  -- and the access of a deed
+  pub access_of : (t : ℕ) (q : Walk) (k : ℕ) (r : Request) (took : ℤ) (other : Option Name) (x : Asked) → IsThread code log t q
+      → In (Did q.name k r took other) h → asked_by took r ≡ x ∷ []
+      → (a : Access) × HasAccess symbolic t a × (a.step ≡ k) × (asked_in later w.loads a ≡ x)
+  access_of t q k r took other x there i asks =
+      let c = course_at t q there in
+      let s = in_split (Did q.name k r took other) h i in
+      let d : IsAskedIn h q.name k x = record { older = s.older; newer = s.newer; request = r; took = took; other = other; there = s.there; asks = asks } in
+      let a = asked_access ops model bound laws code lawful log is fit nodes w.loads terms h go agrees t q c.0 there c.1 k x d in
+      (a.0, (c.0, c.1, contains_in a.0 c.0.accesses a.1), a.2, a.3)
+    where
+      course_at : (t : ℕ) (q : Walk) → IsThread code log t q → (c : Course) × (slice_get symbolic.threads t ≡ Some c)
+      course_at t q there = let p = thread_path_at code log t q there in (_, (found_at_log code log nodes lawful is terms t p.0 p.1).course)
+
+  -- a thread has one access in a step
+  pub one_access : (t : ℕ) (a b : Access) → HasAccess symbolic t a → HasAccess symbolic t b → a.step ≡ b.step → a ≡ b
+  one_access t a b has and step =
+      let same : and.0 ≡ has.0 = same_Some and.0 has.0 (sym and.1 ∙ has.1) in
+      let i = in_at has.0.accesses a has.2 in
+      let j = in_at has.0.accesses b (subst (λ (c : Course). Contains c.accesses b) same and.2) in
+      elim (cases_order i.0 j.0) [
+        | inl even ↦ same_Some a b (sym i.1 ∙ ap (slice_get has.0.accesses) even ∙ j.1)
+        | inr (inl less) ↦ absurd (omega (arith, step, executed_so.rise t i.0 j.0 has.0 a b has.1 i.1 j.1 less))
+        | inr (inr more) ↦ absurd (omega (arith, step, executed_so.rise t j.0 i.0 has.0 b a has.1 j.1 i.1 more))
+      ]

@@ -1,0 +1,58 @@
+-- What a load's deed takes.
+use Rattle.std.proofs.Common.{◌≡◌, ◌∙◌, ℕ, ◌&&◌, ℤ, Bool, true, false, List, [], ◌∷◌, Option, Some, None, refl, sym, ap}
+use Rattle.std.specs.Prelude.{is_some, unwrap_or}
+use Rattle.std.proofs.lemmas.Bool.{false≢true, and_parts}
+use Rattle.tc_base.specs.Buffers.{Entry, newest, is_nil}
+use Rattle.tc_base.specs.Names.{Name}
+use Rattle.tc_base.specs.declared.request.Request.{Request}
+use Rattle.tc_base.specs.declared.request.Request.TheVariants.{Read, Write, Exchange, CompareExchange}
+use Rattle.tc_code.specs.Code.{Code}
+use Rattle.tc_code.specs.Step.{replaced}
+use Rattle.store_buffers.specs.Pending.{stores}
+use Rattle.run_history.specs.History.{Deed, pending}
+use Rattle.run_history.specs.Told.{value_in}
+use Rattle.run_follows.specs.Follow.{IsNextStep, seen_in}
+use Rattle.path_walk.specs.declared.event.EventKind.{EventKind}
+use Rattle.path_walk.specs.declared.event.EventKind.TheVariants as kind
+use Rattle.path_laws.specs.Deeds.{kind_of}
+use Rattle.lawful_order.specs.Memory.{is_store}
+use Rattle.sym_exec.specs.Alone.{Asked, asked_by}
+use Rattle.run_lawful.proofs.of_reads.Writes.{asking, never_waits}
+
+-- a load takes place by its step
+pub record IsLoad (b : Bool) (r : Request) (other : Option Name) : Type 0 where
+  pub asked : EventKind
+  pub asks : kind_of r other ≡ Some asked
+  pub kept : (b && is_store asked) ≡ false
+
+pub load_is : (b : Bool) (r : Request) (took : ℤ) (other : Option Name) (x : Asked) → asked_by took r ≡ x ∷ [] → is_some x.takes ≡ true → IsLoad b r other
+load_is b (Read c) took other x asks takes = record { asked = kind.Load; asks = refl; kept = never_waits b }
+load_is b (Write c v) took other x asks takes =
+    let same : asking c None (Some v) ≡ x = cc in absurd (false≢true (ap (λ (y : Asked). is_some y.takes) same ∙ takes))
+load_is b (Exchange c v) took other x asks takes = record { asked = kind.Exchange; asks = refl; kept = never_waits b }
+load_is b (CompareExchange c e v) took other x asks takes = record { asked = kind.Exchange; asks = refl; kept = never_waits b }
+load_is b r took other x asks takes = absurd cc
+
+-- an exchange finds its buffer empty, so that it too takes what its thread sees
+none_newer : (es : List Entry) (c : ℕ) (v : ℤ) → is_nil es ≡ true → unwrap_or (newest es c) v ≡ v
+none_newer [] c v nil = refl
+none_newer (e ∷ es) c v nil = absurd (false≢true nil)
+
+pub load_takes : (b : Bool) (code : Code) (h : List Deed) (n : Name) (k : ℕ) (r : Request) (took : ℤ) (other : Option Name) (x : Asked)
+    → IsNextStep b code h n k r took other → asked_by took r ≡ x ∷ [] → is_some x.takes ≡ true → x.takes ≡ Some (seen_in b code h n x.cell)
+load_takes b code h n k (Read c) took other x next asks takes =
+    let same : asking c (Some took) None ≡ x = cc in
+    sym (ap (λ (y : Asked). y.takes) same) ∙ ap (λ v. Some v) next.takes ∙ ap (λ (y : Asked). Some (seen_in b code h n y.cell)) same
+load_takes b code h n k (Write c v) took other x next asks takes =
+    let same : asking c None (Some v) ≡ x = cc in absurd (false≢true (ap (λ (y : Asked). is_some y.takes) same ∙ takes))
+load_takes b code h n k (Exchange c v) took other x next asks takes =
+    let same : asking c (Some took) (Some v) ≡ x = cc in
+    let empty = (and_parts (is_nil (stores (pending b h n))) true next.may).0 in
+    let seen : seen_in b code h n c ≡ value_in b code h c = none_newer (stores (pending b h n)) c (value_in b code h c) empty in
+    sym (ap (λ (y : Asked). y.takes) same) ∙ ap (λ v. Some v) (next.takes ∙ sym seen) ∙ ap (λ (y : Asked). Some (seen_in b code h n y.cell)) same
+load_takes b code h n k (CompareExchange c e v) took other x next asks takes =
+    let same : asking c (Some took) (Some (replaced took e v)) ≡ x = cc in
+    let empty = (and_parts (is_nil (stores (pending b h n))) true next.may).0 in
+    let seen : seen_in b code h n c ≡ value_in b code h c = none_newer (stores (pending b h n)) c (value_in b code h c) empty in
+    sym (ap (λ (y : Asked). y.takes) same) ∙ ap (λ v. Some v) (next.takes ∙ sym seen) ∙ ap (λ (y : Asked). Some (seen_in b code h n y.cell)) same
+load_takes b code h n k r took other x next asks takes = absurd cc

@@ -1,0 +1,133 @@
+-- The events of paths as the deeds of a run that reproduces their log.
+use Rattle.std.proofs.Common.{◌≡◌, ◌∙◌, ℕ, ℤ, Bool, true, false, ◌&&◌, List, ◌∷◌, ◌++◌, Option, Some, sym, ap, subst}
+use Rattle.std.specs.List.{Contains}
+use Rattle.std.proofs.Math.Bool.{and-false}
+use Rattle.tc_base.specs.Buffers.{BufferOps}
+use Rattle.tc_base.specs.Logs.{Log}
+use Rattle.tc_base.specs.Names.{Name}
+use Rattle.tc_base.specs.declared.model.Model.{Model}
+use Rattle.tc_base.specs.declared.moves.Move.{Move}
+use Rattle.tc_base.specs.declared.request.Request.{Request}
+use Rattle.tc_code.specs.Code.{Code}
+use Rattle.tc_code.specs.Lawful.{IsLawful}
+use Rattle.tc_code.specs.Run.{Reproduces}
+use Rattle.store_buffers.specs.Laws.{Laws}
+use Rattle.store_buffers.specs.Pending.{Binding}
+use Rattle.run_history.specs.History.{Deed, Did, history}
+use Rattle.run_follows.specs.Follow.{MayFollow, IsLeftIn}
+use Rattle.path_log.specs.Texts.{is_log}
+use Rattle.path_walk.specs.Events.{creates_of, joins_of, regions_of, sleeps_of}
+use Rattle.path_walk.specs.Fits.{Fits}
+use Rattle.path_walk.specs.Paths.{Walk, Paths, paths_of}
+use Rattle.path_walk.specs.declared.event.Event.{Event}
+use Rattle.path_walk.specs.declared.event.EventKind.{EventKind}
+use Rattle.path_laws.specs.Deeds.{kind_of}
+use Rattle.path_laws.specs.history.Along.{IsAlongPaths, IsThread}
+use Rattle.path_laws.proofs.of_history.Told.{reproduced_run, first_along}
+use Rattle.path_laws.proofs.of_history.Walks.{walk_is}
+use Rattle.path_laws.proofs.of_events.Lists.{in_contains}
+use Rattle.sym_laws.specs.Valued.{found}
+use Rattle.sym_terms.specs.declared.node.Node.{Node}
+use Rattle.order_formula.specs.Worlds.{World}
+use Rattle.lawful_order.specs.Memory.{is_store}
+use Rattle.world_plan.specs.Sights.{Shows}
+use Rattle.run_lawful.specs.world.Order.{IsOrderOf}
+use Rattle.run_lawful.specs.world.WorldOf.{is_step, world_in}
+use Rattle.run_lawful.proofs.of_world.Enders.{step_named}
+use Rattle.run_lawful.proofs.of_world.Ordered.{is_order}
+use Rattle.run_lawful.proofs.of_world.Run.{fits, along, event_is_done, seen}
+use Rattle.run_lawful.proofs.of_world.Seen.{shows_step}
+use Rattle.run_lawful.proofs.of_world.Splits.{TwoPlaces, Before, Same, After, two_places}
+
+-- what isn't a store isn't kept in a buffer
+pub none_pending : (buffered : Bool) (k : EventKind) → is_store k ≡ false → (buffered && is_store k) ≡ false
+none_pending buffered k quiet = ap (λ b. buffered && b) quiet ∙ and-false buffered
+
+-- a thread of the paths, by what its walk has
+module _ (code : Code) (log : Log) (is : is_log log ≡ true) (fits : Fits code log) (t : ℕ) (q : Walk) (there : IsThread code log t q) where
+  pub creates_are : q.creates ≡ creates_of q.events
+  creates_are = let k = walk_is code log is fits t q there in ap (λ (v : Walk). v.creates) k.is ∙ sym (ap (λ (v : Walk). creates_of v.events) k.is)
+
+  pub joins_are : q.joins ≡ joins_of q.events
+  joins_are = let k = walk_is code log is fits t q there in ap (λ (v : Walk). v.joins) k.is ∙ sym (ap (λ (v : Walk). joins_of v.events) k.is)
+
+  pub regions_are : q.regions ≡ regions_of q.events
+  regions_are = (walk_is code log is fits t q there).regions
+
+  pub sleeps_are : q.sleeps ≡ sleeps_of q.events
+  sleeps_are = (walk_is code log is fits t q there).sleeps
+
+module _ {B : Type 0} (ops : BufferOps B) (model : Model) (bound : Binding) (laws : Laws ops model bound) (code : Code) (lawful : IsLawful code) (log : Log)
+    (is : is_log log ≡ true) (nodes : List Node) (moves : List Move) (again : Reproduces ops code log moves) where
+  abbrev pub h : List Deed
+  h = history ops code moves
+
+  abbrev pub paths : Paths
+  paths = paths_of code log
+
+  abbrev pub w : World
+  w = world_in ops.buffered paths (found code log nodes).symbolic h
+
+  pub fit : Fits code log
+  fit = fits ops model bound laws code lawful log is moves again
+
+  pub ordered : IsOrderOf ops.buffered paths h w
+  ordered = is_order ops.buffered paths (found code log nodes).symbolic h (seen ops model bound laws code lawful log is moves again)
+
+  pub goes_along : IsAlongPaths ops.buffered bound code log h
+  goes_along = along ops model bound laws code lawful log is moves again
+
+  -- the first deeds are along the paths too
+  pub begins_along : (older newer : List Deed) → h ≡ older ++ newer → IsAlongPaths ops.buffered bound code log older
+  begins_along older newer at =
+      first_along ops model bound laws code lawful log older newer (subst (IsAlongPaths ops.buffered bound code log) at goes_along)
+
+  -- a step is one of a thread that is there
+  pub left_at : (older newer : List Deed) (n : Name) (k : ℕ) (r : Request) (took : ℤ) (other : Option Name) → h ≡ older ++ Did n k r took other ∷ newer
+      → IsLeftIn older n
+  left_at older newer n k r took other at = (reproduced_run ops model bound laws code lawful log moves again).told.threads older newer n k r took other at
+
+  -- a thread does each step once
+  pub step_once : (n : Name) (k : ℕ) (o : List Deed) (x : Deed) (u p : List Deed) (y : Deed) (m : List Deed) → h ≡ o ++ x ∷ u → h ≡ p ++ y ∷ m
+      → is_step n k x ≡ true → is_step n k y ≡ true → (o ≡ p) × (x ≡ y) × (u ≡ m)
+  step_once n k o x u p y m at bt one two = by (two_places o x u p y m (sym at ∙ bt))
+    where
+      by : TwoPlaces o x u p y m → (o ≡ p) × (x ≡ y) × (u ≡ m)
+      by (Before between before rest) =
+          absurd ((seen ops model bound laws code lawful log is moves again).told.apart o m between x y (bt ∙ ap (λ g. g ++ y ∷ m) before)
+          (step_named n k x one ∙ sym (step_named n k y two)))
+      by (Same older deed newer) = (older, deed, newer)
+      by (After between before rest) =
+          absurd ((seen ops model bound laws code lawful log is moves again).told.apart p u between y x (at ∙ ap (λ g. g ++ x ∷ u) before)
+          (step_named n k y two ∙ sym (step_named n k x one)))
+
+  -- the deed of a thread's event
+  pub record EventDeed (t : ℕ) (q : Walk) (x : Event) : Type 0 where
+    pub older : List Deed
+    pub newer : List Deed
+    pub request : Request
+    pub took : ℤ
+    pub other : Option Name
+    pub at : h ≡ older ++ Did q.name x.step request took other ∷ newer
+    pub asks : kind_of request other ≡ Some x.kind
+    pub along : IsAlongPaths ops.buffered bound code log older
+    pub may : MayFollow ops.buffered bound code older (Did q.name x.step request took other)
+    pub left : IsLeftIn older q.name
+    pub shows : (ops.buffered && is_store x.kind) ≡ false → Shows ops.buffered paths (Did q.name x.step request took other) t x.step
+
+  pub event_deed : (t : ℕ) (q : Walk) (x : Event) → IsThread code log t q → Contains q.events x → EventDeed t q x
+  event_deed t q x there i =
+      let d = event_is_done ops model bound laws code lawful log is moves again t q x there (in_contains x q.events i) in
+      record {
+        older = d.older;
+        newer = d.newer;
+        request = d.request;
+        took = d.took;
+        other = d.other;
+        at = d.there;
+        asks = d.asks;
+        along = begins_along d.older (Did q.name x.step d.request d.took d.other ∷ d.newer) d.there;
+        may = (goes_along.follow d.older d.newer (Did q.name x.step d.request d.took d.other) d.there).1;
+        left = left_at d.older d.newer q.name x.step d.request d.took d.other d.there;
+        shows = λ kept. shows_step ops.buffered paths t x.step q d.request d.took d.other x.kind there d.asks kept;
+      }

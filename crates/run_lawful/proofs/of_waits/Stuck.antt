@@ -1,0 +1,176 @@
+-- At the end of a deadlock each thread that hasn't exited is blocked by what the world says.
+use Rattle.std.proofs.Common.{◌≡◌, ◌∙◌, inl, inr, ℕ, ◌<◌, ◌≤◌, Bool, true, false, cond, IsSome, List, length}
+use Rattle.std.proofs.Common.{Option, Some, None, refl, sym, ap, subst, arith, bytes_eq}
+use Rattle.std.specs.Prelude.{slice_get, option_map, option_and_then}
+use Rattle.std.specs.FinSet as set
+use Rattle.std.specs.List.{Contains}
+use Rattle.std.proofs.lemmas.Bool.{true≢false, and_parts, ltb-true}
+use Rattle.std.proofs.lemmas.Option.{none-some, same_Some, slice_get_cases}
+use Rattle.tc_base.specs.Buffers.{BufferOps}
+use Rattle.tc_base.specs.Logs.{Log, ThreadPath, place_in}
+use Rattle.tc_base.specs.Names.{Name, child}
+use Rattle.tc_base.specs.declared.failing.Failing.{Failing}
+use Rattle.tc_base.specs.declared.failing.Failing.TheVariants.{Thread, Deadlock}
+use Rattle.tc_base.specs.declared.model.Model.{Model}
+use Rattle.tc_base.specs.declared.moves.Move.{Move}
+use Rattle.tc_code.specs.Code.{Code}
+use Rattle.tc_code.specs.Lawful.{IsLawful}
+use Rattle.tc_code.specs.Run.{Reproduces}
+use Rattle.tc_code.specs.declared.instr.Instr.{Instr}
+use Rattle.store_buffers.specs.Laws.{Laws}
+use Rattle.store_buffers.specs.Pending.{Binding}
+use Rattle.run_laws.proofs.Basics.{some_value}
+use Rattle.run_history.specs.History.{Deed}
+use Rattle.run_history.specs.Told.{owner_in, waiting_in, has_exited_in, steps_in}
+use Rattle.run_follows.specs.blocked.Stuck.{IsBlockedIn}
+use Rattle.path_log.specs.Texts.{rises_from, is_there, is_log}
+use Rattle.path_walk.specs.Fits.{Fits, ending_by}
+use Rattle.path_walk.specs.Marks.{Marks, unmarked, marks_after}
+use Rattle.path_walk.specs.Paths.{Walk, Paths, blocked_after}
+use Rattle.path_walk.specs.Steps.{steps_at, standing}
+use Rattle.path_walk.specs.declared.ending.Ending.{Ending}
+use Rattle.path_walk.specs.declared.ending.Ending.TheVariants.{Fails, Open}
+use Rattle.path_walk.specs.declared.event.Blocked.{Blocked}
+use Rattle.path_walk.specs.declared.event.Blocked.TheVariants.{Lock, Wake, Join}
+use Rattle.path_walk.specs.declared.event.Region.{Region}
+use Rattle.path_walk.specs.declared.event.Sleep.{Sleep}
+use Rattle.path_laws.specs.history.Along.{IsThread}
+use Rattle.path_laws.proofs.of_history.Walks.{IsWalk, walk_is}
+use Rattle.path_laws.proofs.of_events.Events.{event_within}
+use Rattle.path_laws.proofs.of_events.Lists.{in_contains}
+use Rattle.path_laws.proofs.of_events.Owners.{took_it, region_owned}
+use Rattle.path_laws.proofs.of_events.Waiters.{sleep_waits, sleeps_still, exits_told}
+use Rattle.path_laws.specs.stuck.Blocked.{asked_at}
+use Rattle.path_laws.proofs.of_stuck.Ends.{at_last_sleep}
+use Rattle.path_laws.proofs.of_stuck.Stuck.{blocked_is_left}
+use Rattle.sym_laws.specs.Valued.{found}
+use Rattle.sym_terms.specs.declared.node.Node.{Node}
+use Rattle.lawful_order.specs.Events.{ender_of}
+use Rattle.lawful_order.specs.Stuck.{IsHeld, SleepsOn, RunsOn, CannotGoOn, StuckRule}
+use Rattle.run_lawful.proofs.of_world.Enders.{ended_told}
+use Rattle.run_lawful.proofs.of_world.Run.{all_steps}
+use Rattle.run_lawful.proofs.of_waits.Deeds.{regions_are, h, paths, w, fit, goes_along}
+use Rattle.run_lawful.proofs.of_waits.Parts.{region_of_events}
+use Rattle.run_lawful.proofs.of_waits.Sleeping.{ended_is_awake}
+
+-- only a path that rests says what its thread is blocked at
+unblocked : (m n : Name) (t : Marks) (ss : List Sleep) (at : Option Instr) (b : Blocked) → blocked_after (ending_by (Some m) n) t ss at ≡ Some b → ⊥
+unblocked m n t ss at b e = by (bytes_eq n m) e
+  where
+    the_ending : Bool → Ending
+    the_ending c = cond c Fails Open
+
+    by : (c : Bool) → blocked_after (the_ending c) t ss at ≡ Some b → ⊥
+    by true e = none-some b e
+    by false e = none-some b e
+
+-- so there is a deadlock where one does
+pub deadlock : (code : Code) (log : Log) (is : is_log log ≡ true) (q : Walk) (b : Blocked) → IsWalk code log q → q.blocked ≡ Some b → log.failing ≡ Deadlock
+deadlock code log is q b k blocked = by log.failing refl
+  where
+    failed : (n : Failing) → log.failing ≡ n → (j : ℕ) → n ≡ Thread j → is_there log.failing (length log.threads) ≡ true → ⊥
+    failed n e j this inside =
+        elim (slice_get_cases log.threads j).1 [
+          | inl at ↦
+              let failing = ap (λ f. option_and_then (λ i. option_map (λ (x : ThreadPath). x.name) (slice_get log.threads i)) (place_in f)) (e ∙ this)
+              ∙ ap (option_map (λ (x : ThreadPath). x.name)) at.2 in
+              unblocked at.0.name q.name (marks_after (unmarked code q.function) (steps_at code q.function q.places)) q.sleeps
+              (standing code q.function k.path) b
+              (ap (λ o. blocked_after (ending_by o q.name) (marks_after (unmarked code q.function) (steps_at code q.function q.places)) q.sleeps
+              (standing code q.function k.path)) (sym failing) ∙ sym k.blocked ∙ blocked)
+          | inr past ↦
+              let less = ltb-true j (length log.threads) (ap (λ f. is_there f (length log.threads)) (sym (e ∙ this)) ∙ inside) in
+              omega (arith, less, past.0)
+        ]
+
+    by : (f : Failing) → log.failing ≡ f → log.failing ≡ Deadlock
+    by Deadlock e = e
+    by (Thread j) e = absurd (failed (Thread j) e j refl (and_parts (rises_from None log.threads) (is_there log.failing (length log.threads)) is).1)
+
+module _ {B : Type 0} (ops : BufferOps B) (model : Model) (bound : Binding) (laws : Laws ops model bound) (code : Code) (lawful : IsLawful code) (log : Log)
+    (is : is_log log ≡ true) (nodes : List Node) (moves : List Move) (again : Reproduces ops code log moves) where
+  abbrev done : List Deed
+  done = h ops model bound laws code lawful log is nodes moves again
+
+  abbrev threads : Paths
+  threads = paths ops model bound laws code lawful log is nodes moves again
+
+  abbrev f : Fits code log
+  f = fit ops model bound laws code lawful log is nodes moves again
+
+  -- a mutex that somebody owns at the end is held
+  held : (m : ℕ) → IsSome (owner_in done m) → IsHeld threads (w ops model bound laws code lawful log is nodes moves again) m
+  held m owned =
+      let along = goes_along ops model bound laws code lawful log is nodes moves again in
+      let o = some_value (owner_in done m) owned in
+      let n = (took_it ops model bound laws code lawful log is f done along m o.0 o.1).thread in
+      let g = (region_owned ops model bound laws code lawful log is f done along n.place n.walk n.there m).0 (o.1 ∙ ap (λ x. Some x) (sym n.name)) in
+      record {
+        thread = n.place;
+        region = g.0;
+        there = (n.walk, n.there, g.1);
+        of = g.2;
+        lasts = no_end n.place n.walk n.there g.0 g.1 g.3.lasts;
+      }
+    where
+      -- a region that is open after all steps has no end
+      no_end : (t : ℕ) (q : Walk) (there : IsThread code log t q) (r : Region) → Contains q.regions r
+          → ((k : ℕ) → r.to ≡ Some k → steps_in done q.name ≤ k) → r.to ≡ None
+      no_end t q there r i lasts = by r.to refl
+        where
+          by : (o : Option ℕ) → r.to ≡ o → r.to ≡ None
+          by None to = to
+          by (Some k) to =
+              let parts = region_of_events q.events r (subst (λ rs. Contains rs r) (regions_are code log is f t q there) i) in
+              let x = parts.left k to in
+              let inside = event_within code log q (walk_is code log is f t q there) x.event (in_contains x.event q.events x.among) in
+              let many = all_steps ops model bound laws code lawful log is moves again t q there in
+              let later = lasts k to in
+              absurd (omega (arith, inside, many, later, x.step))
+
+  module _ (t : ℕ) (q : Walk) (there : IsThread code log t q) where
+    -- a thread that waits at the end sleeps on
+    sleeps_on : (c m k : ℕ) → q.blocked ≡ Some (Wake c m k) → set.contains (waiting_in done c) q.name ≡ true
+        → SleepsOn threads (w ops model bound laws code lawful log is nodes moves again) t k
+    sleeps_on c m k blocked waits s x at own step =
+        by (ender_of (w ops model bound laws code lawful log is nodes moves again) s) refl
+      where
+        by : (o : Option ℕ) → ender_of (w ops model bound laws code lawful log is nodes moves again) s ≡ o
+            → ender_of (w ops model bound laws code lawful log is nodes moves again) s ≡ None
+        by None e = e
+        by (Some g) e =
+            let along = goes_along ops model bound laws code lawful log is nodes moves again in
+            let a = (sleep_waits ops model bound laws code lawful log is f done along t q there c).0 waits in
+            let still = sleeps_still ops model bound laws code lawful log is f done q.name a.0 along a.3 in
+            let last = at_last_sleep code lawful log q (walk_is code log is f t q there) c m k blocked in
+            let many = all_steps ops model bound laws code lawful log is moves again t q there in
+            let same : a.0.step ≡ x.it.step = omega (arith, still, last.ends, many, step) in
+            let ended = ended_told ops model bound laws code lawful log is moves again (found code log nodes).symbolic s g x at e in
+            absurd (ended_is_awake ops model bound laws code lawful log is nodes moves again s g x t q a.0 there own a.1 same a.3 at ended)
+
+    -- a child that a thread waits for at the end runs on
+    runs_on : (k : ℕ) → has_exited_in done (child q.name k) ≡ false → RunsOn threads (w ops model bound laws code lawful log is nodes moves again) t k
+    runs_on k going c x is_child event exits =
+        let parent : is_child.0 ≡ q = same_Some is_child.0 q (sym is_child.2 ∙ there) in
+        let own : is_child.1 ≡ event.0 = same_Some is_child.1 event.0 (sym is_child.3 ∙ event.1) in
+        let name = sym (ap (λ (v : Walk). v.name) own) ∙ is_child.4 ∙ ap (λ (v : Walk). child v.name k) parent in
+        let inside = event_within code log event.0 (walk_is code log is f c event.0 event.1) x (in_contains x event.0.events event.2) in
+        let many = all_steps ops model bound laws code lawful log is moves again c event.0 event.1 in
+        let less : x.step < steps_in done event.0.name = omega (arith, inside, many) in
+        let gone = (exits_told ops model bound laws code lawful log is f done (goes_along ops model bound laws code lawful log is nodes moves again)
+        c event.0 event.1).1 (x, event.2, exits, less) in
+        true≢false (sym gone ∙ ap (has_exited_in done) name ∙ going)
+
+    cannot_go_on : (b : Blocked) → q.blocked ≡ Some b → IsBlockedIn done q.name (asked_at b)
+        → CannotGoOn threads (w ops model bound laws code lawful log is nodes moves again) t b
+    cannot_go_on (Lock m) is_it blocked = held m blocked
+    cannot_go_on (Wake c m k) is_it (inl waits) = inr (sleeps_on c m k is_it waits)
+    cannot_go_on (Wake c m k) is_it (inr owned) = inl (held m owned)
+    cannot_go_on (Join k) is_it going = runs_on k going
+
+  pub stuck_rule : (t : ℕ) → StuckRule threads (w ops model bound laws code lawful log is nodes moves again) t
+  stuck_rule t = record {
+    stuck = λ q b there is_it.
+        let dead = deadlock code log is q b (walk_is code log is f t q there) is_it in
+        cannot_go_on t q there b is_it (blocked_is_left ops model bound laws code lawful log is dead moves again t q there b is_it).1.blocked;
+  }

@@ -1,0 +1,64 @@
+-- When the events of paths take place in a history, and that a world has them in that order.
+use Rattle.std.specs.Prelude.{◌≡◌, ℕ, ◌<◌, Bool, true, false, ◌&&◌, List, ◌∷◌, ◌++◌, Some, slice_get}
+use Rattle.std.specs.List.{list_any}
+use Rattle.path_walk.specs.Paths.{Walk, Paths}
+use Rattle.path_walk.specs.declared.event.Event.{Event}
+use Rattle.path_walk.specs.declared.event.Sleep.{Sleep}
+use Rattle.run_history.specs.History.{Deed}
+use Rattle.order_formula.specs.Worlds.{World}
+use Rattle.lawful_order.specs.Events.{Of, HasEvent, IsBefore, number_of}
+use Rattle.lawful_order.specs.Memory.{is_store}
+use Rattle.lawful_order.specs.Whole.{HasStep}
+use Rattle.world_plan.specs.Sights.{Shows, AreInOrder}
+use Rattle.run_lawful.specs.world.WorldOf.{is_step, ends_wait}
+
+module _ (buffered : Bool) (paths : Paths) (h : List Deed) where
+  -- a thread's step takes place
+  pub record TakesPlace (t k : ℕ) : Type 0 where
+    pub older : List Deed
+    pub deed : Deed
+    pub newer : List Deed
+    pub there : h ≡ older ++ deed ∷ newer
+    pub shows : Shows buffered paths deed t k
+
+  -- and that of another after it
+  pub record TakesPlaceBefore (t k u j : ℕ) : Type 0 where
+    pub older : List Deed
+    pub first : Deed
+    pub between : List Deed
+    pub second : Deed
+    pub newer : List Deed
+    pub there : h ≡ (older ++ first ∷ between) ++ second ∷ newer
+    pub shows_first : Shows buffered paths first t k
+    pub shows_second : Shows buffered paths second u j
+
+  pub record IsOrderOf (w : World) : Type 0 where
+    -- what takes place first is first in the world, and the other way round
+    pub order : AreInOrder buffered paths w h
+    pub back : (t k u j : ℕ) → HasStep paths t k → TakesPlace u j → IsBefore paths w t k u j → TakesPlaceBefore t k u j
+    -- nothing takes place twice, and only events do
+    pub once : (older between newer : List Deed) (d e : Deed) (t k : ℕ) → h ≡ (older ++ d ∷ between) ++ e ∷ newer
+        → Shows buffered paths d t k → Shows buffered paths e t k → ⊥
+    pub events : (t k : ℕ) → TakesPlace t k → HasStep paths t k
+    -- all do but stores that wait in buffers for good: these come after the others, and those of a thread in the order of its path
+    pub done : (t : ℕ) (x : Event) → HasEvent paths t x → (buffered && is_store x.kind) ≡ false → TakesPlace t x.step
+    pub never : (t k u j : ℕ) → TakesPlace t k → HasStep paths u j → (TakesPlace u j → ⊥) → IsBefore paths w t k u j
+    pub rest : (t k j : ℕ) → HasStep paths t k → HasStep paths t j → (TakesPlace t k → ⊥) → (TakesPlace t j → ⊥) → k < j → IsBefore paths w t k t j
+
+  -- a sleep is ended by the event of a number: its deed is the first after the sleep that ends the thread's wait
+  pub record IsEndedBy (s : Of Sleep) (g : ℕ) : Type 0 where
+    pub sleeper : Walk
+    pub sleeps : slice_get paths.threads s.thread ≡ Some sleeper
+    pub older : List Deed
+    pub sleep : Deed
+    pub between : List Deed
+    pub ender : Deed
+    pub newer : List Deed
+    pub there : h ≡ (older ++ sleep ∷ between) ++ ender ∷ newer
+    pub begins : is_step sleeper.name s.it.step sleep ≡ true
+    pub ends : ends_wait s.it.condition sleeper.name ender ≡ true
+    pub lasts : list_any (ends_wait s.it.condition sleeper.name) between ≡ false
+    pub thread : ℕ
+    pub step : ℕ
+    pub shows : Shows buffered paths ender thread step
+    pub number : g ≡ number_of paths thread step

@@ -1,0 +1,40 @@
+//! In the world of a run each thread's events keep the order that the memory model wants, and all branches and sites come out
+//! as the paths have them.
+//!
+//! Each function's clause is a law, and its body does nothing.
+ghost use Rattle.std.specs.Prelude.{◌≡◌, ℕ, true, List};
+ghost use Rattle.tc_base.specs.Buffers.{BufferOps};
+ghost use Rattle.tc_base.specs.Logs.{Log};
+ghost use Rattle.tc_base.specs.declared.model.Model.{Model};
+ghost use Rattle.tc_base.specs.declared.moves.Move.{Move};
+ghost use Rattle.tc_code.specs.Code.{Code};
+ghost use Rattle.tc_code.specs.Lawful.{IsLawful};
+ghost use Rattle.tc_code.specs.Run.{Reproduces};
+ghost use Rattle.store_buffers.specs.Laws.{Laws};
+ghost use Rattle.store_buffers.specs.Pending.{Binding};
+ghost use Rattle.run_history.specs.History.{history};
+ghost use Rattle.path_log.specs.Texts.{is_log};
+ghost use Rattle.path_walk.specs.Paths.{paths_of};
+ghost use Rattle.sym_terms.specs.Terms.{AreTerms};
+ghost use Rattle.sym_terms.specs.declared.node.Node.{Node};
+ghost use Rattle.sym_laws.specs.Valued.{found};
+ghost use Rattle.lawful_order.specs.Memory.{OwnRule};
+ghost use Rattle.lawful_order.specs.Tests.{TestRule};
+ghost use Rattle.run_lawful.specs.world.WorldOf.{world_in};
+
+/// A thread's events keep the order of its path where the model wants it: a step that needs an empty buffer finds one, and a
+/// store that is bound behind another drains after it. After the failing step nothing comes.
+pub fn own_orders_are_kept<B>()
+    ensures { (ops : BufferOps B) (model : Model) (bound : Binding) (code : Code) (log : Log) (nodes : List Node) (moves : List Move) (t : ℕ)
+        → Laws ops model bound → IsLawful code → is_log log ≡ true → AreTerms nodes → Reproduces ops code log moves
+        → OwnRule ops.buffered bound (paths_of code log) (found code log nodes).symbolic (found code log nodes).nodes
+        (world_in ops.buffered (paths_of code log) (found code log nodes).symbolic (history ops code moves)) t }
+{}
+
+/// Each test of a path comes out as the path wants it, by what the loads took.
+pub fn tests_are_met<B>()
+    ensures { (ops : BufferOps B) (model : Model) (bound : Binding) (code : Code) (log : Log) (nodes : List Node) (moves : List Move) (t line : ℕ)
+        → Laws ops model bound → IsLawful code → is_log log ≡ true → AreTerms nodes → Reproduces ops code log moves
+        → TestRule (found code log nodes).symbolic (found code log nodes).nodes
+        (world_in ops.buffered (paths_of code log) (found code log nodes).symbolic (history ops code moves)) t line }
+{}

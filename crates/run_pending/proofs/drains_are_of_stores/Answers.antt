@@ -1,5 +1,0 @@
-use Rattle.run_pending.proofs.Apart.{deeds_told}
-use Rattle.run_pending.proofs.drains_are_of_stores.Goals as goal
-
-pub returns : goal.returns
-returns g c = λ ops model bound code moves s laws leads. (deeds_told ops model bound laws code moves s leads).named.stores

@@ -1,5 +1,0 @@
-use Rattle.run_stuck.proofs.Stuck.{deadlock_told}
-use Rattle.run_stuck.proofs.deadlocks_are_told.Goals as goal
-
-pub returns : goal.returns
-returns g c = λ ops model bound code moves s laws lawful leads. deadlock_told ops model bound laws code lawful moves s leads

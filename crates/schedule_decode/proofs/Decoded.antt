@@ -1,0 +1,61 @@
+-- The moves of a lawful world are those of its plan, and they reproduce each log that has its paths.
+use Rattle.std.proofs.Common.{◌≡◌, ◌∙◌, ◌++◌, true, List, sym, ap, subst}
+use Rattle.tc_base.specs.Buffers.{BufferOps}
+use Rattle.tc_base.specs.Logs.{Log}
+use Rattle.tc_base.specs.declared.model.Model.{Model}
+use Rattle.tc_code.specs.Code.{Code}
+use Rattle.tc_code.specs.Run.{Reproduces}
+use Rattle.store_buffers.specs.Pending.{Binding}
+use Rattle.run_follows.specs.Follow.{moves_for}
+use Rattle.path_log.specs.Texts.{is_log}
+use Rattle.path_walk.specs.Fits.{Fits}
+use Rattle.path_walk.specs.Paths.{Paths, paths_of}
+use Rattle.sym_terms.specs.declared.node.Node.{Node}
+use Rattle.sym_exec.specs.Executed.{Symbolic, executed}
+use Rattle.sym_laws.specs.Valued.{found}
+use Rattle.order_formula.specs.Worlds.{World}
+use Rattle.lawful_order.specs.Lawful.{IsLawful, IsWorldOf}
+use Rattle.world_plan.specs.Going.{IsLawfulWorld}
+use Rattle.world_plan.specs.Plan.{plan}
+use Rattle.plan_runs.proofs.Laws.{given}
+use Rattle.plan_runs.proofs.Runs.{plan_reproduces}
+use Rattle.world_moves.specs.Moves.{moves_of}
+use Rattle.schedule_decode.specs.Decodable.{IsDecodable}
+use Rattle.schedule_decode.proofs.Rest.{plan_made}
+
+module _ {B : Type 0} (ops : BufferOps B) (model : Model) (bound : Binding) (code : Code) where
+  -- a lawful world of one log is one of each log with its paths
+  of_paths : (log other : Log) (nodes : List Node) (w : World) → is_log other ≡ true → Fits code other → paths_of code other ≡ paths_of code log
+      → IsLawfulWorld ops model bound code log nodes w → IsLawfulWorld ops model bound code other nodes w
+  of_paths log other nodes w is fits same l = record {
+    laws = l.laws;
+    code_is = l.code_is;
+    log_is = is;
+    fits = fits;
+    lives = ap (λ (p : Paths). p.dead) same ∙ l.lives;
+    terms = l.terms;
+    world = l.world;
+    of = subst (λ p. IsWorldOf p (executed code p nodes).symbolic w) (sym same) l.of;
+    lawful = subst (λ p. IsLawful ops.buffered bound code p (executed code p nodes).symbolic (executed code p nodes).nodes w) (sym same) l.lawful;
+  }
+
+  module _ (paths : Paths) (symbolic : Symbolic) (nodes : List Node) (w : World) (d : IsDecodable ops model bound code paths symbolic nodes w) where
+    -- what is told of the paths of a log, of what their execution finds and of its terms
+    pub of_found : (C : Paths → Symbolic → List Node → Type 0)
+        → C (paths_of code d.log) (found code d.log d.first).symbolic ((found code d.log d.first).nodes ++ d.more) → C paths symbolic nodes
+    of_found C of_log =
+        subst (λ p. C p symbolic nodes) (sym d.paths_are)
+        (subst (λ s. C (paths_of code d.log) s nodes) (sym d.symbolic_is)
+        (subst (λ ns. C (paths_of code d.log) (found code d.log d.first).symbolic ns) (sym d.nodes_are) of_log))
+
+    pub moves_are : moves_of ops.buffered bound paths symbolic nodes w ≡ moves_for bound (plan ops.buffered code paths w)
+    moves_are =
+        of_found (λ p s ns. moves_of ops.buffered bound p s ns w ≡ moves_for bound (plan ops.buffered code p w))
+        (plan_made ops model bound code d.log d.first d.more w d.lawful (given ops model bound code d.log d.first w d.lawful)).moves
+
+    pub reproduce_all : (log : Log) → is_log log ≡ true → Fits code log → paths_of code log ≡ paths
+        → Reproduces ops code log (moves_for bound (plan ops.buffered code paths w))
+    reproduce_all log is fits same =
+        let l = of_paths d.log log d.first w is fits (same ∙ d.paths_are) d.lawful in
+        subst (λ p. Reproduces ops code log (moves_for bound (plan ops.buffered code p w))) same
+        (plan_reproduces ops model bound code log d.first w l (given ops model bound code log d.first w l))

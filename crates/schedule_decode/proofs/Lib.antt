@@ -1,0 +1,11 @@
+mod Finds
+mod Made
+mod Runs
+mod Stores
+mod Events
+mod Rest
+mod Decoded
+mod Known
+mod Tellable
+mod Text
+mod Told

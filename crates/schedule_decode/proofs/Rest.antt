@@ -1,0 +1,327 @@
+-- The moves that take each thread to the end of its path are those of the plan.
+use Rattle.std.proofs.Common.{◌≡◌, ◌∙◌, ◌≢◌, ◌⊎◌, inl, inr, ℕ, zero, suc, ◌+◌, ◌-◌, ◌≤◌, ◌<◌, ◌==◌, Bool, true, false, not, cond, List}
+use Rattle.std.proofs.Common.{[], ◌∷◌, ◌++◌, length, fold, replicate, Option, Some, None, refl, sym, ap, subst, arith, append_assoc}
+use Rattle.std.specs.Prelude.{slice_get, option_map, if◌then◌else◌}
+use Rattle.std.specs.List.{Contains, filter, find, range_with_len}
+use Rattle.std.specs.Option.{option_map_or}
+use Rattle.std.proofs.lemmas.Bool.{false≢true, not-true, eqb-true, eq-eqb, ne_eqb, ltb-true, and_parts, cases_order}
+use Rattle.std.proofs.lemmas.List.{append-nil, map-append, length-map}
+use Rattle.std.proofs.lemmas.List.Sums.{fold-append}
+use Rattle.std.proofs.lemmas.Option.{none-some, same_Some}
+use Rattle.tc_base.specs.Buffers.{BufferOps}
+use Rattle.tc_base.specs.Logs.{Log, place_in}
+use Rattle.tc_base.specs.Names.{Name}
+use Rattle.tc_base.specs.declared.failing.Failing.{Failing}
+use Rattle.tc_base.specs.declared.failing.Failing.TheVariants as failing
+use Rattle.tc_base.specs.declared.model.Model.{Model}
+use Rattle.tc_base.specs.declared.moves.Move.{Move}
+use Rattle.tc_base.specs.declared.moves.Move.TheVariants as move
+use Rattle.tc_code.specs.Code.{Code}
+use Rattle.store_buffers.specs.Pending.{Binding}
+use Rattle.run_history.specs.History.{Deed}
+use Rattle.run_history.specs.Told.{steps_in, is_thread_in}
+use Rattle.run_follows.specs.Follow.{move_for, moves_for, taken_in}
+use Rattle.path_log.specs.Texts.{is_there, rises_from}
+use Rattle.path_walk.specs.Fits.{fails_in}
+use Rattle.path_walk.specs.Paths.{Walk, Paths, paths_of, walk_of}
+use Rattle.path_walk.specs.declared.event.Event.{Event}
+use Rattle.path_walk.specs.declared.event.EventKind.TheVariants as kind
+use Rattle.path_laws.specs.history.Along.{IsThread, AllAreThere}
+use Rattle.sym_exec.specs.Executed.{Symbolic, has_failed}
+use Rattle.sym_laws.specs.Valued.{found}
+use Rattle.sym_steps.specs.Next.{kind_at}
+use Rattle.sym_terms.specs.declared.node.Node.{Node}
+use Rattle.order_events.proofs.Lists.{in_front, in_back, of_filter}
+use Rattle.order_formula.specs.Worlds.{World}
+use Rattle.lawful_order.specs.Memory.{is_store}
+use Rattle.world_plan.specs.Going.{IsLawfulWorld}
+use Rattle.world_plan.specs.Plan as plan
+use Rattle.world_plan.specs.Plan.{is_failing, goes_on, goes_to, up_to}
+use Rattle.world_plan.proofs.Numbers.{of_find}
+use Rattle.world_plan.proofs.Threads.{fails_by_place, fail_is_last}
+use Rattle.world_moves.specs.Moves as spec
+use Rattle.world_moves.specs.Moves.{Made, steps_of, runs_to, with_moves, with_passing, last_place, made_to}
+use Rattle.plan_runs.proofs.Deeds.{GoesOn, goes_nowhere, goes_further}
+use Rattle.plan_runs.proofs.End.{end, none_before}
+use Rattle.plan_runs.proofs.Given.{Gone, Given}
+use Rattle.plan_runs.proofs.Goes.{gone_up_to}
+use Rattle.plan_runs.proofs.Next as next
+use Rattle.plan_runs.proofs.Next.{NextIs, next_is}
+use Rattle.plan_runs.proofs.Rest.{few, quiet_unless, come, all_threads, first_rest}
+use Rattle.plan_runs.proofs.Steps.{Step, QuietAt, quiet_goes, one_more}
+use Rattle.schedule_decode.proofs.Events.{same_end, made_up_to}
+use Rattle.schedule_decode.proofs.Made.{IsMadeOf, made_on, others_stay}
+use Rattle.schedule_decode.proofs.Runs.{own_run}
+
+-- A fold that leaves some out is one over the others.
+fold_but : {X Y : Type 0} (f : Y → X → Y) (p : X → Bool) (y : Y) (xs : List X)
+    → fold (λ a x. if p x then a else f a x) y xs ≡ fold f y (filter (λ x. not (p x)) xs)
+fold_but f p y [] = refl
+fold_but {X} {Y} f p y (x ∷ xs) = by (p x) (λ a. fold_but f p a xs)
+  where
+    by : (b : Bool) → ((a : Y) → fold (λ c z. if p z then c else f c z) a xs ≡ fold f a (filter (λ z. not (p z)) xs))
+        → fold (λ c z. if p z then c else f c z) (cond b y (f y x)) xs
+        ≡ fold f y (cond (not b) (x ∷ filter (λ z. not (p z)) xs) (filter (λ z. not (p z)) xs))
+    by true later = later y
+    by false later = later (f y x)
+
+-- A number stands once among those from one on, or not at all.
+not_among : (k a n : ℕ) → (k < a) ⊎ (a + n ≤ k) → filter (λ t. k == t) (range_with_len a n) ≡ []
+not_among k a zero out = refl
+not_among k a (suc n) out =
+    let miss : (k == a) ≡ false =
+    ne_eqb k a (λ same. elim out [
+      | inl low ↦ omega (arith, low, same)
+      | inr high ↦ omega (arith, high, same)
+    ]) in
+    let beyond : (k < a + 1) ⊎ (a + 1 + n ≤ k) =
+    elim out [
+      | inl low ↦ inl (omega (arith, low))
+      | inr high ↦ inr (omega (arith, high))
+    ] in
+    ap (λ b. cond b (a ∷ filter (λ t. k == t) (range_with_len (a + 1) n)) (filter (λ t. k == t) (range_with_len (a + 1) n))) miss
+    ∙ not_among k (a + 1) n beyond
+
+once_among : (k a n : ℕ) → a ≤ k → k < a + n → filter (λ t. k == t) (range_with_len a n) ≡ k ∷ []
+once_among k a zero low high = absurd (omega (arith, low, high))
+once_among k a (suc n) low high = by (k == a) refl (λ more. once_among k (a + 1) n more (omega (arith, high)))
+  where
+    others : List ℕ
+    others = filter (λ t. k == t) (range_with_len (a + 1) n)
+
+    by : (b : Bool) → (k == a) ≡ b → (a + 1 ≤ k → filter (λ t. k == t) (range_with_len (a + 1) n) ≡ k ∷ [])
+        → cond b (a ∷ filter (λ t. k == t) (range_with_len (a + 1) n)) (filter (λ t. k == t) (range_with_len (a + 1) n)) ≡ k ∷ []
+    by true hit later =
+        let same = eqb-true k a hit in
+        ap (λ ts. a ∷ ts) (not_among k (a + 1) n (inl (omega (arith, same)))) ∙ ap (λ c. c ∷ []) (sym same)
+    by false miss later =
+        elim (cases_order k a) [
+          | inl same ↦ absurd (false≢true (sym miss ∙ eq-eqb k a same))
+          | inr (inl less) ↦ absurd (omega (arith, less, low))
+          | inr (inr more) ↦ later (omega (arith, more))
+        ]
+
+nobody : (ts : List ℕ) → filter (λ t. false) ts ≡ []
+nobody [] = refl
+nobody (t ∷ ts) = nobody ts
+
+module _ {B : Type 0} (ops : BufferOps B) (model : Model) (bound : Binding) (code : Code) (log : Log) (nodes more : List Node) (w : World)
+    (l : IsLawfulWorld ops model bound code log nodes w) (g : Given ops bound code log nodes w) where
+  abbrev paths : Paths
+  paths = paths_of code log
+
+  abbrev last : ℕ
+  last = end ops model bound code log nodes w l
+
+  abbrev at_end : List Deed → Type 0
+  at_end h = Gone ops bound code log nodes w last h
+
+  abbrev goes : ℕ → List Deed → ℕ → Name → List Deed
+  goes m h t n = goes_on ops.buffered code paths w m h t n
+
+  abbrev planned : List Deed → ℕ → List Deed
+  planned h t = plan.with_rest ops.buffered code paths w h t
+
+  abbrev IsMade : List Deed → Made → Type 0
+  IsMade h m = IsMadeOf bound code log h m
+
+  -- at the end a step is no signal
+  no_signal : (h : List Deed) → at_end h → (t : ℕ) (q : Walk) → IsThread code log t q → (c : ℕ) → kind_at q (steps_in h q.name) ≢ Some (kind.Signal c)
+  no_signal h gone t q there c signals = by (find (λ (e : Event). e.step == steps_in h q.name) q.events) refl
+    where
+      by : (o : Option Event) → find (λ (e : Event). e.step == steps_in h q.name) q.events ≡ o → ⊥
+      by None none = none-some (kind.Signal c) (sym (ap (option_map (λ (e : Event). e.kind)) none) ∙ signals)
+      by (Some x) one =
+          let f = of_find (λ (e : Event). e.step == steps_in h q.name) q.events x one in
+          let is = same_Some x.kind (kind.Signal c) (sym (ap (option_map (λ (e : Event). e.kind)) one) ∙ signals) in
+          let step = eqb-true x.step (steps_in h q.name) f.1 in
+          elim (quiet_unless ops model bound code log nodes w l g h gone t q there x f.0 (omega (arith, step))) [
+            | inl waits ↦ let s = and_parts ops.buffered (is_store x.kind) waits in false≢true (sym (ap is_store is) ∙ s.1)
+            | inr fails ↦ let e : kind.Signal c ≡ kind.Fail = sym is ∙ fails in cc
+          ]
+
+  -- and it is quiet, unless its thread fails by it
+  quiet_here : (h : List Deed) → at_end h → (t : ℕ) (q : Walk) → IsThread code log t q
+      → (fails_in log q.name ≡ true → steps_in h q.name + 1 ≡ length q.places → ⊥)
+      → QuietAt ops model bound code log nodes w l g q (steps_in h q.name)
+  quiet_here h gone t q there not x i step =
+      elim (quiet_unless ops model bound code log nodes w l g h gone t q there x i (omega (arith, step))) [
+        | inl waits ↦ waits
+        | inr fails ↦ let f = fail_is_last code log l.log_is l.fits t q x there i fails in absurd (not f.0 (omega (arith, f.1, step)))
+      ]
+
+  -- So many steps to the end of a path are so many moves of its thread.
+  record Ran (k : ℕ) (h : List Deed) (q : Walk) (later : List Deed) : Type 0 where
+    moves : moves_for bound later ≡ moves_for bound h ++ replicate k (move.Run q.name)
+    steps : steps_in later q.name ≡ steps_in h q.name + k
+    on : GoesOn h later
+    gone : fails_in log q.name ≡ false → at_end later
+
+  runs_out : (k : ℕ) (h : List Deed) → at_end h → (t : ℕ) (q : Walk) → IsThread code log t q → is_thread_in h q.name ≡ true
+      → steps_in h q.name + k ≡ length q.places → Ran k h q (goes k h t q.name)
+  runs_out zero h gone t q there is_there all =
+      record { moves = sym (append-nil (moves_for bound h)); steps = omega arith; on = goes_nowhere h; gone = λ passes. gone }
+  runs_out (suc k) h gone t q there is_there all =
+      subst (λ ds. Ran (suc k) h q (goes k (h ++ ds) t q.name)) (sym (next.does_it ops model bound code log nodes w l last h gone t q there n))
+      (by k all (λ on. runs_out k longer on t q there (one.goes.there q.name is_there) (omega (arith, all, one.steps))))
+    where
+      n : NextIs ops model bound code log nodes w l h t q
+      n = next_is ops model bound code log nodes w l last h gone t q there is_there (omega (arith, all))
+
+      d : Deed
+      d = next.deed ops model bound code log nodes w l last h gone t q there n
+
+      longer : List Deed
+      longer = h ++ d ∷ []
+
+      one : Step h longer q
+      one = one_more ops model bound code log nodes w l g last h gone t q there n
+
+      run : Move
+      run = move.Run q.name
+
+      own : move_for bound d ≡ run
+      own =
+          own_run bound q.name (steps_in h q.name) n.request (taken_in ops.buffered code h q.name n.request)
+          (next.other ops model bound code log nodes w l last h gone t q there n)
+          (λ c is. no_signal h gone t q there c (sym (next.kind_is ops model bound code log nodes w l last h gone t q there n) ∙ is))
+
+      first : moves_for bound longer ≡ moves_for bound h ++ run ∷ []
+      first = map-append (move_for bound) h (d ∷ []) ∙ ap (λ a. moves_for bound h ++ a ∷ []) own
+
+      on_quietly : (fails_in log q.name ≡ true → steps_in h q.name + 1 ≡ length q.places → ⊥) → at_end longer
+      on_quietly not = quiet_goes ops model bound code log nodes w l g last h gone t q there n (quiet_here h gone t q there not)
+
+      by : (j : ℕ) → steps_in h q.name + suc j ≡ length q.places → (at_end longer → Ran j longer q (goes j longer t q.name))
+          → Ran (suc j) h q (goes j longer t q.name)
+      by zero left later = record {
+        moves = first;
+        steps = one.steps;
+        on = one.goes;
+        gone = λ passes. on_quietly (λ fails. absurd (false≢true (sym passes ∙ fails)));
+      }
+      by (suc j) left later =
+          let r = later (on_quietly (λ fails end. omega (arith, left, end))) in
+          record {
+            moves = r.moves ∙ ap (λ ms. ms ++ replicate (suc j) run) first ∙ append_assoc (moves_for bound h) (run ∷ []) (replicate (suc j) run);
+            steps = omega (arith, r.steps, one.steps);
+            on = goes_further h longer (goes (suc j) longer t q.name) one.goes r.on;
+            gone = r.gone;
+          }
+
+  -- What is left to a thread.
+  record RestMade (h : List Deed) (t : ℕ) (later : List Deed) (m : Made) : Type 0 where
+    made : IsMade later m
+    on : GoesOn h later
+    gone : is_failing paths t ≡ false → at_end later
+
+  place_passes : (f : Failing) (t : ℕ) → option_map_or (λ k. k == t) (place_in f) false ≡ false → has_failed f t ≡ false
+  place_passes (failing.Thread k) t e = grind (arith, e)
+  place_passes failing.Deadlock t e = refl
+
+  rest_made : (h : List Deed) (m : Made) → at_end h → AllAreThere code log h → IsMade h m → (t : ℕ)
+      → RestMade h t (planned h t) (spec.with_rest paths m t)
+  rest_made h m gone are_there made t = by (slice_get paths.threads t) refl
+    where
+      deeds_by : Option Walk → List Deed
+      deeds_by o = option_map_or (λ (q : Walk). goes_to ops.buffered code paths w h t q.name (length q.places)) o h
+
+      made_by : Option Walk → Made
+      made_by o = option_map_or (λ (q : Walk). with_moves m t (length q.places) (runs_to m t q.name (length q.places))) o m
+
+      by : (o : Option Walk) → slice_get paths.threads t ≡ o → RestMade h t (deeds_by (slice_get paths.threads t)) (made_by (slice_get paths.threads t))
+      by None none =
+          subst (λ o. RestMade h t (deeds_by o) (made_by o)) (sym none) (record { made = made; on = goes_nowhere h; gone = λ passes. gone })
+      by (Some q) there =
+          let left = length q.places - steps_in h q.name in
+          let most = few ops model bound code log nodes w l g h gone.along t q there in
+          let r = runs_out left h gone t q there (are_there t q there) (omega (arith, most)) in
+          let count : left ≡ length q.places - steps_of m t = ap (λ k. length q.places - k) (sym (made.steps t q there)) in
+          subst (λ o. RestMade h t (deeds_by o) (made_by o)) (sym there)
+          (record {
+            made = made_on bound code log l.log_is h (goes left h t q.name) m made t q there (length q.places) (runs_to m t q.name (length q.places))
+                (r.moves ∙ ap (λ k. moves_for bound h ++ replicate k (move.Run q.name)) count)
+                (omega (arith, r.steps, most))
+                (λ n apart. others_stay ops.buffered code paths w left h t q.name n apart);
+            on = r.on;
+            gone = λ passes. r.gone (fails_by_place code log l.log_is t q there ∙ place_passes log.failing t passes);
+          })
+
+  -- What is left to some threads that don't fail.
+  all_made : (ts : List ℕ) (h : List Deed) (m : Made) → at_end h → AllAreThere code log h → ((t : ℕ) → Contains ts t → is_failing paths t ≡ false)
+      → IsMade h m → IsMade (fold planned h ts) (fold (spec.with_rest paths) m ts)
+  all_made [] h m gone are_there passing made = made
+  all_made (t ∷ ts) h m gone are_there passing made =
+      let r = rest_made h m gone are_there made t in
+      all_made ts (planned h t) (spec.with_rest paths m t) (r.gone (passing t (in_front t ts))) (λ u q at. r.on.there q.name (are_there u q at))
+      (λ u i. passing u (in_back u t ts i)) r.made
+
+  -- All of the plan.
+  abbrev before : List Deed
+  before = up_to ops.buffered code paths w last
+
+  abbrev range : List ℕ
+  range = range_with_len 0 (length paths.threads)
+
+  abbrev nearly : List Deed
+  nearly = fold planned before (filter (λ t. not (is_failing paths t)) range)
+
+  module _ (m : Made) (first : IsMade before m) where
+    abbrev passed : Made
+    passed = fold (with_passing paths) m range
+
+    nearly_made : IsMade nearly passed
+    nearly_made =
+        subst (IsMade nearly) (sym (fold_but (spec.with_rest paths) (is_failing paths) m range))
+        (all_made (filter (λ t. not (is_failing paths t)) range) before m (come ops model bound code log nodes w l g)
+        (all_threads ops model bound code log nodes w l g before (come ops model bound code log nodes w l g))
+        (λ t i. not-true (is_failing paths t) (of_filter (λ u. not (is_failing paths u)) t range i).1) first)
+
+    -- the thread that fails is there
+    failing_within : (k : ℕ) → log.failing ≡ failing.Thread k → k < length paths.threads
+    failing_within k is =
+        let within =
+        ltb-true k (length log.threads)
+        (ap (λ f. is_there f (length log.threads)) (sym is)
+        ∙ (and_parts (rises_from None log.threads) (is_there log.failing (length log.threads)) l.log_is).1) in
+        omega (arith, within, length-map log.threads (walk_of code log))
+
+    abbrev ends : Failing → Made
+    ends f = option_map_or (spec.with_rest paths passed) (place_in f) passed
+
+    abbrev fails : Failing → List ℕ
+    fails f = filter (λ t. option_map_or (λ k. k == t) (place_in f) false) range
+
+    last_made : (f : Failing) → log.failing ≡ f → IsMade (fold planned nearly (fails f)) (ends f)
+    last_made failing.Deadlock is = subst (λ ts. IsMade (fold planned nearly ts) passed) (sym (nobody range)) nearly_made
+    last_made (failing.Thread k) is =
+        let gone = (first_rest ops model bound code log nodes w l g).gone in
+        subst (λ ts. IsMade (fold planned nearly ts) (spec.with_rest paths passed k))
+        (sym (once_among k 0 (length paths.threads) (omega arith) (omega (arith, failing_within k is))))
+        (rest_made nearly passed gone (all_threads ops model bound code log nodes w l g nearly gone) nearly_made k).made
+
+    whole_made : IsMade (plan.plan ops.buffered code paths w) (option_map_or (spec.with_rest paths passed) (place_in paths.failing) passed)
+    whole_made =
+        subst (λ h. IsMade h (ends log.failing))
+        (sym (fold-append planned before (filter (λ t. not (is_failing paths t)) range) (filter (is_failing paths) range)))
+        (last_made log.failing refl)
+
+  abbrev symbolic : Symbolic
+  symbolic = (found code log nodes).symbolic
+
+  abbrev terms : List Node
+  terms = (found code log nodes).nodes ++ more
+
+  abbrev made_at : ℕ → Made
+  made_at p = made_to ops.buffered bound paths symbolic terms w p
+
+  pub gone_to : (p : ℕ) → p ≤ last → Gone ops bound code log nodes w p (up_to ops.buffered code paths w p)
+  gone_to =
+      gone_up_to ops model bound code log nodes w l g last (λ t q x there i. none_before ops model bound code log nodes w l t q x there i)
+
+  -- so all of a plan is made
+  pub plan_made : IsMade (plan.plan ops.buffered code paths w) (spec.made ops.buffered bound paths symbolic terms w)
+  plan_made =
+      whole_made (made_at (last_place paths w))
+      (subst (λ p. IsMade before (made_at p)) (sym (same_end ops model bound code log nodes more w l g))
+      (made_up_to ops model bound code log nodes more w l g last gone_to last (omega arith)))

@@ -1,0 +1,48 @@
+-- What the moves of a lawful world's events need is there.
+use Rattle.std.proofs.Common.{◌≡◌, ℕ, ◌≤◌, List, length, Option, Some, None, subst, arith}
+use Rattle.std.specs.Prelude.{slice_get}
+use Rattle.std.specs.List.{All}
+use Rattle.std.specs.Option.{IfSome}
+use Rattle.std.proofs.lemmas.Option.{slice_get_within, get_or_from_slice_get}
+use Rattle.tc_base.specs.Buffers.{BufferOps}
+use Rattle.tc_base.specs.declared.limits.TheConstants.{CELLS, STEPS}
+use Rattle.tc_base.specs.declared.model.Model.{Model}
+use Rattle.tc_code.specs.Code.{Code}
+use Rattle.store_buffers.specs.Pending.{Binding}
+use Rattle.path_walk.specs.Paths.{Walk, Paths}
+use Rattle.sym_terms.specs.declared.node.Node.{Node}
+use Rattle.sym_exec.specs.Executed.{Symbolic}
+use Rattle.sym_exec.specs.declared.symbolic.Cell.{Cell}
+use Rattle.order_formula.specs.Worlds.{World}
+use Rattle.lawful_order.specs.Memory.{cell_of}
+use Rattle.world_moves.specs.Needs.{IsNumbered, AreTellable}
+use Rattle.plan_runs.proofs.Laws.{given}
+use Rattle.schedule_decode.specs.Decodable.{HaveRoom, IsDecodable}
+use Rattle.schedule_decode.proofs.Decoded.{of_found}
+use Rattle.schedule_decode.proofs.Known.{IsOfMemory, AreKnown, are_known}
+
+-- what holds of all holds of one at a place
+pub of_all : {X : Type 0} (P : X → Type 0) (xs : List X) → All P xs → (k : ℕ) (x : X) → slice_get xs k ≡ Some x → P x
+of_all P xs all k x at = subst P (get_or_from_slice_get xs k x x at) (all k x (slice_get_within xs k x at))
+
+-- a cell of memory has a number of 32 bits
+numbered : (code : Code) (nodes : List Node) (w : World) → length code.memory ≤ CELLS → (o : Option Cell)
+    → IfSome o (IsOfMemory code nodes w) → IfSome o (IsNumbered nodes w)
+numbered code nodes w few None is = tt
+numbered code nodes w few (Some c) is = record { terms = is.terms; number = omega (arith, is.number, few) }
+
+module _ {B : Type 0} (ops : BufferOps B) (model : Model) (bound : Binding) (code : Code) (paths : Paths) (symbolic : Symbolic) (nodes : List Node)
+    (w : World) (d : IsDecodable ops model bound code paths symbolic nodes w) where
+  pub all_known : AreKnown ops.buffered code paths symbolic nodes w
+  all_known =
+      of_found ops model bound code paths symbolic nodes w d (λ p s ns. AreKnown ops.buffered code p s ns w)
+      (are_known ops model bound code d.log d.first d.more w d.lawful (given ops model bound code d.log d.first w d.lawful))
+
+  pub are_tellable : HaveRoom paths → AreTellable ops.buffered paths symbolic nodes w
+  are_tellable room p e before is =
+      let k = all_known p e before is in
+      let steps = of_all (λ (q : Walk). length q.places ≤ STEPS) paths.threads room.steps e.1.thread k.walk k.there in
+      record {
+        next = omega (arith, k.step, steps);
+        cell = λ waits. numbered code nodes w d.lawful.code_is.cells (cell_of symbolic e.1.thread e.1.it.step) (k.cell waits);
+      }

@@ -1,0 +1,47 @@
+-- What is shown of a schedule, by what a memory model's constants tell of its buffers.
+use Rattle.std.proofs.Common.{◌≡◌, ◌∙◌, Bool, true, List, sym, ap, subst}
+use Rattle.tc_base.specs.Buffers.{BufferOps}
+use Rattle.tc_base.specs.Logs.{Log}
+use Rattle.tc_base.specs.declared.model.Model.{Model}
+use Rattle.tc_base.specs.declared.moves.Move.{Move}
+use Rattle.tc_code.specs.Code.{Code}
+use Rattle.tc_code.specs.Run.{Reproduces}
+use Rattle.store_buffers.specs.Pending.{Binding}
+use Rattle.schedule_file.specs.Schedules.{HaveText}
+use Rattle.run_follows.specs.Follow.{moves_for}
+use Rattle.path_log.specs.Texts.{is_log}
+use Rattle.path_walk.specs.Fits.{Fits}
+use Rattle.path_walk.specs.Paths.{Paths, paths_of}
+use Rattle.sym_terms.specs.declared.node.Node.{Node}
+use Rattle.sym_exec.specs.Executed.{Symbolic}
+use Rattle.order_formula.specs.Worlds.{World}
+use Rattle.world_plan.specs.Plan.{plan}
+use Rattle.world_moves.specs.Moves.{moves_of}
+use Rattle.world_moves.specs.Needs.{AreTellable}
+use Rattle.schedule_decode.specs.Decodable.{HaveRoom, IsDecodable}
+use Rattle.schedule_decode.proofs.Decoded.{moves_are, reproduce_all}
+use Rattle.schedule_decode.proofs.Tellable.{are_tellable}
+use Rattle.schedule_decode.proofs.Text.{have_text}
+
+module _ {B : Type 0} (ops : BufferOps B) (model : Model) (bound : Binding) (code : Code) (paths : Paths) (symbolic : Symbolic) (nodes : List Node)
+    (w : World) (d : IsDecodable ops model bound code paths symbolic nodes w) (buffered : Bool) (same : buffered ≡ ops.buffered) where
+  pub tellable : HaveRoom paths → AreTellable buffered paths symbolic nodes w
+  tellable room =
+      subst (λ b. AreTellable b paths symbolic nodes w) (sym same) (are_tellable ops model bound code paths symbolic nodes w d room)
+
+  module _ (moves : List Move) (told : moves ≡ moves_of buffered bound paths symbolic nodes w) where
+    told_by : moves ≡ moves_of ops.buffered bound paths symbolic nodes w
+    told_by = told ∙ ap (λ b. moves_of b bound paths symbolic nodes w) same
+
+    by_plan : moves ≡ moves_for bound (plan ops.buffered code paths w)
+    by_plan = told_by ∙ moves_are ops model bound code paths symbolic nodes w d
+
+    pub planned : moves ≡ moves_for bound (plan buffered code paths w)
+    planned = by_plan ∙ ap (λ b. moves_for bound (plan b code paths w)) (sym same)
+
+    pub text : HaveRoom paths → (named : Model) → named ≡ model → HaveText named moves
+    text room named is =
+        subst (λ m. HaveText m moves) (sym is) (subst (HaveText model) (sym told_by) (have_text ops model bound code paths symbolic nodes w d room))
+
+    pub reproduces : (log : Log) → is_log log ≡ true → Fits code log → paths_of code log ≡ paths → Reproduces ops code log moves
+    reproduces log is fits of = subst (Reproduces ops code log) (sym by_plan) (reproduce_all ops model bound code paths symbolic nodes w d log is fits of)

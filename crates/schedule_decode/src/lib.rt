@@ -1,0 +1,6 @@
+//! Schedules of lawful worlds.
+#![tactic(auto)]
+
+mod schedule;
+
+pub use schedule::decode;

@@ -1,0 +1,45 @@
+//! The schedule of a lawful world.
+ghost use Rattle.std.specs.Prelude.{◌≡◌, true, IfOk};
+ghost use Rattle.tc_base.specs.Logs.{Log};
+ghost use Rattle.tc_code.specs.Run.{Reproduces};
+ghost use Rattle.path_log.specs.Texts.{is_log};
+ghost use Rattle.path_walk.specs.Fits.{Fits};
+ghost use Rattle.path_walk.specs.Paths.{paths_of};
+ghost use Rattle.run_follows.specs.Follow.{moves_for};
+ghost use Rattle.world_plan.specs.Plan.{plan};
+ghost use Rattle.schedule_decode.specs.Decodable.{HaveRoom, IsDecodable};
+
+use order_formula::World;
+use path_walk::Paths;
+use schedule_file::Schedule;
+use std::alloc::{AllocError, Global};
+use store_buffers::MemoryModel;
+use sym_exec::Symbolic;
+use sym_terms::Terms;
+use tc_code::Code;
+use world_moves::moves_of;
+
+/// The schedule of a lawful world of paths under a memory model: by it each event of the world comes in its turn, up to the one
+/// that fails if one does, and then each thread goes to the end of its path.
+///
+/// Refused for want of memory alone.
+pub fn decode<M: MemoryModel>(
+    alloc: Global,
+    code: &Code,
+    paths: &Paths,
+    symbolic: &Symbolic,
+    terms: &Terms,
+    world: &World,
+) -> Result<Schedule, AllocError>
+    requires lawful { IsDecodable M.ops M.MODEL M.bound code.now paths.now symbolic.now terms.now world.now }
+    requires room { HaveRoom paths.now }
+    ensures model { IfOk result (λ schedule. schedule.model ≡ M.MODEL) }
+    ensures moves { IfOk result (λ schedule. schedule.moves.items ≡ moves_for M.bound (plan M.BUFFERED code.now paths.now world.now)) }
+    ensures reproduces { IfOk result (λ schedule. (log : Log) → is_log log ≡ true → Fits code.now log → paths_of code.now log ≡ paths.now
+        → Reproduces M.ops code.now log schedule.moves.items) }
+{
+    Ok(Schedule {
+        model: M::MODEL,
+        moves: moves_of::<M>(alloc, paths, symbolic, terms, world)?,
+    })
+}

@@ -1,0 +1,8 @@
+-- Deeds as values, and as histories have them.
+use Rattle.run_history.specs.History as plain
+use Rattle.show_deeds.specs.declared.deed.Deed.{Deed}
+use Rattle.show_deeds.specs.declared.deed.Deed.TheVariants as deed
+
+abbrev pub plain_deed : Deed → plain.Deed
+plain_deed (deed.Did s) = plain.Did s.thread s.number s.asks s.took s.other
+plain_deed (deed.Drained s) = plain.Drained s.thread s.number s.cell s.value

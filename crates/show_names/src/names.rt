@@ -1,0 +1,77 @@
+//! All names of a program, and its lines.
+
+use crate::body::{BodyNames, body_names};
+use crate::globals::{GlobalNames, global_names};
+use crate::text::lines_of;
+use std::alloc::{AllocError, Global};
+use tc_tree::Tree;
+
+/// What the text calls a cell, a mutex, a condition, a slot or a thread variable of its code, and the text's lines.
+///
+/// What has no name is shown as `?`: a slot that the code keeps for a value of its own, a number past the last.
+#[derive(Drop)]
+pub struct Names {
+    lines: Vec<String>,
+    globals: GlobalNames,
+    bodies: Vec<BodyNames>,
+}
+
+impl Names {
+    /// The names of a program.
+    pub fn of_tree(alloc: Global, tree: &Tree) -> Result<Names, AllocError> {
+        Ok(Names {
+            lines: lines_of(alloc, tree.text)?,
+            globals: global_names(alloc, tree)?,
+            bodies: body_names(alloc, tree)?,
+        })
+    }
+
+    /// The line of that number, from 1, without the blanks at its ends.
+    pub fn line(&self, number: u32) -> &str {
+        match number.checked_sub(1) {
+            Some(place) => named(self.lines.get(place as usize)),
+            None => "?",
+        }
+    }
+
+    /// The name of a cell: that of an int, or of an array with the index.
+    pub fn cell(&self, cell: u32) -> &str {
+        named(self.globals.cells.get(cell as usize))
+    }
+
+    /// The names of all cells.
+    pub fn cells(&self) -> &[String] {
+        self.globals.cells.as_slice()
+    }
+
+    /// The name of a mutex.
+    pub fn mutex(&self, mutex: u32) -> &str {
+        named(self.globals.mutexes.get(mutex as usize))
+    }
+
+    /// The name of a condition.
+    pub fn condition(&self, condition: u32) -> &str {
+        named(self.globals.conditions.get(condition as usize))
+    }
+
+    /// The name of a function's parameter or int, if the slot is one.
+    pub fn int(&self, function: usize, slot: u32) -> Option<&str> {
+        Some(self.bodies.get(function)?.ints.get(slot as usize)?.as_str())
+    }
+
+    /// The name of a function's thread variable.
+    pub fn handle(&self, function: usize, handle: u32) -> &str {
+        match self.bodies.get(function) {
+            Some(body) => named(body.handles.get(handle as usize)),
+            None => "?",
+        }
+    }
+}
+
+/// The name, where there is one.
+fn named(name: Option<&String>) -> &str {
+    match name {
+        Some(name) => name.as_str(),
+        None => "?",
+    }
+}

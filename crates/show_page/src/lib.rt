@@ -1,0 +1,13 @@
+//! Schedules and logs as pages for a browser, each in one file that needs no other.
+#![tactic(auto)]
+
+mod escape;
+mod lanes;
+mod log;
+mod schedule;
+mod script;
+mod sources;
+mod style;
+
+pub use log::log_page;
+pub use schedule::schedule_page;

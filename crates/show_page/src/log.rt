@@ -1,0 +1,63 @@
+//! The page of a log.
+
+use crate::escape::push_text;
+use crate::schedule::push_top;
+use path_log::Log;
+use path_walk::{Paths, Walk};
+use show_words::{Program, Went, ending_words, walk_title, walk_words};
+use std::alloc::{AllocError, Global};
+
+/// The page of a log: a lane for each thread, with the lines that it went along and the outcomes of its branches.
+pub fn log_page(
+    alloc: Global,
+    program: Program<'_>,
+    log: &Log,
+    paths: &Paths,
+) -> Result<String, AllocError> {
+    let mut out = String::new(alloc);
+    let model = log.model().name();
+    push_top(
+        &mut out,
+        format!(in alloc; "a log recorded under {model}")?.as_str(),
+    )?;
+    out.push_str("<pre>")?;
+    push_text(&mut out, ending_words(alloc, program, paths)?.as_str())?;
+    out.push_str("</pre>\n<div class=\"lanes\">\n")?;
+    for walk in paths.threads() {
+        push_lane(alloc, &mut out, program, walk)?;
+    }
+    out.push_str("</div>\n</body>\n</html>\n")?;
+    Ok(out)
+}
+
+/// Adds a thread with its lines.
+fn push_lane(
+    alloc: Global,
+    out: &mut String,
+    program: Program<'_>,
+    walk: &Walk,
+) -> Result<(), AllocError> {
+    out.push_str("<section>\n<h2>")?;
+    push_text(out, walk_title(alloc, program, walk)?.as_str())?;
+    out.push_str("</h2>\n<ol>\n")?;
+    let lines = walk_words(alloc, program, walk)?;
+    for went in lines.as_slice() {
+        push_line(alloc, out, went)?;
+    }
+    out.push_str("</ol>\n</section>\n")
+}
+
+/// Adds a line, and the outcome of a branch there.
+fn push_line(alloc: Global, out: &mut String, went: &Went<'_>) -> Result<(), AllocError> {
+    let line = went.line;
+    let open = format!(in alloc; "<li class=\"deed\"><span class=\"line\">{line}</span><code>")?;
+    out.push_str(open.as_str())?;
+    push_text(out, went.source)?;
+    out.push_str("</code>")?;
+    out.push_str(match went.outcome {
+        Some(true) => "<span class=\"went\">true</span>",
+        Some(false) => "<span class=\"went\">false</span>",
+        None => "",
+    })?;
+    out.push_str("</li>\n")
+}

@@ -1,0 +1,105 @@
+-- What an enabled move does, by what was told before it.
+use Rattle.std.proofs.Common.{◌≡◌, ◌∙◌, ℕ, ℤ, List, [], ◌∷◌, true, Option, Some, None, IsSome, refl, sym, ap, subst}
+use Rattle.std.specs.Option.{option_map_or, IsSomeAnd}
+use Rattle.std.specs.FinMap as fin
+use Rattle.tc_base.specs.Names.{Name}
+use Rattle.tc_base.specs.Buffers.{BufferOps}
+use Rattle.tc_base.specs.States.{Thread, State}
+use Rattle.tc_base.specs.declared.model.Model.{Model}
+use Rattle.tc_base.specs.declared.moves.Move.{Move}
+use Rattle.tc_base.specs.declared.moves.Move.TheVariants as move
+use Rattle.tc_base.specs.declared.request.Request.{Request}
+use Rattle.tc_code.specs.declared.instr.Instr.{Instr}
+use Rattle.tc_code.specs.Code.{Code}
+use Rattle.tc_code.specs.Run.{IsReached}
+use Rattle.tc_code.specs.Step.{request, instr_of, step}
+use Rattle.run_laws.proofs.Basics.{some_value}
+use Rattle.run_laws.proofs.Steps.{Went, step_went}
+use Rattle.store_buffers.specs.Pending.{Binding}
+use Rattle.store_buffers.specs.Laws.{Laws}
+use Rattle.run_history.specs.History.{Deed, Did, Drained, deed_of, did, woke, drained, taken, created_by, by_instr}
+use Rattle.std.proofs.lemmas.Option.{none-some, same_Some}
+use Rattle.tc_threads.proofs.ByName.{there_and}
+use Rattle.show_deeds.specs.Deeds.{plain_deed}
+use Rattle.show_deeds.specs.Seen.{Seen, taken_by, first_by}
+use Rattle.show_deeds.specs.declared.deed.Deed.TheVariants as deed
+use Rattle.show_deeds.specs.declared.deed.Stored.{Stored}
+use Rattle.show_deeds.proofs.Kept.{SeenIs, seen_is, taken_is, first_drains}
+use Rattle.show_rows.specs.Rows.{deeds}
+use Rattle.show_rows.specs.declared.telling.Telling.{Telling}
+use Rattle.show_rows.specs.helpers.SoFar.{IsSoFar}
+
+module _ {B : Type 0} (ops : BufferOps B) (code : Code) (s : State B) where
+  -- how an enabled move goes
+  pub goes : (m : Move) → IsSome (step ops code s m) → (u : State B) × Went ops code s u m
+  goes m enabled = let one = some_value (step ops code s m) enabled in (one.0, step_went ops code s one.0 m one.1)
+
+  module _ (h : List Deed) (n : Name) (t : Thread B) (there : fin.get s.threads n ≡ Some t) where
+    -- what a thread does by the instruction at its place
+    pub run_does : (i : Instr) → instr_of code t.local ≡ Some i
+        → deed_of ops code s h (move.Run n) ≡ did ops code s n t (request t.local i) ∷ []
+    run_does i at =
+        ap (λ o. option_map_or (λ t. by_instr ops code t (did ops code s n t)) o []) there
+        ∙ ap (λ o. option_map_or (λ i. did ops code s n t (request t.local i) ∷ []) o []) at
+
+    pub wake_does : (i : Instr) (u : Name) → instr_of code t.local ≡ Some i
+        → deed_of ops code s h (move.Wake n u) ≡ woke ops code n u t (request t.local i) ∷ []
+    wake_does i u at =
+        ap (λ o. option_map_or (λ t. by_instr ops code t (woke ops code n u t)) o []) there
+        ∙ ap (λ o. option_map_or (λ i. woke ops code n u t (request t.local i) ∷ []) o []) at
+
+    pub drain_does : (form : Option ℕ) → deed_of ops code s h (move.Drain n form) ≡ drained ops code h n (ops.drain t.buffer form).entry ∷ []
+    drain_does form = ap (λ o. option_map_or (λ (t : Thread B). drained ops code h n (ops.drain t.buffer form).entry ∷ []) o []) there
+
+module _ {B : Type 0} (ops : BufferOps B) (model : Model) (bound : Binding) (laws : Laws ops model bound) (code : Code) (s : State B) (t : Telling)
+    (so : IsSoFar ops code s t) where
+  abbrev told : List Deed
+  told = deeds t.rows.items
+
+  seen_so : SeenIs ops model bound laws code s told
+  seen_so = subst (SeenIs ops model bound laws code s) (sym so.told) (seen_is ops model bound laws code so.made s so.leads)
+
+  -- what a request takes
+  pub taken_so : (thread : Thread B) (r : Request) → taken ops code s thread r ≡ taken_by ops t.seen.memory thread r
+  taken_so thread r = taken_is ops model bound laws code s told thread r seen_so ∙ ap (λ (x : Seen). taken_by ops x.memory thread r) (sym so.sees)
+
+  -- which store drains
+  pub drains_so : (n : Name) (thread : Thread B) (form : Option ℕ) → fin.get s.threads n ≡ Some thread → ops.may_drain thread.buffer form ≡ true
+      → IsSomeAnd (first_by n form t.seen.waiting) (λ w. drained ops code told n (ops.drain thread.buffer form).entry ≡ Drained w.thread w.number w.cell w.value)
+  drains_so n thread form there may =
+      subst (λ (x : Seen). IsSomeAnd (first_by n form x.waiting)
+      (λ w. drained ops code told n (ops.drain thread.buffer form).entry ≡ Drained w.thread w.number w.cell w.value)) (sym so.sees)
+      (first_drains ops model bound laws code s told n thread form seen_so there may)
+
+  -- a drain that is enabled is that of a store which waits
+  drain_row : (n : Name) (form : Option ℕ) → IsSome (step ops code s (move.Drain n form))
+      → (w : Stored) × (first_by n form t.seen.waiting ≡ Some w) × (deed_of ops code s told (move.Drain n form) ≡ plain_deed (deed.Drained w) ∷ [])
+  drain_row n form enabled =
+      let g = (goes ops code s (move.Drain n form) enabled).1 in
+      let w = there_and _ _ (drains_so n g.thread form g.there g.may) in
+      (w.0, w.1, drain_does ops code s told n g.thread g.there form ∙ ap (λ d. d ∷ []) w.2)
+
+  pub some_drains : (n : Name) (form : Option ℕ) → IsSome (step ops code s (move.Drain n form)) → first_by n form t.seen.waiting ≡ None → ⊥
+  some_drains n form enabled none = let w = drain_row n form enabled in none-some w.0 (sym none ∙ w.1)
+
+  pub drain_gives : (n : Name) (form : Option ℕ) → IsSome (step ops code s (move.Drain n form)) → (x : Stored) → first_by n form t.seen.waiting ≡ Some x
+      → deed_of ops code s told (move.Drain n form) ≡ plain_deed (deed.Drained x) ∷ []
+  drain_gives n form enabled x first =
+      let w = drain_row n form enabled in
+      w.2 ∙ ap (λ y. plain_deed (deed.Drained y) ∷ []) (same_Some w.0 x (sym w.1 ∙ first))
+
+  pub reached : IsReached ops code s
+  reached = record { moves = so.made; leads = so.leads }
+
+  -- a step of these parts is what a run move does
+  pub run_gives : (n : Name) (thread : Thread B) (i : Instr) → fin.get s.threads n ≡ Some thread → instr_of code thread.local ≡ Some i
+      → (m : Name) (k : ℕ) (r : Request) (v : ℤ) (o : Option Name) → m ≡ n → k ≡ thread.local.steps → r ≡ request thread.local i
+      → v ≡ taken_by ops t.seen.memory thread r → o ≡ created_by ops code n thread.local r
+      → deed_of ops code s told (move.Run n) ≡ Did m k r v o ∷ []
+  run_gives n thread i there at m k r v o em ek er ev eo =
+      run_does ops code s told n thread there i at
+      ∙ ap (λ (x : Request). Did n thread.local.steps x (taken ops code s thread x) (created_by ops code n thread.local x) ∷ []) (sym er)
+      ∙ ap (λ x. Did n thread.local.steps r x (created_by ops code n thread.local r) ∷ []) (taken_so thread r ∙ sym ev)
+      ∙ ap (λ x. Did n thread.local.steps r v x ∷ []) (sym eo)
+      ∙ ap (λ x. Did n x r v o ∷ []) (sym ek)
+      ∙ ap (λ (x : Name). Did x k r v o ∷ []) (sym em)

@@ -1,0 +1,44 @@
+-- What the moves of a schedule did, as far as they could be made, and how that ended.
+use Rattle.std.specs.Prelude.{◌≡◌, true, List, [], ◌∷◌, ◌++◌, map, Some, None, IsSome}
+use Rattle.tc_base.specs.Buffers.{BufferOps}
+use Rattle.tc_base.specs.States.{State}
+use Rattle.tc_base.specs.declared.moves.Move.{Move}
+use Rattle.tc_code.specs.Code.{Code}
+use Rattle.tc_code.specs.Run.{run, IsStuck}
+use Rattle.tc_code.specs.Step.{step}
+use Rattle.tc_machine.specs.Exits.{all_have_exited}
+use Rattle.tc_machine.specs.Why.{why}
+use Rattle.run_history.specs.History.{history}
+use Rattle.run_history.specs.History.{Deed}
+use Rattle.show_deeds.specs.Deeds.{plain_deed}
+use Rattle.show_rows.specs.declared.row.Row.{Row}
+use Rattle.show_rows.specs.declared.told.End.{End}
+use Rattle.show_rows.specs.declared.told.End.TheVariants as end
+
+-- the deeds of rows
+abbrev pub deeds : List Row → List Deed
+deeds rows = map (λ r. plain_deed r.deed) rows
+
+module _ {B : Type 0} (ops : BufferOps B) (code : Code) where
+  -- some move could go on
+  abbrev pub MayGoOn : State B → Type 0
+  MayGoOn s = (s.failed ≡ None) × ((m : Move) × IsSome (step ops code s m))
+
+  -- how it ended where the moves lead to a state, and others are left: the first of these isn't enabled, or there are none
+  abbrev pub EndsSo : State B → List Move → End → Type 0
+  EndsSo s [] end.Failed = IsSome s.failed
+  EndsSo s [] end.Finished = (s.failed ≡ None) × (all_have_exited s ≡ true)
+  EndsSo s [] end.Deadlock = IsStuck ops code s
+  EndsSo s [] end.Open = MayGoOn s
+  EndsSo s (m ∷ ms) (end.Stopped reason) = why ops code s m ≡ Some reason
+  EndsSo s _ _ = ⊥
+
+  -- the rows are the history of the moves that could be made, and it ended so
+  pub record AreTold (moves : List Move) (rows : List Row) (end : End) : Type 0 where
+    pub made : List Move
+    pub left : List Move
+    pub state : State B
+    pub split : moves ≡ made ++ left
+    pub leads : run ops code made ≡ Some state
+    pub told : deeds rows ≡ history ops code made
+    pub ends : EndsSo state left end

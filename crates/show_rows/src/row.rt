@@ -1,0 +1,16 @@
+//! Rows: a deed, and where its thread was.
+
+use show_deeds::Deed;
+
+/// What one move did, and where its thread was before it.
+#[derive(Drop)]
+pub struct Row {
+    /// What it did.
+    pub deed: Deed,
+    /// The number of the function that the thread does.
+    pub function: usize,
+    /// The number of the instruction there that it does next, which is that of a step.
+    pub instruction: usize,
+    /// Of a branch, whether its condition wasn't 0.
+    pub outcome: Option<bool>,
+}

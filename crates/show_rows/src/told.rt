@@ -1,0 +1,130 @@
+//! The rows of a schedule.
+ghost use Rattle.std.specs.Prelude.{◌≡◌, IfOk, []};
+ghost use Rattle.tc_code.specs.Run.{IsReached};
+ghost use Rattle.show_rows.specs.Rows.{AreTold, EndsSo};
+
+use crate::row::Row;
+use crate::telling::Telling;
+use schedule_file::Schedule;
+use show_deeds::Deed;
+use std::alloc::{AllocError, Global};
+use store_buffers::MemoryModel;
+use tc_base::ThreadName;
+use tc_code::{Code, Instr};
+use tc_machine::{State, Why, choices, enabled, start, step};
+
+/// How a schedule ended.
+#[derive(Clone, Copy, Debug, PartialEq, Eq)]
+pub enum End {
+    /// A thread has failed.
+    Failed,
+    /// Every thread has exited.
+    Finished,
+    /// No move is enabled, and not every thread has exited.
+    Deadlock,
+    /// All its moves are made, and others are enabled.
+    Open,
+    /// Its next move isn't enabled, and this is why.
+    Stopped(Why),
+}
+
+/// Where a thread is that hasn't exited.
+#[derive(Drop)]
+pub struct Standing {
+    /// The thread.
+    pub thread: ThreadName,
+    /// The number of its function.
+    pub function: usize,
+    /// The number of the instruction there that it does next.
+    pub instruction: usize,
+}
+
+/// What the moves of a schedule did, as far as they could be made.
+#[derive(Drop)]
+pub struct Told {
+    /// A row for each move that was made.
+    pub rows: Vec<Row>,
+    /// Where the threads are afterwards that haven't exited.
+    pub standing: Vec<Standing>,
+    /// How it ended.
+    pub end: End,
+}
+
+/// What the moves of a schedule do in the code, as far as each is enabled.
+///
+/// The model that the schedule names is the caller's to hold against `M`.
+pub fn tell<M: MemoryModel>(
+    alloc: Global,
+    code: &Code,
+    schedule: &Schedule,
+) -> Result<Told, AllocError>
+    ensures { IfOk result (λ told. AreTold M.ops code.now schedule.now.moves.items told.rows.items told.end) }
+{
+    let mut state = start::<M>(alloc, code)?;
+    let mut telling = Telling::new(alloc, code)?;
+    for m in schedule.moves.iter() {
+        if let Err(why) = enabled(code, &state, m) {
+            return finish(alloc, &state, telling.into_rows(), End::Stopped(why));
+        }
+        let mut row = telling.row(code, &state, m)?;
+        step(alloc, code, &mut state, m)?;
+        row.outcome = outcome_of(code, &state, &row);
+        telling.take(M::BUFFERED, row)?;
+    }
+    let end = end_at(alloc, code, &state)?;
+    finish(alloc, &state, telling.into_rows(), end)
+}
+
+/// The outcome of a row that is a branch's, in the state after it.
+fn outcome_of<M: MemoryModel>(code: &Code, state: &State<M>, row: &Row) -> Option<bool> {
+    match (&row.deed, code.instr(row.function, row.instruction)) {
+        (Deed::Did(step), Some(Instr::Branch { .. })) => {
+            state.outcomes_of(&step.thread)?.as_slice().last().copied()
+        }
+        _ => None,
+    }
+}
+
+/// The rows, with where the threads are.
+fn finish<M: MemoryModel>(
+    alloc: Global,
+    state: &State<M>,
+    rows: Vec<Row>,
+    end: End,
+) -> Result<Told, AllocError>
+    ensures rows { IfOk result (λ told. told.rows.items ≡ rows.items) }
+    ensures end { IfOk result (λ told. told.end ≡ end) }
+{
+    let mut standing = Vec::new(alloc);
+    for (name, thread) in state.entries() {
+        if !thread.local().has_exited() {
+            let (function, instruction) = thread.local().place();
+            standing.push(Standing {
+                thread: name.clone()?,
+                function,
+                instruction,
+            })?;
+        }
+    }
+    Ok(Told {
+        rows,
+        standing,
+        end,
+    })
+}
+
+/// How it ends in a state where no moves are left.
+fn end_at<M: MemoryModel>(alloc: Global, code: &Code, state: &State<M>) -> Result<End, AllocError>
+    requires { IsReached M.ops code.now state.now }
+    ensures { IfOk result (EndsSo M.ops code.now state.now []) }
+{
+    if state.failed().is_some() {
+        Ok(End::Failed)
+    } else if state.all_have_exited() {
+        Ok(End::Finished)
+    } else if choices(alloc, code, state)?.is_empty() {
+        Ok(End::Deadlock)
+    } else {
+        Ok(End::Open)
+    }
+}

@@ -1,0 +1,9 @@
+//! Schedules and logs as text for a reader.
+#![tactic(auto)]
+
+mod columns;
+mod path;
+mod table;
+
+pub use path::log_text;
+pub use table::schedule_text;

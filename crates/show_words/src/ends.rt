@@ -1,0 +1,69 @@
+//! How a schedule ended, in words.
+
+use crate::program::Program;
+use crate::values::values_at_end;
+use show_rows::{End, Standing, Told};
+use std::alloc::{AllocError, Global};
+
+/// How a schedule ended, in lines: a failure with the values that the failing statement saw, and else where each thread is that
+/// hasn't exited.
+pub fn end_words(alloc: Global, program: Program<'_>, told: &Told) -> Result<String, AllocError> {
+    let standing = told.standing.as_slice();
+    match told.end {
+        End::Failed => failure_words(alloc, program, told),
+        End::Finished => String::from_str(alloc, "every thread has exited\n"),
+        End::Deadlock => {
+            let first = String::from_str(alloc, "deadlock: no move is enabled\n")?;
+            with_standing(alloc, first, program, standing)
+        }
+        End::Open => {
+            let first = String::from_str(
+                alloc,
+                "the schedule ends here, other moves are enabled\n",
+            )?;
+            with_standing(alloc, first, program, standing)
+        }
+        End::Stopped(why) => {
+            let number = told.rows.len().saturating_add(1);
+            let first = format!(in alloc; "stops at move {number}: {why}\n")?;
+            with_standing(alloc, first, program, standing)
+        }
+    }
+}
+
+/// Which thread failed and where, and the values that the failing statement saw.
+fn failure_words(alloc: Global, program: Program<'_>, told: &Told) -> Result<String, AllocError> {
+    let Some(row) = told.rows.last() else {
+        return Ok(String::new(alloc));
+    };
+    let name = row.deed.thread();
+    let line = program.line_of(row);
+    let source = program.names.line(line);
+    let mut words = format!(in alloc; "{name} fails at line {line}: {source}\n")?;
+    let values = values_at_end(alloc, program, told.rows.as_slice())?;
+    for seen in values.as_slice() {
+        let cell = program.names.cell(seen.cell);
+        let value = seen.value;
+        words.push_str(format!(in alloc; "  {cell} = {value}\n")?.as_str())?;
+    }
+    Ok(words)
+}
+
+/// The words, and then where each thread is that hasn't exited.
+fn with_standing(
+    alloc: Global,
+    words: String,
+    program: Program<'_>,
+    standing: &[Standing],
+) -> Result<String, AllocError> {
+    let mut words = words;
+    for thread in standing {
+        let name = &thread.thread;
+        let function = program.function(alloc, thread.function)?;
+        let line = program.line(thread.function, thread.instruction);
+        let source = program.names.line(line);
+        let place = format!(in alloc; "  {name} {function} is at line {line}: {source}\n")?;
+        words.push_str(place.as_str())?;
+    }
+    Ok(words)
+}

@@ -1,0 +1,326 @@
+-- What the clauses with at most so many switches mean.
+use Rattle.std.proofs.Common.{◌≡◌, ◌≢◌, ◌∙◌, inl, inr, ℕ, zero, suc, ◌+◌, ◌<◌, ◌≤◌, nat_lt, Bool, true, false, ◌||◌, List, [], ◌∷◌, map, length, Option, Some, None, refl, sym, ap, subst, arith}
+use Rattle.std.specs.Bool.{IsTrue}
+use Rattle.std.specs.Prelude.{if◌then◌else◌, option_map}
+use Rattle.std.specs.List.{All, Contains, find, list_any, range_with_len}
+use Rattle.std.proofs.lemmas.Bool.{cases_eq, false≢true, ltb-true}
+use Rattle.std.proofs.lemmas.List.{length-map}
+use Rattle.std.proofs.lemmas.List.Elements.{All-cons, All-contains, All-map, Contains-append_right}
+use Rattle.std.proofs.lemmas.List.Folds.{list_any-append}
+use Rattle.std.proofs.lemmas.Option.{none-some, same_Some}
+use Rattle.tc_base.specs.Buffers.{BufferOps}
+use Rattle.tc_base.specs.Logs.{Log}
+use Rattle.tc_base.specs.declared.model.Model.{Model}
+use Rattle.tc_base.specs.declared.moves.Move.{Move}
+use Rattle.tc_code.specs.Code.{Code}
+use Rattle.tc_code.specs.Lawful.{IsLawful}
+use Rattle.tc_code.specs.Run.{Reproduces}
+use Rattle.store_buffers.specs.Laws.{Laws}
+use Rattle.store_buffers.specs.Pending.{Binding}
+use Rattle.run_follows.specs.Follow.{moves_for}
+use Rattle.path_log.specs.Texts.{is_log}
+use Rattle.path_walk.specs.Paths.{Paths, paths_of}
+use Rattle.path_walk.specs.declared.event.Event.{Event}
+use Rattle.order_formula.specs.declared.formula.Body.{Body}
+use Rattle.order_formula.specs.declared.formula.Body.TheVariants as body
+use Rattle.order_formula.specs.declared.formula.Conjunct.{Conjunct}
+use Rattle.order_formula.specs.declared.order.Pair.{Pair}
+use Rattle.order_formula.specs.declared.read.Candidate.{Candidate}
+use Rattle.order_formula.specs.Orders.{BodyIsAsked, BodyIsIn, ConjunctIsAsked, ConjunctIsIn, Grows, IsOrder, Order, pair_of, same_pair}
+use Rattle.order_formula.specs.Worlds.{World}
+use Rattle.order_formula.proofs.Asked.{formula_stays}
+use Rattle.lawful_order.specs.Events.{Of, all_events, number_of}
+use Rattle.order_events.proofs.Lists as lists
+use Rattle.order_events.proofs.Numbers.{has_number}
+use Rattle.order_events.proofs.Parts.{each_in}
+use Rattle.order_events.proofs.Whole as paths_are
+use Rattle.world_plan.specs.Plan.{is_failure, plan}
+use Rattle.world_plan.proofs.Numbers.{event_numbered, of_find}
+use Rattle.cnf_core.specs.Clauses.{Formula, Valuation, satisfies}
+use Rattle.bit_order.specs.Comparators.{pairs_among}
+use Rattle.bit_order.specs.Laws.{IsWorldFor, PairIsAsked}
+use Rattle.bit_order.specs.Layouts.{Layout}
+use Rattle.bit_order.specs.Readings.{world_of}
+use Rattle.bit_order.proofs.Asking.{completed-asked, grows-completed}
+use Rattle.bit_order.proofs.Meaning.{values-say-worlds}
+use Rattle.bit_blast.specs.Blasted.{BlastMeans, IsApart, IsPosed, impossible, layout_of}
+use Rattle.bit_blast.specs.Contended.{contended}
+use Rattle.bit_blast.specs.Laws.{BodyIsTold}
+use Rattle.bit_blast.specs.Whole.{whole}
+use Rattle.bit_blast.specs.Whole as blast
+use Rattle.bit_blast.proofs.Completed.{completed_events, contended_within, same_part}
+use Rattle.bit_blast.proofs.Posed.{blast_means, formula_in}
+use Rattle.bit_blast.proofs.Prefixes.{first_part}
+use Rattle.bit_blast.proofs.WholeLaws.{all_range}
+use Rattle.refute_check.specs.Refutations.{IsClosed}
+use Rattle.refute_check.specs.declared.line.Line.{Line}
+use Rattle.refute_check.proofs.Sound.{closed-means-unsatisfiable}
+use Rattle.switch_order.specs.Laws.{IsReady, LevelsMean}
+use Rattle.switch_order.specs.Levels.{level_clauses}
+use Rattle.switch_order.proofs.Levels.{levels_mean}
+use Rattle.switch_runs.specs.Switches as runs
+use Rattle.switch_runs.specs.Worlds.{failing_of, threads_of, world_switches}
+use Rattle.switch_runs.proofs.Laws as of_runs
+use Rattle.clap_system.specs.Systems.{System, system_of}
+use Rattle.clap_system.proofs.Choices.{choices_are_enders}
+use Rattle.orders_are_runs.specs.Possible.{IsPossible}
+use Rattle.orders_are_runs.proofs.Systems.{possible_is_lawful}
+use Rattle.plan_runs.proofs.Laws as plans
+use Rattle.plan_runs.proofs.Runs.{plan_reproduces}
+use Rattle.clap_solve.specs.Solved.{IsWithin}
+use Rattle.clap_solve.proofs.Meaning as solve
+use Rattle.clap_solve.proofs.Ordered.{completed_lawful}
+use Rattle.switch_clauses.specs.Clauses.{asked_of_all, switch_clauses, switched_by}
+use Rattle.switch_clauses.proofs.Same.{same_few}
+use Rattle.switch_clauses.proofs.Whole as stands
+
+-- a range has its numbers
+range_has : (a n e : ℕ) → a ≤ e → e < a + n → Contains (range_with_len a n) e
+range_has a zero e low high = absurd (omega (arith, low, high))
+range_has a (suc n) e low high =
+    elim (cases_eq e a) [
+      | inl same ↦ (0, omega arith, sym same)
+      | inr other ↦ Contains-append_right (a ∷ []) (range_with_len (a + 1) n) e (range_has (a + 1) n e (omega (arith, low, other)) (omega (arith, high)))
+    ]
+
+-- what was asked stays asked
+still_asked : (o p : Order) (q : Pair) → Grows o p → IsTrue (list_any (same_pair q) o.pairs) → IsTrue (list_any (same_pair q) p.pairs)
+still_asked o p q g asked =
+    ap (list_any (same_pair q)) g.pairs.1 ∙ list_any-append (same_pair q) o.pairs g.pairs.0 ∙ ap (λ b. b || list_any (same_pair q) g.pairs.0) asked
+
+module _ (buffered : Bool) (bound : Binding) (code : Code) (log : Log) (lawful : IsLawful code) (within : IsWithin code log) where
+  abbrev ps : Paths
+  ps = paths_of code log
+
+  abbrev s : System
+  s = system_of buffered bound code log
+
+  abbrev every : List ℕ
+  every = range_with_len 0 s.order.events
+
+  -- the order, asked of every two
+  abbrev oa : Order
+  oa = asked_of_all s.order
+
+  abbrev y : Layout
+  y = layout_of oa s.symbolic.loads s.formula
+
+  was : IsPosed s.nodes s.formula s.order
+  was = solve.posed buffered bound code log lawful within
+
+  events_all : oa.events ≡ s.order.events
+  events_all = completed_events s.order every
+
+  sleeps_all : oa.sleeps ≡ s.order.sleeps
+  sleeps_all = same_part (λ (k : Order). k.sleeps) (λ k p. refl) s.order (pairs_among every)
+
+  choices_all : oa.choices ≡ s.order.choices
+  choices_all = same_part (λ (k : Order). k.choices) (λ k p. refl) s.order (pairs_among every)
+
+  lawful_all : IsOrder oa
+  lawful_all =
+      completed_lawful s.order every (solve.ordered buffered bound code log lawful within)
+      (all_range (λ e. e < s.order.events) 0 s.order.events (λ k below. omega (arith, below)))
+
+  posed : IsPosed s.nodes s.formula oa
+  posed = record {
+    events = omega (arith, was.events, events_all);
+    ints = was.ints;
+    asked = formula_stays s.order oa s.formula (grows-completed s.order every) was.asked;
+    within = formula_in s.order oa events_all sleeps_all s.formula was.within;
+    apart = was.apart;
+  }
+
+  lawful_y : IsOrder y.order
+  lawful_y = completed_lawful oa (contended s.formula) lawful_all (contended_within oa s.formula posed.within)
+
+  means : BlastMeans s.nodes s.formula oa s.symbolic.loads
+  means = blast_means s.nodes s.formula oa s.symbolic.loads posed lawful_y
+
+  grows : Grows oa y.order
+  grows = grows-completed oa (contended s.formula)
+
+  events_y : y.order.events ≡ length (all_events ps)
+  events_y = completed_events oa (contended s.formula) ∙ events_all ∙ solve.events buffered bound code log lawful within
+
+  same_events : y.order.events ≡ oa.events
+  same_events = completed_events oa (contended s.formula)
+
+  asked : (e g : ℕ) → e < y.order.events → g < y.order.events → e ≢ g → PairIsAsked y e g
+  asked e g one other apart =
+      still_asked oa y.order (pair_of e g) grows
+      (completed-asked s.order every e g (range_has 0 s.order.events e (omega arith) (omega (arith, one, same_events, events_all)))
+      (range_has 0 s.order.events g (omega arith) (omega (arith, other, same_events, events_all))) apart)
+
+  within_y : All (ConjunctIsIn y.order) s.formula
+  within_y = formula_in oa y.order same_events (same_part (λ (k : Order). k.sleeps) (λ k p. refl) oa (pairs_among (contended s.formula))) s.formula posed.within
+
+  told : (c : Conjunct) → (b : Body) → c.body ≡ b → BodyIsAsked y.order b → BodyIsIn y.order b → IsApart b → BodyIsTold y.order b
+  told c (body.Any cases) is all inside apart = all
+  told c (body.Read r) is all inside apart =
+      let named : List ℕ = r.event ∷ map (λ (k : Candidate). k.event) r.candidates in
+      let there : All (λ e. e < y.order.events) named =
+      All-cons (λ e. e < y.order.events) r.event (map (λ (k : Candidate). k.event) r.candidates) inside.0
+      (All-map (λ e. e < y.order.events) (λ (k : Candidate). k.event) r.candidates inside.1) in
+      record {
+        distinct = apart;
+        within = there;
+        asked = λ first second p q differ.
+            asked first second (All-contains (λ e. e < y.order.events) named first there p) (All-contains (λ e. e < y.order.events) named second there q) differ;
+      }
+
+  ready : blast.IsReady y s.nodes s.formula
+  ready = record {
+    order = lawful_y;
+    events = omega (arith, posed.events, same_events);
+    ints = was.ints;
+    told = each_in (λ (c : Conjunct). BodyIsTold y.order c.body) s.formula (λ c there.
+        told c c.body refl
+        (All-contains (ConjunctIsAsked y.order) s.formula c (formula_stays oa y.order s.formula grows posed.asked) there)
+        (All-contains (ConjunctIsIn y.order) s.formula c within_y there)
+        (All-contains (λ (d : Conjunct). IsApart d.body) s.formula c was.apart there));
+    within = within_y;
+  }
+
+  -- the event that fails is one
+  failing_within : (last : ℕ) → failing_of ps ≡ Some last → last < y.order.events
+  failing_within last is = by (find (λ (e : Of Event). is_failure e.it.kind) (all_events ps)) refl is
+    where
+      by : (o : Option (Of Event)) → find (λ (e : Of Event). is_failure e.it.kind) (all_events ps) ≡ o
+          → option_map (λ (e : Of Event). number_of ps e.thread e.it.step) o ≡ Some last → last < y.order.events
+      by None at never = absurd (none-some last never)
+      by (Some e) at number =
+          let f = of_find (λ (d : Of Event). is_failure d.it.kind) (all_events ps) e at in
+          let i = lists.in_at (all_events ps) e f.0 in
+          let q = event_numbered ps (paths_are.whole code ps (solve.are buffered bound code log lawful within)) i.0 e i.1 in
+          let less = has_number ps e.thread e.it.step (e.it, q, refl) in
+          omega (arith, less, events_y, same_Some (number_of ps e.thread e.it.step) last number)
+
+  abbrev f : Formula
+  f = whole y s.nodes s.formula
+
+  levels_ready : IsReady y (threads_of ps) (failing_of ps) f
+  levels_ready = record {
+    order = lawful_y;
+    events = ready.events;
+    every = length-map (all_events ps) (λ (e : Of Event). e.thread) ∙ sym events_y;
+    last = failing_within;
+    asked = asked;
+    more = stands.more y s.nodes s.formula ready;
+    before = stands.before y s.nodes s.formula ready;
+  }
+
+  module _ (most : ℕ) where
+    level_means : LevelsMean y (threads_of ps) (failing_of ps) most f
+    level_means = levels_mean y (threads_of ps) (failing_of ps) most f levels_ready
+
+    -- what satisfies the clauses says a world in which the formula is true, of at most so many switches
+    pub record IsSaid (v : Valuation) : Type 0 where
+      pub possible : IsPossible buffered bound code log
+      pub world : possible.world ≡ world_of y v
+      pub small : All (λ p. p < 256) possible.world.positions
+      pub few : world_switches ps possible.world ≤ most
+
+    said : ps.dead ≡ false → (v : Valuation) → IsTrue (satisfies v (switched_by ps s most).clauses) → IsSaid v
+    said lives v all =
+        let own = first_part v f.clauses (level_clauses y (threads_of ps) (failing_of ps) (suc f.vars) most) all in
+        let m = stands.model y s.nodes s.formula ready v own in
+        let few = level_means.few v (record { one = m.one; all = all }) in
+        let said = means.to v own in
+        let w = world_of y v in
+        record {
+          possible = record {
+            lives = lives;
+            world = w;
+            is = said.0.world;
+            of = (choices_are_enders buffered bound code ps w (said.0.positions ∙ events_all ∙ solve.events buffered bound code log lawful within) said.0.loads
+                (said.0.enders ∙ sleeps_all ∙ solve.sleeps buffered bound code log lawful within)).1
+                (λ sleep by is. subst (λ cs. Contains cs (record { sleep = sleep; by = by })) choices_all (said.0.chosen sleep by is));
+            holds = said.1;
+          };
+          world = refl;
+          small = said.0.small;
+          few = few;
+        }
+
+    abbrev Satisfied : Valuation → Bool → Type 0
+    Satisfied v dead = IsTrue (satisfies v (if dead then impossible.clauses else switched_by ps s most).clauses)
+
+    pub says : (v : Valuation) → IsTrue (satisfies v (switch_clauses buffered bound code log most).clauses) → IsSaid v
+    says v satisfied = by ps.dead refl satisfied
+      where
+        by : (dead : Bool) → ps.dead ≡ dead → Satisfied v dead → IsSaid v
+        by true is never = absurd (false≢true never)
+        by false is all = said is v all
+
+    -- and each such world is said so
+    pub is_said : (p : IsPossible buffered bound code log) → IsWorldFor (record { order = s.order; loads = s.symbolic.loads }) p.world
+        → world_switches ps p.world ≤ most → (v : Valuation) × IsTrue (satisfies v (switched_by ps s most).clauses)
+    is_said p is few =
+        let world_for : IsWorldFor (record { order = oa; loads = s.symbolic.loads }) p.world = record {
+          world = is.world;
+          positions = is.positions ∙ sym events_all;
+          small = is.small;
+          loads = is.loads;
+          ints = is.ints;
+          enders = is.enders ∙ sym sleeps_all;
+          chosen = λ sleep by at. subst (λ cs. Contains cs (record { sleep = sleep; by = by })) (sym choices_all) (is.chosen sleep by at);
+        } in
+        let m = means.back p.world world_for p.holds in
+        let x = world_of y m.0 in
+        let x_is = values-say-worlds y m.0 ready.events in
+        let threads_are : length (threads_of ps) ≡ y.order.events = levels_ready.every in
+        let same = same_few (threads_of ps) (failing_of ps) most p.world x is.world x_is.world
+        (omega (arith, threads_are, same_events, events_all, is.positions)) (omega (arith, threads_are, x_is.positions))
+        (λ last some. let less = failing_within last some in omega (arith, less, threads_are)) is.small
+        (λ e g one other. m.2.before e g (omega (arith, one, threads_are, same_events)) (omega (arith, other, threads_are, same_events))) few in
+        let u = level_means.extends m.0 (stands.over y s.nodes s.formula ready) (stands.model y s.nodes s.formula ready m.0 m.1) same in
+        (u.0, u.1.all)
+
+module _ {B : Type 0} (ops : BufferOps B) (model : Model) (bound : Binding) (code : Code) (log : Log) (most : ℕ) (laws : Laws ops model bound)
+    (lawful : IsLawful code) (is : is_log log ≡ true) (within : IsWithin code log) where
+  abbrev qs : Paths
+  qs = paths_of code log
+
+  abbrev Few : List Move → Type 0
+  Few moves = runs.switches ops code moves ≤ most
+
+  pub said_is_run : (v : Valuation) → IsTrue (satisfies v (switch_clauses ops.buffered bound code log most).clauses)
+      → (moves : List Move) × Reproduces ops code log moves × Few moves
+  said_is_run v satisfied =
+      let k = says ops.buffered bound code log lawful within most v satisfied in
+      let w = k.possible.world in
+      let l = possible_is_lawful ops model bound code log laws lawful is within.fits k.possible in (
+        moves_for bound (plan ops.buffered code qs w),
+        plan_reproduces ops model bound code log [] w l (plans.given ops model bound code log [] w l),
+        subst (λ n. n ≤ most) (sym (of_runs.worlds ops model bound code log [] w l k.small)) k.few,
+      )
+
+  pub run_is_said : (moves : List Move) → Reproduces ops code log moves → Few moves
+      → (v : Valuation) × IsTrue (satisfies v (switch_clauses ops.buffered bound code log most).clauses)
+  run_is_said moves again few = by qs.dead refl
+    where
+      p : IsPossible ops.buffered bound code log
+      p = solve.p ops model bound code log laws lawful is within moves again
+
+      enough : world_switches qs p.world ≤ most
+      enough =
+          let same = of_runs.runs ops model bound laws code lawful log is [] moves again (solve.few ops.buffered bound code log lawful within) in
+          subst (λ (w : World). world_switches qs w ≤ most) (sym (solve.same ops model bound code log laws lawful is within moves again))
+          (subst (λ n. n ≤ most) same few)
+
+      by : (dead : Bool) → qs.dead ≡ dead → (v : Valuation) × Satisfied ops.buffered bound code log lawful within most v dead
+      by true dead = absurd (false≢true (sym p.lives ∙ dead))
+      by false dead =
+          is_said ops.buffered bound code log lawful within most p (solve.world_for ops model bound code log laws lawful is within moves again) enough
+
+  pub closed_is_more : (lines : List Line) (moves : List Move) → IsClosed (switch_clauses ops.buffered bound code log most) lines
+      → Reproduces ops code log moves → most < runs.switches ops code moves
+  closed_is_more lines moves closed again = by (nat_lt most (runs.switches ops code moves)) refl
+    where
+      by : (b : Bool) → nat_lt most (runs.switches ops code moves) ≡ b → most < runs.switches ops code moves
+      by true more = ltb-true most (runs.switches ops code moves) more
+      by false less =
+          let few : Few moves = grind (arith, less) in
+          let v = run_is_said moves again few in
+          absurd (closed-means-unsatisfiable (switch_clauses ops.buffered bound code log most) lines closed v.0 v.1)

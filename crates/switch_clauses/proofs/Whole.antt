@@ -1,0 +1,75 @@
+-- The clauses of a formula stand on those of its order.
+use Rattle.std.proofs.Common.{◌≡◌, ◌∙◌, ℕ, ◌<◌, ◌≤◌, true, List, [], ◌∷◌, ℤ, map, refl, arith}
+use Rattle.std.specs.List.{All, list_all, range_with_len}
+use Rattle.std.proofs.lemmas.Bool.{and_from, le-leb}
+use Rattle.std.proofs.lemmas.List.Elements.{All-head, All-map, All-tail}
+use Rattle.std.proofs.lemmas.List.Folds.{list_all-append}
+use Rattle.sym_terms.specs.declared.node.Node.{Node}
+use Rattle.order_formula.specs.declared.formula.Conjunct.{Conjunct}
+use Rattle.cnf_core.specs.Clauses.{Formula, Valuation, is_within, satisfies, var_of}
+use Rattle.cnf_core.specs.Gates.{IsOver}
+use Rattle.bit_gates.specs.Extended.{IsExtended}
+use Rattle.bit_gates.specs.Laws.{IsModel, IsOf}
+use Rattle.bit_gates.proofs.Extended.{gates-extend}
+use Rattle.bit_order.specs.Comparators.{ordered}
+use Rattle.bit_order.specs.Laws.{LiteralsMean}
+use Rattle.bit_order.specs.Layouts.{Layout, base, load_word}
+use Rattle.bit_order.specs.Readings.{world_of}
+use Rattle.bit_order.proofs.Compared.{base_some}
+use Rattle.bit_order.proofs.Meaning.{base-over, literals-mean}
+use Rattle.bit_order.proofs.Three.{ordered-extended}
+use Rattle.bit_ops.specs.Laws.{IsOperand}
+use Rattle.bit_terms.specs.Laws.{HaveInts}
+use Rattle.bit_terms.proofs.Meaning.{terms-mean}
+use Rattle.bit_blast.specs.Laws.{AreRoots}
+use Rattle.bit_blast.specs.Whole.{IsReady, load_words, rooted, termed, whole}
+use Rattle.bit_blast.proofs.Prefixes.{first_part}
+use Rattle.bit_blast.proofs.WholeLaws.{all_range, all_roots, first_true}
+
+units_within : (n : ℕ) (ls : List ℤ) → All (IsOf n) ls → list_all (is_within n) (map (λ l. l ∷ []) ls) ≡ true
+units_within n [] of = refl
+units_within n (l ∷ ls) of =
+    and_from (is_within n (l ∷ [])) (list_all (is_within n) (map (λ l. l ∷ []) ls))
+    (and_from _ true (le-leb (var_of l) n (All-head (IsOf n) l ls of).1) refl) (units_within n ls (All-tail (IsOf n) l ls of))
+
+module _ (y : Layout) (nodes : List Node) (formula : List Conjunct) (h : IsReady y nodes formula) where
+  order : IsExtended (base y) (ordered y)
+  order = ordered-extended y h.order
+
+  some : 0 < (ordered y).vars
+  some = let a : 0 < (base y).vars = base_some y in omega (arith, a, order.more)
+
+  loads : All (IsOperand (ordered y)) (load_words y)
+  loads =
+      let literals : LiteralsMean y = literals-mean y h.order in
+      All-map (IsOperand (ordered y)) (load_word y) (range_with_len 0 y.loads)
+      (all_range (λ k. IsOperand (ordered y) (load_word y k)) 0 y.loads
+      (λ k below. record { literals = literals.load_there k (omega (arith, below)); width = literals.load_wide k }))
+
+  abbrev g : Formula
+  g = (termed y nodes).formula
+
+  grown : IsExtended (ordered y) g
+  grown =
+      let terms : HaveInts nodes (load_words y) (ordered y) (termed y nodes) = terms-mean nodes (load_words y) (ordered y) some h.ints loads in
+      gates-extend (ordered y) g some terms.grown
+
+  roots : AreRoots nodes (world_of y) g (rooted y nodes formula) formula
+  roots = all_roots y nodes formula h
+
+  pub over : IsOver (whole y nodes formula)
+  over =
+      list_all-append (is_within (whole y nodes formula).vars) (rooted y nodes formula).state.clauses (map (λ l. l ∷ []) (rooted y nodes formula).word)
+      ∙ and_from _ _ (roots.over (grown.over (order.over (base-over y)))) (units_within (whole y nodes formula).vars (rooted y nodes formula).word roots.literals)
+
+  pub more : (ordered y).vars ≤ (whole y nodes formula).vars
+  more = omega (arith, grown.more, roots.more)
+
+  first : (v : Valuation) → satisfies v (whole y nodes formula).clauses ≡ true → satisfies v (rooted y nodes formula).state.clauses ≡ true
+  first v all = first_part v (rooted y nodes formula).state.clauses (map (λ l. l ∷ []) (rooted y nodes formula).word) all
+
+  pub before : (v : Valuation) → IsModel v (whole y nodes formula) → IsModel v (ordered y)
+  before v m = grown.before v (roots.before v (record { one = m.one; all = first v m.all }))
+
+  pub model : (v : Valuation) → satisfies v (whole y nodes formula).clauses ≡ true → IsModel v (whole y nodes formula)
+  model v all = record { one = first_true y nodes formula h v (first v all); all = all }

@@ -1,0 +1,31 @@
+-- The clauses of a log with at most so many context switches.
+use Rattle.std.specs.Prelude.{ℕ, Bool, if◌then◌else◌}
+use Rattle.std.specs.List.{range_with_len}
+use Rattle.tc_base.specs.Logs.{Log}
+use Rattle.tc_code.specs.Code.{Code}
+use Rattle.store_buffers.specs.Pending.{Binding}
+use Rattle.path_walk.specs.Paths.{Paths, paths_of}
+use Rattle.order_formula.specs.Orders.{Order}
+use Rattle.cnf_core.specs.Clauses.{Formula}
+use Rattle.bit_order.specs.Comparators.{completed}
+use Rattle.bit_blast.specs.Blasted.{Blasted, blast, impossible}
+use Rattle.switch_order.specs.Levels.{levelled}
+use Rattle.switch_runs.specs.Worlds.{failing_of, threads_of}
+use Rattle.clap_system.specs.Systems.{System, system_of}
+
+-- an order that is asked of every two of its events
+abbrev pub asked_of_all : Order → Order
+asked_of_all o = completed o (range_with_len 0 o.events)
+
+-- a system as clauses over such an order
+abbrev pub asked_by : System → Blasted
+asked_by s = blast s.nodes s.formula (asked_of_all s.order) s.symbolic.loads
+
+-- with levels up to a number
+abbrev pub switched_by : Paths → System → ℕ → Formula
+switched_by paths s most = levelled (asked_by s).layout (threads_of paths) (failing_of paths) most (asked_by s).clauses
+
+-- what is impossible where the paths of the log are dead, and else the clauses of the log's system
+abbrev pub switch_clauses : Bool → Binding → Code → Log → ℕ → Formula
+switch_clauses buffered bound code log most =
+    if (paths_of code log).dead then impossible.clauses else switched_by (paths_of code log) (system_of buffered bound code log) most

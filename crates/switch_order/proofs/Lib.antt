@@ -1,0 +1,4 @@
+pub mod Greatest
+pub mod Literals
+pub mod Levels
+pub mod Added

@@ -1,0 +1,36 @@
+-- What the accesses of paths ask of cells in a history.
+use Rattle.std.specs.Prelude.{◌≡◌, ◌⊎◌, ℕ, ◌<◌, ℤ, Option, Some, None, List, [], ◌∷◌, ◌++◌, slice_get}
+use Rattle.std.specs.List.{Contains}
+use Rattle.tc_base.specs.Logs.{Log}
+use Rattle.tc_base.specs.Names.{Name}
+use Rattle.tc_base.specs.declared.request.Request.{Request}
+use Rattle.tc_code.specs.Code.{Code}
+use Rattle.run_history.specs.History.{Deed, Did}
+use Rattle.run_history.specs.Told.{steps_in, failed_in}
+use Rattle.path_walk.specs.Paths.{Walk}
+use Rattle.path_laws.specs.history.Along.{IsThread}
+use Rattle.path_laws.specs.history.Next.{IsNextOnPath}
+use Rattle.sym_terms.specs.declared.node.Node.{Node}
+use Rattle.sym_exec.specs.Alone.{Asked, asked_by}
+use Rattle.sym_exec.specs.Executed.{Course}
+use Rattle.sym_exec.specs.declared.symbolic.Access.{Access}
+use Rattle.sym_laws.specs.Valued.{found}
+
+-- a thread's step of a number is done, and asks this of a cell
+pub record IsAskedIn (h : List Deed) (n : Name) (k : ℕ) (asked : Asked) : Type 0 where
+  pub older : List Deed
+  pub newer : List Deed
+  pub request : Request
+  pub took : ℤ
+  pub other : Option Name
+  pub there : h ≡ older ++ Did n k request took other ∷ newer
+  pub asks : asked_by took request ≡ asked ∷ []
+
+-- an access of a thread of the paths is done, or is the thread's next step, where none has failed
+pub record IsReachedIn (code : Code) (log : Log) (nodes : List Node) (h : List Deed) (t : ℕ) (a : Access) : Type 0 where
+  pub walk : Walk
+  pub course : Course
+  pub thread : IsThread code log t walk
+  pub there : slice_get (found code log nodes).symbolic.threads t ≡ Some course
+  pub among : Contains course.accesses a
+  pub reached : (a.step < steps_in h walk.name) ⊎ ((a.step ≡ steps_in h walk.name) × (failed_in h ≡ None) × IsNextOnPath code h walk)

@@ -1,0 +1,73 @@
+//! The cells of accesses in a history along the paths. Each function's clause is a law, and its body does nothing.
+ghost use Rattle.std.specs.Prelude.{◌≡◌, ◌<◌, ◌==◌, ℕ, ℤ, pos, true, Some, List, slice_get, slice_index_or};
+ghost use Rattle.std.specs.List.{Contains};
+ghost use Rattle.tc_base.specs.Buffers.{BufferOps};
+ghost use Rattle.tc_base.specs.Logs.{Log};
+ghost use Rattle.tc_base.specs.declared.model.Model.{Model};
+ghost use Rattle.tc_code.specs.Code.{Code};
+ghost use Rattle.tc_code.specs.Lawful.{IsLawful};
+ghost use Rattle.store_buffers.specs.Laws.{Laws};
+ghost use Rattle.store_buffers.specs.Pending.{Binding};
+ghost use Rattle.run_history.specs.History.{Deed};
+ghost use Rattle.run_history.specs.Told.{steps_in};
+ghost use Rattle.path_log.specs.Texts.{is_log};
+ghost use Rattle.path_walk.specs.Fits.{Fits};
+ghost use Rattle.path_walk.specs.Paths.{Walk, Paths};
+ghost use Rattle.path_laws.specs.history.Along.{IsAlongPaths, IsThread};
+ghost use Rattle.sym_terms.specs.Terms.{AreTerms};
+ghost use Rattle.sym_terms.specs.declared.node.Node.{Node};
+ghost use Rattle.sym_exec.specs.Alone.{Asked, asked_in, cell_by};
+ghost use Rattle.sym_exec.specs.Executed.{Course, Symbolic};
+ghost use Rattle.sym_exec.specs.declared.symbolic.Access.{Access};
+ghost use Rattle.sym_laws.specs.Valued.{AgreesWith, found};
+ghost use Rattle.order_formula.specs.Worlds.{World};
+ghost use Rattle.lawful_order.specs.Cells.{is_same_cell, value_at_start};
+ghost use Rattle.lawful_order.specs.Memory.{cell_of};
+ghost use Rattle.lawful_order.specs.Reads.{HasAccess};
+ghost use Rattle.lawful_order.specs.Whole.{IsExecutedBy};
+ghost use Rattle.sym_steps.specs.accesses.Asked.{IsAskedIn, IsReachedIn};
+
+/// What a thread's steps ask of cells in a history along the paths is what its accesses ask, step by step.
+pub fn accesses_are_asked<B>()
+    ensures done { (ops : BufferOps B) (model : Model) (bound : Binding) (code : Code) (log : Log) (nodes : List Node) (loads : List ℤ) (h : List Deed)
+        (j : ℕ) (w : Walk) (c : Course) (a : Access)
+        → Laws ops model bound → IsLawful code → is_log log ≡ true → Fits code log → AreTerms nodes
+        → IsAlongPaths ops.buffered bound code log h → AgreesWith (found code log nodes).symbolic loads h
+        → IsThread code log j w → slice_get (found code log nodes).symbolic.threads j ≡ Some c
+        → Contains c.accesses a → a.step < steps_in h w.name → IsAskedIn h w.name a.step (asked_in (found code log nodes).nodes loads a) }
+    ensures found { (ops : BufferOps B) (model : Model) (bound : Binding) (code : Code) (log : Log) (nodes : List Node) (loads : List ℤ) (h : List Deed)
+        (j : ℕ) (w : Walk) (c : Course) (k : ℕ) (asked : Asked)
+        → Laws ops model bound → IsLawful code → is_log log ≡ true → Fits code log → AreTerms nodes
+        → IsAlongPaths ops.buffered bound code log h → AgreesWith (found code log nodes).symbolic loads h
+        → IsThread code log j w → slice_get (found code log nodes).symbolic.threads j ≡ Some c
+        → IsAskedIn h w.name k asked
+        → (a : Access) × Contains c.accesses a × (a.step ≡ k) × (asked_in (found code log nodes).nodes loads a ≡ asked) }
+{}
+
+/// Two accesses that are done, or next, are to one cell exactly where their cells have one number: arrays lie apart, and each
+/// index was tested to be inside its array.
+pub fn cells_are_one<B>()
+    ensures { (ops : BufferOps B) (model : Model) (bound : Binding) (code : Code) (log : Log) (nodes : List Node) (w : World) (h : List Deed)
+        (t u : ℕ) (a b : Access)
+        → Laws ops model bound → IsLawful code → is_log log ≡ true → Fits code log → AreTerms nodes
+        → IsAlongPaths ops.buffered bound code log h → AgreesWith (found code log nodes).symbolic w.loads h
+        → IsReachedIn code log nodes h t a → IsReachedIn code log nodes h u b
+        → is_same_cell (found code log nodes).nodes w a.cell b.cell
+        ≡ (cell_by (found code log nodes).nodes w.loads a.cell == cell_by (found code log nodes).nodes w.loads b.cell) }
+{}
+
+/// The cell of such an access has at the start the value that the code gives it.
+pub fn cells_begin<B>()
+    ensures { (ops : BufferOps B) (model : Model) (bound : Binding) (code : Code) (log : Log) (nodes : List Node) (loads : List ℤ) (h : List Deed)
+        (t : ℕ) (a : Access)
+        → Laws ops model bound → IsLawful code → is_log log ≡ true → Fits code log → AreTerms nodes
+        → IsAlongPaths ops.buffered bound code log h → AgreesWith (found code log nodes).symbolic loads h
+        → IsReachedIn code log nodes h t a
+        → value_at_start code a.cell ≡ slice_index_or code.memory (cell_by (found code log nodes).nodes loads a.cell) (pos 0) }
+{}
+
+/// The cell of a thread's step is that of its access.
+pub fn cells_are_found()
+    ensures { (paths : Paths) (symbolic : Symbolic) (t : ℕ) (a : Access)
+        → IsExecutedBy paths symbolic → HasAccess symbolic t a → cell_of symbolic t a.step ≡ Some a.cell }
+{}

@@ -1,0 +1,2 @@
+-- No promise speaks of what stands in this folder.
+pub mod Pieces

@@ -1,0 +1,58 @@
+//! What is given to a row.
+ghost use Rattle.std.specs.Prelude.{◌≤◌, length, IfOk};
+ghost use Rattle.tc_base.specs.declared.limits.TheConstants.{PROGRAM_BYTES};
+
+use anyhow::{Context, Result, bail};
+use clap_system::{BuildFault, System, build};
+use path_log::{Log, read_log};
+use std::alloc::Global;
+use store_buffers::{PsoModel, Sc, TsoModel};
+use tc_base::limits::PROGRAM_BYTES;
+use tc_code::Code;
+use tc_compile::compile;
+
+/// What stands before the next ` : `, and what stands behind it.
+pub(crate) fn split(given: &str) -> Result<(&str, &str)> {
+    given.split_once(" : ").context("too little is given")
+}
+
+/// The system of a log and a program under a model.
+pub(crate) fn system(alloc: Global, model: &str, given: &str) -> Result<System> {
+    let (digits, program) = split(given)?;
+    let log = log_of(alloc, digits)?;
+    let code = compile(alloc, within(program)?)?;
+    system_under(alloc, model, &code, &log)
+}
+
+/// The log of hex digits.
+fn log_of(alloc: Global, digits: &str) -> Result<Log> {
+    let bytes = hex::decode(alloc, digits.as_bytes())?;
+    Ok(read_log(alloc, bytes.as_slice())?)
+}
+
+/// The bytes of a program that is as long as one may be.
+fn within(program: &str) -> Result<&[u8]>
+    ensures { IfOk result (λ text. length text.now ≤ PROGRAM_BYTES) }
+{
+    let text = program.as_bytes();
+    if text.len() as u64 > PROGRAM_BYTES {
+        bail!("a program that is too long");
+    }
+    Ok(text)
+}
+
+fn system_under(alloc: Global, model: &str, code: &Code, log: &Log) -> Result<System> {
+    match model {
+        "sc" => built(build::<Sc>(alloc, code, log)),
+        "tso" => built(build::<TsoModel>(alloc, code, log)),
+        "pso" => built(build::<PsoModel>(alloc, code, log)),
+        _ => bail!("no such model"),
+    }
+}
+
+fn built(system: Result<System, BuildFault>) -> Result<System> {
+    match system {
+        Ok(system) => Ok(system),
+        Err(fault) => bail!("{fault:?}"),
+    }
+}

@@ -1,0 +1,45 @@
+//! Worked rows of orders, as data: reads a table of rows, and prints of each group how many are as they must be, and of
+//! each other row what came. `test_table` says how a table is written. With a word behind the program's name only the
+//! groups and rows that have it are tried.
+//!
+//! What is given to a part, with ` : ` between several things, and what comes. A model is `sc`, `tso` or `pso`, a log is given
+//! by its hex digits, and an event by its thread and step, as `0.1@2`:
+//!
+//! - `world`: a model : the events in their order : the values that the loads take : for each sleep what ends it, or `-` : a
+//!   log : a program; whether the formula is true in this world, `lawful` or `unlawful`;
+//! - `verdict`: a model : a log : a program; whether a search over the clauses of the formula finds values, `possible` or
+//!   `impossible`; the world that they tell has to be lawful;
+//! - `formula`: the same; how many events, loads and conjuncts there are;
+//! - `clauses`: the same; how many variables and clauses.
+#![tactic(auto)]
+
+mod given;
+mod sizes;
+mod verdicts;
+mod worlds;
+
+use anyhow::{Result, bail};
+use std::alloc::Global;
+use std::env::Env;
+use std::str;
+use test_table::parts::{Parts, try_rows};
+
+/// The parts of the program.
+struct Tried;
+
+impl Parts for Tried {
+    fn answer(alloc: Global, part: &str, given: &[u8]) -> Result<String> {
+        let given = str::from_utf8(given)?;
+        match part {
+            "world" => worlds::judged(alloc, given),
+            "verdict" => verdicts::verdict(alloc, given),
+            "formula" => sizes::formula(alloc, given),
+            "clauses" => sizes::clauses(alloc, given),
+            _ => bail!("no such part"),
+        }
+    }
+}
+
+fn main(rt: HostRuntime) -> Result<()> {
+    try_rows::<Tried>(&rt)
+}

@@ -1,0 +1,53 @@
+//! Whether logs are possible, by the clauses of their formulas.
+use crate::given::{split, system};
+use anyhow::{Result, bail};
+use bit_blast::{Blasted, blast};
+use cdcl_core::{Solved, solve_cnf};
+use clap_system::System;
+use order_formula::World;
+use std::alloc::{AllocError, Global};
+
+/// How many clauses a search may learn.
+const BUDGET: u32 = 1_000_000;
+
+/// The verdict on a log.
+pub(crate) fn verdict(alloc: Global, given: &str) -> Result<String> {
+    let (model, given) = split(given)?;
+    let blasted = blasted(alloc, system(alloc, model, given)?)?;
+    let answer = match found(alloc, &blasted)? {
+        None => "impossible",
+        Some(world) => possible(alloc, model, given, &world)?,
+    };
+    Ok(String::from_str(alloc, answer)?)
+}
+
+/// A world that is told by values which satisfy the clauses, if there is one.
+fn found(alloc: Global, blasted: &Blasted) -> Result<Option<World>> {
+    match solve_cnf(alloc, blasted.clauses(), &[], BUDGET)? {
+        Solved::Sat(values) => {
+            if blasted.clauses().vars() == 0 {
+                bail!("values of no variables");
+            }
+            Ok(Some(blasted.world(alloc, &values)?))
+        }
+        Solved::Unsat(_) => Ok(None),
+        Solved::Spent(_) => bail!("the budget is spent"),
+    }
+}
+
+/// That a log is possible, once the formula is true in the world.
+fn possible(alloc: Global, model: &str, given: &str, world: &World) -> Result<&'static str> {
+    if !system(alloc, model, given)?.holds(alloc, world)? {
+        bail!("a world that isn't lawful");
+    }
+    Ok("possible")
+}
+
+/// The clauses of a system.
+pub(crate) fn blasted(alloc: Global, system: System) -> Result<Blasted, AllocError> {
+    let (paths, symbolic, terms, order, formula) = system.into_parts();
+    if paths.dead() {
+        return Blasted::impossible(alloc);
+    }
+    blast(alloc, &terms, &formula, order, symbolic.loads())
+}

@@ -1,0 +1,150 @@
+//! Worlds, and whether they are lawful.
+ghost use Rattle.std.specs.Prelude.{◌≤◌, length, vec_len, IfOk};
+
+use crate::given::{split, system};
+use anyhow::{Context, Result, bail};
+use bit_ranks::ranks;
+use clap_system::System;
+use order_formula::World;
+use path_walk::{Paths, Walk};
+use std::alloc::{AllocError, Global};
+
+/// A world in words.
+#[derive(Clone, Copy)]
+struct Words<'a> {
+    order: &'a str,
+    loads: &'a str,
+    enders: &'a str,
+}
+
+impl<'a> Words<'a> {
+    /// The words of a world, and what stands behind them.
+    fn of(given: &'a str) -> Result<(Words<'a>, &'a str)> {
+        let (order, given) = split(given)?;
+        let (loads, given) = split(given)?;
+        let (enders, given) = split(given)?;
+        let words = Words {
+            order,
+            loads,
+            enders,
+        };
+        Ok((words, given))
+    }
+}
+
+/// Whether a world is lawful.
+pub(crate) fn judged(alloc: Global, given: &str) -> Result<String> {
+    let (model, given) = split(given)?;
+    let (words, given) = Words::of(given)?;
+    let system = system(alloc, model, given)?;
+    let answer = if is_lawful(alloc, &system, words)? {
+        "lawful"
+    } else {
+        "unlawful"
+    };
+    Ok(String::from_str(alloc, answer)?)
+}
+
+fn is_lawful(alloc: Global, system: &System, words: Words) -> Result<bool> {
+    let world = world(alloc, system, words)?;
+    Ok(system.holds(alloc, &world)?)
+}
+
+/// The world of words.
+fn world(alloc: Global, system: &System, words: Words) -> Result<World> {
+    let names = Names::of(alloc, system.paths())?;
+    let places = names.places(alloc, words.order)?;
+    let loads = numbers_of(alloc, words.loads)?;
+    if loads.len() != system.symbolic().loads() as usize {
+        bail!("not the loads of the log");
+    }
+    let enders = names.enders(alloc, words.enders)?;
+    Ok(world_of(alloc, &places, loads, enders)?)
+}
+
+fn numbers_of(alloc: Global, words: &str) -> Result<Vec<i32>> {
+    let mut numbers = Vec::new(alloc);
+    for word in words.split_whitespace() {
+        numbers.push(word.parse::<i32>()?)?;
+    }
+    Ok(numbers)
+}
+
+/// The world in which the events come by their places.
+fn world_of(
+    alloc: Global,
+    places: &[u8],
+    loads: Vec<i32>,
+    enders: Vec<Option<u32>>,
+) -> Result<World, AllocError>
+    requires { length places.now ≤ 256 }
+{
+    Ok(World::new(ranks(alloc, places)?, loads, enders))
+}
+
+/// The events of a log by name.
+#[derive(Drop)]
+struct Names {
+    names: Vec<String>,
+}
+
+impl Names {
+    fn of(alloc: Global, paths: &Paths) -> Result<Names, AllocError> {
+        let mut names = Names {
+            names: Vec::new(alloc),
+        };
+        for thread in paths.threads() {
+            names.add(alloc, thread)?;
+        }
+        Ok(names)
+    }
+
+    fn add(&mut self, alloc: Global, thread: &Walk) -> Result<(), AllocError> {
+        for event in thread.events() {
+            let name = format!(in alloc; "{}@{}", thread.name(), event.step)?;
+            self.names.push(name)?;
+        }
+        Ok(())
+    }
+
+    /// The number of the event of a name.
+    fn number(&self, name: &str) -> Result<usize> {
+        self.names
+            .iter()
+            .position(|other| other.as_str() == name)
+            .context("no such event")
+    }
+
+    /// The place of each event in an order that has them all.
+    fn places(&self, alloc: Global, order: &str) -> Result<Vec<u8>>
+        ensures { IfOk result (λ places. vec_len places ≤ 256) }
+    {
+        let mut places = vec![in alloc; 255u8; self.names.len()]?;
+        let mut count = 0u8;
+        for word in order.split_whitespace() {
+            let place = places.get_mut(self.number(word)?).context("no such event")?;
+            *place = count;
+            count = count.checked_add(1).context("too many events")?;
+        }
+        if places.len() != count as usize {
+            bail!("not the events of the log");
+        }
+        Ok(places)
+    }
+
+    /// What ends each sleep.
+    fn enders(&self, alloc: Global, words: &str) -> Result<Vec<Option<u32>>> {
+        let mut enders = Vec::new(alloc);
+        for word in words.split_whitespace() {
+            enders.push(self.ender(word)?)?;
+        }
+        Ok(enders)
+    }
+
+    fn ender(&self, word: &str) -> Result<Option<u32>> {
+        if word == "-" {
+            return Ok(None);
+        }
+        Ok(Some(u32::try_from(self.number(word)?)?))
+    }
+}
