@@ -8,7 +8,7 @@ use std::alloc::{AllocError, Global};
 use store_buffers::MemoryModel;
 
 /// Within how many events a thread leaves its path that is stuck.
-const NEAR: u32 = 3;
+const NEAR: u32 = 2;
 
 /// What a thread comes to that goes on alone.
 #[derive(Drop)]

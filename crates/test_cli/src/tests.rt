@@ -135,6 +135,39 @@ fn no_memory_to_fetch(rt: HostRuntime) -> Result<(), Fail> {
     Ok(())
 }
 
+/// The third call finds no memory: that by which `solve` keeps what it found, or `check` opens its refutation.
+#[test]
+fn no_memory_to_keep_or_to_open(rt: HostRuntime) -> Result<(), Fail> {
+    let alloc = rt.alloc();
+    for command in ["solve", "check"] {
+        let mut words = Vec::new(alloc);
+        for word in ["clap_debug", command, "p", "l", "o"] {
+            words.push(String::from_str(alloc, word)?)?;
+        }
+        let mut scant = ScantShelf {
+            calls: 2,
+            reading: false,
+            shelf: SureShelf::new(alloc),
+        };
+        scant
+            .shelf
+            .hold(alloc, "p", b"int x; main { x = 1; assert(x == 2); }")?;
+        scant
+            .shelf
+            .hold(alloc, "l", b"CLPL\0\x01\0\x01\0\0\0\x03\0\0")?;
+        let mut sink = MemSink::new(alloc);
+        let status = clap_debug(alloc, &words, &mut scant, &mut sink);
+        assert_eq!(rt;
+            (status, sink.written()),
+            (9, b"no memory\n".as_slice()),
+            "{command}"
+        );
+        let kept = scant.shelf.fetch(alloc, "o", 99).expect(&rt, "no bytes");
+        assert_eq!(rt; kept.len(), 0, "{command}");
+    }
+    Ok(())
+}
+
 /// The put of the line finds no memory: the log is kept by then, or its keep has failed.
 #[test]
 fn no_memory_to_say(rt: HostRuntime) -> Result<(), Fail> {
