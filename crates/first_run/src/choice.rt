@@ -200,7 +200,7 @@ impl Run<'_> {
         written: &Written,
     ) -> Result<usize, AllocError> {
         let before = self.machine.go_ahead(alloc, number, at, pending, written)?;
-        let stuck = count_stuck::<M>(alloc, &self.machine, &mut self.values)?;
+        let stuck = count_stuck::<M>(alloc, &self.machine, &mut self.values, self.near())?;
         self.machine.go_back(before);
         Ok(stuck)
     }

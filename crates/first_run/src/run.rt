@@ -48,6 +48,12 @@ impl<'a> Run<'a> {
         }
     }
 
+    /// Within how many events a thread leaves its path that is stuck. Where locks are spun for, fewer keep more threads on their paths,
+    /// and where an eager run is the better one, more do: so it was found by trial.
+    pub fn near(&self) -> u32 {
+        if self.is_eager { 3 } else { 2 }
+    }
+
     /// Whether no thread has left its path.
     pub fn is_whole(&self) -> bool {
         self.left.is_none()

@@ -7,9 +7,6 @@ use crate::written::Written;
 use std::alloc::{AllocError, Global};
 use store_buffers::MemoryModel;
 
-/// Within how many events a thread leaves its path that is stuck.
-const NEAR: u32 = 2;
-
 /// What a thread comes to that goes on alone.
 #[derive(Drop)]
 struct Trip {
@@ -21,12 +18,13 @@ struct Trip {
     written: Written,
 }
 
-/// How many threads are stuck. A thread is where the machine lets it go on, it leaves its path soon if it does so alone, and no value that
-/// another one is about to write to the cell that it read last keeps it on its path there.
+/// How many threads are stuck. A thread is where the machine lets it go on, it leaves its path within so many events if it does so alone,
+/// and no value that another one is about to write to the cell that it read last keeps it on its path there.
 pub(crate) fn count_stuck<M: MemoryModel>(
     alloc: Global,
     machine: &Machine,
     values: &mut Values,
+    near: u32,
 ) -> Result<usize, AllocError> {
     let mut trips = Vec::new(alloc);
     for number in 0..machine.threads.len() {
@@ -34,7 +32,7 @@ pub(crate) fn count_stuck<M: MemoryModel>(
     }
     let mut count: usize = 0;
     for number in 0..machine.threads.len() {
-        if is_stuck::<M>(alloc, machine, values, &trips, number)? {
+        if is_stuck::<M>(alloc, machine, values, &trips, number, near)? {
             count = count.saturating_add(1);
         }
     }
@@ -72,11 +70,12 @@ fn is_stuck<M: MemoryModel>(
     values: &mut Values,
     trips: &[Option<Trip>],
     number: usize,
+    near: u32,
 ) -> Result<bool, AllocError> {
     let Some(Some(own)) = trips.get(number) else {
         return Ok(false);
     };
-    if !machine.lets(number) || !own.leaves.is_some_and(|events| events <= NEAR) {
+    if !machine.lets(number) || !own.leaves.is_some_and(|events| events <= near) {
         return Ok(false);
     }
     for (other, trip) in trips.iter().enumerate() {
