@@ -4,4 +4,4 @@ pub mod Room
 pub mod Meaning
 pub mod Found
 pub mod Answered
-mod Posing
+pub mod Posing

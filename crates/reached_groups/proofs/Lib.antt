@@ -1,0 +1,3 @@
+mod Marked
+mod Places
+pub mod Binds

@@ -1,0 +1,30 @@
+-- What it means that a derivation reaches groups.
+use Rattle.std.specs.Prelude.{◌≡◌, ℕ, List, Some, None, get_or, length}
+use Rattle.std.specs.List.{All, Contains}
+use Rattle.tc_base.specs.Arith.{IsInt}
+use Rattle.sym_terms.specs.declared.node.Node.{Node}
+use Rattle.order_formula.specs.declared.formula.Conjunct.{Conjunct}
+use Rattle.order_formula.specs.declared.group.Group.{Group}
+use Rattle.order_formula.specs.Groups.{HoldsIn}
+use Rattle.order_formula.specs.Orders.{IsOrder, Order}
+use Rattle.order_formula.specs.Worlds.{IsWorld, World}
+use Rattle.bit_blast.specs.Blasted.{IsPosed, blast, layout_of}
+use Rattle.refute_check.specs.Refutations.{IsClosed}
+use Rattle.refute_check.specs.declared.line.Line.{Line}
+use Rattle.reached_groups.specs.Groups.{AreReachedGroups}
+
+-- a world of an order's events and sleeps and so many loads, which take ints; it was asked of each event that ends a sleep whether it does
+pub record IsWorldIn (o : Order) (count : ℕ) (w : World) : Type 0 where
+  pub is : IsWorld w
+  pub events : length w.positions ≡ o.events
+  pub loads : length w.loads ≡ count
+  pub ints : All IsInt w.loads
+  pub sleeps : length w.enders ≡ o.sleeps
+  pub chosen : (sleep by : ℕ) → get_or w.enders sleep None ≡ Some by → Contains o.choices (record { sleep = sleep; by = by })
+
+-- in no world are the conjuncts of all groups true that a closed derivation reaches
+abbrev pub GroupsBind : Type 0
+GroupsBind = (nodes : List Node) (formula : List Conjunct) (o : Order) (loads : ℕ) (lines : List Line) (groups : List Group)
+    → IsPosed nodes formula o → IsOrder (layout_of o loads formula).order → IsClosed (blast nodes formula o loads).clauses lines
+    → AreReachedGroups formula (blast nodes formula o loads) lines groups
+    → (w : World) → IsWorldIn o loads w → All (HoldsIn nodes w formula) groups → ⊥

@@ -1,0 +1,60 @@
+-- What a derivation shows of a log, with its reasons.
+use Rattle.std.specs.Prelude.{◌≡◌, ◌⊎◌, true, false, List, [], ◌∷◌, map}
+use Rattle.std.specs.List.{All}
+use Rattle.tc_base.specs.Arith.{IsInt}
+use Rattle.tc_base.specs.Buffers.{BufferOps}
+use Rattle.tc_base.specs.Logs.{Log}
+use Rattle.tc_code.specs.Code.{Code}
+use Rattle.store_buffers.specs.Pending.{Binding}
+use Rattle.order_formula.specs.Worlds.{IsWorld, World}
+use Rattle.order_formula.specs.declared.group.Group.{Group}
+use Rattle.lawful_order.specs.Lawful.{IsWorldOf, MeetsRule}
+use Rattle.dead_paths.specs.Causes.{cause_of}
+use Rattle.refute_check.specs.Refutations.{IsClosed, IsOpen}
+use Rattle.refute_check.specs.declared.line.Line.{Line}
+use Rattle.clap_solve.specs.Posed.{Posed, posed_of}
+use Rattle.clap_solve.specs.Solved.{IsImpossible}
+use Rattle.reached_groups.specs.Groups.{AreReachedGroups}
+use Rattle.why_impossible.specs.Reasons.{cause_reason, reason_of}
+use Rattle.why_impossible.specs.declared.explained.Explained.{Explained}
+use Rattle.why_impossible.specs.declared.explained.Explained.TheVariants.{Closed, Open}
+use Rattle.why_impossible.specs.declared.reason.Reason.{Reason}
+
+-- reasons tell the groups of rules whose clauses a derivation reaches, each once and in order; the paths aren't dead
+pub record TellsGroups (p : Posed) (lines : List Line) (reasons : List Reason) : Type 0 where
+  pub lives : p.paths.dead ≡ false
+  pub groups : List Group
+  pub reached : AreReachedGroups p.formula p.blasted lines groups
+  pub told : reasons ≡ map (reason_of p.paths) groups
+
+-- the one reason tells the first cause of dead paths
+pub record TellsCause (code : Code) (log : Log) (p : Posed) (reasons : List Reason) : Type 0 where
+  pub dead : p.paths.dead ≡ true
+  pub told : reasons ≡ cause_reason (cause_of code log) ∷ []
+
+module _ {B : Type 0} (ops : BufferOps B) (bound : Binding) (code : Code) (log : Log) where
+  abbrev p : Posed
+  p = posed_of ops.buffered bound code log
+
+  -- a world of the log's paths, whose loads take ints, meets the rules of groups
+  pub record MeetsRules (groups : List Group) (w : World) : Type 0 where
+    pub is : IsWorld w
+    pub of : IsWorldOf p.paths p.symbolic w
+    pub ints : All IsInt w.loads
+    pub rules : All (MeetsRule ops.buffered bound code p.paths p.symbolic p.nodes w) groups
+
+  module _ (lines : List Line) where
+    -- no world meets the rules of all the groups that are told
+    pub record RestsOn (reasons : List Reason) : Type 0 where
+      pub tells : TellsGroups p lines reasons
+      pub never : (w : World) → MeetsRules tells.groups w → ⊥
+
+    -- the derivation is closed on the log's clauses, these are its reasons, and no moves reproduce the log
+    pub record IsClosedFor (reasons : List Reason) : Type 0 where
+      pub closed : IsClosed p.blasted.clauses lines
+      pub rests : RestsOn reasons ⊎ TellsCause code log p reasons
+      pub impossible : IsImpossible ops code log
+
+    abbrev pub IsExplained : Explained → Type 0
+    IsExplained (Closed reasons) = IsClosedFor reasons
+    IsExplained Open = IsOpen p.blasted.clauses lines

@@ -1,0 +1,92 @@
+//! What a derivation shows of a log, with its reasons.
+ghost use Rattle.std.specs.Prelude.{◌≡◌, false, length, IfOk, IfErr, OnOk, Ok};
+ghost use Rattle.path_walk.specs.Paths.{paths_of};
+ghost use Rattle.refute_check.specs.Refutations.{IsClosed, check};
+ghost use Rattle.clap_solve.specs.Faults.{IsCheckImpossibleFault};
+ghost use Rattle.clap_solve.specs.Solved.{IsWithin};
+ghost use Rattle.why_impossible.specs.Explained.{IsExplained, TellsCause, TellsGroups};
+ghost use Rattle.why_impossible.specs.helpers.Posed.{AreReasonsOn, IsExplainedOn};
+
+use crate::Reasons;
+use crate::naming::{caused, named};
+use clap_solve::{CheckImpossibleFault, Posed, pose};
+use dead_paths::cause_of;
+use path_log::Log;
+use reached_groups::reached_groups;
+use refute_check::{Checked, Derivation, check};
+use std::alloc::{AllocError, Global};
+use store_buffers::MemoryModel;
+use tc_code::Code;
+
+/// What a derivation shows over the clauses of a log.
+#[derive(Debug, Drop)]
+pub enum Explained {
+    /// It is closed, and these are its reasons: the groups of rules that it reaches, each once and in order, or, where the paths alone
+    /// tell that no run goes so, the first cause of that.
+    Closed(Reasons),
+    /// It is open.
+    Open,
+}
+
+/// What a derivation shows over the clauses of a log, whoever made it, and on which rules that rests. Another derivation may rest on
+/// others.
+///
+/// It takes what [`check_impossible`](clap_solve::check_impossible) takes.
+pub fn why<M: MemoryModel>(
+    alloc: Global,
+    code: &Code,
+    log: &Log,
+    derivation: &Derivation,
+) -> Result<Explained, CheckImpossibleFault>
+    ensures ok { IfOk result (IsExplained M.ops M.bound code.now log.now.log derivation.now) }
+    ensures within { OnOk result (IsWithin code.now log.now.log) }
+    ensures err { IfErr result (IsCheckImpossibleFault M.BUFFERED M.bound code.now log.now.log derivation.now) }
+{
+    let posed = pose::<M>(alloc, code, log)?;
+    let checked = check(alloc, posed.clauses(), derivation)?;
+    Ok(explain(alloc, code, log, &posed, derivation, checked)?)
+}
+
+/// What a derivation shows over a log's clauses, by its verdict.
+fn explain(
+    alloc: Global,
+    code: &Code,
+    log: &Log,
+    posed: &Posed,
+    derivation: &Derivation,
+    checked: Checked,
+) -> Result<Explained, AllocError>
+    requires checked { check posed.now.blasted.clauses derivation.now ≡ Ok checked }
+    requires paths { posed.now.paths ≡ paths_of code.now log.now.log }
+    requires conjuncts { posed.now.paths.dead ≡ false → posed.now.blasted.conjuncts ≡ length posed.now.formula }
+    ensures { IfOk result (IsExplainedOn code.now log.now.log posed.now derivation.now) }
+{
+    match checked {
+        Checked::Closed => {
+            let reasons = reasons(alloc, code, log, posed, derivation)?;
+            Ok(Explained::Closed(reasons))
+        }
+        Checked::Open => Ok(Explained::Open),
+    }
+}
+
+/// The reasons of a closed derivation.
+fn reasons(
+    alloc: Global,
+    code: &Code,
+    log: &Log,
+    posed: &Posed,
+    derivation: &Derivation,
+) -> Result<Reasons, AllocError>
+    requires closed { IsClosed posed.now.blasted.clauses derivation.now }
+    requires paths { posed.now.paths ≡ paths_of code.now log.now.log }
+    requires conjuncts { posed.now.paths.dead ≡ false → posed.now.blasted.conjuncts ≡ length posed.now.formula }
+    ensures { IfOk result (λ reasons. AreReasonsOn code.now log.now.log posed.now derivation.now reasons) }
+{
+    if posed.paths().dead() {
+        let cause = cause_of(alloc, code, log, posed.paths())?;
+        return caused(alloc, &cause);
+    }
+    let groups = reached_groups(alloc, posed.formula(), posed.blasted(), derivation)?;
+    named(alloc, posed.paths(), groups.as_slice())
+}
