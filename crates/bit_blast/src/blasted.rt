@@ -6,6 +6,7 @@ ghost use Rattle.cnf_core.specs.declared.cnf.TheConstants.{LIMIT};
 ghost use Rattle.order_formula.specs.Formulas.{IsOf};
 ghost use Rattle.order_formula.specs.Orders.{ConjunctIsIn, IsOrder};
 ghost use Rattle.bit_order.specs.Comparators.{completed};
+ghost use Rattle.bit_order.specs.Layouts.{base};
 ghost use Rattle.bit_order.specs.Readings.{world_of};
 ghost use Rattle.bit_blast.specs.Blasted.{blast, blast_over, impossible, root_of};
 ghost use Rattle.bit_blast.specs.Contended.{contended};
@@ -148,6 +149,16 @@ impl Blasted {
         ensures { result ≡ self.clauses }
     {
         self.clauses
+    }
+
+    /// The layout and the clauses, without taking memory: for clauses more, over the same variables and others.
+    pub fn into_parts(self) -> (Layout, Cnf)
+        ensures layout { result.0 ≡ self.layout }
+        ensures clauses { result.1 ≡ self.clauses }
+        ensures few { self.layout.order.events ≤ 256 }
+        ensures variables { 0 < self.clauses.vars → (base self.layout).vars ≤ self.clauses.vars }
+    {
+        (self.layout, self.clauses)
     }
 
     /// The number of the clause, from 0, by which a conjunct of that number is true.
