@@ -22,7 +22,7 @@ use Rattle.clap_system.proofs.Choices.{choices_are_enders}
 use Rattle.clap_system.proofs.Exact.{group_exact}
 use Rattle.clap_system.proofs.Needs.{parts_exact}
 use Rattle.orders_are_runs.proofs.Terms.{system_terms}
-use Rattle.bit_blast.specs.Blasted.{Blasted, IsPosed, impossible, layout_of}
+use Rattle.bit_blast.specs.Blasted.{Blasted, impossible, layout_of}
 use Rattle.bit_blast.specs.Contended.{contended}
 use Rattle.bit_blast.proofs.Completed.{contended_within}
 use Rattle.refute_check.specs.Refutations.{IsClosed}
@@ -34,7 +34,7 @@ use Rattle.clap_solve.proofs.Ordered.{completed_lawful}
 use Rattle.reached_groups.specs.Groups.{AreReachedGroups}
 use Rattle.reached_groups.specs.Laws.{IsWorldIn}
 use Rattle.reached_groups.proofs.Binds.{groups_bind}
-use Rattle.why_impossible.specs.Explained.{IsClosedFor, IsExplained, MeetsRules, RestsOn, TellsCause, TellsGroups}
+use Rattle.why_impossible.specs.Explained.{IsClosedFor, IsExplained, MeetsRules, RestsOn, TellsCause}
 use Rattle.why_impossible.specs.declared.explained.Explained.{Explained}
 use Rattle.why_impossible.specs.declared.explained.Explained.TheVariants.{Closed, Open}
 use Rattle.why_impossible.specs.declared.reason.Reason.{Reason}

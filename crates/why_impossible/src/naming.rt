@@ -10,11 +10,7 @@ use std::alloc::{AllocError, Global};
 use tc_base::ThreadName;
 
 /// A reason for each group.
-pub(crate) fn named(
-    alloc: Global,
-    paths: &Paths,
-    groups: &[Group],
-) -> Result<Reasons, AllocError>
+pub(crate) fn named(alloc: Global, paths: &Paths, groups: &[Group]) -> Result<Reasons, AllocError>
     ensures { IfOk result (λ reasons. reasons ≡ map (reason_of paths.now) groups.now) }
 {
     let mut reasons = Vec::new(alloc);

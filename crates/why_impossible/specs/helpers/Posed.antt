@@ -1,5 +1,5 @@
 -- What a derivation shows over clauses that are posed.
-use Rattle.std.specs.Prelude.{◌⊎◌, List}
+use Rattle.std.specs.Prelude.{List}
 use Rattle.tc_base.specs.Logs.{Log}
 use Rattle.tc_code.specs.Code.{Code}
 use Rattle.refute_check.specs.Refutations.{IsClosed, IsOpen}
