@@ -7,10 +7,24 @@ use crate::sources::Sources;
 use crate::style::STYLE;
 use schedule_file::Schedule;
 use show_deeds::Deed;
-use show_rows::{Row, Told};
+use show_rows::{End, Row, Told};
 use show_words::{Program, Words, end_words, row_words};
 use std::alloc::{AllocError, Global};
 use tc_base::{Model, Request};
+
+/// How one goes through the moves.
+const KEYS: &str = concat!(
+    "<p class=\"keys\">Point at a move, or step: <kbd>j</kbd> or <kbd>&darr;</kbd> on, <kbd>k</kbd> or <kbd>&uarr;</kbd> back,",
+    " <kbd>Home</kbd>, <kbd>End</kbd>.</p>\n",
+);
+
+/// What the arrows mean.
+const KEY: &str = concat!(
+    "<h2>arrows</h2>\n<div class=\"key\">\n",
+    "<span><svg viewBox=\"0 0 35 11\"><path class=\"take\" d=\"M1 5H34M29 1L34 5L29 9\"/></svg>value that is taken</span>\n",
+    "<span><svg viewBox=\"0 0 35 11\"><path class=\"drain\" d=\"M1 5H34M29 1L34 5L29 9\"/></svg>store that reaches memory</span>\n",
+    "</div>\n",
+);
 
 /// The page of a schedule's moves: a lane for each thread, time downwards, an arrow from the store to each load that took its
 /// value and from each store's issue to its drain, and memory and buffers after the move that one points at.
@@ -35,15 +49,19 @@ pub fn schedule_page(
     let mut out = String::new(alloc);
     let model = schedule.model.name();
     let count = told.rows.len();
+    let unit = if count == 1 { "move" } else { "moves" };
     push_top(
         &mut out,
-        format!(in alloc; "{count} moves under {model}")?.as_str(),
+        format!(in alloc; "{count} {unit} under {model}")?.as_str(),
     )?;
-    out.push_str("<pre>")?;
+    out.push_str(match told.end {
+        End::Failed => "<pre class=\"fail\">",
+        _ => "<pre>",
+    })?;
     push_text(&mut out, end_words(alloc, program, told)?.as_str())?;
-    out.push_str(
-        "</pre>\n<p class=\"keys\">Point at a move, or step: j or down, k or up, Home, End.</p>\n<main>\n",
-    )?;
+    out.push_str("</pre>\n")?;
+    out.push_str(KEYS)?;
+    out.push_str("<main>\n")?;
     push_run(alloc, &mut out, &lanes, moves.as_str())?;
     push_state(alloc, &mut out, program)?;
     out.push_str("</main>\n<script>\n")?;
@@ -119,8 +137,9 @@ fn push_move(
     let number = place.number.saturating_add(1);
     let lane = place.lane;
     let column = place.lane.saturating_add(2);
+    let fails = if is_failure(row) { " fail" } else { "" };
     out.push_str(format!(in alloc;
-        "<li class=\"row\" id=\"m{number}\" data-lane=\"{lane}\""
+        "<li class=\"row{fails}\" id=\"m{number}\" data-lane=\"{lane}\""
     )?.as_str())?;
     if let Some(effect) = effect_of(row, buffered) {
         let Effect { kind, cell, value } = effect;
@@ -138,9 +157,17 @@ fn push_move(
         "><div class=\"n\">{number}</div><div class=\"deed\" style=\"grid-column:{column}\"><span class=\"line\">{line}</span><code>"
     )?.as_str())?;
     push_text(out, shown.source)?;
-    out.push_str("</code><br>")?;
+    out.push_str("</code>")?;
     push_text(out, shown.deed.as_str())?;
     out.push_str("</div></li>\n")
+}
+
+/// Whether the thread of a row fails there.
+fn is_failure(row: &Row) -> bool {
+    match &row.deed {
+        Deed::Did(step) => matches!(step.asks, Request::Fail),
+        Deed::Drained(_) => false,
+    }
 }
 
 /// What a row does to memory or to a buffer.
@@ -186,7 +213,7 @@ fn effect_of(row: &Row, buffered: bool) -> Option<Effect> {
 fn push_run(alloc: Global, out: &mut String, lanes: &Lanes, moves: &str) -> Result<(), AllocError> {
     let count = lanes.titles().len();
     let columns = format!(in alloc;
-        "<style>.row {{ grid-template-columns: 3rem repeat({count}, minmax(13rem, 1fr)); }}</style>\n"
+        "<style>.row {{ grid-template-columns: 3rem repeat({count}, minmax(12rem, 1fr)); }}</style>\n"
     )?;
     out.push_str(columns.as_str())?;
     out.push_str("<div id=\"run\">\n<div class=\"row head\"><div></div>")?;
@@ -208,5 +235,7 @@ fn push_state(alloc: Global, out: &mut String, program: Program<'_>) -> Result<(
         push_text(out, cell.as_str())?;
         out.push_str(format!(in alloc; "</th><td>{value}</td></tr>\n")?.as_str())?;
     }
-    out.push_str("</table>\n<h2>buffers</h2>\n<div id=\"buffers\"></div>\n</aside>\n")
+    out.push_str("</table>\n<h2>buffers</h2>\n<div id=\"buffers\"></div>\n")?;
+    out.push_str(KEY)?;
+    out.push_str("</aside>\n")
 }

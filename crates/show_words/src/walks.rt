@@ -22,7 +22,8 @@ pub fn walk_title(alloc: Global, program: Program<'_>, walk: &Walk) -> Result<St
     let name = walk.name();
     let function = program.function(alloc, walk.function())?;
     let steps = walk.places().len();
-    format!(in alloc; "{name} {function}, {steps} steps")
+    let unit = if steps == 1 { "step" } else { "steps" };
+    format!(in alloc; "{name} {function}, {steps} {unit}")
 }
 
 /// The lines that a thread went along. Steps at one line that follow each other are one, up to a branch.

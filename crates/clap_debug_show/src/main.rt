@@ -1,0 +1,29 @@
+//! The program that shows a run: its words, the files of the system and standard output.
+#![tactic(auto)]
+
+use clap_debug_show_cli::clap_debug_show;
+use std::env::{self, Env};
+use std::io::{self, ErrorKind};
+use std::process::ExitCode;
+use tc_io::files::{FileShelf, StdSink};
+
+/// The status where the words find no memory.
+const NO_MEMORY: u8 = 9;
+
+/// The words. Where one is no text there are none, which is answered by the usage.
+fn words_of(rt: &(impl Env + AllocGlobal)) -> io::Result<Vec<String>> {
+    match env::args(rt) {
+        Ok(words) => Ok(words.collect(rt.alloc())?),
+        Err(fault) if fault.kind() == ErrorKind::InvalidData => Ok(Vec::new(rt.alloc())),
+        Err(fault) => Err(fault),
+    }
+}
+
+fn main(rt: HostRuntime) -> ExitCode {
+    let Ok(words) = words_of(&rt) else {
+        return ExitCode::from(NO_MEMORY);
+    };
+    let mut shelf = FileShelf::new(&rt);
+    let mut sink = StdSink::new(rt.stdout());
+    ExitCode::from(clap_debug_show(rt.alloc(), &words, &mut shelf, &mut sink))
+}

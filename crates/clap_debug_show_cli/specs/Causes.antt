@@ -1,0 +1,96 @@
+-- Why an answer is given: what the words are, what the shelf did, and what the bytes that it gave say.
+use Rattle.std.specs.Prelude.{◌≡◌, ◌⊎◌, ℕ, ◌+◌, ◌<◌, ◌≤◌, true, false, List, length, Option, Some, None, IsSomeAnd}
+use Rattle.tc_base.specs.declared.limits.TheConstants.{THREADS}
+use Rattle.tc_code.specs.Code.{Code}
+use Rattle.tc_compile.specs.Programs.{IsCodeOf, IsRefusal}
+use Rattle.tc_io.specs.Outside.{ShelfTells, SinkTells, FailedToGive, Gave, Kept, KeptPart, WasTooLong}
+use Rattle.path_log.specs.Faults.{BreaksAt as LogBreaksAt}
+use Rattle.path_log.specs.Texts.{StoredLog, HasText, log_text}
+use Rattle.path_walk.specs.Fits.{IsFirst}
+use Rattle.schedule_file.specs.Faults.{BreaksAt as ScheduleBreaksAt}
+use Rattle.clap_debug_show_cli.specs.Answers.{Says}
+use Rattle.clap_debug_show_cli.specs.Calls.{Shows, call_of}
+use Rattle.clap_debug_show_cli.specs.Limits.{limit_of}
+use Rattle.clap_debug_show_cli.specs.Shown.{IsLogOf, IsOfOther, IsShown, begins_as_log}
+use Rattle.clap_debug_show_cli.specs.declared.shown.Shown.{Shown as AnyShown}
+use Rattle.clap_debug_show_cli.specs.declared.limits.What.{What}
+use Rattle.clap_debug_show_cli.specs.declared.limits.What.TheVariants.{ProgramBytes, LogBytes, ScheduleBytes, Threads}
+use Rattle.clap_debug_show_cli.specs.declared.answer.Answer.{Answer}
+use Rattle.clap_debug_show_cli.specs.declared.answer.Answer.TheVariants.{
+  Usage,
+  ReadFault,
+  Over,
+  ProgramRefused,
+  LogBroken,
+  OtherProgram,
+  Unfit,
+  ScheduleRefused,
+  Shown,
+  PageKept,
+  WriteFault,
+  NoMemory,
+}
+
+-- why a file shows nothing of the code of a program
+abbrev pub IsFileRefusal : Code → (program file : List ℕ) → Answer → Type 0
+IsFileRefusal code program file (ScheduleRefused line) = (begins_as_log file ≡ false) × ScheduleBreaksAt file line
+IsFileRefusal code program file (LogBroken offset) = (begins_as_log file ≡ true) × LogBreaksAt file offset
+IsFileRefusal code program file OtherProgram =
+    (log : StoredLog) × HasText log × (file ≡ log_text log) × IsOfOther program log
+IsFileRefusal code program file (Unfit name misfit) = (log : StoredLog) × IsLogOf program file log × IsFirst code log.log name misfit
+IsFileRefusal code program file (Over LogBytes number) = (begins_as_log file ≡ true) × (number ≡ length file) × (limit_of LogBytes < number)
+IsFileRefusal code program file (Over Threads number) =
+    (log : StoredLog) × IsLogOf program file log × (number ≡ length log.log.threads) × (limit_of Threads < number)
+IsFileRefusal code program file _ = ⊥
+
+-- the answer to what two files hold: of those that aren't of their forms, the first is told
+abbrev pub IsAnswerTo : (program file : List ℕ) → Answer → Type 0
+IsAnswerTo program file (ProgramRefused fault) = IsRefusal program fault
+IsAnswerTo program file (Shown shown) = IsShown program file shown
+IsAnswerTo program file PageKept = ⊥
+IsAnswerTo program file a = (code : Code) × IsCodeOf program code × IsFileRefusal code program file a
+
+-- the shelf gave the program
+abbrev pub GaveProgram : Shows → ShelfTells → ShelfTells → List ℕ → Type 0
+GaveProgram call old new program = Gave old new call.program (limit_of ProgramBytes) program
+
+-- the shelf gave both files, and nothing else
+abbrev pub GaveBoth : Shows → ShelfTells → ShelfTells → (program file : List ℕ) → Type 0
+GaveBoth call old new program file = (s : ShelfTells) × GaveProgram call old s program × Gave s new call.file (limit_of ScheduleBytes) file
+
+-- the shelf gave the program, and then this holds
+abbrev pub GoesOn : Shows → ShelfTells → (ShelfTells → Type 0) → Type 0
+GoesOn call old P = (s : ShelfTells) × (program : List ℕ) × GaveProgram call old s program × P s
+
+-- a page of what the files show is to stand under this name, and this holds of it
+abbrev pub HasPage : Shows → ShelfTells → (name : List ℕ) → (ShelfTells → List ℕ → Type 0) → Type 0
+HasPage call old name P = (call.page ≡ Some name) × (s : ShelfTells) × (program file : List ℕ) × GaveBoth call old s program file
+    × (shown : AnyShown) × IsShown program file shown × (page : List ℕ) × P s page
+
+-- why an answer is given to a call
+abbrev pub IsCauseOf : Shows → ShelfTells → ShelfTells → Answer → Type 0
+IsCauseOf call old new (ReadFault name) = ((name.now ≡ call.program) × FailedToGive old new call.program (limit_of ProgramBytes))
+    ⊎ GoesOn call old (λ s. (name.now ≡ call.file) × FailedToGive s new call.file (limit_of ScheduleBytes))
+IsCauseOf call old new (Over ProgramBytes number) = (number ≡ limit_of ProgramBytes + 1) × WasTooLong old new call.program (limit_of ProgramBytes)
+IsCauseOf call old new (Over ScheduleBytes number) =
+    (number ≡ limit_of ScheduleBytes + 1) × GoesOn call old (λ s. WasTooLong s new call.file (limit_of ScheduleBytes))
+IsCauseOf call old new PageKept = (name : List ℕ) × HasPage call old name (λ s page. Kept s new name page)
+IsCauseOf call old new (WriteFault name) = HasPage call old name.now (λ s page. KeptPart s new name.now page)
+-- nothing was kept, and no fault was counted
+IsCauseOf call old new NoMemory = (new.held ≡ old.held) × (new.faults ≡ old.faults)
+IsCauseOf call old new Usage = ⊥
+IsCauseOf call old new (Shown shown) =
+    (call.page ≡ None) × (program file : List ℕ) × GaveBoth call old new program file × IsAnswerTo program file (Shown shown)
+IsCauseOf call old new a = (program file : List ℕ) × GaveBoth call old new program file × IsAnswerTo program file a
+
+-- why an answer is given to words
+abbrev pub IsCause : List (List ℕ) → ShelfTells → ShelfTells → Answer → Type 0
+IsCause words old new Usage = (call_of words ≡ None) × (new ≡ old)
+IsCause words old new NoMemory = (new ≡ old) ⊎ IsSomeAnd (call_of words) (λ call. IsCauseOf call old new NoMemory)
+IsCause words old new a = IsSomeAnd (call_of words) (λ call. IsCauseOf call old new a)
+
+-- an answer that has its cause was said, with its status
+pub record IsAnswered (words : List (List ℕ)) (old new : ShelfTells) (status : ℕ) (before after : SinkTells) : Type 0 where
+  pub answer : Answer
+  pub cause : IsCause words old new answer
+  pub says : Says answer status before after

@@ -1,0 +1,6 @@
+pub mod Calls
+pub mod Limits
+pub mod Shown
+pub mod Answers
+pub mod Causes
+pub mod helpers

@@ -1,0 +1,45 @@
+-- What a file shows of a program.
+use Rattle.std.specs.Prelude.{◌≡◌, ◌≢◌, ℕ, Bool, List, IsSomeAnd, codes, nat_eq}
+use Rattle.std.specs.List.{starts_with}
+use Rattle.sha2.specs.Sha256.{sha256}
+use Rattle.tc_base.specs.Buffers.{buffer_of}
+use Rattle.tc_code.specs.Code.{Code}
+use Rattle.tc_compile.specs.Programs.{IsCodeOf}
+use Rattle.path_log.specs.Texts.{StoredLog, HasText, log_text}
+use Rattle.path_walk.specs.Fits.{Fits}
+use Rattle.path_walk.specs.Paths.{paths_of}
+use Rattle.schedule_file.specs.Schedules.{schedule_text}
+use Rattle.schedule_file.specs.declared.schedule.Schedule.{Schedule}
+use Rattle.show_rows.specs.Rows.{AreTold}
+use Rattle.show_rows.specs.declared.told.Told.{Told}
+use Rattle.clap_debug_show_cli.specs.declared.shown.Shown.{Shown}
+use Rattle.clap_debug_show_cli.specs.declared.shown.Story.{Story}
+use Rattle.clap_debug_show_cli.specs.declared.shown.Story.TheVariants.{Moves, Ways}
+
+-- a second file that begins with `CLPL` is to be a log, and any other a schedule
+abbrev pub begins_as_log : List ℕ → Bool
+begins_as_log file = starts_with nat_eq file (codes "CLPL")
+
+-- the rows are the history of the schedule's moves in the code, under the memory model that it names, as far as they can be made, and so it ends
+abbrev pub IsTold : Code → Schedule → Told → Type 0
+IsTold code schedule told = AreTold (buffer_of schedule.model) code schedule.moves.items told.rows.items told.end
+
+-- the log has the digest of a program, and it isn't this one's
+abbrev pub IsOfOther : (program : List ℕ) → StoredLog → Type 0
+IsOfOther program log = IsSomeAnd log.digest (λ digest. digest ≢ sha256 program)
+
+-- the bytes are those of a log that isn't another program's
+pub record IsLogOf (program bytes : List ℕ) (log : StoredLog) : Type 0 where
+  pub has_text : HasText log
+  pub text : bytes ≡ log_text log
+  pub recorded : IsOfOther program log → ⊥
+
+-- of a schedule what its moves did, and of a log the ways that its threads went in the code
+abbrev pub IsStory : Code → (program file : List ℕ) → Story → Type 0
+IsStory code program file (Moves schedule told) = (file ≡ schedule_text schedule.model schedule.moves.items) × IsTold code schedule told
+IsStory code program file (Ways log paths) = IsLogOf program file log × Fits code log.log × (paths ≡ paths_of code log.log)
+
+-- what a file shows of a program
+pub record IsShown (program file : List ℕ) (shown : Shown) : Type 0 where
+  pub code : IsCodeOf program shown.code
+  pub story : IsStory shown.code program file shown.story

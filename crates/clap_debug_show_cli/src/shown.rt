@@ -1,0 +1,171 @@
+//! What a file shows: the moves of a schedule, or the ways of a log's threads.
+ghost use Rattle.std.specs.Prelude.{◌≡◌, ◌<◌, ◌≤◌, ℕ, List, true, false, length, IfErr, IfOk, OnOk};
+ghost use Rattle.tc_base.specs.declared.limits.TheConstants.{PROGRAM_BYTES};
+ghost use Rattle.tc_compile.specs.Programs.{IsCodeOf, IsWhyNoCode};
+ghost use Rattle.clap_debug_show_cli.specs.Limits.{limit_of};
+ghost use Rattle.clap_debug_show_cli.specs.Shown.{IsOfOther, IsShown, IsStory, IsTold, begins_as_log};
+ghost use Rattle.clap_debug_show_cli.specs.declared.answer.Answer.TheVariants.{OtherProgram, Over};
+ghost use Rattle.clap_debug_show_cli.specs.helpers.Refused.{IsWhyNoStory, IsWhyNotShown};
+
+use crate::answer::Answer;
+use crate::limits::What;
+use path_log::{Log, program_digest, read_log};
+use path_walk::{Paths, walk};
+use schedule_file::{Schedule, read_schedule};
+use show_names::Names;
+use show_page::{log_page, schedule_page};
+use show_rows::{Told, tell};
+use show_text::{log_text, schedule_text};
+use show_words::Program;
+use std::alloc::{AllocError, Global};
+use store_buffers::{PsoModel, Sc, TsoModel};
+use tc_base::Model;
+use tc_code::Code;
+use tc_compile::CompileFault;
+use tc_lower::lower;
+use tc_parser::read;
+
+/// What a file tells of the code.
+#[derive(Drop)]
+pub(crate) enum Story {
+    /// What the moves of a schedule did.
+    Moves(Schedule, Told),
+    /// The ways of a log's threads.
+    Ways(Log, Paths),
+}
+
+/// What a file shows of a program.
+#[derive(Drop)]
+pub(crate) struct Shown {
+    code: Code,
+    names: Names,
+    story: Story,
+}
+
+impl Shown {
+    /// As text.
+    pub(crate) fn text(&self, alloc: Global) -> Result<String, AllocError> {
+        let program = self.program();
+        match &self.story {
+            Story::Moves(schedule, told) => schedule_text(alloc, program, schedule, told),
+            Story::Ways(log, paths) => log_text(alloc, program, log, paths),
+        }
+    }
+
+    /// As a page for a browser.
+    pub(crate) fn page(&self, alloc: Global) -> Result<String, AllocError> {
+        let program = self.program();
+        match &self.story {
+            Story::Moves(schedule, told) => schedule_page(alloc, program, schedule, told),
+            Story::Ways(log, paths) => log_page(alloc, program, log, paths),
+        }
+    }
+
+    fn program(&self) -> Program<'_> {
+        Program {
+            names: &self.names,
+            code: &self.code,
+        }
+    }
+}
+
+/// What a file shows of a program. Of the two that isn't of its form the first is told.
+pub(crate) fn read_shown<'a>(
+    alloc: Global,
+    program: &[u8],
+    file: &[u8],
+) -> Result<Shown, Answer<'a>>
+    requires { length program.now ≤ PROGRAM_BYTES }
+    ensures shown { IfOk result (IsShown program.now file.now) }
+    ensures answer { IfErr result (IsWhyNotShown program.now file.now) }
+{
+    let (code, names) = compile_named(alloc, program)?;
+    let story = if begins_as_log(file) {
+        log_story(alloc, &code, program, file)?
+    } else {
+        schedule_story(alloc, &code, file)?
+    };
+    Ok(Shown { code, names, story })
+}
+
+/// The code of a program, and what its text calls the parts of that.
+fn compile_named(alloc: Global, text: &[u8]) -> Result<(Code, Names), CompileFault>
+    requires { length text.now ≤ PROGRAM_BYTES }
+    ensures found { IfOk result (λ both. IsCodeOf text.now both.0) }
+    ensures refused { IfErr result (IsWhyNoCode text.now) }
+{
+    let tree = read(alloc, text)?;
+    let code = lower(alloc, &tree)?;
+    Ok((code, Names::of_tree(alloc, &tree)?))
+}
+
+/// Whether a file is to be a log, by its first bytes.
+fn begins_as_log(file: &[u8]) -> bool
+    ensures { result ≡ begins_as_log file.now }
+{
+    file.starts_with(b"CLPL")
+}
+
+/// The ways of the threads of a log.
+fn log_story<'a>(
+    alloc: Global,
+    code: &Code,
+    program: &[u8],
+    file: &[u8],
+) -> Result<Story, Answer<'a>>
+    requires { begins_as_log file.now ≡ true }
+    ensures story { IfOk result (IsStory code.now program.now file.now) }
+    ensures answer { IfErr result (IsWhyNoStory code.now program.now file.now) }
+{
+    check_limit(What::LogBytes, file.len())?;
+    let log = read_log(alloc, file)?;
+    check_program(program, &log)?;
+    check_limit(What::Threads, log.threads().len())?;
+    let paths = walk(alloc, code, &log)?;
+    Ok(Story::Ways(log, paths))
+}
+
+/// Refuses a log of another program. One of format 1 may be of any.
+fn check_program<'a>(program: &[u8], log: &Log) -> Result<(), Answer<'a>>
+    ensures same { OnOk result (IsOfOther program.now log.now → ⊥) }
+    ensures other { IfErr result (λ a. (a ≡ OtherProgram) × IsOfOther program.now log.now) }
+{
+    match log.digest() {
+        Some(digest) if *digest != program_digest(program) => Err(Answer::OtherProgram),
+        _ => Ok(()),
+    }
+}
+
+/// Refuses more of something than there may be.
+fn check_limit<'a>(what: What, number: usize) -> Result<(), Answer<'a>>
+    ensures within { OnOk result (number ≤ limit_of what) }
+    ensures over { IfErr result (λ a. (a ≡ Over what number) × (limit_of what < number)) }
+{
+    if number as u64 > what.limit() {
+        Err(Answer::Over(what, number as u64))
+    } else {
+        Ok(())
+    }
+}
+
+/// What the moves of a schedule did.
+fn schedule_story<'a>(alloc: Global, code: &Code, file: &[u8]) -> Result<Story, Answer<'a>>
+    requires { begins_as_log file.now ≡ false }
+    ensures story { (program : List ℕ) → IfOk result (IsStory code.now program file.now) }
+    ensures answer { (program : List ℕ) → IfErr result (IsWhyNoStory code.now program file.now) }
+{
+    let schedule = read_schedule(alloc, file)?;
+    let told = tell_under(alloc, code, &schedule)?;
+    Ok(Story::Moves(schedule, told))
+}
+
+/// What the moves of a schedule did, under the memory model that it names.
+fn tell_under(alloc: Global, code: &Code, schedule: &Schedule) -> Result<Told, AllocError>
+    ensures { IfOk result (IsTold code.now schedule.now) }
+{
+    match schedule.model {
+        Model::Sc => tell::<Sc>(alloc, code, schedule),
+        Model::Tso => tell::<TsoModel>(alloc, code, schedule),
+        Model::Pso => tell::<PsoModel>(alloc, code, schedule),
+    }
+}
