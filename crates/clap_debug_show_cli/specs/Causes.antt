@@ -1,6 +1,5 @@
 -- Why an answer is given: what the words are, what the shelf did, and what the bytes that it gave say.
-use Rattle.std.specs.Prelude.{◌≡◌, ◌⊎◌, ℕ, ◌+◌, ◌<◌, ◌≤◌, true, false, List, length, Option, Some, None, IsSomeAnd}
-use Rattle.tc_base.specs.declared.limits.TheConstants.{THREADS}
+use Rattle.std.specs.Prelude.{◌≡◌, ◌⊎◌, ℕ, ◌+◌, ◌<◌, true, false, List, length, Some, None, IsSomeAnd}
 use Rattle.tc_code.specs.Code.{Code}
 use Rattle.tc_compile.specs.Programs.{IsCodeOf, IsRefusal}
 use Rattle.tc_io.specs.Outside.{ShelfTells, SinkTells, FailedToGive, Gave, Kept, KeptPart, WasTooLong}
@@ -13,7 +12,6 @@ use Rattle.clap_debug_show_cli.specs.Calls.{Shows, call_of}
 use Rattle.clap_debug_show_cli.specs.Limits.{limit_of}
 use Rattle.clap_debug_show_cli.specs.Shown.{IsLogOf, IsOfOther, IsShown, begins_as_log}
 use Rattle.clap_debug_show_cli.specs.declared.shown.Shown.{Shown as AnyShown}
-use Rattle.clap_debug_show_cli.specs.declared.limits.What.{What}
 use Rattle.clap_debug_show_cli.specs.declared.limits.What.TheVariants.{ProgramBytes, LogBytes, ScheduleBytes, Threads}
 use Rattle.clap_debug_show_cli.specs.declared.answer.Answer.{Answer}
 use Rattle.clap_debug_show_cli.specs.declared.answer.Answer.TheVariants.{
