@@ -200,7 +200,8 @@ impl Run<'_> {
         written: &Written,
     ) -> Result<usize, AllocError> {
         let before = self.machine.go_ahead(alloc, number, at, pending, written)?;
-        let stuck = count_stuck::<M>(alloc, &self.machine, &mut self.values, self.near())?;
+        let near = self.near();
+        let stuck = count_stuck::<M>(alloc, &self.machine, &mut self.values, near)?;
         self.machine.go_back(before);
         Ok(stuck)
     }
