@@ -169,7 +169,7 @@ module _ (buffered : Bool) (bound : Binding) (code : Code) (log : Log) (lawful :
             asked first second (All-contains (λ e. e < y.order.events) named first there p) (All-contains (λ e. e < y.order.events) named second there q) differ;
       }
 
-  ready : blast.IsReady y s.nodes s.formula
+  pub ready : blast.IsReady y s.nodes s.formula
   ready = record {
     order = lawful_y;
     events = omega (arith, posed.events, same_events);
@@ -199,7 +199,7 @@ module _ (buffered : Bool) (bound : Binding) (code : Code) (log : Log) (lawful :
   abbrev f : Formula
   f = whole y s.nodes s.formula
 
-  levels_ready : IsReady y (threads_of ps) (failing_of ps) f
+  pub levels_ready : IsReady y (threads_of ps) (failing_of ps) f
   levels_ready = record {
     order = lawful_y;
     events = ready.events;

@@ -1,0 +1,4 @@
+pub mod Few
+pub mod Parts
+pub mod Said
+pub mod Told

@@ -1,0 +1,140 @@
+-- The clauses of a log with at most so many switches are made of the parts of its system.
+use Rattle.std.proofs.Common.{◌≡◌, ◌∙◌, ℕ, ◌+◌, ◌≤◌, Bool, true, false, List, [], ◌∷◌, ◌++◌, length, refl, sym, ap, subst, arith}
+use Rattle.std.proofs.lemmas.Bool.{false≢true}
+use Rattle.std.proofs.lemmas.List.{map-id}
+use Rattle.std.proofs.lemmas.List.FromFn.{map-range_with_len_more}
+use Rattle.std.specs.Prelude.{if◌then◌else◌}
+use Rattle.std.specs.List.{range_with_len}
+use Rattle.tc_base.specs.Logs.{Log}
+use Rattle.tc_base.specs.declared.limits.TheConstants.{EVENTS, OPERATORS}
+use Rattle.tc_code.specs.Code.{Code}
+use Rattle.tc_code.specs.Lawful.{IsLawful}
+use Rattle.store_buffers.specs.Pending.{Binding}
+use Rattle.path_walk.specs.Fits.{Fits}
+use Rattle.path_walk.specs.Paths.{Paths, paths_of}
+use Rattle.sym_terms.specs.declared.node.Node.{Node}
+use Rattle.sym_exec.specs.Executed.{Symbolic}
+use Rattle.order_formula.specs.Orders.{ConjunctIsIn, Order}
+use Rattle.order_formula.specs.declared.formula.Conjunct.{Conjunct}
+use Rattle.std.specs.List.{All}
+use Rattle.lawful_order.specs.Events.{all_events}
+use Rattle.cnf_core.specs.Clauses.{Formula}
+use Rattle.bit_order.specs.Comparators.{pairs_among}
+use Rattle.bit_order.specs.Layouts.{Layout}
+use Rattle.bit_blast.specs.Blasted.{Blasted, blast, impossible}
+use Rattle.bit_blast.proofs.Completed.{completed_events, same_part}
+use Rattle.bit_blast.proofs.Posed.{formula_in}
+use Rattle.clap_system.specs.Faults.{IsShallow}
+use Rattle.clap_system.specs.Ready.{IsSound}
+use Rattle.clap_system.specs.Systems.{System, system_of}
+use Rattle.clap_solve.specs.Solved.{IsWithin}
+use Rattle.clap_solve.proofs.Meaning as solve
+use Rattle.switch_clauses.specs.Clauses.{asked_by, asked_of_all, switch_clauses, switched_by}
+use Rattle.switch_clauses.proofs.Meaning.{levels_ready}
+use Rattle.least_switch.specs.helpers.Bounded.{IsBounded}
+use Rattle.least_switch.specs.helpers.Levels.{AreBounded, AreLevelled, IsAskable, StandsOnOrder}
+
+-- the numbers below the next are those below a number, and that one
+pub one_more_number : (n : ℕ) → range_with_len 0 (n + 1) ≡ range_with_len 0 n ++ n ∷ []
+one_more_number n =
+    sym (map-id (range_with_len 0 (n + 1))) ∙ map-range_with_len_more (λ (k : ℕ). k) 0 n n (omega arith)
+    ∙ ap (λ ns. ns ++ n ∷ []) (map-id (range_with_len 0 n))
+
+-- an order that is asked of every two events has as many, and a formula that is in the one is in the other
+pub asked_events : (o : Order) → (asked_of_all o).events ≡ o.events
+asked_events o = completed_events o (range_with_len 0 o.events)
+
+pub asked_within : (o : Order) (formula : List Conjunct) → All (ConjunctIsIn o) formula → All (ConjunctIsIn (asked_of_all o)) formula
+asked_within o formula within =
+    formula_in o (asked_of_all o) (asked_events o)
+    (same_part (λ (k : Order). k.sleeps) (λ k p. refl) o (pairs_among (range_with_len 0 o.events))) formula within
+
+-- clauses with levels are those of a formula whose paths aren't dead
+pub bounded_by : (paths : Paths) (nodes : List Node) (formula : List Conjunct) (order : Order) (loads most : ℕ) (b : Blasted)
+    → b ≡ blast nodes formula (asked_of_all order) loads → paths.dead ≡ false → (made : Layout × Formula) → AreLevelled paths b most made
+    → AreBounded paths nodes formula order loads most made
+bounded_by paths nodes formula order loads most b is alive made levelled = record {
+  lives = λ lives. subst (λ (x : Blasted). AreLevelled paths x most made) is levelled;
+  dead = λ dead. absurd (false≢true (sym alive ∙ dead));
+}
+
+-- the log of a system that was built is within the limits
+pub is_within : (buffered : Bool) (bound : Binding) (code : Code) (log : Log) (s : System) → s ≡ system_of buffered bound code log → IsShallow log
+    → Fits code log → s.paths.events ≤ EVENTS → s.paths.operators ≤ OPERATORS → IsWithin code log
+is_within buffered bound code log s of shallow fits events operators = record {
+  shallow = shallow;
+  fits = fits;
+  events = subst (λ (t : System). t.paths.events ≤ EVENTS) of events;
+  operators = subst (λ (t : System). t.paths.operators ≤ OPERATORS) of operators;
+}
+
+-- parts of a system
+abbrev Parts : Type 1
+Parts = Paths → List Node → List Conjunct → Order → ℕ → Type 0
+
+-- what holds of some parts holds of the same
+moved : (P : Parts) (p q : Paths) (ns ms : List Node) (f g : List Conjunct) (o k : Order) (m n : ℕ) → p ≡ q → ns ≡ ms → f ≡ g → o ≡ k → m ≡ n
+    → P p ns f o m → P q ms g k n
+moved P p q ns ms f g o k m n as_paths as_nodes as_formula as_order as_loads is =
+    subst (λ x. P q ms g k x) as_loads
+    (subst (λ (x : Order). P q ms g x m) as_order
+    (subst (λ (x : List Conjunct). P q ms x o m) as_formula
+    (subst (λ (x : List Node). P q x f o m) as_nodes (subst (λ (x : Paths). P x ns f o m) as_paths is))))
+
+module _ (buffered : Bool) (bound : Binding) (code : Code) (log : Log) (lawful : IsLawful code) (within : IsWithin code log) (s : System)
+    (of : s ≡ system_of buffered bound code log) (sound : IsSound s) (paths : Paths) (symbolic : Symbolic) (nodes : List Node) (order : Order)
+    (formula : List Conjunct) (loads : ℕ) (as_paths : paths ≡ s.paths) (as_symbolic : symbolic ≡ s.symbolic) (as_nodes : nodes ≡ s.nodes)
+    (as_order : order ≡ s.order) (as_formula : formula ≡ s.formula) (as_loads : loads ≡ symbolic.loads) where
+  loads_are : loads ≡ s.symbolic.loads
+  loads_are = as_loads ∙ ap (λ (x : Symbolic). x.loads) as_symbolic
+
+  own : IsAskable s.paths s.nodes s.formula s.order s.symbolic.loads
+  own = record {
+    terms = sound.terms;
+    within = sound.within;
+    events = subst (λ (t : System). length (all_events t.paths) ≡ t.order.events) (sym of) (sym (solve.events buffered bound code log lawful within));
+    few = sound.events;
+    stands = subst (λ (t : System). StandsOnOrder (asked_by t)) (sym of) (record { more = (levels_ready buffered bound code log lawful within).more });
+  }
+
+  -- they can be asked of every two events
+  pub is_askable : IsAskable paths nodes formula order loads
+  is_askable =
+      moved IsAskable s.paths paths s.nodes nodes s.formula formula s.order order s.symbolic.loads loads (sym as_paths) (sym as_nodes) (sym as_formula)
+      (sym as_order) (sym loads_are) own
+
+  module _ (most : ℕ) (made : Layout × Formula) (bounded : AreBounded paths nodes formula order loads most made) where
+    here : AreBounded s.paths s.nodes s.formula s.order s.symbolic.loads most made
+    here =
+        moved (λ p ns f o n. AreBounded p ns f o n most made) paths s.paths nodes s.nodes formula s.formula order s.order loads s.symbolic.loads as_paths
+        as_nodes as_formula as_order loads_are bounded
+
+    abbrev t : System
+    t = system_of buffered bound code log
+
+    there : AreBounded t.paths t.nodes t.formula t.order t.symbolic.loads most made
+    there = subst (λ (x : System). AreBounded x.paths x.nodes x.formula x.order x.symbolic.loads most made) of here
+
+    clauses_are : made.1 ≡ switch_clauses buffered bound code log most
+    clauses_are = by (paths_of code log).dead refl
+      where
+        by : (dead : Bool) → (paths_of code log).dead ≡ dead
+            → made.1 ≡ (if dead then impossible.clauses else switched_by (paths_of code log) (system_of buffered bound code log) most)
+        by true is = there.dead is
+        by false is = (there.lives is).clauses
+
+    -- and their clauses are the log's
+    pub is_bounded : IsBounded buffered bound code log most
+        (record { paths = paths; symbolic = symbolic; terms = nodes; layout = made.0; clauses = made.1 })
+    is_bounded = record {
+      within = within;
+      paths = paths_are;
+      symbolic = as_symbolic ∙ ap (λ (x : System). x.symbolic) of;
+      terms = as_nodes ∙ ap (λ (x : System). x.nodes) of;
+      layout = λ lives. (there.lives (sym (ap (λ (p : Paths). p.dead) paths_are) ∙ lives)).layout;
+      variables = λ lives. (there.lives (sym (ap (λ (p : Paths). p.dead) paths_are) ∙ lives)).variables;
+      clauses = clauses_are;
+    }
+      where
+        paths_are : paths ≡ paths_of code log
+        paths_are = as_paths ∙ ap (λ (x : System). x.paths) of

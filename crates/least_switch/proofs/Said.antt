@@ -1,0 +1,86 @@
+-- What satisfies the clauses of a log says a world that has a schedule.
+use Rattle.std.proofs.Common.{◌≡◌, ◌∙◌, ℕ, ◌<◌, ◌≤◌, Bool, false, List, [], sym, ap, subst, arith}
+use Rattle.std.specs.Prelude.{IsTrue, if◌then◌else◌}
+use Rattle.std.specs.List.{All}
+use Rattle.tc_base.specs.Buffers.{BufferOps}
+use Rattle.tc_base.specs.Logs.{Log}
+use Rattle.tc_base.specs.declared.model.Model.{Model}
+use Rattle.tc_code.specs.Code.{Code}
+use Rattle.tc_code.specs.Lawful.{IsLawful}
+use Rattle.store_buffers.specs.Laws.{Laws}
+use Rattle.store_buffers.specs.Pending.{Binding}
+use Rattle.path_walk.specs.Paths.{Paths}
+use Rattle.order_formula.specs.Worlds.{World}
+use Rattle.cnf_core.specs.Clauses.{Formula, Valuation, satisfies, value_in}
+use Rattle.bit_order.specs.Layouts.{Layout}
+use Rattle.bit_order.specs.Readings.{world_of}
+use Rattle.bit_order.proofs.Meaning.{values-say-worlds}
+use Rattle.bit_blast.specs.Blasted.{impossible}
+use Rattle.bit_blast.specs.Contended.{contended}
+use Rattle.bit_blast.proofs.Completed.{completed_events}
+use Rattle.world_plan.specs.Going.{IsLawfulWorld}
+use Rattle.schedule_decode.specs.Decodable.{IsDecodable}
+use Rattle.clap_system.specs.Systems.{system_of}
+use Rattle.orders_are_runs.proofs.Systems.{grows, possible_is_lawful}
+use Rattle.clap_solve.specs.Clauses.{blasted_by}
+use Rattle.clap_solve.specs.Posed.{IsGiven, Posed, posed_of}
+use Rattle.clap_solve.specs.Solved.{IsWithin}
+use Rattle.clap_solve.proofs.Meaning as solve
+use Rattle.switch_runs.specs.Worlds.{world_switches}
+use Rattle.switch_clauses.proofs.Meaning.{IsSaid, ready, says}
+use Rattle.least_switch.specs.declared.bounded.Bounded.{Bounded}
+use Rattle.least_switch.specs.helpers.Bounded.{IsBounded}
+
+-- positions are ranks of at most 256 events
+pub small_in : (y : Layout) (v : Valuation) (w : World) → w ≡ world_of y v → y.order.events ≤ 256 → All (λ p. p < 256) w.positions
+small_in y v w is few = subst (λ (x : World). All (λ p. p < 256) x.positions) (sym is) (values-say-worlds y v few).small
+
+-- the events of a log's layout are few
+pub posed_few : (buffered : Bool) (bound : Binding) (code : Code) (log : Log) → IsLawful code → IsWithin code log → (p : Posed)
+    → p ≡ posed_of buffered bound code log → p.paths.dead ≡ false → p.blasted.layout.order.events ≤ 256
+posed_few buffered bound code log lawful within p by alive =
+    let s = system_of buffered bound code log in
+    let own : (blasted_by s).layout.order.events ≤ 256 =
+    let same = completed_events s.order (contended s.formula) in
+    let few = (solve.posed buffered bound code log lawful within).events in
+    omega (arith, same, few) in
+    subst (λ (q : Posed). q.blasted.layout.order.events ≤ 256) (sym by)
+    (subst (λ (dead : Bool). (if dead then impossible else blasted_by s).layout.order.events ≤ 256) (sym (sym (ap (λ (q : Posed). q.paths.dead) by) ∙ alive)) own)
+
+module _ (buffered : Bool) (bound : Binding) (code : Code) (log : Log) (lawful : IsLawful code) (most : ℕ) (b : Bounded)
+    (h : IsBounded buffered bound code log most b) (v : Valuation) (satisfied : IsTrue (satisfies v b.clauses.clauses)) where
+  pub says_so : IsSaid buffered bound code log lawful h.within most v
+  says_so = says buffered bound code log lawful h.within most v (subst (λ (f : Formula). IsTrue (satisfies v f.clauses)) h.clauses satisfied)
+
+  pub bounded_lives : b.paths.dead ≡ false
+  bounded_lives = ap (λ (p : Paths). p.dead) h.paths ∙ says_so.possible.lives
+
+  pub bounded_few : b.layout.order.events ≤ 256
+  bounded_few = subst (λ (y : Layout). y.order.events ≤ 256) (sym (h.layout bounded_lives)) (ready buffered bound code log lawful h.within).events
+
+  pub world_is : (w : World) → w ≡ world_of b.layout v → w ≡ says_so.possible.world
+  world_is w is = is ∙ ap (λ (y : Layout). world_of y v) (h.layout bounded_lives) ∙ sym says_so.world
+
+  pub bounded_switches : (w : World) → w ≡ world_of b.layout v → world_switches b.paths w ≤ most
+  bounded_switches w is =
+      subst (λ (x : World). world_switches b.paths x ≤ most) (sym (world_is w is))
+      (subst (λ (p : Paths). world_switches p says_so.possible.world ≤ most) (sym h.paths) says_so.few)
+
+pub bounded_decodable : {B : Type 0} (ops : BufferOps B) (model : Model) (bound : Binding) (code : Code) (log : Log) → Laws ops model bound
+    → (given : IsGiven code log) (most : ℕ) (b : Bounded) → IsBounded ops.buffered bound code log most b → (values : List Bool)
+    → IsTrue (satisfies (value_in values) b.clauses.clauses) → (w : World) → w ≡ world_of b.layout (value_in values)
+    → IsDecodable ops model bound code b.paths b.symbolic b.terms w
+bounded_decodable ops model bound code log laws given most b h values satisfied w is =
+    let v = value_in values in
+    let said = says_so ops.buffered bound code log given.lawful most b h v satisfied in
+    let more = grows ops model bound code log laws given.lawful given.is_log given.within.fits in
+    record {
+      log = log;
+      first = [];
+      more = more.0;
+      paths_are = h.paths;
+      symbolic_is = h.symbolic;
+      nodes_are = h.terms ∙ more.1;
+      lawful = subst (IsLawfulWorld ops model bound code log []) (sym (world_is ops.buffered bound code log given.lawful most b h v satisfied w is))
+          (possible_is_lawful ops model bound code log laws given.lawful given.is_log given.within.fits said.possible);
+    }

@@ -1,0 +1,143 @@
+-- What a search comes to is an answer about the log.
+use Rattle.std.proofs.Common.{◌≡◌, ◌∙◌, ℕ, zero, suc, ◌-◌, ◌<◌, ◌≤◌, Bool, true, false, List, Some, None, ap, subst, sym, arith}
+use Rattle.std.specs.List.{All}
+use Rattle.tc_base.specs.Buffers.{BufferOps}
+use Rattle.tc_base.specs.Logs.{Log}
+use Rattle.tc_base.specs.declared.model.Model.{Model}
+use Rattle.tc_base.specs.declared.moves.Move.{Move}
+use Rattle.tc_code.specs.Code.{Code}
+use Rattle.tc_code.specs.Run.{Reproduces}
+use Rattle.store_buffers.specs.Laws.{Laws}
+use Rattle.store_buffers.specs.Pending.{Binding}
+use Rattle.run_follows.specs.Follow.{moves_for}
+use Rattle.path_log.specs.Texts.{is_log}
+use Rattle.path_walk.specs.Fits.{Fits}
+use Rattle.path_walk.specs.Paths.{Paths, paths_of}
+use Rattle.schedule_file.specs.declared.schedule.Schedule.{Schedule}
+use Rattle.sym_terms.specs.declared.node.Node.{Node}
+use Rattle.sym_exec.specs.Executed.{Symbolic}
+use Rattle.order_formula.specs.Worlds.{World}
+use Rattle.world_plan.specs.Plan.{plan}
+use Rattle.refute_check.specs.Refutations.{IsClosed}
+use Rattle.refute_check.specs.declared.line.Line.{Line}
+use Rattle.cnf_core.specs.Clauses.{Formula}
+use Rattle.cdcl_core.specs.Solving.{Solves}
+use Rattle.cdcl_core.specs.declared.progress.Solved.{Solved}
+use Rattle.cdcl_core.specs.declared.progress.Solved.TheVariants as solved
+use Rattle.schedule_decode.specs.Decodable.{IsDecodable}
+use Rattle.clap_solve.specs.Clauses.{clauses_of}
+use Rattle.clap_solve.specs.Posed.{IsGiven, Posed, posed_of}
+use Rattle.clap_solve.proofs.Meaning.{closed_is_impossible}
+use Rattle.switch_runs.specs.Switches.{switches}
+use Rattle.switch_runs.specs.Worlds.{world_switches}
+use Rattle.switch_runs.proofs.Laws as of_runs
+use Rattle.switch_clauses.specs.Clauses.{switch_clauses}
+use Rattle.switch_clauses.proofs.Meaning.{closed_is_more}
+use Rattle.least_switch.specs.Least.{HasSwitches, IsLeast}
+use Rattle.least_switch.specs.declared.answer.Least.TheVariants.{Found, Impossible, Spent, SpentAt}
+use Rattle.least_switch.specs.declared.best.Best.{Best}
+use Rattle.least_switch.specs.declared.bounded.Bounded.{Bounded}
+use Rattle.least_switch.specs.declared.stages.Found.{Found as Outcome}
+use Rattle.least_switch.specs.declared.stages.Found.TheVariants as found
+use Rattle.least_switch.specs.helpers.Bounded.{IsBounded}
+use Rattle.least_switch.specs.helpers.Found.{IfSat, IsFirst, IsFoundBy, IsFoundOn, IsOfWorld, IsSaid}
+
+module _ {B : Type 0} (ops : BufferOps B) (model : Model) (bound : Binding) (code : Code) (paths : Paths) (symbolic : Symbolic) (nodes : List Node)
+    (w : World) (d : IsDecodable ops model bound code paths symbolic nodes w) (small : All (λ p. p < 256) w.positions) where
+  -- the moves of the plan of a world have its switches
+  world_count : (moves : List Move) → moves ≡ moves_for bound (plan ops.buffered code paths w) → switches ops code moves ≡ world_switches paths w
+  world_count moves is =
+      ap (switches ops code) is
+      ∙ subst (λ (p : Paths). switches ops code (moves_for bound (plan ops.buffered code p w)) ≡ world_switches p w) (sym d.paths_are)
+      (of_runs.worlds ops model bound code d.log d.first w d.lawful small)
+
+  pub of_world : (buffered : Bool) → buffered ≡ ops.buffered → (s : Schedule) (count : ℕ) (x : World) → s.model ≡ model
+      → s.moves.items ≡ moves_for bound (plan buffered code paths w)
+      → ((log : Log) → is_log log ≡ true → Fits code log → paths_of code log ≡ paths → Reproduces ops code log s.moves.items)
+      → count ≡ world_switches paths w → count ≤ 255 → IsOfWorld ops model code paths w (record { schedule = s; switches = count; world = x })
+  of_world buffered same s count x of_model planned again counted few = record {
+    has = λ log is fits of. record {
+      model_is = of_model;
+      reproduces = again log is fits of;
+      count_is = world_count s.moves.items (planned ∙ ap (λ (b : Bool). moves_for bound (plan b code paths w)) same) ∙ sym counted;
+      few = few;
+    };
+    count = counted;
+  }
+
+module _ {B : Type 0} (ops : BufferOps B) (model : Model) (bound : Binding) (code : Code) (log : Log) (laws : Laws ops model bound)
+    (given : IsGiven code log) (budget : ℕ) where
+  -- no schedule was found
+  pub none_found : (lines : List Line) → Solves (clauses_of ops.buffered bound code log) budget (solved.Unsat lines)
+      → IsLeast ops model bound code log budget (Impossible lines)
+  none_found lines closed = record {
+    within = given.within;
+    is = (closed.0, closed_is_impossible ops model bound code log laws given.lawful given.is_log given.within lines closed.0);
+  }
+
+  pub all_spent : (lines : List Line) → Solves (clauses_of ops.buffered bound code log) budget (solved.Spent lines)
+      → IsLeast ops model bound code log budget (Spent lines)
+  all_spent lines spent = record { within = given.within; is = spent }
+
+  -- one has no switches
+  pub none_fewer : (s : Schedule) (count : ℕ) → HasSwitches ops model code log s count → count ≡ 0
+      → IsLeast ops model bound code log budget (Found s count None)
+  none_fewer s zero has none = record { within = given.within; is = (has, λ moves again. omega arith, tt) }
+  none_fewer s (suc k) has none = absurd (omega (arith, none))
+
+  -- none has fewer than one
+  pub fewest_found : (s : Schedule) (count fewer : ℕ) (lines : List Line) → 0 < count → fewer ≡ count - 1 → HasSwitches ops model code log s count
+      → Solves (switch_clauses ops.buffered bound code log fewer) budget (solved.Unsat lines)
+      → IsLeast ops model bound code log budget (Found s count (Some lines))
+  fewest_found s zero fewer lines some is has closed = absurd (omega (arith, some))
+  fewest_found s (suc k) fewer lines some is has closed =
+      let same : fewer ≡ k = omega (arith, is) in
+      let c : IsClosed (switch_clauses ops.buffered bound code log k) lines =
+      subst (λ n. IsClosed (switch_clauses ops.buffered bound code log n) lines) same closed.0 in
+      record {
+        within = given.within;
+        is = (
+          has,
+          λ moves again.
+              let more = closed_is_more ops model bound code log k laws given.lawful given.is_log given.within lines moves c again in omega (arith, more),
+          c,
+        );
+      }
+
+  pub fewer_spent : (s : Schedule) (count fewer : ℕ) (lines : List Line) → 0 < count → fewer ≡ count - 1 → HasSwitches ops model code log s count
+      → Solves (switch_clauses ops.buffered bound code log fewer) budget (solved.Spent lines)
+      → IsLeast ops model bound code log budget (SpentAt s count lines)
+  fewer_spent s zero fewer lines some is has spent = absurd (omega (arith, some))
+  fewer_spent s (suc k) fewer lines some is has spent =
+      let same : fewer ≡ k = omega (arith, is) in
+      record {
+        within = given.within;
+        is = (has, subst (λ n. Solves (switch_clauses ops.buffered bound code log n) budget (solved.Spent lines)) same spent);
+      }
+
+-- what a search comes to, over the clauses in which it went
+pub found_on : (f : Formula) (Is : Best → Type 0) (budget : ℕ) (s : Solved) (x : Outcome) → Solves f budget s → IsFoundBy Is s x → IsFoundOn f Is budget x
+found_on f Is budget (solved.Sat values) (found.Best b) solves by = by
+found_on f Is budget (solved.Unsat lines) (found.Impossible own) solves by = subst (λ (ls : List Line). Solves f budget (solved.Unsat ls)) (sym by) solves
+found_on f Is budget (solved.Spent lines) (found.Spent own) solves by = subst (λ (ls : List Line). Solves f budget (solved.Spent ls)) (sym by) solves
+found_on f Is budget (solved.Sat values) (found.Impossible own) solves by = absurd by
+found_on f Is budget (solved.Sat values) (found.Spent own) solves by = absurd by
+found_on f Is budget (solved.Unsat lines) (found.Best b) solves by = absurd by
+found_on f Is budget (solved.Unsat lines) (found.Spent own) solves by = absurd by
+found_on f Is budget (solved.Spent lines) (found.Best b) solves by = absurd by
+found_on f Is budget (solved.Spent lines) (found.Impossible own) solves by = absurd by
+
+module _ (buffered : Bool) (bound : Binding) (code : Code) (log : Log) (given : IsGiven code log) where
+  pub if_first : (p : Posed) (budget : ℕ) (s : Solved) → p ≡ posed_of buffered bound code log → (p.paths.dead ≡ false → 0 < p.blasted.clauses.vars)
+      → Solves p.blasted.clauses budget s → IfSat (IsFirst buffered bound code log p) s
+  if_first p budget (solved.Sat values) posed some solves =
+      record { given = given; posed = posed; variables = some; satisfies = solves.satisfies; all = omega (arith, solves.all) }
+  if_first p budget (solved.Unsat lines) posed some solves = tt
+  if_first p budget (solved.Spent lines) posed some solves = tt
+
+  pub if_said : (most : ℕ) (b : Bounded) (budget : ℕ) (s : Solved) → IsBounded buffered bound code log most b → Solves b.clauses budget s
+      → IfSat (IsSaid buffered bound code log most b) s
+  if_said most b budget (solved.Sat values) bounded solves =
+      record { given = given; bounded = bounded; satisfies = solves.satisfies; all = omega (arith, solves.all) }
+  if_said most b budget (solved.Unsat lines) bounded solves = tt
+  if_said most b budget (solved.Spent lines) bounded solves = tt

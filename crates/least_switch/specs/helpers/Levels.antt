@@ -1,0 +1,40 @@
+-- Clauses of a formula with at most so many switches.
+use Rattle.std.specs.Prelude.{◌≡◌, ℕ, ◌≤◌, true, false, List, length}
+use Rattle.std.specs.List.{All}
+use Rattle.tc_base.specs.declared.limits.TheConstants.{EVENTS}
+use Rattle.path_walk.specs.Paths.{Paths}
+use Rattle.sym_terms.specs.declared.node.Node.{Node}
+use Rattle.order_formula.specs.Formulas.{IsOf}
+use Rattle.order_formula.specs.Orders.{ConjunctIsIn, Order}
+use Rattle.order_formula.specs.declared.formula.Conjunct.{Conjunct}
+use Rattle.lawful_order.specs.Events.{all_events}
+use Rattle.cnf_core.specs.Clauses.{Formula}
+use Rattle.bit_order.specs.Comparators.{ordered}
+use Rattle.bit_order.specs.Layouts.{Layout, base}
+use Rattle.bit_blast.specs.Blasted.{Blasted, blast, impossible}
+use Rattle.switch_order.specs.Levels.{levelled}
+use Rattle.switch_runs.specs.Worlds.{failing_of, threads_of}
+use Rattle.switch_clauses.specs.Clauses.{asked_of_all}
+
+-- clauses have the variables of their order
+pub record StandsOnOrder (b : Blasted) : Type 0 where
+  pub more : (ordered b.layout).vars ≤ b.clauses.vars
+
+-- clauses with levels up to a number, and their layout
+pub record AreLevelled (paths : Paths) (b : Blasted) (most : ℕ) (made : Layout × Formula) : Type 0 where
+  pub layout : made.0 ≡ b.layout
+  pub clauses : made.1 ≡ levelled b.layout (threads_of paths) (failing_of paths) most b.clauses
+  pub variables : (base made.0).vars ≤ made.1.vars
+
+-- a formula over an order that can be asked of every two events of the paths
+pub record IsAskable (paths : Paths) (nodes : List Node) (formula : List Conjunct) (order : Order) (loads : ℕ) : Type 0 where
+  pub terms : IsOf (length nodes) formula
+  pub within : All (ConjunctIsIn order) formula
+  pub events : length (all_events paths) ≡ order.events
+  pub few : order.events ≤ EVENTS
+  pub stands : StandsOnOrder (blast nodes formula (asked_of_all order) loads)
+
+-- where the paths aren't dead, its clauses with levels up to a number
+pub record AreBounded (paths : Paths) (nodes : List Node) (formula : List Conjunct) (order : Order) (loads most : ℕ) (made : Layout × Formula) : Type 0 where
+  pub lives : paths.dead ≡ false → AreLevelled paths (blast nodes formula (asked_of_all order) loads) most made
+  pub dead : paths.dead ≡ true → made.1 ≡ impossible.clauses

@@ -1,0 +1,101 @@
+//! The clauses of a log with at most so many context switches.
+ghost use Rattle.std.specs.Prelude.{◌≡◌, ◌≤◌, ◌<◌, false, length, IfOk, IfErr, OnOk};
+ghost use Rattle.std.specs.List.{All};
+ghost use Rattle.tc_base.specs.declared.limits.TheConstants.{EVENTS};
+ghost use Rattle.order_formula.specs.Formulas.{IsOf};
+ghost use Rattle.order_formula.specs.Orders.{ConjunctIsIn};
+ghost use Rattle.lawful_order.specs.Events.{all_events};
+ghost use Rattle.clap_system.specs.Faults.{IsBuildFault};
+ghost use Rattle.least_switch.specs.helpers.Bounded.{IsBounded};
+ghost use Rattle.least_switch.specs.helpers.Levels.{AreBounded, IsAskable};
+
+use crate::levels::{blast_asked, with_levels};
+use bit_blast::{Blasted, extend_values};
+use bit_order::Layout;
+use clap_system::{BuildFault, build};
+use cnf_core::Cnf;
+use order_formula::{Formula, Order, World};
+use path_log::Log;
+use path_walk::Paths;
+use std::alloc::{AllocError, Global};
+use store_buffers::MemoryModel;
+use sym_exec::Symbolic;
+use sym_terms::Terms;
+use tc_code::Code;
+
+/// The clauses of a log with at most so many context switches, and what a schedule is made of: the layout, by which values that
+/// satisfy them are read as a world, the paths, and their execution.
+#[derive(Debug, Drop)]
+pub(crate) struct Bounded {
+    pub(crate) paths: Paths,
+    pub(crate) symbolic: Symbolic,
+    pub(crate) terms: Terms,
+    pub(crate) layout: Layout,
+    pub(crate) clauses: Cnf,
+}
+
+/// The clauses of a log with at most so many context switches. Refused is what [`build`](clap_system::build) refuses.
+pub(crate) fn pose_bounded<M: MemoryModel>(
+    alloc: Global,
+    code: &Code,
+    log: &Log,
+    most: u32,
+) -> Result<Bounded, BuildFault>
+    requires { most ≤ 255 }
+    ensures bounded { IfOk result (IsBounded M.BUFFERED M.bound code.now log.now.log most) }
+    ensures err { IfErr result (IsBuildFault code.now log.now.log) }
+{
+    // Lawful code.
+    let _functions = code.functions();
+    let (paths, symbolic, terms, order, formula) = build::<M>(alloc, code, log)?.into_parts();
+    let (layout, clauses) = clauses(
+        alloc,
+        &paths,
+        &terms,
+        &formula,
+        order,
+        symbolic.loads(),
+        most,
+    )?;
+    Ok(Bounded {
+        paths,
+        symbolic,
+        terms,
+        layout,
+        clauses,
+    })
+}
+
+/// The clauses of a formula with at most so many switches, or of what is impossible where the paths are dead.
+fn clauses(
+    alloc: Global,
+    paths: &Paths,
+    terms: &Terms,
+    formula: &Formula,
+    order: Order,
+    loads: u32,
+    most: u32,
+) -> Result<(Layout, Cnf), AllocError>
+    requires askable { IsAskable paths.now terms.now formula.now order loads }
+    requires most { most ≤ 255 }
+    ensures { IfOk result (AreBounded paths.now terms.now formula.now order loads most) }
+{
+    if paths.dead() {
+        return Ok(Blasted::impossible(alloc)?.into_parts());
+    }
+    let blasted = blast_asked(alloc, terms, formula, order, loads)?;
+    with_levels(alloc, paths, blasted, most)
+}
+
+impl Bounded {
+    /// Values of the variables that say a world, for a search to try first.
+    pub(crate) fn first_values(
+        &self,
+        alloc: Global,
+        world: &World,
+    ) -> Result<Vec<bool>, AllocError> {
+        let mut values = self.layout.write_world(alloc, world)?;
+        extend_values(&self.clauses, &mut values)?;
+        Ok(values)
+    }
+}

@@ -1,0 +1,109 @@
+//! Clauses of a formula with at most so many context switches.
+ghost use Rattle.std.specs.Prelude.{◌≡◌, ◌≤◌, ◌<◌, IfOk, IsTrue, length};
+ghost use Rattle.std.specs.List.{All, range_with_len};
+ghost use Rattle.tc_base.specs.declared.limits.TheConstants.{EVENTS};
+ghost use Rattle.order_formula.specs.Formulas.{IsOf};
+ghost use Rattle.order_formula.specs.Orders.{ConjunctIsIn, IsOrder};
+ghost use Rattle.lawful_order.specs.Events.{all_events};
+ghost use Rattle.bit_blast.specs.Blasted.{blast};
+ghost use Rattle.bit_gates.specs.Folded.{HasRoom};
+ghost use Rattle.switch_order.specs.Sizes.{size_of};
+ghost use Rattle.switch_clauses.specs.Clauses.{asked_of_all};
+ghost use Rattle.least_switch.specs.helpers.Levels.{AreLevelled, StandsOnOrder};
+
+use crate::events::threads_of;
+use bit_blast::{Blasted, blast};
+use bit_order::{Layout, complete};
+use cnf_core::{Cnf, LIMIT};
+use order_formula::{Formula, Order};
+use path_walk::Paths;
+use std::alloc::{AllocError, Global};
+use switch_order::{add_levels, size};
+use sym_terms::Terms;
+
+/// The clauses of a formula over an order, which is asked of every two events.
+pub(crate) fn blast_asked(
+    alloc: Global,
+    terms: &Terms,
+    formula: &Formula,
+    order: Order,
+    loads: u32,
+) -> Result<Blasted, AllocError>
+    requires terms { IsOf (length terms.now) formula.now }
+    requires events { order.events ≤ 256 }
+    requires within { All (ConjunctIsIn order) formula.now }
+    ensures blasted { IfOk result (λ blasted. blasted ≡ blast terms.now formula.now (asked_of_all order) loads) }
+    ensures lawful { IfOk result (λ blasted. IsOrder blasted.layout.order) }
+    ensures variables { IfOk result (λ blasted. 0 < blasted.clauses.vars) }
+{
+    let order = ask_all(alloc, order)?;
+    blast(alloc, terms, formula, order, loads)
+}
+
+/// The order, asked of every two events.
+fn ask_all(alloc: Global, order: Order) -> Result<Order, AllocError>
+    requires { order.events ≤ 256 }
+    ensures { IfOk result (λ asked. asked ≡ asked_of_all order) }
+{
+    let mut order = order;
+    let events = numbers(alloc, order.events())?;
+    let pairs = (events.len() as u64).saturating_mul(events.len() as u64);
+    if pairs.saturating_add(order.pairs().len() as u64) >= u64::from(u32::MAX) {
+        return Err(AllocError);
+    }
+    complete(&mut order, events.as_slice())?;
+    Ok(order)
+}
+
+/// The numbers from 0 on, so many of them.
+fn numbers(alloc: Global, count: u32) -> Result<Vec<u32>, AllocError>
+    ensures { IfOk result (λ numbers. numbers.items ≡ range_with_len 0 count) }
+{
+    let mut numbers = Vec::new(alloc);
+    for number in 0..count {
+        numbers.push(number)?;
+    }
+    Ok(numbers)
+}
+
+/// Clauses get levels up to a number, and with them at most so many switches.
+pub(crate) fn with_levels(
+    alloc: Global,
+    paths: &Paths,
+    blasted: Blasted,
+    most: u32,
+) -> Result<(Layout, Cnf), AllocError>
+    requires few { length (all_events paths.now) ≤ EVENTS }
+    requires events { length (all_events paths.now) ≡ blasted.layout.order.events }
+    requires most { most ≤ 255 }
+    requires order { IsOrder blasted.layout.order }
+    requires variables { 0 < blasted.clauses.vars }
+    requires stands { StandsOnOrder blasted }
+    ensures { IfOk result (AreLevelled paths.now blasted most) }
+{
+    let (threads, failing) = threads_of(alloc, paths)?;
+    let (layout, mut clauses) = blasted.into_parts();
+    if !has_room(&clauses, layout.order().events(), most) {
+        return Err(AllocError);
+    }
+    add_levels(
+        alloc,
+        &mut clauses,
+        &layout,
+        threads.as_slice(),
+        failing,
+        most,
+    )?;
+    Ok((layout, clauses))
+}
+
+/// Whether the variables and the clauses can be numbered.
+fn has_room(clauses: &Cnf, events: u32, most: u32) -> bool
+    requires events { events ≤ 256 }
+    requires most { most ≤ 255 }
+    ensures { IsTrue result → HasRoom (size_of events most) clauses.now }
+{
+    let more = size(events, most);
+    let limit = u64::from(LIMIT);
+    u64::from(clauses.vars()) + more < limit && clauses.len() as u64 + more < limit
+}

@@ -1,0 +1,187 @@
+//! One search: for any schedule of a log, or for one with at most so many context switches.
+ghost use Rattle.std.specs.Prelude.{◌≤◌, IfOk, IfErr, length};
+ghost use Rattle.tc_base.specs.declared.limits.TheConstants.{BUDGET, EVENTS};
+ghost use Rattle.lawful_order.specs.Events.{all_events};
+ghost use Rattle.cdcl_core.specs.Solving.{Solves};
+ghost use Rattle.clap_system.specs.Faults.{IsBuildFault};
+ghost use Rattle.clap_solve.specs.Posed.{IsGiven};
+ghost use Rattle.switch_clauses.specs.Clauses.{switch_clauses};
+ghost use Rattle.least_switch.specs.helpers.Found.{IfSat, IsBest, IsBestUpTo, IsFirst, IsFirstFound, IsFoundBy, IsFoundOn, IsPosedFor, IsSaid};
+
+use crate::best::{Best, best_of};
+use crate::bounded::{Bounded, pose_bounded};
+use cdcl_core::{Solved, solve_cnf};
+use clap_solve::{Posed, pose};
+use clap_system::BuildFault;
+use cnf_core::Assignment;
+use first_run::first_world;
+use order_formula::World;
+use path_log::Log;
+use refute_check::Derivation;
+use std::alloc::{AllocError, Global};
+use store_buffers::MemoryModel;
+use tc_code::Code;
+
+/// What a search comes to.
+#[derive(Debug, Drop)]
+pub(crate) enum Found {
+    /// A schedule.
+    Best(Best),
+    /// There is none: the derivation is closed on the clauses.
+    Impossible(Derivation),
+    /// As many clauses were learnt as the budget allows, without either.
+    Spent(Derivation),
+}
+
+/// A search for a schedule of a log.
+pub(crate) fn first<M: MemoryModel>(
+    alloc: Global,
+    code: &Code,
+    log: &Log,
+    budget: u32,
+) -> Result<Found, BuildFault>
+    requires some { 1 ≤ budget }
+    requires room { budget ≤ BUDGET }
+    ensures found { IfOk result (IsFirstFound M.ops M.MODEL M.BUFFERED M.bound code.now log.now.log budget) }
+    ensures err { IfErr result (IsBuildFault code.now log.now.log) }
+{
+    let posed = posed::<M>(alloc, code, log)?;
+    let solved = search::<M>(alloc, code, &posed, budget)?;
+    Ok(first_found::<M>(alloc, code, log, &posed, solved)?)
+}
+
+/// The clauses of a log.
+fn posed<M: MemoryModel>(alloc: Global, code: &Code, log: &Log) -> Result<Posed, BuildFault>
+    ensures posed { IfOk result (IsPosedFor M.BUFFERED M.bound code.now log.now.log) }
+    ensures err { IfErr result (IsBuildFault code.now log.now.log) }
+{
+    pose::<M>(alloc, code, log)
+}
+
+/// A search of the clauses of a log, which tries first what one run along its paths comes to.
+fn search<M: MemoryModel>(
+    alloc: Global,
+    code: &Code,
+    posed: &Posed,
+    budget: u32,
+) -> Result<Solved, AllocError>
+    requires events { length (all_events posed.now.paths) ≤ EVENTS }
+    requires some { 1 ≤ budget }
+    requires room { budget ≤ BUDGET }
+    ensures { IfOk result (Solves posed.now.blasted.clauses budget) }
+{
+    let world = first_world::<M>(alloc, code, posed.paths(), posed.symbolic(), posed.terms())?;
+    let values = posed.blasted().first_values(alloc, &world)?;
+    solve_cnf(alloc, posed.clauses(), values.as_slice(), budget)
+}
+
+/// What the search for a schedule of a log comes to.
+fn first_found<M: MemoryModel>(
+    alloc: Global,
+    code: &Code,
+    log: &Log,
+    posed: &Posed,
+    solved: Solved,
+) -> Result<Found, AllocError>
+    requires { IfSat (IsFirst M.BUFFERED M.bound code.now log.now.log posed.now) solved }
+    ensures { IfOk result (IsFoundBy (IsBest M.ops M.MODEL code.now log.now.log) solved) }
+{
+    match solved {
+        Solved::Sat(assignment) => {
+            let best = first_best::<M>(alloc, code, log, posed, &assignment)?;
+            Ok(Found::Best(best))
+        }
+        Solved::Unsat(derivation) => Ok(Found::Impossible(derivation)),
+        Solved::Spent(derivation) => Ok(Found::Spent(derivation)),
+    }
+}
+
+/// The schedule of the world that is said by what satisfies the clauses of a log.
+fn first_best<M: MemoryModel>(
+    alloc: Global,
+    code: &Code,
+    log: &Log,
+    posed: &Posed,
+    assignment: &Assignment,
+) -> Result<Best, AllocError>
+    requires { IsFirst M.BUFFERED M.bound code.now log.now.log posed.now assignment.now }
+    ensures { IfOk result (IsBest M.ops M.MODEL code.now log.now.log) }
+{
+    let world = posed.blasted().world(alloc, assignment)?;
+    best_of::<M>(
+        alloc,
+        code,
+        posed.paths(),
+        posed.symbolic(),
+        posed.terms(),
+        world,
+    )
+}
+
+/// A search for a schedule of a log with at most so many context switches, which tries first what is near a world.
+pub(crate) fn fewer<M: MemoryModel>(
+    alloc: Global,
+    code: &Code,
+    log: &Log,
+    most: u32,
+    world: &World,
+    budget: u32,
+) -> Result<Found, BuildFault>
+    requires given { IsGiven code.now log.now.log }
+    requires most { most ≤ 255 }
+    requires some { 1 ≤ budget }
+    requires room { budget ≤ BUDGET }
+    ensures found { IfOk result (IsFoundOn (switch_clauses M.BUFFERED M.bound code.now log.now.log most)
+        (IsBestUpTo M.ops M.MODEL code.now log.now.log most) budget) }
+    ensures err { IfErr result (IsBuildFault code.now log.now.log) }
+{
+    let bounded = pose_bounded::<M>(alloc, code, log, most)?;
+    let values = bounded.first_values(alloc, world)?;
+    let solved = solve_cnf(alloc, &bounded.clauses, values.as_slice(), budget)?;
+    Ok(next_found::<M>(alloc, code, log, most, &bounded, solved)?)
+}
+
+/// What the search for one with at most so many context switches comes to.
+fn next_found<M: MemoryModel>(
+    alloc: Global,
+    code: &Code,
+    log: &Log,
+    most: u32,
+    bounded: &Bounded,
+    solved: Solved,
+) -> Result<Found, AllocError>
+    requires { IfSat (IsSaid M.BUFFERED M.bound code.now log.now.log most bounded.now) solved }
+    ensures { IfOk result (IsFoundBy (IsBestUpTo M.ops M.MODEL code.now log.now.log most) solved) }
+{
+    match solved {
+        Solved::Sat(assignment) => {
+            let best = next_best::<M>(alloc, code, log, most, bounded, &assignment)?;
+            Ok(Found::Best(best))
+        }
+        Solved::Unsat(derivation) => Ok(Found::Impossible(derivation)),
+        Solved::Spent(derivation) => Ok(Found::Spent(derivation)),
+    }
+}
+
+/// The schedule of the world that is said by what satisfies the clauses with at most so many switches.
+fn next_best<M: MemoryModel>(
+    alloc: Global,
+    code: &Code,
+    log: &Log,
+    most: u32,
+    bounded: &Bounded,
+    assignment: &Assignment,
+) -> Result<Best, AllocError>
+    requires { IsSaid M.BUFFERED M.bound code.now log.now.log most bounded.now assignment.now }
+    ensures { IfOk result (IsBestUpTo M.ops M.MODEL code.now log.now.log most) }
+{
+    let world = bounded.layout.read_world(alloc, assignment)?;
+    best_of::<M>(
+        alloc,
+        code,
+        &bounded.paths,
+        &bounded.symbolic,
+        &bounded.terms,
+        world,
+    )
+}
