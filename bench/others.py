@@ -3,19 +3,22 @@
 
   others.py [--models sc,tso,pso] [--seconds N] [--spoil N] FOLDER..
 
-runs out/clap_debug over each NAME.tc with its NAME.log in the folders, under the log's model where none is given. Where cadical finds
-an answer, its own and minisat's are imported and the schedules replayed. Where it finds none, its proof goes through
-tools/refutation.py, and the refutation is checked. Each proof is also spoilt N times at random, a line cut or a literal turned, and
-given to each model under which the log has a schedule: there nothing may be accepted. Ends with 1 where something isn't so.
+runs out/clap_debug over each NAME.tc with its NAME.log in the folders, under the log's model where none is given, and both solvers, each
+for at most so many processor seconds, 120 where no number is given. Where cadical finds an answer, its own and minisat's are imported
+and the schedules replayed. Where it finds none, its proof goes through tools/refutation.py, and the refutation is checked. Each proof
+is also spoilt N times at random, a line cut or a literal turned, and given to each model under which the log has a schedule: there
+nothing may be accepted. Ends with 1 where something isn't so.
 """
 import argparse
 import glob
+import math
 import os
 import random
+import resource
+import signal
 import subprocess
 import sys
 import tempfile
-import time
 
 sys.dont_write_bytecode = True
 import machine
@@ -25,17 +28,24 @@ TOP = os.path.dirname(os.path.dirname(os.path.abspath(__file__)))
 
 
 class Ran:
-    """What some words print, their status and their seconds."""
+    """What some words print, their status and their processor seconds, which have a limit."""
 
     def __init__(self, limit, *words):
-        start = time.time()
-        try:
-            ran = subprocess.run(words, stdout=subprocess.PIPE, stderr=subprocess.DEVNULL, timeout=limit, check=False)
-            self.text, self.status = ran.stdout.decode(), ran.returncode
-        except subprocess.TimeoutExpired:
-            self.text, self.status = "too long", -1
-        self.seconds = time.time() - start
-        self.line = self.text.strip()
+        most = math.ceil(limit)
+        before = used()
+        ran = subprocess.run(words, stdout=subprocess.PIPE, stderr=subprocess.DEVNULL, check=False,
+                             preexec_fn=lambda: resource.setrlimit(resource.RLIMIT_CPU, (most, most)))
+        self.seconds = used() - before
+        self.text, self.status = ran.stdout.decode(), ran.returncode
+        self.is_over = ran.returncode == -signal.SIGKILL and self.seconds > most - 0.5
+        self.line = "too long" if self.is_over else self.text.strip()
+        self.told = f"{limit:.0f} and more" if self.is_over else f"{self.seconds:.2f}"
+
+
+def used():
+    """The processor seconds of all that has been run and has ended."""
+    of = resource.getrusage(resource.RUSAGE_CHILDREN)
+    return of.ru_utime + of.ru_stime
 
 
 class Log:
@@ -43,9 +53,12 @@ class Log:
 
     def __init__(self, folder, program, log, model, limit):
         self.program, self.log, self.model, self.limit = program, log, model, limit
-        self.list, self.answer, self.proof, self.kept = (f"{folder}/{model}.{it}" for it in ("cnf", "answer", "proof", "kept"))
+        self.list, self.answer, self.proof, self.found, self.kept = (
+            f"{folder}/{model}.{it}" for it in ("cnf", "answer", "proof", "found", "kept"))
         self.cnf = self.clap("cnf", self.list)
+        self.solved = self.clap("solve", self.kept)
         self.cadical = self.run("cadical", "-q", "--no-binary", self.list, self.proof)
+        self.minisat = self.run("minisat", "-verb=0", self.list, self.found)
 
     def run(self, *words):
         return Ran(self.limit, *words)
@@ -69,11 +82,9 @@ class Log:
 
 def of_minisat(log):
     """The answer of minisat, as solvers of today write it."""
-    model = log.proof
-    minisat = log.run("minisat", "-verb=0", log.list, model)
-    with open(model, encoding="ascii") as file:
+    with open(log.found, encoding="ascii") as file:
         lines = file.read().split("\n")
-    return minisat, f"s SATISFIABLE\nv {lines[1]}\n" if lines[0] == "SAT" else f"s {lines[0]}\n"
+    return f"s SATISFIABLE\nv {lines[1]}\n" if lines[0] == "SAT" else f"s {lines[0]}\n"
 
 
 def spoilt(chance, lines):
@@ -92,20 +103,21 @@ def spoilt(chance, lines):
 
 
 def try_possible(log):
-    """A row, and how much in it isn't as it must be."""
+    """What came of the answers, and how much in it isn't as it must be."""
     found, replayed = log.imported(log.cadical.text)
-    minisat, answer = of_minisat(log)
-    other, again = log.imported(answer)
-    wrong = sum(it.line != "reproduces" for it in (replayed, again)) + sum(it.status != 0 for it in (found, other))
-    return f"{log.cadical.seconds:.2f} | {minisat.seconds:.2f} | {found.line} | | | {replayed.line}", wrong
+    wrong = (replayed.line != "reproduces") + (found.status != 0)
+    if not log.minisat.is_over:
+        other, again = log.imported(of_minisat(log))
+        wrong += (again.line != "reproduces") + (other.status != 0)
+    return f"{found.line} | | | {replayed.line}", wrong
 
 
 def try_impossible(log):
     out = log.kept
     made = log.refute(log.proof, out)
     checked = log.check(out) if made.status == 0 else made
-    return (f"{log.cadical.seconds:.2f} | | {made.line} | {made.seconds:.2f} | {checked.seconds:.2f} | {checked.line}",
-            int(checked.line != "accepted, impossible"))
+    wrong = not (checked.line == "accepted, impossible" or made.is_over or checked.is_over)
+    return f"{made.line} | {made.told} | {checked.told} | {checked.line}", int(wrong)
 
 
 def try_spoilt(chance, count, possible, impossible):
@@ -145,17 +157,16 @@ def main():
         with tempfile.TemporaryDirectory() as folder:
             for model in (given.models or own).split(","):
                 it = Log(folder, program, log, model, given.seconds)
-                solved = it.clap("solve", it.kept)
                 name = os.path.relpath(program[:-3], os.path.commonpath([os.path.abspath(it) for it in given.folders]))
-                row, bad = f"{it.cadical.line or 'too long'} | | | | | ", 1
+                row, bad = f"{it.cadical.line} | | | ", int(not it.cadical.is_over)
                 if it.cadical.status in (10, 20):
                     is_possible = it.cadical.status == 10
                     logs[is_possible].append(it)
                     row, bad = try_possible(it) if is_possible else try_impossible(it)
-                    bad += solved.status != (0 if is_possible else 1) and solved.status in (0, 1)
+                    bad += it.solved.status != (0 if is_possible else 1) and it.solved.status in (0, 1)
                 wrong += bad
                 clauses = it.cnf.line.split()[-2] if it.cnf.status == 0 else it.cnf.line
-                print(f"| {name} | {model} | {clauses} | {solved.seconds:.2f} | {row} |", flush=True)
+                print(f"| {name} | {model} | {clauses} | {it.solved.told} | {it.cadical.told} | {it.minisat.told} | {row} |", flush=True)
             tried += len(logs[True]) * len(logs[False]) * (given.spoil + 1)
             wrong += try_spoilt(chance, given.spoil, logs[True], logs[False])
     print(f"\n{tried} proofs of other models tried at logs that have a schedule; {wrong} answers that may not be")

@@ -3,12 +3,16 @@
 
   solve.py [--models sc,tso,pso] [--budget N] [--seconds N] FOLDER..
 
-runs out/clap_debug over each NAME.tc with its NAME.log in the folders, under the log's model where none is given. Ends with 1
-where an answer isn't taken: a schedule that doesn't reproduce the log, or a refutation that isn't accepted.
+runs out/clap_debug over each NAME.tc with its NAME.log in the folders, under the log's model where none is given, each run for at
+most so many processor seconds, 120 where no number is given. Ends with 1 where an answer isn't taken: a schedule that doesn't
+reproduce the log, or a refutation that isn't accepted.
 """
 import argparse
 import glob
+import math
 import os
+import resource
+import signal
 import subprocess
 import sys
 import tempfile
@@ -27,24 +31,22 @@ def megabytes(pid):
 
 
 def run(seconds, *words):
-    """What it prints, its status, processor seconds and megabytes; or None where it takes longer than so many seconds."""
+    """What it prints, its status, processor seconds and megabytes; or None where it takes more than so many processor seconds."""
+    limit = math.ceil(seconds)
     with tempfile.TemporaryFile() as out:
-        child = subprocess.Popen([f"{TOP}/out/clap_debug", *words], stdout=out)
-        end, most = time.time() + seconds, 0
-        while True:
+        child = subprocess.Popen([f"{TOP}/out/clap_debug", *words], stdout=out,
+                                 preexec_fn=lambda: resource.setrlimit(resource.RLIMIT_CPU, (limit, limit)))
+        pid, most = 0, 0
+        while not pid:
             most = max(most, megabytes(child.pid))
+            time.sleep(0.003)
             pid, status, used = os.wait4(child.pid, os.WNOHANG)
-            if pid:
-                child.returncode = os.waitstatus_to_exitcode(status)
-                break
-            if time.time() > end:
-                child.kill()
-                os.wait4(child.pid, 0)
-                child.returncode = -9
-                return None
-            time.sleep(0.001)
+        child.returncode = os.waitstatus_to_exitcode(status)
+        took = used.ru_utime + used.ru_stime
+        if child.returncode == -signal.SIGKILL and took > limit - 0.5:
+            return None
         out.seek(0)
-        return out.read().decode().strip(), child.returncode, used.ru_utime + used.ru_stime, most
+        return out.read().decode().strip(), child.returncode, took, most
 
 
 def main():
