@@ -1,7 +1,8 @@
 #!/usr/bin/env python3
 """Solves logs of random small programs under each model, and says where the answer isn't that of machine.py's search.
 
-  agree.py FIRST COUNT [FOLDER]      of so many numbers from FIRST on; what differs is kept in FOLDER
+  agree.py FIRST COUNT [FOLDER]              of so many numbers from FIRST on; what differs is kept in FOLDER
+  agree.py FIRST COUNT [FOLDER] --least      the fewest context switches too, where there is a schedule
 
 Of every other number the program is of plain loads and stores, and the log says that they came out in some way. Of the rest the
 log is that of a run which failed or came to a deadlock, and half of the programs then get other constants. Each schedule is replayed, and each refutation checked.
@@ -148,8 +149,21 @@ def differs(folder, text, log, model):
     return (None if again == (0, "accepted, impossible") else f"{answer!r}, but its check {again}"), status
 
 
+def differs_in_switches(folder, text, log, model):
+    """What is wrong with the fewest context switches of a log that is possible, or None."""
+    p, l, o, r = (f"{folder}/{it}" for it in "plor")
+    count = machine.fewest(machine.Code(text), log, model)
+    status, answer = said("solve", p, l, o, "--model", model, "--least", r)
+    if status or not answer.endswith(f" moves, {count} switches"):
+        return f"{answer!r}, but the search says {count} switches"
+    again = [said("replay", p, l, o), said("check", p, l, r)] if count else [said("replay", p, l, o)]
+    wanted = [(0, "reproduces"), (0, f"accepted, more than {count - 1} switches")]
+    return None if again == wanted[:len(again)] else f"{answer!r}, but {again}"
+
+
 def main():
-    first, count, *kept = sys.argv[1:]
+    has_switches = "--least" in sys.argv
+    first, count, *kept = (it for it in sys.argv[1:] if it != "--least")
     tried = {0: 0, 1: 0}
     wrong = 0
     with tempfile.TemporaryDirectory() as folder:
@@ -167,6 +181,8 @@ def main():
             for model in machine.MODELS:
                 found, status = differs(folder, text, log, model)
                 tried[status] = tried.get(status, 0) + 1
+                if has_switches and status == 0 and not found:
+                    found = differs_in_switches(folder, text, log, model)
                 if found:
                     wrong += 1
                     print(f"{number} {model}: {found}", flush=True)

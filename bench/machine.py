@@ -10,10 +10,13 @@
   machine.py show PROGRAM LOG      a log's threads: steps, outcomes, events, the line at which each ends
   machine.py search PROGRAM LOG [--model M] [--schedule OUT]
                                    by a search over all states on the logged paths: `possible` with a schedule, or `impossible`
+  machine.py fewest PROGRAM LOG [--model M]
+                                   by such a search, the fewest context switches of moves that reproduce the log, or `impossible`
 
 What it asks of a program is docs/LANGUAGE.md's, without the faults: a text that is none ends it with an error.
 """
 import argparse
+import collections
 import hashlib
 import re
 import sys
@@ -688,6 +691,43 @@ def search(code, log, model):
     return None, len(seen)
 
 
+def fewest(code, log, model):
+    """The fewest context switches of moves that reproduce a log, or None: nearest states first, a switch being the distance."""
+
+    def is_last(state, name):
+        return name == log.failing and state.threads[name].steps + 1 == log.threads[name][0]
+
+    def is_seen(state, move):
+        """Whether an event takes place by the move, where a store that waits does so by its drain."""
+        word = state.instr(move[1])[0] if move[0] != "d" else "drain"
+        return word == "drain" or is_last(state, move[1]) or (word in EVENTS and not (word in ("store", "storeat") and model != "sc"))
+
+    def ways(state):
+        found = [it for it in state.moves() if it[0] == "d" or state.threads[it[1]].steps < log.threads[it[1]][0]]
+        unseen = [it for it in found if not is_seen(state, it)]
+        return unseen[:1] or found
+
+    seen, queue = set(), collections.deque([(0, State(code, model), None)])
+    while queue:
+        count, state, last = queue.popleft()
+        key = (state.key(), last)
+        if key in seen:
+            continue
+        seen.add(key)
+        if is_reproduced(log, state):
+            return count
+        for move in ways(state):
+            now = move[1] if is_seen(state, move) else last
+            later = state.copy()
+            later.make(move)
+            if all(is_on_path(log, later, n) for n in (move[1], *(later.threads.keys() - state.threads.keys()))):
+                if last in (None, now):
+                    queue.appendleft((count, later, now))
+                else:
+                    queue.append((count + 1, later, now))
+    return None
+
+
 def shown(code, log):
     """A line for each thread of a log, going along its path."""
     functions, lines, total = {(): len(code.functions) - 1}, [], 0
@@ -717,7 +757,7 @@ def shown(code, log):
 
 def main():
     parser = argparse.ArgumentParser(usage=__doc__)
-    parser.add_argument("command", choices=["record", "seeds", "log", "show", "search"])
+    parser.add_argument("command", choices=["record", "seeds", "log", "show", "search", "fewest"])
     parser.add_argument("program")
     parser.add_argument("words", nargs="*")
     parser.add_argument("--model", choices=MODELS)
@@ -760,6 +800,9 @@ def main():
             log = Log.read(file.read())
         if given.command == "show":
             print(shown(code, log))
+        elif given.command == "fewest":
+            count = fewest(code, log, given.model or log.model)
+            print("impossible" if count is None else f"{count} switches")
         else:
             moves, states = search(code, log, given.model or log.model)
             print(f"possible, {len(moves)} moves" if moves is not None else "impossible", f"({states} states)")

@@ -37,7 +37,7 @@ class Ran:
                              preexec_fn=lambda: resource.setrlimit(resource.RLIMIT_CPU, (most, most)))
         self.seconds = used() - before
         self.text, self.status = ran.stdout.decode(), ran.returncode
-        self.is_over = ran.returncode == -signal.SIGKILL and self.seconds > most - 0.5
+        self.is_over = ran.returncode == -signal.SIGKILL and self.seconds > 0.9 * most
         self.line = "too long" if self.is_over else self.text.strip()
         self.told = f"{limit:.0f} and more" if self.is_over else f"{self.seconds:.2f}"
 

@@ -8,11 +8,16 @@ use Rattle.cnf_core.specs.Clauses.{Formula}
 use Rattle.dimacs_text.specs.Texts.{cnf_text}
 use Rattle.clap_solve.specs.declared.answer.Answer.{Answer as Found}
 use Rattle.clap_solve.specs.declared.answer.Answer.TheVariants as found
-use Rattle.clap_debug_words.specs.Calls.{Called, Lists, Replays, Records, Migrates, Solves, Checks, Workloads, Exports, Imports, call_of}
-use Rattle.clap_debug_cli.specs.Answers.{status_of, found_status}
+use Rattle.clap_debug_words.specs.Calls.{Called, Lists, Replays, Records, Migrates, Solves, Minimizes, Checks, Workloads, Exports, Imports, Explains, call_of}
+use Rattle.tc_base.specs.declared.model.Model.{Model}
+use Rattle.least_switch.specs.declared.answer.Least.{Least as LeastFound}
+use Rattle.least_switch.specs.declared.answer.Least.TheVariants as least
+use Rattle.clap_debug_cli.specs.Answers.{status_of, found_status, least_status}
 use Rattle.clap_debug_cli.specs.declared.answer.Answer.{Answer}
 use Rattle.clap_debug_cli.specs.declared.answer.Answer.TheVariants.{Usage, ReadFault, TooLong, ProgramRefused, LogRefused, Recorded, RunEnded, LogOver}
-use Rattle.clap_debug_cli.specs.declared.answer.Answer.TheVariants.{Migrated, Solved, Exported, Imported, ClauseFalse, AnswerRefused, WriteFault, NoMemory}
+use Rattle.clap_debug_cli.specs.declared.answer.Answer.TheVariants.{Migrated, Solved, Minimized, Exported, Imported, ClauseFalse, AnswerRefused, WriteFault, NoMemory}
+use Rattle.clap_debug_cli.specs.Fewest.{LostSecond, first_text, put_both}
+use Rattle.clap_debug_cli.specs.declared.answer.Minimum.{Minimum}
 use Rattle.clap_debug_cli.specs.declared.answer.Solution.{Solution}
 use Rattle.clap_debug_cli.specs.Causes.{IsCause, IsCauseOf, IsResult, IsWorkOf, IsAnswerTo, IsOutput, KeepsResult}
 use Rattle.clap_debug_cli.specs.Call.{
@@ -28,6 +33,10 @@ use Rattle.clap_debug_cli.specs.Call.{
   Holds,
   Loses,
   LeavesResult,
+  HoldsBoth,
+  HoldsFirst,
+  LosesOne,
+  LeavesMinimum,
   Leaves,
   CallAnswers,
   ToldAnswers,
@@ -38,8 +47,9 @@ use Rattle.tc_record.specs.declared.end.Which.{Which}
 use Rattle.clap_debug_cli.specs.declared.answer.Excess.{Excess}
 use Rattle.clap_debug_cli.specs.declared.input.Input.{Input}
 use Rattle.clap_debug_cli.specs.declared.answer.Ending.TheVariants.{Over}
-use Rattle.clap_debug_cli.proofs.Fetches.{failed_still, gave_all, given_still, passed_still, passes_told}
-use Rattle.clap_debug_cli.proofs.OneAnswer.{one_answer}
+use Rattle.clap_debug_cli.proofs.Fetches.{CountsRead, failed_still, gave_all, given_still, passed_still, passes_told}
+use Rattle.clap_debug_cli.proofs.Keeps.{IsSingle, both_held, kept_first_still, kept_minimum_still, lost_one, single_fails, single_first, single_keeps}
+use Rattle.clap_debug_cli.proofs.OneAnswer.{one_status}
 use Rattle.clap_debug_cli.proofs.Solutions.{solution_of}
 use Rattle.clap_debug_cli.proofs.Statuses.{is_usage, is_limit, is_read_fault, is_write_fault, is_no_memory, no_ending}
 
@@ -60,10 +70,12 @@ no_work (Replays _ _ _) (program ∷ log ∷ schedule ∷ []) h = h
 no_work (Records _ _ model seed steps) (program ∷ []) h = h
 no_work (Migrates _ _ _) (program ∷ log ∷ []) h = h.2.2.1
 no_work (Solves _ _ _ _ _) (program ∷ log ∷ []) h = h.2.2.1.1
+no_work (Minimizes _ _ _ _ _ _) (program ∷ log ∷ []) h = h.2.2.1.1
 no_work (Checks _ _ _) (program ∷ log ∷ refutation ∷ []) h = h.2.2.3.1.1
 no_work (Workloads _ _) [] h = h.2.1
 no_work (Exports _ _ _ _) (program ∷ log ∷ []) h = h.2.2.1.1
 no_work (Imports _ _ _ _ _) (program ∷ log ∷ answer ∷ []) h = h.2.2.2.1.1
+no_work (Explains _ _ _) (program ∷ log ∷ refutation ∷ []) h = h.2.2.3.1.1
 no_work _ _ h = h
 
 -- the cause of an answer to a call is its cause for the words
@@ -107,7 +119,7 @@ put_at a status j k says eight nine = from (said_status a status j k says)
 
 -- the shelf after the causes of answers
 
-module _ (call : Called) (name : List ℕ) (own : (n : List ℕ) → IsOutput call n → n ≡ name) (old new : ShelfTells) where
+module _ (call : Called) (single : IsSingle call) (name : List ℕ) (own : (n : List ℕ) → IsOutput call n → n ≡ name) (old new : ShelfTells) where
   -- a result that was kept stands there
   holds_result : (t : Texts) (s : ShelfTells) → GaveAll (inputs_of call) old s t → KeepsResult call t s new → Holds call name old new
   holds_result t s gave k =
@@ -117,22 +129,29 @@ module _ (call : Called) (name : List ℕ) (own : (n : List ℕ) → IsOutput ca
 
   -- and after a keep that failed maybe a part of it
   loses_result : (lost : List ℕ) → IsCauseOf call old new (WriteFault lost) → Loses call name old new
-  loses_result lost c = (c.0, c.1, c.2, c.4.1, c.4.2, subst (λ n. KeptPart c.1 new n c.4.1) (own lost c.4.0) c.4.3)
+  loses_result lost c =
+      let k = single_fails call single c.0 c.1 new lost c.4 in
+      (c.0, c.1, c.2, k.1, k.2, subst (λ n. KeptPart c.1 new n k.1) (own lost k.0) k.3)
 
 -- where the shelf counted a fault, and its last is of a keep, the answer is that of a keep that failed
 wrote_of : (call : Called) (old new : ShelfTells) (b : Answer) → IsCauseOf call old new b → new.faults ≢ old.faults → (name : List ℕ)
     → new.last_fault ≡ Some (Writing name) → b ≡ WriteFault name
-wrote_of call old new (ReadFault n) c rose name last =
-    let e : Some (Reading n) ≡ Some (Writing name) = sym (failed_still (inputs_of call) old new n c).2 ∙ last in
-    cc
+wrote_of call old new (ReadFault n) c rose name last = absurd (no_read (failed_still (inputs_of call) old new n c).1)
+  where
+    no_read : CountsRead (inputs_of call) old new n → ⊥
+    no_read (inl r) = let e : Some (Reading n) ≡ Some (Writing name) = sym r.1 ∙ last in cc
+    no_read (inr r) = rose r.0
 wrote_of call old new (TooLong i) c rose name last = absurd (rose (passed_still (inputs_of call) old new i c).1)
-wrote_of call old new NoMemory c rose name last = absurd (rose c.1)
+wrote_of call old new NoMemory (inl c) rose name last = absurd (rose c.1)
+wrote_of call old new NoMemory (inr c) rose name last = absurd (rose (kept_first_still call old new c))
 wrote_of call old new (WriteFault n) c rose name last =
-    let e : Some (Writing n) ≡ Some (Writing name) = sym (ap (λ x. x.last_fault) c.4.3.2) ∙ last in
+    let e : Some (Writing n) ≡ Some (Writing name) = sym (lost_one call c.0 c.1 new n c.4).1 ∙ last in
     cc
 wrote_of call old new (Recorded o) c rose name last =
     absurd (rose (ap (λ x. x.faults) c.4.4 ∙ (given_still (inputs_of call) old c.1 c.0 c.2).1))
 wrote_of call old new (Solved x) c rose name last = absurd (rose (ap (λ x. x.faults) c.4.2 ∙ (given_still (inputs_of call) old c.1 c.0 c.2).1))
+wrote_of call old new (Minimized x) c rose name last =
+    absurd (rose (kept_minimum_still call x c.1 new c.4 ∙ (given_still (inputs_of call) old c.1 c.0 c.2).1))
 wrote_of call old new (Exported f) c rose name last = absurd (rose (ap (λ x. x.faults) c.4.2 ∙ (given_still (inputs_of call) old c.1 c.0 c.2).1))
 wrote_of call old new (Imported s) c rose name last = absurd (rose (ap (λ x. x.faults) c.4.2 ∙ (given_still (inputs_of call) old c.1 c.0 c.2).1))
 wrote_of call old new Migrated c rose name last = absurd (rose (ap (λ x. x.faults) c.4.4 ∙ (given_still (inputs_of call) old c.1 c.0 c.2).1))
@@ -179,6 +198,11 @@ keeps_status (Migrates _ _ _) (program ∷ log ∷ []) (Recorded o) k w = absurd
 keeps_status (Migrates _ _ _) (program ∷ log ∷ []) (Solved x) k w = absurd w.2.2.1
 keeps_status (Solves _ _ _ _ _) (program ∷ log ∷ []) (Recorded o) k w = absurd w.2.2.1.1
 keeps_status (Solves _ _ _ _ _) (program ∷ log ∷ []) Migrated k w = absurd w.2.2.1.1
+keeps_status (Minimizes _ _ _ _ _ _) (program ∷ log ∷ []) (Recorded o) k w = absurd w.2.2.1.1
+keeps_status (Minimizes _ _ _ _ _ _) (program ∷ log ∷ []) Migrated k w = absurd w.2.2.1.1
+keeps_status (Minimizes _ _ _ _ _ _) (program ∷ log ∷ []) (Solved x) k w = absurd w.2.2.1.1
+keeps_status (Minimizes _ _ _ _ _ _) (program ∷ log ∷ []) (Exported f) k w = absurd w.2.2.1.1
+keeps_status (Minimizes _ _ _ _ _ _) (program ∷ log ∷ []) (Imported s) k w = absurd w.2.2.1.1
 keeps_status (Checks _ _ _) (program ∷ log ∷ refutation ∷ []) (Recorded o) k w = absurd w.2.2.3.1.1
 keeps_status (Checks _ _ _) (program ∷ log ∷ refutation ∷ []) Migrated k w = absurd w.2.2.3.1.1
 keeps_status (Checks _ _ _) (program ∷ log ∷ refutation ∷ []) (Solved x) k w = absurd w.2.2.3.1.1
@@ -209,6 +233,11 @@ keeps_status (Exports _ _ _ _) (program ∷ log ∷ []) (Solved x) k w = absurd 
 keeps_status (Imports _ _ _ _ _) (program ∷ log ∷ answer ∷ []) (Recorded o) k w = absurd w.2.2.2.1.1
 keeps_status (Imports _ _ _ _ _) (program ∷ log ∷ answer ∷ []) Migrated k w = absurd w.2.2.2.1.1
 keeps_status (Imports _ _ _ _ _) (program ∷ log ∷ answer ∷ []) (Solved x) k w = absurd w.2.2.2.1.1
+keeps_status (Explains _ _ _) (program ∷ log ∷ refutation ∷ []) (Recorded o) k w = absurd w.2.2.3.1.1
+keeps_status (Explains _ _ _) (program ∷ log ∷ refutation ∷ []) Migrated k w = absurd w.2.2.3.1.1
+keeps_status (Explains _ _ _) (program ∷ log ∷ refutation ∷ []) (Solved x) k w = absurd w.2.2.3.1.1
+keeps_status (Explains _ _ _) (program ∷ log ∷ refutation ∷ []) (Exported f) k w = absurd w.2.2.3.1.1
+keeps_status (Explains _ _ _) (program ∷ log ∷ refutation ∷ []) (Imported s) k w = absurd w.2.2.3.1.1
 keeps_status _ _ (Recorded o) k w = absurd w
 keeps_status _ _ Migrated k w = absurd w
 keeps_status _ _ (Solved x) k w = absurd w
@@ -223,10 +252,12 @@ found_result (Lists _) (program ∷ []) x w = absurd w
 found_result (Replays _ _ _) (program ∷ log ∷ schedule ∷ []) x w = absurd w
 found_result (Records _ _ _ _ _) (program ∷ []) x w = absurd w
 found_result (Migrates _ _ _) (program ∷ log ∷ []) x w = absurd w.2.2.1
+found_result (Minimizes _ _ _ _ _ _) (program ∷ log ∷ []) x w = absurd w.2.2.1.1
 found_result (Checks _ _ _) (program ∷ log ∷ refutation ∷ []) x w = absurd w.2.2.3.1.1
 found_result (Workloads _ _) [] x w = absurd w.2.1
 found_result (Exports _ _ _ _) (program ∷ log ∷ []) x w = absurd w.2.2.1.1
 found_result (Imports _ _ _ _ _) (program ∷ log ∷ answer ∷ []) x w = absurd w.2.2.2.1.1
+found_result (Explains _ _ _) (program ∷ log ∷ refutation ∷ []) x w = absurd w.2.2.3.1.1
 found_result _ _ x w = absurd w
 
 -- so are the clauses of the command that writes them
@@ -237,9 +268,11 @@ exported_result (Replays _ _ _) (program ∷ log ∷ schedule ∷ []) f w = absu
 exported_result (Records _ _ _ _ _) (program ∷ []) f w = absurd w
 exported_result (Migrates _ _ _) (program ∷ log ∷ []) f w = absurd w.2.2.1
 exported_result (Solves _ _ _ _ _) (program ∷ log ∷ []) f w = absurd w.2.2.1.1
+exported_result (Minimizes _ _ _ _ _ _) (program ∷ log ∷ []) f w = absurd w.2.2.1.1
 exported_result (Checks _ _ _) (program ∷ log ∷ refutation ∷ []) f w = absurd w.2.2.3.1.1
 exported_result (Workloads _ _) [] f w = absurd w.2.1
 exported_result (Imports _ _ _ _ _) (program ∷ log ∷ answer ∷ []) f w = absurd w.2.2.2.1.1
+exported_result (Explains _ _ _) (program ∷ log ∷ refutation ∷ []) f w = absurd w.2.2.3.1.1
 exported_result _ _ f w = absurd w
 
 -- and the schedule of an answer that is taken
@@ -250,14 +283,17 @@ imported_result (Replays _ _ _) (program ∷ log ∷ schedule ∷ []) s w = absu
 imported_result (Records _ _ _ _ _) (program ∷ []) s w = absurd w
 imported_result (Migrates _ _ _) (program ∷ log ∷ []) s w = absurd w.2.2.1
 imported_result (Solves _ _ _ _ _) (program ∷ log ∷ []) s w = absurd w.2.2.1.1
+imported_result (Minimizes _ _ _ _ _ _) (program ∷ log ∷ []) s w = absurd w.2.2.1.1
 imported_result (Checks _ _ _) (program ∷ log ∷ refutation ∷ []) s w = absurd w.2.2.3.1.1
 imported_result (Workloads _ _) [] s w = absurd w.2.1
 imported_result (Exports _ _ _ _) (program ∷ log ∷ []) s w = absurd w.2.2.1.1
+imported_result (Explains _ _ _) (program ∷ log ∷ refutation ∷ []) s w = absurd w.2.2.3.1.1
 imported_result _ _ s w = absurd w
 
 -- the statuses of results, and others
 result_status : (call : Called) (n : ℕ) → IsOfResult call n → (n ≡ 0) ⊎ (n ≡ 1) ⊎ (n ≡ 10)
 result_status (Solves _ _ _ _ _) n h = h
+result_status (Minimizes _ _ _ _ _ _) n h = h
 result_status _ n h = inl h
 
 not_result : (call : Called) (n m : ℕ) → n ≡ m → (m ≡ 0 → ⊥) → (m ≡ 1 → ⊥) → (m ≡ 10 → ⊥) → IsOfResult call n → ⊥
@@ -304,8 +340,10 @@ work_keeps (Imports _ _ _ _ _) name o (program ∷ log ∷ answer ∷ []) (LogOv
 work_keeps (Imports _ _ _ _ _) name o (program ∷ log ∷ answer ∷ []) _ w h = absurd w.2.2.2.1.1
 work_keeps (Lists _) name o t b w h = absurd o
 work_keeps (Replays _ _ _) name o t b w h = absurd o
+work_keeps (Minimizes _ _ _ _ _ _) name o t b w h = absurd o
 work_keeps (Checks _ _ _) name o t b w h = absurd o
 work_keeps (Workloads _ _) name o t b w h = absurd o
+work_keeps (Explains _ _ _) name o t b w h = absurd o
 work_keeps _ name o t b w h = absurd w
 
 module _ (words : List (List ℕ)) (old new : ShelfTells) (a : Answer) (status : ℕ) (j k : SinkTells) (cause : IsCause words old new a)
@@ -419,7 +457,7 @@ module _ (words : List (List ℕ)) (old new : ShelfTells) (a : Answer) (status :
   abbrev IsKept : Answer → Type 0
   IsKept b = Keeps b ⊎ ((name : List ℕ) × (b ≡ WriteFault name)) ⊎ (new.held ≡ old.held)
 
-  module _ (call : Called) (taken : call_of words ≡ Some call) where
+  module _ (call : Called) (single : IsSingle call) (taken : call_of words ≡ Some call) where
     -- the cause of an answer that only a call has
     called_cause : (b : Answer) → IsSomeAnd (call_of words) (λ c. IsCauseOf c old new b) → IsCauseOf call old new b
     called_cause b c = called_now (λ c. IsCauseOf c old new b) (call_of words) call taken c
@@ -433,7 +471,12 @@ module _ (words : List (List ℕ)) (old new : ShelfTells) (a : Answer) (status :
     what_is_kept (WriteFault name) c = inr (inl (name, refl))
     what_is_kept Usage c = inr (inr (ap (λ x. x.held) c.1))
     what_is_kept NoMemory (inl same) = inr (inr (ap (λ x. x.held) same))
-    what_is_kept NoMemory (inr c) = inr (inr (called_cause NoMemory c).0)
+    what_is_kept NoMemory (inr c) =
+        elim (called_cause NoMemory c) [
+          | inl still ↦ inr (inr still.0)
+          | inr first ↦ absurd (single_first call single old new first)
+        ]
+    what_is_kept (Minimized x) c = let d = called_cause (Minimized x) c in absurd (single_keeps call single x d.1 new d.4)
     what_is_kept (ReadFault name) c = inr (inr (failed_still (inputs_of call) old new name (called_cause (ReadFault name) c)).0)
     what_is_kept (TooLong i) c = inr (inr (passed_still (inputs_of call) old new i (called_cause (TooLong i) c)).0)
     what_is_kept b c =
@@ -470,23 +513,23 @@ module _ (words : List (List ℕ)) (old new : ShelfTells) (a : Answer) (status :
     lost_cause : (lost : List ℕ) → a ≡ WriteFault lost → IsCauseOf call old new (WriteFault lost)
     lost_cause lost e = called_cause (WriteFault lost) (subst (IsCause words old new) e cause)
 
-    -- `list`, `replay`, `check` and `workload` keep none
+    -- `list`, `replay`, `check`, `workload` and `why` keep none
     no_result : ((name : List ℕ) → IsOutput call name → ⊥) → new.held ≡ old.held
     no_result never =
         elim is_kept [
           | inl k ↦ (let r = kept_result a k cause in absurd (never r.3.0 r.3.2))
           | inr more ↦ elim more [
-            | inl lost ↦ (let c = lost_cause lost.0 lost.1 in absurd (never lost.0 c.4.0))
+            | inl lost ↦ (let c = lost_cause lost.0 lost.1 in absurd (never lost.0 (single_fails call single c.0 c.1 new lost.0 c.4).0))
             | inr same ↦ same
           ]
         ]
 
     module _ (name : List ℕ) (output : IsOutput call name) (own : (n : List ℕ) → IsOutput call n → n ≡ name) where
       holds : Keeps a → Holds call name old new
-      holds k = let r = kept_result a k cause in holds_result call name own old new r.0 r.1 r.2 r.3
+      holds k = let r = kept_result a k cause in holds_result call single name own old new r.0 r.1 r.2 r.3
 
       loses : (lost : List ℕ) → a ≡ WriteFault lost → Loses call name old new
-      loses lost e = loses_result call name own old new lost (lost_cause lost e)
+      loses lost e = loses_result call single name own old new lost (lost_cause lost e)
 
       -- with a status that isn't that of a result, of a keep that failed or of a fault
       nothing : (IsOfResult call status → ⊥) → status ≢ 8 → status ≢ 9 → new.held ≡ old.held
@@ -544,16 +587,157 @@ module _ (words : List (List ℕ)) (old new : ShelfTells) (a : Answer) (status :
       leaves_result : LeavesResult call name status old new
       leaves_result = record { kept = kept_at; none = nothing; whole = whole_of; part = λ h. part_of }
 
+  -- the cause of an answer to words is that to the call that they ask for
+  asked_cause : (call : Called) → call_of words ≡ Some call → (b : Answer) → IsCause words old new b → IsCauseOf call old new b
+  asked_cause call taken Usage c = absurd (let e : None ≡ Some call = sym c.0 ∙ taken in cc)
+  asked_cause call taken NoMemory (inl same) = inl (ap (λ x. x.held) same, ap (λ x. x.faults) same)
+  asked_cause call taken NoMemory (inr c) = called_now (λ d. IsCauseOf d old new NoMemory) (call_of words) call taken c
+  asked_cause call taken b c = called_now (λ d. IsCauseOf d old new b) (call_of words) call taken c
+
+  -- what `solve --least` leaves
+  module _ (p l o : List ℕ) (model : Option Model) (budget : ℕ) (r : List ℕ) where
+    abbrev Least : Called
+    Least = Minimizes p l o model budget r
+
+    -- nothing was kept; or there was no memory for the second keep; or both were kept; or a keep failed
+    abbrev IsLeft : Answer → Type 0
+    IsLeft b = (new.held ≡ old.held) ⊎ ((b ≡ NoMemory) × HoldsFirst Least o r old new)
+        ⊎ ((x : Minimum) × (b ≡ Minimized x) × HoldsBoth Least o r old new) ⊎ ((lost : List ℕ) × (b ≡ WriteFault lost) × LosesOne Least o r old new)
+
+    still_held : (s : ShelfTells) (t : Texts) → GaveAll (inputs_of Least) old s t → s.held ≡ old.held
+    still_held s t gave = (given_still (inputs_of Least) old s t gave).0
+
+    holds_both : (x : Minimum) → IsCauseOf Least old new (Minimized x) → HoldsBoth Least o r old new
+    holds_both x c = (c.0, c.1, c.2, x, c.3.1, both_held o r x c.1 new c.4 ∙ ap (put_both o r x) (still_held c.1 c.0 c.2))
+
+    forget : (lost : List ℕ) (x : Minimum) (s : ShelfTells)
+        → ((lost ≡ o) × KeptPart s new o (first_text x)) ⊎ ((lost ≡ r) × LostSecond o r x s new) → KeptPart s new o (first_text x) ⊎ LostSecond o r x s new
+    forget lost x s (inl k) = inl k.1
+    forget lost x s (inr k) = inr k.1
+
+    left_by : (b : Answer) → IsCauseOf Least old new b → IsLeft b
+    left_by (Minimized x) c = inr (inr (inl (x, refl, holds_both x c)))
+    left_by (WriteFault lost) c =
+        elim c.4 [
+          | inl k ↦ absurd k.0
+          | inr k ↦ inr (inr (inr (lost, refl, (c.0, c.1, c.2, k.0, k.1, forget lost k.0 c.1 k.2))))
+        ]
+    left_by NoMemory (inl still) = inl still.0
+    left_by NoMemory (inr k) =
+        let held = ap (λ (x : ShelfTells). x.held) k.5.2 ∙ ap (λ (x : ShelfTells). x.held) k.5.1
+        ∙ ap (put_under o (first_text k.3)) (still_held k.1 k.0 k.2) in
+        inr (inl (refl, (k.0, k.1, k.2, k.3, k.4, held)))
+    left_by (ReadFault name) c = inl (failed_still (inputs_of Least) old new name c).0
+    left_by (TooLong i) c = inl (passed_still (inputs_of Least) old new i c).0
+    left_by (Recorded _) c = absurd c.4.2
+    left_by Migrated c = absurd c.4.2
+    left_by (Solved _) c = absurd c.4.1
+    left_by (Exported _) c = absurd c.4.1
+    left_by (Imported _) c = absurd c.4.1
+    left_by b c = inl (ap (λ x. x.held) c.4 ∙ still_held c.1 c.0 c.2)
+
+    no_result_at : (n m : ℕ) → n ≡ m → (m ≡ 0 → ⊥) → (m ≡ 1 → ⊥) → (m ≡ 10 → ⊥) → IsOfResult Least n → ⊥
+    no_result_at n m e zero one ten h = not_result Least n m e zero one ten h
+
+    -- with a status of a result something was found
+    work_minimized : (t : Texts) (b : Answer) → IsWorkOf Least t b → IsOfResult Least (status_of b) → (x : Minimum) × (b ≡ Minimized x)
+    work_minimized (program ∷ log ∷ []) (Minimized x) w h = (x, refl)
+    work_minimized (program ∷ log ∷ []) (ProgramRefused f) w h =
+        absurd (no_result_at 3 3 refl (λ x. omega (arith, x)) (λ x. omega (arith, x)) (λ x. omega (arith, x)) h)
+    work_minimized (program ∷ log ∷ []) (LogRefused f) w h =
+        absurd (no_result_at 4 4 refl (λ x. omega (arith, x)) (λ x. omega (arith, x)) (λ x. omega (arith, x)) h)
+    work_minimized (program ∷ log ∷ []) (LogOver e) w h =
+        absurd (no_result_at 6 6 refl (λ x. omega (arith, x)) (λ x. omega (arith, x)) (λ x. omega (arith, x)) h)
+    work_minimized (program ∷ log ∷ []) _ w h = absurd w.2.2.1.1
+    work_minimized _ b w h = absurd w
+
+    found_by : (b : Answer) → IsCauseOf Least old new b → IsOfResult Least (status_of b) → (x : Minimum) × (b ≡ Minimized x)
+    found_by (ReadFault _) c h = absurd (no_result_at 7 7 refl (λ x. omega (arith, x)) (λ x. omega (arith, x)) (λ x. omega (arith, x)) h)
+    found_by (TooLong _) c h = absurd (no_result_at 6 6 refl (λ x. omega (arith, x)) (λ x. omega (arith, x)) (λ x. omega (arith, x)) h)
+    found_by (WriteFault _) c h = absurd (no_result_at 8 8 refl (λ x. omega (arith, x)) (λ x. omega (arith, x)) (λ x. omega (arith, x)) h)
+    found_by NoMemory c h = absurd (no_result_at 9 9 refl (λ x. omega (arith, x)) (λ x. omega (arith, x)) (λ x. omega (arith, x)) h)
+    found_by b c h = work_minimized c.0 b c.3.1 h
+
+    -- and what was found has such a status
+    result_of : (x : LeastFound) → IsOfResult Least (least_status x)
+    result_of (least.Found _ _ _) = inl refl
+    result_of (least.Impossible _) = inr (inl refl)
+    result_of (least.Spent _) = inr (inr refl)
+    result_of (least.SpentAt _ _ _) = inr (inr refl)
+
+    module _ (asked : IsCauseOf Least old new a) where
+      left : IsLeft a
+      left = left_by a asked
+
+      both_at : IsOfResult Least status → HoldsBoth Least o r old new
+      both_at h =
+          let put = put_at a status j k says
+          (λ e. no_result_at status 8 e (λ x. omega (arith, x)) (λ x. omega (arith, x)) (λ x. omega (arith, x)) h)
+          (λ e. no_result_at status 9 e (λ x. omega (arith, x)) (λ x. omega (arith, x)) (λ x. omega (arith, x)) h) in
+          let f = found_by a asked (subst (IsOfResult Least) put.0 h) in
+          holds_both f.0 (subst (IsCauseOf Least old new) f.1 asked)
+
+      none_at : (IsOfResult Least status → ⊥) → status ≢ 8 → status ≢ 9 → new.held ≡ old.held
+      none_at not_one eight nine =
+          let p = put_at a status j k says eight nine in
+          elim left [
+            | inl same ↦ same
+            | inr more ↦ elim more [
+              | inl first ↦ absurd (nine (p.0 ∙ ap status_of first.0))
+              | inr most ↦ elim most [
+                | inl both ↦ absurd (not_one (subst (IsOfResult Least) (sym (p.0 ∙ ap status_of both.1)) (result_of both.0.least)))
+                | inr lost ↦ absurd (eight (p.0 ∙ ap status_of lost.1))
+              ]
+            ]
+          ]
+
+      part_at : (new.held ≡ old.held) ⊎ HoldsFirst Least o r old new ⊎ HoldsBoth Least o r old new ⊎ LosesOne Least o r old new
+      part_at =
+          elim left [
+            | inl same ↦ inl same
+            | inr more ↦ elim more [
+              | inl first ↦ inr (inl first.1)
+              | inr most ↦ elim most [
+                | inl both ↦ inr (inr (inl both.2))
+                | inr lost ↦ inr (inr (inr lost.2))
+              ]
+            ]
+          ]
+
+      not_lost_at : status ≡ 9 → (lost : List ℕ) → Says a status j k → a ≡ WriteFault lost → ⊥
+      not_lost_at h lost (inl done) e = omega (arith, h, done.0, ap status_of e)
+      not_lost_at h lost (inr (inl failed)) e = omega (arith, h, failed.0)
+      not_lost_at h lost (inr (inr none)) e = omega (arith, h, (subst (λ b. SaysNoMore b status j k) e none).0)
+
+      whole_at : status ≡ 9 → (new.held ≡ old.held) ⊎ HoldsFirst Least o r old new ⊎ HoldsBoth Least o r old new
+      whole_at h =
+          elim left [
+            | inl same ↦ inl same
+            | inr more ↦ elim more [
+              | inl first ↦ inr (inl first.1)
+              | inr most ↦ elim most [
+                | inl both ↦ inr (inr both.2)
+                | inr lost ↦ absurd (not_lost_at h lost.0 says lost.1)
+              ]
+            ]
+          ]
+
+      minimum_leaves : LeavesMinimum Least o r old new status
+      minimum_leaves = record { kept = both_at; none = none_at; whole = whole_at; part = λ h. part_at }
+
   leaves_of : (call : Called) → call_of words ≡ Some call → Leaves call status old new
-  leaves_of (Lists p) taken = no_result (Lists p) taken (λ name h. h)
-  leaves_of (Replays p l s) taken = no_result (Replays p l s) taken (λ name h. h)
-  leaves_of (Records p l model seed steps) taken = leaves_result (Records p l model seed steps) taken l refl (λ n e. e)
-  leaves_of (Migrates p l o) taken = leaves_result (Migrates p l o) taken o refl (λ n e. e)
-  leaves_of (Solves p l o model budget) taken = leaves_result (Solves p l o model budget) taken o refl (λ n e. e)
-  leaves_of (Checks p l r) taken = no_result (Checks p l r) taken (λ name h. h)
-  leaves_of (Workloads n s) taken = no_result (Workloads n s) taken (λ name h. h)
-  leaves_of (Exports p l o model) taken = leaves_result (Exports p l o model) taken o refl (λ n e. e)
-  leaves_of (Imports p l r o model) taken = leaves_result (Imports p l r o model) taken o refl (λ n e. e)
+  leaves_of (Lists p) taken = no_result (Lists p) tt taken (λ name h. h)
+  leaves_of (Replays p l s) taken = no_result (Replays p l s) tt taken (λ name h. h)
+  leaves_of (Records p l model seed steps) taken = leaves_result (Records p l model seed steps) tt taken l refl (λ n e. e)
+  leaves_of (Migrates p l o) taken = leaves_result (Migrates p l o) tt taken o refl (λ n e. e)
+  leaves_of (Solves p l o model budget) taken = leaves_result (Solves p l o model budget) tt taken o refl (λ n e. e)
+  leaves_of (Minimizes p l o model budget r) taken =
+      minimum_leaves p l o model budget r (asked_cause (Minimizes p l o model budget r) taken a cause)
+  leaves_of (Checks p l r) taken = no_result (Checks p l r) tt taken (λ name h. h)
+  leaves_of (Workloads n s) taken = no_result (Workloads n s) tt taken (λ name h. h)
+  leaves_of (Exports p l o model) taken = leaves_result (Exports p l o model) tt taken o refl (λ n e. e)
+  leaves_of (Imports p l r o model) taken = leaves_result (Imports p l r o model) tt taken o refl (λ n e. e)
+  leaves_of (Explains p l r) taken = no_result (Explains p l r) tt taken (λ name h. h)
 
   pub call_answers : CallAnswers words old new status j k
   call_answers = record {
@@ -640,7 +824,7 @@ module _ (call : Called) (t : Texts) (a : Answer) (status : ℕ) (j k : SinkTell
   status_at wanted own = known_status wanted own (said_status a status j k says) known
 
   pub exactly_at : (b : Answer) → IsDecided b → IsAnswerTo call t b → IsStatus status (status_of b)
-  exactly_at b decided h = status_at (status_of b) (λ answer. ap status_of (sym (one_answer call t b a decided h answer)))
+  exactly_at b decided h = status_at (status_of b) (λ answer. sym (one_status call t b a decided h answer))
 
   known_alone : (P : ℕ → Type 0) → (IsAnswerTo call t a → P (status_of a)) → P 7 → P 8 → P 9
       → ((status ≡ status_of a) × Puts j k a) ⊎ (status ≡ 8) ⊎ (status ≡ 9) → IsKnown call t a → P status

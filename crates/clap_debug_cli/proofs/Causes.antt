@@ -1,5 +1,6 @@
 -- From what a command answers to what it was given to the cause of that answer.
-use Rattle.std.proofs.Common.{◌∙◌, refl, ap, sym, subst, ℕ, List, Option}
+use Rattle.std.proofs.Common.{◌≡◌, ◌∙◌, refl, ap, sym, subst, inl, inr, ℕ, List, Option, Some, None}
+use Rattle.std.specs.Option.{IsSomeAnd}
 use Rattle.tc_base.specs.Logs.{Log}
 use Rattle.tc_base.specs.declared.model.Model.{Model}
 use Rattle.tc_parser.specs.declared.fault.TextFault.{TextFault}
@@ -12,10 +13,12 @@ use Rattle.tc_code.specs.Code.{Code}
 use Rattle.tc_compile.specs.Programs.{IsCodeOf, IsWhyNoCode}
 use Rattle.tc_compile.specs.declared.fault.CompileFault.{CompileFault}
 use Rattle.tc_compile.specs.declared.fault.CompileFault.TheVariants as compile
-use Rattle.tc_io.specs.Outside.{ShelfTells}
-use Rattle.clap_debug_words.specs.Calls.{Called}
+use Rattle.tc_io.specs.Outside.{ShelfTells, Kept, KeptPart}
+use Rattle.clap_debug_words.specs.Calls.{Called, Minimizes}
 use Rattle.clap_debug_cli.specs.Causes.{IsCauseOf, IsListAnswer, IsLimitAnswer, IsOutput, IsReplayAnswer, IsResult, IsSearchAnswer, IsSolveAnswer}
+use Rattle.clap_debug_cli.specs.Causes.{IsMinimizedAnswer, IsMinimizeAnswer}
 use Rattle.clap_debug_cli.specs.Causes.{IsStoredAnswer, IsTextsAnswer, IsWorkOf, FailsToKeep}
+use Rattle.clap_debug_cli.specs.Fewest.{first_text, second_text}
 use Rattle.clap_debug_cli.specs.Files.{IsLog, IsOfOther, IsSchedule, Schedule}
 use Rattle.clap_debug_cli.specs.Inputs.{Texts, AreWithin, GaveAll, inputs_of}
 use Rattle.clap_debug_cli.specs.helpers.Faults.{build_answer, compile_answer}
@@ -36,16 +39,19 @@ use Rattle.clap_debug_cli.specs.declared.answer.Answer.TheVariants.{
   Migrated,
   RefutationRefused,
   Solved,
+  Minimized,
   Accepted,
   LineRefused,
   Worked,
   AnswerRefused,
   Exported,
   Imported,
+  Explained,
   ClauseFalse,
   WriteFault,
   NoMemory,
 }
+use Rattle.clap_debug_cli.specs.declared.answer.Minimum.{Minimum}
 use Rattle.clap_debug_cli.specs.declared.answer.LogRefusal.TheVariants.{Form, OtherProgram, Unfit}
 use Rattle.clap_debug_cli.proofs.Fetches.{given_still}
 
@@ -100,18 +106,33 @@ unbuilt_stored program code run P same (LogOver e) h = (same, h)
 unbuilt_stored program code run P same (LogRefused (Unfit n m)) h = (same, h)
 unbuilt_stored program code run P same _ h = absurd h
 
-module _ (program log : List ℕ) (model : Option Model) (budget : ℕ) (code : Code) (run : StoredLog) (f : IsCodeOf program code) (g : IsLog log run) where
+module _ (program log : List ℕ) (P : Code → Log → Answer → Type 0) (code : Code) (run : StoredLog) (f : IsCodeOf program code) (g : IsLog log run)
+    (no_form : (offset : ℕ) → P code run.log (LogRefused (Form offset)) → ⊥) (no_program : (r : TextFault) → P code run.log (ProgramRefused r) → ⊥) where
   abbrev Searches : Code → StoredLog → Answer → Type 0
-  Searches c r = IsStoredAnswer program r (IsLimitAnswer c r.log (IsSearchAnswer c r.log model budget))
+  Searches c r = IsStoredAnswer program r (IsLimitAnswer c r.log (P c r.log))
 
-  refused_solve : (a : Answer) → Refuses (Searches code run) a → Refuses (IsSolveAnswer program log model budget) a
-  refused_solve a h = refused_texts program log Searches code run f g (λ offset x. x.1.1) (λ r x. x.1.1) a h
+  refused_search : (a : Answer) → Refuses (Searches code run) a → Refuses (IsTextsAnswer program log Searches) a
+  refused_search a h = refused_texts program log Searches code run f g (λ offset x. no_form offset x.1.1) (λ r x. no_program r x.1.1) a h
 
+  other_search : (a : Answer) → IsWhyOther program run a → Refuses (IsTextsAnswer program log Searches) a
+  other_search a h = refused_search a (other_stored program run (IsLimitAnswer code run.log (P code run.log)) a h)
+
+  unbuilt_search : (IsOfOther program run → ⊥) → (a : Answer) → IsWhyUnbuilt code run.log a → Refuses (IsTextsAnswer program log Searches) a
+  unbuilt_search same a h = refused_search a (unbuilt_stored program code run (P code run.log) same a h)
+
+-- of `solve`, and of `solve --least`
+module _ (program log : List ℕ) (model : Option Model) (budget : ℕ) (code : Code) (run : StoredLog) (f : IsCodeOf program code) (g : IsLog log run) where
   pub other_solve : (a : Answer) → IsWhyOther program run a → Refuses (IsSolveAnswer program log model budget) a
-  other_solve a h = refused_solve a (other_stored program run (IsLimitAnswer code run.log (IsSearchAnswer code run.log model budget)) a h)
+  other_solve = other_search program log (λ c l. IsSearchAnswer c l model budget) code run f g (λ offset x. x) (λ r x. x)
 
   pub unbuilt_solve : (IsOfOther program run → ⊥) → (a : Answer) → IsWhyUnbuilt code run.log a → Refuses (IsSolveAnswer program log model budget) a
-  unbuilt_solve same a h = refused_solve a (unbuilt_stored program code run (IsSearchAnswer code run.log model budget) same a h)
+  unbuilt_solve = unbuilt_search program log (λ c l. IsSearchAnswer c l model budget) code run f g (λ offset x. x) (λ r x. x)
+
+  pub other_minimize : (a : Answer) → IsWhyOther program run a → Refuses (IsMinimizeAnswer program log model budget) a
+  other_minimize = other_search program log (λ c l. IsMinimizedAnswer c l model budget) code run f g (λ offset x. x) (λ r x. x)
+
+  pub unbuilt_minimize : (IsOfOther program run → ⊥) → (a : Answer) → IsWhyUnbuilt code run.log a → Refuses (IsMinimizeAnswer program log model budget) a
+  unbuilt_minimize = unbuilt_search program log (λ c l. IsMinimizedAnswer c l model budget) code run f g (λ offset x. x) (λ r x. x)
 
 -- a fault of the building of a system, as it is answered
 pub unbuilt_answer : (code : Code) (log : Log) (f : BuildFault) → IsBuildFault code log f → IsWhyUnbuilt code log (build_answer f)
@@ -129,13 +150,15 @@ other_replay program log schedule code run plan f g h _ other = absurd other
 module _ (call : Called) (t : Texts) (old s : ShelfTells) (gave : GaveAll (inputs_of call) old s t) (within : AreWithin (inputs_of call) t) where
   -- nothing was kept
   pub work_cause : (a : Answer) → Refuses (IsWorkOf call t) a → IsCauseOf call old s a
-  work_cause NoMemory h = given_still (inputs_of call) old s t gave
+  work_cause NoMemory h = inl (given_still (inputs_of call) old s t gave)
   work_cause (Recorded _) h = absurd h
   work_cause Migrated h = absurd h
   work_cause (Solved _) h = absurd h
+  work_cause (Minimized _) h = absurd h
   work_cause (Worked _) h = absurd h
   work_cause (Exported _) h = absurd h
   work_cause (Imported _) h = absurd h
+  work_cause (Explained _) h = absurd h
   work_cause Usage h = absurd h
   work_cause (ReadFault _) h = absurd h
   work_cause (TooLong _) h = absurd h
@@ -147,7 +170,32 @@ module _ (call : Called) (t : Texts) (old s : ShelfTells) (gave : GaveAll (input
       → IsCauseOf call old new a
   unkept_cause new name text output is NoMemory h =
       let still = given_still (inputs_of call) old s t gave in
-      (ap (λ x. x.held) h ∙ still.0, ap (λ x. x.faults) h ∙ still.1)
+      inl (ap (λ x. x.held) h ∙ still.0, ap (λ x. x.faults) h ∙ still.1)
   unkept_cause new name text output is (WriteFault lost) h =
-      (t, s, gave, within, subst (λ n. FailsToKeep call t s new n) (sym h.0) (output, text, is, h.1))
+      (t, s, gave, within, inl (subst (λ n. FailsToKeep call t s new n) (sym h.0) (output, text, is, h.1)))
   unkept_cause new name text output is _ h = absurd h
+
+-- nor were the texts of `solve --least`
+module _ (p l out : List ℕ) (model : Option Model) (budget : ℕ) (refutation : List ℕ) (t : Texts) (old s : ShelfTells)
+    (gave : GaveAll (inputs_of (Minimizes p l out model budget refutation)) old s t) (within : AreWithin (inputs_of (Minimizes p l out model budget refutation)) t)
+    (x : Minimum) (found : IsWorkOf (Minimizes p l out model budget refutation) t (Minimized x)) where
+  pub unkept_first : (new : ShelfTells) (a : Answer) → IsWhyUnkept out (first_text x) s new a
+      → IsCauseOf (Minimizes p l out model budget refutation) old new a
+  unkept_first new NoMemory h =
+      let still = given_still (inputs_of (Minimizes p l out model budget refutation)) old s t gave in
+      inl (ap (λ x. x.held) h ∙ still.0, ap (λ x. x.faults) h ∙ still.1)
+  unkept_first new (WriteFault lost) h = (t, s, gave, within, inr (x, found, inl h))
+  unkept_first new _ h = absurd h
+
+  module _ (next : ShelfTells) (kept : Kept s next out (first_text x)) where
+    second_by : (new : ShelfTells) (o : Option (List ℕ)) → second_text x ≡ o → (a : Answer) → IsSomeAnd o (λ text. IsWhyUnkept refutation text next new a)
+        → IsCauseOf (Minimizes p l out model budget refutation) old new a
+    second_by new None e a h = absurd h
+    second_by new (Some text) e NoMemory h = inr (t, s, gave, x, found, (next, kept, h))
+    second_by new (Some text) e (WriteFault lost) h =
+        (t, s, gave, within, inr (x, found, inr (h.0, (next, kept, subst (λ o. IsSomeAnd o (KeptPart next new refutation)) (sym e) h.1))))
+    second_by new (Some text) e _ h = absurd h
+
+    pub unkept_second : (new : ShelfTells) (a : Answer) → IsSomeAnd (second_text x) (λ text. IsWhyUnkept refutation text next new a)
+        → IsCauseOf (Minimizes p l out model budget refutation) old new a
+    unkept_second new a h = second_by new (second_text x) refl a h

@@ -1,22 +1,23 @@
 -- The answers of `check` by status.
-use Rattle.std.proofs.Common.{◌≡◌, ◌≢◌, ◌∙◌, ℕ, List, [], ◌∷◌, ◌⊎◌, inl, inr, refl, sym, ap, subst, arith}
+use Rattle.std.proofs.Common.{◌≡◌, ◌≢◌, ◌∙◌, ℕ, List, [], ◌∷◌, Option, ◌⊎◌, inl, inr, refl, sym, ap, subst, arith}
 use Rattle.tc_compile.specs.Programs.{IsRefusal}
 use Rattle.tc_io.specs.Outside.{SinkTells}
 use Rattle.tc_parser.specs.declared.fault.TextFault.{TextFault}
-use Rattle.refute_check.specs.declared.verdict.Checked.{Checked}
-use Rattle.refute_check.specs.declared.verdict.Checked.TheVariants.{Closed, Open}
+use Rattle.refute_check.specs.declared.verdict.Checked.TheVariants.{Closed}
 use Rattle.clap_debug_words.specs.Calls.{Called, Checks}
-use Rattle.clap_debug_cli.specs.Answers.{status_of, checked_status}
+use Rattle.clap_debug_cli.specs.Answers.{status_of, shown_status}
 use Rattle.clap_debug_cli.specs.Call.{IsStatus, Puts, Says, CheckAnswers}
 use Rattle.clap_debug_cli.specs.Causes.{IsAnswerTo, IsCheckAnswer}
-use Rattle.clap_debug_cli.specs.Checked.{IsRefuted}
+use Rattle.clap_debug_cli.specs.Checked.{IsRefuted, shown}
 use Rattle.clap_debug_cli.specs.declared.answer.Answer.{Answer}
 use Rattle.clap_debug_cli.specs.declared.answer.Answer.TheVariants.{TooLong, ProgramRefused, LogRefused, LogOver}
 use Rattle.clap_debug_cli.specs.declared.answer.Answer.TheVariants.{ScheduleRefused, RefutationRefused, AnswerRefused, Accepted, LineRefused}
 use Rattle.clap_debug_cli.specs.declared.answer.LogRefusal.{LogRefusal}
+use Rattle.clap_debug_cli.specs.declared.answer.Shown.{Shown}
+use Rattle.clap_debug_cli.specs.declared.answer.Shown.TheVariants.{Impossible, MoreSwitches, Open}
 use Rattle.clap_debug_cli.proofs.Calls.{IsKnown, alone_of, plain_at, work_of}
 use Rattle.clap_debug_cli.proofs.Refuted.{refuted}
-use Rattle.clap_debug_cli.proofs.Statuses.{is_program_refused, is_log_refused, is_third_refused, is_closed, is_open, no_shown}
+use Rattle.clap_debug_cli.proofs.Statuses.{is_program_refused, is_log_refused, is_third_refused, is_open, no_shown}
 
 module _ (p l r program log refutation : List ℕ) (a : Answer) (status : ℕ) (j k : SinkTells) (says : Says a status j k)
     (known : IsKnown (Checks p l r) (program ∷ log ∷ refutation ∷ []) a) where
@@ -36,7 +37,7 @@ module _ (p l r program log refutation : List ℕ) (a : Answer) (status : ℕ) (
 
   -- the lines pass
   is_accepted : (b : Answer) → IsCheckAnswer program log refutation b → (n : ℕ) → status_of b ≡ n → n ≢ 1 → n ≢ 3 → n ≢ 4 → n ≢ 5 → n ≢ 6
-      → (v : Checked) × (b ≡ Accepted v)
+      → (v : Shown) × (b ≡ Accepted v)
   is_accepted (Accepted v) w n h one three four five six = (v, refl)
   is_accepted (LineRefused _) w n h one three four five six = absurd (one (sym h))
   is_accepted (ProgramRefused _) w n h one three four five six = absurd (three (sym h))
@@ -45,13 +46,13 @@ module _ (p l r program log refutation : List ℕ) (a : Answer) (status : ℕ) (
   is_accepted (LogOver _) w n h one three four five six = absurd (six (sym h))
   is_accepted _ w n h one three four five six = absurd w.2.2.3.1.1
 
-  closed_at : status ≡ 0 → IsRefuted program log refutation × Puts j k (Accepted Closed)
+  closed_at : status ≡ 0 → (most : Option ℕ) × IsRefuted program log refutation most × Puts j k (Accepted (shown most Closed))
   closed_at h =
       let w = own_at 0 h (λ e. omega (arith, e)) (λ e. omega (arith, e)) (λ e. omega (arith, e)) (λ e. omega (arith, e)) in
       let v = is_accepted a w.2 0 w.0 (λ e. omega (arith, e)) (λ e. omega (arith, e)) (λ e. omega (arith, e)) (λ e. omega (arith, e))
       (λ e. omega (arith, e)) in
-      let e = v.1 ∙ ap (λ x. Accepted x) (is_closed v.0 (sym (ap status_of v.1) ∙ w.0)) in
-      (refuted program log refutation (subst (IsCheckAnswer program log refutation) e w.2), subst (Puts j k) e w.1)
+      let r = refuted program log refutation v.0 (subst (IsCheckAnswer program log refutation) v.1 w.2) (sym (ap status_of v.1) ∙ w.0) in
+      (r.0, r.1, subst (Puts j k) (v.1 ∙ ap (λ x. Accepted x) r.2) w.1)
 
   open_at : status ≡ 10 → IsCheckAnswer program log refutation (Accepted Open) × Puts j k (Accepted Open)
   open_at h =
@@ -108,8 +109,9 @@ module _ (p l r program log refutation : List ℕ) (a : Answer) (status : ℕ) (
   abbrev OfCheck : ℕ → Type 0
   OfCheck n = (n ≡ 0) ⊎ (n ≡ 1) ⊎ (n ≡ 3) ⊎ (n ≡ 4) ⊎ (n ≡ 5) ⊎ (n ≡ 10) ⊎ IsStatus n 6
 
-  shown_alone : (v : Checked) → OfCheck (checked_status v)
-  shown_alone Closed = inl refl
+  shown_alone : (v : Shown) → OfCheck (shown_status v)
+  shown_alone Impossible = inl refl
+  shown_alone (MoreSwitches most) = inl refl
   shown_alone Open = inr (inr (inr (inr (inr (inl refl)))))
 
   answer_alone : (b : Answer) → IsAnswerTo Asked (program ∷ log ∷ refutation ∷ []) b → OfCheck (status_of b)
@@ -130,7 +132,7 @@ module _ (p l r program log refutation : List ℕ) (a : Answer) (status : ℕ) (
 
   pub check_answers : CheckAnswers program log refutation status j k
   check_answers = record {
-    impossible = closed_at;
+    closed = closed_at;
     undecided = open_at;
     line_refused = line_at;
     refused = program_at;

@@ -1,18 +1,12 @@
 -- From a refutation that was read, or couldn't be, to the cause of an answer.
-use Rattle.std.proofs.Common.{◌≡◌, ◌∙◌, refl, ap, sym, ℕ, List, [], ◌∷◌, ◌++◌, take, drop, take-add, take_all, append_assoc, length, ◌≤◌, ◌+◌, Option}
-use Rattle.std.proofs.Common.{Some, None, false, Result, Ok, Err, IfErr}
+use Rattle.std.proofs.Common.{◌≡◌, ◌∙◌, refl, ap, sym, ℕ, List, [], ◌∷◌, ◌++◌, take, drop, take-add, take_all, append_assoc, length, ◌≤◌, ◌+◌}
+use Rattle.std.proofs.Common.{Result, Ok, Err, IfErr}
 use Rattle.std.specs.Prelude.{is_some, IsSome}
 use Rattle.std.specs.Result.{IsErrAnd}
-use Rattle.std.proofs.lemmas.Bool.{true≢false}
-use Rattle.tc_base.specs.declared.model.Model.{Model}
 use Rattle.tc_code.specs.Code.{Code}
 use Rattle.path_log.specs.Texts.{StoredLog}
-use Rattle.refute_check.specs.Refutations.{Checking, start}
-use Rattle.refute_check.specs.declared.verdict.Checked.{Checked}
 use Rattle.clap_system.specs.Faults.{IsBuildFault}
 use Rattle.clap_system.specs.declared.fault.BuildFault.{BuildFault}
-use Rattle.clap_solve.specs.Clauses.{model_clauses}
-use Rattle.clap_solve.specs.Solved.{IsWithin}
 use Rattle.tc_compile.specs.Programs.{IsCodeOf}
 use Rattle.tc_io.specs.Outside.{ShelfTells, GaveSoFar, GaveReading}
 use Rattle.tc_io.specs.declared.PieceFault.{PieceFault}
@@ -22,12 +16,12 @@ use Rattle.clap_debug_cli.specs.Causes.{HeldStill, IsCauseOf, IsCheckAnswer, IsC
 use Rattle.clap_debug_cli.specs.Files.{IsLog, IsOfOther}
 use Rattle.clap_debug_cli.specs.Inputs.{Whole, InPieces, GaveInput}
 use Rattle.clap_debug_cli.specs.helpers.Faults.{build_answer}
-use Rattle.clap_debug_cli.specs.helpers.Incoming.{IsBegun, IsWhyUnaccepted, IsWhyUnchecked}
+use Rattle.clap_debug_cli.specs.helpers.Incoming.{IsWhyUnaccepted, IsWhyUnchecked}
 use Rattle.clap_debug_cli.specs.helpers.Refused.{IsWhyMissing, IsWhyUnbuilt, IsWhyUnread, Refuses}
 use Rattle.clap_debug_cli.specs.declared.answer.Answer.{Answer}
 use Rattle.clap_debug_cli.specs.declared.answer.Answer.TheVariants.{ReadFault, LogRefused, LogOver, Accepted, NoMemory}
 use Rattle.clap_debug_cli.specs.declared.answer.LogRefusal.TheVariants.{Unfit}
-use Rattle.clap_debug_cli.specs.declared.check.Stage.TheVariants.{Checks as Passes}
+use Rattle.clap_debug_cli.specs.declared.answer.Shown.{Shown}
 use Rattle.clap_debug_cli.specs.declared.input.Input.TheVariants.{Program, Log}
 use Rattle.clap_debug_cli.proofs.Causes.{refused_texts, unbuilt_answer, unread_texts, work_cause}
 use Rattle.clap_debug_cli.proofs.Fetches.{missing_cause, missing_first, missing_later}
@@ -61,12 +55,6 @@ module _ (program : List ℕ) (code : Code) (run : StoredLog) where
   pub unchecked : (IsOfOther program run → ⊥) → (f : BuildFault) → IsBuildFault code run.log f → IsWhyUnchecked program code run (build_answer f)
   unchecked same f h = unbuilt_unchecked same (build_answer f) (unbuilt_answer code run.log f h)
 
-  -- lines are checked where no switches are counted
-  pub begun_checks : (model : Model) (switches : Option ℕ) (checker : Checking) → is_some switches ≡ false → (IsOfOther program run → ⊥)
-      → IsWithin code run.log → checker ≡ start (model_clauses model code run.log) → IsBegun program code run model switches (Passes checker)
-  begun_checks model None checker none same within is = record { recorded = same; within = within; is = is }
-  begun_checks model (Some k) checker none same within is = absurd (true≢false none)
-
 module _ (program log name : List ℕ) (old new : ShelfTells) where
   pub missing_unaccepted : (a : Answer) → IsWhyMissing (InPieces name) old new a → IsWhyUnaccepted program log name old new a
   missing_unaccepted (ReadFault n) h = h
@@ -91,7 +79,7 @@ module _ (program log name : List ℕ) (old new : ShelfTells) where
           given_unaccepted a
           (refused_texts program log (λ c r. IsRefutationAnswer bytes (IsClausesAnswer program c r)) code run f g (λ offset x. x.3.1.1) (λ r x. x.3.1.1) a h)
 
-      pub accepted_answer : (v : Checked) → IsRefutationAnswer bytes (IsClausesAnswer program code run) (Accepted v)
+      pub accepted_answer : (v : Shown) → IsRefutationAnswer bytes (IsClausesAnswer program code run) (Accepted v)
           → IsCheckAnswer program log bytes (Accepted v)
       accepted_answer v h = (code, f, (run, g, h))
 
@@ -115,7 +103,7 @@ module _ (p l name : List ℕ) (old s mid new : ShelfTells) (program log : List 
   unaccepted_cause NoMemory h = missed NoMemory h
   unaccepted_cause a h = given_cause h.0 h.1 a h.2
 
-  pub accepted_cause : (v : Checked) (bytes : List ℕ) → GaveReading mid new name bytes → IsCheckAnswer program log bytes (Accepted v)
+  pub accepted_cause : (v : Shown) (bytes : List ℕ) → GaveReading mid new name bytes → IsCheckAnswer program log bytes (Accepted v)
       → IsCauseOf call old new (Accepted v)
   accepted_cause v bytes gave h = given_cause bytes gave (Accepted v) h
 

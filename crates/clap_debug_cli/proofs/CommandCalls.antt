@@ -5,12 +5,12 @@ use Rattle.tc_base.specs.declared.model.Model.{Model}
 use Rattle.tc_io.specs.Outside.{Files, ShelfTells, SinkTells, bytes_at, put_under}
 use Rattle.schedule_file.specs.Schedules.{schedule_text}
 use Rattle.dimacs_text.specs.Texts.{cnf_text}
-use Rattle.clap_debug_words.specs.Calls.{Called, Lists, Replays, Records, Migrates, Solves, Checks, Workloads, Exports, Imports, call_of}
+use Rattle.clap_debug_words.specs.Calls.{Called, Lists, Replays, Records, Migrates, Solves, Minimizes, Checks, Workloads, Exports, Imports, Explains, call_of}
 use Rattle.clap_debug_cli.specs.Answers.{status_of, verdict_status, ending_status}
 use Rattle.clap_debug_cli.specs.declared.answer.Answer.{Answer}
 use Rattle.clap_debug_cli.specs.declared.answer.Answer.TheVariants.{TooLong, ProgramRefused, LogRefused, ScheduleRefused}
 use Rattle.clap_debug_cli.specs.declared.answer.Answer.TheVariants.{Listed, Replayed, Recorded, RunEnded, LogOver}
-use Rattle.clap_debug_cli.specs.declared.answer.Answer.TheVariants.{Migrated, Solved, Accepted, Worked, Exported, Imported}
+use Rattle.clap_debug_cli.specs.declared.answer.Answer.TheVariants.{Migrated, Solved, Minimized, Accepted, Worked, Exported, Imported}
 use Rattle.clap_debug_cli.specs.Causes.{IsCause, IsListAnswer, IsLogRefused, IsScheduleRefused, IsReplayAnswer, IsRecordAnswer, IsReplayed}
 use Rattle.clap_debug_cli.specs.Causes.{IsAnswerTo, IsMigrateAnswer, IsOutput, KeepsText}
 use Rattle.clap_debug_cli.specs.Call.{IfTold, IsStatus, Puts, Says, ToldAnswers, ListAnswers, ReplayAnswers, RecordAnswers, MigrateAnswers, CommandAnswers}
@@ -18,6 +18,7 @@ use Rattle.clap_debug_cli.specs.Inputs.{Texts, GaveAll, inputs_of, texts_under, 
 use Rattle.tc_compile.specs.Programs.{IsCodeOf, IsRefusal}
 use Rattle.clap_debug_cli.specs.Recorded.{ComesTo, EndsSo, end_status, run_of}
 use Rattle.clap_debug_cli.specs.Migrated.{IsMigrated}
+use Rattle.clap_debug_cli.specs.Fewest.{put_both}
 use Rattle.clap_debug_cli.specs.Solved.{solution_text}
 use Rattle.tc_parser.specs.declared.fault.TextFault.{TextFault}
 use Rattle.schedule_replay.specs.declared.verdict.Verdict.{Verdict}
@@ -33,7 +34,10 @@ use Rattle.clap_debug_cli.proofs.Migrations.{migrated_answer, migrated_text}
 use Rattle.tc_compile.proofs.OnePrograms.{one_code, refused_no_code}
 use Rattle.clap_debug_cli.proofs.OneRun.{ended_status, outcome_status}
 use Rattle.clap_debug_cli.proofs.SolveCalls.{solve_answers}
+use Rattle.clap_debug_cli.proofs.Keeps.{both_held}
+use Rattle.clap_debug_cli.proofs.MinimizeCalls.{minimize_answers}
 use Rattle.clap_debug_cli.proofs.CheckCalls.{check_answers}
+use Rattle.clap_debug_cli.proofs.WhyCalls.{why_answers}
 use Rattle.clap_debug_cli.proofs.WorkloadCalls.{workload_answers}
 use Rattle.clap_debug_cli.proofs.SolverCalls.{cnf_answers, import_answers}
 use Rattle.clap_debug_cli.proofs.Statuses.{is_program_refused, is_log_refused, is_third_refused, is_finished, is_step_limit, no_ending, is_reproduces, is_other}
@@ -253,6 +257,7 @@ module _ (p l o program log : List ℕ) (a : Answer) (status : ℕ) (j k : SinkT
   is_migrated (Recorded _) w h = absurd w.2.2.1
   is_migrated (RunEnded _) w h = absurd w.2.2.1
   is_migrated (Solved _) w h = absurd w.2.2.1
+  is_migrated (Minimized _) w h = absurd w.2.2.1
   is_migrated (Accepted _) w h = absurd w.2.2.1
   is_migrated (Worked _) w h = absurd w.2.2.1
   is_migrated (Exported _) w h = absurd w.2.2.1
@@ -329,6 +334,12 @@ command_at words old new (Solves p l o model budget) files a status j k says tak
     (λ x e.
     let d = called_now _ (call_of words) (Solves p l o model budget) taken (subst (IsCause words old new) e cause) in
     kept_text (Solves p l o model budget) o (λ n f. f) old d.1 new d.0 files d.2 told (solution_text x) d.4)
+command_at words old new (Minimizes p l o model budget r) files a status j k says taken told cause known =
+    minimize_answers files p l o r (bytes_at files p) (bytes_at files l) model budget new.held a status j k says known
+    (λ x e.
+    let d = called_now _ (call_of words) (Minimizes p l o model budget r) taken (subst (IsCause words old new) e cause) in
+    both_held o r x d.1 new d.4
+    ∙ ap (put_both o r x) ((given_still (inputs_of (Minimizes p l o model budget r)) old d.1 d.0 d.2).0 ∙ told))
 command_at words old new (Checks p l r) files a status j k says taken told cause known =
     check_answers p l r (bytes_at files p) (bytes_at files l) (bytes_at files r) a status j k says known
 command_at words old new (Workloads n s) files a status j k says taken told cause known = workload_answers n s a status j k says known
@@ -342,6 +353,8 @@ command_at words old new (Imports p l r o model) files a status j k says taken t
     (λ s e.
     let d = called_now _ (call_of words) (Imports p l r o model) taken (subst (IsCause words old new) e cause) in
     kept_text (Imports p l r o model) o (λ n g. g) old d.1 new d.0 files d.2 told (schedule_text s.model s.moves.items) d.4)
+command_at words old new (Explains p l r) files a status j k says taken told cause known =
+    why_answers p l r (bytes_at files p) (bytes_at files l) (bytes_at files r) a status j k says known
 
 if_told : (o : Option Called) (held : Option Files) (P : Called → Files → Type 0)
     → ((call : Called) (files : Files) → o ≡ Some call → held ≡ Some files → P call files) → IfSome o (λ call. IfSome held (λ files. P call files))

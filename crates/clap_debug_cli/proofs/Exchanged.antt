@@ -1,7 +1,6 @@
 -- From what `cnf` and `import` come to to the cause of that answer, and to what it means.
-use Rattle.std.proofs.Common.{◌≡◌, ◌∙◌, sym, ap, subst, ℕ, ℤ, List, Option, Ok, Err}
+use Rattle.std.proofs.Common.{◌≡◌, sym, subst, ℕ, ℤ, List, Option, Ok}
 use Rattle.tc_base.specs.Buffers.{buffer_of}
-use Rattle.tc_base.specs.Logs.{Log}
 use Rattle.tc_base.specs.declared.model.Model.{Model}
 use Rattle.tc_code.specs.Code.{Code}
 use Rattle.tc_compile.specs.Programs.{IsCodeOf}
@@ -13,9 +12,7 @@ use Rattle.dimacs_text.specs.declared.fault.AnswerFault.{AnswerFault}
 use Rattle.dimacs_text.specs.declared.fault.AnswerFault.TheVariants as fault
 use Rattle.schedule_file.specs.declared.schedule.Schedule.{Schedule}
 use Rattle.clap_solve.specs.Clauses.{bound_of}
-use Rattle.clap_solve.specs.Imported.{IsImported}
 use Rattle.clap_solve.specs.Solved.{IsWithin}
-use Rattle.clap_solve.specs.declared.imported.Imported.{Imported}
 use Rattle.clap_solve.specs.declared.imported.Imported.TheVariants as taken
 use Rattle.clap_solve.proofs.Meaning.{run_is_said, said_is_run}
 use Rattle.clap_debug_cli.specs.Causes.{IsClauseListAnswer, IsCnfAnswer, IsImportAnswer, IsLimitAnswer, IsLiteralsAnswer, IsStoredAnswer, IsTakenAnswer}

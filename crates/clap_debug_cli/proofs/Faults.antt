@@ -1,17 +1,24 @@
--- For crates above: a call that failed to read or to keep counted one fault.
-use Rattle.std.proofs.Common.{◌≡◌, ◌∙◌, ap, List, ℕ}
+-- For crates above: what a call counts that failed to read or to keep.
+use Rattle.std.proofs.Common.{◌≡◌, ◌⊎◌, ◌≤◌, ◌∙◌, ap, inl, inr, List, ℕ}
 use Rattle.tc_io.specs.Outside.{ShelfTells, counted_on}
 use Rattle.clap_debug_words.specs.Calls.{Called}
 use Rattle.clap_debug_cli.specs.Causes.{IsCauseOf}
 use Rattle.clap_debug_cli.specs.declared.answer.Answer.TheVariants.{ReadFault, WriteFault}
-use Rattle.clap_debug_cli.specs.Inputs.{inputs_of}
-use Rattle.clap_debug_cli.proofs.Fetches.{failed_still, given_still}
+use Rattle.clap_debug_cli.specs.Inputs.{HasEntire, inputs_of, no_limit}
+use Rattle.clap_debug_cli.proofs.Fetches.{CountsRead, failed_still, given_still}
+use Rattle.clap_debug_cli.proofs.Keeps.{lost_one}
 
-pub fetch_counts_one : (call : Called) (old new : ShelfTells) (name : List ℕ) → IsCauseOf call old new (ReadFault name)
-    → new.faults ≡ counted_on old.faults 1
-fetch_counts_one call old new name c = (failed_still (inputs_of call) old new name c).1
+-- a read that failed counts one fault, or a fetch of any length took as many bytes as can be counted
+pub fetch_counts : (call : Called) (old new : ShelfTells) (name : List ℕ) → IsCauseOf call old new (ReadFault name)
+    → (new.faults ≡ counted_on old.faults 1) ⊎ (HasEntire (inputs_of call) × (no_limit ≤ new.taken))
+fetch_counts call old new name c = of (failed_still (inputs_of call) old new name c).1
+  where
+    of : CountsRead (inputs_of call) old new name → (new.faults ≡ counted_on old.faults 1) ⊎ (HasEntire (inputs_of call) × (no_limit ≤ new.taken))
+    of (inl r) = inl r.0
+    of (inr r) = inr (r.1, r.2)
 
+-- and a keep that failed one
 pub keep_counts_one : (call : Called) (old new : ShelfTells) (name : List ℕ) → IsCauseOf call old new (WriteFault name)
     → new.faults ≡ counted_on old.faults 1
 keep_counts_one call old new name c =
-    ap (λ x. x.faults) c.4.3.2 ∙ ap (λ n. counted_on n 1) (given_still (inputs_of call) old c.1 c.0 c.2).1
+    (lost_one call c.0 c.1 new name c.4).0 ∙ ap (λ n. counted_on n 1) (given_still (inputs_of call) old c.1 c.0 c.2).1

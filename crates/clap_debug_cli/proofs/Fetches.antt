@@ -1,10 +1,10 @@
 -- From the fetch of one input to the fetches of all, and from what the shelf gave to what it tells.
-use Rattle.std.proofs.Common.{arith, ◌≡◌, ◌∙◌, refl, ap, ap₂, sym, subst, inl, inr, ℕ, ◌<◌, List, [], ◌∷◌, length, map, Some}
+use Rattle.std.proofs.Common.{arith, ◌≡◌, ◌∙◌, refl, ap, ap₂, sym, subst, inl, inr, ◌⊎◌, ℕ, ◌+◌, ◌<◌, ◌≤◌, List, [], ◌∷◌, length, map, Some}
 use Rattle.std.specs.Prelude.{IfSome}
 use Rattle.tc_io.specs.Outside.{Files, Reading, ShelfTells, bytes_at, counted_on}
 use Rattle.clap_debug_words.specs.Calls.{Called}
 use Rattle.clap_debug_cli.specs.Causes.{HeldStill, IsCauseOf}
-use Rattle.clap_debug_cli.specs.Inputs.{Wanted, Whole, InPieces, Texts, name_of, inputs_of, limit_of}
+use Rattle.clap_debug_cli.specs.Inputs.{Wanted, Whole, InPieces, Entire, Texts, HasEntire, name_of, inputs_of, limit_of, no_limit}
 use Rattle.clap_debug_cli.specs.Inputs.{GaveInput, FailedInput, PassedLimit, IsWithinLimit, IsPastLimit}
 use Rattle.clap_debug_cli.specs.Inputs.{GaveAll, FailsToRead, PassesLimit, IsTooLong, AreWithin}
 use Rattle.clap_debug_cli.specs.helpers.Refused.{IsWhyMissing}
@@ -23,17 +23,38 @@ IsWhyNone ws old new _ = ⊥
 pub gave_still : (w : Wanted) (old new : ShelfTells) (bytes : List ℕ) → GaveInput w old new bytes → HeldStill old new
 gave_still (Whole i name) old new bytes g = (ap (λ x. x.held) g.1, ap (λ x. x.faults) g.1)
 gave_still (InPieces name) old new bytes g = (ap (λ x. x.held) g.0, ap (λ x. x.faults) g.0)
+gave_still (Entire name) old new bytes g = (ap (λ x. x.held) g.1, ap (λ x. x.faults) g.1)
 
--- one that failed to give it holds what it held, counted one fault, and tells of that read
-input_failed : (w : Wanted) (old new : ShelfTells) → FailedInput w old new
-    → (new.held ≡ old.held) × (new.faults ≡ counted_on old.faults 1) × (new.last_fault ≡ Some (Reading (name_of w)))
-input_failed (Whole i name) old new f = (ap (λ x. x.held) f.2, ap (λ x. x.faults) f.2, ap (λ x. x.last_fault) f.2)
-input_failed (InPieces name) old new f = (ap (λ x. x.held) f.2, ap (λ x. x.faults) f.2, ap (λ x. x.last_fault) f.2)
+entire_later : (w : Wanted) (ws : List Wanted) → HasEntire ws → HasEntire (w ∷ ws)
+entire_later (Whole i name) ws h = h
+entire_later (InPieces name) ws h = h
+entire_later (Entire name) ws h = tt
+
+-- one fault was counted, and that read is told; or of a fetch of any length as many bytes were taken as can be counted
+abbrev pub CountsRead : List Wanted → ShelfTells → ShelfTells → List ℕ → Type 0
+CountsRead ws old new name = ((new.faults ≡ counted_on old.faults 1) × (new.last_fault ≡ Some (Reading name)))
+    ⊎ ((new.faults ≡ old.faults) × HasEntire ws × (no_limit ≤ new.taken))
+
+counts_later : (w : Wanted) (ws : List Wanted) (old s new : ShelfTells) (name : List ℕ) → s.faults ≡ old.faults → CountsRead ws s new name
+    → CountsRead (w ∷ ws) old new name
+counts_later w ws old s new name still (inl c) = inl (c.0 ∙ ap (λ n. counted_on n 1) still, c.1)
+counts_later w ws old s new name still (inr c) = inr (c.0 ∙ still, entire_later w ws c.1, c.2)
+
+-- one that failed to give it holds what it held
+input_failed : (w : Wanted) (ws : List Wanted) (old new : ShelfTells) → FailedInput w old new
+    → (new.held ≡ old.held) × CountsRead (w ∷ ws) old new (name_of w)
+input_failed (Whole i name) ws old new f = (ap (λ x. x.held) f.2, inl (ap (λ x. x.faults) f.2, ap (λ x. x.last_fault) f.2))
+input_failed (InPieces name) ws old new f = (ap (λ x. x.held) f.2, inl (ap (λ x. x.faults) f.2, ap (λ x. x.last_fault) f.2))
+input_failed (Entire name) ws old new (inl f) = (ap (λ x. x.held) f.2, inl (ap (λ x. x.faults) f.2, ap (λ x. x.last_fault) f.2))
+input_failed (Entire name) ws old new (inr f) =
+    let count : new.taken ≡ counted_on old.taken (no_limit + 1) = ap (λ x. x.taken) f.0 in
+    (ap (λ x. x.held) f.0, inr (ap (λ x. x.faults) f.0, tt, omega (arith, count)))
 
 -- and one that has one too long holds what it held, and counted no fault
 input_passed : (w : Wanted) (old new : ShelfTells) (i : Input) → PassedLimit w old new i → HeldStill old new
 input_passed (Whole j name) old new i p = (ap (λ x. x.held) p.1.0, ap (λ x. x.faults) p.1.0)
 input_passed (InPieces name) old new i p = absurd p
+input_passed (Entire name) old new i p = absurd p
 
 -- why the first couldn't be had is why not all could
 pub missing_first : (w : Wanted) (ws : List Wanted) (old new : ShelfTells) (a : Answer) → IsWhyMissing w old new a → IsWhyNone (w ∷ ws) old new a
@@ -54,7 +75,7 @@ missing_later w ws old s new bytes _ g h = absurd h
 pub missing_cause : (call : Called) (old new : ShelfTells) (a : Answer) → IsWhyNone (inputs_of call) old new a → IsCauseOf call old new a
 missing_cause call old new (ReadFault name) h = h
 missing_cause call old new (TooLong i) h = h
-missing_cause call old new NoMemory h = h
+missing_cause call old new NoMemory h = inl h
 missing_cause call old new _ h = absurd h
 
 -- a shelf that gave inputs holds what it held, and counted no fault
@@ -67,17 +88,17 @@ given_still (w ∷ ws) old s (t ∷ ts) g =
     let first = gave_still w old g.0 t g.1 in
     (rest.0 ∙ first.0, rest.1 ∙ first.1)
 
--- one that failed to give one holds what it held, counted one fault, and tells of that read
+-- one that failed to give one holds what it held
 pub failed_still : (ws : List Wanted) (old new : ShelfTells) (name : List ℕ) → FailsToRead ws old new name
-    → (new.held ≡ old.held) × (new.faults ≡ counted_on old.faults 1) × (new.last_fault ≡ Some (Reading name))
+    → (new.held ≡ old.held) × CountsRead ws old new name
 failed_still [] old new name f = absurd f
 failed_still (w ∷ ws) old new name (inl f) =
-    let one = input_failed w old new f.1 in
-    (one.0, one.1, one.2 ∙ ap (λ n. Some (Reading n)) (sym f.0))
+    let one = input_failed w ws old new f.1 in
+    (one.0, subst (CountsRead (w ∷ ws) old new) (sym f.0) one.1)
 failed_still (w ∷ ws) old new name (inr f) =
     let rest = failed_still ws f.0 new name f.3 in
     let first = gave_still w old f.0 f.1 f.2 in
-    (rest.0 ∙ first.0, rest.1 ∙ ap (λ n. counted_on n 1) first.1, rest.2)
+    (rest.0 ∙ first.0, counts_later w ws old f.0 new name first.1 rest.1)
 
 -- and one that has one too long holds what it held, and counted no fault
 pub passed_still : (ws : List Wanted) (old new : ShelfTells) (i : Input) → PassesLimit ws old new i → HeldStill old new
@@ -93,24 +114,24 @@ gave_told : (files : Files) (w : Wanted) (old new : ShelfTells) (bytes : List �
     → bytes ≡ bytes_at files (name_of w)
 gave_told files (Whole i name) old new bytes g told = subst (λ o. IfSome o (λ f. bytes ≡ bytes_at f name)) told g.2
 gave_told files (InPieces name) old new bytes g told = subst (λ o. IfSome o (λ f. bytes ≡ bytes_at f name)) told g.1
+gave_told files (Entire name) old new bytes g told = subst (λ o. IfSome o (λ f. bytes ≡ bytes_at f name)) told g.2
 
 -- it isn't longer than its limit
 gave_within : (w : Wanted) (old new : ShelfTells) (bytes : List ℕ) → GaveInput w old new bytes → IsWithinLimit w bytes
 gave_within (Whole i name) old new bytes g = g.0
 gave_within (InPieces name) old new bytes g = tt
+gave_within (Entire name) old new bytes g = tt
 
 passed_told : (files : Files) (w : Wanted) (old new : ShelfTells) (i : Input) → PassedLimit w old new i → old.held ≡ Some files
     → IsPastLimit w (bytes_at files (name_of w)) i
 passed_told files (Whole j name) old new i p told = (p.0, subst (λ o. IfSome o (λ f. limit_of j < length (bytes_at f name))) told p.1.1)
 passed_told files (InPieces name) old new i p told = absurd p
+passed_told files (Entire name) old new i p told = absurd p
 
 past_not_within : (w : Wanted) (text : List ℕ) (i : Input) → IsPastLimit w text i → IsWithinLimit w text → ⊥
 past_not_within (Whole j name) text i p h = omega (arith, p.1, h)
 past_not_within (InPieces name) text i p h = p
-
-one_past : (w : Wanted) (text : List ℕ) (i j : Input) → IsPastLimit w text i → IsPastLimit w text j → i ≡ j
-one_past (Whole k name) text i j p q = p.0 ∙ sym q.0
-one_past (InPieces name) text i j p q = absurd p
+past_not_within (Entire name) text i p h = p
 
 -- the bytes of all inputs are those that the shelf tells
 pub gave_all : (files : Files) (ws : List Wanted) (old new : ShelfTells) (t : Texts) → GaveAll ws old new t → old.held ≡ Some files
@@ -139,12 +160,3 @@ not_within [] ts i f h = f
 not_within (w ∷ ws) [] i f h = f
 not_within (w ∷ ws) (t ∷ ts) i (inl f) h = past_not_within w t i f h.0
 not_within (w ∷ ws) (t ∷ ts) i (inr f) h = not_within ws ts i f.1 h.1
-
--- at most one input is the first that passes its limit
-pub one_too_long : (ws : List Wanted) (ts : Texts) (i j : Input) → IsTooLong ws ts i → IsTooLong ws ts j → i ≡ j
-one_too_long [] ts i j f g = absurd f
-one_too_long (w ∷ ws) [] i j f g = absurd f
-one_too_long (w ∷ ws) (t ∷ ts) i j (inl f) (inl g) = one_past w t i j f g
-one_too_long (w ∷ ws) (t ∷ ts) i j (inl f) (inr g) = absurd (past_not_within w t i f g.0)
-one_too_long (w ∷ ws) (t ∷ ts) i j (inr f) (inl g) = absurd (past_not_within w t j g f.0)
-one_too_long (w ∷ ws) (t ∷ ts) i j (inr f) (inr g) = one_too_long ws ts i j f.1 g.1

@@ -6,12 +6,11 @@ use Rattle.std.proofs.lemmas.Bool.{false≢true}
 use Rattle.std.specs.Prelude.{fold, is_some, IsSome, nat_eq, not, ◌||◌, if◌then◌else◌}
 use Rattle.std.specs.Option.{option_map_or}
 use Rattle.tc_base.specs.Buffers.{is_nil}
-use Rattle.tc_base.specs.declared.model.Model.{Model}
 use Rattle.tc_code.specs.Code.{Code}
 use Rattle.path_log.specs.Texts.{StoredLog}
+use Rattle.refute_check.specs.Broken.{BreaksAt}
 use Rattle.refute_check.specs.Laws.{IsWhole, whole_lines}
 use Rattle.refute_check.specs.Texts.{refutation_text}
-use Rattle.refute_check.specs.declared.verdict.Checked.{Checked}
 use Rattle.refute_check.specs.Reading.{Reading, Reads, beginning, bodies, fault_of, first_breach, lines_of}
 use Rattle.refute_check.specs.Refutations.{Checking, after, judged, line_fault, opening, start, verdict}
 use Rattle.refute_check.specs.declared.head.Head.{Head}
@@ -25,17 +24,18 @@ use Rattle.refute_check.proofs.Cuts.{Step, cuts-agree}
 use Rattle.refute_check.proofs.Pieces.{first-taken, line-fits, read-count, reads-taken}
 use Rattle.refute_check.proofs.ReadTexts.{read-is-text}
 use Rattle.refute_check.proofs.Wholes.{whole-one}
-use Rattle.clap_solve.specs.Clauses.{model_clauses}
 use Rattle.clap_debug_cli.specs.Causes.{IsClausesAnswer, IsRefutationAnswer}
-use Rattle.clap_debug_cli.specs.Files.{IsBrokenAt, IsRefutation, first_broken, head_of}
-use Rattle.clap_debug_cli.specs.helpers.Incoming.{HasRoom, IsBegun, IsRead, IsStage, IsUnbroken, IsWhyUnchecked, IsWhyUnshown, stage_after}
+use Rattle.clap_debug_cli.specs.Checked.{head_clauses, shown}
+use Rattle.clap_debug_cli.specs.Files.{IsRefutation}
+use Rattle.clap_debug_cli.specs.helpers.Incoming.{HasRoom, IsBegun, IsRead, IsShown, IsStage, IsWhyUnchecked, IsWhyUnshown, stage_after}
 use Rattle.clap_debug_cli.specs.helpers.Refused.{Refuses}
 use Rattle.clap_debug_cli.specs.declared.answer.Answer.{Answer}
 use Rattle.clap_debug_cli.specs.declared.answer.Answer.TheVariants.{LogRefused, LogOver, RefutationRefused, Accepted, LineRefused, NoMemory}
 use Rattle.clap_debug_cli.specs.declared.answer.LogRefusal.TheVariants.{OtherProgram, Unfit}
+use Rattle.clap_debug_cli.specs.declared.answer.Shown.{Shown}
 use Rattle.clap_debug_cli.specs.declared.check.Incoming.{Incoming}
 use Rattle.clap_debug_cli.specs.declared.check.Stage.{Stage}
-use Rattle.clap_debug_cli.specs.declared.check.Stage.TheVariants.{Begins, Counts, Refuses as Waits, Checks}
+use Rattle.clap_debug_cli.specs.declared.check.Stage.TheVariants.{Begins, Refuses as Waits, Checks}
 
 -- after a fault the rest isn't read
 pub stays : (bytes : List ℕ) (s : Reading) → is_some s.fault ≡ true → Reads s bytes [] s
@@ -84,25 +84,13 @@ fold_more : (ls : List Line) (s : Checking) (l : Line) → after (fold after s l
 fold_more [] s l = refl
 fold_more (m ∷ ls) s l = fold_more ls (after s m) l
 
--- the first line of many is the first of more
-same_first : (ts more : List Taken) (o : Option ℕ) → (ts ≡ [] → ⊥) → first_broken (ts ++ more) o ≡ first_broken ts o
-same_first [] more o some = absurd (some refl)
-same_first (More ∷ ts) more o some = refl
-same_first (Header h ∷ ts) more o some = refl
-same_first (Body l ∷ ts) more o some = refl
-same_first (Form k ∷ ts) more o some = refl
-
 module _ (program : List ℕ) (code : Code) (run : StoredLog) where
   module _ (front : List ℕ) (s : Reading) (ts : List Taken) (reads : Reads beginning front ts s) (free : s.fault ≡ None) (bytes : List ℕ) (t : Reading) where
     place : s.line ≡ 1 + length ts
     place = read-count front beginning ts s reads free
 
-    some_lines : (m : Model) (ls : List Line) → ts ≡ whole_lines (head_of m) ls → s.line ≡ 2 + length ls
+    some_lines : (m : Head) (ls : List Line) → ts ≡ whole_lines m ls → s.line ≡ 2 + length ls
     some_lines m ls e = omega (arith, place, ap length e, bodies_length ls)
-
-    -- where switches are counted a first line was taken
-    counted : ((o : Option ℕ) → first_broken ts o ≡ Some 1) → ts ≡ [] → ⊥
-    counted is e = absurd (let bad : None ≡ Some 1 = ap (λ z. first_broken z None) (sym e) ∙ is None in cc)
 
     -- no line ended
     pub after_more : (stage : Stage) → IsStage program code run s ts stage → Reads s bytes [] t → t.fault ≡ None → IsStage program code run t (ts ++ []) stage
@@ -111,15 +99,14 @@ module _ (program : List ℕ) (code : Code) (run : StoredLog) where
       where
         by : (st : Stage) → IsStage program code run s ts st → IsStage program code run t ts st
         by Begins h =
-            let line : t.line ≡ 1 = omega (arith, read-count bytes s [] t r e, place, ap length (h.2 free)) in
-            (h.0, at_first t e line, λ _. h.2 free)
-        by Counts h = h
-        by (Waits a) h = (h.0, λ _. h.1 free)
-        by (Checks c) h = (h.0, λ _. h.1 free)
+            let line : t.line ≡ 1 = omega (arith, read-count bytes s [] t r e, place, ap length (h.1 free)) in
+            (at_first t e line, λ _. h.1 free)
+        by (Waits a) h = λ _. h free
+        by (Checks most c) h = λ _. h free
 
     -- the first line ended
     pub after_header : (stage : Stage) → IsStage program code run s ts stage → (h : Head) → Reads s bytes (Header h ∷ []) t → (next : Stage)
-        → IsBegun program code run h.model h.switches next → IsStage program code run t (ts ++ Header h ∷ []) next
+        → IsBegun program code run h next → IsStage program code run t (ts ++ Header h ∷ []) next
     after_header stage is h r next begun =
         let at = first-taken bytes s t (Header h) [] r in
         subst (λ z. IsStage program code run t (z ++ Header h ∷ []) next) (sym (none ts (omega (arith, place, at.1.0)))) (by h next begun)
@@ -128,59 +115,47 @@ module _ (program : List ℕ) (code : Code) (run : StoredLog) where
         none [] e = refl
         none (x ∷ xs) e = absurd (omega (arith, e))
 
-        by : (k : Head) (st : Stage) → IsBegun program code run k.model k.switches st → IsStage program code run t (Header k ∷ []) st
-        by k st b = at k.model k.switches st b
-          where
-            at : (m : Model) (o : Option ℕ) (st : Stage) → IsBegun program code run m o st
-                → IsStage program code run t (Header (record { model = m; switches = o }) ∷ []) st
-            at m (Some n) Counts b = λ broken. refl
-            at m None (Waits a) b = (λ broken. refl, λ _. (m, [], refl, b))
-            at m None (Checks c) b = (λ broken. refl, λ _. (m, [], refl, b))
-            at m (Some n) Begins b = absurd b
-            at m (Some n) (Waits a) b = absurd b
-            at m (Some n) (Checks c) b = absurd b
-            at m None Begins b = absurd b
-            at m None Counts b = absurd b
+        by : (k : Head) (st : Stage) → IsBegun program code run k st → IsStage program code run t (Header k ∷ []) st
+        by k Begins b = absurd b
+        by k (Waits a) b = λ _. (k, [], refl, b)
+        by k (Checks most c) b = λ _. (k, [], refl, b.0, b.1)
 
     -- another line ended
     pub has_room : (stage : Stage) → IsStage program code run s ts stage → (l : Line) → Reads s bytes (Body l ∷ []) t → HasRoom stage
     has_room Begins is l r = tt
-    has_room Counts is l r = tt
     has_room (Waits a) is l r = tt
-    has_room (Checks c) is l r =
-        let w = is.1 free in
+    has_room (Checks most c) is l r =
+        let w = is free in
         let fits = (line-fits bytes s t l r).1 in
-        let f = model_clauses w.0 code run.log in
+        let f = head_clauses w.0 code run.log in
         let count = fold_line w.1 (start f) in
         let first = start-line (opening f.vars) f.clauses in
-        omega (arith, some_lines w.0 w.1 w.2, fits, count, first, ap (λ (x : Checking). x.line) w.3.is)
+        omega (arith, some_lines w.0 w.1 w.2, fits, count, first, ap (λ (x : Checking). x.line) w.4.is)
 
     pub after_line : (stage : Stage) → IsStage program code run s ts stage → (l : Line) → Reads s bytes (Body l ∷ []) t
         → IsStage program code run t (ts ++ Body l ∷ []) (stage_after stage l)
     after_line Begins is l r =
         let at = first-taken bytes s t (Body l) [] r in
-        absurd (omega (arith, at.1.0, place, ap length (is.2 free)))
-    after_line Counts is l r = λ o. same_first ts (Body l ∷ []) o (counted is) ∙ is o
+        absurd (omega (arith, at.1.0, place, ap length (is.1 free)))
     after_line (Waits a) is l r =
-        let w = is.1 free in
-        let e : ts ++ Body l ∷ [] ≡ whole_lines (head_of w.0) (w.1 ++ l ∷ []) =
-        ap (λ z. z ++ Body l ∷ []) w.2 ∙ ap (λ z. Header (head_of w.0) ∷ z) (bodies_more w.1 l) in
-        (subst (λ z. IsUnbroken program code run z) (sym e) (λ o. refl), λ _. (w.0, w.1 ++ l ∷ [], e, w.3))
-    after_line (Checks c) is l r =
-        let w = is.1 free in
-        let e : ts ++ Body l ∷ [] ≡ whole_lines (head_of w.0) (w.1 ++ l ∷ []) =
-        ap (λ z. z ++ Body l ∷ []) w.2 ∙ ap (λ z. Header (head_of w.0) ∷ z) (bodies_more w.1 l) in (
-          subst (λ z. IsUnbroken program code run z) (sym e) (λ o. refl),
-          λ _. (
-            w.0,
-            w.1 ++ l ∷ [],
-            e,
-            record {
-              recorded = w.3.recorded;
-              within = w.3.within;
-              is = ap (λ x. after x l) w.3.is ∙ fold_more w.1 (start (model_clauses w.0 code run.log)) l;
-            },
-          ),
+        let w = is free in
+        let e : ts ++ Body l ∷ [] ≡ whole_lines w.0 (w.1 ++ l ∷ []) =
+        ap (λ z. z ++ Body l ∷ []) w.2 ∙ ap (λ z. Header w.0 ∷ z) (bodies_more w.1 l) in
+        λ _. (w.0, w.1 ++ l ∷ [], e, w.3)
+    after_line (Checks most c) is l r =
+        let w = is free in
+        let e : ts ++ Body l ∷ [] ≡ whole_lines w.0 (w.1 ++ l ∷ []) =
+        ap (λ z. z ++ Body l ∷ []) w.2 ∙ ap (λ z. Header w.0 ∷ z) (bodies_more w.1 l) in
+        λ _. (
+          w.0,
+          w.1 ++ l ∷ [],
+          e,
+          w.3,
+          record {
+            recorded = w.4.recorded;
+            within = w.4.within;
+            is = ap (λ x. after x l) w.4.is ∙ fold_more w.1 (start (head_clauses w.0 code run.log)) l;
+          },
         )
 
     -- a line broke the form
@@ -191,42 +166,35 @@ module _ (program : List ℕ) (code : Code) (run : StoredLog) where
         not_free : t.fault ≡ None → ⊥
         not_free e = let bad : Some k ≡ None = sym broke ∙ e in cc
 
-        still : (m : Model) (ls : List Line) → ts ≡ whole_lines (head_of m) ls → IsUnbroken program code run (ts ++ Form k ∷ [])
-        still m ls e = subst (λ z. IsUnbroken program code run (z ++ Form k ∷ [])) (sym e) (λ o. refl)
-
         by : (st : Stage) → IsStage program code run s ts st → IsStage program code run t (ts ++ Form k ∷ []) st
         by Begins h =
             let at = first-taken bytes s t (Form k) [] r in
-            let first : k ≡ 1 = omega (arith, at.1.0, place, ap length (h.2 free)) in (
-              subst (λ z. IsUnbroken program code run (z ++ Form k ∷ [])) (sym (h.2 free)) (λ o. refl),
-              at_fault t k broke ∙ ap (λ n. Some n) first,
-              λ e. absurd (not_free e),
-            )
-        by Counts h = λ o. same_first ts (Form k ∷ []) o (counted h) ∙ h o
-        by (Waits a) h = let w = h.1 free in (still w.0 w.1 w.2, λ e. absurd (not_free e))
-        by (Checks c) h = let w = h.1 free in (still w.0 w.1 w.2, λ e. absurd (not_free e))
+            let first : k ≡ 1 = omega (arith, at.1.0, place, ap length (h.1 free)) in
+            (at_fault t k broke ∙ ap (λ n. Some n) first, λ e. absurd (not_free e))
+        by (Waits a) h = λ e. absurd (not_free e)
+        by (Checks most c) h = λ e. absurd (not_free e)
 
   -- at the end
 
   module _ (text : Reading) (bytes : List ℕ) (ts : List Taken) (reads : Reads beginning bytes ts text) where
-    pub broken_there : (line : ℕ) → first_broken ts (first_breach text) ≡ Some line → IsBrokenAt bytes line
-    broken_there line e = (ts, first_breach text, (text, reads, refl), e)
+    pub broken_there : (line : ℕ) → first_breach text ≡ Some line → BreaksAt bytes line
+    broken_there line e = (ts, (text, reads, e))
 
     -- nothing broke the form: the bytes are those of a refutation
-    whole : first_breach text ≡ None → (m : Model) (ls : List Line) → ts ≡ whole_lines (head_of m) ls → IsRefutation bytes m ls
+    whole : first_breach text ≡ None → (m : Head) (ls : List Line) → ts ≡ whole_lines m ls → IsRefutation bytes m ls
     whole none m ls e =
         let w = read-is-text bytes ts text reads none in
-        let same = whole-one w.0 (head_of m) w.1 ls (sym w.2 ∙ e) in
+        let same = whole-one w.0 m w.1 ls (sym w.2 ∙ e) in
         record {
           whole = subst (λ h. IsWhole h ls) same.0 (subst (λ xs. IsWhole w.0 xs) same.1 w.3);
-          text = sym w.4 ∙ ap (λ h. refutation_text h w.1) same.0 ∙ ap (λ xs. refutation_text (head_of m) xs) same.1;
+          text = sym w.4 ∙ ap (λ h. refutation_text h w.1) same.0 ∙ ap (λ xs. refutation_text m xs) same.1;
         }
 
     pub waited : (a : Answer) → IsStage program code run text ts (Waits a) → first_breach text ≡ None
         → Refuses (IsRefutationAnswer bytes (IsClausesAnswer program code run)) a
-    waited a is none = let w = is.1 (unbroken_free text none) in by a w.3 (w.0, w.1, whole none w.0 w.1 w.2)
+    waited a is none = let w = is (unbroken_free text none) in by a w.3 (w.0, w.1, whole none w.0 w.1 w.2)
       where
-        by : (b : Answer) → IsWhyUnchecked program code run b → (m : Model) × (ls : List Line) × IsRefutation bytes m ls
+        by : (b : Answer) → IsWhyUnchecked program code run b → (m : Head) × (ls : List Line) × IsRefutation bytes m ls
             → Refuses (IsRefutationAnswer bytes (IsClausesAnswer program code run)) b
         by NoMemory why f = tt
         by (LogOver e) why f = (f.0, f.1, f.2, why)
@@ -234,29 +202,33 @@ module _ (program : List ℕ) (code : Code) (run : StoredLog) where
         by (LogRefused (Unfit n m)) why f = (f.0, f.1, f.2, why)
         by _ why f = absurd why
 
-    -- its first lines broke no other line than the one that breaks the form
-    pub unended : (a : Answer) → IsUnbroken program code run ts → IfSome (first_breach text) (λ line. a ≡ RefutationRefused line)
-        → IsSome (first_breach text) → Refuses (IsRefutationAnswer bytes (IsClausesAnswer program code run)) a
-    unended a unbroken told some = by (first_breach text) refl told some
+    -- a line breaks the form
+    pub unended : (a : Answer) → IfSome (first_breach text) (λ line. a ≡ RefutationRefused line) → IsSome (first_breach text)
+        → Refuses (IsRefutationAnswer bytes (IsClausesAnswer program code run)) a
+    unended a told some = by (first_breach text) refl told some
       where
         by : (o : Option ℕ) → first_breach text ≡ o → IfSome o (λ line. a ≡ RefutationRefused line) → IsSome o
             → Refuses (IsRefutationAnswer bytes (IsClausesAnswer program code run)) a
         by None e f none = absurd (false≢true none)
         by (Some line) e f there =
             subst (Refuses (IsRefutationAnswer bytes (IsClausesAnswer program code run))) (sym f)
-            (broken_there line (unbroken (first_breach text) ∙ e))
+            (broken_there line e)
 
-    module _ (c : Checking) (is : IsStage program code run text ts (Checks c)) (none : first_breach text ≡ None) where
-      pub accepted : (v : Checked) → verdict c ≡ Ok v → IsRefutationAnswer bytes (IsClausesAnswer program code run) (Accepted v)
-      accepted v e =
-          let w = is.1 (unbroken_free text none) in
-          (w.0, w.1, whole none w.0 w.1 w.2, (w.3.recorded, (w.3.within, ap verdict (sym w.3.is) ∙ e)))
+    module _ (most : Option ℕ) (c : Checking) (is : IsStage program code run text ts (Checks most c)) (none : first_breach text ≡ None) where
+      pub accepted : (x : Shown) → IsShown most c x → IsRefutationAnswer bytes (IsClausesAnswer program code run) (Accepted x)
+      accepted x h =
+          let w = is (unbroken_free text none) in (
+            w.0,
+            w.1,
+            whole none w.0 w.1 w.2,
+            (w.4.recorded, (w.4.within, (h.0, ap verdict (sym w.4.is) ∙ h.1, h.2 ∙ ap (λ o. shown o h.0) w.3))),
+          )
 
       pub unshown : (a : Answer) → IsWhyUnshown c a → Refuses (IsRefutationAnswer bytes (IsClausesAnswer program code run)) a
       unshown NoMemory h = tt
       unshown (LineRefused n) h =
-          let w = is.1 (unbroken_free text none) in
-          (w.0, w.1, whole none w.0 w.1 w.2, (w.3.recorded, (w.3.within, (h.0, ap verdict (sym w.3.is) ∙ h.1, h.2))))
+          let w = is (unbroken_free text none) in
+          (w.0, w.1, whole none w.0 w.1 w.2, (w.4.recorded, (w.4.within, (h.0, ap verdict (sym w.4.is) ∙ h.1, h.2))))
       unshown _ h = absurd h
 
   -- a refutation that was read, by the stage that it came to
@@ -267,31 +239,23 @@ module _ (program : List ℕ) (code : Code) (run : StoredLog) where
     at_stage : (stage : Stage) → s.stage ≡ stage → IsStage program code run s.text read.0 stage
     at_stage stage e = subst (IsStage program code run s.text read.0) e read.2
 
-    pub begins_refused : s.stage ≡ Begins → IsBrokenAt bytes 1
+    pub begins_refused : s.stage ≡ Begins → BreaksAt bytes 1
     begins_refused e =
-        let is = at_stage Begins e in
-        broken_there s.text bytes read.0 read.1 1 (is.0 (first_breach s.text) ∙ is.1)
+        broken_there s.text bytes read.0 read.1 1 (at_stage Begins e).0
 
-    pub counts_refused : s.stage ≡ Counts → IsBrokenAt bytes 1
-    counts_refused e = broken_there s.text bytes read.0 read.1 1 (at_stage Counts e (first_breach s.text))
-
-    pub waits_unended : (w a : Answer) → s.stage ≡ Waits w → IfSome (first_breach s.text) (λ line. a ≡ RefutationRefused line)
-        → IsSome (first_breach s.text) → Refused a
-    waits_unended w a e told some = unended s.text bytes read.0 read.1 a (at_stage (Waits w) e).0 told some
-
-    pub checks_unended : (c : Checking) (a : Answer) → s.stage ≡ Checks c → IfSome (first_breach s.text) (λ line. a ≡ RefutationRefused line)
-        → IsSome (first_breach s.text) → Refused a
-    checks_unended c a e told some = unended s.text bytes read.0 read.1 a (at_stage (Checks c) e).0 told some
+    pub text_unended : (a : Answer) → IfSome (first_breach s.text) (λ line. a ≡ RefutationRefused line) → IsSome (first_breach s.text) → Refused a
+    text_unended a told some = unended s.text bytes read.0 read.1 a told some
 
     pub waits_refused : (a : Answer) → s.stage ≡ Waits a → first_breach s.text ≡ None → Refused a
     waits_refused a e none = waited s.text bytes read.0 read.1 a (at_stage (Waits a) e) none
 
-    pub checks_accepted : (c : Checking) (v : Checked) → s.stage ≡ Checks c → first_breach s.text ≡ None → verdict c ≡ Ok v
-        → IsRefutationAnswer bytes (IsClausesAnswer program code run) (Accepted v)
-    checks_accepted c v e none is = accepted s.text bytes read.0 read.1 c (at_stage (Checks c) e) none v is
+    pub checks_accepted : (most : Option ℕ) (c : Checking) (x : Shown) → s.stage ≡ Checks most c → first_breach s.text ≡ None → IsShown most c x
+        → IsRefutationAnswer bytes (IsClausesAnswer program code run) (Accepted x)
+    checks_accepted most c x e none is = accepted s.text bytes read.0 read.1 most c (at_stage (Checks most c) e) none x is
 
-    pub checks_refused : (c : Checking) (a : Answer) → s.stage ≡ Checks c → first_breach s.text ≡ None → IsWhyUnshown c a → Refused a
-    checks_refused c a e none why = unshown s.text bytes read.0 read.1 c (at_stage (Checks c) e) none a why
+    pub checks_refused : (most : Option ℕ) (c : Checking) (a : Answer) → s.stage ≡ Checks most c → first_breach s.text ≡ None → IsWhyUnshown c a
+        → Refused a
+    checks_refused most c a e none why = unshown s.text bytes read.0 read.1 most c (at_stage (Checks most c) e) none a why
 
   -- what was taken of some bytes
   module _ (old : Incoming) (bytes : List ℕ) (n : ℕ) (x : Taken) (t : Reading) (some : 0 < length bytes) (all : x ≡ More → n ≡ length bytes)
@@ -320,7 +284,7 @@ module _ (program : List ℕ) (code : Code) (run : StoredLog) where
           after_more front old.text read.0 read.1 none (take n bytes) t old.stage read.2 r (told ∙ ap fault_of e),
         )
 
-    pub header_on : (h : Head) → x ≡ Header h → (next : Stage) → IsBegun program code run h.model h.switches next → Read next (take n bytes)
+    pub header_on : (h : Head) → x ≡ Header h → (next : Stage) → IsBegun program code run h next → Read next (take n bytes)
     header_on h e next begun =
         let none = free (λ k f. let bad : Header h ≡ Form k = sym e ∙ f in cc) in
         let r = so_taken (Header h) e (moves none (λ m. let bad : Header h ≡ More = sym e ∙ m in cc)) in (

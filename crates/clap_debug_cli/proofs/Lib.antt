@@ -2,9 +2,13 @@ pub mod OneFiles
 pub mod OneRun
 pub mod Statuses
 pub mod Fetches
+pub mod Keeps
+pub mod Below
 pub mod Migrations
 pub mod OneTexts
 pub mod Causes
+pub mod Broken
+pub mod Explaining
 pub mod OneAnswer
 pub mod Solutions
 pub mod Accepted
@@ -13,7 +17,9 @@ pub mod Incoming
 pub mod Checks
 pub mod Calls
 pub mod SolveCalls
+pub mod MinimizeCalls
 pub mod CheckCalls
+pub mod WhyCalls
 pub mod Workloads
 pub mod WorkloadCalls
 pub mod Exchanged

@@ -1,4 +1,4 @@
--- At most one answer to what a command's inputs hold has its cause.
+-- All answers to what a command's inputs hold that have their cause have one status.
 use Rattle.std.proofs.Common.{◌≡◌, ℕ, List, [], ◌∷◌, refl, ap, subst}
 use Rattle.tc_base.specs.declared.model.Model.{Model}
 use Rattle.tc_base.specs.Buffers.{buffer_of}
@@ -10,18 +10,20 @@ use Rattle.schedule_file.proofs.Schedules as schedules
 use Rattle.schedule_replay.specs.Verdicts.{IsVerdict}
 use Rattle.schedule_replay.specs.declared.verdict.Verdict.{Verdict}
 use Rattle.schedule_replay.proofs.OneVerdict.{one_verdict}
-use Rattle.clap_debug_words.specs.Calls.{Called, Lists, Replays, Records, Migrates, Solves, Checks, Workloads, Exports, Imports}
+use Rattle.clap_debug_words.specs.Calls.{Called, Lists, Replays, Records, Migrates, Solves, Minimizes, Checks, Workloads, Exports, Imports, Explains}
 use Rattle.clap_debug_cli.specs.Files.{IsOfOther, Schedule}
 use Rattle.clap_debug_cli.specs.declared.answer.Answer.{Answer}
 use Rattle.clap_debug_cli.specs.declared.answer.Answer.TheVariants.{TooLong, ProgramRefused, LogRefused, ScheduleRefused, Listed, Replayed, Recorded, RunEnded}
 use Rattle.clap_debug_cli.specs.Causes.{IsListAnswer, IsRecordAnswer, IsReplayed, IsLogRefused, IsScheduleRefused, IsReplayAnswer, IsWorkOf, IsAnswerTo}
+use Rattle.clap_debug_cli.specs.Answers.{status_of}
 use Rattle.clap_debug_cli.specs.Inputs.{Texts, inputs_of}
 use Rattle.tc_compile.specs.Programs.{IsRefusal}
 use Rattle.clap_debug_cli.specs.declared.answer.LogRefusal.{LogRefusal}
 use Rattle.clap_debug_cli.specs.declared.answer.LogRefusal.TheVariants.{Form, OtherProgram, Unfit}
-use Rattle.clap_debug_cli.proofs.Fetches.{not_within, one_too_long}
+use Rattle.clap_debug_cli.proofs.Fetches.{not_within}
 use Rattle.clap_debug_cli.specs.Call.{IsDecided}
-use Rattle.clap_debug_cli.proofs.OneTexts.{one_migrate_answer, one_solve_answer, one_check_answer, one_workload_answer, one_cnf_answer, one_import_answer}
+use Rattle.clap_debug_cli.proofs.Explaining.{one_why_status}
+use Rattle.clap_debug_cli.proofs.OneTexts.{one_migrate_answer, one_solve_answer, one_minimize_answer, one_check_answer, one_workload_answer, one_cnf_answer, one_import_answer}
 use Rattle.clap_debug_cli.proofs.OneFiles.{one_log, log_or_fault, one_schedule, schedule_or_fault}
 use Rattle.tc_compile.proofs.OnePrograms.{one_code, one_refusal, refused_no_code}
 use Rattle.clap_debug_cli.proofs.OneRun.{one_outcome, one_ending, recorded_or_ended}
@@ -111,20 +113,24 @@ module _ (program : List ℕ) (model : Model) (seed steps : ℕ) where
   one_record_answer (RunEnded _) _ f g = absurd g
   one_record_answer _ b f g = absurd f
 
-one_work : (call : Called) (t : Texts) (a b : Answer) → IsDecided a → IsWorkOf call t a → IsWorkOf call t b → a ≡ b
-one_work (Lists _) (program ∷ []) a b decided f g = one_list_answer program a b f g
-one_work (Replays _ _ _) (program ∷ log ∷ schedule ∷ []) a b decided f g = one_replay_answer program log schedule a b f g
-one_work (Records _ _ model seed steps) (program ∷ []) a b decided f g = one_record_answer program model seed steps a b f g
-one_work (Migrates _ _ _) (program ∷ log ∷ []) a b decided f g = one_migrate_answer program log a b decided f g
-one_work (Solves _ _ _ model budget) (program ∷ log ∷ []) a b decided f g = one_solve_answer program log model budget a b decided f g
-one_work (Checks _ _ _) (program ∷ log ∷ refutation ∷ []) a b decided f g = one_check_answer program log refutation a b decided f g
-one_work (Workloads workers seed) [] a b decided f g = one_workload_answer workers seed a b decided f g
-one_work (Exports _ _ _ model) (program ∷ log ∷ []) a b decided f g = one_cnf_answer program log model a b decided f g
-one_work (Imports _ _ _ _ model) (program ∷ log ∷ answer ∷ []) a b decided f g = one_import_answer program log answer model a b decided f g
+one_work : (call : Called) (t : Texts) (a b : Answer) → IsDecided a → IsWorkOf call t a → IsWorkOf call t b → status_of a ≡ status_of b
+one_work (Lists _) (program ∷ []) a b decided f g = ap status_of (one_list_answer program a b f g)
+one_work (Replays _ _ _) (program ∷ log ∷ schedule ∷ []) a b decided f g = ap status_of (one_replay_answer program log schedule a b f g)
+one_work (Records _ _ model seed steps) (program ∷ []) a b decided f g = ap status_of (one_record_answer program model seed steps a b f g)
+one_work (Migrates _ _ _) (program ∷ log ∷ []) a b decided f g = ap status_of (one_migrate_answer program log a b decided f g)
+one_work (Solves _ _ _ model budget) (program ∷ log ∷ []) a b decided f g = ap status_of (one_solve_answer program log model budget a b decided f g)
+one_work (Minimizes _ _ _ model budget _) (program ∷ log ∷ []) a b decided f g =
+    ap status_of (one_minimize_answer program log model budget a b decided f g)
+one_work (Checks _ _ _) (program ∷ log ∷ refutation ∷ []) a b decided f g = ap status_of (one_check_answer program log refutation a b decided f g)
+one_work (Workloads workers seed) [] a b decided f g = ap status_of (one_workload_answer workers seed a b decided f g)
+one_work (Exports _ _ _ model) (program ∷ log ∷ []) a b decided f g = ap status_of (one_cnf_answer program log model a b decided f g)
+one_work (Imports _ _ _ _ model) (program ∷ log ∷ answer ∷ []) a b decided f g =
+    ap status_of (one_import_answer program log answer model a b decided f g)
+one_work (Explains _ _ _) (program ∷ log ∷ refutation ∷ []) a b decided f g = one_why_status program log refutation a b decided f g
 one_work _ _ a b decided f g = absurd f
 
-pub one_answer : (call : Called) (t : Texts) (a b : Answer) → IsDecided a → IsAnswerTo call t a → IsAnswerTo call t b → a ≡ b
-one_answer call t (TooLong i) (TooLong j) decided f g = ap (λ x. TooLong x) (one_too_long (inputs_of call) t i j f g)
-one_answer call t (TooLong i) _ decided f g = absurd (not_within (inputs_of call) t i f g.0)
-one_answer call t _ (TooLong j) decided f g = absurd (not_within (inputs_of call) t j g f.0)
-one_answer call t a b decided f g = one_work call t a b decided f.1 g.1
+pub one_status : (call : Called) (t : Texts) (a b : Answer) → IsDecided a → IsAnswerTo call t a → IsAnswerTo call t b → status_of a ≡ status_of b
+one_status call t (TooLong i) (TooLong j) decided f g = refl
+one_status call t (TooLong i) _ decided f g = absurd (not_within (inputs_of call) t i f g.0)
+one_status call t _ (TooLong j) decided f g = absurd (not_within (inputs_of call) t j g f.0)
+one_status call t a b decided f g = one_work call t a b decided f.1 g.1

@@ -22,6 +22,7 @@ use Rattle.dimacs_text.proofs.FirstFalse.{one_first_false, false_or_satisfied}
 use Rattle.dimacs_text.specs.Answers.{answer as answer_in}
 use Rattle.refute_check.specs.Refutations.{check}
 use Rattle.refute_check.specs.declared.line.Line.{Line}
+use Rattle.refute_check.specs.declared.head.Head.{Head}
 use Rattle.refute_check.specs.declared.verdict.Checked.{Checked}
 use Rattle.refute_check.specs.declared.verdict.CheckFault.{CheckFault}
 use Rattle.refute_check.specs.declared.verdict.CheckFault.TheVariants as check_fault
@@ -29,23 +30,24 @@ use Rattle.clap_system.specs.Faults.{IsBuildFault, IsShallow, limit_of}
 use Rattle.clap_system.specs.declared.fault.BuildFault.TheVariants as build
 use Rattle.clap_system.specs.declared.fault.Which.{Which}
 use Rattle.clap_system.specs.declared.fault.Which.TheVariants.{Threads, Depth, Events, Operators}
-use Rattle.clap_solve.specs.Clauses.{model_clauses}
 use Rattle.clap_solve.specs.Imported.{values_of}
 use Rattle.clap_solve.specs.Solved.{IsWithin}
 use Rattle.clap_debug_cli.specs.declared.answer.Answer.{Answer}
 use Rattle.clap_debug_cli.specs.declared.answer.Answer.TheVariants.{ProgramRefused, LogRefused, LogOver, Migrated}
-use Rattle.clap_debug_cli.specs.declared.answer.Answer.TheVariants.{RefutationRefused, Solved, Accepted, LineRefused, Worked, AnswerRefused, Exported, Imported, ClauseFalse}
+use Rattle.clap_debug_cli.specs.declared.answer.Answer.TheVariants.{RefutationRefused, Solved, Minimized, Accepted, LineRefused, Worked, AnswerRefused, Exported, Imported, ClauseFalse}
 use Rattle.clap_debug_cli.specs.Call.{IsDecided}
 use Rattle.clap_debug_cli.specs.Causes.{IsFitAnswer, IsStoredAnswer, IsLogAnswer, IsTextsAnswer, IsMigrateAnswer, IsLimitAnswer, IsSearchAnswer, IsSolveAnswer}
 use Rattle.clap_debug_cli.specs.Causes.{IsRefutationAnswer, IsVerdictAnswer, IsClausesAnswer, IsCheckAnswer}
 use Rattle.clap_debug_cli.specs.Causes.{IsProgramAnswer, IsWorkAnswer, IsWorkloadAnswer, IsClauseListAnswer, IsCnfAnswer}
+use Rattle.clap_debug_cli.specs.Causes.{IsMinimizedAnswer, IsMinimizeAnswer, IsPlainAnswer, IsUnexplainedAnswer}
 use Rattle.clap_debug_cli.specs.Causes.{IsLiteralsAnswer, IsTakenAnswer, IsImportAnswer}
 use Rattle.clap_debug_cli.specs.Solvers.{clauses_for}
 use Rattle.clap_debug_cli.specs.Worked.{seeded_text}
-use Rattle.clap_debug_cli.specs.Checked.{IsOfLine}
+use Rattle.clap_debug_cli.specs.Checked.{IsOfLine, head_clauses, shown}
 use Rattle.clap_debug_cli.specs.Migrated.{excess}
 use Rattle.clap_debug_cli.specs.declared.answer.LogRefusal.TheVariants.{Form, OtherProgram, Unfit}
-use Rattle.clap_debug_cli.proofs.OneFiles.{one_log, log_or_fault, one_refutation, one_broken, refutation_or_fault}
+use Rattle.clap_debug_cli.specs.Files.{head_of}
+use Rattle.clap_debug_cli.proofs.OneFiles.{one_log, log_or_fault, one_refutation, one_broken, refutation_or_fault, one_plain, one_plain_broken, plain_or_fault}
 use Rattle.tc_compile.proofs.OnePrograms.{one_code, one_refusal, refused_no_code}
 
 -- an answer of which this holds and which is decided is the only one
@@ -133,8 +135,12 @@ module _ (code : Code) (log : Log) where
   one_search model budget (Solved x) b decided f g = absurd decided
   one_search model budget _ b decided f g = absurd f
 
+  one_minimized : (model : Option Model) (budget : ℕ) → IsOne (IsMinimizedAnswer code log model budget)
+  one_minimized model budget (Minimized x) b decided f g = absurd decided
+  one_minimized model budget _ b decided f g = absurd f
+
 -- the verdict on a derivation is one
-module _ (f : Formula) (lines : List Line) where
+module _ (f : Formula) (switches : Option ℕ) (lines : List Line) where
   same_fault : (p q : CheckFault) → check f lines ≡ Err p → check f lines ≡ Err q → p ≡ q
   same_fault p q x y = let e : Err p ≡ Err q = sym x ∙ y in cc
 
@@ -151,10 +157,10 @@ module _ (f : Formula) (lines : List Line) where
   one_line (check_fault.NoConflict k) m n x y = x ∙ sym y
   one_line check_fault.Memory m n x y = absurd x
 
-  one_verdict : IsOne (IsVerdictAnswer f lines)
-  one_verdict (Accepted v) (Accepted w) _ x y = ap (λ z. Accepted z) (same_shown v w x y)
-  one_verdict (Accepted v) (LineRefused n) _ x y = absurd (no_both v y.0 x y.1)
-  one_verdict (LineRefused m) (Accepted w) _ x y = absurd (no_both w x.0 y x.1)
+  one_verdict : IsOne (IsVerdictAnswer f switches lines)
+  one_verdict (Accepted v) (Accepted w) _ x y = ap (λ z. Accepted z) (x.2 ∙ ap (shown switches) (same_shown x.0 y.0 x.1 y.1) ∙ sym y.2)
+  one_verdict (Accepted v) (LineRefused n) _ x y = absurd (no_both x.0 y.0 x.1 y.1)
+  one_verdict (LineRefused m) (Accepted w) _ x y = absurd (no_both y.0 x.0 y.1 x.1)
   one_verdict (LineRefused m) (LineRefused n) _ x y =
       ap (λ z. LineRefused z) (one_line x.0 m n x.2 (subst (λ p. IsOfLine p n) (same_fault y.0 x.0 y.1 x.1) y.2))
   one_verdict (Accepted _) _ _ x y = absurd y
@@ -167,14 +173,22 @@ one_stored program run P one (LogRefused OtherProgram) b _ f g = absurd (g.0 f)
 one_stored program run P one a (LogRefused OtherProgram) _ f g = absurd (f.0 g)
 one_stored program run P one a b decided f g = one a b decided f.1 g.1
 
-one_of_refutation : (bytes : List ℕ) (P : Model → List Line → Answer → Type 0) → ((m : Model) (ls : List Line) → IsOne (P m ls))
+one_of_refutation : (bytes : List ℕ) (P : Head → List Line → Answer → Type 0) → ((m : Head) (ls : List Line) → IsOne (P m ls))
     → IsOne (IsRefutationAnswer bytes P)
 one_of_refutation bytes P one (RefutationRefused m) (RefutationRefused n) _ f g = ap (λ x. RefutationRefused x) (one_broken bytes m n f g)
-one_of_refutation bytes P one (RefutationRefused m) b _ f g = absurd (refutation_or_fault bytes g.0 g.1 m g.2 f)
-one_of_refutation bytes P one a (RefutationRefused n) _ f g = absurd (refutation_or_fault bytes f.0 f.1 n f.2 g)
+one_of_refutation bytes P one (RefutationRefused m) b _ f g = absurd (refutation_or_fault bytes g.0 g.1 g.2 m f)
+one_of_refutation bytes P one a (RefutationRefused n) _ f g = absurd (refutation_or_fault bytes f.0 f.1 f.2 n g)
 one_of_refutation bytes P one a b decided f g =
     let same = one_refutation bytes g.0 f.0 g.1 f.1 g.2 f.2 in
     one f.0 f.1 a b decided f.3 (subst (λ m. P m f.1 b) same.0 (subst (λ ls. P g.0 ls b) same.1 g.3))
+
+one_of_plain : (bytes : List ℕ) (P : Head → List Line → Answer → Type 0) → ((m : Head) (ls : List Line) → IsOne (P m ls)) → IsOne (IsPlainAnswer bytes P)
+one_of_plain bytes P one (RefutationRefused m) (RefutationRefused n) _ f g = ap (λ x. RefutationRefused x) (one_plain_broken bytes m n f g)
+one_of_plain bytes P one (RefutationRefused m) b _ f g = absurd (plain_or_fault bytes g.0 g.1 m g.2 f)
+one_of_plain bytes P one a (RefutationRefused n) _ f g = absurd (plain_or_fault bytes f.0 f.1 n f.2 g)
+one_of_plain bytes P one a b decided f g =
+    let same = one_plain bytes g.0 f.0 g.1 f.1 g.2 f.2 in
+    one (head_of f.0) f.1 a b decided f.3 (subst (λ m. P (head_of m) f.1 b) same.0 (subst (λ ls. P (head_of g.0) ls b) same.1 g.3))
 
 one_of_log : (log : List ℕ) (P : StoredLog → Answer → Type 0) → ((run : StoredLog) → IsOne (P run)) → IsOne (IsLogAnswer log P)
 one_of_log log P one (LogRefused (Form o)) (LogRefused (Form q)) _ f g = ap (λ x. LogRefused (Form x)) (logs.one_fault log o q f g)
@@ -203,15 +217,27 @@ one_solve_answer program log model budget =
     (λ code run. one_stored program run (IsLimitAnswer code run.log (IsSearchAnswer code run.log model budget))
     (one_limit code run.log (IsSearchAnswer code run.log model budget) (one_search code run.log model budget)))
 
-one_clauses : (program : List ℕ) (code : Code) (run : StoredLog) (m : Model) (ls : List Line) → IsOne (IsClausesAnswer program code run m ls)
+pub one_minimize_answer : (program log : List ℕ) (model : Option Model) (budget : ℕ) → IsOne (IsMinimizeAnswer program log model budget)
+one_minimize_answer program log model budget =
+    one_of_texts program log (λ code run. IsStoredAnswer program run (IsLimitAnswer code run.log (IsMinimizedAnswer code run.log model budget)))
+    (λ code run. one_stored program run (IsLimitAnswer code run.log (IsMinimizedAnswer code run.log model budget))
+    (one_limit code run.log (IsMinimizedAnswer code run.log model budget) (one_minimized code run.log model budget)))
+
+one_clauses : (program : List ℕ) (code : Code) (run : StoredLog) (m : Head) (ls : List Line) → IsOne (IsClausesAnswer program code run m ls)
 one_clauses program code run m ls =
-    let f = model_clauses m code run.log in
-    one_stored program run (IsLimitAnswer code run.log (IsVerdictAnswer f ls)) (one_limit code run.log (IsVerdictAnswer f ls) (one_verdict f ls))
+    let f = head_clauses m code run.log in
+    one_stored program run (IsLimitAnswer code run.log (IsVerdictAnswer f m.switches ls))
+    (one_limit code run.log (IsVerdictAnswer f m.switches ls) (one_verdict f m.switches ls))
 
 pub one_check_answer : (program log refutation : List ℕ) → IsOne (IsCheckAnswer program log refutation)
 one_check_answer program log refutation =
     one_of_texts program log (λ code run. IsRefutationAnswer refutation (IsClausesAnswer program code run))
     (λ code run. one_of_refutation refutation (IsClausesAnswer program code run) (one_clauses program code run))
+
+pub one_unexplained_answer : (program log refutation : List ℕ) → IsOne (IsUnexplainedAnswer program log refutation)
+one_unexplained_answer program log refutation =
+    one_of_texts program log (λ code run. IsPlainAnswer refutation (IsClausesAnswer program code run))
+    (λ code run. one_of_plain refutation (IsClausesAnswer program code run) (one_clauses program code run))
 
 one_work : (code : Code) (workers seed : ℕ) → IsOne (IsWorkAnswer code workers seed)
 one_work code workers seed (Worked x) b decided f g = absurd decided

@@ -1,6 +1,6 @@
 -- What a search found, as an answer and as what is kept.
 use Rattle.std.proofs.Common.{◌≡◌, ap, sym, subst, refl, ℕ, List, Option, true, unwrap_or}
-use Rattle.tc_base.specs.Buffers.{buffer_of, no_buffer, fifo_buffer, cell_buffer}
+use Rattle.tc_base.specs.Buffers.{BufferOps, buffer_of, no_buffer, fifo_buffer, cell_buffer}
 use Rattle.tc_base.specs.Logs.{Log}
 use Rattle.tc_base.specs.declared.model.Model.{Model}
 use Rattle.tc_base.specs.declared.model.Model.TheVariants.{Sc, Tso, Pso}
@@ -9,18 +9,25 @@ use Rattle.refute_check.specs.declared.line.Line.{Line}
 use Rattle.tc_code.specs.Code.{Code}
 use Rattle.tc_code.specs.Run.{Reproduces}
 use Rattle.path_log.specs.Texts.{StoredLog}
-use Rattle.store_buffers.specs.Pending.{binds_all, binds_cells}
+use Rattle.store_buffers.specs.Pending.{Binding, binds_all, binds_cells}
 use Rattle.store_buffers.specs.helpers.Partial.{pso_laws}
 use Rattle.store_buffers.specs.helpers.Sequential.{sc_laws}
 use Rattle.store_buffers.specs.helpers.Total.{tso_laws}
 use Rattle.run_models.specs.Models.{moves_as}
 use Rattle.run_models.proofs.Simulation.{reproduces_under_more}
+use Rattle.clap_solve.specs.Clauses.{bound_of}
+use Rattle.clap_solve.specs.Solved.{IsAnswer}
 use Rattle.clap_solve.specs.declared.answer.Answer.TheVariants as found
+use Rattle.least_switch.specs.Least.{IsLeastAnswer}
+use Rattle.least_switch.specs.declared.answer.Least.{Least}
+use Rattle.least_switch.specs.declared.answer.Least.TheVariants as least
 use Rattle.tc_compile.proofs.OnePrograms.{one_code}
-use Rattle.clap_debug_cli.specs.Causes.{IsSolveAnswer}
+use Rattle.clap_debug_cli.specs.Causes.{IsMinimizeAnswer, IsSolveAnswer}
+use Rattle.clap_debug_cli.specs.Fewest.{IsMinimum, found_in, minimum}
 use Rattle.clap_debug_cli.specs.Recorded.{IsRecorded, run_of, with_digest}
 use Rattle.clap_debug_cli.specs.Solved.{IsPossible, IsSolution, allows, model_for, solution}
-use Rattle.clap_debug_cli.specs.declared.answer.Answer.TheVariants.{Solved}
+use Rattle.clap_debug_cli.specs.declared.answer.Answer.TheVariants.{Minimized, Solved}
+use Rattle.clap_debug_cli.specs.declared.answer.Minimum.{Minimum}
 use Rattle.clap_debug_cli.specs.declared.answer.Solution.{Solution}
 use Rattle.clap_debug_cli.proofs.OneFiles.{one_log}
 
@@ -40,6 +47,48 @@ solution_of program log model budget x w = record {
 pub solved_answer : (program log : List ℕ) (model : Option Model) (budget : ℕ) (x : Solution) → IsSolution program log model budget x
     → IsSolveAnswer program log model budget (Solved x)
 solved_answer program log model budget x s = (s.code, s.programs, (s.run, s.logs, (s.recorded, (s.within, s.searched))))
+
+-- and so of searches for the fewest switches
+pub minimum_of : (program log : List ℕ) (model : Option Model) (budget : ℕ) (x : Minimum) → IsMinimizeAnswer program log model budget (Minimized x)
+    → IsMinimum program log model budget x
+minimum_of program log model budget x w = record {
+  code = w.0;
+  run = w.2.0;
+  programs = w.1;
+  logs = w.2.1;
+  recorded = w.2.2.0;
+  within = w.2.2.1.0;
+  minimized = w.2.2.1.1;
+}
+
+pub minimized_answer : (program log : List ℕ) (model : Option Model) (budget : ℕ) (x : Minimum) → IsMinimum program log model budget x
+    → IsMinimizeAnswer program log model budget (Minimized x)
+minimized_answer program log model budget x s = (s.code, s.programs, (s.run, s.logs, (s.recorded, (s.within, s.minimized))))
+
+-- but for how few the switches are, they found what a search for any schedule might have
+answer_in : {B : Type 0} (ops : BufferOps B) (model : Model) (bound : Binding) (code : Code) (log : Log) (budget : ℕ) (x : Least)
+    → IsLeastAnswer ops model bound code log budget x → IsAnswer ops model bound code log budget (found_in x)
+answer_in ops model bound code log budget (least.Found _ _ _) h = (h.0.model_is, h.0.reproduces)
+answer_in ops model bound code log budget (least.Impossible _) h = h
+answer_in ops model bound code log budget (least.Spent _) h = h
+answer_in ops model bound code log budget (least.SpentAt _ _ _) h = (h.0.model_is, h.0.reproduces)
+
+pub solution_in : (program log : List ℕ) (model : Option Model) (budget : ℕ) (m : Model) (b : ℕ) (x : Least)
+    → IsMinimum program log model budget (minimum m b x) → IsSolution program log model budget (solution m b (found_in x))
+solution_in program log model budget m b x s = record {
+  code = s.code;
+  run = s.run;
+  programs = s.programs;
+  logs = s.logs;
+  recorded = s.recorded;
+  within = s.within;
+  searched = record {
+    model_is = s.minimized.model_is;
+    budget_is = s.minimized.budget_is;
+    found = answer_in (buffer_of m) m (bound_of m) s.code s.run.log budget x s.minimized.found;
+    form = s.minimized.form;
+  };
+}
 
 -- what is possible isn't called impossible
 module _ (program log : List ℕ) (model : Option Model) (budget : ℕ) (m : Model) (ls : List Line)

@@ -1,6 +1,5 @@
 -- The answers of `cnf` and of `import` by status.
-use Rattle.std.proofs.Common.{◌≡◌, ◌≢◌, ◌≤◌, ◌∙◌, ℕ, ℤ, List, [], ◌∷◌, length, Option, Some, ◌⊎◌, inl, inr, refl, sym, ap, subst, arith}
-use Rattle.tc_base.specs.Logs.{Log}
+use Rattle.std.proofs.Common.{◌≡◌, ◌≢◌, ◌≤◌, ◌∙◌, ℕ, ℤ, List, [], ◌∷◌, length, Option, Some, ◌⊎◌, inl, inr, refl, sym, subst, arith}
 use Rattle.tc_base.specs.declared.model.Model.{Model}
 use Rattle.tc_code.specs.Code.{Code}
 use Rattle.tc_compile.specs.Programs.{IsCodeOf, IsRefusal}

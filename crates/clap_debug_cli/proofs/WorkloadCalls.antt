@@ -1,5 +1,5 @@
 -- The answers of `workload` by status.
-use Rattle.std.proofs.Common.{◌≡◌, ◌≢◌, ◌∙◌, ℕ, List, [], ◌⊎◌, inl, inr, refl, sym, ap, subst, arith, Bool, true, false, cond}
+use Rattle.std.proofs.Common.{◌≡◌, ◌≢◌, ◌∙◌, ℕ, [], ◌⊎◌, inl, inr, refl, sym, ap, subst, arith, Bool, true, false, cond}
 use Rattle.tc_code.specs.Code.{Code}
 use Rattle.tc_compile.specs.Programs.{IsCodeOf, IsRefusal}
 use Rattle.tc_compile.proofs.OnePrograms.{one_code, refused_no_code}
@@ -14,12 +14,11 @@ use Rattle.clap_debug_words.specs.Calls.{Called, Workloads}
 use Rattle.clap_debug_cli.specs.Answers.{status_of, work_status}
 use Rattle.clap_debug_cli.specs.Call.{IsStatus, Puts, Says, WorkloadAnswers}
 use Rattle.clap_debug_cli.specs.Causes.{IsAnswerTo, IsWorkloadAnswer}
-use Rattle.clap_debug_cli.specs.Inputs.{inputs_of}
 use Rattle.clap_debug_cli.specs.Worked.{has_spent, seeded_text}
 use Rattle.clap_debug_cli.specs.declared.answer.Answer.{Answer}
 use Rattle.clap_debug_cli.specs.declared.answer.Answer.TheVariants.{TooLong, ProgramRefused, LogRefused, LogOver, Worked}
 use Rattle.clap_debug_cli.specs.declared.answer.LogRefusal.{LogRefusal}
-use Rattle.clap_debug_cli.specs.declared.answer.LogRefusal.TheVariants.{Form, OtherProgram, Unfit}
+use Rattle.clap_debug_cli.specs.declared.answer.LogRefusal.TheVariants.{Unfit}
 use Rattle.clap_debug_cli.specs.declared.answer.Work.{Work}
 use Rattle.clap_debug_cli.proofs.Calls.{IsKnown, alone_of, plain_at, work_of}
 use Rattle.clap_debug_cli.proofs.OneTexts.{over_or_within, unfit_or_within}

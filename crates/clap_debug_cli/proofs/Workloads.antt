@@ -1,5 +1,5 @@
 -- From what `workload` comes to to the cause of that answer.
-use Rattle.std.proofs.Common.{◌≡◌, refl, subst, ℕ, List, [], Result, Ok, Err}
+use Rattle.std.proofs.Common.{◌≡◌, refl, subst, ℕ, [], Result, Ok, Err}
 use Rattle.tc_base.specs.Logs.{Log}
 use Rattle.tc_code.specs.Code.{Code}
 use Rattle.tc_compile.specs.Programs.{IsCodeOf, IsWhyNoCode}
@@ -8,7 +8,7 @@ use Rattle.tc_compile.specs.declared.fault.CompileFault.TheVariants as compile
 use Rattle.tc_io.specs.Outside.{ShelfTells}
 use Rattle.tc_workload.specs.Workload.{workload_log}
 use Rattle.clap_debug_words.specs.Calls.{Workloads}
-use Rattle.clap_debug_cli.specs.Causes.{IsCauseOf, IsLimitAnswer, IsWorkAnswer, IsWorkloadAnswer}
+use Rattle.clap_debug_cli.specs.Causes.{IsCauseOf, IsWorkloadAnswer}
 use Rattle.clap_debug_cli.specs.Worked.{seeded_text}
 use Rattle.clap_debug_cli.specs.helpers.Faults.{compile_answer}
 use Rattle.clap_debug_cli.specs.helpers.Refused.{IsEither, IsWhyUnbuilt, Refuses}

@@ -12,14 +12,16 @@ use Rattle.tc_record.specs.declared.end.Which.TheVariants.{Threads, Depth, Steps
 use Rattle.clap_system.specs.Faults.{limit_of as most_in}
 use Rattle.clap_system.specs.declared.fault.Which.{Which as WhichInLog}
 use Rattle.clap_system.specs.declared.fault.Which.TheVariants as in_log
-use Rattle.refute_check.specs.declared.verdict.Checked.{Checked}
-use Rattle.refute_check.specs.declared.verdict.Checked.TheVariants.{Closed, Open}
 use Rattle.clap_solve.specs.declared.answer.Answer.{Answer as Found}
 use Rattle.clap_solve.specs.declared.answer.Answer.TheVariants as found
+use Rattle.least_switch.specs.declared.answer.Least.{Least}
+use Rattle.least_switch.specs.declared.answer.Least.TheVariants as least
+use Rattle.refute_check.specs.declared.line.Line.{Line}
 use Rattle.schedule_replay.specs.declared.verdict.Verdict.{Verdict}
 use Rattle.schedule_file.specs.declared.schedule.Schedule.{Schedule}
 use Rattle.cnf_core.specs.Clauses.{Formula}
 use Rattle.schedule_replay.specs.declared.verdict.Verdict.TheVariants as verdict
+use Rattle.why_impossible.specs.Reasons.{reasons_text}
 use Rattle.clap_debug_cli.specs.Inputs.{limit_of, input_text}
 use Rattle.clap_debug_cli.specs.Worked.{has_spent}
 use Rattle.clap_debug_cli.specs.declared.answer.Answer.{Answer}
@@ -38,6 +40,7 @@ use Rattle.clap_debug_cli.specs.declared.answer.Answer.TheVariants.{
   Migrated,
   RefutationRefused,
   Solved,
+  Minimized,
   Accepted,
   LineRefused,
   Worked,
@@ -45,6 +48,7 @@ use Rattle.clap_debug_cli.specs.declared.answer.Answer.TheVariants.{
   Exported,
   Imported,
   ClauseFalse,
+  Explained,
   WriteFault,
   NoMemory,
 }
@@ -55,6 +59,9 @@ use Rattle.clap_debug_cli.specs.declared.answer.Outcome.{Outcome}
 use Rattle.clap_debug_cli.specs.declared.answer.Outcome.TheVariants.{Failed, Deadlock}
 use Rattle.clap_debug_cli.specs.declared.answer.RunEnd.{RunEnd}
 use Rattle.clap_debug_cli.specs.declared.answer.RunEnd.TheVariants as ran
+use Rattle.clap_debug_cli.specs.declared.answer.Shown.{Shown}
+use Rattle.clap_debug_cli.specs.declared.answer.Shown.TheVariants.{Impossible, MoreSwitches, Open}
+use Rattle.clap_debug_cli.specs.declared.answer.Minimum.{Minimum}
 use Rattle.clap_debug_cli.specs.declared.answer.Solution.{Solution}
 use Rattle.clap_debug_cli.specs.declared.answer.Work.{Work}
 use Rattle.clap_debug_cli.specs.declared.answer.LogRefusal.{LogRefusal}
@@ -100,11 +107,18 @@ ending_line (Over which) = over_line (which_text which) (most_of which + 1) (mos
 abbrev pub schedule_line : Schedule → List ℕ
 schedule_line schedule = codes "schedule " ++ (decimal (length schedule.moves.items) ++ codes " moves\n")
 
+abbrev pub impossible_line : List Line → List ℕ
+impossible_line lines = codes "impossible, " ++ (decimal (length lines) ++ codes " lines\n")
+
+-- a search was given up after so many conflicts
+abbrev pub spent_line : (conflicts : ℕ) → List ℕ
+spent_line conflicts = codes "spent after " ++ (decimal conflicts ++ codes " conflicts\n")
+
 -- what a search found, with so many conflicts at most
 abbrev pub found_line : (budget : ℕ) → Found → List ℕ
 found_line budget (found.Found schedule) = schedule_line schedule
-found_line budget (found.Impossible lines) = codes "impossible, " ++ (decimal (length lines) ++ codes " lines\n")
-found_line budget (found.Spent lines) = codes "spent after " ++ (decimal budget ++ codes " conflicts\n")
+found_line budget (found.Impossible lines) = impossible_line lines
+found_line budget (found.Spent lines) = spent_line budget
 
 -- how many variables and clauses there are
 abbrev pub clauses_line : Formula → List ℕ
@@ -113,9 +127,25 @@ clauses_line f = codes "cnf " ++ (decimal f.vars ++ (codes " variables, " ++ (de
 abbrev pub solution_line : Solution → List ℕ
 solution_line x = found_line x.budget x.answer
 
-abbrev pub checked_line : Checked → List ℕ
-checked_line Closed = codes "accepted, impossible\n"
-checked_line Open = codes "accepted, open\n"
+-- one for fewer switches was given up after so many conflicts
+abbrev pub spent_at_line : (conflicts count : ℕ) → List ℕ
+spent_at_line conflicts count = codes "spent after " ++ (decimal conflicts ++ (codes " conflicts, " ++ (decimal count ++ codes " switches\n")))
+
+-- what searches for the fewest switches found, each with so many conflicts at most
+abbrev pub least_line : (budget : ℕ) → Least → List ℕ
+least_line budget (least.Found schedule count _) =
+    codes "schedule " ++ (decimal (length schedule.moves.items) ++ (codes " moves, " ++ (decimal count ++ codes " switches\n")))
+least_line budget (least.Impossible lines) = impossible_line lines
+least_line budget (least.Spent lines) = spent_line budget
+least_line budget (least.SpentAt _ count _) = spent_at_line budget count
+
+abbrev pub minimum_line : Minimum → List ℕ
+minimum_line x = least_line x.budget x.least
+
+abbrev pub shown_line : Shown → List ℕ
+shown_line Impossible = codes "accepted, impossible\n"
+shown_line (MoreSwitches most) = codes "accepted, more than " ++ (decimal most ++ codes " switches\n")
+shown_line Open = codes "accepted, open\n"
 
 abbrev pub end_word : RunEnd → List ℕ
 end_word ran.Failed = codes "failed"
@@ -145,7 +175,7 @@ log_refusal_text (Unfit name misfit) = misfit_text misfit ++ (codes " " ++ name_
 abbrev pub usage_text : List ℕ
 usage_text =
     codes "usage: clap_debug record PROGRAM LOG [--model sc|tso|pso] [--seed N] [--steps N]\n"
-    ++ codes "usage: clap_debug solve PROGRAM LOG OUT [--model sc|tso|pso] [--budget N]\n"
+    ++ codes "usage: clap_debug solve PROGRAM LOG OUT [--model sc|tso|pso] [--budget N] [--least REFUTATION]\n"
     ++ codes "usage: clap_debug replay PROGRAM LOG SCHEDULE\n"
     ++ codes "usage: clap_debug check PROGRAM LOG REFUTATION\n"
     ++ codes "usage: clap_debug list PROGRAM\n"
@@ -153,6 +183,7 @@ usage_text =
     ++ codes "usage: clap_debug migrate PROGRAM LOG OUT\n"
     ++ codes "usage: clap_debug cnf PROGRAM LOG OUT [--model sc|tso|pso]\n"
     ++ codes "usage: clap_debug import PROGRAM LOG ANSWER OUT [--model sc|tso|pso]\n"
+    ++ codes "usage: clap_debug why PROGRAM LOG REFUTATION\n"
 
 -- what is written
 abbrev pub line_of : Answer → List ℕ
@@ -171,13 +202,15 @@ line_of (LogOver e) = over_line (excess_text e.which) e.number (most_in e.which)
 line_of Migrated = codes "migrated\n"
 line_of (RefutationRefused n) = codes "refutation refused: line " ++ (decimal n ++ codes "\n")
 line_of (Solved x) = solution_line x
-line_of (Accepted v) = checked_line v
+line_of (Minimized x) = minimum_line x
+line_of (Accepted x) = shown_line x
 line_of (LineRefused n) = codes "line " ++ (decimal n ++ codes " refused\n")
 line_of (Worked x) = work_line x
 line_of (AnswerRefused n) = codes "answer refused: line " ++ (decimal n ++ codes "\n")
 line_of (Exported f) = clauses_line f
 line_of (Imported schedule) = schedule_line schedule
 line_of (ClauseFalse n) = codes "clause " ++ (decimal n ++ codes " false\n")
+line_of (Explained reasons) = reasons_text reasons
 line_of (WriteFault name) = codes "write fault: " ++ (name ++ codes "\n")
 line_of NoMemory = codes "no memory\n"
 
@@ -198,9 +231,18 @@ found_status (found.Spent _) = 10
 abbrev pub solution_status : Solution → ℕ
 solution_status x = found_status x.answer
 
-abbrev pub checked_status : Checked → ℕ
-checked_status Closed = 0
-checked_status Open = 10
+abbrev pub least_status : Least → ℕ
+least_status (least.Found _ _ _) = 0
+least_status (least.Impossible _) = 1
+least_status (least.Spent _) = 10
+least_status (least.SpentAt _ _ _) = 10
+
+abbrev pub minimum_status : Minimum → ℕ
+minimum_status x = least_status x.least
+
+abbrev pub shown_status : Shown → ℕ
+shown_status Open = 10
+shown_status _ = 0
 
 abbrev pub work_status : Work → ℕ
 work_status x = if has_spent x then 10 else 0
@@ -212,12 +254,14 @@ status_of (Replayed v) = verdict_status v
 status_of (Recorded _) = 0
 status_of Migrated = 0
 status_of (Solved x) = solution_status x
-status_of (Accepted v) = checked_status v
+status_of (Minimized x) = minimum_status x
+status_of (Accepted x) = shown_status x
 status_of (LineRefused _) = 1
 status_of (Worked x) = work_status x
 status_of (Exported _) = 0
 status_of (Imported _) = 0
 status_of (ClauseFalse _) = 1
+status_of (Explained _) = 0
 status_of (RunEnded e) = ending_status e
 status_of Usage = 2
 status_of (ProgramRefused _) = 3

@@ -5,7 +5,7 @@ use Rattle.tc_base.specs.declared.model.Model.{Model}
 use Rattle.tc_io.specs.Outside.{Files, ShelfTells, SinkTells, Writing, Wrote, WrotePart, KeptPart, bytes_at, put_under}
 use Rattle.path_log.specs.Texts.{StoredLog}
 use Rattle.refute_check.specs.declared.line.Line.{Line}
-use Rattle.refute_check.specs.declared.verdict.Checked.TheVariants.{Closed, Open}
+use Rattle.refute_check.specs.declared.verdict.Checked.TheVariants.{Closed}
 use Rattle.schedule_file.specs.Schedules.{schedule_text}
 use Rattle.schedule_file.specs.declared.schedule.Schedule.{Schedule}
 use Rattle.cnf_core.specs.Clauses.{Formula}
@@ -13,15 +13,20 @@ use Rattle.dimacs_text.specs.Texts.{cnf_text}
 use Rattle.clap_solve.specs.Solved.{IsWithin}
 use Rattle.clap_solve.specs.declared.answer.Answer.TheVariants as search
 use Rattle.clap_solve.specs.declared.imported.Imported.TheVariants as taken
-use Rattle.clap_debug_words.specs.Calls.{Called, Lists, Replays, Records, Migrates, Solves, Checks, Workloads, Exports, Imports, call_of}
+use Rattle.clap_debug_words.specs.Calls.{Called, Lists, Replays, Records, Migrates, Solves, Minimizes, Checks, Workloads, Exports, Imports, Explains, call_of}
 use Rattle.clap_debug_cli.specs.Answers.{line_of, status_of}
 use Rattle.clap_debug_cli.specs.Causes.{IsCause, IsAnswerTo, IsWorkOf, IsResult, IsReplayed, IsLogRefused, IsScheduleRefused, IsMigrateAnswer}
-use Rattle.clap_debug_cli.specs.Causes.{IsSolveAnswer, IsCheckAnswer, IsWorkloadAnswer, IsCnfAnswer, IsImportAnswer}
+use Rattle.clap_debug_cli.specs.Causes.{IsSolveAnswer, IsMinimizeAnswer, IsCheckAnswer, IsWhyAnswer, IsWorkloadAnswer, IsCnfAnswer, IsImportAnswer}
 use Rattle.clap_debug_cli.specs.Files.{IsLog, IsOfOther}
 use Rattle.clap_debug_cli.specs.Solved.{IsSolution, IsPossible, solution, solution_text}
-use Rattle.clap_debug_cli.specs.Checked.{IsRefuted}
+use Rattle.clap_debug_cli.specs.Fewest.{IsMinimum, LostSecond, first_text, minimum, put_both}
+use Rattle.clap_debug_cli.specs.Checked.{IsRefuted, shown}
+use Rattle.clap_debug_cli.specs.Explained.{AreReasons}
 use Rattle.clap_debug_cli.specs.Worked.{has_spent, seeded_text}
 use Rattle.clap_debug_cli.specs.Solvers.{AreSatisfying, IsAnswered, IsExported, IsTaken}
+use Rattle.clap_debug_cli.specs.declared.answer.Shown.TheVariants.{Impossible, Open}
+use Rattle.least_switch.specs.declared.answer.Least.TheVariants as least
+use Rattle.clap_debug_cli.specs.declared.answer.Minimum.{Minimum}
 use Rattle.clap_debug_cli.specs.declared.answer.Solution.{Solution}
 use Rattle.clap_debug_cli.specs.declared.answer.Work.{Work}
 use Rattle.clap_debug_cli.specs.Inputs.{Texts, GaveAll, inputs_of, limit_of, IsTooLong}
@@ -31,6 +36,7 @@ use Rattle.tc_workload.specs.Workload.{workload_log}
 use Rattle.clap_debug_cli.specs.Recorded.{ComesTo, EndsSo, end_status, run_of}
 use Rattle.tc_parser.specs.declared.fault.TextFault.{TextFault}
 use Rattle.schedule_replay.specs.declared.verdict.Verdict.{Verdict}
+use Rattle.why_impossible.specs.declared.reason.Reason.{Reason}
 use Rattle.clap_debug_cli.specs.declared.answer.Answer.{Answer}
 use Rattle.clap_debug_cli.specs.declared.answer.Answer.TheVariants.{
   Usage,
@@ -47,6 +53,7 @@ use Rattle.clap_debug_cli.specs.declared.answer.Answer.TheVariants.{
   Migrated,
   RefutationRefused,
   Solved,
+  Minimized,
   Accepted,
   LineRefused,
   Worked,
@@ -54,6 +61,7 @@ use Rattle.clap_debug_cli.specs.declared.answer.Answer.TheVariants.{
   Exported,
   Imported,
   ClauseFalse,
+  Explained,
   WriteFault,
   NoMemory,
 }
@@ -107,6 +115,7 @@ Loses call name old new = (t : Texts) × (s : ShelfTells) × GaveAll (inputs_of 
 -- the statuses with which a command keeps a result: `solve` keeps a schedule, and a refutation too
 abbrev pub IsOfResult : Called → ℕ → Type 0
 IsOfResult (Solves _ _ _ _ _) status = (status ≡ 0) ⊎ (status ≡ 1) ⊎ (status ≡ 10)
+IsOfResult (Minimizes _ _ _ _ _ _) status = (status ≡ 0) ⊎ (status ≡ 1) ⊎ (status ≡ 10)
 IsOfResult _ status = status ≡ 0
 
 -- what a command leaves on the shelf that keeps its result under this name, by status
@@ -117,11 +126,37 @@ pub record LeavesResult (call : Called) (name : List ℕ) (status : ℕ) (old ne
   pub whole : status ≡ 9 → (new.held ≡ old.held) ⊎ Holds call name old new
   pub part : status ≡ 8 → (new.held ≡ old.held) ⊎ Holds call name old new ⊎ Loses call name old new
 
--- what a command leaves on the shelf: `list`, `replay`, `check` and `workload` what was there
+-- the command was given its inputs, searches for the fewest switches found this, and then this holds of the shelf
+abbrev pub AfterMinimum : Called → ShelfTells → (Minimum → ShelfTells → Type 0) → Type 0
+AfterMinimum call old P = (t : Texts) × (s : ShelfTells) × GaveAll (inputs_of call) old s t × (x : Minimum) × IsWorkOf call t (Minimized x) × P x s
+
+module _ (call : Called) (out refutation : List ℕ) (old new : ShelfTells) where
+  -- both texts stand under their names, and all else is held that was
+  abbrev pub HoldsBoth : Type 0
+  HoldsBoth = AfterMinimum call old (λ x s. new.held ≡ put_both out refutation x old.held)
+
+  -- the first alone does
+  abbrev pub HoldsFirst : Type 0
+  HoldsFirst = AfterMinimum call old (λ x s. new.held ≡ put_under out (first_text x) old.held)
+
+  -- the keep of the first failed, or that of the second with the first under its name
+  abbrev pub LosesOne : Type 0
+  LosesOne = AfterMinimum call old (λ x s. KeptPart s new out (first_text x) ⊎ LostSecond out refutation x s new)
+
+  -- what `solve --least` leaves on the shelf, by status
+  pub record LeavesMinimum (status : ℕ) : Type 0 where
+    pub kept : IsOfResult call status → HoldsBoth
+    pub none : (IsOfResult call status → ⊥) → status ≢ 8 → status ≢ 9 → new.held ≡ old.held
+    pub whole : status ≡ 9 → (new.held ≡ old.held) ⊎ HoldsFirst ⊎ HoldsBoth
+    pub part : status ≡ 8 → (new.held ≡ old.held) ⊎ HoldsFirst ⊎ HoldsBoth ⊎ LosesOne
+
+-- what a command leaves on the shelf: `list`, `replay`, `check`, `workload` and `why` what was there
 abbrev pub Leaves : Called → ℕ → ShelfTells → ShelfTells → Type 0
 Leaves (Records program log model seed steps) status old new = LeavesResult (Records program log model seed steps) log status old new
 Leaves (Migrates program log out) status old new = LeavesResult (Migrates program log out) out status old new
 Leaves (Solves program log out model budget) status old new = LeavesResult (Solves program log out model budget) out status old new
+Leaves (Minimizes program log out model budget refutation) status old new =
+    LeavesMinimum (Minimizes program log out model budget refutation) out refutation old new status
 Leaves (Exports program log out model) status old new = LeavesResult (Exports program log out model) out status old new
 Leaves (Imports program log answer out model) status old new = LeavesResult (Imports program log answer out model) out status old new
 Leaves _ status old new = new.held ≡ old.held
@@ -158,6 +193,7 @@ IsStatus status wanted = (status ≡ wanted) ⊎ (status ≡ 7) ⊎ (status ≡ 
 -- an answer that is decided by the inputs: all but which schedule or refutation a search finds, or a solver's answer says
 abbrev pub IsDecided : Answer → Type 0
 IsDecided (Solved _) = ⊥
+IsDecided (Minimized _) = ⊥
 IsDecided (Worked _) = ⊥
 IsDecided (Imported _) = ⊥
 IsDecided _ = ⊤
@@ -235,10 +271,43 @@ pub record SolveAnswers (files : Files) (program log out : List ℕ) (model : Op
   -- and no other but those of every command
   pub alone : (status ≡ 0) ⊎ (status ≡ 1) ⊎ (status ≡ 3) ⊎ (status ≡ 4) ⊎ (status ≡ 10) ⊎ IsStatus status 6
 
+-- what was found was put, and its texts stand under these names; all else is held that was
+pub record HasMinimum (files : Files) (out refutation : List ℕ) (x : Minimum) (held : Option Files) (before after : SinkTells) : Type 0 where
+  pub puts : Puts before after (Minimized x)
+  pub stands : held ≡ put_both out refutation x (Some files)
+
+-- the answers of `solve --least` to a program and a log that the shelf tells of, by status, over what is held before and after it
+pub record MinimizeAnswers (files : Files) (program log out refutation : List ℕ) (model : Option Model) (budget : ℕ) (held : Option Files)
+    (status : ℕ) (before after : SinkTells) : Type 0 where
+  -- a schedule stands under OUT that reproduces the log under the memory model that is meant, and no moves that do have fewer switches.
+  -- Where it has any, a refutation stands under REFUTATION that is closed on the clauses with one fewer.
+  pub found : status ≡ 0 → (m : Model) × (schedule : Schedule) × (count : ℕ) × (lines : Option (List Line))
+      × IsMinimum program log model budget (minimum m budget (least.Found schedule count lines))
+      × HasMinimum files out refutation (minimum m budget (least.Found schedule count lines)) held before after
+  -- as without `--least`: a closed refutation stands under OUT, and no moves reproduce the log
+  pub impossible : status ≡ 1 → (m : Model) × (lines : List Line) × IsMinimum program log model budget (minimum m budget (least.Impossible lines))
+      × HasMinimum files out refutation (minimum m budget (least.Impossible lines)) held before after
+  -- or an open one; or a schedule stands there, and under REFUTATION one that is open on the clauses with one switch fewer
+  pub spent : status ≡ 10
+      → ((m : Model) × (lines : List Line) × IsMinimum program log model budget (minimum m budget (least.Spent lines))
+      × HasMinimum files out refutation (minimum m budget (least.Spent lines)) held before after)
+      ⊎ ((m : Model) × (schedule : Schedule) × (count : ℕ) × (lines : List Line)
+      × IsMinimum program log model budget (minimum m budget (least.SpentAt schedule count lines))
+      × HasMinimum files out refutation (minimum m budget (least.SpentAt schedule count lines)) held before after)
+  pub refused : status ≡ 3 → (r : TextFault) × IsRefusal program r × Puts before after (ProgramRefused r)
+  pub log_refused : status ≡ 4 → (r : LogRefusal) × IsMinimizeAnswer program log model budget (LogRefused r) × Puts before after (LogRefused r)
+  -- where some moves reproduce the log, it is never called impossible
+  pub possible : IsPossible program log model → status ≢ 1
+  -- a log that isn't of another program and fits within the limits is searched, where neither file is too long
+  pub complete : (code : Code) (run : StoredLog) → IsCodeOf program code → IsLog log run → (IsOfOther program run → ⊥) → IsWithin code run.log
+      → length program ≤ limit_of input.Program → length log ≤ limit_of input.Log → (status ≡ 0) ⊎ (status ≡ 1) ⊎ IsStatus status 10
+  -- and no other but those of every command
+  pub alone : (status ≡ 0) ⊎ (status ≡ 1) ⊎ (status ≡ 3) ⊎ (status ≡ 4) ⊎ (status ≡ 10) ⊎ IsStatus status 6
+
 -- the answers of `check` to three files that the shelf tells of, by status
 pub record CheckAnswers (program log refutation : List ℕ) (status : ℕ) (before after : SinkTells) : Type 0 where
-  -- no moves reproduce the log under the memory model that the refutation names
-  pub impossible : status ≡ 0 → IsRefuted program log refutation × Puts before after (Accepted Closed)
+  -- no moves reproduce the log under the memory model that the refutation names, or none with at most as many switches as it names
+  pub closed : status ≡ 0 → (most : Option ℕ) × IsRefuted program log refutation most × Puts before after (Accepted (shown most Closed))
   pub undecided : status ≡ 10 → IsCheckAnswer program log refutation (Accepted Open) × Puts before after (Accepted Open)
   pub line_refused : status ≡ 1 → (line : ℕ) × IsCheckAnswer program log refutation (LineRefused line) × Puts before after (LineRefused line)
   pub refused : status ≡ 3 → (r : TextFault) × IsRefusal program r × Puts before after (ProgramRefused r)
@@ -292,6 +361,22 @@ pub record ImportAnswers (files : Files) (program log answer out : List ℕ) (mo
   -- and no other but those of every command
   pub alone : (status ≡ 0) ⊎ (status ≡ 1) ⊎ (status ≡ 3) ⊎ (status ≡ 4) ⊎ (status ≡ 5) ⊎ IsStatus status 6
 
+-- the answers of `why` to three files that the shelf tells of, by status
+pub record WhyAnswers (program log refutation : List ℕ) (status : ℕ) (before after : SinkTells) : Type 0 where
+  -- these are the reasons why no moves reproduce the log under the memory model that the refutation names
+  pub explained : status ≡ 0 → (reasons : List Reason) × AreReasons program log refutation reasons × Puts before after (Explained reasons)
+  pub undecided : status ≡ 10 → IsWhyAnswer program log refutation (Accepted Open) × Puts before after (Accepted Open)
+  pub line_refused : status ≡ 1 → (line : ℕ) × IsWhyAnswer program log refutation (LineRefused line) × Puts before after (LineRefused line)
+  pub refused : status ≡ 3 → (r : TextFault) × IsRefusal program r × Puts before after (ProgramRefused r)
+  pub log_refused : status ≡ 4 → (r : LogRefusal) × IsWhyAnswer program log refutation (LogRefused r) × Puts before after (LogRefused r)
+  pub refutation_refused : status ≡ 5 → (line : ℕ) × IsWhyAnswer program log refutation (RefutationRefused line)
+      × Puts before after (RefutationRefused line)
+  -- wherever `check` accepts a refutation of all schedules as closed, there are reasons, where program and log aren't too long
+  pub complete : IsCheckAnswer program log refutation (Accepted Impossible) → length program ≤ limit_of input.Program → length log ≤ limit_of input.Log
+      → IsStatus status 0
+  -- and no other but those of every command
+  pub alone : (status ≡ 0) ⊎ (status ≡ 1) ⊎ (status ≡ 3) ⊎ (status ≡ 4) ⊎ (status ≡ 5) ⊎ (status ≡ 10) ⊎ IsStatus status 6
+
 -- the answers of a command, by status, over what is held before and after it
 abbrev pub CommandAnswers : Called → Files → Option Files → ℕ → SinkTells → SinkTells → Type 0
 CommandAnswers (Lists program) files held = ListAnswers (bytes_at files program)
@@ -300,8 +385,11 @@ CommandAnswers (Records program log model seed steps) files held = RecordAnswers
 CommandAnswers (Migrates program log out) files held = MigrateAnswers (bytes_at files program) (bytes_at files log)
 CommandAnswers (Solves program log out model budget) files held =
     SolveAnswers files (bytes_at files program) (bytes_at files log) out model budget held
+CommandAnswers (Minimizes program log out model budget refutation) files held =
+    MinimizeAnswers files (bytes_at files program) (bytes_at files log) out refutation model budget held
 CommandAnswers (Checks program log refutation) files held = CheckAnswers (bytes_at files program) (bytes_at files log) (bytes_at files refutation)
 CommandAnswers (Workloads workers seed) files held = WorkloadAnswers workers seed
 CommandAnswers (Exports program log out model) files held = CnfAnswers files (bytes_at files program) (bytes_at files log) out model held
 CommandAnswers (Imports program log answer out model) files held =
     ImportAnswers files (bytes_at files program) (bytes_at files log) (bytes_at files answer) out model held
+CommandAnswers (Explains program log refutation) files held = WhyAnswers (bytes_at files program) (bytes_at files log) (bytes_at files refutation)

@@ -1,5 +1,5 @@
 -- Why an answer is given: what the words are, what the shelf did, and what the bytes that it gave say.
-use Rattle.std.specs.Prelude.{◌≡◌, ◌⊎◌, ℕ, ℤ, ◌≤◌, List, [], ◌∷◌, length, Option, Some, None, Ok, Err, IsSomeAnd}
+use Rattle.std.specs.Prelude.{◌≡◌, ◌⊎◌, ℕ, ℤ, ◌≤◌, ◌-◌, List, [], ◌∷◌, length, Option, Some, None, Ok, Err, IsSomeAnd}
 use Rattle.tc_base.specs.declared.model.Model.{Model}
 use Rattle.tc_base.specs.Buffers.{buffer_of}
 use Rattle.tc_base.specs.Logs.{Log}
@@ -15,25 +15,31 @@ use Rattle.path_walk.specs.declared.fault.WalkFault.TheVariants as walk
 use Rattle.cnf_core.specs.Clauses.{Formula}
 use Rattle.dimacs_text.specs.Answers.{answer as answer_in}
 use Rattle.dimacs_text.specs.Texts.{cnf_text}
+use Rattle.refute_check.specs.Broken.{BreaksAt as RefutationBreaksAt}
 use Rattle.refute_check.specs.Refutations.{check}
+use Rattle.refute_check.specs.Texts.{refutation_text}
+use Rattle.refute_check.specs.declared.head.Head.{Head}
 use Rattle.refute_check.specs.declared.line.Line.{Line}
 use Rattle.refute_check.specs.declared.verdict.CheckFault.{CheckFault}
-use Rattle.refute_check.specs.declared.verdict.Checked.TheVariants.{Closed, Open}
+use Rattle.refute_check.specs.declared.verdict.Checked.{Checked}
 use Rattle.clap_system.specs.Faults.{IsBuildFault, limit_of}
 use Rattle.clap_system.specs.declared.fault.BuildFault.TheVariants as build
-use Rattle.clap_solve.specs.Clauses.{model_clauses}
 use Rattle.clap_solve.specs.Solved.{IsWithin}
 use Rattle.clap_solve.specs.declared.imported.Imported.TheVariants as taken
 use Rattle.clap_solve.specs.declared.answer.Answer.{Answer as Found}
 use Rattle.clap_solve.specs.declared.answer.Answer.TheVariants as found
-use Rattle.clap_debug_words.specs.Calls.{Called, Lists, Replays, Records, Migrates, Solves, Checks, Workloads, Exports, Imports, call_of}
-use Rattle.clap_debug_cli.specs.Files.{IsLog, IsOfOther, Schedule, IsSchedule, IsRefutation, IsBrokenAt}
+use Rattle.least_switch.specs.declared.answer.Least.{Least}
+use Rattle.least_switch.specs.declared.answer.Least.TheVariants as least
+use Rattle.clap_debug_words.specs.Calls.{Called, Lists, Replays, Records, Migrates, Solves, Minimizes, Checks, Workloads, Exports, Imports, Explains, call_of}
+use Rattle.clap_debug_cli.specs.Files.{IsLog, IsOfOther, Schedule, IsSchedule, IsRefutation, IsBrokenAt, head_of}
 use Rattle.clap_debug_cli.specs.Inputs.{Texts, inputs_of, AreWithin, IsTooLong, GaveAll, FailsToRead, PassesLimit}
 use Rattle.tc_compile.specs.Programs.{IsCodeOf, IsRefusal}
 use Rattle.clap_debug_cli.specs.Recorded.{ComesTo, EndsSo, IsRecorded}
 use Rattle.clap_debug_cli.specs.Migrated.{IsMigrated, excess_of}
 use Rattle.clap_debug_cli.specs.Solved.{IsSearched, IsSolution, solution_text}
-use Rattle.clap_debug_cli.specs.Checked.{IsOfLine}
+use Rattle.clap_debug_cli.specs.Fewest.{IsMinimized, KeptBoth, KeptFirst, LostSecond, first_text, head_below}
+use Rattle.clap_debug_cli.specs.Checked.{IsOfLine, head_clauses, shown}
+use Rattle.clap_debug_cli.specs.Explained.{AreReasons}
 use Rattle.clap_debug_cli.specs.Worked.{IsWorked, seeded_text}
 use Rattle.clap_debug_cli.specs.Solvers.{IsTaken, clauses_for}
 use Rattle.schedule_replay.specs.declared.verdict.Verdict.{Verdict}
@@ -56,6 +62,7 @@ use Rattle.clap_debug_cli.specs.declared.answer.Answer.TheVariants.{
   Migrated,
   RefutationRefused,
   Solved,
+  Minimized,
   Accepted,
   LineRefused,
   Worked,
@@ -63,9 +70,12 @@ use Rattle.clap_debug_cli.specs.declared.answer.Answer.TheVariants.{
   Exported,
   Imported,
   ClauseFalse,
+  Explained,
   WriteFault,
   NoMemory,
 }
+use Rattle.clap_debug_cli.specs.declared.answer.Shown.TheVariants.{Impossible, MoreSwitches, Open}
+use Rattle.clap_debug_cli.specs.declared.answer.Minimum.{Minimum}
 use Rattle.clap_debug_cli.specs.declared.answer.Solution.{Solution}
 use Rattle.schedule_file.specs.declared.schedule.Schedule.{Schedule as MadeSchedule}
 use Rattle.clap_debug_cli.specs.declared.answer.LogRefusal.{LogRefusal}
@@ -164,22 +174,46 @@ abbrev pub IsSolveAnswer : (program log : List ℕ) → Option Model → (budget
 IsSolveAnswer program log model budget =
     IsTextsAnswer program log (λ code run. IsStoredAnswer program run (IsLimitAnswer code run.log (IsSearchAnswer code run.log model budget)))
 
+-- and so does `solve --least`
+abbrev pub IsMinimizedAnswer : Code → Log → Option Model → (budget : ℕ) → Answer → Type 0
+IsMinimizedAnswer code log model budget (Minimized x) = IsMinimized code log model budget x
+IsMinimizedAnswer code log model budget _ = ⊥
+
+abbrev pub IsMinimizeAnswer : (program log : List ℕ) → Option Model → (budget : ℕ) → Answer → Type 0
+IsMinimizeAnswer program log model budget =
+    IsTextsAnswer program log (λ code run. IsStoredAnswer program run (IsLimitAnswer code run.log (IsMinimizedAnswer code run.log model budget)))
+
 -- and `check` tests the form of the refutation before all of these, and its lines after them
-abbrev pub IsRefutationAnswer : (refutation : List ℕ) → (Model → List Line → Answer → Type 0) → Answer → Type 0
-IsRefutationAnswer refutation P (RefutationRefused line) = IsBrokenAt refutation line
-IsRefutationAnswer refutation P a = (model : Model) × (lines : List Line) × IsRefutation refutation model lines × P model lines a
+abbrev pub IsRefutationAnswer : (refutation : List ℕ) → (Head → List Line → Answer → Type 0) → Answer → Type 0
+IsRefutationAnswer refutation P (RefutationRefused line) = RefutationBreaksAt refutation line
+IsRefutationAnswer refutation P a = (head : Head) × (lines : List Line) × IsRefutation refutation head lines × P head lines a
 
-abbrev pub IsVerdictAnswer : Formula → List Line → Answer → Type 0
-IsVerdictAnswer f lines (Accepted v) = check f lines ≡ Ok v
-IsVerdictAnswer f lines (LineRefused n) = (fault : CheckFault) × (check f lines ≡ Err fault) × IsOfLine fault n
-IsVerdictAnswer f lines _ = ⊥
+abbrev pub IsVerdictAnswer : Formula → Option ℕ → List Line → Answer → Type 0
+IsVerdictAnswer f switches lines (Accepted x) = (v : Checked) × (check f lines ≡ Ok v) × (x ≡ shown switches v)
+IsVerdictAnswer f switches lines (LineRefused n) = (fault : CheckFault) × (check f lines ≡ Err fault) × IsOfLine fault n
+IsVerdictAnswer f switches lines _ = ⊥
 
-abbrev pub IsClausesAnswer : (program : List ℕ) → Code → StoredLog → Model → List Line → Answer → Type 0
-IsClausesAnswer program code run model lines =
-    IsStoredAnswer program run (IsLimitAnswer code run.log (IsVerdictAnswer (model_clauses model code run.log) lines))
+abbrev pub IsClausesAnswer : (program : List ℕ) → Code → StoredLog → Head → List Line → Answer → Type 0
+IsClausesAnswer program code run head lines =
+    IsStoredAnswer program run (IsLimitAnswer code run.log (IsVerdictAnswer (head_clauses head code run.log) head.switches lines))
 
 abbrev pub IsCheckAnswer : (program log refutation : List ℕ) → Answer → Type 0
 IsCheckAnswer program log refutation = IsTextsAnswer program log (λ code run. IsRefutationAnswer refutation (IsClausesAnswer program code run))
+
+-- `why` answers what `check` does to a refutation that speaks of all schedules, where a first line may name no number of switches, but
+-- tells the reasons where that accepts one that is closed
+abbrev pub IsPlainAnswer : (refutation : List ℕ) → (Head → List Line → Answer → Type 0) → Answer → Type 0
+IsPlainAnswer refutation P (RefutationRefused line) = IsBrokenAt refutation line
+IsPlainAnswer refutation P a = (model : Model) × (lines : List Line) × IsRefutation refutation (head_of model) lines × P (head_of model) lines a
+
+abbrev pub IsUnexplainedAnswer : (program log refutation : List ℕ) → Answer → Type 0
+IsUnexplainedAnswer program log refutation = IsTextsAnswer program log (λ code run. IsPlainAnswer refutation (IsClausesAnswer program code run))
+
+abbrev pub IsWhyAnswer : (program log refutation : List ℕ) → Answer → Type 0
+IsWhyAnswer program log refutation (Explained reasons) = AreReasons program log refutation reasons
+IsWhyAnswer program log refutation (Accepted Impossible) = ⊥
+IsWhyAnswer program log refutation (Accepted (MoreSwitches _)) = ⊥
+IsWhyAnswer program log refutation a = IsUnexplainedAnswer program log refutation a
 
 -- `workload` makes a program and a log, tests them as `solve` does, and searches twice
 abbrev pub IsWorkAnswer : Code → (workers seed : ℕ) → Answer → Type 0
@@ -217,8 +251,16 @@ IsImportAnswer program log answer model = IsTextsAnswer program log (λ code run
 -- accepts the refutation.
 abbrev pub IsAcceptedAs : (program log text : List ℕ) → Found → Type 0
 IsAcceptedAs program log text (found.Found _) = IsReplayAnswer program log text (Replayed verdict.Reproduces)
-IsAcceptedAs program log text (found.Impossible _) = IsCheckAnswer program log text (Accepted Closed)
+IsAcceptedAs program log text (found.Impossible _) = IsCheckAnswer program log text (Accepted Impossible)
 IsAcceptedAs program log text (found.Spent _) = IsCheckAnswer program log text (Accepted Open)
+
+-- and where `solve --least` kept a refutation beside it: `check` that there are more switches than its first line says, or that it is open
+abbrev pub IsAcceptedBelow : (program log : List ℕ) → Model → Least → Type 0
+IsAcceptedBelow program log model (least.Found _ count (Some lines)) =
+    IsCheckAnswer program log (refutation_text (head_below model count) lines) (Accepted (MoreSwitches (count - 1)))
+IsAcceptedBelow program log model (least.SpentAt _ count lines) =
+    IsCheckAnswer program log (refutation_text (head_below model count) lines) (Accepted Open)
+IsAcceptedBelow program log model _ = Unit {0}
 
 -- the answer of a command to what its inputs hold, none of which is too long
 abbrev pub IsWorkOf : Called → Texts → Answer → Type 0
@@ -227,10 +269,12 @@ IsWorkOf (Replays _ _ _) (program ∷ log ∷ schedule ∷ []) a = IsReplayAnswe
 IsWorkOf (Records _ _ model seed steps) (program ∷ []) a = IsRecordAnswer program model seed steps a
 IsWorkOf (Migrates _ _ _) (program ∷ log ∷ []) a = IsMigrateAnswer program log a
 IsWorkOf (Solves _ _ _ model budget) (program ∷ log ∷ []) a = IsSolveAnswer program log model budget a
+IsWorkOf (Minimizes _ _ _ model budget _) (program ∷ log ∷ []) a = IsMinimizeAnswer program log model budget a
 IsWorkOf (Checks _ _ _) (program ∷ log ∷ refutation ∷ []) a = IsCheckAnswer program log refutation a
 IsWorkOf (Workloads workers seed) [] a = IsWorkloadAnswer workers seed a
 IsWorkOf (Exports _ _ _ model) (program ∷ log ∷ []) a = IsCnfAnswer program log model a
 IsWorkOf (Imports _ _ _ _ model) (program ∷ log ∷ answer ∷ []) a = IsImportAnswer program log answer model a
+IsWorkOf (Explains _ _ _) (program ∷ log ∷ refutation ∷ []) a = IsWhyAnswer program log refutation a
 IsWorkOf _ _ a = ⊥
 
 -- the answer of a command to what its inputs hold
@@ -238,7 +282,7 @@ abbrev pub IsAnswerTo : Called → Texts → Answer → Type 0
 IsAnswerTo call t (TooLong i) = IsTooLong (inputs_of call) t i
 IsAnswerTo call t a = AreWithin (inputs_of call) t × IsWorkOf call t a
 
--- what a command may keep of its inputs: `record` the text of the log of a run that failed or came to a deadlock, `migrate` that of the
+-- what a command that keeps one result may keep of its inputs: `record` the text of the log of a run that failed or came to a deadlock, `migrate` that of the
 -- log in format 2, which isn't long, `solve` that of what it found, `cnf` that of the clauses, and `import` that of the schedule
 abbrev pub IsResult : Called → Texts → List ℕ → Type 0
 IsResult (Records _ _ model seed steps) (program ∷ []) text = IsRecorded program model seed steps text
@@ -266,12 +310,34 @@ KeepsResult call t old new = (name : List ℕ) × (text : List ℕ) × IsOutput 
 abbrev pub KeepsText : Called → List ℕ → ShelfTells → ShelfTells → Type 0
 KeepsText call text old new = (name : List ℕ) × IsOutput call name × Kept old new name text
 
+-- What `solve --least` does to the shelf, which keeps two texts.
+
+-- it keeps both
+abbrev pub KeepsMinimum : Called → Minimum → ShelfTells → ShelfTells → Type 0
+KeepsMinimum (Minimizes _ _ out _ _ refutation) x old new = KeptBoth out refutation x old new
+KeepsMinimum _ x old new = ⊥
+
+-- the first, but there is no memory to keep the second
+abbrev pub KeepsFirst : Called → ShelfTells → ShelfTells → Type 0
+KeepsFirst (Minimizes program log out model budget refutation) old new =
+    (t : Texts) × (s : ShelfTells) × GaveAll (inputs_of (Minimizes program log out model budget refutation)) old s t
+    × (x : Minimum) × IsWorkOf (Minimizes program log out model budget refutation) t (Minimized x) × KeptFirst out refutation x s new
+KeepsFirst _ old new = ⊥
+
+-- one of them couldn't be kept under this name
+abbrev pub LosesMinimum : Called → Texts → ShelfTells → ShelfTells → List ℕ → Type 0
+LosesMinimum (Minimizes program log out model budget refutation) t old new name =
+    (x : Minimum) × IsWorkOf (Minimizes program log out model budget refutation) t (Minimized x)
+    × (((name ≡ out) × KeptPart old new out (first_text x)) ⊎ ((name ≡ refutation) × LostSecond out refutation x old new))
+LosesMinimum _ t old new name = ⊥
+
 -- what a command does to the shelf once it has its inputs: with a run that has a log, a log in format 2, what a search found, the
--- clauses of a log, and a schedule of another solver's answer, it keeps a result, and else nothing
+-- clauses of a log, and a schedule of another solver's answer, it keeps a result, `solve --least` two, and else nothing
 abbrev pub DoesWith : Called → Texts → Answer → ShelfTells → ShelfTells → Type 0
 DoesWith call t (Recorded _) old new = KeepsResult call t old new
 DoesWith call t Migrated old new = KeepsResult call t old new
 DoesWith call t (Solved x) old new = KeepsText call (solution_text x) old new
+DoesWith call t (Minimized x) old new = KeepsMinimum call x old new
 DoesWith call t (Exported f) old new = KeepsText call (cnf_text f) old new
 DoesWith call t (Imported s) old new = KeepsText call (schedule_text s.model s.moves.items) old new
 DoesWith call t _ old new = new ≡ old
@@ -288,9 +354,10 @@ HeldStill old new = (new.held ≡ old.held) × (new.faults ≡ old.faults)
 abbrev pub IsCauseOf : Called → ShelfTells → ShelfTells → Answer → Type 0
 IsCauseOf call old new (ReadFault name) = FailsToRead (inputs_of call) old new name
 IsCauseOf call old new (TooLong i) = PassesLimit (inputs_of call) old new i
-IsCauseOf call old new NoMemory = HeldStill old new
+IsCauseOf call old new NoMemory = HeldStill old new ⊎ KeepsFirst call old new
 IsCauseOf call old new (WriteFault name) =
-    (t : Texts) × (s : ShelfTells) × GaveAll (inputs_of call) old s t × AreWithin (inputs_of call) t × FailsToKeep call t s new name
+    (t : Texts) × (s : ShelfTells) × GaveAll (inputs_of call) old s t × AreWithin (inputs_of call) t
+    × (FailsToKeep call t s new name ⊎ LosesMinimum call t s new name)
 IsCauseOf call old new a = (t : Texts) × (s : ShelfTells) × GaveAll (inputs_of call) old s t × IsAnswerTo call t a × DoesWith call t a s new
 
 -- why an answer is given to words

@@ -36,16 +36,16 @@ pub record IsSchedule (bytes : List ℕ) (schedule : Schedule) : Type 0 where
 abbrev pub head_of : Model → Head
 head_of model = record { model = model; switches = None }
 
--- the bytes are those of a refutation under this memory model, with these lines after the first one
-pub record IsRefutation (bytes : List ℕ) (model : Model) (lines : List Line) : Type 0 where
-  pub whole : IsWhole (head_of model) lines
-  pub text : bytes ≡ refutation_text (head_of model) lines
+-- the bytes are those of a refutation with this first line, and with these lines after it
+pub record IsRefutation (bytes : List ℕ) (head : Head) (lines : List Line) : Type 0 where
+  pub whole : IsWhole head lines
+  pub text : bytes ≡ refutation_text head lines
 
 -- the first line that breaks the form, where a first line may name no number of switches
 abbrev pub first_broken : List Taken → Option ℕ → Option ℕ
 first_broken (Header head ∷ _) broken = if is_some head.switches then Some 1 else broken
 first_broken _ broken = broken
 
--- the line of this number, from 1, is the first that breaks the form of a refutation
+-- the line of this number, from 1, is the first that breaks the form of a refutation that speaks of all schedules
 abbrev pub IsBrokenAt : List ℕ → ℕ → Type 0
 IsBrokenAt bytes line = (taken : List Taken) × (broken : Option ℕ) × ReadsTo beginning bytes taken broken × (first_broken taken broken ≡ Some line)

@@ -2,7 +2,7 @@
 use Rattle.std.specs.Prelude.{◌≡◌, ◌⊎◌, ℕ, ◌<◌, ◌≤◌, List, [], ◌∷◌, length, map, codes}
 use Rattle.tc_base.specs.declared.limits.TheConstants.{PROGRAM_BYTES, LOG_BYTES, SCHEDULE_BYTES}
 use Rattle.tc_io.specs.Outside.{Files, ShelfTells, Gave, FailedToGive, WasTooLong, GaveReading, FailedReading, bytes_at}
-use Rattle.clap_debug_words.specs.Calls.{Called, Lists, Replays, Records, Migrates, Solves, Checks, Workloads, Exports, Imports}
+use Rattle.clap_debug_words.specs.Calls.{Called, Lists, Replays, Records, Migrates, Solves, Minimizes, Checks, Workloads, Exports, Imports, Explains}
 use Rattle.clap_debug_cli.specs.declared.input.Input.{Input}
 use Rattle.clap_debug_cli.specs.declared.input.Input.TheVariants.{Program, Log, Schedule, Answer}
 use Rattle.clap_debug_cli.specs.declared.input.TheConstants.{ANSWER_BYTES}
@@ -20,14 +20,20 @@ input_text Log = codes "log"
 input_text Schedule = codes "schedule"
 input_text Answer = codes "answer"
 
--- an input, and the word that names it: a file that is fetched, or one of any length that is read in pieces
+-- an input, and the word that names it: a file that is fetched, or one of any length that is read in pieces or fetched
 pub data Wanted : Type 0 where
   Whole : (input : Input) (name : List ℕ) → Wanted
   InPieces : (name : List ℕ) → Wanted
+  Entire : (name : List ℕ) → Wanted
 
 abbrev pub name_of : Wanted → List ℕ
 name_of (Whole input name) = name
 name_of (InPieces name) = name
+name_of (Entire name) = name
+
+-- the greatest number that a limit can be
+abbrev pub no_limit : ℕ
+no_limit = 18446744073709551615
 
 -- the inputs of a command, in the order in which they are read
 abbrev pub inputs_of : Called → List Wanted
@@ -36,10 +42,18 @@ inputs_of (Replays program log schedule) = Whole Program program ∷ Whole Log l
 inputs_of (Records program _ _ _ _) = Whole Program program ∷ []
 inputs_of (Migrates program log _) = Whole Program program ∷ Whole Log log ∷ []
 inputs_of (Solves program log _ _ _) = Whole Program program ∷ Whole Log log ∷ []
+inputs_of (Minimizes program log _ _ _ _) = Whole Program program ∷ Whole Log log ∷ []
 inputs_of (Checks program log refutation) = Whole Program program ∷ Whole Log log ∷ InPieces refutation ∷ []
 inputs_of (Workloads _ _) = []
 inputs_of (Exports program log _ _) = Whole Program program ∷ Whole Log log ∷ []
 inputs_of (Imports program log answer _ _) = Whole Program program ∷ Whole Log log ∷ Whole Answer answer ∷ []
+inputs_of (Explains program log refutation) = Whole Program program ∷ Whole Log log ∷ Entire refutation ∷ []
+
+-- an input of any length is fetched
+abbrev pub HasEntire : List Wanted → Type 0
+HasEntire [] = ⊥
+HasEntire (Entire name ∷ ws) = Unit {0}
+HasEntire (_ ∷ ws) = HasEntire ws
 
 -- what inputs hold, in their order
 abbrev pub Texts : Type 0
@@ -52,26 +66,31 @@ texts_under files call = map (λ w. bytes_at files (name_of w)) (inputs_of call)
 abbrev pub GaveInput : Wanted → ShelfTells → ShelfTells → List ℕ → Type 0
 GaveInput (Whole input name) old new bytes = Gave old new name (limit_of input) bytes
 GaveInput (InPieces name) old new bytes = GaveReading old new name bytes
+GaveInput (Entire name) old new bytes = Gave old new name no_limit bytes
 
--- it failed to give an input
+-- it failed to give an input, or one of any length had more bytes than can be counted
 abbrev pub FailedInput : Wanted → ShelfTells → ShelfTells → Type 0
 FailedInput (Whole input name) old new = FailedToGive old new name (limit_of input)
 FailedInput (InPieces name) old new = FailedReading old new name
+FailedInput (Entire name) old new = FailedToGive old new name no_limit ⊎ WasTooLong old new name no_limit
 
 -- the input is this one, and was longer than its limit
 abbrev pub PassedLimit : Wanted → ShelfTells → ShelfTells → Input → Type 0
 PassedLimit (Whole input name) old new i = (i ≡ input) × WasTooLong old new name (limit_of input)
 PassedLimit (InPieces name) old new i = ⊥
+PassedLimit (Entire name) old new i = ⊥
 
 -- a text isn't longer than the limit of its input
 abbrev pub IsWithinLimit : Wanted → List ℕ → Type 0
 IsWithinLimit (Whole input name) text = length text ≤ limit_of input
 IsWithinLimit (InPieces name) text = Unit {0}
+IsWithinLimit (Entire name) text = Unit {0}
 
 -- the input is this one, and the text is longer than its limit
 abbrev pub IsPastLimit : Wanted → List ℕ → Input → Type 0
 IsPastLimit (Whole input name) text i = (i ≡ input) × (limit_of input < length text)
 IsPastLimit (InPieces name) text i = ⊥
+IsPastLimit (Entire name) text i = ⊥
 
 -- the shelf gave these inputs one after the other, and nothing else
 abbrev pub GaveAll : List Wanted → ShelfTells → ShelfTells → Texts → Type 0

@@ -5,7 +5,9 @@ pub mod Migrated
 pub mod Solved
 pub mod Worked
 pub mod Solvers
+pub mod Fewest
 pub mod Checked
+pub mod Explained
 pub mod Answers
 pub mod Causes
 pub mod Call

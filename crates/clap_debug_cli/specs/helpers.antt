@@ -3,3 +3,4 @@ pub mod Faults
 pub mod Refused
 pub mod Incoming
 pub mod Lines
+pub mod Below

@@ -11,10 +11,15 @@ ghost use Rattle.clap_debug_cli.specs.Answers.{
   usage_text,
   which_text,
   excess_text,
+  impossible_line,
+  spent_line,
   solution_line,
   solution_status,
-  checked_line,
-  checked_status,
+  spent_at_line,
+  minimum_line,
+  minimum_status,
+  shown_line,
+  shown_status,
   failure_line,
   outcome_line,
   ending_line,
@@ -30,13 +35,14 @@ ghost use Rattle.clap_debug_cli.specs.declared.answer.Answer.TheVariants as answ
 ghost use Rattle.clap_debug_cli.specs.helpers.Lines.{count_line};
 
 use crate::input::Input;
-use clap_solve::Answer as Found;
+use clap_solve::{Answer as Found, CheckImpossibleFault};
 use clap_system::{BuildFault, Which as WhichInLog};
 use cnf_core::Cnf;
 use dimacs_text::AnswerFault;
+use least_switch::Least;
 use path_log::LogFault;
 use path_walk::{Misfit, WalkFault};
-use refute_check::Checked;
+use refute_check::{CheckFault, Derivation};
 use schedule_file::{Schedule, ScheduleFault};
 use schedule_replay::Verdict;
 use std::alloc::{AllocError, Global};
@@ -47,6 +53,7 @@ use tc_code::{Code, listing};
 use tc_compile::CompileFault;
 use tc_parser::TextFault;
 use tc_record::{SeededFault, Which};
+use why_impossible::Reasons;
 
 /// The name of a file, which contracts see as its bytes.
 #[derive(Drop)]
@@ -108,6 +115,16 @@ pub(crate) struct Solution {
     pub(crate) answer: Found,
 }
 
+/// What a search for a schedule with the fewest context switches found.
+#[derive(Debug, Drop)]
+pub(crate) struct Minimum {
+    /// The memory model under which it searched.
+    pub(crate) model: tc_base::Model,
+    /// How many conflicts each of its searches might have.
+    pub(crate) budget: u32,
+    pub(crate) least: Least,
+}
+
 /// A failure of a run.
 #[derive(Debug, Drop)]
 pub(crate) struct Failure {
@@ -154,6 +171,17 @@ pub(crate) enum RunEnd {
     StepLimit,
 }
 
+/// What the lines of a refutation show.
+#[derive(Clone, Copy, Debug, PartialEq, Eq)]
+pub(crate) enum Shown {
+    /// No moves reproduce the log.
+    Impossible,
+    /// Moves that reproduce the log have more context switches than this.
+    MoreSwitches(u8),
+    /// Neither, so far.
+    Open,
+}
+
 /// What came of a workload.
 #[derive(Debug, Drop)]
 pub(crate) struct Work {
@@ -198,8 +226,10 @@ pub(crate) enum Answer<'a> {
     RefutationRefused(u32),
     /// The search found this, and its text is kept.
     Solved(Solution),
+    /// The search for the fewest context switches found this, and its texts are kept.
+    Minimized(Minimum),
     /// The lines of the refutation pass, and show this.
-    Accepted(Checked),
+    Accepted(Shown),
     /// The line of the refutation of this number is the first that doesn't pass.
     LineRefused(u32),
     /// This came of a workload.
@@ -212,6 +242,8 @@ pub(crate) enum Answer<'a> {
     Imported(Schedule),
     /// The clause of this number is the first that it leaves false.
     ClauseFalse(u32),
+    /// The refutation is accepted, it shows that the log is impossible, and it rests on these rules.
+    Explained(Reasons),
     /// A result couldn't be kept under this name.
     WriteFault(FileName<'a>),
     /// There is no memory.
@@ -317,6 +349,38 @@ impl<'a> From<BuildFault> for Answer<'a> {
     }
 }
 
+impl<'a> From<CheckFault> for Answer<'a> {
+    ghost use Rattle.std.specs.Prelude.{◌≡◌};
+    ghost use Rattle.clap_debug_cli.specs.helpers.Faults.{check_answer};
+
+    ghost from_gives = { λ fault answer. answer ≡ check_answer fault };
+
+    fn from(fault: CheckFault) -> Self {
+        match fault {
+            CheckFault::NoVariable(line)
+            | CheckFault::NoClause(line)
+            | CheckFault::Hint(line)
+            | CheckFault::NoConflict(line) => Answer::LineRefused(line),
+            CheckFault::Memory => Answer::NoMemory,
+        }
+    }
+}
+
+impl<'a> From<CheckImpossibleFault> for Answer<'a> {
+    ghost use Rattle.std.specs.Prelude.{◌≡◌};
+    ghost use Rattle.clap_debug_cli.specs.helpers.Faults.{impossible_answer};
+
+    ghost from_gives = { λ fault answer. answer ≡ impossible_answer fault };
+
+    fn from(fault: CheckImpossibleFault) -> Self {
+        match fault {
+            CheckImpossibleFault::Build(fault) => Answer::from(fault),
+            CheckImpossibleFault::Check(fault) => Answer::from(fault),
+            CheckImpossibleFault::Memory => Answer::NoMemory,
+        }
+    }
+}
+
 impl<'a> From<AllocError> for Answer<'a> {
     ghost use Rattle.std.specs.Prelude.{◌≡◌};
     ghost use Rattle.clap_debug_cli.specs.declared.answer.Answer.TheVariants.{NoMemory};
@@ -330,7 +394,7 @@ impl<'a> From<AllocError> for Answer<'a> {
 
 const USAGE: &str = concat!(
     "usage: clap_debug record PROGRAM LOG [--model sc|tso|pso] [--seed N] [--steps N]\n",
-    "usage: clap_debug solve PROGRAM LOG OUT [--model sc|tso|pso] [--budget N]\n",
+    "usage: clap_debug solve PROGRAM LOG OUT [--model sc|tso|pso] [--budget N] [--least REFUTATION]\n",
     "usage: clap_debug replay PROGRAM LOG SCHEDULE\n",
     "usage: clap_debug check PROGRAM LOG REFUTATION\n",
     "usage: clap_debug list PROGRAM\n",
@@ -338,6 +402,7 @@ const USAGE: &str = concat!(
     "usage: clap_debug migrate PROGRAM LOG OUT\n",
     "usage: clap_debug cnf PROGRAM LOG OUT [--model sc|tso|pso]\n",
     "usage: clap_debug import PROGRAM LOG ANSWER OUT [--model sc|tso|pso]\n",
+    "usage: clap_debug why PROGRAM LOG REFUTATION\n",
 );
 
 /// What is written.
@@ -363,12 +428,14 @@ pub(crate) fn line(alloc: Global, answer: &Answer) -> Result<Vec<u8>, AllocError
             "refutation refused: line {line}\n"
         )),
         Answer::Solved(solution) => bytes(solution_line(alloc, solution)),
-        Answer::Accepted(checked) => bytes(String::from_str(alloc, checked_line(*checked))),
+        Answer::Minimized(minimum) => bytes(minimum_line(alloc, minimum)),
+        Answer::Accepted(shown) => bytes(shown_line(alloc, *shown)),
         Answer::LineRefused(line) => bytes(format!(in alloc; "line {line} refused\n")),
         Answer::Worked(work) => bytes(work_line(alloc, work)),
         Answer::AnswerRefused(line) => bytes(format!(in alloc; "answer refused: line {line}\n")),
         Answer::Exported(clauses) => bytes(clauses_line(alloc, clauses)),
         Answer::Imported(schedule) => bytes(schedule_line(alloc, schedule)),
+        Answer::Explained(reasons) => bytes(reasons.text(alloc)),
         Answer::ClauseFalse(number) => bytes(format!(in alloc; "clause {number} false\n")),
         Answer::WriteFault(name) => bytes(format!(in alloc; "write fault: {name}\n")),
         Answer::NoMemory => bytes(String::from_str(alloc, "no memory\n")),
@@ -487,15 +554,42 @@ fn solution_line(alloc: Global, solution: &Solution) -> Result<String, AllocErro
 {
     match &solution.answer {
         Found::Found(schedule) => schedule_line(alloc, schedule),
-        Found::Impossible(derivation) => {
-            let lines = derivation.lines().len();
-            format!(in alloc; "impossible, {lines} lines\n")
-        }
-        Found::Spent(_) => {
-            let conflicts = solution.budget;
-            format!(in alloc; "spent after {conflicts} conflicts\n")
-        }
+        Found::Impossible(derivation) => impossible_line(alloc, derivation),
+        Found::Spent(_) => spent_line(alloc, solution.budget),
     }
+}
+
+fn impossible_line(alloc: Global, derivation: &Derivation) -> Result<String, AllocError>
+    ensures { IfOk result (λ text. string_bytes text ≡ impossible_line derivation.now) }
+{
+    let lines = derivation.lines().len();
+    format!(in alloc; "impossible, {lines} lines\n")
+}
+
+fn spent_line(alloc: Global, conflicts: u32) -> Result<String, AllocError>
+    ensures { IfOk result (λ text. string_bytes text ≡ spent_line conflicts) }
+{
+    format!(in alloc; "spent after {conflicts} conflicts\n")
+}
+
+fn minimum_line(alloc: Global, minimum: &Minimum) -> Result<String, AllocError>
+    ensures { IfOk result (λ text. string_bytes text ≡ minimum_line minimum.now) }
+{
+    match &minimum.least {
+        Least::Found(schedule, switches, _) => {
+            let moves = schedule.moves.len();
+            format!(in alloc; "schedule {moves} moves, {switches} switches\n")
+        }
+        Least::Impossible(derivation) => impossible_line(alloc, derivation),
+        Least::Spent(_) => spent_line(alloc, minimum.budget),
+        Least::SpentAt(_, switches, _) => spent_at_line(alloc, minimum.budget, *switches),
+    }
+}
+
+fn spent_at_line(alloc: Global, conflicts: u32, switches: u32) -> Result<String, AllocError>
+    ensures { IfOk result (λ text. string_bytes text ≡ spent_at_line conflicts switches) }
+{
+    format!(in alloc; "spent after {conflicts} conflicts, {switches} switches\n")
 }
 
 fn schedule_line(alloc: Global, schedule: &Schedule) -> Result<String, AllocError>
@@ -551,12 +645,13 @@ fn end_word(end: RunEnd) -> &'static str
     }
 }
 
-fn checked_line(checked: Checked) -> &'static str
-    ensures { result.now ≡ checked_line checked }
+fn shown_line(alloc: Global, shown: Shown) -> Result<String, AllocError>
+    ensures { IfOk result (λ text. string_bytes text ≡ shown_line shown) }
 {
-    match checked {
-        Checked::Closed => "accepted, impossible\n",
-        Checked::Open => "accepted, open\n",
+    match shown {
+        Shown::Impossible => String::from_str(alloc, "accepted, impossible\n"),
+        Shown::MoreSwitches(most) => format!(in alloc; "accepted, more than {most} switches\n"),
+        Shown::Open => String::from_str(alloc, "accepted, open\n"),
     }
 }
 
@@ -592,11 +687,13 @@ pub(crate) fn status(answer: &Answer) -> u8
         Answer::Recorded(_) => 0,
         Answer::Migrated => 0,
         Answer::Solved(solution) => solution_status(solution),
-        Answer::Accepted(checked) => checked_status(*checked),
+        Answer::Minimized(minimum) => minimum_status(minimum),
+        Answer::Accepted(shown) => shown_status(*shown),
         Answer::LineRefused(_) => 1,
         Answer::Worked(work) => work_status(work),
         Answer::Exported(_) => 0,
         Answer::Imported(_) => 0,
+        Answer::Explained(_) => 0,
         Answer::ClauseFalse(_) => 1,
         Answer::RunEnded(ending) => ending_status(*ending),
         Answer::Usage => 2,
@@ -633,6 +730,16 @@ fn solution_status(solution: &Solution) -> u8
     }
 }
 
+fn minimum_status(minimum: &Minimum) -> u8
+    ensures { result ≡ minimum_status minimum.now }
+{
+    match &minimum.least {
+        Least::Found(_, _, _) => 0,
+        Least::Impossible(_) => 1,
+        Least::Spent(_) | Least::SpentAt(_, _, _) => 10,
+    }
+}
+
 fn work_status(work: &Work) -> u8
     ensures { result ≡ work_status work.now }
 {
@@ -642,11 +749,11 @@ fn work_status(work: &Work) -> u8
     }
 }
 
-fn checked_status(checked: Checked) -> u8
-    ensures { result ≡ checked_status checked }
+fn shown_status(shown: Shown) -> u8
+    ensures { result ≡ shown_status shown }
 {
-    match checked {
-        Checked::Closed => 0,
-        Checked::Open => 10,
+    match shown {
+        Shown::Impossible | Shown::MoreSwitches(_) => 0,
+        Shown::Open => 10,
     }
 }

@@ -5,22 +5,26 @@ ghost use Rattle.tc_code.specs.Code.{Code};
 ghost use Rattle.tc_io.specs.Outside.{Opened, GaveReading};
 ghost use Rattle.path_log.specs.Texts.{StoredLog};
 ghost use Rattle.refute_check.specs.Reading.{beginning, first_breach};
-ghost use Rattle.refute_check.specs.Refutations.{start, verdict};
-ghost use Rattle.clap_solve.specs.Clauses.{model_clauses};
+ghost use Rattle.refute_check.specs.Refutations.{start};
+ghost use Rattle.clap_solve.specs.Clauses.{bound_of, model_clauses};
 ghost use Rattle.clap_solve.specs.Solved.{IsWithin};
 ghost use Rattle.clap_system.specs.Faults.{IsBuildFault};
 ghost use Rattle.clap_debug_cli.specs.Causes.{IsCheckAnswer, IsClausesAnswer, IsRefutationAnswer};
+ghost use Rattle.switch_clauses.specs.Clauses.{switch_clauses};
+ghost use Rattle.tc_base.specs.Buffers.{buffer_of};
+ghost use Rattle.clap_debug_cli.specs.Checked.{head_clauses, shown};
 ghost use Rattle.clap_debug_cli.specs.Files.{IsOfOther};
 ghost use Rattle.clap_debug_cli.specs.Inputs.{InPieces};
 ghost use Rattle.clap_debug_cli.specs.declared.answer.Answer.TheVariants.{Accepted, RefutationRefused};
 ghost use Rattle.clap_debug_cli.specs.declared.check.Stage.TheVariants.{Begins};
-ghost use Rattle.clap_debug_cli.specs.helpers.Incoming.{HasRoom, IsBegun, IsRead, IsWhyUnaccepted, IsWhyUnchecked, IsWhyUnshown, stage_after};
+ghost use Rattle.clap_debug_cli.specs.helpers.Incoming.{HasRoom, IsBegun, IsRead, IsShown, IsWhyUnaccepted, IsWhyUnchecked, IsWhyUnshown, stage_after};
 ghost use Rattle.clap_debug_cli.specs.helpers.Refused.{IsWhyMissing, Refuses};
 
-use crate::answer::{Answer, FileName};
+use crate::answer::{Answer, FileName, Shown};
 use crate::input::{of_program, read_both};
 use clap_solve::check_start;
 use clap_system::BuildFault;
+use least_switch::check_least_start;
 use path_log::Log;
 use refute_check::{CheckFault, Checked, Checker, Head, Line, RefutationText, Taken};
 use std::alloc::{AllocError, Global};
@@ -45,12 +49,10 @@ struct Task<'p> {
 enum Stage<'a> {
     /// Its first line isn't ended.
     Begins,
-    /// Its first line names a number of switches: of such ones nothing is checked.
-    Counts,
     /// Its lines aren't checked, since there is this to be answered.
     Refuses(Answer<'a>),
-    /// They are checked.
-    Checks(Checker),
+    /// They are checked over the clauses of the log, those with at most so many context switches where a number is named.
+    Checks(Option<u8>, Checker),
 }
 
 /// A refutation that is read.
@@ -67,10 +69,10 @@ pub(crate) fn checked<'a, H: Shelf>(
     program: &[u8],
     log: &[u8],
     name: &'a str,
-) -> Result<Checked, Answer<'a>>
+) -> Result<Shown, Answer<'a>>
     requires { length program.now ≤ PROGRAM_BYTES }
-    ensures accepted { IfOk result (λ checked. (bytes : List ℕ) × GaveReading (H.tells shelf.old) (H.tells shelf.new) name.now bytes
-        × IsCheckAnswer program.now log.now bytes (Accepted checked)) }
+    ensures accepted { IfOk result (λ x. (bytes : List ℕ) × GaveReading (H.tells shelf.old) (H.tells shelf.new) name.now bytes
+        × IsCheckAnswer program.now log.now bytes (Accepted x)) }
     ensures answer { IfErr result (IsWhyUnaccepted program.now log.now name.now (H.tells shelf.old) (H.tells shelf.new)) }
 {
     match read_both(alloc, program, log) {
@@ -184,22 +186,22 @@ impl<'a> Incoming<'a> {
     }
 
     /// What was shown, where no more bytes come.
-    fn verdict(self) -> Result<Checked, Answer<'a>>
-        ensures accepted { IfOk result (λ checked. (program : List ℕ) (code : Code) (run : StoredLog) (bytes : List ℕ)
-            → IsRead program code run self.entry bytes → IsRefutationAnswer bytes (IsClausesAnswer program code run) (Accepted checked)) }
+    fn verdict(self) -> Result<Shown, Answer<'a>>
+        ensures accepted { IfOk result (λ x. (program : List ℕ) (code : Code) (run : StoredLog) (bytes : List ℕ)
+            → IsRead program code run self.entry bytes → IsRefutationAnswer bytes (IsClausesAnswer program code run) (Accepted x)) }
         ensures answer { IfErr result (λ a. (program : List ℕ) (code : Code) (run : StoredLog) (bytes : List ℕ)
             → IsRead program code run self.entry bytes → Refuses (IsRefutationAnswer bytes (IsClausesAnswer program code run)) a) }
     {
         let Incoming { text, stage } = self;
         match stage {
-            Stage::Begins | Stage::Counts => Err(Answer::RefutationRefused(1)),
+            Stage::Begins => Err(Answer::RefutationRefused(1)),
             Stage::Refuses(answer) => {
                 finish(&text)?;
                 Err(answer)
             }
-            Stage::Checks(checker) => {
+            Stage::Checks(most, checker) => {
                 finish(&text)?;
-                shown(&checker)
+                shown(most, &checker)
             }
         }
     }
@@ -211,7 +213,7 @@ impl<'a> Stage<'a> {
         requires { HasRoom self.old }
         ensures { OnOk result (self.new ≡ stage_after self.old line.now) }
     {
-        let Stage::Checks(checker) = self else {
+        let Stage::Checks(_, checker) = self else {
             return Ok(());
         };
         match checker.add(line) {
@@ -223,29 +225,38 @@ impl<'a> Stage<'a> {
 
 /// What is made of the first line.
 fn begun<'a>(alloc: Global, task: &Task, head: Head) -> Stage<'a>
-    ensures { IsBegun task.now.program.now task.now.code task.now.log head.model head.switches result }
+    ensures { IsBegun task.now.program.now task.now.code task.now.log head result }
 {
-    if head.switches.is_some() {
-        return Stage::Counts;
-    }
-    match start(alloc, task, head.model) {
-        Ok(checker) => Stage::Checks(checker),
+    match start(alloc, task, head) {
+        Ok(checker) => Stage::Checks(head.switches, checker),
         Err(answer) => Stage::Refuses(answer),
     }
 }
 
-/// A checker over the clauses of the log under a memory model.
-fn start<'a>(alloc: Global, task: &Task, model: Model) -> Result<Checker, Answer<'a>>
-    ensures checker { IfOk result (λ checker. checker ≡ start (model_clauses model task.now.code task.now.log.log)) }
+/// A checker over the clauses of the log of which a first line speaks.
+fn start<'a>(alloc: Global, task: &Task, head: Head) -> Result<Checker, Answer<'a>>
+    ensures checker { IfOk result (λ checker. checker ≡ start (head_clauses head task.now.code task.now.log.log)) }
     ensures same { OnOk result (IsOfOther task.now.program.now task.now.log → ⊥) }
     ensures within { OnOk result (IsWithin task.now.code task.now.log.log) }
     ensures answer { IfErr result (IsWhyUnchecked task.now.program.now task.now.code task.now.log) }
 {
     of_program(task.program, &task.log)?;
-    let checker = start_under(alloc, &task.code, &task.log, model)?;
+    let checker = start_by(alloc, &task.code, &task.log, head)?;
     Ok(checker)
 }
 
+fn start_by(alloc: Global, code: &Code, log: &Log, head: Head) -> Result<Checker, BuildFault>
+    ensures checker { IfOk result (λ checker. checker ≡ start (head_clauses head code.now log.now.log)) }
+    ensures within { OnOk result (IsWithin code.now log.now.log) }
+    ensures fault { IfErr result (IsBuildFault code.now log.now.log) }
+{
+    match head.switches {
+        None => start_under(alloc, code, log, head.model),
+        Some(most) => start_up_to(alloc, code, log, head.model, u32::from(most)),
+    }
+}
+
+/// A checker over the clauses of the log under a memory model.
 fn start_under(alloc: Global, code: &Code, log: &Log, model: Model) -> Result<Checker, BuildFault>
     ensures checker { IfOk result (λ checker. checker ≡ start (model_clauses model code.now log.now.log)) }
     ensures within { OnOk result (IsWithin code.now log.now.log) }
@@ -255,6 +266,27 @@ fn start_under(alloc: Global, code: &Code, log: &Log, model: Model) -> Result<Ch
         Model::Sc => check_start::<Sc>(alloc, code, log),
         Model::Tso => check_start::<TsoModel>(alloc, code, log),
         Model::Pso => check_start::<PsoModel>(alloc, code, log),
+    }
+}
+
+/// A checker over those with at most so many context switches.
+fn start_up_to(
+    alloc: Global,
+    code: &Code,
+    log: &Log,
+    model: Model,
+    most: u32,
+) -> Result<Checker, BuildFault>
+    requires { most ≤ 255 }
+    ensures checker { IfOk result (λ checker. checker
+        ≡ start (switch_clauses (buffer_of model).buffered (bound_of model) code.now log.now.log most)) }
+    ensures within { OnOk result (IsWithin code.now log.now.log) }
+    ensures fault { IfErr result (IsBuildFault code.now log.now.log) }
+{
+    match model {
+        Model::Sc => check_least_start::<Sc>(alloc, code, log, most),
+        Model::Tso => check_least_start::<TsoModel>(alloc, code, log, most),
+        Model::Pso => check_least_start::<PsoModel>(alloc, code, log, most),
     }
 }
 
@@ -270,13 +302,13 @@ fn finish<'a>(text: &RefutationText) -> Result<(), Answer<'a>>
     }
 }
 
-/// What the lines that a checker took show.
-fn shown<'a>(checker: &Checker) -> Result<Checked, Answer<'a>>
-    ensures checked { IfOk result (λ checked. verdict checker.now ≡ Ok checked) }
+/// What the lines that a checker took show, over the clauses with at most so many context switches where a number is named.
+fn shown<'a>(most: Option<u8>, checker: &Checker) -> Result<Shown, Answer<'a>>
+    ensures shown { IfOk result (IsShown most checker.now) }
     ensures answer { IfErr result (IsWhyUnshown checker.now) }
 {
     match checker.verdict() {
-        Ok(checked) => Ok(checked),
+        Ok(checked) => Ok(shown_by(most, checked)),
         Err(
             CheckFault::NoVariable(line)
             | CheckFault::NoClause(line)
@@ -284,5 +316,16 @@ fn shown<'a>(checker: &Checker) -> Result<Checked, Answer<'a>>
             | CheckFault::NoConflict(line),
         ) => Err(Answer::LineRefused(line)),
         Err(CheckFault::Memory) => Err(Answer::NoMemory),
+    }
+}
+
+/// What a verdict shows.
+fn shown_by(most: Option<u8>, checked: Checked) -> Shown
+    ensures { result ≡ shown most checked }
+{
+    match (most, checked) {
+        (_, Checked::Open) => Shown::Open,
+        (None, Checked::Closed) => Shown::Impossible,
+        (Some(most), Checked::Closed) => Shown::MoreSwitches(most),
     }
 }

@@ -1,18 +1,21 @@
 //! The commands: what each reads, what it works out, and what it keeps and says.
-ghost use Rattle.std.specs.Prelude.{◌≡◌, IfErr, OnOk};
+ghost use Rattle.std.specs.Prelude.{◌≡◌, IfErr, IsSomeAnd, OnOk, option_map};
 ghost use Rattle.tc_io.specs.Outside.{Kept, ShelfTells};
-ghost use Rattle.clap_debug_words.specs.Calls.{Lists, Replays, Records, Migrates, Solves, Checks, Workloads, Exports, Imports};
+ghost use Rattle.clap_debug_words.specs.Calls.{Lists, Replays, Records, Migrates, Solves, Minimizes, Checks, Workloads, Exports, Imports, Explains};
 ghost use Rattle.clap_debug_cli.specs.Causes.{IsCauseOf};
+ghost use Rattle.clap_debug_cli.specs.Fewest.{KeptIfAny};
 ghost use Rattle.clap_debug_cli.specs.helpers.Refused.{IsEither, IsWhyUnkept};
 
 use crate::answer::{Answer, FileName};
 use crate::check::checked;
-use crate::input::{Input, fetch};
+use crate::input::{Input, fetch, fetch_whole};
+use crate::least::minimized;
 use crate::migrate::migrated;
 use crate::replay::replayed;
 use crate::run::recorded;
 use crate::solve::solved;
 use crate::solvers::{exported, imported};
+use crate::why::explain;
 use crate::workload::worked;
 use clap_debug_words::{Budget, Workers};
 use std::alloc::Global;
@@ -106,7 +109,30 @@ pub(crate) fn solve_log<'a, H: Shelf>(
     Ok(Answer::Solved(solution))
 }
 
-/// `check PROGRAM LOG REFUTATION`: whether the refutation shows that nothing leads to the failure or the deadlock of the log.
+/// `solve PROGRAM LOG OUT --least REFUTATION`: keeps a schedule that leads to the failure or the deadlock of the log with the fewest
+/// context switches, and a refutation that shows that nothing with fewer does.
+pub(crate) fn minimize_switches<'a, H: Shelf>(
+    alloc: Global,
+    shelf: &mut H,
+    program: &'a str,
+    log: &'a str,
+    out: &'a str,
+    model: Option<Model>,
+    budget: Budget,
+    refutation: &'a str,
+) -> Result<Answer<'a>, Answer<'a>>
+    ensures { IsEither result (IsCauseOf (Minimizes program.now log.now out.now model budget.conflicts refutation.now) (H.tells shelf.old) (H.tells shelf.new)) }
+{
+    let program = fetch(alloc, shelf, Input::Program, program)?;
+    let log = fetch(alloc, shelf, Input::Log, log)?;
+    let (minimum, results) = minimized(alloc, &program, &log, model, budget)?;
+    keep(alloc, shelf, out, &results.out)?;
+    keep_if_any(alloc, shelf, refutation, &results.refutation)?;
+    Ok(Answer::Minimized(minimum))
+}
+
+/// `check PROGRAM LOG REFUTATION`: whether the refutation shows that nothing leads to the failure or the deadlock of the log, or
+/// nothing that has so few context switches.
 pub(crate) fn check_refutation<'a, H: Shelf>(
     alloc: Global,
     shelf: &mut H,
@@ -118,8 +144,8 @@ pub(crate) fn check_refutation<'a, H: Shelf>(
 {
     let program = fetch(alloc, shelf, Input::Program, program)?;
     let log = fetch(alloc, shelf, Input::Log, log)?;
-    let checked = checked(alloc, shelf, &program, &log, refutation)?;
-    Ok(Answer::Accepted(checked))
+    let shown = checked(alloc, shelf, &program, &log, refutation)?;
+    Ok(Answer::Accepted(shown))
 }
 
 /// `workload N SEED`: how a run of a generated program ends, and what searches for a schedule of its log find.
@@ -171,6 +197,39 @@ pub(crate) fn import_answer<'a, H: Shelf>(
     let (schedule, text) = imported(alloc, &program, &log, &answer, model)?;
     keep(alloc, shelf, out, &text)?;
     Ok(Answer::Imported(schedule))
+}
+
+/// `why PROGRAM LOG REFUTATION`: on which rules the refutation rests.
+pub(crate) fn explain_refutation<'a, H: Shelf>(
+    alloc: Global,
+    shelf: &mut H,
+    program: &'a str,
+    log: &'a str,
+    refutation: &'a str,
+) -> Result<Answer<'a>, Answer<'a>>
+    ensures { IsEither result (IsCauseOf (Explains program.now log.now refutation.now) (H.tells shelf.old) (H.tells shelf.new)) }
+{
+    let program = fetch(alloc, shelf, Input::Program, program)?;
+    let log = fetch(alloc, shelf, Input::Log, log)?;
+    let refutation = fetch_whole(alloc, shelf, refutation)?;
+    let reasons = explain(alloc, &program, &log, &refutation)?;
+    Ok(Answer::Explained(reasons))
+}
+
+/// Keeps a result, where there is one.
+fn keep_if_any<'a, H: Shelf>(
+    alloc: Global,
+    shelf: &mut H,
+    name: &'a str,
+    text: &Option<Vec<u8>>,
+) -> Result<(), Answer<'a>>
+    ensures kept { OnOk result (KeptIfAny (option_map (λ t. t.items) text.now) (H.tells shelf.old) (H.tells shelf.new) name.now) }
+    ensures unkept { IfErr result (λ a. IsSomeAnd (option_map (λ t. t.items) text.now) (λ bytes. IsWhyUnkept name.now bytes (H.tells shelf.old) (H.tells shelf.new) a)) }
+{
+    match text {
+        Some(text) => keep(alloc, shelf, name, text),
+        None => Ok(()),
+    }
 }
 
 /// Keeps a result.

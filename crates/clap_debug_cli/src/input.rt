@@ -3,7 +3,7 @@ ghost use Rattle.std.specs.Prelude.{◌≡◌, ◌≤◌, length, IfOk, IfErr, O
 ghost use Rattle.tc_base.specs.declared.limits.TheConstants.{PROGRAM_BYTES};
 ghost use Rattle.tc_compile.specs.Programs.{IsCodeOf};
 ghost use Rattle.clap_debug_cli.specs.Files.{IsLog, IsOfOther};
-ghost use Rattle.clap_debug_cli.specs.Inputs.{limit_of, Whole, GaveInput};
+ghost use Rattle.clap_debug_cli.specs.Inputs.{limit_of, Entire, Whole, GaveInput};
 ghost use Rattle.clap_debug_cli.specs.helpers.Refused.{IsWhyMissing, IsWhyUnread, IsWhyOther};
 
 use crate::answer::{Answer, FileName, LogRefusal};
@@ -56,6 +56,23 @@ pub(crate) fn fetch<'a, H: Shelf>(
         Err(FetchFault::Failed) => Err(Answer::ReadFault(FileName::new(name))),
         Err(FetchFault::TooLong) => Err(Answer::TooLong(input)),
         Err(FetchFault::Memory) => Err(Answer::NoMemory),
+    }
+}
+
+/// The bytes of a file of any length.
+pub(crate) fn fetch_whole<'a, H: Shelf>(
+    alloc: Global,
+    shelf: &mut H,
+    name: &'a str,
+) -> Result<Vec<u8>, Answer<'a>>
+    ensures gave { IfOk result (λ bytes. GaveInput (Entire name.now) (H.tells shelf.old) (H.tells shelf.new) bytes.items) }
+    ensures missing { IfErr result (IsWhyMissing (Entire name.now) (H.tells shelf.old) (H.tells shelf.new)) }
+{
+    match shelf.fetch(alloc, name, u64::MAX) {
+        Ok(bytes) => Ok(bytes),
+        Err(FetchFault::Memory) => Err(Answer::NoMemory),
+        // It failed, or there are more bytes than a number counts.
+        Err(_) => Err(Answer::ReadFault(FileName::new(name))),
     }
 }
 

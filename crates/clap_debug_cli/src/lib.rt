@@ -8,7 +8,9 @@ ghost use Rattle.path_log.specs.Texts.{StoredLog};
 ghost use Rattle.tc_record.specs.Logged.{most_log_bytes};
 ghost use Rattle.clap_debug_words.specs.Calls.{plain_call};
 ghost use Rattle.clap_debug_cli.specs.declared.answer.Answer.TheVariants.{NoMemory};
-ghost use Rattle.clap_debug_cli.specs.Causes.{IsAcceptedAs, IsCause, IsCauseOf};
+ghost use Rattle.clap_debug_cli.specs.Causes.{IsAcceptedAs, IsAcceptedBelow, IsCause, IsCauseOf};
+ghost use Rattle.clap_debug_cli.specs.Fewest.{IsMinimum, first_text, found_in};
+ghost use Rattle.clap_debug_cli.specs.declared.answer.Minimum.{Minimum};
 ghost use Rattle.clap_debug_cli.specs.Call.{IfTold, Says, SaysNoMore, CallAnswers, ToldAnswers, CommandAnswers};
 ghost use Rattle.clap_debug_cli.specs.Files.{IsLog};
 ghost use Rattle.clap_debug_cli.specs.Inputs.{texts_under};
@@ -22,19 +24,21 @@ mod answer;
 mod check;
 mod commands;
 mod input;
+mod least;
 mod migrate;
 mod output;
 mod replay;
 mod run;
 mod solve;
 mod solvers;
+mod why;
 mod workload;
 
 use answer::{Answer, line, status};
 use clap_debug_words::{Call, call_of};
 use commands::{
-    check_refutation, export_clauses, import_answer, list_program, migrate_log, record_run,
-    replay_schedule, solve_log, try_workload,
+    check_refutation, explain_refutation, export_clauses, import_answer, list_program, migrate_log,
+    minimize_switches, record_run, replay_schedule, solve_log, try_workload,
 };
 use std::alloc::Global;
 use tc_io::{PutFault, Shelf, Sink};
@@ -86,6 +90,15 @@ pub fn solutions_are_accepted()
         → IsAcceptedAs program log (solution_text x) x.answer }
 {}
 
+/// What `solve --least` keeps is accepted: with the same program and log `replay` answers that its schedule reproduces the log, and
+/// `check` that its refutation shows that there are more switches than its first line says, or that it is open.
+pub fn minima_are_accepted()
+    ensures first { (program log : List ℕ) (model : Option Model) (budget : ℕ) (x : Minimum) → IsMinimum program log model budget x
+        → IsAcceptedAs program log (first_text x) (found_in x.least) }
+    ensures below { (program log : List ℕ) (model : Option Model) (budget : ℕ) (x : Minimum) → IsMinimum program log model budget x
+        → IsAcceptedBelow program log x.model x.least }
+{}
+
 /// What is answered to the words.
 fn answered<'a, H: Shelf>(alloc: Global, words: &'a [String], shelf: &mut H) -> Answer<'a>
     ensures { IsCause (map string_bytes words.now) (H.tells shelf.old) (H.tells shelf.new) result }
@@ -131,6 +144,14 @@ fn answer_to<'a, H: Shelf>(
             model,
             budget,
         } => solve_log(alloc, shelf, program, log, out, model, budget),
+        Call::Least {
+            program,
+            log,
+            out,
+            model,
+            budget,
+            refutation,
+        } => minimize_switches(alloc, shelf, program, log, out, model, budget, refutation),
         Call::Check {
             program,
             log,
@@ -150,6 +171,11 @@ fn answer_to<'a, H: Shelf>(
             out,
             model,
         } => import_answer(alloc, shelf, program, log, answer, out, model),
+        Call::Why {
+            program,
+            log,
+            refutation,
+        } => explain_refutation(alloc, shelf, program, log, refutation),
     }
 }
 

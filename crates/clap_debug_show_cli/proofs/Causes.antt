@@ -24,7 +24,7 @@ use Rattle.clap_debug_show_cli.specs.declared.answer.Answer.TheVariants.{
 }
 
 -- what is given changes nothing that is held, and counts no fault
-still : (call : Shows) (old new : ShelfTells) (program file : List ℕ) → GaveBoth call old new program file
+pub still : (call : Shows) (old new : ShelfTells) (program file : List ℕ) → GaveBoth call old new program file
     → (new.held ≡ old.held) × (new.faults ≡ old.faults)
 still call old new program file gave = (
   ap (λ (s : ShelfTells). s.held) gave.2.1 ∙ ap (λ (s : ShelfTells). s.held) gave.1.1,
@@ -42,11 +42,11 @@ unshown call old new program file (Unfit name misfit) gave h = (program, file, g
 unshown call old new program file (ScheduleRefused line) gave h = (program, file, gave, h)
 unshown call old new program file (Over LogBytes number) gave h = (program, file, gave, h)
 unshown call old new program file (Over Threads number) gave h = (program, file, gave, h)
-unshown call old new program file (Over ProgramBytes number) gave h = absurd h.2
-unshown call old new program file (Over ScheduleBytes number) gave h = absurd h.2
-unshown call old new program file Usage gave h = absurd h.2
-unshown call old new program file (ReadFault name) gave h = absurd h.2
-unshown call old new program file (WriteFault name) gave h = absurd h.2
+unshown call old new program file (Over ProgramBytes number) gave h = absurd h.2.1.1.3.1
+unshown call old new program file (Over ScheduleBytes number) gave h = absurd h.2.1.1.3.1
+unshown call old new program file Usage gave h = absurd h.2.1.1.3.1
+unshown call old new program file (ReadFault name) gave h = absurd h.2.1.1.3.1
+unshown call old new program file (WriteFault name) gave h = absurd h.2.1.1.3.1
 unshown call old new program file (Shown shown) gave h = absurd h
 unshown call old new program file PageKept gave h = absurd h
 

@@ -1,16 +1,16 @@
 -- Why an answer is given: what the words are, what the shelf did, and what the bytes that it gave say.
-use Rattle.std.specs.Prelude.{◌≡◌, ◌⊎◌, ℕ, ◌+◌, ◌<◌, true, false, List, length, Some, None, IsSomeAnd}
+use Rattle.std.specs.Prelude.{◌≡◌, ◌⊎◌, ℕ, ◌+◌, ◌<◌, ◌≤◌, true, false, List, length, Some, None, IsSome, IsSomeAnd}
+use Rattle.tc_base.specs.Logs.{Log}
 use Rattle.tc_code.specs.Code.{Code}
 use Rattle.tc_compile.specs.Programs.{IsCodeOf, IsRefusal}
-use Rattle.tc_io.specs.Outside.{ShelfTells, SinkTells, FailedToGive, Gave, Kept, KeptPart, WasTooLong}
+use Rattle.tc_io.specs.Outside.{ShelfTells, FailedToGive, Gave, Kept, KeptPart, WasTooLong}
 use Rattle.path_log.specs.Faults.{BreaksAt as LogBreaksAt}
 use Rattle.path_log.specs.Texts.{StoredLog, HasText, log_text}
 use Rattle.path_walk.specs.Fits.{IsFirst}
 use Rattle.schedule_file.specs.Faults.{BreaksAt as ScheduleBreaksAt}
-use Rattle.clap_debug_show_cli.specs.Answers.{Says}
 use Rattle.clap_debug_show_cli.specs.Calls.{Shows, call_of}
 use Rattle.clap_debug_show_cli.specs.Limits.{limit_of}
-use Rattle.clap_debug_show_cli.specs.Shown.{IsLogOf, IsOfOther, IsShown, begins_as_log}
+use Rattle.clap_debug_show_cli.specs.Shown.{IsOfOther, IsShown, begins_as_log}
 use Rattle.clap_debug_show_cli.specs.declared.shown.Shown.{Shown as AnyShown}
 use Rattle.clap_debug_show_cli.specs.declared.limits.What.TheVariants.{ProgramBytes, LogBytes, ScheduleBytes, Threads}
 use Rattle.clap_debug_show_cli.specs.declared.answer.Answer.{Answer}
@@ -29,17 +29,28 @@ use Rattle.clap_debug_show_cli.specs.declared.answer.Answer.TheVariants.{
   NoMemory,
 }
 
+-- why a log shows nothing of the code of a program: the first of these tests that it fails is told
+abbrev pub IsThreadsRefusal : Code → Log → Answer → Type 0
+IsThreadsRefusal code log (Over Threads number) = (number ≡ length log.threads) × (limit_of Threads < number)
+IsThreadsRefusal code log (Unfit name misfit) = (length log.threads ≤ limit_of Threads) × IsFirst code log name misfit
+IsThreadsRefusal code log _ = ⊥
+
+abbrev pub IsStoredRefusal : Code → (program : List ℕ) → StoredLog → Answer → Type 0
+IsStoredRefusal code program log OtherProgram = IsOfOther program log
+IsStoredRefusal code program log a = (IsOfOther program log → ⊥) × IsThreadsRefusal code log.log a
+
+abbrev pub IsFormRefusal : Code → (program file : List ℕ) → Answer → Type 0
+IsFormRefusal code program file (LogBroken offset) = LogBreaksAt file offset
+IsFormRefusal code program file a = (log : StoredLog) × HasText log × (file ≡ log_text log) × IsStoredRefusal code program log a
+
+abbrev pub IsLogRefusal : Code → (program file : List ℕ) → Answer → Type 0
+IsLogRefusal code program file (Over LogBytes number) = (number ≡ length file) × (limit_of LogBytes < number)
+IsLogRefusal code program file a = (length file ≤ limit_of LogBytes) × IsFormRefusal code program file a
+
 -- why a file shows nothing of the code of a program
 abbrev pub IsFileRefusal : Code → (program file : List ℕ) → Answer → Type 0
 IsFileRefusal code program file (ScheduleRefused line) = (begins_as_log file ≡ false) × ScheduleBreaksAt file line
-IsFileRefusal code program file (LogBroken offset) = (begins_as_log file ≡ true) × LogBreaksAt file offset
-IsFileRefusal code program file OtherProgram =
-    (log : StoredLog) × HasText log × (file ≡ log_text log) × IsOfOther program log
-IsFileRefusal code program file (Unfit name misfit) = (log : StoredLog) × IsLogOf program file log × IsFirst code log.log name misfit
-IsFileRefusal code program file (Over LogBytes number) = (begins_as_log file ≡ true) × (number ≡ length file) × (limit_of LogBytes < number)
-IsFileRefusal code program file (Over Threads number) =
-    (log : StoredLog) × IsLogOf program file log × (number ≡ length log.log.threads) × (limit_of Threads < number)
-IsFileRefusal code program file _ = ⊥
+IsFileRefusal code program file a = (begins_as_log file ≡ true) × IsLogRefusal code program file a
 
 -- the answer to what two files hold: of those that aren't of their forms, the first is told
 abbrev pub IsAnswerTo : (program file : List ℕ) → Answer → Type 0
@@ -47,6 +58,19 @@ IsAnswerTo program file (ProgramRefused fault) = IsRefusal program fault
 IsAnswerTo program file (Shown shown) = IsShown program file shown
 IsAnswerTo program file PageKept = ⊥
 IsAnswerTo program file a = (code : Code) × IsCodeOf program code × IsFileRefusal code program file a
+
+-- neither file is too long
+abbrev pub AreWithin : (program file : List ℕ) → Type 0
+AreWithin program file = (length program ≤ limit_of ProgramBytes) × (length file ≤ limit_of ScheduleBytes)
+
+-- the answer to a call whose two files hold this: of what is shown a page, where one is asked for, and else the text
+abbrev pub IsAnswerOf : Shows → (program file : List ℕ) → Answer → Type 0
+IsAnswerOf call program file (Over ProgramBytes number) = (number ≡ limit_of ProgramBytes + 1) × (limit_of ProgramBytes < length program)
+IsAnswerOf call program file (Over ScheduleBytes number) =
+    (length program ≤ limit_of ProgramBytes) × (number ≡ limit_of ScheduleBytes + 1) × (limit_of ScheduleBytes < length file)
+IsAnswerOf call program file PageKept = AreWithin program file × IsSome call.page × (shown : AnyShown) × IsShown program file shown
+IsAnswerOf call program file (Shown shown) = AreWithin program file × (call.page ≡ None) × IsShown program file shown
+IsAnswerOf call program file a = AreWithin program file × IsAnswerTo program file a
 
 -- the shelf gave the program
 abbrev pub GaveProgram : Shows → ShelfTells → ShelfTells → List ℕ → Type 0
@@ -86,9 +110,3 @@ abbrev pub IsCause : List (List ℕ) → ShelfTells → ShelfTells → Answer �
 IsCause words old new Usage = (call_of words ≡ None) × (new ≡ old)
 IsCause words old new NoMemory = (new ≡ old) ⊎ IsSomeAnd (call_of words) (λ call. IsCauseOf call old new NoMemory)
 IsCause words old new a = IsSomeAnd (call_of words) (λ call. IsCauseOf call old new a)
-
--- an answer that has its cause was said, with its status
-pub record IsAnswered (words : List (List ℕ)) (old new : ShelfTells) (status : ℕ) (before after : SinkTells) : Type 0 where
-  pub answer : Answer
-  pub cause : IsCause words old new answer
-  pub says : Says answer status before after

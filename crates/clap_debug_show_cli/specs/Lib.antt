@@ -3,4 +3,5 @@ pub mod Limits
 pub mod Shown
 pub mod Answers
 pub mod Causes
+pub mod Call
 pub mod helpers

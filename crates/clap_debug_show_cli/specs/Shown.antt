@@ -1,5 +1,5 @@
 -- What a file shows of a program.
-use Rattle.std.specs.Prelude.{◌≡◌, ◌≢◌, ℕ, Bool, List, IsSomeAnd, codes, nat_eq}
+use Rattle.std.specs.Prelude.{◌≡◌, ◌≢◌, ◌≤◌, ℕ, Bool, List, length, IsSomeAnd, codes, nat_eq}
 use Rattle.std.specs.List.{starts_with}
 use Rattle.sha2.specs.Sha256.{sha256}
 use Rattle.tc_base.specs.Buffers.{buffer_of}
@@ -12,6 +12,8 @@ use Rattle.schedule_file.specs.Schedules.{schedule_text}
 use Rattle.schedule_file.specs.declared.schedule.Schedule.{Schedule}
 use Rattle.show_rows.specs.Rows.{AreTold}
 use Rattle.show_rows.specs.declared.told.Told.{Told}
+use Rattle.clap_debug_show_cli.specs.Limits.{limit_of}
+use Rattle.clap_debug_show_cli.specs.declared.limits.What.TheVariants.{LogBytes, Threads}
 use Rattle.clap_debug_show_cli.specs.declared.shown.Shown.{Shown}
 use Rattle.clap_debug_show_cli.specs.declared.shown.Story.{Story}
 use Rattle.clap_debug_show_cli.specs.declared.shown.Story.TheVariants.{Moves, Ways}
@@ -28,10 +30,12 @@ IsTold code schedule told = AreTold (buffer_of schedule.model) code schedule.mov
 abbrev pub IsOfOther : (program : List ℕ) → StoredLog → Type 0
 IsOfOther program log = IsSomeAnd log.digest (λ digest. digest ≢ sha256 program)
 
--- the bytes are those of a log that isn't another program's
+-- the bytes are those of a log that isn't too long, nor another program's, nor has too many threads
 pub record IsLogOf (program bytes : List ℕ) (log : StoredLog) : Type 0 where
   pub has_text : HasText log
   pub text : bytes ≡ log_text log
+  pub short : length bytes ≤ limit_of LogBytes
+  pub few : length log.log.threads ≤ limit_of Threads
   pub recorded : IsOfOther program log → ⊥
 
 -- of a schedule what its moves did, and of a log the ways that its threads went in the code

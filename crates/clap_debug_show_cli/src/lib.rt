@@ -3,8 +3,10 @@
 #![tactic(auto)]
 
 ghost use Rattle.std.specs.Prelude.{map, string_bytes};
+ghost use Rattle.tc_io.specs.Outside.{bytes_at};
 ghost use Rattle.clap_debug_show_cli.specs.Calls.{plain_call};
-ghost use Rattle.clap_debug_show_cli.specs.Causes.{IsAnswered, IsCause, IsCauseOf};
+ghost use Rattle.clap_debug_show_cli.specs.Call.{CallAnswers, IfTold, ToldAnswers};
+ghost use Rattle.clap_debug_show_cli.specs.Causes.{IsCause, IsCauseOf};
 ghost use Rattle.clap_debug_show_cli.specs.Answers.{Says, SaysNoMore};
 ghost use Rattle.clap_debug_show_cli.specs.helpers.Refused.{IsEither};
 
@@ -33,7 +35,9 @@ pub fn clap_debug_show<H: Shelf, K: Sink>(
     shelf: &mut H,
     sink: &mut K,
 ) -> u8
-    ensures { IsAnswered (map string_bytes words.now) (H.tells shelf.old) (H.tells shelf.new) result (K.tells sink.old) (K.tells sink.new) }
+    ensures call { CallAnswers (map string_bytes words.now) (H.tells shelf.old) (H.tells shelf.new) result (K.tells sink.old) (K.tells sink.new) }
+    ensures told { IfTold (map string_bytes words.now) (H.tells shelf.old).held
+        (λ call files. ToldAnswers call (bytes_at files call.program) (bytes_at files call.file) result (K.tells sink.old) (K.tells sink.new)) }
 {
     let answer = answered(alloc, words, shelf);
     say(alloc, &answer, sink)

@@ -138,7 +138,13 @@ import_has rows e =
     let a = both (is_some (first_of (codes "program") rows)) _ e in
     let b = both (is_some (first_of (codes "log") rows)) _ a.1 in
     let c = both (is_some (first_of (codes "answer") rows)) _ b.1 in
-    inr (inr (inr (inr (inr (inr (inr (inr (refl, a.0, b.0, c.0, (both (is_some (first_of (codes "out") rows)) _ c.1).0))))))))
+    inr (inr (inr (inr (inr (inr (inr (inr (inl (refl, a.0, b.0, c.0, (both (is_some (first_of (codes "out") rows)) _ c.1).0)))))))))
+
+why_has : (rows : List Row) → given_in (sub_at 9) rows ≡ true → HasFiles (codes "why", rows)
+why_has rows e =
+    let a = both (is_some (first_of (codes "program") rows)) _ e in
+    let b = both (is_some (first_of (codes "log") rows)) _ a.1 in
+    inr (inr (inr (inr (inr (inr (inr (inr (inr (refl, a.0, b.0, (both (is_some (first_of (codes "refutation") rows)) _ b.1).0)))))))))
 
 if_some : (o : Option Text) (P : Text → Type 0) → ((v : Text) → o ≡ Some v → P v) → IfSome o P
 if_some None P h = tt
@@ -171,6 +177,12 @@ migrate_sets = (
 
 check_sets : AreSetters fitness (sub_at 5).rules
 check_sets = (
+  record { sets = refl; least = refl; test = λ v. refl; reads = refl },
+  (record { sets = refl; least = refl; test = λ v. refl; reads = refl }, (record { sets = refl; least = refl; test = λ v. refl; reads = refl }, tt)),
+)
+
+why_sets : AreSetters fitness (sub_at 9).rules
+why_sets = (
   record { sets = refl; least = refl; test = λ v. refl; reads = refl },
   (record { sets = refl; least = refl; test = λ v. refl; reads = refl }, (record { sets = refl; least = refl; test = λ v. refl; reads = refl }, tt)),
 )
@@ -211,7 +223,7 @@ solve_sets = (
       record { sets = refl; least = refl; test = λ v. refl; reads = refl },
       (
         record { sets = refl; least = refl; test = λ v. refl; reads = refl },
-        (record { sets = refl; least = refl; test = λ v. refl; reads = refl }, tt),
+        (record { sets = refl; least = refl; test = λ v. refl; reads = refl }, (record { sets = refl; least = refl; test = λ v. refl; reads = refl }, tt)),
       ),
     ),
   ),
@@ -278,7 +290,13 @@ all_have = (
                     import_has (rows_after (sub_at 8).rules [] words) (level_given fitness (sub_at 8) words import_sets e refl),
                     fit_values (codes "import") _ (level_fit fitness (sub_at 8) [] words false import_sets e),
                   ),
-                  tt,
+                  (
+                    λ words e. (
+                      why_has (rows_after (sub_at 9).rules [] words) (level_given fitness (sub_at 9) words why_sets e refl),
+                      fit_values (codes "why") _ (level_fit fitness (sub_at 9) [] words false why_sets e),
+                    ),
+                    tt,
+                  ),
                 ),
               ),
             ),

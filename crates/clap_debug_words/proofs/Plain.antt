@@ -23,7 +23,7 @@ use Rattle.clap_debug_words.specs.CommandLine.{command_line, lent_texts, model_n
 use Rattle.clap_debug_words.specs.Calls.{Called, call_of, called, model_in, number_in, usual_budget}
 use Rattle.clap_debug_words.specs.Calls as calls
 use Rattle.clap_debug_words.specs.declared.workers.TheConstants.{WORKERS}
-use Rattle.clap_debug_words.specs.PlainWords.{Written, Lists, Replays, Records, Migrates, Solves, Checks, Workloads, Exports, Imports}
+use Rattle.clap_debug_words.specs.PlainWords.{Written, Lists, Replays, Records, Migrates, Solves, Minimizes, Checks, Workloads, Exports, Imports, Explains}
 use Rattle.clap_debug_words.specs.PlainWords.{asked, is_between, is_name, is_plain, option_words, words_of}
 use Rattle.clap_debug_words.proofs.PlainWords.{ArePlain, IsPlainWord, Marked, level-marked, rows-marked}
 
@@ -100,6 +100,14 @@ check_says w p l r hp hl hr =
     let ms : List Marked = (true, p) ∷ (true, l) ∷ (true, r) ∷ [] in (
       ap (λ b. b && true) (level-marked (sub_at 5) ms (hp, (hl, (hr, tt)))),
       ap (λ (rows : List Row). Some (called (codes "check", rows))) (rows-marked (sub_at 5) ms (hp, (hl, (hr, tt)))),
+    )
+
+why_says : (w p l r : Text) → IsPlainWord p → IsPlainWord l → IsPlainWord r → Says (words_of w (Explains p l r)) (asked (Explains p l r))
+unfolding clap_on_literals
+why_says w p l r hp hl hr =
+    let ms : List Marked = (true, p) ∷ (true, l) ∷ (true, r) ∷ [] in (
+      ap (λ b. b && true) (level-marked (sub_at 9) ms (hp, (hl, (hr, tt)))),
+      ap (λ (rows : List Row). Some (called (codes "why", rows))) (rows-marked (sub_at 9) ms (hp, (hl, (hr, tt)))),
     )
 
 -- a text of an option's value is a plain word that passes
@@ -209,6 +217,41 @@ solve_says w p l o (Some m) None hp hl ho hm hn =
 solve_says w p l o None None hp hl ho hm hn =
     let ms : List Marked = (true, p) ∷ (true, l) ∷ (true, o) ∷ [] in
     let plain : ArePlain ms = (hp, (hl, (ho, tt))) in (
+      ap (λ b. b && true) (level-marked (sub_at 4) ms plain),
+      ap (λ (rows : List Row). Some (called (codes "solve", rows))) (rows-marked (sub_at 4) ms plain),
+    )
+
+abbrev least_call : Text → Text → Text → Option Text → Option Text → Text → Called
+least_call p l o m n r = calls.Minimizes p l o (option_map model_in m) (option_map_or (number_in 1 BUDGET usual_budget) n usual_budget) r
+
+least_says : (w p l o : Text) (m n : Option Text) (r : Text) → IsPlainWord p → IsPlainWord l → IsPlainWord o → Passes accepts_model m
+    → Passes (is_unsigned_in 1 BUDGET) n → IsPlainWord r
+    → Says (w ∷ codes "solve" ∷ p ∷ l ∷ o
+    ∷ (option_words (codes "--model") m ++ (option_words (codes "--budget") n ++ option_words (codes "--least") (Some r)))) (least_call p l o m n r)
+unfolding clap_on_literals
+least_says w p l o (Some m) (Some n) r hp hl ho hm hn hr =
+    let ms : List Marked = (true, p) ∷ (true, l) ∷ (true, o) ∷ (false, codes "--model") ∷ (true, m) ∷ (false, codes "--budget") ∷ (true, n)
+    ∷ (false, codes "--least") ∷ (true, r) ∷ [] in
+    let plain : ArePlain ms = (hp, (hl, (ho, (hm.0, (hn.0, (hr, tt)))))) in (
+      ap (λ b. b && true) (level-marked (sub_at 4) ms plain)
+          ∙ level_true _ true true (both_true _ _ (settled_true _ hm.1) (settled_true _ hn.1)) refl refl,
+      ap (λ (rows : List Row). Some (called (codes "solve", rows))) (rows-marked (sub_at 4) ms plain),
+    )
+least_says w p l o None (Some n) r hp hl ho hm hn hr =
+    let ms : List Marked = (true, p) ∷ (true, l) ∷ (true, o) ∷ (false, codes "--budget") ∷ (true, n) ∷ (false, codes "--least") ∷ (true, r) ∷ [] in
+    let plain : ArePlain ms = (hp, (hl, (ho, (hn.0, (hr, tt))))) in (
+      ap (λ b. b && true) (level-marked (sub_at 4) ms plain) ∙ level_true _ true true (ended_true _ (settled_true _ hn.1)) refl refl,
+      ap (λ (rows : List Row). Some (called (codes "solve", rows))) (rows-marked (sub_at 4) ms plain),
+    )
+least_says w p l o (Some m) None r hp hl ho hm hn hr =
+    let ms : List Marked = (true, p) ∷ (true, l) ∷ (true, o) ∷ (false, codes "--model") ∷ (true, m) ∷ (false, codes "--least") ∷ (true, r) ∷ [] in
+    let plain : ArePlain ms = (hp, (hl, (ho, (hm.0, (hr, tt))))) in (
+      ap (λ b. b && true) (level-marked (sub_at 4) ms plain) ∙ level_true _ true true (ended_true _ (settled_true _ hm.1)) refl refl,
+      ap (λ (rows : List Row). Some (called (codes "solve", rows))) (rows-marked (sub_at 4) ms plain),
+    )
+least_says w p l o None None r hp hl ho hm hn hr =
+    let ms : List Marked = (true, p) ∷ (true, l) ∷ (true, o) ∷ (false, codes "--least") ∷ (true, r) ∷ [] in
+    let plain : ArePlain ms = (hp, (hl, (ho, (hr, tt)))) in (
       ap (λ b. b && true) (level-marked (sub_at 4) ms plain),
       ap (λ (rows : List Row). Some (called (codes "solve", rows))) (rows-marked (sub_at 4) ms plain),
     )
@@ -337,6 +380,20 @@ plain_says first (Solves p l o model budget) e =
     as_call (words_of first (Solves p l o model budget)) _ _ (λ i. calls.Solves p l o (m.1 i) (n.1 i))
     (solve_says first p l o (option_map model_name model) (option_map decimal budget) (name_plain p names.0) (name_plain l files.0) (name_plain o files.1)
     m.0 n.0)
+plain_says first (Minimizes p l o model budget r) e =
+    let a = both (is_name p && (is_name l && is_name o)) _ e in
+    let names = both (is_name p) (is_name l && is_name o) a.0 in
+    let files = both (is_name l) (is_name o) names.1 in
+    let rest = both (option_map_or (is_between 1 BUDGET) budget true) (is_name r) a.1 in
+    let m = model_left_out model in
+    let n = number_written 1 BUDGET usual_budget (omega arith) budget rest.0 in
+    as_call (words_of first (Minimizes p l o model budget r)) _ _ (λ i. calls.Minimizes p l o (m.1 i) (n.1 i) r)
+    (least_says first p l o (option_map model_name model) (option_map decimal budget) r (name_plain p names.0) (name_plain l files.0) (name_plain o files.1)
+    m.0 n.0 (name_plain r rest.1))
+plain_says first (Explains p l r) e =
+    let a = both _ _ e in
+    let b = both _ _ a.1 in
+    why_says first p l r (name_plain p a.0) (name_plain l b.0) (name_plain r b.1)
 
 -- plain words are taken, with the values that stand there
 pub plain_taken : (first : Text) (w : Written) → is_plain w ≡ true → call_of (words_of first w) ≡ Some (asked w)

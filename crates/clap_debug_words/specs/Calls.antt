@@ -21,11 +21,14 @@ pub data Called : Type 0 where
   Migrates : (program log out : Text) → Called
   -- without a model, the log's is meant
   Solves : (program log out : Text) (model : Option Model) (budget : ℕ) → Called
+  -- and here a schedule with the fewest context switches is wanted, with a refutation that none has fewer
+  Minimizes : (program log out : Text) (model : Option Model) (budget : ℕ) (refutation : Text) → Called
   Checks : (program log refutation : Text) → Called
   Workloads : (workers seed : ℕ) → Called
   -- again without a model, the log's is meant
   Exports : (program log out : Text) (model : Option Model) → Called
   Imports : (program log answer out : Text) (model : Option Model) → Called
+  Explains : (program log refutation : Text) → Called
 
 -- the text that stands for a positional
 abbrev pub text_of : Text → List Row → Text
@@ -71,19 +74,28 @@ usual_budget = 1000000
 abbrev pub budget_of : List Row → ℕ
 budget_of rows = number_of 1 BUDGET usual_budget (codes "budget") rows
 
+-- the call of `solve`, where a name for the refutation may be written
+abbrev pub searched_as : Option Text → (program log out : Text) → Option Model → ℕ → Called
+searched_as None program log out model budget = Solves program log out model budget
+searched_as (Some refutation) program log out model budget = Minimizes program log out model budget refutation
+
+abbrev pub searched : List Row → Called
+searched rows = searched_as (first_of (codes "least") rows) (text_of (codes "program") rows) (text_of (codes "log") rows) (text_of (codes "out") rows)
+    (written_model rows) (budget_of rows)
+
 -- the call of a subcommand's name and matches
 abbrev pub called : Text × List Row → Called
 called p = if bytes_eq p.0 (codes "list") then Lists (text_of (codes "program") p.1)
     else if bytes_eq p.0 (codes "replay") then Replays (text_of (codes "program") p.1) (text_of (codes "log") p.1) (text_of (codes "schedule") p.1)
     else if bytes_eq p.0 (codes "migrate") then Migrates (text_of (codes "program") p.1) (text_of (codes "log") p.1) (text_of (codes "out") p.1)
-    else if bytes_eq p.0 (codes "solve") then
-    Solves (text_of (codes "program") p.1) (text_of (codes "log") p.1) (text_of (codes "out") p.1) (written_model p.1) (budget_of p.1)
+    else if bytes_eq p.0 (codes "solve") then searched p.1
     else if bytes_eq p.0 (codes "check") then Checks (text_of (codes "program") p.1) (text_of (codes "log") p.1) (text_of (codes "refutation") p.1)
     else if bytes_eq p.0 (codes "workload") then Workloads (workers_of p.1) (seed_of p.1)
     else if bytes_eq p.0 (codes "cnf") then
     Exports (text_of (codes "program") p.1) (text_of (codes "log") p.1) (text_of (codes "out") p.1) (written_model p.1)
     else if bytes_eq p.0 (codes "import") then
     Imports (text_of (codes "program") p.1) (text_of (codes "log") p.1) (text_of (codes "answer") p.1) (text_of (codes "out") p.1) (written_model p.1)
+    else if bytes_eq p.0 (codes "why") then Explains (text_of (codes "program") p.1) (text_of (codes "log") p.1) (text_of (codes "refutation") p.1)
     else Records (text_of (codes "program") p.1) (text_of (codes "log") p.1) (model_of p.1) (seed_of p.1) (steps_of p.1)
 
 -- the call that the words ask for, where they are taken
@@ -97,7 +109,9 @@ plain_call (call.Replay program log schedule) = Replays program.now log.now sche
 plain_call (call.Record program log model seed steps) = Records program.now log.now model seed steps
 plain_call (call.Migrate program log out) = Migrates program.now log.now out.now
 plain_call (call.Solve program log out model budget) = Solves program.now log.now out.now model budget.conflicts
+plain_call (call.Least program log out model budget refutation) = Minimizes program.now log.now out.now model budget.conflicts refutation.now
 plain_call (call.Check program log refutation) = Checks program.now log.now refutation.now
 plain_call (call.Workload workers seed) = Workloads workers.count seed
 plain_call (call.Cnf program log out model) = Exports program.now log.now out.now model
 plain_call (call.Import program log answer out model) = Imports program.now log.now answer.now out.now model
+plain_call (call.Why program log refutation) = Explains program.now log.now refutation.now

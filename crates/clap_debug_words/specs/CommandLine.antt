@@ -26,6 +26,10 @@ option name default values = record (new_rule name) { long = Some name; defaults
 abbrev pub option_alone : Text → ValueParser → Rule
 option_alone name values = record (new_rule name) { long = Some name; parser = Some values }
 
+-- an option that takes any one value where it is written
+abbrev pub option_of_any : Text → Rule
+option_of_any name = record (new_rule name) { long = Some name }
+
 -- the names of the memory models, wherever they lie in memory
 abbrev pub ModelNames : Type 0
 ModelNames = Bor (List (Bor Text))
@@ -74,7 +78,7 @@ migration = record (new_shape (codes "migrate")) {
   rules = positional (codes "program") ∷ positional (codes "log") ∷ positional (codes "out") ∷ [];
 }
 
--- `solve PROGRAM LOG OUT [--model sc|tso|pso] [--budget N]`
+-- `solve PROGRAM LOG OUT [--model sc|tso|pso] [--budget N] [--least REFUTATION]`
 abbrev pub solving : ModelNames → Shape
 solving names = record (new_shape (codes "solve")) {
   rules = positional (codes "program")
@@ -82,6 +86,7 @@ solving names = record (new_shape (codes "solve")) {
       ∷ positional (codes "out")
       ∷ option_alone (codes "model") (parser.Names names)
       ∷ option (codes "budget") (codes "1000000") (parser.Unsigned 1 BUDGET)
+      ∷ option_of_any (codes "least")
       ∷ [];
 }
 
@@ -118,6 +123,12 @@ import names = record (new_shape (codes "import")) {
       ∷ [];
 }
 
+-- `why PROGRAM LOG REFUTATION`
+abbrev pub why : Shape
+why = record (new_shape (codes "why")) {
+  rules = positional (codes "program") ∷ positional (codes "log") ∷ positional (codes "refutation") ∷ [];
+}
+
 -- a command that wants a subcommand and knows no help
 abbrev pub commands : App → App
 commands a = record a {
@@ -132,7 +143,7 @@ commands a = record a {
 abbrev pub command_line_at : ModelNames → App
 command_line_at names = record {
   top = record (commands (new_app (codes "clap_debug"))).top { is_leaf = false };
-  subs = list ∷ replay ∷ recording names ∷ migration ∷ solving names ∷ checking ∷ workload ∷ cnf names ∷ import names ∷ [];
+  subs = list ∷ replay ∷ recording names ∷ migration ∷ solving names ∷ checking ∷ workload ∷ cnf names ∷ import names ∷ why ∷ [];
 }
 
 -- the whole command

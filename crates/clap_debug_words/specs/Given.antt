@@ -11,7 +11,7 @@ use Rattle.clap_debug_words.specs.CommandLine.{last_seed, lent_texts, model_name
 abbrev pub IsNamed : List Row → Text → Type 0
 IsNamed rows id = is_some (first_of id rows) ≡ true
 
--- the command is one of the nine, and a text stands for each of its positionals
+-- the command is one of the ten, and a text stands for each of its positionals
 abbrev pub HasFiles : Text × List Row → Type 0
 HasFiles p =
     ((p.0 ≡ codes "list") × IsNamed p.1 (codes "program"))
@@ -23,6 +23,7 @@ HasFiles p =
     ⊎ ((p.0 ≡ codes "workload") × IsNamed p.1 (codes "workers") × IsNamed p.1 (codes "seed"))
     ⊎ ((p.0 ≡ codes "cnf") × IsNamed p.1 (codes "program") × IsNamed p.1 (codes "log") × IsNamed p.1 (codes "out"))
     ⊎ ((p.0 ≡ codes "import") × IsNamed p.1 (codes "program") × IsNamed p.1 (codes "log") × IsNamed p.1 (codes "answer") × IsNamed p.1 (codes "out"))
+    ⊎ ((p.0 ≡ codes "why") × IsNamed p.1 (codes "program") × IsNamed p.1 (codes "log") × IsNamed p.1 (codes "refutation"))
 
 -- the value of an option, and a number, is one that it takes
 pub record HasValues (p : Text × List Row) : Type 0 where

@@ -19,10 +19,12 @@ pub data Written : Type 0 where
   Records : (program log : Text) (model : Option Model) (seed steps : Option ℕ) → Written
   Migrates : (program log out : Text) → Written
   Solves : (program log out : Text) (model : Option Model) (budget : Option ℕ) → Written
+  Minimizes : (program log out : Text) (model : Option Model) (budget : Option ℕ) (refutation : Text) → Written
   Checks : (program log refutation : Text) → Written
   Workloads : (workers seed : ℕ) → Written
   Exports : (program log out : Text) (model : Option Model) → Written
   Imports : (program log answer out : Text) (model : Option Model) → Written
+  Explains : (program log refutation : Text) → Written
 
 -- an option and its value, where it is written
 abbrev pub option_words : Text → Option Text → List Text
@@ -39,11 +41,15 @@ words_of first (Records program log model seed steps) = first ∷ codes "record"
 words_of first (Migrates program log out) = first ∷ codes "migrate" ∷ program ∷ log ∷ out ∷ []
 words_of first (Solves program log out model budget) = first ∷ codes "solve" ∷ program ∷ log ∷ out
     ∷ (option_words (codes "--model") (option_map model_name model) ++ option_words (codes "--budget") (option_map decimal budget))
+words_of first (Minimizes program log out model budget refutation) = first ∷ codes "solve" ∷ program ∷ log ∷ out
+    ∷ (option_words (codes "--model") (option_map model_name model)
+    ++ (option_words (codes "--budget") (option_map decimal budget) ++ option_words (codes "--least") (Some refutation)))
 words_of first (Checks program log refutation) = first ∷ codes "check" ∷ program ∷ log ∷ refutation ∷ []
 words_of first (Workloads workers seed) = first ∷ codes "workload" ∷ decimal workers ∷ decimal seed ∷ []
 words_of first (Exports program log out model) = first ∷ codes "cnf" ∷ program ∷ log ∷ out ∷ option_words (codes "--model") (option_map model_name model)
 words_of first (Imports program log answer out model) = first ∷ codes "import" ∷ program ∷ log ∷ answer ∷ out
     ∷ option_words (codes "--model") (option_map model_name model)
+words_of first (Explains program log refutation) = first ∷ codes "why" ∷ program ∷ log ∷ refutation ∷ []
 
 -- a name isn't empty and doesn't begin with `-`
 abbrev pub is_name : Text → Bool
@@ -61,10 +67,13 @@ is_plain (Records program log model seed steps) = (is_name program && is_name lo
     && (option_map_or (is_between 0 last_seed) seed true && option_map_or (is_between 1 MOVES) steps true)
 is_plain (Migrates program log out) = is_name program && (is_name log && is_name out)
 is_plain (Solves program log out model budget) = (is_name program && (is_name log && is_name out)) && option_map_or (is_between 1 BUDGET) budget true
+is_plain (Minimizes program log out model budget refutation) = (is_name program && (is_name log && is_name out))
+    && (option_map_or (is_between 1 BUDGET) budget true && is_name refutation)
 is_plain (Checks program log refutation) = is_name program && (is_name log && is_name refutation)
 is_plain (Workloads workers seed) = is_between 1 WORKERS workers && is_between 0 last_seed seed
 is_plain (Exports program log out model) = is_name program && (is_name log && is_name out)
 is_plain (Imports program log answer out model) = is_name program && (is_name log && (is_name answer && is_name out))
+is_plain (Explains program log refutation) = is_name program && (is_name log && is_name refutation)
 
 -- what they ask for: what isn't written is sequential consistency, or of `solve`, `cnf` and `import` the model of the log, seed 0 and a million moves or conflicts
 abbrev pub asked : Written → Called
@@ -73,7 +82,9 @@ asked (Replays program log schedule) = calls.Replays program log schedule
 asked (Records program log model seed steps) = calls.Records program log (unwrap_or model Sc) (unwrap_or seed 0) (unwrap_or steps MOVES)
 asked (Migrates program log out) = calls.Migrates program log out
 asked (Solves program log out model budget) = calls.Solves program log out model (unwrap_or budget usual_budget)
+asked (Minimizes program log out model budget refutation) = calls.Minimizes program log out model (unwrap_or budget usual_budget) refutation
 asked (Checks program log refutation) = calls.Checks program log refutation
 asked (Workloads workers seed) = calls.Workloads workers seed
 asked (Exports program log out model) = calls.Exports program log out model
 asked (Imports program log answer out model) = calls.Imports program log answer out model
+asked (Explains program log refutation) = calls.Explains program log refutation

@@ -5,7 +5,7 @@ ghost use Rattle.std.specs.Prelude.{◌≡◌, ◌≤◌, List, Some, true, fals
 ghost use Rattle.clap.specs.Words.{app_of, found_of, rows_of, rule_of, shape_of, subcommand_of, subcommand_rows_of, Text};
 ghost use Rattle.clap_debug_words.specs.CommandLine as spec;
 ghost use Rattle.clap_debug_words.specs.CommandLine.{AreModelNames, command_line, words_taken};
-ghost use Rattle.clap_debug_words.specs.Calls.{plain_call, called, call_of, text_of, model_in, model_of, written_model, number_of, seed_of, steps_of, budget_of, workers_of, within};
+ghost use Rattle.clap_debug_words.specs.Calls.{plain_call, called, searched, call_of, text_of, model_in, model_of, written_model, number_of, seed_of, steps_of, budget_of, workers_of, within};
 ghost use Rattle.clap_debug_words.specs.PlainWords.{Written, asked, is_plain, words_of};
 ghost use Rattle.clap_debug_words.specs.Given.{HasFiles, HasValues};
 
@@ -71,6 +71,16 @@ pub enum Call<'a> {
         model: Option<Model>,
         budget: Budget,
     },
+    /// Look for the schedule with the fewest context switches, and for a refutation that shows that none has fewer. Without a
+    /// model the log's is meant.
+    Least {
+        program: &'a str,
+        log: &'a str,
+        out: &'a str,
+        model: Option<Model>,
+        budget: Budget,
+        refutation: &'a str,
+    },
     /// Check a refutation.
     Check {
         program: &'a str,
@@ -97,6 +107,12 @@ pub enum Call<'a> {
         answer: &'a str,
         out: &'a str,
         model: Option<Model>,
+    },
+    /// Say what a refutation rests on.
+    Why {
+        program: &'a str,
+        log: &'a str,
+        refutation: &'a str,
     },
 }
 
@@ -159,13 +175,7 @@ fn called<'a>(name: &str, matches: &ArgMatches<'a>) -> Call<'a>
             out: text(matches, "out"),
         }
     } else if name == "solve" {
-        Call::Solve {
-            program: text(matches, "program"),
-            log: text(matches, "log"),
-            out: text(matches, "out"),
-            model: written_model(matches),
-            budget: budget_in(matches),
-        }
+        searched(matches)
     } else if name == "check" {
         Call::Check {
             program: text(matches, "program"),
@@ -192,6 +202,12 @@ fn called<'a>(name: &str, matches: &ArgMatches<'a>) -> Call<'a>
             out: text(matches, "out"),
             model: written_model(matches),
         }
+    } else if name == "why" {
+        Call::Why {
+            program: text(matches, "program"),
+            log: text(matches, "log"),
+            refutation: text(matches, "refutation"),
+        }
     } else {
         Call::Record {
             program: text(matches, "program"),
@@ -200,6 +216,34 @@ fn called<'a>(name: &str, matches: &ArgMatches<'a>) -> Call<'a>
             seed: seed_in(matches),
             steps: steps_in(matches),
         }
+    }
+}
+
+/// The call of `solve`.
+fn searched<'a>(matches: &ArgMatches<'a>) -> Call<'a>
+    ensures { plain_call result ≡ searched (rows_of (found_of matches.now)) }
+{
+    let program = text(matches, "program");
+    let log = text(matches, "log");
+    let out = text(matches, "out");
+    let model = written_model(matches);
+    let budget = budget_in(matches);
+    match matches.get_str("least") {
+        Some(refutation) => Call::Least {
+            program,
+            log,
+            out,
+            model,
+            budget,
+            refutation,
+        },
+        None => Call::Solve {
+            program,
+            log,
+            out,
+            model,
+            budget,
+        },
     }
 }
 
@@ -309,7 +353,8 @@ fn command_line<'a>(alloc: Global, names: &'a [&'a str]) -> Result<Command<'a>, 
         .subcommand(checking(alloc)?)?
         .subcommand(workload(alloc)?)?
         .subcommand(cnf(alloc, names)?)?
-        .subcommand(import(alloc, names)?)
+        .subcommand(import(alloc, names)?)?
+        .subcommand(why(alloc)?)
 }
 
 /// The command, where it wants a subcommand and knows no help.
@@ -369,7 +414,7 @@ fn migration<'a>(alloc: Global) -> Result<Command<'a>, AllocError>
         .arg(positional(alloc, "out"))
 }
 
-/// `solve PROGRAM LOG OUT [--model sc|tso|pso] [--budget N]`.
+/// `solve PROGRAM LOG OUT [--model sc|tso|pso] [--budget N] [--least REFUTATION]`.
 fn solving<'a>(alloc: Global, names: &'a [&'a str]) -> Result<Command<'a>, AllocError>
     ensures { IfOk result (λ command. shape_of command ≡ spec.solving names.entry) }
 {
@@ -385,7 +430,8 @@ fn solving<'a>(alloc: Global, names: &'a [&'a str]) -> Result<Command<'a>, Alloc
         .arg(positional(alloc, "log"))?
         .arg(positional(alloc, "out"))?
         .arg(model)?
-        .arg(budget)
+        .arg(budget)?
+        .arg(option_of_any(alloc, "least"))
 }
 
 /// `check PROGRAM LOG REFUTATION`.
@@ -434,6 +480,16 @@ fn import<'a>(alloc: Global, names: &'a [&'a str]) -> Result<Command<'a>, AllocE
         .arg(model)
 }
 
+/// `why PROGRAM LOG REFUTATION`.
+fn why<'a>(alloc: Global) -> Result<Command<'a>, AllocError>
+    ensures { IfOk result (λ command. shape_of command ≡ spec.why) }
+{
+    Command::new(alloc, "why")
+        .arg(positional(alloc, "program"))?
+        .arg(positional(alloc, "log"))?
+        .arg(positional(alloc, "refutation"))
+}
+
 /// The names of the memory models.
 fn model_names() -> &'static [&'static str]
     ensures { AreModelNames result }
@@ -458,6 +514,14 @@ fn option_alone<'a>(alloc: Global, name: &'a str, parser: ValueParser<'a>) -> Ar
     ensures local { result.global ≡ false }
 {
     Arg::new(alloc, name).long(name).value_parser(parser)
+}
+
+/// An option that takes any one value where it is written.
+fn option_of_any<'a>(alloc: Global, name: &'a str) -> Arg<'a>
+    ensures rule { rule_of result ≡ spec.option_of_any name.entry.now }
+    ensures local { result.global ≡ false }
+{
+    Arg::new(alloc, name).long(name)
 }
 
 /// A required positional.

@@ -1,5 +1,5 @@
 -- A shelf and a sink whose count of faults stays 0 haven't failed.
-use Rattle.std.proofs.Common.{◌≡◌, ap, arith, ℕ, List, Option, Some, None}
+use Rattle.std.proofs.Common.{◌≡◌, ◌⊎◌, ap, arith, inl, inr, ℕ, List, Option, Some, None}
 use Rattle.std.specs.Option.{IsSomeAnd}
 use Rattle.tc_io.specs.Outside.{ShelfTells, SinkTells, WrotePart, counted_on}
 use Rattle.clap_debug_words.specs.Calls.{Called}
@@ -11,6 +11,18 @@ pub never_fails : {R : Called → ShelfTells → ShelfTells → List ℕ → Typ
     → old.faults ≡ 0 → new.faults ≡ 0 → ⊥
 never_fails counts None old new name f none still = absurd f
 never_fails counts (Some call) old new name f none still = let counted = counts call old new name f in omega (arith, counted, none, still)
+
+-- and what counts one fault or else does this, does this
+pub surely_else : {R : Called → ShelfTells → ShelfTells → List ℕ → Type 0} {P : Called → ShelfTells → Type 0}
+    → ((call : Called) (old new : ShelfTells) (name : List ℕ) → R call old new name → (new.faults ≡ counted_on old.faults 1) ⊎ P call new)
+    → (o : Option Called) (old new : ShelfTells) (name : List ℕ) → IsSomeAnd o (λ call. R call old new name)
+    → old.faults ≡ 0 → new.faults ≡ 0 → IsSomeAnd o (λ call. P call new)
+surely_else counts None old new name f none still = f
+surely_else counts (Some call) old new name f none still =
+    elim (counts call old new name f) [
+      | inl counted ↦ absurd (omega (arith, counted, none, still))
+      | inr other ↦ other
+    ]
 
 pub never_fails_to_put : (bytes : List ℕ) (old new : SinkTells) → WrotePart old new bytes → old.faults ≡ 0 → new.faults ≡ 0 → ⊥
 never_fails_to_put bytes old new f none still = let counted = ap (λ s. s.faults) f.1 in omega (arith, counted, none, still)

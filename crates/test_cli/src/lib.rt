@@ -1,16 +1,18 @@
 //! The program over a shelf and a sink that never fail; and what only tests show of it: the answers to want of memory.
 #![tactic(auto)]
 
-ghost use Rattle.std.specs.Prelude.{◌≢◌, map, string_bytes, Some};
+ghost use Rattle.std.specs.Prelude.{◌≡◌, ◌≢◌, ◌≤◌, map, string_bytes, Some, IsSomeAnd};
 ghost use Rattle.tc_io.specs.Mem.{sure_shelf_tells, sure_sink_tells};
 ghost use Rattle.clap_debug_cli.specs.Call.{IfTold, CallAnswers, ToldAnswers, CommandAnswers};
-ghost use Rattle.clap_debug_cli.specs.Inputs.{texts_under};
+ghost use Rattle.clap_debug_words.specs.Calls.{call_of};
+ghost use Rattle.clap_debug_cli.specs.Inputs.{HasEntire, inputs_of, no_limit, texts_under};
 
 use clap_debug_cli::clap_debug;
 use std::alloc::Global;
 use tc_io::mem::{SureShelf, SureSink};
 
-/// The top call over a shelf and a sink that never fail: no device fault is answered, and all else as ever.
+/// The top call over a shelf and a sink that never fail: no device fault is answered, but that more bytes come than can be
+/// counted, and all else as ever.
 pub fn clap_debug_surely(
     alloc: Global,
     words: &[String],
@@ -23,7 +25,9 @@ pub fn clap_debug_surely(
         (λ call files. ToldAnswers call (texts_under files call) result (sure_sink_tells sink.old) (sure_sink_tells sink.new)) }
     ensures command { IfTold (map string_bytes words.now) (Some shelf.old.held)
         (λ call files. CommandAnswers call files (Some shelf.new.held) result (sure_sink_tells sink.old) (sure_sink_tells sink.new)) }
-    ensures no_read_fault { result ≢ 7 }
+    // A fetch of any length fails where more bytes come than can be counted.
+    ensures read_fault { result ≡ 7 → IsSomeAnd (call_of (map string_bytes words.now))
+        (λ call. HasEntire (inputs_of call) × (no_limit ≤ shelf.new.taken)) }
     ensures no_write_fault { result ≢ 8 }
 {
     clap_debug(alloc, words, shelf, sink)

@@ -18,10 +18,15 @@ pub(crate) fn split(given: &str) -> Result<(&str, &str)> {
 
 /// The system of a log and a program under a model.
 pub(crate) fn system(alloc: Global, model: &str, given: &str) -> Result<System> {
+    let (code, log) = code_and_log(alloc, given)?;
+    system_under(alloc, model, &code, &log)
+}
+
+/// The code of a program, and a log.
+pub(crate) fn code_and_log(alloc: Global, given: &str) -> Result<(Code, Log)> {
     let (digits, program) = split(given)?;
     let log = log_of(alloc, digits)?;
-    let code = compile(alloc, within(program)?)?;
-    system_under(alloc, model, &code, &log)
+    Ok((compile(alloc, within(program)?)?, log))
 }
 
 /// The log of hex digits.
@@ -50,9 +55,10 @@ fn system_under(alloc: Global, model: &str, code: &Code, log: &Log) -> Result<Sy
     }
 }
 
-fn built(system: Result<System, BuildFault>) -> Result<System> {
-    match system {
-        Ok(system) => Ok(system),
+/// What was made of a log, where none of its faults came.
+pub(crate) fn built<T: Drop>(made: Result<T, BuildFault>) -> Result<T> {
+    match made {
+        Ok(made) => Ok(made),
         Err(fault) => bail!("{fault:?}"),
     }
 }

@@ -9,10 +9,13 @@
 //!   log : a program; whether the formula is true in this world, `lawful` or `unlawful`;
 //! - `verdict`: a model : a log : a program; whether a search over the clauses of the formula finds values, `possible` or
 //!   `impossible`; the world that they tell has to be lawful;
+//! - `fewest`: the same; how many moves and switches a schedule has that has the fewest switches, or `impossible`; a derivation that
+//!   none has fewer is checked;
 //! - `formula`: the same; how many events, loads and conjuncts there are;
 //! - `clauses`: the same; how many variables and clauses.
 #![tactic(auto)]
 
+mod fewest;
 mod given;
 mod sizes;
 mod verdicts;
@@ -33,6 +36,7 @@ impl Parts for Tried {
         match part {
             "world" => worlds::judged(alloc, given),
             "verdict" => verdicts::verdict(alloc, given),
+            "fewest" => fewest::fewest(alloc, given),
             "formula" => sizes::formula(alloc, given),
             "clauses" => sizes::clauses(alloc, given),
             _ => bail!("no such part"),

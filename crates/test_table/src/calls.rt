@@ -9,7 +9,8 @@
 //!   fetches, keeps, opens and pieces are counted together, a piece that finds the end too) or of the sink, by its number
 //!   from 1, that is to fail, and after how many bytes;
 //! - `want STATUS "TEXT"`: the status, and what must be written. `usage` stands for the text of the line `usage "TEXT"`,
-//!   and `"TEXT" number "TEXT"` for two texts with some number between them;
+//!   `"TEXT" number "TEXT"` for two texts with some number between them, and `"TEXT" with "LINE"` for a text with other lines behind
+//!   it, of which this is one;
 //! - `then WORD..`: a further call, over the shelf as it stands then; its puts and what must come of it stand below;
 //! - `edit NAME "TEXT" "TEXT"`: in what stands under a name the first text becomes the second, before the next call;
 //! - `cut NAME "TEXT"`: what stands under a name ends before the last place of a text, before the next call;

@@ -1,12 +1,14 @@
 //! Tables of rows, as they are read from standard input.
 //!
 //! Module `calls` says how a table of calls of the program is written, module `parts` how one of parts of it is, and
-//! module `text` how both write bytes. Module `turns` has the calls of a row, module `answers` tells many answers of one.
+//! module `text` how both write bytes. Module `turns` has the calls of a row, module `runs` tries them on a program, module
+//! `answers` tells many answers of one.
 #![tactic(auto)]
 
 pub mod answers;
 pub mod calls;
 pub mod parts;
+pub mod runs;
 pub mod text;
 pub mod turns;
 

@@ -52,8 +52,10 @@ impl Call {
         let want = self.want.as_ref().context("nothing is wanted")?;
         push_blank(text)?;
         write!(text, "{} \"{}\"", want.status, want.begin)?;
-        if let Some(end) = &want.end {
-            write!(text, " number \"{end}\"")?;
+        match &want.rest {
+            Rest::Nothing => {}
+            Rest::Number(end) => write!(text, " number \"{end}\"")?,
+            Rest::Lines(line) => write!(text, " with \"{line}\"")?,
         }
         Ok(())
     }
@@ -83,43 +85,69 @@ fn push_blank(text: &mut String) -> Result<()> {
     Ok(())
 }
 
-/// What must come of a call: a status, and a text, or two texts with a number between them.
+/// What must come of a call: a status, and a text with what stands behind it.
 #[derive(Clone, Drop)]
 pub struct Want {
     status: u8,
     begin: String,
-    end: Option<String>,
+    rest: Rest,
+}
+
+/// What stands behind a text.
+#[derive(Clone, Drop)]
+enum Rest {
+    Nothing,
+    /// Some number, and this text.
+    Number(String),
+    /// The rest of a line, and some lines, of which this is one.
+    Lines(String),
+}
+
+impl Rest {
+    /// Whether some bytes are so.
+    fn is_met(&self, alloc: Global, bytes: &[u8]) -> Result<bool> {
+        Ok(match self {
+            Rest::Nothing => bytes.is_empty(),
+            Rest::Number(end) => {
+                let end = bytes_of(alloc, end.as_str())?;
+                str::from_utf8(bytes)?
+                    .strip_suffix(str::from_utf8(&end)?)
+                    .is_some_and(|number| number.parse::<u64>().is_ok())
+            }
+            Rest::Lines(line) => {
+                let line = bytes_of(alloc, line.as_str())?;
+                let line = str::from_utf8(&line)?;
+                str::from_utf8(bytes)?.lines().any(|other| other == line)
+            }
+        })
+    }
 }
 
 impl Want {
     /// What follows the word `want`, where `usage` stands for the first text.
     pub fn read(alloc: Global, usage: &str, rest: &str) -> Result<Want> {
         let (status, text) = halves(rest);
-        let (begin, end) = match text.split_once(" number ") {
-            Some((begin, end)) => (quoted(alloc, begin)?, Some(quoted(alloc, end)?)),
-            None if text == "usage" => (String::from_str(alloc, usage)?, None),
-            None => (quoted(alloc, text)?, None),
+        let (begin, rest) = match (text.split_once(" number "), text.split_once(" with ")) {
+            (Some((begin, end)), _) => (quoted(alloc, begin)?, Rest::Number(quoted(alloc, end)?)),
+            (None, Some((begin, line))) => {
+                (quoted(alloc, begin)?, Rest::Lines(quoted(alloc, line)?))
+            }
+            _ if text == "usage" => (String::from_str(alloc, usage)?, Rest::Nothing),
+            _ => (quoted(alloc, text)?, Rest::Nothing),
         };
         Ok(Want {
             status: status.parse()?,
             begin,
-            end,
+            rest,
         })
     }
 
     fn is_met(&self, alloc: Global, answer: &Answer) -> Result<bool> {
         let begin = bytes_of(alloc, self.begin.as_str())?;
-        let Some(end) = &self.end else {
-            return Ok(answer.status == self.status && answer.written == begin);
-        };
-        let end = bytes_of(alloc, end.as_str())?;
-        let number = str::from_utf8(&answer.written)?
-            .strip_prefix(str::from_utf8(&begin)?)
-            .and_then(|text| text.strip_suffix(str::from_utf8(&end).unwrap_or("")));
-        Ok(
-            answer.status == self.status
-                && number.is_some_and(|number| number.parse::<u64>().is_ok()),
-        )
+        match answer.written.strip_prefix(begin.as_slice()) {
+            Some(rest) if answer.status == self.status => self.rest.is_met(alloc, rest),
+            _ => Ok(false),
+        }
     }
 }
 

@@ -13,8 +13,21 @@ use Rattle.tc_compile.specs.declared.fault.CompileFault.{CompileFault}
 use Rattle.tc_compile.specs.declared.fault.CompileFault.TheVariants as compile
 use Rattle.tc_record.specs.declared.seeded.SeededFault.{SeededFault}
 use Rattle.tc_record.specs.declared.seeded.SeededFault.TheVariants as seeded
+use Rattle.refute_check.specs.declared.verdict.CheckFault.{CheckFault}
+use Rattle.refute_check.specs.declared.verdict.CheckFault.TheVariants as check
+use Rattle.clap_solve.specs.declared.fault.CheckImpossibleFault.{CheckImpossibleFault}
+use Rattle.clap_solve.specs.declared.fault.CheckImpossibleFault.TheVariants as impossible
 use Rattle.clap_debug_cli.specs.declared.answer.Answer.{Answer}
-use Rattle.clap_debug_cli.specs.declared.answer.Answer.TheVariants.{ProgramRefused, LogRefused, ScheduleRefused, AnswerRefused, RunEnded, LogOver, NoMemory}
+use Rattle.clap_debug_cli.specs.declared.answer.Answer.TheVariants.{
+  ProgramRefused,
+  LogRefused,
+  ScheduleRefused,
+  AnswerRefused,
+  LineRefused,
+  RunEnded,
+  LogOver,
+  NoMemory,
+}
 use Rattle.clap_debug_cli.specs.Migrated.{excess}
 use Rattle.clap_debug_cli.specs.declared.answer.LogRefusal.TheVariants.{Form, Unfit}
 use Rattle.clap_debug_cli.specs.declared.answer.Ending.TheVariants.{Over}
@@ -47,3 +60,15 @@ abbrev pub build_answer : BuildFault → Answer
 build_answer (build.Limit which number _) = LogOver (excess which number)
 build_answer (build.Walk fault) = walk_answer fault
 build_answer build.Memory = NoMemory
+
+abbrev pub check_answer : CheckFault → Answer
+check_answer (check.NoVariable line) = LineRefused line
+check_answer (check.NoClause line) = LineRefused line
+check_answer (check.Hint line) = LineRefused line
+check_answer (check.NoConflict line) = LineRefused line
+check_answer check.Memory = NoMemory
+
+abbrev pub impossible_answer : CheckImpossibleFault → Answer
+impossible_answer (impossible.Build fault) = build_answer fault
+impossible_answer (impossible.Check fault) = check_answer fault
+impossible_answer impossible.Memory = NoMemory

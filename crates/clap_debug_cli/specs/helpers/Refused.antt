@@ -11,7 +11,7 @@ use Rattle.path_walk.specs.declared.fault.WalkFault.TheVariants as walk
 use Rattle.clap_system.specs.Faults.{IsBuildFault, limit_of}
 use Rattle.clap_system.specs.declared.fault.BuildFault.TheVariants as build
 use Rattle.clap_debug_cli.specs.Causes.{HeldStill}
-use Rattle.clap_debug_cli.specs.Files.{IsOfOther}
+use Rattle.clap_debug_cli.specs.Files.{IsBrokenAt, IsOfOther}
 use Rattle.clap_debug_cli.specs.Inputs.{Wanted, FailedInput, PassedLimit, name_of}
 use Rattle.clap_debug_cli.specs.Recorded.{HasEnded}
 use Rattle.clap_debug_cli.specs.declared.answer.Answer.{Answer}
@@ -74,6 +74,12 @@ IsWhyUnread program log _ = ⊥
 abbrev pub IsWhyOther : (program : List ℕ) → StoredLog → Answer → Type 0
 IsWhyOther program run (LogRefused OtherProgram) = IsOfOther program run
 IsWhyOther program run _ = ⊥
+
+-- bytes are no refutation that speaks of all schedules
+abbrev pub IsWhyUnrefuted : (refutation : List ℕ) → Answer → Type 0
+IsWhyUnrefuted refutation NoMemory = Unit {0}
+IsWhyUnrefuted refutation (RefutationRefused line) = IsBrokenAt refutation line
+IsWhyUnrefuted refutation _ = ⊥
 
 -- a run without a log
 abbrev pub IsEndOf : {B : Type 0} → Ended B → Answer → Type 0

@@ -31,5 +31,8 @@ returns c =
     let cnf_is : shape_of c.in_ok-cnf.field-0 ≡ spec.cnf c.args.names = c.in_ok-cnf.ensures in
     let exported = c.in_ok-subcommand-8.ensures.shape (plain_fields _ (ap (λ (s : Shape). s.is_plain) cnf_is)).globals ∙ ap₂ with_subcommand worked cnf_is in
     let import_is : shape_of c.in_ok-import.field-0 ≡ spec.import c.args.names = c.in_ok-import.ensures in
-    IfOk-weaker c.subcommand-9.result _ _
-    (λ _ h. h.shape (plain_fields _ (ap (λ (s : Shape). s.is_plain) import_is)).globals ∙ ap₂ with_subcommand exported import_is) c.subcommand-9.ensures
+    let imported = c.in_ok-subcommand-9.ensures.shape (plain_fields _ (ap (λ (s : Shape). s.is_plain) import_is)).globals
+    ∙ ap₂ with_subcommand exported import_is in
+    let why_is : shape_of c.in_ok-why.field-0 ≡ spec.why = c.in_ok-why.ensures in
+    IfOk-weaker c.subcommand-10.result _ _
+    (λ _ h. h.shape (plain_fields _ (ap (λ (s : Shape). s.is_plain) why_is)).globals ∙ ap₂ with_subcommand imported why_is) c.subcommand-10.ensures

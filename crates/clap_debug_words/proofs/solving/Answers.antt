@@ -15,8 +15,10 @@ returns c =
     let program_is : rule_of c.positional.result ≡ spec.positional (codes "program") = c.positional.ensures.rule in
     let log_is : rule_of c.positional-2.result ≡ spec.positional (codes "log") = c.positional-2.ensures.rule in
     let out_is : rule_of c.positional-3.result ≡ spec.positional (codes "out") = c.positional-3.ensures.rule in
+    let least_is : rule_of c.option_of_any.result ≡ spec.option_of_any (codes "least") = c.option_of_any.ensures.rule in
     let one = c.in_ok-arg.ensures.shape c.positional.ensures.local ∙ ap₂ with_rule c.new.ensures.app program_is in
     let two = c.in_ok-arg-2.ensures.shape c.positional-2.ensures.local ∙ ap₂ with_rule one log_is in
     let three = c.in_ok-arg-3.ensures.shape c.positional-3.ensures.local ∙ ap₂ with_rule two out_is in
     let four = c.in_ok-arg-4.ensures.shape c.option_alone-model.ensures.local ∙ ap₂ with_rule three model_is in
-    IfOk-weaker c.arg-5.result _ _ (λ m h. ap (λ (a : App). a.top) (h.shape c.option-budget.ensures.local ∙ ap₂ with_rule four budget_is)) c.arg-5.ensures
+    let five = c.in_ok-arg-5.ensures.shape c.option-budget.ensures.local ∙ ap₂ with_rule four budget_is in
+    IfOk-weaker c.arg-6.result _ _ (λ m h. ap (λ (a : App). a.top) (h.shape c.option_of_any.ensures.local ∙ ap₂ with_rule five least_is)) c.arg-6.ensures

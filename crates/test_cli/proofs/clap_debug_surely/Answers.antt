@@ -1,13 +1,13 @@
 use Rattle.std.proofs.Common.{refl, inl, inr}
 use Rattle.tc_io.specs.Mem.{sure_sink_tells}
-use Rattle.clap_debug_cli.proofs.Faults.{fetch_counts_one, keep_counts_one}
-use Rattle.test_cli.proofs.Surely.{never_fails, never_fails_to_put}
+use Rattle.clap_debug_cli.proofs.Faults.{fetch_counts, keep_counts_one}
+use Rattle.test_cli.proofs.Surely.{never_fails, never_fails_to_put, surely_else}
 use Rattle.test_cli.proofs.clap_debug_surely.Goals as goal
 
-pub returns-clause-no_read_fault : goal.returns-clause-no_read_fault
-returns-clause-no_read_fault c seven =
+pub returns-clause-read_fault : goal.returns-clause-read_fault
+returns-clause-read_fault c seven =
     let fault = c.clap_debug.ensures.call.read_fault seven in
-    never_fails fetch_counts_one _ _ _ fault.0 fault.1 refl refl
+    surely_else fetch_counts _ _ _ fault.0 fault.1 refl refl
 
 pub returns-clause-no_write_fault : goal.returns-clause-no_write_fault
 returns-clause-no_write_fault c eight =

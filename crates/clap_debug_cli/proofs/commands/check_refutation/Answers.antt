@@ -19,18 +19,18 @@ returns-in_err-log g c =
     (missing_first log (refutation ∷ []) (tells c.fetch.new.shelf) (tells c.fetch-2.new.shelf) _ c.in_err-log.ensures.missing)) in
     search rules
 
-pub returns-in_err-checked : goal.returns-in_err-checked
-returns-in_err-checked g c =
+pub returns-in_err-shown : goal.returns-in_err-shown
+returns-in_err-shown g c =
     let tells = g.H.Shelf.tells in
     let why = unaccepted_cause c.args.program.now c.args.log.now c.args.refutation.now (tells c.args.shelf.now) (tells c.fetch.new.shelf)
     (tells c.fetch-2.new.shelf) (tells c.checked.new.shelf) c.in_ok-program.program.items c.in_ok-log.log.items c.in_ok-program.ensures.gave
-    c.in_ok-log.ensures.gave _ (rw (c.deref.ensures.value, c.deref-2.ensures.value) at c.in_err-checked.ensures.answer) in
+    c.in_ok-log.ensures.gave _ (rw (c.deref.ensures.value, c.deref-2.ensures.value) at c.in_err-shown.ensures.answer) in
     search rules
 
 pub returns : goal.returns
 returns g c =
     let tells = g.H.Shelf.tells in
-    let shown = c.in_ok-checked.ensures.accepted in
+    let shown = c.in_ok-shown.ensures.accepted in
     accepted_cause c.args.program.now c.args.log.now c.args.refutation.now (tells c.args.shelf.now) (tells c.fetch.new.shelf) (tells c.fetch-2.new.shelf)
     (tells c.checked.new.shelf) c.in_ok-program.program.items c.in_ok-log.log.items c.in_ok-program.ensures.gave c.in_ok-log.ensures.gave
-    c.in_ok-checked.checked shown.0 shown.1 (rw (c.deref.ensures.value, c.deref-2.ensures.value) at shown.2)
+    c.in_ok-shown.shown shown.0 shown.1 (rw (c.deref.ensures.value, c.deref-2.ensures.value) at shown.2)

@@ -1,8 +1,7 @@
 use Rattle.std.proofs.Common.{rules, ◌≡◌, ◌∙◌, ap, subst}
-use Rattle.tc_code.specs.Code.{Code}
 use Rattle.tc_compile.specs.Programs.{IsCodeOf, IsWhyNoCode}
 use Rattle.path_log.specs.Texts.{StoredLog}
-use Rattle.tc_workload.specs.Workload.{workload_log, workload_text}
+use Rattle.tc_workload.specs.Workload.{workload_text}
 use Rattle.clap_solve.specs.Solved.{IsWithin}
 use Rattle.clap_debug_cli.specs.Worked.{seeded_text}
 use Rattle.clap_debug_cli.proofs.Causes.{unbuilt_answer}

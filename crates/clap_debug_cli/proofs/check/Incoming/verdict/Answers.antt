@@ -1,24 +1,20 @@
-use Rattle.std.proofs.Common.{inl, inr, sym, subst}
+use Rattle.std.proofs.Common.{sym, subst}
 use Rattle.std.proofs.lemmas.Result.{IfOk-weaker, IfErr-weaker}
 use Rattle.clap_debug_cli.specs.Causes.{IsClausesAnswer, IsRefutationAnswer}
 use Rattle.clap_debug_cli.specs.helpers.Refused.{Refuses}
 use Rattle.clap_debug_cli.proofs.Checks.{err_given}
-use Rattle.clap_debug_cli.proofs.Incoming.{begins_refused, counts_refused, waits_unended, checks_unended, waits_refused, checks_accepted, checks_refused}
+use Rattle.clap_debug_cli.proofs.Incoming.{begins_refused, text_unended, waits_refused, checks_accepted, checks_refused}
 use Rattle.clap_debug_cli.proofs.check.Incoming.verdict.Goals as goal
 
 pub returns-in-Begins-clause-answer : goal.returns-in-Begins-clause-answer
 returns-in-Begins-clause-answer c = λ program code run bytes read.
-    elim c.in-Begins.is [
-      | inl e ↦ begins_refused program code run c.args.self bytes read e
-      | inr e ↦ counts_refused program code run c.args.self bytes read e
-    ]
+    begins_refused program code run c.args.self bytes read c.in-Begins.is
 
 pub returns-in_err-finish-in-Refuses-clause-answer : goal.returns-in_err-finish-in-Refuses-clause-answer
 returns-in_err-finish-in-Refuses-clause-answer c =
     err_given c.from_residual.result _ _ c.from_residual.ensures.1 (λ a told program code run bytes read.
     subst (Refuses (IsRefutationAnswer bytes (IsClausesAnswer program code run))) (sym told)
-    (waits_unended program code run c.args.self bytes read c.in-Refuses.answer _ c.in-Refuses.is
-    c.in_err-finish-in-Refuses.ensures.answer c.in_err-finish-in-Refuses.ensures.broken))
+    (text_unended program code run c.args.self bytes read _ c.in_err-finish-in-Refuses.ensures.answer c.in_err-finish-in-Refuses.ensures.broken))
 
 pub returns-in-Refuses-clause-answer : goal.returns-in-Refuses-clause-answer
 returns-in-Refuses-clause-answer c = λ program code run bytes read.
@@ -28,17 +24,16 @@ pub returns-in_err-finish-in-Checks-clause-answer : goal.returns-in_err-finish-i
 returns-in_err-finish-in-Checks-clause-answer c =
     err_given c.from_residual-in_err-finish-in-Checks.result _ _ c.from_residual-in_err-finish-in-Checks.ensures.1 (λ a told program code run bytes read.
     subst (Refuses (IsRefutationAnswer bytes (IsClausesAnswer program code run))) (sym told)
-    (checks_unended program code run c.args.self bytes read c.in-Checks.checker _ c.in-Checks.is
-    c.in_err-finish-in-Checks.ensures.answer c.in_err-finish-in-Checks.ensures.broken))
+    (text_unended program code run c.args.self bytes read _ c.in_err-finish-in-Checks.ensures.answer c.in_err-finish-in-Checks.ensures.broken))
 
 pub returns-clause-accepted : goal.returns-clause-accepted
 returns-clause-accepted c =
     IfOk-weaker c.shown.result _ _ (λ v is program code run bytes read.
-    checks_accepted program code run c.args.self bytes read c.in-Checks.checker v c.in-Checks.is c.in_ok-finish-in-Checks.ensures.ok is)
-    c.shown.ensures.checked
+    checks_accepted program code run c.args.self bytes read c.in-Checks.most c.in-Checks.checker v c.in-Checks.is c.in_ok-finish-in-Checks.ensures.ok is)
+    c.shown.ensures.shown
 
 pub returns-clause-answer : goal.returns-clause-answer
 returns-clause-answer c =
     IfErr-weaker c.shown.result _ _ (λ a why program code run bytes read.
-    checks_refused program code run c.args.self bytes read c.in-Checks.checker a c.in-Checks.is c.in_ok-finish-in-Checks.ensures.ok why)
+    checks_refused program code run c.args.self bytes read c.in-Checks.most c.in-Checks.checker a c.in-Checks.is c.in_ok-finish-in-Checks.ensures.ok why)
     c.shown.ensures.answer

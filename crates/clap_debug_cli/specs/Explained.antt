@@ -1,0 +1,27 @@
+-- What `why` tells.
+use Rattle.std.specs.Prelude.{ℕ, List}
+use Rattle.tc_base.specs.Buffers.{buffer_of}
+use Rattle.tc_base.specs.declared.model.Model.{Model}
+use Rattle.tc_code.specs.Code.{Code}
+use Rattle.path_log.specs.Texts.{StoredLog}
+use Rattle.refute_check.specs.declared.line.Line.{Line}
+use Rattle.clap_solve.specs.Clauses.{bound_of}
+use Rattle.clap_solve.specs.Solved.{IsWithin}
+use Rattle.tc_compile.specs.Programs.{IsCodeOf}
+use Rattle.why_impossible.specs.Explained.{IsClosedFor}
+use Rattle.why_impossible.specs.declared.reason.Reason.{Reason}
+use Rattle.clap_debug_cli.specs.Files.{IsLog, IsOfOther, IsRefutation, head_of}
+
+-- The three files are of their forms, the log isn't of another program and fits it within the limits. The refutation is closed on the
+-- log's clauses under its memory model, for these reasons.
+pub record AreReasons (program log refutation : List ℕ) (reasons : List Reason) : Type 0 where
+  pub code : Code
+  pub run : StoredLog
+  pub model : Model
+  pub lines : List Line
+  pub programs : IsCodeOf program code
+  pub logs : IsLog log run
+  pub refutations : IsRefutation refutation (head_of model) lines
+  pub recorded : IsOfOther program run → ⊥
+  pub within : IsWithin code run.log
+  pub closed : IsClosedFor (buffer_of model) (bound_of model) code run.log lines reasons

@@ -1,0 +1,72 @@
+//! Schedules with the fewest context switches.
+use crate::given::{built, code_and_log, split};
+use anyhow::{Result, bail};
+use least_switch::{Least, check_least_start, least};
+use path_log::Log;
+use refute_check::{Checked, Checker, Derivation, LINES};
+use std::alloc::Global;
+use store_buffers::{MemoryModel, PsoModel, Sc, TsoModel};
+use tc_code::Code;
+
+/// How many clauses each search may learn.
+const BUDGET: u32 = 1_000_000;
+
+/// How many moves and switches a schedule of a log has that has the fewest switches.
+pub(crate) fn fewest(alloc: Global, given: &str) -> Result<String> {
+    let (model, given) = split(given)?;
+    let (code, log) = code_and_log(alloc, given)?;
+    match model {
+        "sc" => told::<Sc>(alloc, &code, &log),
+        "tso" => told::<TsoModel>(alloc, &code, &log),
+        "pso" => told::<PsoModel>(alloc, &code, &log),
+        _ => bail!("no such model"),
+    }
+}
+
+/// The same under a model, where the derivation that none has fewer is accepted.
+fn told<M: MemoryModel>(alloc: Global, code: &Code, log: &Log) -> Result<String> {
+    match built(least::<M>(alloc, code, log, BUDGET))? {
+        Least::Found(schedule, switches, shown) => {
+            let fewer = shown.as_ref().map_or("none", |_| "accepted");
+            if let Some(derivation) = shown {
+                accept::<M>(alloc, code, log, switches, &derivation)?;
+            }
+            let moves = schedule.moves.len();
+            Ok(format!(in alloc; "{moves} moves, {switches} switches, fewer {fewer}")?)
+        }
+        Least::Impossible(_) => Ok(String::from_str(alloc, "impossible")?),
+        Least::Spent(_) | Least::SpentAt(_, _, _) => bail!("the budget is spent"),
+    }
+}
+
+/// That a derivation is closed on the clauses with one switch fewer, and that it isn't on those with as many.
+fn accept<M: MemoryModel>(
+    alloc: Global,
+    code: &Code,
+    log: &Log,
+    switches: u32,
+    derivation: &Derivation,
+) -> Result<()> {
+    if switches == 0 || switches > 255 {
+        bail!("no such number of switches");
+    }
+    let mut below = built(check_least_start::<M>(alloc, code, log, switches - 1))?;
+    if !is_closed(&mut below, derivation) {
+        bail!("a derivation that isn't closed");
+    }
+    let mut own = built(check_least_start::<M>(alloc, code, log, switches))?;
+    if is_closed(&mut own, derivation) {
+        bail!("a derivation that shows too much");
+    }
+    Ok(())
+}
+
+/// Whether a checker comes to a closed derivation.
+fn is_closed(checker: &mut Checker, derivation: &Derivation) -> bool {
+    for line in derivation.lines() {
+        if checker.line() > LINES || checker.add(line).is_err() {
+            return false;
+        }
+    }
+    matches!(checker.verdict(), Ok(Checked::Closed))
+}

@@ -1,0 +1,16 @@
+//! Worked rows of the program that shows a run, as data: reads a table of calls, and prints of each whether it comes out as it
+//! must, or what came and what must come.
+//!
+//! `test_table` says how a table is written.
+#![tactic(auto)]
+
+use anyhow::Result;
+use clap_debug_show_cli::clap_debug_show;
+use test_table::runs::run;
+
+fn main(rt: HostRuntime) -> Result<()> {
+    run(
+        &rt,
+        |alloc, words, shelf, sink| clap_debug_show(alloc, words, shelf, sink),
+    )
+}
