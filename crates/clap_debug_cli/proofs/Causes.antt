@@ -8,7 +8,7 @@ use Rattle.path_walk.specs.declared.fault.WalkFault.TheVariants as walk
 use Rattle.clap_system.specs.Faults.{IsBuildFault}
 use Rattle.clap_system.specs.declared.fault.BuildFault.{BuildFault}
 use Rattle.clap_system.specs.declared.fault.BuildFault.TheVariants as build
-use Rattle.path_log.specs.Texts.{StoredLog}
+use Rattle.path_log.specs.Texts.{StoredLog, IsLog, IsOfOther}
 use Rattle.tc_code.specs.Code.{Code}
 use Rattle.tc_compile.specs.Programs.{IsCodeOf, IsWhyNoCode}
 use Rattle.tc_compile.specs.declared.fault.CompileFault.{CompileFault}
@@ -19,7 +19,7 @@ use Rattle.clap_debug_cli.specs.Causes.{IsCauseOf, IsListAnswer, IsLimitAnswer, 
 use Rattle.clap_debug_cli.specs.Causes.{IsMinimizedAnswer, IsMinimizeAnswer}
 use Rattle.clap_debug_cli.specs.Causes.{IsStoredAnswer, IsTextsAnswer, IsWorkOf, FailsToKeep}
 use Rattle.clap_debug_cli.specs.Fewest.{first_text, second_text}
-use Rattle.clap_debug_cli.specs.Files.{IsLog, IsOfOther, IsSchedule, Schedule}
+use Rattle.clap_debug_cli.specs.Files.{IsSchedule, Schedule}
 use Rattle.clap_debug_cli.specs.Inputs.{Texts, AreWithin, GaveAll, inputs_of}
 use Rattle.clap_debug_cli.specs.helpers.Faults.{build_answer, compile_answer}
 use Rattle.clap_debug_cli.specs.helpers.Refused.{IsWhyOther, IsWhyUnbuilt, IsWhyUnkept, IsWhyUnread, Refuses}

@@ -4,7 +4,7 @@ use Rattle.std.proofs.Common.{Result, Ok, Err, IfErr}
 use Rattle.std.specs.Prelude.{is_some, IsSome}
 use Rattle.std.specs.Result.{IsErrAnd}
 use Rattle.tc_code.specs.Code.{Code}
-use Rattle.path_log.specs.Texts.{StoredLog}
+use Rattle.path_log.specs.Texts.{StoredLog, IsLog, IsOfOther}
 use Rattle.clap_system.specs.Faults.{IsBuildFault}
 use Rattle.clap_system.specs.declared.fault.BuildFault.{BuildFault}
 use Rattle.tc_compile.specs.Programs.{IsCodeOf}
@@ -13,7 +13,6 @@ use Rattle.tc_io.specs.declared.PieceFault.{PieceFault}
 use Rattle.tc_io.specs.declared.PieceFault.TheVariants.{Failed}
 use Rattle.clap_debug_words.specs.Calls.{Called, Checks}
 use Rattle.clap_debug_cli.specs.Causes.{HeldStill, IsCauseOf, IsCheckAnswer, IsClausesAnswer, IsRefutationAnswer}
-use Rattle.clap_debug_cli.specs.Files.{IsLog, IsOfOther}
 use Rattle.clap_debug_cli.specs.Inputs.{Whole, InPieces, GaveInput}
 use Rattle.clap_debug_cli.specs.helpers.Faults.{build_answer}
 use Rattle.clap_debug_cli.specs.helpers.Incoming.{IsWhyUnaccepted, IsWhyUnchecked}

@@ -4,7 +4,7 @@ use Rattle.tc_base.specs.Buffers.{buffer_of}
 use Rattle.tc_base.specs.declared.model.Model.{Model}
 use Rattle.tc_code.specs.Code.{Code}
 use Rattle.tc_compile.specs.Programs.{IsCodeOf}
-use Rattle.path_log.specs.Texts.{StoredLog}
+use Rattle.path_log.specs.Texts.{StoredLog, IsLog, IsOfOther}
 use Rattle.cnf_core.specs.Clauses.{Formula}
 use Rattle.dimacs_text.specs.Answers.{answer as answer_in}
 use Rattle.dimacs_text.specs.Faults.{IsFault}
@@ -16,7 +16,6 @@ use Rattle.clap_solve.specs.Solved.{IsWithin}
 use Rattle.clap_solve.specs.declared.imported.Imported.TheVariants as taken
 use Rattle.clap_solve.proofs.Meaning.{run_is_said, said_is_run}
 use Rattle.clap_debug_cli.specs.Causes.{IsClauseListAnswer, IsCnfAnswer, IsImportAnswer, IsLimitAnswer, IsLiteralsAnswer, IsStoredAnswer, IsTakenAnswer}
-use Rattle.clap_debug_cli.specs.Files.{IsLog, IsOfOther}
 use Rattle.clap_debug_cli.specs.Solved.{model_for}
 use Rattle.clap_debug_cli.specs.Solvers.{AreRuns, IsAnswered, IsExported, IsTaken, clauses_for}
 use Rattle.clap_debug_cli.specs.helpers.Faults.{literals_answer}

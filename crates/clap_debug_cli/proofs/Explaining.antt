@@ -4,7 +4,7 @@ use Rattle.tc_base.specs.Buffers.{buffer_of}
 use Rattle.tc_base.specs.declared.model.Model.{Model}
 use Rattle.tc_code.specs.Code.{Code}
 use Rattle.tc_compile.specs.Programs.{IsCodeOf}
-use Rattle.path_log.specs.Texts.{StoredLog}
+use Rattle.path_log.specs.Texts.{StoredLog, IsLog, IsOfOther}
 use Rattle.refute_check.specs.Refutations.{IsOpen}
 use Rattle.refute_check.specs.declared.head.Head.{Head}
 use Rattle.refute_check.specs.declared.line.Line.{Line}
@@ -24,7 +24,7 @@ use Rattle.clap_debug_cli.specs.Call.{IsDecided}
 use Rattle.clap_debug_cli.specs.Causes.{IsCheckAnswer, IsClausesAnswer, IsUnexplainedAnswer, IsWhyAnswer}
 use Rattle.clap_debug_cli.specs.Checked.{shown}
 use Rattle.clap_debug_cli.specs.Explained.{AreReasons}
-use Rattle.clap_debug_cli.specs.Files.{IsLog, IsOfOther, IsRefutation, head_of}
+use Rattle.clap_debug_cli.specs.Files.{IsRefutation, head_of}
 use Rattle.clap_debug_cli.specs.helpers.Faults.{build_answer, check_answer, impossible_answer}
 use Rattle.clap_debug_cli.specs.helpers.Refused.{IsWhyOther, IsWhyUnbuilt, IsWhyUnread, IsWhyUnrefuted, Refuses}
 use Rattle.clap_debug_cli.specs.declared.answer.Answer.{Answer}

@@ -10,16 +10,15 @@ use Rattle.std.proofs.lemmas.List.Folds.{list_all-append}
 use Rattle.sha2.specs.Sha256.{sha256, digest_bytes}
 use Rattle.sha2.proofs.Facts256.{length-sha256}
 use Rattle.tc_base.specs.Logs.{Log, ThreadPath}
-use Rattle.path_log.specs.Texts.{StoredLog, is_digest, log_text}
+use Rattle.path_log.specs.Texts.{StoredLog, IsLog, is_digest, log_text}
+use Rattle.path_log.proofs.Logs.{one_log}
 use Rattle.tc_record.specs.Logged.{is_small, most_log_bytes}
 use Rattle.clap_system.specs.declared.fault.Which.TheVariants.{Threads, Depth}
 use Rattle.tc_record.proofs.Sizes.{recorded_size}
 use Rattle.clap_debug_cli.specs.declared.answer.Answer.TheVariants.{Migrated}
 use Rattle.clap_debug_cli.specs.Causes.{IsMigrateAnswer}
-use Rattle.clap_debug_cli.specs.Files.{IsLog}
 use Rattle.clap_debug_cli.specs.Migrated.{IsMigrated, excess, excess_of, too_deep}
 use Rattle.clap_debug_cli.specs.Recorded.{with_digest}
-use Rattle.clap_debug_cli.proofs.OneFiles.{one_log}
 
 -- what is kept is an answer, and an answer is kept
 pub migrated_answer : (program log text : List ℕ) → IsMigrated program log text → IsMigrateAnswer program log Migrated

@@ -6,7 +6,8 @@ use Rattle.tc_compile.specs.Programs.{IsCodeOf, IsRefusal}
 use Rattle.tc_compile.proofs.OnePrograms.{one_code, refused_no_code}
 use Rattle.tc_io.specs.Outside.{Files, SinkTells}
 use Rattle.tc_parser.specs.declared.fault.TextFault.{TextFault}
-use Rattle.path_log.specs.Texts.{StoredLog}
+use Rattle.path_log.specs.Texts.{StoredLog, IsLog, IsOfOther}
+use Rattle.path_log.proofs.Logs.{log_or_fault, one_log}
 use Rattle.path_walk.specs.declared.fault.WalkFault.TheVariants as walk
 use Rattle.schedule_file.specs.declared.schedule.Schedule.{Schedule}
 use Rattle.refute_check.specs.declared.line.Line.{Line}
@@ -20,7 +21,6 @@ use Rattle.clap_debug_cli.specs.Answers.{status_of, least_status}
 use Rattle.clap_debug_cli.specs.Call.{HasMinimum, IsStatus, Puts, Says, MinimizeAnswers}
 use Rattle.clap_debug_cli.specs.Causes.{IsAnswerTo, IsMinimizeAnswer}
 use Rattle.clap_debug_cli.specs.Fewest.{IsMinimum, minimum, put_both}
-use Rattle.clap_debug_cli.specs.Files.{IsLog, IsOfOther}
 use Rattle.clap_debug_cli.specs.Inputs.{inputs_of, limit_of}
 use Rattle.clap_debug_cli.specs.Solved.{IsPossible}
 use Rattle.clap_debug_cli.specs.declared.answer.Answer.{Answer}
@@ -31,7 +31,6 @@ use Rattle.clap_debug_cli.specs.declared.answer.Minimum.{Minimum}
 use Rattle.clap_debug_cli.specs.declared.input.Input.TheVariants as input
 use Rattle.clap_debug_cli.proofs.Calls.{IsKnown, alone_of, plain_at, work_of}
 use Rattle.clap_debug_cli.proofs.Fetches.{not_within}
-use Rattle.clap_debug_cli.proofs.OneFiles.{log_or_fault, one_log}
 use Rattle.clap_debug_cli.proofs.OneTexts.{over_or_within, unfit_or_within}
 use Rattle.clap_debug_cli.proofs.Solutions.{minimum_of, possible_or_not, solution_in}
 use Rattle.clap_debug_cli.proofs.Statuses.{is_program_refused, is_log_refused, is_fewest, is_none, is_unfinished}

@@ -4,14 +4,14 @@ use Rattle.tc_base.specs.declared.model.Model.{Model}
 use Rattle.tc_base.specs.Buffers.{buffer_of}
 use Rattle.tc_code.specs.Code.{Code}
 use Rattle.tc_parser.specs.declared.fault.TextFault.{TextFault}
-use Rattle.path_log.specs.Texts.{StoredLog}
-use Rattle.path_log.proofs.Logs as logs
+use Rattle.path_log.specs.Texts.{StoredLog, IsOfOther}
+use Rattle.path_log.proofs.Logs.{log_or_fault, one_fault, one_log}
 use Rattle.schedule_file.proofs.Schedules as schedules
 use Rattle.schedule_replay.specs.Verdicts.{IsVerdict}
 use Rattle.schedule_replay.specs.declared.verdict.Verdict.{Verdict}
 use Rattle.schedule_replay.proofs.OneVerdict.{one_verdict}
 use Rattle.clap_debug_words.specs.Calls.{Called, Lists, Replays, Records, Migrates, Solves, Minimizes, Checks, Workloads, Exports, Imports, Explains}
-use Rattle.clap_debug_cli.specs.Files.{IsOfOther, Schedule}
+use Rattle.clap_debug_cli.specs.Files.{Schedule}
 use Rattle.clap_debug_cli.specs.declared.answer.Answer.{Answer}
 use Rattle.clap_debug_cli.specs.declared.answer.Answer.TheVariants.{TooLong, ProgramRefused, LogRefused, ScheduleRefused, Listed, Replayed, Recorded, RunEnded}
 use Rattle.clap_debug_cli.specs.Causes.{IsListAnswer, IsRecordAnswer, IsReplayed, IsLogRefused, IsScheduleRefused, IsReplayAnswer, IsWorkOf, IsAnswerTo}
@@ -24,7 +24,7 @@ use Rattle.clap_debug_cli.proofs.Fetches.{not_within}
 use Rattle.clap_debug_cli.specs.Call.{IsDecided}
 use Rattle.clap_debug_cli.proofs.Explaining.{one_why_status}
 use Rattle.clap_debug_cli.proofs.OneTexts.{one_migrate_answer, one_solve_answer, one_minimize_answer, one_check_answer, one_workload_answer, one_cnf_answer, one_import_answer}
-use Rattle.clap_debug_cli.proofs.OneFiles.{one_log, log_or_fault, one_schedule, schedule_or_fault}
+use Rattle.clap_debug_cli.proofs.OneFiles.{one_schedule, schedule_or_fault}
 use Rattle.tc_compile.proofs.OnePrograms.{one_code, one_refusal, refused_no_code}
 use Rattle.clap_debug_cli.proofs.OneRun.{one_outcome, one_ending, recorded_or_ended}
 
@@ -52,7 +52,7 @@ module _ (program log schedule : List ℕ) where
       one_verdict (buffer_of f.plan.model) f.code f.run.log f.plan.moves v w f.verdict judged
 
   one_log_refused : (r q : LogRefusal) → IsLogRefused program log schedule r → IsLogRefused program log schedule q → r ≡ q
-  one_log_refused (Form o) (Form p) f g = ap (λ x. Form x) (logs.one_fault log o p f.2 g.2)
+  one_log_refused (Form o) (Form p) f g = ap (λ x. Form x) (one_fault log o p f.2 g.2)
   one_log_refused (Form o) OtherProgram f g = absurd (log_or_fault log g.2 o g.3 f.2)
   one_log_refused OtherProgram (Form p) f g = absurd (log_or_fault log f.2 p f.3 g.2)
   one_log_refused OtherProgram OtherProgram f g = refl

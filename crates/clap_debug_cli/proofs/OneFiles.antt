@@ -1,4 +1,4 @@
--- Bytes are one log, one schedule and one refutation at most, or break the form of each at one place.
+-- Bytes are one schedule and one refutation at most, or break the form of each at one place.
 use Rattle.std.proofs.Common.{◌≡◌, ◌∙◌, ◌+◌, ℕ, false, List, [], length, ne_eqb, arith, Some, None, ap, ap₂, sym, subst}
 use Rattle.std.specs.Prelude.{nat_eq, not, ◌||◌, if◌then◌else◌}
 use Rattle.std.proofs.lemmas.Option.{same_Some}
@@ -11,18 +11,9 @@ use Rattle.refute_check.specs.declared.head.Head.{Head}
 use Rattle.refute_check.specs.declared.line.Line.{Line}
 use Rattle.refute_check.specs.declared.text.Taken.{Taken}
 use Rattle.refute_check.proofs.Wholes.{reads-agree, text-is-read, text-has-one-value}
-use Rattle.path_log.specs.Faults.{BreaksAt as LogBreaksAt}
-use Rattle.path_log.specs.Texts.{StoredLog}
-use Rattle.path_log.proofs.Logs as logs
 use Rattle.schedule_file.specs.Faults.{BreaksAt as ScheduleBreaksAt}
 use Rattle.schedule_file.proofs.Schedules as schedules
-use Rattle.clap_debug_cli.specs.Files.{IsLog, Schedule, IsSchedule, IsRefutation, IsBrokenAt, first_broken, head_of}
-
-pub one_log : (bytes : List ℕ) (l m : StoredLog) → IsLog bytes l → IsLog bytes m → l ≡ m
-one_log bytes l m f g = logs.one_log l m f.has_text g.has_text (sym f.text ∙ g.text)
-
-pub log_or_fault : (bytes : List ℕ) (l : StoredLog) (offset : ℕ) → IsLog bytes l → LogBreaksAt bytes offset → ⊥
-log_or_fault bytes l offset f breaks = logs.no_fault l offset f.has_text (subst (λ t. LogBreaksAt t offset) f.text breaks)
+use Rattle.clap_debug_cli.specs.Files.{Schedule, IsSchedule, IsRefutation, IsBrokenAt, first_broken, head_of}
 
 same_schedule : (s t : Schedule) → (s.model ≡ t.model) × (s.moves ≡ t.moves) → s ≡ t
 same_schedule s t e = ap (λ m. record { model = m; moves = s.moves }) e.0 ∙ ap (λ ms. record { model = t.model; moves = ms }) e.1

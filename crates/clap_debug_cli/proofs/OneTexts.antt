@@ -1,21 +1,16 @@
 -- At most one answer to texts that they decide has its cause.
 use Rattle.std.proofs.Common.{◌≡◌, ◌∙◌, ℕ, ℤ, suc, List, Option, Some, None, Ok, Err, ap, ap₂, sym, subst, refl, arith}
-use Rattle.std.specs.Cmp.Lexicographic.{slice_cmp}
-use Rattle.std.specs.FinMap.{slice_cmp-IsAntisymmetric, nat_cmp-IsAntisymmetric}
-use Rattle.std.specs.Ordering.{nat_cmp, is_lt, ordering_reverse}
-use Rattle.std.specs.declared.cmp.Ordering.{Ordering}
-use Rattle.std.specs.declared.cmp.Ordering.TheVariants.{Less, Equal, Greater}
-use Rattle.std.proofs.lemmas.Cmp.{nat_list_cmp_total}
 use Rattle.std.proofs.lemmas.Option.{same_Some}
 use Rattle.tc_base.specs.Names.{Name}
 use Rattle.tc_base.specs.Logs.{Log}
 use Rattle.tc_base.specs.declared.model.Model.{Model}
 use Rattle.tc_code.specs.Code.{Code}
-use Rattle.path_walk.specs.Fits.{IsFirst, misfit_of}
+use Rattle.path_walk.proofs.Faults.{one_first}
+use Rattle.path_walk.specs.Fits.{IsFirst}
 use Rattle.path_walk.specs.declared.fault.Misfit.{Misfit}
 use Rattle.path_walk.specs.declared.fault.WalkFault.TheVariants as walk
 use Rattle.path_log.specs.Texts.{StoredLog}
-use Rattle.path_log.proofs.Logs as logs
+use Rattle.path_log.proofs.Logs.{log_or_fault, one_fault, one_log}
 use Rattle.tc_workload.specs.Workload.{workload_log}
 use Rattle.cnf_core.specs.Clauses.{Formula}
 use Rattle.dimacs_text.proofs.FirstFalse.{one_first_false, false_or_satisfied}
@@ -47,7 +42,7 @@ use Rattle.clap_debug_cli.specs.Checked.{IsOfLine, head_clauses, shown}
 use Rattle.clap_debug_cli.specs.Migrated.{excess}
 use Rattle.clap_debug_cli.specs.declared.answer.LogRefusal.TheVariants.{Form, OtherProgram, Unfit}
 use Rattle.clap_debug_cli.specs.Files.{head_of}
-use Rattle.clap_debug_cli.proofs.OneFiles.{one_log, log_or_fault, one_refutation, one_broken, refutation_or_fault, one_plain, one_plain_broken, plain_or_fault}
+use Rattle.clap_debug_cli.proofs.OneFiles.{one_refutation, one_broken, refutation_or_fault, one_plain, one_plain_broken, plain_or_fault}
 use Rattle.tc_compile.proofs.OnePrograms.{one_code, one_refusal, refused_no_code}
 
 -- an answer of which this holds and which is decided is the only one
@@ -55,26 +50,15 @@ abbrev pub IsOne : (Answer → Type 0) → Type 0
 IsOne P = (a b : Answer) → IsDecided a → P a → P b → a ≡ b
 
 module _ (code : Code) (log : Log) where
-  -- the least name that has a fault is one name, with one fault
-  one_first : (n q : Name) (m k : Misfit) → IsFirst code log n m → IsFirst code log q k → Unfit n m ≡ Unfit q k
-  one_first n q m k f g = by (slice_cmp nat_cmp n q) refl
-    where
-      none : {x : Misfit} → Some x ≡ None → ⊥
-      none e = cc
-
-      by : (o : Ordering) → slice_cmp nat_cmp n q ≡ o → Unfit n m ≡ Unfit q k
-      by Less is = absurd (none (sym f.there ∙ g.least n (ap is_lt is)))
-      by Equal is =
-          let name = slice_cmp-IsAntisymmetric nat_cmp-IsAntisymmetric n q is in
-          ap₂ (λ x y. Unfit x y) name (same_Some m k (sym f.there ∙ ap (misfit_of code log) name ∙ g.there))
-      by Greater is = absurd (none (sym g.there ∙ f.least q (ap is_lt (nat_list_cmp_total.antisymm q n ∙ ap ordering_reverse is))))
+  one_unfit : (n q : Name) (m k : Misfit) → IsFirst code log n m → IsFirst code log q k → Unfit n m ≡ Unfit q k
+  one_unfit n q m k f g = let one = one_first code log n q m k f g in ap₂ (λ x y. Unfit x y) one.0 one.1
 
   one_fit : IsOne (IsFitAnswer code log)
   one_fit (LogOver e) (LogOver d) _ f g = ap (λ x. LogOver x) (same_Some e d (sym f ∙ g))
   one_fit (LogOver e) (LogRefused (Unfit n m)) _ f g = let bad : Some e ≡ None = sym f ∙ g.0 in cc
   one_fit (LogOver e) Migrated _ f g = let bad : Some e ≡ None = sym f ∙ g.0 in cc
   one_fit (LogRefused (Unfit n m)) (LogOver d) _ f g = let bad : Some d ≡ None = sym g ∙ f.0 in cc
-  one_fit (LogRefused (Unfit n m)) (LogRefused (Unfit q k)) _ f g = ap (λ x. LogRefused x) (one_first n q m k f.1 g.1)
+  one_fit (LogRefused (Unfit n m)) (LogRefused (Unfit q k)) _ f g = ap (λ x. LogRefused x) (one_unfit n q m k f.1 g.1)
   one_fit (LogRefused (Unfit n m)) Migrated _ f g = let bad : Some m ≡ None = sym f.1.there ∙ g.1 n in cc
   one_fit Migrated (LogOver d) _ f g = let bad : Some d ≡ None = sym g ∙ f.0 in cc
   one_fit Migrated (LogRefused (Unfit q k)) _ f g = let bad : Some k ≡ None = sym g.1.there ∙ f.1 q in cc
@@ -125,7 +109,7 @@ module _ (code : Code) (log : Log) where
   one_limit P one (LogOver e) (LogRefused (Unfit n m)) _ f g = absurd (over_or_unfit e.which e.number n m f g.0 g.1)
   one_limit P one (LogOver e) b _ f g = absurd (over_or_within e.which e.number f g.0)
   one_limit P one (LogRefused (Unfit n m)) (LogOver d) _ f g = absurd (over_or_unfit d.which d.number n m g f.0 f.1)
-  one_limit P one (LogRefused (Unfit n m)) (LogRefused (Unfit q k)) _ f g = ap (λ x. LogRefused x) (one_first n q m k f.1 g.1)
+  one_limit P one (LogRefused (Unfit n m)) (LogRefused (Unfit q k)) _ f g = ap (λ x. LogRefused x) (one_unfit n q m k f.1 g.1)
   one_limit P one (LogRefused (Unfit n m)) b _ f g = absurd (unfit_or_within n m f g.0)
   one_limit P one a (LogOver d) _ f g = absurd (over_or_within d.which d.number g f.0)
   one_limit P one a (LogRefused (Unfit q k)) _ f g = absurd (unfit_or_within q k g f.0)
@@ -191,7 +175,7 @@ one_of_plain bytes P one a b decided f g =
     one (head_of f.0) f.1 a b decided f.3 (subst (λ m. P (head_of m) f.1 b) same.0 (subst (λ ls. P (head_of g.0) ls b) same.1 g.3))
 
 one_of_log : (log : List ℕ) (P : StoredLog → Answer → Type 0) → ((run : StoredLog) → IsOne (P run)) → IsOne (IsLogAnswer log P)
-one_of_log log P one (LogRefused (Form o)) (LogRefused (Form q)) _ f g = ap (λ x. LogRefused (Form x)) (logs.one_fault log o q f g)
+one_of_log log P one (LogRefused (Form o)) (LogRefused (Form q)) _ f g = ap (λ x. LogRefused (Form x)) (one_fault log o q f g)
 one_of_log log P one (LogRefused (Form o)) b _ f g = absurd (log_or_fault log g.0 o g.1 f)
 one_of_log log P one a (LogRefused (Form q)) _ f g = absurd (log_or_fault log f.0 q f.1 g)
 one_of_log log P one a b decided f g = one f.0 a b decided f.2 (subst (λ (r : StoredLog). P r b) (one_log log g.0 f.0 g.1 f.1) g.2)

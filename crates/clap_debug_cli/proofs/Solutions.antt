@@ -9,6 +9,7 @@ use Rattle.refute_check.specs.declared.line.Line.{Line}
 use Rattle.tc_code.specs.Code.{Code}
 use Rattle.tc_code.specs.Run.{Reproduces}
 use Rattle.path_log.specs.Texts.{StoredLog}
+use Rattle.path_log.proofs.Logs.{one_log}
 use Rattle.store_buffers.specs.Pending.{Binding, binds_all, binds_cells}
 use Rattle.store_buffers.specs.helpers.Partial.{pso_laws}
 use Rattle.store_buffers.specs.helpers.Sequential.{sc_laws}
@@ -29,7 +30,6 @@ use Rattle.clap_debug_cli.specs.Solved.{IsPossible, IsSolution, allows, model_fo
 use Rattle.clap_debug_cli.specs.declared.answer.Answer.TheVariants.{Minimized, Solved}
 use Rattle.clap_debug_cli.specs.declared.answer.Minimum.{Minimum}
 use Rattle.clap_debug_cli.specs.declared.answer.Solution.{Solution}
-use Rattle.clap_debug_cli.proofs.OneFiles.{one_log}
 
 -- what is answered was found
 pub solution_of : (program log : List ℕ) (model : Option Model) (budget : ℕ) (x : Solution) → IsSolveAnswer program log model budget (Solved x)

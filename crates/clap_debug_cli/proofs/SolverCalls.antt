@@ -6,7 +6,8 @@ use Rattle.tc_compile.specs.Programs.{IsCodeOf, IsRefusal}
 use Rattle.tc_compile.proofs.OnePrograms.{one_code, refused_no_code}
 use Rattle.tc_io.specs.Outside.{Files, SinkTells, put_under}
 use Rattle.tc_parser.specs.declared.fault.TextFault.{TextFault}
-use Rattle.path_log.specs.Texts.{StoredLog}
+use Rattle.path_log.specs.Texts.{StoredLog, IsLog, IsOfOther}
+use Rattle.path_log.proofs.Logs.{log_or_fault, one_log}
 use Rattle.path_walk.specs.declared.fault.WalkFault.TheVariants as walk
 use Rattle.schedule_file.specs.Schedules.{schedule_text}
 use Rattle.schedule_file.specs.declared.schedule.Schedule.{Schedule}
@@ -21,7 +22,6 @@ use Rattle.clap_debug_words.specs.Calls.{Called, Exports, Imports}
 use Rattle.clap_debug_cli.specs.Answers.{status_of}
 use Rattle.clap_debug_cli.specs.Call.{IsStatus, Puts, Says, CnfAnswers, ImportAnswers}
 use Rattle.clap_debug_cli.specs.Causes.{IsAnswerTo, IsCnfAnswer, IsImportAnswer}
-use Rattle.clap_debug_cli.specs.Files.{IsLog, IsOfOther}
 use Rattle.clap_debug_cli.specs.Inputs.{inputs_of, limit_of}
 use Rattle.clap_debug_cli.specs.Solvers.{AreSatisfying, IsAnswered, IsExported, IsTaken, clauses_for}
 use Rattle.clap_debug_cli.specs.declared.answer.Answer.{Answer}
@@ -32,7 +32,6 @@ use Rattle.clap_debug_cli.specs.declared.answer.LogRefusal.TheVariants.{Form, Ot
 use Rattle.clap_debug_cli.specs.declared.input.Input.TheVariants as input
 use Rattle.clap_debug_cli.proofs.Calls.{IsKnown, exactly_at, alone_of, plain_at, status_at, work_of}
 use Rattle.clap_debug_cli.proofs.Fetches.{not_within}
-use Rattle.clap_debug_cli.proofs.OneFiles.{log_or_fault, one_log}
 use Rattle.clap_debug_cli.proofs.OneTexts.{over_or_within, unfit_or_within, same_literals, literals_or_breach}
 use Rattle.clap_debug_cli.proofs.Exchanged.{exported_answer, exported_of, false_of, found_of}
 use Rattle.clap_debug_cli.proofs.Statuses.{is_program_refused, is_log_refused, is_third_refused}

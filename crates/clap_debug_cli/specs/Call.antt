@@ -3,7 +3,7 @@ use Rattle.std.specs.Prelude.{◌≡◌, ◌≢◌, ℕ, ◌≤◌, ◌⊎◌, t
 use Rattle.tc_code.specs.Code.{Code}
 use Rattle.tc_base.specs.declared.model.Model.{Model}
 use Rattle.tc_io.specs.Outside.{Files, ShelfTells, SinkTells, Writing, Wrote, WrotePart, KeptPart, bytes_at, put_under}
-use Rattle.path_log.specs.Texts.{StoredLog}
+use Rattle.path_log.specs.Texts.{StoredLog, IsLog, IsOfOther}
 use Rattle.refute_check.specs.declared.line.Line.{Line}
 use Rattle.refute_check.specs.declared.verdict.Checked.TheVariants.{Closed}
 use Rattle.schedule_file.specs.Schedules.{schedule_text}
@@ -17,7 +17,6 @@ use Rattle.clap_debug_words.specs.Calls.{Called, Lists, Replays, Records, Migrat
 use Rattle.clap_debug_cli.specs.Answers.{line_of, status_of}
 use Rattle.clap_debug_cli.specs.Causes.{IsCause, IsAnswerTo, IsWorkOf, IsResult, IsReplayed, IsLogRefused, IsScheduleRefused, IsMigrateAnswer}
 use Rattle.clap_debug_cli.specs.Causes.{IsSolveAnswer, IsMinimizeAnswer, IsCheckAnswer, IsWhyAnswer, IsWorkloadAnswer, IsCnfAnswer, IsImportAnswer}
-use Rattle.clap_debug_cli.specs.Files.{IsLog, IsOfOther}
 use Rattle.clap_debug_cli.specs.Solved.{IsSolution, IsPossible, solution, solution_text}
 use Rattle.clap_debug_cli.specs.Fewest.{IsMinimum, LostSecond, first_text, minimum, put_both}
 use Rattle.clap_debug_cli.specs.Checked.{IsRefuted, shown}

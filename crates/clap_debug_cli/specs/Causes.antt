@@ -6,7 +6,7 @@ use Rattle.tc_base.specs.Logs.{Log}
 use Rattle.tc_code.specs.Code.{Code}
 use Rattle.tc_io.specs.Outside.{ShelfTells, Kept, KeptPart}
 use Rattle.path_log.specs.Faults.{BreaksAt as LogBreaksAt}
-use Rattle.path_log.specs.Texts.{StoredLog}
+use Rattle.path_log.specs.Texts.{StoredLog, IsLog, IsOfOther}
 use Rattle.schedule_file.specs.Faults.{BreaksAt as ScheduleBreaksAt}
 use Rattle.schedule_file.specs.Schedules.{schedule_text}
 use Rattle.schedule_replay.specs.Verdicts.{IsVerdict}
@@ -31,7 +31,7 @@ use Rattle.clap_solve.specs.declared.answer.Answer.TheVariants as found
 use Rattle.least_switch.specs.declared.answer.Least.{Least}
 use Rattle.least_switch.specs.declared.answer.Least.TheVariants as least
 use Rattle.clap_debug_words.specs.Calls.{Called, Lists, Replays, Records, Migrates, Solves, Minimizes, Checks, Workloads, Exports, Imports, Explains, call_of}
-use Rattle.clap_debug_cli.specs.Files.{IsLog, IsOfOther, Schedule, IsSchedule, IsRefutation, IsBrokenAt, head_of}
+use Rattle.clap_debug_cli.specs.Files.{Schedule, IsSchedule, IsRefutation, IsBrokenAt, head_of}
 use Rattle.clap_debug_cli.specs.Inputs.{Texts, inputs_of, AreWithin, IsTooLong, GaveAll, FailsToRead, PassesLimit}
 use Rattle.tc_compile.specs.Programs.{IsCodeOf, IsRefusal}
 use Rattle.clap_debug_cli.specs.Recorded.{ComesTo, EndsSo, IsRecorded}

@@ -6,7 +6,7 @@ use Rattle.tc_base.specs.declared.model.Model.{Model}
 use Rattle.tc_base.specs.declared.moves.Move.{Move}
 use Rattle.tc_code.specs.Code.{Code}
 use Rattle.tc_code.specs.Run.{Reproduces}
-use Rattle.path_log.specs.Texts.{StoredLog}
+use Rattle.path_log.specs.Texts.{StoredLog, IsLog, IsOfOther}
 use Rattle.refute_check.specs.Refutations.{IsClosed}
 use Rattle.refute_check.specs.declared.head.Head.{Head}
 use Rattle.refute_check.specs.declared.line.Line.{Line}
@@ -20,7 +20,7 @@ use Rattle.clap_solve.specs.Solved.{IsImpossible, IsWithin}
 use Rattle.switch_runs.specs.Switches.{switches}
 use Rattle.switch_clauses.specs.Clauses.{switch_clauses}
 use Rattle.tc_compile.specs.Programs.{IsCodeOf}
-use Rattle.clap_debug_cli.specs.Files.{IsLog, IsOfOther, IsRefutation}
+use Rattle.clap_debug_cli.specs.Files.{IsRefutation}
 use Rattle.clap_debug_cli.specs.declared.answer.Shown.{Shown}
 use Rattle.clap_debug_cli.specs.declared.answer.Shown.TheVariants.{Impossible, MoreSwitches, Open as StillOpen}
 

@@ -5,7 +5,7 @@ use Rattle.tc_base.specs.Logs.{Log}
 use Rattle.tc_base.specs.declared.model.Model.{Model}
 use Rattle.tc_code.specs.Code.{Code}
 use Rattle.tc_io.specs.Outside.{Files, ShelfTells, Kept, KeptPart, closed, put_under}
-use Rattle.path_log.specs.Texts.{StoredLog}
+use Rattle.path_log.specs.Texts.{StoredLog, IsLog, IsOfOther}
 use Rattle.refute_check.specs.Laws.{IsWhole}
 use Rattle.refute_check.specs.Texts.{refutation_text}
 use Rattle.refute_check.specs.declared.head.Head.{Head}
@@ -17,7 +17,6 @@ use Rattle.least_switch.specs.Least.{IsLeastAnswer}
 use Rattle.least_switch.specs.declared.answer.Least.{Least}
 use Rattle.least_switch.specs.declared.answer.Least.TheVariants as least
 use Rattle.tc_compile.specs.Programs.{IsCodeOf}
-use Rattle.clap_debug_cli.specs.Files.{IsLog, IsOfOther}
 use Rattle.clap_debug_cli.specs.Solved.{IsOfForm, found_text, model_for}
 use Rattle.clap_debug_cli.specs.declared.answer.Minimum.{Minimum}
 

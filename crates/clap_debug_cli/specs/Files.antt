@@ -1,9 +1,7 @@
--- Logs, schedules and refutations as the bytes of files, and what is said of bytes that are none.
-use Rattle.std.specs.Prelude.{◌≡◌, ◌≢◌, ℕ, List, ◌∷◌, Option, Some, None, is_some, IsSomeAnd, if◌then◌else◌}
-use Rattle.sha2.specs.Sha256.{sha256}
+-- Schedules and refutations as the bytes of files, and what is said of bytes that are none.
+use Rattle.std.specs.Prelude.{◌≡◌, ℕ, List, ◌∷◌, Option, Some, None, is_some, if◌then◌else◌}
 use Rattle.tc_base.specs.declared.model.Model.{Model}
 use Rattle.tc_base.specs.declared.moves.Move.{Move}
-use Rattle.path_log.specs.Texts.{StoredLog, HasText, log_text}
 use Rattle.schedule_file.specs.Schedules.{HaveText, schedule_text}
 use Rattle.refute_check.specs.Laws.{IsWhole}
 use Rattle.refute_check.specs.Reading.{ReadsTo, beginning}
@@ -12,15 +10,6 @@ use Rattle.refute_check.specs.declared.head.Head.{Head}
 use Rattle.refute_check.specs.declared.line.Line.{Line}
 use Rattle.refute_check.specs.declared.text.Taken.{Taken}
 use Rattle.refute_check.specs.declared.text.Taken.TheVariants.{Header}
-
--- the bytes are the log's
-pub record IsLog (bytes : List ℕ) (log : StoredLog) : Type 0 where
-  pub has_text : HasText log
-  pub text : bytes ≡ log_text log
-
--- the log has the digest of a program, and it isn't this one's
-abbrev pub IsOfOther : List ℕ → StoredLog → Type 0
-IsOfOther program log = IsSomeAnd log.digest (λ digest. digest ≢ sha256 program)
 
 -- moves, and the memory model under which they are made
 pub record Schedule : Type 0 where

@@ -3,12 +3,11 @@ use Rattle.std.specs.Prelude.{◌≡◌, ℕ, List, length, map, nat_lt, Option,
 use Rattle.std.specs.List.{find}
 use Rattle.tc_base.specs.Logs.{Log, ThreadPath}
 use Rattle.tc_code.specs.Code.{Code}
-use Rattle.path_log.specs.Texts.{StoredLog, log_text}
+use Rattle.path_log.specs.Texts.{StoredLog, IsLog, IsOfOther, log_text}
 use Rattle.path_walk.specs.Fits.{Fits}
 use Rattle.clap_system.specs.Faults.{limit_of}
 use Rattle.clap_system.specs.declared.fault.Which.{Which}
 use Rattle.clap_system.specs.declared.fault.Which.TheVariants.{Threads, Depth}
-use Rattle.clap_debug_cli.specs.Files.{IsLog, IsOfOther}
 use Rattle.tc_compile.specs.Programs.{IsCodeOf}
 use Rattle.clap_debug_cli.specs.Recorded.{with_digest}
 use Rattle.clap_debug_cli.specs.declared.answer.Excess.{Excess}

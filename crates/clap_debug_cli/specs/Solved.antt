@@ -7,7 +7,7 @@ use Rattle.tc_base.specs.declared.model.Model.TheVariants.{Sc, Tso, Pso}
 use Rattle.tc_base.specs.declared.moves.Move.{Move}
 use Rattle.tc_code.specs.Code.{Code}
 use Rattle.tc_code.specs.Run.{Reproduces}
-use Rattle.path_log.specs.Texts.{StoredLog}
+use Rattle.path_log.specs.Texts.{StoredLog, IsLog, IsOfOther}
 use Rattle.schedule_file.specs.Schedules.{HaveText, schedule_text}
 use Rattle.refute_check.specs.Laws.{IsWhole}
 use Rattle.refute_check.specs.Texts.{refutation_text}
@@ -16,7 +16,7 @@ use Rattle.clap_solve.specs.Solved.{IsAnswer, IsWithin}
 use Rattle.clap_solve.specs.declared.answer.Answer.{Answer as Found}
 use Rattle.clap_solve.specs.declared.answer.Answer.TheVariants as found
 use Rattle.tc_compile.specs.Programs.{IsCodeOf}
-use Rattle.clap_debug_cli.specs.Files.{IsLog, IsOfOther, head_of}
+use Rattle.clap_debug_cli.specs.Files.{head_of}
 use Rattle.clap_debug_cli.specs.declared.answer.Solution.{Solution}
 
 -- a search under this memory model, with so many conflicts at most, found this

@@ -6,7 +6,7 @@ use Rattle.tc_base.specs.declared.model.Model.{Model}
 use Rattle.tc_base.specs.declared.moves.Move.{Move}
 use Rattle.tc_code.specs.Code.{Code}
 use Rattle.tc_code.specs.Run.{Reproduces}
-use Rattle.path_log.specs.Texts.{StoredLog}
+use Rattle.path_log.specs.Texts.{StoredLog, IsLog, IsOfOther}
 use Rattle.cnf_core.specs.Clauses.{Formula, Valuation, satisfies}
 use Rattle.dimacs_text.specs.Answers.{answer as answer_in}
 use Rattle.clap_solve.specs.Clauses.{bound_of, model_clauses}
@@ -14,7 +14,6 @@ use Rattle.clap_solve.specs.Imported.{IsImported, values_of}
 use Rattle.clap_solve.specs.Solved.{IsWithin}
 use Rattle.clap_solve.specs.declared.imported.Imported.{Imported}
 use Rattle.tc_compile.specs.Programs.{IsCodeOf}
-use Rattle.clap_debug_cli.specs.Files.{IsLog, IsOfOther}
 use Rattle.clap_debug_cli.specs.Solved.{model_for}
 
 -- the clauses of a log under the memory model that is meant

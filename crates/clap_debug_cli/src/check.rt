@@ -3,7 +3,7 @@ ghost use Rattle.std.specs.Prelude.{◌≡◌, ◌<◌, ◌≤◌, ◌++◌, ℕ
 ghost use Rattle.tc_base.specs.declared.limits.TheConstants.{PROGRAM_BYTES};
 ghost use Rattle.tc_code.specs.Code.{Code};
 ghost use Rattle.tc_io.specs.Outside.{Opened, GaveReading};
-ghost use Rattle.path_log.specs.Texts.{StoredLog};
+ghost use Rattle.path_log.specs.Texts.{StoredLog, IsOfOther};
 ghost use Rattle.refute_check.specs.Reading.{beginning, first_breach};
 ghost use Rattle.refute_check.specs.Refutations.{start};
 ghost use Rattle.clap_solve.specs.Clauses.{bound_of, model_clauses};
@@ -13,7 +13,6 @@ ghost use Rattle.clap_debug_cli.specs.Causes.{IsCheckAnswer, IsClausesAnswer, Is
 ghost use Rattle.switch_clauses.specs.Clauses.{switch_clauses};
 ghost use Rattle.tc_base.specs.Buffers.{buffer_of};
 ghost use Rattle.clap_debug_cli.specs.Checked.{head_clauses, shown};
-ghost use Rattle.clap_debug_cli.specs.Files.{IsOfOther};
 ghost use Rattle.clap_debug_cli.specs.Inputs.{InPieces};
 ghost use Rattle.clap_debug_cli.specs.declared.answer.Answer.TheVariants.{Accepted, RefutationRefused};
 ghost use Rattle.clap_debug_cli.specs.declared.check.Stage.TheVariants.{Begins};

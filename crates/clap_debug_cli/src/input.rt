@@ -2,12 +2,12 @@
 ghost use Rattle.std.specs.Prelude.{◌≡◌, ◌≤◌, length, IfOk, IfErr, OnOk};
 ghost use Rattle.tc_base.specs.declared.limits.TheConstants.{PROGRAM_BYTES};
 ghost use Rattle.tc_compile.specs.Programs.{IsCodeOf};
-ghost use Rattle.clap_debug_cli.specs.Files.{IsLog, IsOfOther};
+ghost use Rattle.path_log.specs.Texts.{IsLog, IsOfOther};
 ghost use Rattle.clap_debug_cli.specs.Inputs.{limit_of, Entire, Whole, GaveInput};
 ghost use Rattle.clap_debug_cli.specs.helpers.Refused.{IsWhyMissing, IsWhyUnread, IsWhyOther};
 
 use crate::answer::{Answer, FileName, LogRefusal};
-use path_log::{Log, program_digest, read_log};
+use path_log::{Log, read_log};
 use std::alloc::Global;
 use tc_base::limits::{LOG_BYTES, PROGRAM_BYTES, SCHEDULE_BYTES};
 use tc_code::Code;
@@ -92,15 +92,14 @@ pub(crate) fn read_both<'a>(
     Ok((code, log))
 }
 
-/// Tests that a log isn't of another program. One of format 1 may be of any.
+/// Refuses a log of another program.
 pub(crate) fn of_program<'a>(program: &[u8], log: &Log) -> Result<(), Answer<'a>>
     ensures same { OnOk result (IsOfOther program.now log.now → ⊥) }
     ensures other { IfErr result (IsWhyOther program.now log.now) }
 {
-    match log.digest() {
-        Some(digest) if *digest != program_digest(program) => Err(Answer::LogRefused(
-            LogRefusal::OtherProgram,
-        )),
-        _ => Ok(()),
+    if log.is_of_other(program) {
+        Err(Answer::LogRefused(LogRefusal::OtherProgram))
+    } else {
+        Ok(())
     }
 }

@@ -4,7 +4,7 @@
 ghost use Rattle.std.specs.Prelude.{◌≡◌, ◌≤◌, ℕ, List, Option, Some, true, length, map, string_bytes, unwrap_or};
 ghost use Rattle.sha2.specs.Sha256.{sha256};
 ghost use Rattle.tc_base.specs.declared.model.Model.{Model};
-ghost use Rattle.path_log.specs.Texts.{StoredLog};
+ghost use Rattle.path_log.specs.Texts.{StoredLog, IsLog};
 ghost use Rattle.tc_record.specs.Logged.{most_log_bytes};
 ghost use Rattle.clap_debug_words.specs.Calls.{plain_call};
 ghost use Rattle.clap_debug_cli.specs.declared.answer.Answer.TheVariants.{NoMemory};
@@ -12,7 +12,6 @@ ghost use Rattle.clap_debug_cli.specs.Causes.{IsAcceptedAs, IsAcceptedBelow, IsC
 ghost use Rattle.clap_debug_cli.specs.Fewest.{IsMinimum, first_text, found_in};
 ghost use Rattle.clap_debug_cli.specs.declared.answer.Minimum.{Minimum};
 ghost use Rattle.clap_debug_cli.specs.Call.{IfTold, Says, SaysNoMore, CallAnswers, ToldAnswers, CommandAnswers};
-ghost use Rattle.clap_debug_cli.specs.Files.{IsLog};
 ghost use Rattle.clap_debug_cli.specs.Inputs.{texts_under};
 ghost use Rattle.clap_debug_cli.specs.Migrated.{IsMigrated};
 ghost use Rattle.clap_debug_cli.specs.Recorded.{IsRecorded, with_digest};

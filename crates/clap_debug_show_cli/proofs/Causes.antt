@@ -42,11 +42,11 @@ unshown call old new program file (Unfit name misfit) gave h = (program, file, g
 unshown call old new program file (ScheduleRefused line) gave h = (program, file, gave, h)
 unshown call old new program file (Over LogBytes number) gave h = (program, file, gave, h)
 unshown call old new program file (Over Threads number) gave h = (program, file, gave, h)
-unshown call old new program file (Over ProgramBytes number) gave h = absurd h.2.1.1.3.1
-unshown call old new program file (Over ScheduleBytes number) gave h = absurd h.2.1.1.3.1
-unshown call old new program file Usage gave h = absurd h.2.1.1.3.1
-unshown call old new program file (ReadFault name) gave h = absurd h.2.1.1.3.1
-unshown call old new program file (WriteFault name) gave h = absurd h.2.1.1.3.1
+unshown call old new program file (Over ProgramBytes number) gave h = absurd h.2.1.1.2.1
+unshown call old new program file (Over ScheduleBytes number) gave h = absurd h.2.1.1.2.1
+unshown call old new program file Usage gave h = absurd h.2.1.1.2.1
+unshown call old new program file (ReadFault name) gave h = absurd h.2.1.1.2.1
+unshown call old new program file (WriteFault name) gave h = absurd h.2.1.1.2.1
 unshown call old new program file (Shown shown) gave h = absurd h
 unshown call old new program file PageKept gave h = absurd h
 

@@ -1,24 +1,19 @@
 -- What two files hold has one answer, but for how what is shown is put in words.
-use Rattle.std.proofs.Common.{◌≡◌, ◌∙◌, ◌≤◌, ap, ap₂, sym, subst, refl, arith, ℕ, Bool, List, length, true, false, Option, Some, None}
+use Rattle.std.proofs.Common.{◌≡◌, ◌∙◌, ◌≤◌, ap, ap₂, sym, subst, refl, arith, ℕ, List, length, true, false, true≢false, Option, Some, None}
 use Rattle.std.specs.Option.{IsSome}
 use Rattle.std.specs.Prelude.{◌++◌}
-use Rattle.std.specs.FinMap.{slice_cmp-IsAntisymmetric, nat_cmp-IsAntisymmetric}
-use Rattle.std.specs.Ordering.{is_lt, ordering_reverse}
-use Rattle.std.specs.declared.cmp.Ordering.{Ordering}
-use Rattle.std.specs.declared.cmp.Ordering.TheVariants.{Less, Equal, Greater}
-use Rattle.std.proofs.lemmas.Cmp.{nat_list_cmp_total}
-use Rattle.std.proofs.lemmas.Option.{same_Some, none-some}
-use Rattle.tc_base.specs.Names.{Name, by_name}
+use Rattle.std.proofs.lemmas.Option.{none-some}
+use Rattle.tc_base.specs.Names.{Name}
 use Rattle.tc_base.specs.Logs.{Log}
 use Rattle.tc_base.specs.declared.model.Model.{Model}
 use Rattle.tc_base.specs.declared.moves.Move.{Move}
 use Rattle.tc_code.specs.Code.{Code}
 use Rattle.tc_compile.specs.Programs.{IsCodeOf}
 use Rattle.tc_compile.proofs.OnePrograms.{one_code, one_refusal, refused_no_code}
-use Rattle.path_log.specs.Faults.{BreaksAt as LogBreaksAt}
-use Rattle.path_log.specs.Texts.{StoredLog, HasText, head_text, log_text}
-use Rattle.path_log.proofs.Logs as logs
-use Rattle.path_walk.specs.Fits.{Fits, IsFirst, misfit_of}
+use Rattle.path_log.specs.Texts.{StoredLog, IsOfOther, head_text, log_text}
+use Rattle.path_log.proofs.Logs.{log_or_fault, one_fault, one_log}
+use Rattle.path_walk.specs.Fits.{Fits, IsFirst}
+use Rattle.path_walk.proofs.Faults.{one_first}
 use Rattle.path_walk.specs.declared.fault.Misfit.{Misfit}
 use Rattle.schedule_file.specs.Schedules.{schedule_text}
 use Rattle.schedule_file.proofs.Schedules as schedules
@@ -27,7 +22,7 @@ use Rattle.clap_debug_show_cli.specs.Call.{Puts}
 use Rattle.clap_debug_show_cli.specs.Calls.{Shows}
 use Rattle.clap_debug_show_cli.specs.Causes.{IsThreadsRefusal, IsStoredRefusal, IsFormRefusal, IsLogRefusal, IsFileRefusal, IsAnswerTo, IsAnswerOf}
 use Rattle.clap_debug_show_cli.specs.Limits.{limit_of}
-use Rattle.clap_debug_show_cli.specs.Shown.{IsLogOf, IsOfOther, IsShown, IsStory, begins_as_log}
+use Rattle.clap_debug_show_cli.specs.Shown.{IsShown, IsStory, begins_as_log}
 use Rattle.clap_debug_show_cli.specs.declared.limits.What.TheVariants.{ProgramBytes, LogBytes, ScheduleBytes, Threads}
 use Rattle.clap_debug_show_cli.specs.declared.shown.Shown.{Shown as AnyShown}
 use Rattle.clap_debug_show_cli.specs.declared.shown.Story.{Story}
@@ -35,22 +30,9 @@ use Rattle.clap_debug_show_cli.specs.declared.shown.Story.TheVariants.{Moves, Wa
 use Rattle.clap_debug_show_cli.specs.declared.answer.Answer.{Answer}
 use Rattle.clap_debug_show_cli.specs.declared.answer.Answer.TheVariants.{Over, ProgramRefused, LogBroken, OtherProgram, Unfit, ScheduleRefused, Shown, PageKept}
 
--- of names at which something holds, and at no lesser one, there is one
-one_least : (P : Name → Type 0) (n q : Name) → P n → P q → ((r : Name) → is_lt (by_name r n) ≡ true → P r → ⊥)
-    → ((r : Name) → is_lt (by_name r q) ≡ true → P r → ⊥) → n ≡ q
-one_least P n q here there f g = by (by_name n q) refl
-  where
-    by : (o : Ordering) → by_name n q ≡ o → n ≡ q
-    by Less is = absurd (g n (ap is_lt is) here)
-    by Equal is = slice_cmp-IsAntisymmetric nat_cmp-IsAntisymmetric n q is
-    by Greater is = absurd (f q (ap is_lt (nat_list_cmp_total.antisymm q n ∙ ap ordering_reverse is)) there)
-
 module _ (code : Code) (log : Log) where
   one_unfit : (n q : Name) (m k : Misfit) → IsFirst code log n m → IsFirst code log q k → Unfit n m ≡ Unfit q k
-  one_unfit n q m k f g =
-      let name = one_least (λ r. misfit_of code log r ≡ None → ⊥) n q (λ e. none-some m (sym e ∙ f.there)) (λ e. none-some k (sym e ∙ g.there))
-      (λ r less bad. bad (f.least r less)) (λ r less bad. bad (g.least r less)) in
-      ap₂ (λ x y. Unfit x y) name (same_Some m k (sym f.there ∙ ap (misfit_of code log) name ∙ g.there))
+  one_unfit n q m k f g = let one = one_first code log n q m k f g in ap₂ (λ x y. Unfit x y) one.0 one.1
 
   one_threads : (a b : Answer) → IsThreadsRefusal code log a → IsThreadsRefusal code log b → a ≡ b
   one_threads (Over Threads n) (Over Threads m) f g = ap (λ x. Over Threads x) (f.0 ∙ sym g.0)
@@ -68,21 +50,13 @@ one_stored code program log OtherProgram _ f g = absurd (g.0 f)
 one_stored code program log _ OtherProgram f g = absurd (f.0 g)
 one_stored code program log a b f g = one_threads code log.log a b f.1 g.1
 
-log_or_fault : (file : List ℕ) (log : StoredLog) (offset : ℕ) → HasText log → file ≡ log_text log → LogBreaksAt file offset → ⊥
-log_or_fault file log offset has is breaks = logs.no_fault log offset has (subst (λ t. LogBreaksAt t offset) is breaks)
-
--- not both
-true_or_false : (b : Bool) → b ≡ true → b ≡ false → ⊥
-true_or_false b t f = cc
-
 module _ (code : Code) (program file : List ℕ) where
   one_form : (a b : Answer) → IsFormRefusal code program file a → IsFormRefusal code program file b → a ≡ b
-  one_form (LogBroken o) (LogBroken p) f g = ap (λ x. LogBroken x) (logs.one_fault file o p f g)
-  one_form (LogBroken o) _ f g = absurd (log_or_fault file g.0 o g.1 g.2 f)
-  one_form _ (LogBroken p) f g = absurd (log_or_fault file f.0 p f.1 f.2 g)
+  one_form (LogBroken o) (LogBroken p) f g = ap (λ x. LogBroken x) (one_fault file o p f g)
+  one_form (LogBroken o) _ f g = absurd (log_or_fault file g.0 o g.1 f)
+  one_form _ (LogBroken p) f g = absurd (log_or_fault file f.0 p f.1 g)
   one_form a b f g =
-      one_stored code program f.0 a b f.3
-      (subst (λ l. IsStoredRefusal code program l b) (logs.one_log g.0 f.0 g.1 f.1 (sym g.2 ∙ f.2)) g.3)
+      one_stored code program f.0 a b f.2 (subst (λ l. IsStoredRefusal code program l b) (one_log file g.0 f.0 g.1 f.1) g.2)
 
   one_log_refusal : (a b : Answer) → IsLogRefusal code program file a → IsLogRefusal code program file b → a ≡ b
   one_log_refusal (Over LogBytes n) (Over LogBytes m) f g = ap (λ x. Over LogBytes x) (f.0 ∙ sym g.0)
@@ -92,8 +66,8 @@ module _ (code : Code) (program file : List ℕ) where
 
   one_file_refusal : (a b : Answer) → IsFileRefusal code program file a → IsFileRefusal code program file b → a ≡ b
   one_file_refusal (ScheduleRefused n) (ScheduleRefused m) f g = ap (λ x. ScheduleRefused x) (schedules.one_fault file n m f.1 g.1)
-  one_file_refusal (ScheduleRefused n) _ f g = absurd (true_or_false (begins_as_log file) g.0 f.0)
-  one_file_refusal _ (ScheduleRefused m) f g = absurd (true_or_false (begins_as_log file) f.0 g.0)
+  one_file_refusal (ScheduleRefused n) _ f g = absurd (true≢false (sym g.0 ∙ f.0))
+  one_file_refusal _ (ScheduleRefused m) f g = absurd (true≢false (sym f.0 ∙ g.0))
   one_file_refusal a b f g = one_log_refusal a b f.1 g.1
 
 -- a log's text begins as a log, and a schedule's doesn't
@@ -116,20 +90,17 @@ stored_or_shown code program log (Unfit n m) recorded few fits h = none-some m (
 stored_or_shown code program log _ recorded few fits h = h.1
 
 module _ (code : Code) (program file : List ℕ) where
-  same_log : (log other : StoredLog) → IsLogOf program file log → HasText other → file ≡ log_text other → other ≡ log
-  same_log log other f has is = logs.one_log other log has f.has_text (sym is ∙ f.text)
-
   -- nor is a file that shows something
   shown_or_refused : (story : Story) (a : Answer) → IsStory code program file story → IsFileRefusal code program file a → ⊥
   shown_or_refused (Moves schedule told) (ScheduleRefused n) f g =
       schedules.schedule_or_fault file schedule.model schedule.moves.items n schedule.has_text f.0 g.1
-  shown_or_refused (Moves schedule told) _ f g = true_or_false (begins_as_log file) g.0 (schedule_begins schedule.model schedule.moves.items file f.0)
-  shown_or_refused (Ways log paths) (ScheduleRefused n) f g = true_or_false (begins_as_log file) (log_begins log file f.0.text) g.0
+  shown_or_refused (Moves schedule told) _ f g = true≢false (sym g.0 ∙ schedule_begins schedule.model schedule.moves.items file f.0)
+  shown_or_refused (Ways log paths) (ScheduleRefused n) f g = true≢false (sym (log_begins log file f.0.is_log.text) ∙ g.0)
   shown_or_refused (Ways log paths) (Over LogBytes n) f g = omega (arith, f.0.short, g.1.0, g.1.1)
-  shown_or_refused (Ways log paths) (LogBroken o) f g = log_or_fault file log o f.0.has_text f.0.text g.1.1
+  shown_or_refused (Ways log paths) (LogBroken o) f g = log_or_fault file log o f.0.is_log g.1.1
   shown_or_refused (Ways log paths) a f g =
       stored_or_shown code program log a f.0.recorded f.0.few f.1
-      (subst (λ l. IsStoredRefusal code program l a) (same_log log g.1.1.0 f.0 g.1.1.1 g.1.1.2) g.1.1.3)
+      (subst (λ l. IsStoredRefusal code program l a) (one_log file g.1.1.0 log g.1.1.1 f.0.is_log) g.1.1.2)
 
 -- where the second of two answers is put, the first is as well
 abbrev pub Alike : Answer → Answer → Type 0

@@ -5,12 +5,12 @@ use Rattle.tc_code.specs.Code.{Code}
 use Rattle.tc_compile.specs.Programs.{IsCodeOf, IsRefusal}
 use Rattle.tc_io.specs.Outside.{ShelfTells, FailedToGive, Gave, Kept, KeptPart, WasTooLong}
 use Rattle.path_log.specs.Faults.{BreaksAt as LogBreaksAt}
-use Rattle.path_log.specs.Texts.{StoredLog, HasText, log_text}
+use Rattle.path_log.specs.Texts.{StoredLog, IsLog, IsOfOther}
 use Rattle.path_walk.specs.Fits.{IsFirst}
 use Rattle.schedule_file.specs.Faults.{BreaksAt as ScheduleBreaksAt}
 use Rattle.clap_debug_show_cli.specs.Calls.{Shows, call_of}
 use Rattle.clap_debug_show_cli.specs.Limits.{limit_of}
-use Rattle.clap_debug_show_cli.specs.Shown.{IsOfOther, IsShown, begins_as_log}
+use Rattle.clap_debug_show_cli.specs.Shown.{IsShown, begins_as_log}
 use Rattle.clap_debug_show_cli.specs.declared.shown.Shown.{Shown as AnyShown}
 use Rattle.clap_debug_show_cli.specs.declared.limits.What.TheVariants.{ProgramBytes, LogBytes, ScheduleBytes, Threads}
 use Rattle.clap_debug_show_cli.specs.declared.answer.Answer.{Answer}
@@ -41,7 +41,7 @@ IsStoredRefusal code program log a = (IsOfOther program log → ⊥) × IsThread
 
 abbrev pub IsFormRefusal : Code → (program file : List ℕ) → Answer → Type 0
 IsFormRefusal code program file (LogBroken offset) = LogBreaksAt file offset
-IsFormRefusal code program file a = (log : StoredLog) × HasText log × (file ≡ log_text log) × IsStoredRefusal code program log a
+IsFormRefusal code program file a = (log : StoredLog) × IsLog file log × IsStoredRefusal code program log a
 
 abbrev pub IsLogRefusal : Code → (program file : List ℕ) → Answer → Type 0
 IsLogRefusal code program file (Over LogBytes number) = (number ≡ length file) × (limit_of LogBytes < number)

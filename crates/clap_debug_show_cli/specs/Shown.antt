@@ -1,11 +1,10 @@
 -- What a file shows of a program.
-use Rattle.std.specs.Prelude.{◌≡◌, ◌≢◌, ◌≤◌, ℕ, Bool, List, length, IsSomeAnd, codes, nat_eq}
+use Rattle.std.specs.Prelude.{◌≡◌, ◌≤◌, ℕ, Bool, List, length, codes, nat_eq}
 use Rattle.std.specs.List.{starts_with}
-use Rattle.sha2.specs.Sha256.{sha256}
 use Rattle.tc_base.specs.Buffers.{buffer_of}
 use Rattle.tc_code.specs.Code.{Code}
 use Rattle.tc_compile.specs.Programs.{IsCodeOf}
-use Rattle.path_log.specs.Texts.{StoredLog, HasText, log_text}
+use Rattle.path_log.specs.Texts.{StoredLog, IsLog, IsOfOther}
 use Rattle.path_walk.specs.Fits.{Fits}
 use Rattle.path_walk.specs.Paths.{paths_of}
 use Rattle.schedule_file.specs.Schedules.{schedule_text}
@@ -26,14 +25,9 @@ begins_as_log file = starts_with nat_eq file (codes "CLPL")
 abbrev pub IsTold : Code → Schedule → Told → Type 0
 IsTold code schedule told = AreTold (buffer_of schedule.model) code schedule.moves.items told.rows.items told.end
 
--- the log has the digest of a program, and it isn't this one's
-abbrev pub IsOfOther : (program : List ℕ) → StoredLog → Type 0
-IsOfOther program log = IsSomeAnd log.digest (λ digest. digest ≢ sha256 program)
-
 -- the bytes are those of a log that isn't too long, nor another program's, nor has too many threads
 pub record IsLogOf (program bytes : List ℕ) (log : StoredLog) : Type 0 where
-  pub has_text : HasText log
-  pub text : bytes ≡ log_text log
+  pub is_log : IsLog bytes log
   pub short : length bytes ≤ limit_of LogBytes
   pub few : length log.log.threads ≤ limit_of Threads
   pub recorded : IsOfOther program log → ⊥

@@ -1,15 +1,16 @@
 //! What a file shows: the moves of a schedule, or the ways of a log's threads.
 ghost use Rattle.std.specs.Prelude.{◌≡◌, ◌<◌, ◌≤◌, ℕ, List, true, false, length, IfErr, IfOk, OnOk};
 ghost use Rattle.tc_base.specs.declared.limits.TheConstants.{PROGRAM_BYTES};
+ghost use Rattle.path_log.specs.Texts.{IsOfOther};
 ghost use Rattle.tc_compile.specs.Programs.{IsCodeOf, IsWhyNoCode};
 ghost use Rattle.clap_debug_show_cli.specs.Limits.{limit_of};
-ghost use Rattle.clap_debug_show_cli.specs.Shown.{IsOfOther, IsShown, IsStory, IsTold, begins_as_log};
+ghost use Rattle.clap_debug_show_cli.specs.Shown.{IsShown, IsStory, IsTold, begins_as_log};
 ghost use Rattle.clap_debug_show_cli.specs.declared.answer.Answer.TheVariants.{OtherProgram, Over};
 ghost use Rattle.clap_debug_show_cli.specs.helpers.Refused.{IsWhyNoStory, IsWhyNotShown};
 
 use crate::answer::Answer;
 use crate::limits::What;
-use path_log::{Log, program_digest, read_log};
+use path_log::{Log, read_log};
 use path_walk::{Paths, walk};
 use schedule_file::{Schedule, read_schedule};
 use show_names::Names;
@@ -125,14 +126,15 @@ fn log_story<'a>(
     Ok(Story::Ways(log, paths))
 }
 
-/// Refuses a log of another program. One of format 1 may be of any.
+/// Refuses a log of another program.
 fn check_program<'a>(program: &[u8], log: &Log) -> Result<(), Answer<'a>>
     ensures same { OnOk result (IsOfOther program.now log.now → ⊥) }
     ensures other { IfErr result (λ a. (a ≡ OtherProgram) × IsOfOther program.now log.now) }
 {
-    match log.digest() {
-        Some(digest) if *digest != program_digest(program) => Err(Answer::OtherProgram),
-        _ => Ok(()),
+    if log.is_of_other(program) {
+        Err(Answer::OtherProgram)
+    } else {
+        Ok(())
     }
 }
 

@@ -12,7 +12,7 @@ use Rattle.tc_base.specs.declared.failing.Failing.{Failing}
 use Rattle.tc_base.specs.declared.failing.Failing.TheVariants.{Thread, Deadlock}
 use Rattle.tc_base.specs.declared.model.Model.{Model}
 use Rattle.tc_base.specs.declared.model.Model.TheVariants.{Sc, Tso, Pso}
-use Rattle.path_log.specs.Texts.{StoredLog, AreBytes, HasText, is_log, is_digest, is_thread, is_there, has_ending, is_within, rises_from}
+use Rattle.path_log.specs.Texts.{StoredLog, AreBytes, HasText, IsLog, is_log, is_digest, is_thread, is_there, has_ending, is_within, rises_from}
 use Rattle.path_log.specs.Texts.{thread_text, model_code, head_text, ending_code, log_text}
 use Rattle.path_log.specs.Fields.{Place, done, behind, ◌such◌, ◌>>=◌, field, byte, two, model_of, model, digest_in, head, ending_of, ending, threads}
 use Rattle.path_log.specs.Fields.{body, ended, whole}
@@ -299,7 +299,7 @@ body_again s rest offset h =
 
 -- Whole texts.
 
-pub whole_takes : (text : List ℕ) (x : StoredLog × Place) → AreBytes text → whole (0, text) ≡ Ok x → HasText x.0 × (text ≡ log_text x.0)
+pub whole_takes : (text : List ℕ) (x : StoredLog × Place) → AreBytes text → whole (0, text) ≡ Ok x → IsLog text x.0
 unfolding whole
 whole_takes text x h e =
     let a = behind_ok (body (0, text)) (λ s. ended >>= λ _. done s) x e in
@@ -308,7 +308,7 @@ whole_takes text x h e =
     let t = body_takes (0, text) a.0 h a.1 in
     let nothing : a.0.1.1 ≡ [] = nil_from_length a.0.1.1 (eqb-true _ _ g.0) in
     let all : text ≡ log_text a.0.0 = t.0.parts ∙ (ap (λ (r : List ℕ). log_text a.0.0 ++ r) nothing ∙ append-nil (log_text a.0.0)) in
-    subst (λ (y : StoredLog × Place). HasText y.0 × (text ≡ log_text y.0)) (read_is (a.0.0, b.0.1) x b.2) (t.1, all)
+    subst (λ (y : StoredLog × Place). IsLog text y.0) (read_is (a.0.0, b.0.1) x b.2) (record { has_text = t.1; text = all })
 
 pub whole_again : (s : StoredLog) → HasText s → ReadsAs (whole (0, log_text s)) s []
 unfolding whole
@@ -322,11 +322,12 @@ whole_again s h =
 
 -- The laws.
 
-pub one_log : (this that : StoredLog) → HasText this → HasText that → log_text this ≡ log_text that → this ≡ that
-one_log this that h k e =
-    let a = whole_again this h in
-    let b = whole_again that k in
-    let same = read_is (this, (a.end, [])) (that, (b.end, [])) (sym a.read_is ∙ (ap (λ (x : List ℕ). whole (0, x)) e ∙ b.read_is)) in
+pub one_log : (text : List ℕ) (this that : StoredLog) → IsLog text this → IsLog text that → this ≡ that
+one_log text this that h k =
+    let a = whole_again this h.has_text in
+    let b = whole_again that k.has_text in
+    let same = read_is (this, (a.end, [])) (that, (b.end, []))
+    (sym a.read_is ∙ (ap (λ (x : List ℕ). whole (0, x)) (sym h.text ∙ k.text) ∙ b.read_is)) in
     ap (λ (x : StoredLog × Place). x.0) same
 
 pub whole_text : (this that : StoredLog) (more : List ℕ) → HasText this → HasText that → log_text this ++ more ≡ log_text that → more ≡ []
@@ -337,27 +338,28 @@ whole_text this that more h k e =
     (sym a.read_is ∙ (ap (λ (x : List ℕ). body (0, x)) (e ∙ sym (append-nil (log_text that))) ∙ b.read_is)) in
     ap (λ (x : StoredLog × Place). x.1.1) same
 
-some_fault_of : (text : List ℕ) (read : Read StoredLog) → whole (0, text) ≡ read → AreBytes text
-    → ((log : StoredLog) → HasText log → text ≡ log_text log → ⊥) → (offset : ℕ) × BreaksAt text offset
-some_fault_of text (Ok x) e h none = absurd (let t = whole_takes text x h e in none x.0 t.0 t.1)
+some_fault_of : (text : List ℕ) (read : Read StoredLog) → whole (0, text) ≡ read → AreBytes text → ((log : StoredLog) → IsLog text log → ⊥)
+    → (offset : ℕ) × BreaksAt text offset
+some_fault_of text (Ok x) e h none = absurd (none x.0 (whole_takes text x h e))
 some_fault_of text (Err offset) e h none = (offset, e)
 
-pub some_fault : (text : List ℕ) → AreBytes text → ((log : StoredLog) → HasText log → text ≡ log_text log → ⊥) → (offset : ℕ) × BreaksAt text offset
+pub some_fault : (text : List ℕ) → AreBytes text → ((log : StoredLog) → IsLog text log → ⊥) → (offset : ℕ) × BreaksAt text offset
 some_fault text h none = some_fault_of text (whole (0, text)) refl h none
 
 pub one_fault : (text : List ℕ) (this that : ℕ) → BreaksAt text this → BreaksAt text that → this ≡ that
 one_fault text this that h k = let same = sym h ∙ k in cc
 
-pub no_fault : (log : StoredLog) (offset : ℕ) → HasText log → BreaksAt (log_text log) offset → ⊥
-no_fault log offset h k = let a = whole_again log h in let same = sym a.read_is ∙ k in cc
+pub log_or_fault : (text : List ℕ) (log : StoredLog) (offset : ℕ) → IsLog text log → BreaksAt text offset → ⊥
+log_or_fault text log offset h breaks =
+    let a = whole_again log h.has_text in
+    let same = sym a.read_is ∙ subst (λ (t : List ℕ). BreaksAt t offset) h.text breaks in
+    cc
 
 -- The reader's answers at a log's text.
 
-pub only_memory : (fault : LogFault) (text : List ℕ) → Fails fault (whole (0, text)) → (s : StoredLog) → HasText s → text ≡ log_text s → fault ≡ Memory
-only_memory Memory text h s has e = refl
-only_memory (Form offset) text h s has e = absurd (no_fault s offset has (subst (λ (t : List ℕ). BreaksAt t offset) e h))
+pub only_memory : (fault : LogFault) (text : List ℕ) → Fails fault (whole (0, text)) → (s : StoredLog) → IsLog text s → fault ≡ Memory
+only_memory Memory text h s is = refl
+only_memory (Form offset) text h s is = absurd (log_or_fault text s offset is h)
 
-pub same_log : (text : List ℕ) (x : StoredLog × Place) → AreBytes text → whole (0, text) ≡ Ok x → (s : StoredLog) → HasText s → text ≡ log_text s → x.0 ≡ s
-same_log text x h e s has is =
-    let t = whole_takes text x h e in
-    one_log x.0 s t.0 has (sym t.1 ∙ is)
+pub same_log : (text : List ℕ) (x : StoredLog × Place) → AreBytes text → whole (0, text) ≡ Ok x → (s : StoredLog) → IsLog text s → x.0 ≡ s
+same_log text x h e s is = one_log text x.0 s (whole_takes text x h e) is

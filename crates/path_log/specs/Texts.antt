@@ -1,11 +1,12 @@
 -- Logs as files hold them, and the text of each.
-use Rattle.std.specs.Prelude.{ℕ, zero, suc, ◌+◌, ◌/◌, ◌^◌, ◌<◌, Bool, true, false, ◌&&◌, nat_le, nat_lt, ◌==◌, if◌then◌else◌, IsTrue, IfSome}
-use Rattle.std.specs.Prelude.{List, [], ◌∷◌, ◌++◌, length, drop, slice_index, Option, Some, None, is_some, codes}
+use Rattle.std.specs.Prelude.{◌≡◌, ◌≢◌, ℕ, zero, suc, ◌+◌, ◌/◌, ◌^◌, ◌<◌, Bool, true, false, ◌&&◌, nat_le, nat_lt, ◌==◌, if◌then◌else◌, IsTrue, IfSome}
+use Rattle.std.specs.Prelude.{List, [], ◌∷◌, ◌++◌, length, drop, slice_index, Option, Some, None, is_some, codes, IsSomeAnd}
 use Rattle.std.specs.List.{flat_map, list_all}
 use Rattle.std.specs.Bool.{beq}
 use Rattle.std.specs.Ordering.{is_lt, nat_cmp}
 use Rattle.std.specs.Cmp.Lexicographic.{slice_cmp}
 use Rattle.byteorder.specs.Endian.{big_bytes}
+use Rattle.sha2.specs.Sha256.{sha256}
 use Rattle.tc_base.specs.Names.{Name}
 use Rattle.tc_base.specs.Logs.{Log, ThreadPath}
 use Rattle.tc_base.specs.declared.failing.Failing.{Failing}
@@ -137,3 +138,12 @@ pub record HasText (s : StoredLog) : Type 0 where
   pub is_of_format : IsTrue (is_of_format s.log)
   pub has_ending : IsTrue (has_ending (is_some s.digest) s.log.failing)
   pub is_digest : IfSome s.digest (λ digest. IsTrue (is_digest digest))
+
+-- the bytes are the log's
+pub record IsLog (bytes : List ℕ) (log : StoredLog) : Type 0 where
+  pub has_text : HasText log
+  pub text : bytes ≡ log_text log
+
+-- the log has the digest of a program, and it isn't this one's
+abbrev pub IsOfOther : (program : List ℕ) → StoredLog → Type 0
+IsOfOther program log = IsSomeAnd log.digest (λ digest. digest ≢ sha256 program)

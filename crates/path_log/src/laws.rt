@@ -1,18 +1,17 @@
 //! Laws of the texts of logs. They do nothing when they run.
 ghost use Rattle.std.specs.Prelude.{◌≡◌, ◌++◌, ℕ, List, []};
-ghost use Rattle.path_log.specs.Texts.{StoredLog, HasText, AreBytes, log_text};
+ghost use Rattle.path_log.specs.Texts.{StoredLog, HasText, IsLog, AreBytes, log_text};
 ghost use Rattle.path_log.specs.Faults.{BreaksAt};
 
 /// A text is that of one log at most, and no log's text begins another's.
 pub fn logs_are_one()
-    ensures one { (this that : StoredLog) → HasText this → HasText that → log_text this ≡ log_text that → this ≡ that }
+    ensures one { (text : List ℕ) (this that : StoredLog) → IsLog text this → IsLog text that → this ≡ that }
     ensures whole { (this that : StoredLog) (more : List ℕ) → HasText this → HasText that → log_text this ++ more ≡ log_text that → more ≡ [] }
 {}
 
 /// Bytes that are no log break the form at exactly one offset, and those of a log at none.
 pub fn faults_are_one()
-    ensures some { (text : List ℕ) → AreBytes text → ((log : StoredLog) → HasText log → text ≡ log_text log → ⊥)
-        → (offset : ℕ) × BreaksAt text offset }
+    ensures some { (text : List ℕ) → AreBytes text → ((log : StoredLog) → IsLog text log → ⊥) → (offset : ℕ) × BreaksAt text offset }
     ensures one { (text : List ℕ) (this that : ℕ) → BreaksAt text this → BreaksAt text that → this ≡ that }
-    ensures none { (log : StoredLog) (offset : ℕ) → HasText log → BreaksAt (log_text log) offset → ⊥ }
+    ensures none { (text : List ℕ) (log : StoredLog) (offset : ℕ) → IsLog text log → BreaksAt text offset → ⊥ }
 {}

@@ -1,9 +1,10 @@
 //! Logs.
-ghost use Rattle.std.specs.Prelude.{◌≡◌, ◌^◌, ◌&&◌, nat_le, nat_lt, length, is_some, IsTrue, Some, option_map};
+ghost use Rattle.std.specs.Prelude.{◌≡◌, ◌^◌, ◌&&◌, true, false, nat_le, nat_lt, length, is_some, IsTrue, Some, option_map};
 ghost use Rattle.std.specs.List.{list_all};
-ghost use Rattle.tc_base.specs.Logs.{Log as PlainLog, failing_of};
-ghost use Rattle.path_log.specs.Texts.{is_digest, is_log, is_of_format, has_ending, is_thread, is_within};
+ghost use Rattle.tc_base.specs.Logs.{failing_of};
+ghost use Rattle.path_log.specs.Texts.{IsOfOther, is_digest, is_log, is_of_format, has_ending, is_thread, is_within};
 
+use crate::digest::program_digest;
 use std::marker::Model;
 use tc_base::{Failing, ThreadName};
 
@@ -149,6 +150,17 @@ impl Log {
         ensures { option_map (λ d. d.now) result ≡ self.now.digest }
     {
         self.digest.as_ref()
+    }
+
+    /// Whether it was recorded of another program. A log of format 1, which has no digest, may be of any.
+    pub fn is_of_other(&self, program: &[u8]) -> bool
+        ensures other { result ≡ true → IsOfOther program.now self.now }
+        ensures same { result ≡ false → IsOfOther program.now self.now → ⊥ }
+    {
+        match self.digest() {
+            Some(digest) => *digest != program_digest(program),
+            None => false,
+        }
     }
 
     /// The memory model under which the log was recorded.

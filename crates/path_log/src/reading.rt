@@ -1,6 +1,6 @@
 //! From a text to its log.
-ghost use Rattle.std.specs.Prelude.{◌≡◌, ◌<◌, IsTrue, IfOk, IfErr, MatchResult};
-ghost use Rattle.path_log.specs.Texts.{StoredLog, HasText, log_text};
+ghost use Rattle.std.specs.Prelude.{◌≡◌, ◌<◌, IfOk, IfErr, MatchResult};
+ghost use Rattle.path_log.specs.Texts.{StoredLog, IsLog};
 ghost use Rattle.path_log.specs.Faults.{IsFault};
 ghost use Rattle.path_log.specs.Fields as fields;
 ghost use Rattle.path_log.specs.helpers.Reading.{Gives, place, seen};
@@ -18,11 +18,9 @@ use tc_base::{Failing, Model};
 /// A text either is that of one log or has one offset at which it breaks the form of a log, so the answer is the
 /// only one that there is, but for `Memory` where there is none. The time grows linearly with the text and the outcomes.
 pub fn read_log(alloc: Global, text: &[u8]) -> Result<Log, LogFault>
-    ensures has_text { IfOk result (λ log. HasText log) }
-    ensures found { IfOk result (λ log. text.now ≡ log_text log) }
-    ensures refused { IfErr result (λ fault. IsFault text.now fault) }
-    ensures again { (s : StoredLog) → HasText s → text.now ≡ log_text s
-        → MatchResult result (λ log. log ≡ s) (λ fault. fault ≡ LogFault.Memory) }
+    ensures found { IfOk result (IsLog text.now) }
+    ensures refused { IfErr result (IsFault text.now) }
+    ensures again { (s : StoredLog) → IsLog text.now s → MatchResult result (λ log. log ≡ s) (λ fault. fault ≡ LogFault.Memory) }
 {
     let (log, _) = whole(alloc, Cursor { at: 0, rest: text })?;
     Ok(log)

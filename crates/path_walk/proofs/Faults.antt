@@ -3,13 +3,18 @@ use Rattle.std.proofs.Common.{◌≡◌, ◌∙◌, ◌⊎◌, inl, inr, ℕ, ze
 use Rattle.std.proofs.Common.{IsSome, Option, Some, None, Err, refl, sym, ap, subst, append_assoc, append-nil, true≢false}
 use Rattle.std.specs.Prelude.{is_some, option_and_then, slice_get}
 use Rattle.std.specs.Option.{option_map_or}
+use Rattle.std.specs.Ordering.{is_lt}
 use Rattle.std.specs.Result.{result_err, result_unwrap_or}
-use Rattle.std.proofs.lemmas.Option.{none-some}
-use Rattle.tc_base.specs.Names.{Name, child}
+use Rattle.std.specs.declared.cmp.Ordering.{Ordering}
+use Rattle.std.specs.declared.cmp.Ordering.TheVariants.{Less, Equal, Greater}
+use Rattle.std.proofs.lemmas.Option.{none-some, same_Some}
+use Rattle.tc_base.specs.Names.{Name, by_name, child}
 use Rattle.tc_base.specs.Logs.{Log, Path, path_under}
+use Rattle.tc_base.proofs.Names.{same_name, turned}
 use Rattle.tc_code.specs.Code.{Code}
 use Rattle.path_walk.specs.Steps.{steps_at, places_of}
-use Rattle.path_walk.specs.Fits.{started, ending_of, walked, child_function, function_below, function_of, unless_absent, misfit_of}
+use Rattle.path_walk.specs.Fits.{IsFirst, started, ending_of, walked, child_function, function_below, function_of, unless_absent, misfit_of}
+use Rattle.path_walk.specs.declared.fault.Misfit.{Misfit}
 use Rattle.path_walk.specs.declared.fault.Misfit.TheVariants as misfit
 
 -- what an option is
@@ -90,3 +95,14 @@ module _ (code : Code) (log : Log) where
         | inl none ↦ absurd (none-some misfit.Stranger (sym fits ∙ stranger n p none here))
         | inr is ↦ is
       ]
+
+  -- the least name that has a fault is one name, with one fault
+  pub one_first : (n q : Name) (m k : Misfit) → IsFirst code log n m → IsFirst code log q k → (n ≡ q) × (m ≡ k)
+  one_first n q m k f g = by (by_name n q) refl
+    where
+      by : (o : Ordering) → by_name n q ≡ o → (n ≡ q) × (m ≡ k)
+      by Less is = absurd (none-some m (sym (g.least n (ap is_lt is)) ∙ f.there))
+      by Equal is =
+          let name = same_name n q is in
+          (name, same_Some m k (sym f.there ∙ ap (misfit_of code log) name ∙ g.there))
+      by Greater is = absurd (none-some k (sym (f.least q (ap is_lt (turned n q is))) ∙ g.there))

@@ -1,7 +1,7 @@
 -- A refutation that is read: what its lines so far were taken as, and what is made of them.
 use Rattle.std.specs.Prelude.{◌≡◌, ℕ, ◌≤◌, Bool, false, List, [], Option, Some, None, is_some, fold, Ok, Err, ⊤}
 use Rattle.tc_code.specs.Code.{Code}
-use Rattle.path_log.specs.Texts.{StoredLog}
+use Rattle.path_log.specs.Texts.{StoredLog, IsOfOther}
 use Rattle.tc_io.specs.Outside.{ShelfTells, GaveReading, FailedReading}
 use Rattle.refute_check.specs.Laws.{whole_lines}
 use Rattle.refute_check.specs.Reading.{Reading, Reads, beginning, first_breach}
@@ -16,7 +16,6 @@ use Rattle.refute_check.specs.declared.text.Taken.TheVariants.{Header}
 use Rattle.clap_solve.specs.Solved.{IsWithin}
 use Rattle.clap_debug_cli.specs.Causes.{HeldStill, IsCheckAnswer, IsLimitAnswer, IsStoredAnswer}
 use Rattle.clap_debug_cli.specs.Checked.{IsOfLine, head_clauses, shown}
-use Rattle.clap_debug_cli.specs.Files.{IsOfOther}
 use Rattle.clap_debug_cli.specs.helpers.Refused.{Refuses as IsRefused}
 use Rattle.clap_debug_cli.specs.declared.answer.Answer.{Answer}
 use Rattle.clap_debug_cli.specs.declared.answer.Answer.TheVariants.{ReadFault, LogRefused, LogOver, LineRefused, NoMemory}

@@ -1,7 +1,7 @@
 -- Answers in place of a result: why a file can't be had, why there is nothing to keep, and why it isn't kept.
 use Rattle.std.specs.Prelude.{◌≡◌, ℕ, List, Result, MatchResult}
 use Rattle.path_log.specs.Faults.{BreaksAt}
-use Rattle.path_log.specs.Texts.{StoredLog}
+use Rattle.path_log.specs.Texts.{StoredLog, IsOfOther}
 use Rattle.tc_code.specs.Code.{Code}
 use Rattle.tc_compile.specs.Programs.{IsCodeOf, IsRefusal}
 use Rattle.tc_io.specs.Outside.{ShelfTells, KeptPart, closed}
@@ -11,7 +11,7 @@ use Rattle.path_walk.specs.declared.fault.WalkFault.TheVariants as walk
 use Rattle.clap_system.specs.Faults.{IsBuildFault, limit_of}
 use Rattle.clap_system.specs.declared.fault.BuildFault.TheVariants as build
 use Rattle.clap_debug_cli.specs.Causes.{HeldStill}
-use Rattle.clap_debug_cli.specs.Files.{IsBrokenAt, IsOfOther}
+use Rattle.clap_debug_cli.specs.Files.{IsBrokenAt}
 use Rattle.clap_debug_cli.specs.Inputs.{Wanted, FailedInput, PassedLimit, name_of}
 use Rattle.clap_debug_cli.specs.Recorded.{HasEnded}
 use Rattle.clap_debug_cli.specs.declared.answer.Answer.{Answer}

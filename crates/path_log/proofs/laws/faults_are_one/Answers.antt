@@ -1,4 +1,4 @@
-use Rattle.path_log.proofs.Logs.{some_fault, one_fault, no_fault}
+use Rattle.path_log.proofs.Logs.{some_fault, one_fault, log_or_fault}
 use Rattle.path_log.proofs.laws.faults_are_one.Goals as goal
 
 pub returns-clause-some : goal.returns-clause-some
@@ -8,4 +8,4 @@ pub returns-clause-one : goal.returns-clause-one
 returns-clause-one c = one_fault
 
 pub returns-clause-none : goal.returns-clause-none
-returns-clause-none c = no_fault
+returns-clause-none c = log_or_fault
