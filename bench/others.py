@@ -1,13 +1,14 @@
 #!/usr/bin/env python3
 """Gives the clauses of logs to other solvers, and what they say back to the program: a row of docs/PERFORMANCE.md for each.
 
-  others.py [--models sc,tso,pso] [--seconds N] [--spoil N] FOLDER..
+  others.py [--models sc,tso,pso] [--seconds N] [--spoil N] [--false-first] FOLDER..
 
 runs out/clap_debug over each NAME.tc with its NAME.log in the folders, under the log's model where none is given, and both solvers, each
 for at most so many processor seconds, 120 where no number is given. Where cadical finds an answer, its own and minisat's are imported
 and the schedules replayed. Where it finds none, its proof goes through tools/refutation.py, and the refutation is checked. Each proof
 is also spoilt N times at random, a line cut or a literal turned, and given to each model under which the log has a schedule: there
-nothing may be accepted. Ends with 1 where something isn't so.
+nothing may be accepted. With --false-first our own search gets the same list too, in crates/test_solver/out/test_solver: it tries the
+value false first, reads the list and checks what it finds. Ends with 1 where something isn't so.
 """
 import argparse
 import glob
@@ -26,14 +27,13 @@ import machine
 TOP = os.path.dirname(os.path.dirname(os.path.abspath(__file__)))
 
 
-
 class Ran:
     """What some words print, their status and their processor seconds, which have a limit."""
 
-    def __init__(self, limit, *words):
+    def __init__(self, limit, *words, stdin=None):
         most = math.ceil(limit)
         before = used()
-        ran = subprocess.run(words, stdout=subprocess.PIPE, stderr=subprocess.DEVNULL, check=False,
+        ran = subprocess.run(words, stdin=stdin, stdout=subprocess.PIPE, stderr=subprocess.DEVNULL, check=False,
                              preexec_fn=lambda: resource.setrlimit(resource.RLIMIT_CPU, (most, most)))
         self.seconds = used() - before
         self.text, self.status = ran.stdout.decode(), ran.returncode
@@ -65,6 +65,13 @@ class Log:
 
     def clap(self, command, *files):
         return self.run(f"{TOP}/out/clap_debug", command, self.program, self.log, *files, "--model", self.model)
+
+    def false_first(self):
+        """Our search of the list, which tries false first."""
+        with open(self.answer, "wb") as row:
+            subprocess.run([sys.executable, f"{TOP}/bench/rows.py", self.list], stdout=row, check=True)
+        with open(self.answer, "rb") as row:
+            return Ran(self.limit, f"{TOP}/crates/test_solver/out/test_solver", stdin=row)
 
     def refute(self, proof, out):
         return self.run(sys.executable, f"{TOP}/tools/refutation.py", "drat", self.list, proof, self.model, out)
@@ -142,11 +149,12 @@ def main():
     parser.add_argument("--models")
     parser.add_argument("--seconds", type=float, default=120)
     parser.add_argument("--spoil", type=int, default=0)
+    parser.add_argument("--false-first", action="store_true")
     parser.add_argument("folders", nargs="+")
     given = parser.parse_args()
     chance, wrong, tried = random.Random(0), 0, 0
-    print("| log | model | clauses | solve | cadical | minisat | answer, or refutation | tool | check | what came |")
-    print("|---|---|---|---|---|---|---|---|---|---|")
+    print("| log | model | clauses | solve | false first | cadical | minisat | answer, or refutation | tool | check | what came |")
+    print("|---|---|---|---|---|---|---|---|---|---|---|")
     for program in sorted(it for folder in given.folders for it in glob.glob(f"{folder}/*.tc")):
         log = program[:-3] + ".log"
         if not os.path.exists(log):
@@ -166,7 +174,8 @@ def main():
                     bad += it.solved.status != (0 if is_possible else 1) and it.solved.status in (0, 1)
                 wrong += bad
                 clauses = it.cnf.line.split()[-2] if it.cnf.status == 0 else it.cnf.line
-                print(f"| {name} | {model} | {clauses} | {it.solved.told} | {it.cadical.told} | {it.minisat.told} | {row} |", flush=True)
+                plain = it.false_first().told if given.false_first else ""
+                print(f"| {name} | {model} | {clauses} | {it.solved.told} | {plain} | {it.cadical.told} | {it.minisat.told} | {row} |", flush=True)
             tried += len(logs[True]) * len(logs[False]) * (given.spoil + 1)
             wrong += try_spoilt(chance, given.spoil, logs[True], logs[False])
     print(f"\n{tried} proofs of other models tried at logs that have a schedule; {wrong} answers that may not be")
