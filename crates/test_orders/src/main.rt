@@ -9,6 +9,7 @@
 //!   log : a program; whether the formula is true in this world, `lawful` or `unlawful`;
 //! - `verdict`: a model : a log : a program; whether a search over the clauses of the formula finds values, `possible` or
 //!   `impossible`; the world that they tell has to be lawful;
+//! - `learnt`: the same; the verdict of a search that tries false first, and how many clauses it learns;
 //! - `fewest`: the same; how many moves and switches a schedule has that has the fewest switches, or `impossible`; a derivation that
 //!   none has fewer is checked;
 //! - `formula`: the same; how many events, loads and conjuncts there are;
@@ -36,6 +37,7 @@ impl Parts for Tried {
         match part {
             "world" => worlds::judged(alloc, given),
             "verdict" => verdicts::verdict(alloc, given),
+            "learnt" => verdicts::learnt(alloc, given),
             "fewest" => fewest::fewest(alloc, given),
             "formula" => sizes::formula(alloc, given),
             "clauses" => sizes::clauses(alloc, given),

@@ -2,7 +2,7 @@
 use crate::given::{split, system};
 use anyhow::{Result, bail};
 use bit_blast::{Blasted, blast};
-use cdcl_core::{Solved, solve_cnf};
+use cdcl_core::{Progress, Search, Solved, solve_cnf};
 use clap_system::System;
 use order_formula::World;
 use std::alloc::{AllocError, Global};
@@ -19,6 +19,19 @@ pub(crate) fn verdict(alloc: Global, given: &str) -> Result<String> {
         Some(world) => possible(alloc, model, given, &world)?,
     };
     Ok(String::from_str(alloc, answer)?)
+}
+
+/// What a search comes to that tries false first, and how many clauses it learns.
+pub(crate) fn learnt(alloc: Global, given: &str) -> Result<String> {
+    let (model, given) = split(given)?;
+    let blasted = blasted(alloc, system(alloc, model, given)?)?;
+    let mut search = Search::new(alloc, blasted.clauses(), &[])?;
+    let answer = match search.run(alloc, BUDGET)? {
+        Progress::Sat(_) => "possible",
+        Progress::Closed => "impossible",
+        Progress::Paused => bail!("the budget is spent"),
+    };
+    Ok(format!(in alloc; "{answer}, {} learnt", search.added())?)
 }
 
 /// A world that is told by values which satisfy the clauses, if there is one.
