@@ -16,6 +16,7 @@ import functools
 import glob
 import math
 import os
+import re
 import resource
 import signal
 import subprocess
@@ -74,7 +75,8 @@ def learnt(is_found):
 def of_false_first(seconds, program, log, model):
     """What a search comes to that tries false first: seconds, megabytes, and how many clauses it learns."""
     with open(program, encoding="ascii") as text, open(log, "rb") as bytes_:
-        row = f"group a log\nlearnt {model} : {bytes_.read().hex()} : {' '.join(text.read().split())} => ?\n"
+        words = re.sub(r"//[^\n]*|/\*.*?\*/", " ", text.read(), flags=re.DOTALL).split()
+        row = f"group a log\nlearnt {model} : {bytes_.read().hex()} : {' '.join(words)} => ?\n"
     ran = run(seconds, f"{TOP}/crates/test_orders/out/test_orders", row=row.encode())
     if ran is None:
         return None, [f"more than {seconds:.0f} s", "", ""]
