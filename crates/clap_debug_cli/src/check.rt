@@ -127,18 +127,9 @@ fn read<'a, H: Shelf>(
         × IsRead task.now.program.now task.now.code task.now.log incoming bytes) }
     ensures missing { IfErr result (IsWhyMissing (InPieces name.now) (H.tells shelf.old) (H.tells shelf.new)) }
 {
-    open(alloc, shelf, name)?;
     let mut incoming = Incoming::new(alloc);
-    let mut piece = [0u8; PIECE];
-    for _turn in 0..u64::MAX {
-        match shelf.piece(&mut piece) {
-            Ok(0) => return Ok(incoming),
-            Ok(count) => incoming.take(alloc, task, &piece[..count])?,
-            Err(PieceFault::Failed) => return Err(Answer::ReadFault(FileName::new(name))),
-        }
-    }
-    // There is no memory that has so many pieces.
-    Err(Answer::NoMemory)
+    incoming.read(alloc, shelf, name, task)?;
+    Ok(incoming)
 }
 
 impl<'a> Incoming<'a> {
@@ -151,6 +142,33 @@ impl<'a> Incoming<'a> {
             text: RefutationText::new(alloc),
             stage: Stage::Begins,
         }
+    }
+
+    /// Reads the refutation to its end.
+    fn read<H: Shelf>(
+        &mut self,
+        alloc: Global,
+        shelf: &mut H,
+        name: &'a str,
+        task: &Task,
+    ) -> Result<(), Answer<'a>>
+        requires text { self.old.text ≡ beginning }
+        requires stage { self.old.stage ≡ Begins }
+        ensures gave { OnOk result ((bytes : List ℕ) × GaveReading (H.tells shelf.old) (H.tells shelf.new) name.now bytes
+            × IsRead task.now.program.now task.now.code task.now.log self.new bytes) }
+        ensures missing { IfErr result (IsWhyMissing (InPieces name.now) (H.tells shelf.old) (H.tells shelf.new)) }
+    {
+        open(alloc, shelf, name)?;
+        let mut piece = [0u8; PIECE];
+        for _turn in 0..u64::MAX {
+            match shelf.piece(&mut piece) {
+                Ok(0) => return Ok(()),
+                Ok(count) => self.take(alloc, task, &piece[..count])?,
+                Err(PieceFault::Failed) => return Err(Answer::ReadFault(FileName::new(name))),
+            }
+        }
+        // There is no memory that has so many pieces.
+        Err(Answer::NoMemory)
     }
 
     /// Takes the next bytes.

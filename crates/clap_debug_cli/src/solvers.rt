@@ -21,6 +21,7 @@ use dimacs_text::{Literals, read_answer, write_cnf};
 use path_log::Log;
 use schedule_file::{Schedule, write_schedule};
 use std::alloc::Global;
+use std::mem::drop;
 use store_buffers::{PsoModel, Sc, TsoModel};
 use tc_base::Model;
 use tc_code::Code;
@@ -75,7 +76,9 @@ pub(crate) fn imported<'a>(
     let literals = read_answer(alloc, answer)?;
     of_program(program, &log)?;
     let model = model.unwrap_or(log.model());
-    match taken_under(alloc, &code, &log, &literals, model)? {
+    let taken = taken_under(alloc, &code, &log, &literals, model);
+    drop((code, log, literals));
+    match taken? {
         Imported::Found(schedule) => {
             let text = write_schedule(alloc, &schedule)?;
             Ok((schedule, text))

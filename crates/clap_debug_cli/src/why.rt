@@ -21,6 +21,7 @@ use clap_solve::CheckImpossibleFault;
 use path_log::Log;
 use refute_check::{Derivation, Head, RefutationFault, RefutationText, Taken, read_refutation};
 use std::alloc::{AllocError, Global};
+use std::mem::drop;
 use store_buffers::{PsoModel, Sc, TsoModel};
 use tc_base::Model;
 use tc_code::Code;
@@ -40,7 +41,9 @@ pub(crate) fn explain<'a>(
     let (code, log) = read_both(alloc, program, log)?;
     let (model, derivation) = read_derivation(alloc, refutation)?;
     of_program(program, &log)?;
-    match why_under(alloc, &code, &log, &derivation, model)? {
+    let explained = why_under(alloc, &code, &log, &derivation, model);
+    drop((code, log, derivation));
+    match explained? {
         Explained::Closed(reasons) => Ok(reasons),
         Explained::Open => Err(Answer::Accepted(Shown::Open)),
     }

@@ -2,7 +2,7 @@
 #![tactic(auto)]
 
 ghost use Rattle.std.specs.Prelude.{◌≡◌, ◌≤◌, List, Some, true, false, map, codes, IfOk, IsSomeAnd, option_map, string_bytes};
-ghost use Rattle.clap.specs.Words.{app_of, found_of, rows_of, rule_of, shape_of, subcommand_of, subcommand_rows_of, Text};
+ghost use Rattle.clap.specs.Words.{app_of, found_of, rows_of, rule_of, shape_of, subcommand_of, subcommand_rows_of, with_subcommand, Shape, Text};
 ghost use Rattle.clap_debug_words.specs.CommandLine as spec;
 ghost use Rattle.clap_debug_words.specs.CommandLine.{AreModelNames, command_line, words_taken};
 ghost use Rattle.clap_debug_words.specs.Calls.{plain_call, called, searched, call_of, text_of, model_in, model_of, written_model, number_of, seed_of, steps_of, budget_of, workers_of, within};
@@ -344,17 +344,28 @@ fn text<'a>(matches: &ArgMatches<'a>, id: &str) -> &'a str
 fn command_line<'a>(alloc: Global, names: &'a [&'a str]) -> Result<Command<'a>, AllocError>
     ensures { IfOk result (λ command. app_of command ≡ spec.command_line_at names.entry) }
 {
-    commands(Command::new(alloc, "clap_debug"))
-        .subcommand(list(alloc)?)?
-        .subcommand(replay(alloc)?)?
-        .subcommand(recording(alloc, names)?)?
-        .subcommand(migration(alloc)?)?
-        .subcommand(solving(alloc, names)?)?
-        .subcommand(checking(alloc)?)?
-        .subcommand(workload(alloc)?)?
-        .subcommand(cnf(alloc, names)?)?
-        .subcommand(import(alloc, names)?)?
-        .subcommand(why(alloc)?)
+    let command = commands(Command::new(alloc, "clap_debug"));
+    let command = add_command(command, list(alloc))?;
+    let command = add_command(command, replay(alloc))?;
+    let command = add_command(command, recording(alloc, names))?;
+    let command = add_command(command, migration(alloc))?;
+    let command = add_command(command, solving(alloc, names))?;
+    let command = add_command(command, checking(alloc))?;
+    let command = add_command(command, workload(alloc))?;
+    let command = add_command(command, cnf(alloc, names))?;
+    let command = add_command(command, import(alloc, names))?;
+    add_command(command, why(alloc))
+}
+
+/// The command, with this subcommand.
+fn add_command<'a>(
+    command: Command<'a>,
+    subcommand: Result<Command<'a>, AllocError>,
+) -> Result<Command<'a>, AllocError>
+    ensures { (shape : Shape) → shape.is_plain ≡ true → IfOk subcommand.entry (λ s. shape_of s ≡ shape)
+        → IfOk result (λ whole. app_of whole ≡ with_subcommand (app_of command.entry) shape) }
+{
+    command.subcommand(subcommand?)
 }
 
 /// The command, where it wants a subcommand and knows no help.

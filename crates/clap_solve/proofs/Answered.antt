@@ -34,8 +34,8 @@ searched buffered bound code log posed budget (solved.Sat values) given by some 
     given = given;
     posed = by;
     variables = some;
-    all = omega (arith, solution.all, ap (λ (q : Posed). q.blasted.clauses.vars) by);
   };
+  all = omega (arith, solution.all, ap (λ (q : Posed). q.blasted.clauses.vars) by);
   satisfies = own_satisfied (posed_of buffered bound code log) posed (value_in values) (sym by) solution.satisfies;
 }
 searched buffered bound code log posed budget (solved.Unsat lines) given by some unsat = tt

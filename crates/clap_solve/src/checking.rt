@@ -28,8 +28,8 @@ pub fn check_start<M: MemoryModel>(
     ensures within { OnOk result (IsWithin code.now log.now.log) }
     ensures err { IfErr result (IsBuildFault code.now log.now.log) }
 {
-    let posed = pose::<M>(alloc, code, log)?;
-    Ok(Checker::new(alloc, posed.clauses())?)
+    let clauses = pose::<M>(alloc, code, log)?.into_clauses();
+    Ok(Checker::new(alloc, &clauses)?)
 }
 
 /// What a whole derivation shows over the clauses of a log, whoever made it.
@@ -44,6 +44,6 @@ pub fn check_impossible<M: MemoryModel>(
     ensures impossible { result ≡ Ok Closed → IsImpossible M.ops code.now log.now.log }
     ensures err { IfErr result (IsCheckImpossibleFault M.BUFFERED M.bound code.now log.now.log derivation.now) }
 {
-    let posed = pose::<M>(alloc, code, log)?;
-    Ok(check(alloc, posed.clauses(), derivation)?)
+    let clauses = pose::<M>(alloc, code, log)?.into_clauses();
+    Ok(check(alloc, &clauses, derivation)?)
 }

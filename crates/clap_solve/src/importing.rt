@@ -1,9 +1,10 @@
 //! The answers of other solvers.
 ghost use Rattle.std.specs.Prelude.{IfOk, IfErr, OnOk};
 ghost use Rattle.clap_system.specs.Faults.{IsBuildFault};
+ghost use Rattle.dimacs_text.specs.Values.{assigned};
 ghost use Rattle.clap_solve.specs.Imported.{IsImported};
 ghost use Rattle.clap_solve.specs.Solved.{IsWithin};
-ghost use Rattle.clap_solve.specs.helpers.Searched.{IsImportedOn, IsPosed};
+ghost use Rattle.clap_solve.specs.helpers.Searched.{IsAssigned, IsImportedOn, IsPosed};
 
 use crate::Imported;
 use crate::posed::{Posed, pose};
@@ -13,6 +14,7 @@ use cnf_core::Assignment;
 use dimacs_text::{Literals, assignment, first_false};
 use path_log::Log;
 use std::alloc::{AllocError, Global};
+use std::mem::drop;
 use store_buffers::MemoryModel;
 use tc_code::Code;
 
@@ -31,8 +33,23 @@ pub fn take_answer<M: MemoryModel>(
     ensures err { IfErr result (IsBuildFault code.now log.now.log) }
 {
     let posed = pose::<M>(alloc, code, log)?;
+    let imported = taken::<M>(alloc, code, &posed, literals);
+    drop(posed);
+    Ok(imported?)
+}
+
+/// What the literals come to that are said to satisfy a log's clauses.
+fn taken<M: MemoryModel>(
+    alloc: Global,
+    code: &Code,
+    posed: &Posed,
+    literals: &Literals,
+) -> Result<Imported, AllocError>
+    requires { IsPosed M.BUFFERED M.bound code.now posed.now }
+    ensures { IfOk result (IsImportedOn M.ops code.now posed.now M.MODEL (assigned posed.now.blasted.clauses.vars literals.now)) }
+{
     let assignment = assignment(alloc, literals, posed.clauses().vars())?;
-    Ok(imported::<M>(alloc, code, &posed, &assignment)?)
+    imported::<M>(alloc, code, posed, &assignment)
 }
 
 /// What values of the variables come to.
@@ -42,7 +59,7 @@ fn imported<M: MemoryModel>(
     posed: &Posed,
     assignment: &Assignment,
 ) -> Result<Imported, AllocError>
-    requires { IsPosed M.BUFFERED M.bound code.now posed.now assignment.now }
+    requires { IsAssigned M.BUFFERED M.bound code.now posed.now assignment.now }
     ensures { IfOk result (IsImportedOn M.ops code.now posed.now M.MODEL assignment.now) }
 {
     match first_false(posed.clauses(), assignment) {

@@ -4,7 +4,7 @@ ghost use Rattle.tc_base.specs.declared.limits.TheConstants.{BUDGET, EVENTS};
 ghost use Rattle.lawful_order.specs.Events.{all_events};
 ghost use Rattle.clap_system.specs.Faults.{IsBuildFault};
 ghost use Rattle.clap_solve.specs.Solved.{IsSolved};
-ghost use Rattle.clap_solve.specs.helpers.Searched.{IsAnsweredOn, IsSatisfied, IsSearched, ReproduceEach};
+ghost use Rattle.clap_solve.specs.helpers.Searched.{IsAnsweredOn, IsFoundOn, IsPosed, IsSatisfied, IsSearched, ReproduceEach};
 
 use crate::Answer;
 use crate::posed::{Posed, pose};
@@ -16,6 +16,7 @@ use path_log::Log;
 use schedule_decode::decode;
 use schedule_file::Schedule;
 use std::alloc::{AllocError, Global};
+use std::mem::drop;
 use store_buffers::MemoryModel;
 use tc_code::Code;
 
@@ -35,9 +36,26 @@ pub fn solve<M: MemoryModel>(
     ensures err { IfErr result (IsBuildFault code.now log.now.log) }
 {
     let posed = pose::<M>(alloc, code, log)?;
-    let first = first_values::<M>(alloc, code, &posed)?;
+    let answer = searched::<M>(alloc, code, &posed, budget);
+    drop(posed);
+    Ok(answer?)
+}
+
+/// Searches for what satisfies a log's clauses, and answers.
+fn searched<M: MemoryModel>(
+    alloc: Global,
+    code: &Code,
+    posed: &Posed,
+    budget: u32,
+) -> Result<Answer, AllocError>
+    requires some { 1 ≤ budget }
+    requires room { budget ≤ BUDGET }
+    requires posed { IsPosed M.BUFFERED M.bound code.now posed.now }
+    ensures { IfOk result (IsFoundOn M.ops code.now posed.now M.MODEL budget) }
+{
+    let first = first_values::<M>(alloc, code, posed)?;
     let solved = solve_cnf(alloc, posed.clauses(), first.as_slice(), budget)?;
-    Ok(answer::<M>(alloc, code, &posed, solved)?)
+    answer::<M>(alloc, code, posed, solved)
 }
 
 /// The values that a search tries first: those of the world of one run along the paths.

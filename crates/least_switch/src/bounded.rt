@@ -98,4 +98,11 @@ impl Bounded {
         extend_values(&self.clauses, &mut values)?;
         Ok(values)
     }
+
+    /// The clauses, without taking memory.
+    pub(crate) fn into_clauses(self) -> Cnf
+        ensures { result ≡ self.clauses }
+    {
+        self.clauses
+    }
 }

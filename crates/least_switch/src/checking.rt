@@ -29,6 +29,6 @@ pub fn check_least_start<M: MemoryModel>(
     ensures within { OnOk result (IsWithin code.now log.now.log) }
     ensures err { IfErr result (IsBuildFault code.now log.now.log) }
 {
-    let bounded = pose_bounded::<M>(alloc, code, log, most)?;
-    Ok(Checker::new(alloc, &bounded.clauses)?)
+    let clauses = pose_bounded::<M>(alloc, code, log, most)?.into_clauses();
+    Ok(Checker::new(alloc, &clauses)?)
 }

@@ -6,6 +6,7 @@ ghost use Rattle.cdcl_core.specs.Solving.{Solves};
 ghost use Rattle.clap_system.specs.Faults.{IsBuildFault};
 ghost use Rattle.clap_solve.specs.Posed.{IsGiven};
 ghost use Rattle.switch_clauses.specs.Clauses.{switch_clauses};
+ghost use Rattle.least_switch.specs.helpers.Bounded.{IsBounded};
 ghost use Rattle.least_switch.specs.helpers.Found.{IfSat, IsBest, IsBestUpTo, IsFirst, IsFirstFound, IsFoundBy, IsFoundOn, IsPosedFor, IsSaid};
 
 use crate::best::{Best, best_of};
@@ -19,6 +20,7 @@ use order_formula::World;
 use path_log::Log;
 use refute_check::Derivation;
 use std::alloc::{AllocError, Global};
+use std::mem::drop;
 use store_buffers::MemoryModel;
 use tc_code::Code;
 
@@ -46,8 +48,9 @@ pub(crate) fn first<M: MemoryModel>(
     ensures err { IfErr result (IsBuildFault code.now log.now.log) }
 {
     let posed = posed::<M>(alloc, code, log)?;
-    let solved = search::<M>(alloc, code, &posed, budget)?;
-    Ok(first_found::<M>(alloc, code, log, &posed, solved)?)
+    let found = searched::<M>(alloc, code, log, &posed, budget);
+    drop(posed);
+    Ok(found?)
 }
 
 /// The clauses of a log.
@@ -56,6 +59,23 @@ fn posed<M: MemoryModel>(alloc: Global, code: &Code, log: &Log) -> Result<Posed,
     ensures err { IfErr result (IsBuildFault code.now log.now.log) }
 {
     pose::<M>(alloc, code, log)
+}
+
+/// A search for what satisfies the clauses of a log, and the schedule of what it finds.
+fn searched<M: MemoryModel>(
+    alloc: Global,
+    code: &Code,
+    log: &Log,
+    posed: &Posed,
+    budget: u32,
+) -> Result<Found, AllocError>
+    requires some { 1 ≤ budget }
+    requires room { budget ≤ BUDGET }
+    requires posed { IsPosedFor M.BUFFERED M.bound code.now log.now.log posed.now }
+    ensures { IfOk result (IsFirstFound M.ops M.MODEL M.BUFFERED M.bound code.now log.now.log budget) }
+{
+    let solved = search::<M>(alloc, code, posed, budget)?;
+    first_found::<M>(alloc, code, log, posed, solved)
 }
 
 /// A search of the clauses of a log, which tries first what one run along its paths comes to.
@@ -136,9 +156,31 @@ pub(crate) fn fewer<M: MemoryModel>(
     ensures err { IfErr result (IsBuildFault code.now log.now.log) }
 {
     let bounded = pose_bounded::<M>(alloc, code, log, most)?;
+    let found = searched_near::<M>(alloc, code, log, most, &bounded, world, budget);
+    drop(bounded);
+    Ok(found?)
+}
+
+/// A search for what satisfies the clauses with at most so many context switches, and the schedule of what it finds.
+fn searched_near<M: MemoryModel>(
+    alloc: Global,
+    code: &Code,
+    log: &Log,
+    most: u32,
+    bounded: &Bounded,
+    world: &World,
+    budget: u32,
+) -> Result<Found, AllocError>
+    requires given { IsGiven code.now log.now.log }
+    requires bounded { IsBounded M.BUFFERED M.bound code.now log.now.log most bounded.now }
+    requires some { 1 ≤ budget }
+    requires room { budget ≤ BUDGET }
+    ensures { IfOk result (IsFoundOn (switch_clauses M.BUFFERED M.bound code.now log.now.log most)
+        (IsBestUpTo M.ops M.MODEL code.now log.now.log most) budget) }
+{
     let values = bounded.first_values(alloc, world)?;
     let solved = solve_cnf(alloc, &bounded.clauses, values.as_slice(), budget)?;
-    Ok(next_found::<M>(alloc, code, log, most, &bounded, solved)?)
+    next_found::<M>(alloc, code, log, most, bounded, solved)
 }
 
 /// What the search for one with at most so many context switches comes to.

@@ -10,7 +10,7 @@ use crate::ending::Ending;
 use crate::follow::{FollowFault, Followed, follow};
 use crate::marks::Marks;
 use crate::operators::operators;
-use crate::parts::{creates, joins, regions, sleeps};
+use crate::parts::{Parts, parts_of};
 use crate::tell::{Told, tell};
 use crate::{Blocked, Sleep, Walk};
 use path_log::ThreadPath;
@@ -114,25 +114,33 @@ pub fn account_of(
     ensures few { IfOk result (λ c. (length c.started < 2 ^ 16) × (length c.walk.events < 2 ^ 16)) }
 {
     let Followed { places, end } = follow(alloc, code, function, ending, path)?;
+    let operators = operators(alloc, code, function, &places)?;
     let Told {
         events,
         dead,
         marks,
     } = tell(alloc, code, function, ending == Ending::Fails, &places)?;
     let started = started_by(alloc, code, function, &places)?;
-    let operators = operators(alloc, code, function, &places)?;
-    let sleeps = sleeps(alloc, &events)?;
-    let walk = Walk {
-        name: path.name().clone()?,
-        function,
-        outcomes: Vec::from_slice(alloc, path.outcomes())?,
-        places,
-        regions: regions(alloc, &events)?,
-        blocked: blocked(code, function, ending, end, &marks, &sleeps),
+    let Parts {
+        name,
+        outcomes,
+        regions,
         sleeps,
-        creates: creates(alloc, &events)?,
-        joins: joins(alloc, &events)?,
+        creates,
+        joins,
+    } = parts_of(alloc, path, &events)?;
+    let blocked = blocked(code, function, ending, end, &marks, &sleeps);
+    let walk = Walk {
+        name,
+        function,
+        outcomes,
+        places,
         events,
+        regions,
+        sleeps,
+        creates,
+        joins,
+        blocked,
     };
     Ok(Account {
         walk,

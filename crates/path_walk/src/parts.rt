@@ -7,8 +7,21 @@ ghost use Rattle.path_walk.specs.Events.{takes, leaves, left_at, region_of, regi
 ghost use Rattle.path_walk.specs.Events.{create_by, join_by, creates_of, joins_of};
 
 use crate::{Event, EventKind, Link, Region, Sleep};
+use path_log::ThreadPath;
 use std::alloc::{AllocError, Global};
 use std::collections::BTreeMap;
+use tc_base::ThreadName;
+
+/// What belongs to the way of a thread beside its places and events.
+#[derive(Drop)]
+pub struct Parts {
+    pub name: ThreadName,
+    pub outcomes: Vec<bool>,
+    pub regions: Vec<Region>,
+    pub sleeps: Vec<Sleep>,
+    pub creates: Vec<Link>,
+    pub joins: Vec<Link>,
+}
 
 /// The mutex that an event takes.
 fn taken(kind: EventKind) -> Option<u32>
@@ -77,7 +90,7 @@ fn push_region(found: &mut Vec<Region>, region: Option<Region>) -> Result<(), Al
 }
 
 /// For each event that takes a mutex, the steps between which the thread has it.
-pub fn regions(alloc: Global, events: &[Event]) -> Result<Vec<Region>, AllocError>
+fn regions(alloc: Global, events: &[Event]) -> Result<Vec<Region>, AllocError>
     ensures { IfOk result (λ found. found.items ≡ regions_of events.now) }
 {
     let mut ends: BTreeMap<u32, usize> = BTreeMap::new(alloc);
@@ -111,7 +124,7 @@ fn sleep(event: Event, next: Option<Event>) -> Option<Sleep>
 }
 
 /// The waits, in order.
-pub fn sleeps(alloc: Global, events: &[Event]) -> Result<Vec<Sleep>, AllocError>
+fn sleeps(alloc: Global, events: &[Event]) -> Result<Vec<Sleep>, AllocError>
     ensures { IfOk result (λ found. found.items ≡ sleeps_of events.now) }
 {
     let mut found = Vec::new(alloc);
@@ -150,7 +163,7 @@ fn join(event: Event) -> Option<Link>
 }
 
 /// The creates, in order.
-pub fn creates(alloc: Global, events: &[Event]) -> Result<Vec<Link>, AllocError>
+fn creates(alloc: Global, events: &[Event]) -> Result<Vec<Link>, AllocError>
     ensures { IfOk result (λ found. found.items ≡ creates_of events.now) }
 {
     let mut found = Vec::new(alloc);
@@ -163,7 +176,7 @@ pub fn creates(alloc: Global, events: &[Event]) -> Result<Vec<Link>, AllocError>
 }
 
 /// The joins, in order.
-pub fn joins(alloc: Global, events: &[Event]) -> Result<Vec<Link>, AllocError>
+fn joins(alloc: Global, events: &[Event]) -> Result<Vec<Link>, AllocError>
     ensures { IfOk result (λ found. found.items ≡ joins_of events.now) }
 {
     let mut found = Vec::new(alloc);
@@ -173,4 +186,23 @@ pub fn joins(alloc: Global, events: &[Event]) -> Result<Vec<Link>, AllocError>
         }
     }
     Ok(found)
+}
+
+/// What a path and the events of its steps come to.
+pub fn parts_of(alloc: Global, path: &ThreadPath, events: &[Event]) -> Result<Parts, AllocError>
+    ensures name { IfOk result (λ p. p.name ≡ path.now.name) }
+    ensures outcomes { IfOk result (λ p. p.outcomes.items ≡ path.now.path.outcomes) }
+    ensures regions { IfOk result (λ p. p.regions.items ≡ regions_of events.now) }
+    ensures sleeps { IfOk result (λ p. p.sleeps.items ≡ sleeps_of events.now) }
+    ensures creates { IfOk result (λ p. p.creates.items ≡ creates_of events.now) }
+    ensures joins { IfOk result (λ p. p.joins.items ≡ joins_of events.now) }
+{
+    Ok(Parts {
+        name: path.name().clone()?,
+        outcomes: Vec::from_slice(alloc, path.outcomes())?,
+        regions: regions(alloc, events)?,
+        sleeps: sleeps(alloc, events)?,
+        creates: creates(alloc, events)?,
+        joins: joins(alloc, events)?,
+    })
 }

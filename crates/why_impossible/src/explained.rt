@@ -3,6 +3,7 @@ ghost use Rattle.std.specs.Prelude.{◌≡◌, false, length, IfOk, IfErr, OnOk,
 ghost use Rattle.path_walk.specs.Paths.{paths_of};
 ghost use Rattle.refute_check.specs.Refutations.{IsClosed, check};
 ghost use Rattle.clap_solve.specs.Faults.{IsCheckImpossibleFault};
+ghost use Rattle.clap_solve.specs.Posed.{IsGiven, posed_of};
 ghost use Rattle.clap_solve.specs.Solved.{IsWithin};
 ghost use Rattle.why_impossible.specs.Explained.{IsExplained, TellsCause, TellsGroups};
 ghost use Rattle.why_impossible.specs.helpers.Posed.{AreReasonsOn, IsExplainedOn};
@@ -15,6 +16,7 @@ use path_log::Log;
 use reached_groups::reached_groups;
 use refute_check::{Checked, Derivation, check};
 use std::alloc::{AllocError, Global};
+use std::mem::drop;
 use store_buffers::MemoryModel;
 use tc_code::Code;
 
@@ -43,8 +45,27 @@ pub fn why<M: MemoryModel>(
     ensures err { IfErr result (IsCheckImpossibleFault M.BUFFERED M.bound code.now log.now.log derivation.now) }
 {
     let posed = pose::<M>(alloc, code, log)?;
+    let explained = checked::<M>(alloc, code, log, &posed, derivation);
+    drop(posed);
+    explained
+}
+
+/// What it shows over the clauses that were posed.
+fn checked<M: MemoryModel>(
+    alloc: Global,
+    code: &Code,
+    log: &Log,
+    posed: &Posed,
+    derivation: &Derivation,
+) -> Result<Explained, CheckImpossibleFault>
+    requires given { IsGiven code.now log.now.log }
+    requires posed { posed.now ≡ posed_of M.BUFFERED M.bound code.now log.now.log }
+    ensures ok { IfOk result (IsExplained M.ops M.bound code.now log.now.log derivation.now) }
+    ensures within { OnOk result (IsWithin code.now log.now.log) }
+    ensures err { IfErr result (IsCheckImpossibleFault M.BUFFERED M.bound code.now log.now.log derivation.now) }
+{
     let checked = check(alloc, posed.clauses(), derivation)?;
-    Ok(explain(alloc, code, log, &posed, derivation, checked)?)
+    Ok(explain(alloc, code, log, posed, derivation, checked)?)
 }
 
 /// What a derivation shows over a log's clauses, by its verdict.

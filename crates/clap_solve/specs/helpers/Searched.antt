@@ -12,6 +12,7 @@ use Rattle.path_walk.specs.Fits.{Fits}
 use Rattle.path_walk.specs.Paths.{paths_of}
 use Rattle.cnf_core.specs.Clauses.{satisfies, value_in}
 use Rattle.dimacs_text.specs.Values.{IsFirstFalse}
+use Rattle.cdcl_core.specs.Solving.{Solves}
 use Rattle.cdcl_core.specs.declared.progress.Solved.{Solved}
 use Rattle.cdcl_core.specs.declared.progress.Solved.TheVariants as solved
 use Rattle.clap_solve.specs.Posed.{IsGiven, Posed, posed_of}
@@ -21,17 +22,22 @@ use Rattle.clap_solve.specs.declared.imported.Imported.{Imported}
 use Rattle.clap_solve.specs.declared.imported.Imported.TheVariants as imported
 
 module _ (buffered : Bool) (bound : Binding) (code : Code) (p : Posed) where
-  -- all this is of some log, and there is a value for each variable
-  pub record IsPosed (values : List Bool) : Type 0 where
+  -- all this is of some log
+  pub record IsPosed : Type 0 where
     pub log : Log
     pub given : IsGiven code log
     pub posed : p ≡ posed_of buffered bound code log
     pub variables : p.paths.dead ≡ false → 0 < p.blasted.clauses.vars
+
+  -- and there is a value for each variable
+  pub record IsAssigned (values : List Bool) : Type 0 where
+    pub posed : IsPosed
     pub all : p.blasted.clauses.vars ≤ length values
 
   -- and the values satisfy the clauses
   pub record IsSatisfied (values : List Bool) : Type 0 where
-    pub posed : IsPosed values
+    pub posed : IsPosed
+    pub all : p.blasted.clauses.vars ≤ length values
     pub satisfies : IsTrue (satisfies (value_in values) p.blasted.clauses.clauses)
 
   -- so do those that a search found, if it found any
@@ -51,6 +57,12 @@ module _ {B : Type 0} (ops : BufferOps B) (code : Code) (p : Posed) where
     IsAnsweredOn (solved.Unsat lines) (Impossible own) = own ≡ lines
     IsAnsweredOn (solved.Spent lines) (Spent own) = own ≡ lines
     IsAnsweredOn _ _ = ⊥
+
+    -- the answer that some search of the clauses comes to, with such a budget
+    pub record IsFoundOn (budget : ℕ) (answer : Answer) : Type 0 where
+      pub solved : Solved
+      pub solves : Solves p.blasted.clauses budget solved
+      pub answers : IsAnsweredOn solved answer
 
     -- what values come to: a schedule of such moves, where they satisfy the clauses; or the first clause that they leave false
     abbrev pub IsImportedOn : List Bool → Imported → Type 0

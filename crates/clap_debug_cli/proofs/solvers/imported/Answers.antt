@@ -16,8 +16,8 @@ returns-in_err-schedule-clause-refusal c =
     (unbuilt_answer _ _ _ c.in_err-schedule.ensures.fault) in
     search rules
 
-pub returns-in-Found-clause-schedule : goal.returns-in-Found-clause-schedule
-returns-in-Found-clause-schedule c =
+pub returns-in_ok-text-in-Found-clause-schedule : goal.returns-in_ok-text-in-Found-clause-schedule
+returns-in_ok-text-in-Found-clause-schedule c =
     let code = c.in_ok-code.code in
     let log = c.in_ok-code.log.log in
     let literals = c.in_ok-literals.literals in
@@ -29,8 +29,8 @@ returns-in-Found-clause-schedule c =
     (subst (λ (n : Model). IsImported (buffer_of n) n (bound_of n) code log literals (Found c.in-Found.schedule)) means
     (subst (IsImported (buffer_of m) m (bound_of m) code log literals) c.in-Found.is c.in_ok-schedule.ensures.taken))
 
-pub returns-clause-refusal : goal.returns-clause-refusal
-returns-clause-refusal c =
+pub returns-in-False-clause-refusal : goal.returns-in-False-clause-refusal
+returns-in-False-clause-refusal c =
     let code = c.in_ok-code.code in
     let log = c.in_ok-code.log.log in
     let literals = c.in_ok-literals.literals in

@@ -19,8 +19,8 @@ returns-in-Closed-clause-reasons c =
     m c.in_ok-model.derivation c.in_ok-model.ensures.found c.in_ok-of_program.ensures.same c.in_ok-reasons.ensures.within c.in-Closed.reasons
     (subst (IsExplained (buffer_of m) (bound_of m) c.in_ok-code.code c.in_ok-code.log.log c.in_ok-model.derivation) c.in-Closed.is c.in_ok-reasons.ensures.ok)
 
-pub returns-clause-refusal : goal.returns-clause-refusal
-returns-clause-refusal c =
+pub returns-in-Open-clause-refusal : goal.returns-in-Open-clause-refusal
+returns-in-Open-clause-refusal c =
     let m = c.in_ok-model.model in
     open_why c.args.program.now c.args.log.now c.args.refutation.now c.in_ok-code.code c.in_ok-code.log c.in_ok-code.ensures.code c.in_ok-code.ensures.log m
     c.in_ok-model.derivation c.in_ok-model.ensures.found c.in_ok-of_program.ensures.same c.in_ok-reasons.ensures.within

@@ -17,10 +17,10 @@ returns-in_err-check-clause-err g c =
     let log = c.args.log.now.log in
     let lines = c.args.derivation.now in
     let fault : CheckFault = c.in_err-check.field-0.0 in
-    let own = own_clauses g.M.MemoryModel.BUFFERED g.M.MemoryModel.bound code log c.in_ok-posed.posed c.clauses.result.now c.clauses.ensures
-    c.in_ok-posed.ensures.posed in
+    let own = own_clauses g.M.MemoryModel.BUFFERED g.M.MemoryModel.bound code log c.in_ok-pose.field-0 c.into_clauses-clauses.result c.into_clauses-clauses.ensures
+    c.in_ok-pose.ensures.posed in
     let p = err_from_is_err_and c.from_residual-in_err-check.result c.from_residual-in_err-check.ensures.1 in
-    rw (p.1, p.2) (check_cause g.M.MemoryModel.BUFFERED g.M.MemoryModel.bound code log lines c.clauses.result.now own fault c.in_ok-posed.ensures.given.within
+    rw (p.1, p.2) (check_cause g.M.MemoryModel.BUFFERED g.M.MemoryModel.bound code log lines c.into_clauses-clauses.result own fault c.in_ok-pose.ensures.given.within
     c.in_err-check.ensures.verdict)
 
 pub returns-clause-impossible : goal.returns-clause-impossible
@@ -29,11 +29,11 @@ returns-clause-impossible g c = λ is.
     let code = c.args.code.now in
     let log = c.args.log.now.log in
     let lines = c.args.derivation.now in
-    let given = c.in_ok-posed.ensures.given in
+    let given = c.in_ok-pose.ensures.given in
     let checked : Checked = c.in_ok-check.field-0 in
-    let own = own_clauses g.M.MemoryModel.BUFFERED g.M.MemoryModel.bound code log c.in_ok-posed.posed c.clauses.result.now c.clauses.ensures
-    c.in_ok-posed.ensures.posed in
+    let own = own_clauses g.M.MemoryModel.BUFFERED g.M.MemoryModel.bound code log c.in_ok-pose.field-0 c.into_clauses-clauses.result c.into_clauses-clauses.ensures
+    c.in_ok-pose.ensures.posed in
     let closed : checked ≡ Closed = ap (λ (r : Result Checked CheckImpossibleFault). result_unwrap_or r checked) is in
-    let told = closed_by g.M.MemoryModel.BUFFERED bound code log lines c.clauses.result.now own checked c.in_ok-check.ensures.verdict closed in
+    let told = closed_by g.M.MemoryModel.BUFFERED bound code log lines c.into_clauses-clauses.result own checked c.in_ok-check.ensures.verdict closed in
     closed_is_impossible g.M.MemoryModel.ops g.M.MemoryModel.MODEL bound code log g.met.M.MemoryModel.laws given.lawful given.is_log given.within lines
     (subst (λ (b : Bool). IsClosed (clauses_of b bound code log) lines) g.met.M.MemoryModel.buffered told)

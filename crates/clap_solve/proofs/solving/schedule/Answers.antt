@@ -24,7 +24,7 @@ world-requires-clause-variables g c =
     (value_in c.args.assignment.now) c.requires.satisfies))
 
 pub world-requires-clause-values : goal.world-requires-clause-values
-world-requires-clause-values g c = omega (arith, c.requires.posed.all, ap (λ (b : Blasted). b.clauses.vars) c.blasted.ensures)
+world-requires-clause-values g c = omega (arith, c.requires.all, ap (λ (b : Blasted). b.clauses.vars) c.blasted.ensures)
 
 pub decode-requires-clause-lawful : goal.decode-requires-clause-lawful
 decode-requires-clause-lawful g c =

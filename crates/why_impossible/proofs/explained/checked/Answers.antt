@@ -6,27 +6,27 @@ use Rattle.refute_check.specs.declared.verdict.CheckFault.{CheckFault}
 use Rattle.clap_solve.specs.Posed.{Posed, posed_of}
 use Rattle.clap_solve.proofs.Posing.{check_cause, own_clauses}
 use Rattle.why_impossible.proofs.Rests.{conjuncts_are, is_explained}
-use Rattle.why_impossible.proofs.explained.why.Goals as goal
+use Rattle.why_impossible.proofs.explained.checked.Goals as goal
 
 pub explain-requires-clause-checked : goal.explain-requires-clause-checked
 explain-requires-clause-checked g c =
     ap (λ (f : Formula). check f c.args.derivation.now) (sym c.clauses.ensures) ∙ sym (c.in_ok-checked.ensures.verdict (λ e. cc))
 
 pub explain-requires-clause-paths : goal.explain-requires-clause-paths
-explain-requires-clause-paths g c = ap (λ (p : Posed). p.paths) c.in_ok-posed.ensures.posed
+explain-requires-clause-paths g c = ap (λ (p : Posed). p.paths) c.requires.posed
 
 pub explain-requires-clause-conjuncts : goal.explain-requires-clause-conjuncts
 explain-requires-clause-conjuncts g c =
-    conjuncts_are g.M.MemoryModel.BUFFERED g.M.MemoryModel.bound c.args.code.now c.args.log.now.log c.in_ok-posed.posed c.in_ok-posed.ensures.posed
+    conjuncts_are g.M.MemoryModel.BUFFERED g.M.MemoryModel.bound c.args.code.now c.args.log.now.log c.args.posed.now c.requires.posed
 
 pub returns-clause-ok : goal.returns-clause-ok
 returns-clause-ok g c =
     let bound = g.M.MemoryModel.bound in
     let code = c.args.code.now in
     let log = c.args.log.now.log in
-    let posed = c.in_ok-posed.posed in
-    is_explained g.M.MemoryModel.ops g.M.MemoryModel.MODEL bound code log g.met.M.MemoryModel.laws c.in_ok-posed.ensures.given c.args.derivation.now posed
-    c.in_ok-explain.field-0 (subst (λ (b : Bool). posed ≡ posed_of b bound code log) g.met.M.MemoryModel.buffered c.in_ok-posed.ensures.posed)
+    let posed = c.args.posed.now in
+    is_explained g.M.MemoryModel.ops g.M.MemoryModel.MODEL bound code log g.met.M.MemoryModel.laws c.requires.given c.args.derivation.now posed
+    c.in_ok-explain.field-0 (subst (λ (b : Bool). posed ≡ posed_of b bound code log) g.met.M.MemoryModel.buffered c.requires.posed)
     c.in_ok-explain.ensures
 
 pub returns-in_err-checked-clause-err : goal.returns-in_err-checked-clause-err
@@ -35,10 +35,10 @@ returns-in_err-checked-clause-err g c =
     let log = c.args.log.now.log in
     let lines = c.args.derivation.now in
     let fault : CheckFault = c.in_err-checked.field-0.0 in
-    let own = own_clauses g.M.MemoryModel.BUFFERED g.M.MemoryModel.bound code log c.in_ok-posed.posed c.clauses.result.now c.clauses.ensures
-    c.in_ok-posed.ensures.posed in
-    let p = err_from_is_err_and c.from_residual-in_err-checked.result c.from_residual-in_err-checked.ensures.1 in
-    rw (p.1, p.2) (check_cause g.M.MemoryModel.BUFFERED g.M.MemoryModel.bound code log lines c.clauses.result.now own fault c.in_ok-posed.ensures.given.within
+    let own = own_clauses g.M.MemoryModel.BUFFERED g.M.MemoryModel.bound code log c.args.posed.now c.clauses.result.now c.clauses.ensures
+    c.requires.posed in
+    let p = err_from_is_err_and c.from_residual.result c.from_residual.ensures.1 in
+    rw (p.1, p.2) (check_cause g.M.MemoryModel.BUFFERED g.M.MemoryModel.bound code log lines c.clauses.result.now own fault c.requires.given.within
     c.in_err-checked.ensures.verdict)
 
 pub returns-in_err-explain-clause-err : goal.returns-in_err-explain-clause-err

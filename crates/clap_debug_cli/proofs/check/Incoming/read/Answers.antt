@@ -1,7 +1,7 @@
 use Rattle.std.proofs.Common.{◌∙◌, ◌++◌, take, length, Err, ap}
 use Rattle.tc_io.proofs.Readings.{gives, piece_failed}
 use Rattle.clap_debug_cli.proofs.Checks.{only_fault}
-use Rattle.clap_debug_cli.proofs.check.read.Goals as goal
+use Rattle.clap_debug_cli.proofs.check.Incoming.read.Goals as goal
 
 pub returns-in-Err-Failed-clause-missing : goal.returns-in-Err-Failed-clause-missing
 returns-in-Err-Failed-clause-missing g c =
