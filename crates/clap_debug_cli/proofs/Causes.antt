@@ -1,5 +1,6 @@
 -- From what a command answers to what it was given to the cause of that answer.
-use Rattle.std.proofs.Common.{◌≡◌, ◌∙◌, refl, ap, sym, subst, inl, inr, ℕ, List, Option, Some, None}
+use Rattle.std.proofs.Common.{◌≡◌, ◌∙◌, refl, ap, sym, subst, inl, inr, ℕ, List, Option, Some, None, Result, Ok, Err}
+use Rattle.std.specs.Result.{IsErrAnd, MatchResult}
 use Rattle.std.specs.Option.{IsSomeAnd}
 use Rattle.tc_base.specs.Logs.{Log}
 use Rattle.tc_base.specs.declared.model.Model.{Model}
@@ -199,3 +200,8 @@ module _ (p l out : List ℕ) (model : Option Model) (budget : ℕ) (refutation 
     pub unkept_second : (new : ShelfTells) (a : Answer) → IsSomeAnd (second_text x) (λ text. IsWhyUnkept refutation text next new a)
         → IsCauseOf (Minimizes p l out model budget refutation) old new a
     unkept_second new a h = second_by new (second_text x) refl a h
+
+-- an error that stays what it is
+pub err_of : {A : Type 0} (r : Result A Answer) (Q : A → Type 0) (P : Answer → Type 0) (a : Answer) → IsErrAnd r (λ b. b ≡ a) → P a → MatchResult r Q P
+err_of (Ok x) Q P a is h = absurd is
+err_of (Err b) Q P a is h = subst P (sym is) h

@@ -1,8 +1,6 @@
 -- From a refutation that was read, or couldn't be, to the cause of an answer.
 use Rattle.std.proofs.Common.{◌≡◌, ◌∙◌, refl, ap, sym, ℕ, List, [], ◌∷◌, ◌++◌, take, drop, take-add, take_all, append_assoc, length, ◌≤◌, ◌+◌}
-use Rattle.std.proofs.Common.{Result, Ok, Err, IfErr}
 use Rattle.std.specs.Prelude.{is_some, IsSome}
-use Rattle.std.specs.Result.{IsErrAnd}
 use Rattle.tc_code.specs.Code.{Code}
 use Rattle.path_log.specs.Texts.{StoredLog, IsLog, IsOfOther}
 use Rattle.clap_system.specs.Faults.{IsBuildFault}
@@ -105,8 +103,3 @@ module _ (p l name : List ℕ) (old s mid new : ShelfTells) (program log : List 
   pub accepted_cause : (v : Shown) (bytes : List ℕ) → GaveReading mid new name bytes → IsCheckAnswer program log bytes (Accepted v)
       → IsCauseOf call old new (Accepted v)
   accepted_cause v bytes gave h = given_cause bytes gave (Accepted v) h
-
--- what an error is, and what holds of it
-pub err_given : {T : Type 0} (r : Result T Answer) (Q P : Answer → Type 0) → IsErrAnd r Q → ((a : Answer) → Q a → P a) → IfErr r P
-err_given (Ok x) Q P h on = tt
-err_given (Err a) Q P h on = on a h

@@ -1,6 +1,6 @@
-use Rattle.std.proofs.Common.{rules, refl, [], ◌∷◌}
+use Rattle.std.proofs.Common.{refl, [], ◌∷◌}
 use Rattle.clap_debug_words.specs.Calls.{Lists}
-use Rattle.clap_debug_cli.proofs.Causes.{uncoded_list, work_cause}
+use Rattle.clap_debug_cli.proofs.Causes.{err_of, uncoded_list, work_cause}
 use Rattle.clap_debug_cli.proofs.commands.list_program.Goals as goal
 
 pub returns-in_err-code : goal.returns-in_err-code
@@ -8,9 +8,9 @@ returns-in_err-code g c =
     let program = c.in_ok-program.program.items in
     let gave = c.in_ok-program.ensures.gave in
     let new = g.H.Shelf.tells c.fetch.new.shelf in
-    let why = work_cause (Lists c.args.program.now) (program ∷ []) (g.H.Shelf.tells c.args.shelf.now) new (new, gave, refl) (gave.0, tt) _
-    (uncoded_list program _ (rw c.deref.ensures.value at c.in_err-code.ensures.refused)) in
-    search rules
+    err_of c.from_residual-in_err-code.result _ _ _ c.from_residual-in_err-code.ensures.1
+    (work_cause (Lists c.args.program.now) (program ∷ []) (g.H.Shelf.tells c.args.shelf.now) new (new, gave, refl) (gave.0, tt) _
+    (uncoded_list program _ (rw c.deref.ensures.value at c.in_err-code.ensures.refused)))
 
 pub returns : goal.returns
 returns g c =

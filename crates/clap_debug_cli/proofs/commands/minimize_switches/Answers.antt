@@ -1,9 +1,9 @@
-use Rattle.std.proofs.Common.{rules, refl, [], ◌∷◌}
+use Rattle.std.proofs.Common.{refl, [], ◌∷◌}
 use Rattle.clap_debug_words.specs.Calls.{Minimizes}
 use Rattle.clap_debug_cli.specs.Inputs.{Whole}
 use Rattle.clap_debug_cli.specs.Fewest.{IsMinimum}
 use Rattle.clap_debug_cli.specs.declared.input.Input.TheVariants as input
-use Rattle.clap_debug_cli.proofs.Causes.{unkept_first, unkept_second, work_cause}
+use Rattle.clap_debug_cli.proofs.Causes.{err_of, unkept_first, unkept_second, work_cause}
 use Rattle.clap_debug_cli.proofs.Fetches.{missing_cause, missing_first, missing_later}
 use Rattle.clap_debug_cli.proofs.Solutions.{minimized_answer}
 use Rattle.clap_debug_cli.proofs.commands.minimize_switches.Goals as goal
@@ -14,10 +14,10 @@ returns-in_err-log g c =
     let call = Minimizes c.args.program.now c.args.log.now c.args.out.now c.args.model c.args.budget.conflicts c.args.refutation.now in
     let program = Whole input.Program c.args.program.now in
     let log = Whole input.Log c.args.log.now in
-    let why = missing_cause call (tells c.args.shelf.now) (tells c.fetch-2.new.shelf) _
+    err_of c.from_residual-in_err-log.result _ _ _ c.from_residual-in_err-log.ensures.1
+    (missing_cause call (tells c.args.shelf.now) (tells c.fetch-2.new.shelf) _
     (missing_later program (log ∷ []) (tells c.args.shelf.now) (tells c.fetch.new.shelf) (tells c.fetch-2.new.shelf) _ _ c.in_ok-program.ensures.gave
-    (missing_first log [] (tells c.fetch.new.shelf) (tells c.fetch-2.new.shelf) _ c.in_err-log.ensures.missing)) in
-    search rules
+    (missing_first log [] (tells c.fetch.new.shelf) (tells c.fetch-2.new.shelf) _ c.in_err-log.ensures.missing)))
 
 pub returns-in_err-minimum : goal.returns-in_err-minimum
 returns-in_err-minimum g c =
@@ -26,10 +26,10 @@ returns-in_err-minimum g c =
     let one = c.in_ok-program.ensures.gave in
     let two = c.in_ok-log.ensures.gave in
     let new = tells c.fetch-2.new.shelf in
-    let why = work_cause call (c.in_ok-program.program.items ∷ c.in_ok-log.log.items ∷ []) (tells c.args.shelf.now) new
+    err_of c.from_residual-in_err-minimum.result _ _ _ c.from_residual-in_err-minimum.ensures.1
+    (work_cause call (c.in_ok-program.program.items ∷ c.in_ok-log.log.items ∷ []) (tells c.args.shelf.now) new
     (tells c.fetch.new.shelf, one, (new, two, refl)) (one.0, (two.0, tt)) _
-    (rw (c.deref.ensures.value, c.deref-2.ensures.value) at c.in_err-minimum.ensures.answer) in
-    search rules
+    (rw (c.deref.ensures.value, c.deref-2.ensures.value) at c.in_err-minimum.ensures.answer))
 
 pub returns-in_err-keep : goal.returns-in_err-keep
 returns-in_err-keep g c =
@@ -42,11 +42,11 @@ returns-in_err-keep g c =
     let x = c.in_ok-minimum.minimum in
     let is : IsMinimum program log c.args.model c.args.budget.conflicts x =
     rw (c.deref.ensures.value, c.deref-2.ensures.value) at c.in_ok-minimum.ensures.minimum in
-    let why = unkept_first c.args.program.now c.args.log.now c.args.out.now c.args.model c.args.budget.conflicts c.args.refutation.now (program ∷ log ∷ [])
+    err_of c.from_residual-in_err-keep.result _ _ _ c.from_residual-in_err-keep.ensures.1
+    (unkept_first c.args.program.now c.args.log.now c.args.out.now c.args.model c.args.budget.conflicts c.args.refutation.now (program ∷ log ∷ [])
     (tells c.args.shelf.now) s (tells c.fetch.new.shelf, one, (s, two, refl)) (one.0, (two.0, tt)) x
     (minimized_answer program log c.args.model c.args.budget.conflicts x is) (tells c.keep.new.shelf) _
-    (rw c.in_ok-minimum.ensures.first at (rw c.deref-3.ensures.value at c.in_err-keep.ensures.unkept)) in
-    search rules
+    (rw c.in_ok-minimum.ensures.first at (rw c.deref-3.ensures.value at c.in_err-keep.ensures.unkept)))
 
 pub returns-in_err-keep_if_any : goal.returns-in_err-keep_if_any
 returns-in_err-keep_if_any g c =
@@ -59,12 +59,12 @@ returns-in_err-keep_if_any g c =
     let x = c.in_ok-minimum.minimum in
     let is : IsMinimum program log c.args.model c.args.budget.conflicts x =
     rw (c.deref.ensures.value, c.deref-2.ensures.value) at c.in_ok-minimum.ensures.minimum in
-    let why = unkept_second c.args.program.now c.args.log.now c.args.out.now c.args.model c.args.budget.conflicts c.args.refutation.now (program ∷ log ∷ [])
+    err_of c.from_residual-in_err-keep_if_any.result _ _ _ c.from_residual-in_err-keep_if_any.ensures.1
+    (unkept_second c.args.program.now c.args.log.now c.args.out.now c.args.model c.args.budget.conflicts c.args.refutation.now (program ∷ log ∷ [])
     (tells c.args.shelf.now) s (tells c.fetch.new.shelf, one, (s, two, refl)) (one.0, (two.0, tt)) x
     (minimized_answer program log c.args.model c.args.budget.conflicts x is) (tells c.keep.new.shelf)
     (rw c.in_ok-minimum.ensures.first at (rw c.deref-3.ensures.value at c.in_ok-keep.ensures.kept)) (tells c.keep_if_any.new.shelf) _
-    (rw c.in_ok-minimum.ensures.second at c.in_err-keep_if_any.ensures.unkept) in
-    search rules
+    (rw c.in_ok-minimum.ensures.second at c.in_err-keep_if_any.ensures.unkept))
 
 pub returns : goal.returns
 returns g c =

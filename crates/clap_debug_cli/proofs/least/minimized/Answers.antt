@@ -1,21 +1,21 @@
-use Rattle.std.proofs.Common.{rules, ◌∙◌, ap, refl, unwrap_or}
+use Rattle.std.proofs.Common.{◌∙◌, ap, refl, unwrap_or}
 use Rattle.tc_base.specs.Buffers.{buffer_of}
 use Rattle.clap_solve.specs.Clauses.{bound_of}
-use Rattle.clap_debug_cli.proofs.Causes.{other_minimize, unbuilt_answer, unbuilt_minimize}
+use Rattle.clap_debug_cli.proofs.Causes.{err_of, other_minimize, unbuilt_answer, unbuilt_minimize}
 use Rattle.clap_debug_cli.proofs.Below.{has_byte_below}
 use Rattle.clap_debug_cli.proofs.least.minimized.Goals as goal
 
 pub returns-in_err-of_program-clause-answer : goal.returns-in_err-of_program-clause-answer
 returns-in_err-of_program-clause-answer c =
-    let why = other_minimize c.args.program.now c.args.log.now c.args.model c.args.budget.conflicts c.in_ok-code.code c.in_ok-code.log
-    c.in_ok-code.ensures.code c.in_ok-code.ensures.log _ c.in_err-of_program.ensures.other in
-    search rules
+    err_of c.from_residual-in_err-of_program.result _ _ _ c.from_residual-in_err-of_program.ensures.1
+    (other_minimize c.args.program.now c.args.log.now c.args.model c.args.budget.conflicts c.in_ok-code.code c.in_ok-code.log
+    c.in_ok-code.ensures.code c.in_ok-code.ensures.log _ c.in_err-of_program.ensures.other)
 
 pub returns-in_err-least-clause-answer : goal.returns-in_err-least-clause-answer
 returns-in_err-least-clause-answer c =
-    let why = unbuilt_minimize c.args.program.now c.args.log.now c.args.model c.args.budget.conflicts c.in_ok-code.code c.in_ok-code.log
-    c.in_ok-code.ensures.code c.in_ok-code.ensures.log c.in_ok-of_program.ensures.same _ (unbuilt_answer _ _ _ c.in_err-least.ensures.fault) in
-    search rules
+    err_of c.from_residual-in_err-least.result _ _ _ c.from_residual-in_err-least.ensures.1
+    (unbuilt_minimize c.args.program.now c.args.log.now c.args.model c.args.budget.conflicts c.in_ok-code.code c.in_ok-code.log
+    c.in_ok-code.ensures.code c.in_ok-code.ensures.log c.in_ok-of_program.ensures.same _ (unbuilt_answer _ _ _ c.in_err-least.ensures.fault))
 
 pub write_results-requires : goal.write_results-requires
 write_results-requires c =

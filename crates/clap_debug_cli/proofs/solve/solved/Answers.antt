@@ -1,18 +1,18 @@
-use Rattle.std.proofs.Common.{rules, ◌∙◌, ap, refl, unwrap_or}
-use Rattle.clap_debug_cli.proofs.Causes.{other_solve, unbuilt_answer, unbuilt_solve}
+use Rattle.std.proofs.Common.{◌∙◌, ap, refl, unwrap_or}
+use Rattle.clap_debug_cli.proofs.Causes.{err_of, other_solve, unbuilt_answer, unbuilt_solve}
 use Rattle.clap_debug_cli.proofs.solve.solved.Goals as goal
 
 pub returns-in_err-of_program-clause-answer : goal.returns-in_err-of_program-clause-answer
 returns-in_err-of_program-clause-answer c =
-    let why = other_solve c.args.program.now c.args.log.now c.args.model c.args.budget.conflicts c.in_ok-code.code c.in_ok-code.log c.in_ok-code.ensures.code
-    c.in_ok-code.ensures.log _ c.in_err-of_program.ensures.other in
-    search rules
+    err_of c.from_residual-in_err-of_program.result _ _ _ c.from_residual-in_err-of_program.ensures.1
+    (other_solve c.args.program.now c.args.log.now c.args.model c.args.budget.conflicts c.in_ok-code.code c.in_ok-code.log c.in_ok-code.ensures.code
+    c.in_ok-code.ensures.log _ c.in_err-of_program.ensures.other)
 
 pub returns-in_err-answer-clause-answer : goal.returns-in_err-answer-clause-answer
 returns-in_err-answer-clause-answer c =
-    let why = unbuilt_solve c.args.program.now c.args.log.now c.args.model c.args.budget.conflicts c.in_ok-code.code c.in_ok-code.log c.in_ok-code.ensures.code
-    c.in_ok-code.ensures.log c.in_ok-of_program.ensures.same _ (unbuilt_answer _ _ _ c.in_err-answer.ensures.fault) in
-    search rules
+    err_of c.from_residual-in_err-answer.result _ _ _ c.from_residual-in_err-answer.ensures.1
+    (unbuilt_solve c.args.program.now c.args.log.now c.args.model c.args.budget.conflicts c.in_ok-code.code c.in_ok-code.log c.in_ok-code.ensures.code
+    c.in_ok-code.ensures.log c.in_ok-of_program.ensures.same _ (unbuilt_answer _ _ _ c.in_err-answer.ensures.fault))
 
 pub returns-clause-solution : goal.returns-clause-solution
 returns-clause-solution c = record {

@@ -1,20 +1,20 @@
-use Rattle.std.proofs.Common.{rules, ◌≡◌, ◌∙◌, ap, subst, unwrap_or}
+use Rattle.std.proofs.Common.{◌≡◌, ◌∙◌, ap, subst, unwrap_or}
 use Rattle.tc_base.specs.Buffers.{buffer_of}
 use Rattle.tc_base.specs.declared.model.Model.{Model}
 use Rattle.clap_solve.specs.Clauses.{bound_of}
 use Rattle.clap_solve.specs.Imported.{IsImported}
 use Rattle.clap_solve.specs.declared.imported.Imported.TheVariants.{Found, False}
 use Rattle.clap_debug_cli.specs.Solved.{model_for}
-use Rattle.clap_debug_cli.proofs.Causes.{unbuilt_answer}
+use Rattle.clap_debug_cli.proofs.Causes.{err_of, unbuilt_answer}
 use Rattle.clap_debug_cli.proofs.Exchanged.{false_import, import_made, unbuilt_import}
 use Rattle.clap_debug_cli.proofs.solvers.imported.Goals as goal
 
 pub returns-in_err-schedule-clause-refusal : goal.returns-in_err-schedule-clause-refusal
 returns-in_err-schedule-clause-refusal c =
-    let why = unbuilt_import c.args.program.now c.args.log.now c.args.model c.in_ok-code.code c.in_ok-code.log c.in_ok-code.ensures.code
+    err_of c.from_residual-in_err-schedule.result _ _ _ c.from_residual-in_err-schedule.ensures.1
+    (unbuilt_import c.args.program.now c.args.log.now c.args.model c.in_ok-code.code c.in_ok-code.log c.in_ok-code.ensures.code
     c.in_ok-code.ensures.log c.args.answer.now c.in_ok-literals.literals c.in_ok-literals.ensures.found c.in_ok-of_program.ensures.same _
-    (unbuilt_answer _ _ _ c.in_err-schedule.ensures.fault) in
-    search rules
+    (unbuilt_answer _ _ _ c.in_err-schedule.ensures.fault))
 
 pub returns-in_ok-text-in-Found-clause-schedule : goal.returns-in_ok-text-in-Found-clause-schedule
 returns-in_ok-text-in-Found-clause-schedule c =

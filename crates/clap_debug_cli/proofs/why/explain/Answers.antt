@@ -1,16 +1,17 @@
-use Rattle.std.proofs.Common.{rules, subst}
+use Rattle.std.proofs.Common.{subst}
 use Rattle.tc_base.specs.Buffers.{buffer_of}
 use Rattle.clap_solve.specs.Clauses.{bound_of}
 use Rattle.why_impossible.specs.Explained.{IsExplained}
+use Rattle.clap_debug_cli.proofs.Causes.{err_of}
 use Rattle.clap_debug_cli.proofs.Explaining.{fault_why, open_why, reasons_why}
 use Rattle.clap_debug_cli.proofs.why.explain.Goals as goal
 
 pub returns-in_err-reasons-clause-refusal : goal.returns-in_err-reasons-clause-refusal
 returns-in_err-reasons-clause-refusal c =
-    let why = fault_why c.args.program.now c.args.log.now c.args.refutation.now c.in_ok-code.code c.in_ok-code.log c.in_ok-code.ensures.code
+    err_of c.from_residual-in_err-reasons.result _ _ _ c.from_residual-in_err-reasons.ensures.1
+    (fault_why c.args.program.now c.args.log.now c.args.refutation.now c.in_ok-code.code c.in_ok-code.log c.in_ok-code.ensures.code
     c.in_ok-code.ensures.log c.in_ok-model.model c.in_ok-model.derivation c.in_ok-model.ensures.found c.in_ok-of_program.ensures.same _
-    c.in_err-reasons.ensures.err in
-    search rules
+    c.in_err-reasons.ensures.err)
 
 pub returns-in-Closed-clause-reasons : goal.returns-in-Closed-clause-reasons
 returns-in-Closed-clause-reasons c =

@@ -1,8 +1,5 @@
-use Rattle.std.proofs.Common.{sym, subst}
 use Rattle.std.proofs.lemmas.Result.{IfOk-weaker, IfErr-weaker}
-use Rattle.clap_debug_cli.specs.Causes.{IsClausesAnswer, IsRefutationAnswer}
-use Rattle.clap_debug_cli.specs.helpers.Refused.{Refuses}
-use Rattle.clap_debug_cli.proofs.Checks.{err_given}
+use Rattle.clap_debug_cli.proofs.Causes.{err_of}
 use Rattle.clap_debug_cli.proofs.Incoming.{begins_refused, text_unended, waits_refused, checks_accepted, checks_refused}
 use Rattle.clap_debug_cli.proofs.check.Incoming.verdict.Goals as goal
 
@@ -12,9 +9,8 @@ returns-in-Begins-clause-answer c = λ program code run bytes read.
 
 pub returns-in_err-finish-in-Refuses-clause-answer : goal.returns-in_err-finish-in-Refuses-clause-answer
 returns-in_err-finish-in-Refuses-clause-answer c =
-    err_given c.from_residual.result _ _ c.from_residual.ensures.1 (λ a told program code run bytes read.
-    subst (Refuses (IsRefutationAnswer bytes (IsClausesAnswer program code run))) (sym told)
-    (text_unended program code run c.args.self bytes read _ c.in_err-finish-in-Refuses.ensures.answer c.in_err-finish-in-Refuses.ensures.broken))
+    err_of c.from_residual.result _ _ _ c.from_residual.ensures.1
+    (λ program code run bytes read. text_unended program code run c.args.self bytes read _ c.in_err-finish-in-Refuses.ensures.answer c.in_err-finish-in-Refuses.ensures.broken)
 
 pub returns-in-Refuses-clause-answer : goal.returns-in-Refuses-clause-answer
 returns-in-Refuses-clause-answer c = λ program code run bytes read.
@@ -22,9 +18,8 @@ returns-in-Refuses-clause-answer c = λ program code run bytes read.
 
 pub returns-in_err-finish-in-Checks-clause-answer : goal.returns-in_err-finish-in-Checks-clause-answer
 returns-in_err-finish-in-Checks-clause-answer c =
-    err_given c.from_residual-in_err-finish-in-Checks.result _ _ c.from_residual-in_err-finish-in-Checks.ensures.1 (λ a told program code run bytes read.
-    subst (Refuses (IsRefutationAnswer bytes (IsClausesAnswer program code run))) (sym told)
-    (text_unended program code run c.args.self bytes read _ c.in_err-finish-in-Checks.ensures.answer c.in_err-finish-in-Checks.ensures.broken))
+    err_of c.from_residual-in_err-finish-in-Checks.result _ _ _ c.from_residual-in_err-finish-in-Checks.ensures.1
+    (λ program code run bytes read. text_unended program code run c.args.self bytes read _ c.in_err-finish-in-Checks.ensures.answer c.in_err-finish-in-Checks.ensures.broken)
 
 pub returns-clause-accepted : goal.returns-clause-accepted
 returns-clause-accepted c =
