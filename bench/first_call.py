@@ -18,7 +18,7 @@ def clock(seconds):
 
 
 def ticks():
-    """How long the processors worked, and how long they would have, had the host let them."""
+    """How long the processors worked, and how long the host kept them from it, in ticks."""
     with open("/proc/stat", encoding="utf-8") as it:
         user, nice, system, _, _, irq, soft, steal = map(int, it.readline().split()[1:9])
     return user + nice + system + irq + soft, steal
