@@ -1,10 +1,13 @@
 //! Schedules with the fewest context switches.
+ghost use Rattle.std.specs.Prelude.{◌≤◌};
+
 use crate::given::{built, code_and_log, split};
 use anyhow::{Result, bail};
 use least_switch::{Least, check_least_start, least};
 use path_log::Log;
 use refute_check::{Checked, Checker, Derivation, LINES};
 use std::alloc::Global;
+use std::mem::drop;
 use store_buffers::{MemoryModel, PsoModel, Sc, TsoModel};
 use tc_code::Code;
 
@@ -15,10 +18,17 @@ const BUDGET: u32 = 1_000_000;
 pub(crate) fn fewest(alloc: Global, given: &str) -> Result<String> {
     let (model, given) = split(given)?;
     let (code, log) = code_and_log(alloc, given)?;
+    let told = told_under(alloc, model, &code, &log);
+    drop(code);
+    drop(log);
+    told
+}
+
+fn told_under(alloc: Global, model: &str, code: &Code, log: &Log) -> Result<String> {
     match model {
-        "sc" => told::<Sc>(alloc, &code, &log),
-        "tso" => told::<TsoModel>(alloc, &code, &log),
-        "pso" => told::<PsoModel>(alloc, &code, &log),
+        "sc" => told::<Sc>(alloc, code, log),
+        "tso" => told::<TsoModel>(alloc, code, log),
+        "pso" => told::<PsoModel>(alloc, code, log),
         _ => bail!("no such model"),
     }
 }
@@ -27,15 +37,32 @@ pub(crate) fn fewest(alloc: Global, given: &str) -> Result<String> {
 fn told<M: MemoryModel>(alloc: Global, code: &Code, log: &Log) -> Result<String> {
     match built(least::<M>(alloc, code, log, BUDGET))? {
         Least::Found(schedule, switches, shown) => {
-            let fewer = shown.as_ref().map_or("none", |_| "accepted");
-            if let Some(derivation) = shown {
-                accept::<M>(alloc, code, log, switches, &derivation)?;
-            }
             let moves = schedule.moves.len();
+            drop(schedule);
+            let fewer = accepted::<M>(alloc, code, log, switches, &shown);
+            drop(shown);
+            let fewer = fewer?;
             Ok(format!(in alloc; "{moves} moves, {switches} switches, fewer {fewer}")?)
         }
         Least::Impossible(_) => Ok(String::from_str(alloc, "impossible")?),
         Least::Spent(_) | Least::SpentAt(_, _, _) => bail!("the budget is spent"),
+    }
+}
+
+/// Whether there is a derivation that none has fewer, which must be accepted.
+fn accepted<M: MemoryModel>(
+    alloc: Global,
+    code: &Code,
+    log: &Log,
+    switches: u32,
+    shown: &Option<Derivation>,
+) -> Result<&'static str> {
+    match shown {
+        None => Ok("none"),
+        Some(derivation) => {
+            accept::<M>(alloc, code, log, switches, derivation)?;
+            Ok("accepted")
+        }
     }
 }
 
@@ -50,15 +77,29 @@ fn accept<M: MemoryModel>(
     if switches == 0 || switches > 255 {
         bail!("no such number of switches");
     }
-    let mut below = built(check_least_start::<M>(alloc, code, log, switches - 1))?;
-    if !is_closed(&mut below, derivation) {
+    if !closes::<M>(alloc, code, log, switches - 1, derivation)? {
         bail!("a derivation that isn't closed");
     }
-    let mut own = built(check_least_start::<M>(alloc, code, log, switches))?;
-    if is_closed(&mut own, derivation) {
+    if closes::<M>(alloc, code, log, switches, derivation)? {
         bail!("a derivation that shows too much");
     }
     Ok(())
+}
+
+/// Whether a derivation is closed on the clauses with at most so many switches.
+fn closes<M: MemoryModel>(
+    alloc: Global,
+    code: &Code,
+    log: &Log,
+    most: u32,
+    derivation: &Derivation,
+) -> Result<bool>
+    requires { most ≤ 255 }
+{
+    let mut checker = built(check_least_start::<M>(alloc, code, log, most))?;
+    let closed = is_closed(&mut checker, derivation);
+    drop(checker);
+    Ok(closed)
 }
 
 /// Whether a checker comes to a closed derivation.

@@ -3,23 +3,23 @@ use crate::given::{split, system};
 use crate::verdicts::blasted;
 use anyhow::Result;
 use std::alloc::Global;
+use std::mem::drop;
 
 /// How many events, loads and conjuncts the formula of a log has.
 pub(crate) fn formula(alloc: Global, given: &str) -> Result<String> {
     let (model, given) = split(given)?;
     let system = system(alloc, model, given)?;
-    Ok(format!(in alloc;
-        "{} events, {} loads, {} conjuncts",
-        system.paths().events(),
-        system.symbolic().loads(),
-        system.formula().conjuncts().len()
-    )?)
+    let (events, loads) = (system.paths().events(), system.symbolic().loads());
+    let conjuncts = system.formula().conjuncts().len();
+    drop(system);
+    Ok(format!(in alloc; "{events} events, {loads} loads, {conjuncts} conjuncts")?)
 }
 
 /// How many variables and clauses the formula of a log comes to.
 pub(crate) fn clauses(alloc: Global, given: &str) -> Result<String> {
     let (model, given) = split(given)?;
     let blasted = blasted(alloc, system(alloc, model, given)?)?;
-    let clauses = blasted.clauses();
-    Ok(format!(in alloc; "{} variables, {} clauses", clauses.vars(), clauses.len())?)
+    let (variables, clauses) = (blasted.clauses().vars(), blasted.clauses().len());
+    drop(blasted);
+    Ok(format!(in alloc; "{variables} variables, {clauses} clauses")?)
 }

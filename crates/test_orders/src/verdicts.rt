@@ -4,8 +4,10 @@ use anyhow::{Result, bail};
 use bit_blast::{Blasted, blast};
 use cdcl_core::{Progress, Search, Solved, solve_cnf};
 use clap_system::System;
+use cnf_core::Cnf;
 use order_formula::World;
 use std::alloc::{AllocError, Global};
+use std::mem::drop;
 
 /// How many clauses a search may learn.
 const BUDGET: u32 = 1_000_000;
@@ -14,9 +16,11 @@ const BUDGET: u32 = 1_000_000;
 pub(crate) fn verdict(alloc: Global, given: &str) -> Result<String> {
     let (model, given) = split(given)?;
     let blasted = blasted(alloc, system(alloc, model, given)?)?;
-    let answer = match found(alloc, &blasted)? {
+    let world = found(alloc, &blasted);
+    drop(blasted);
+    let answer = match world? {
         None => "impossible",
-        Some(world) => possible(alloc, model, given, &world)?,
+        Some(world) => possible(alloc, model, given, world)?,
     };
     Ok(String::from_str(alloc, answer)?)
 }
@@ -25,13 +29,22 @@ pub(crate) fn verdict(alloc: Global, given: &str) -> Result<String> {
 pub(crate) fn learnt(alloc: Global, given: &str) -> Result<String> {
     let (model, given) = split(given)?;
     let blasted = blasted(alloc, system(alloc, model, given)?)?;
-    let mut search = Search::new(alloc, blasted.clauses(), &[])?;
-    let answer = match search.run(alloc, BUDGET)? {
+    let told = searched(alloc, blasted.clauses());
+    drop(blasted);
+    told
+}
+
+fn searched(alloc: Global, clauses: &Cnf) -> Result<String> {
+    let mut search = Search::new(alloc, clauses, &[])?;
+    let progress = search.run(alloc, BUDGET);
+    let added = search.added();
+    drop(search);
+    let answer = match progress? {
         Progress::Sat(_) => "possible",
         Progress::Closed => "impossible",
         Progress::Paused => bail!("the budget is spent"),
     };
-    Ok(format!(in alloc; "{answer}, {} learnt", search.added())?)
+    Ok(format!(in alloc; "{answer}, {added} learnt")?)
 }
 
 /// A world that is told by values which satisfy the clauses, if there is one.
@@ -49,8 +62,12 @@ fn found(alloc: Global, blasted: &Blasted) -> Result<Option<World>> {
 }
 
 /// That a log is possible, once the formula is true in the world.
-fn possible(alloc: Global, model: &str, given: &str, world: &World) -> Result<&'static str> {
-    if !system(alloc, model, given)?.holds(alloc, world)? {
+fn possible(alloc: Global, model: &str, given: &str, world: World) -> Result<&'static str> {
+    let system = system(alloc, model, given)?;
+    let lawful = system.holds(alloc, &world);
+    drop(system);
+    drop(world);
+    if !lawful? {
         bail!("a world that isn't lawful");
     }
     Ok("possible")

@@ -8,6 +8,7 @@ use clap_system::System;
 use order_formula::World;
 use path_walk::{Paths, Walk};
 use std::alloc::{AllocError, Global};
+use std::mem::drop;
 
 /// A world in words.
 #[derive(Clone, Copy)]
@@ -37,17 +38,17 @@ pub(crate) fn judged(alloc: Global, given: &str) -> Result<String> {
     let (model, given) = split(given)?;
     let (words, given) = Words::of(given)?;
     let system = system(alloc, model, given)?;
-    let answer = if is_lawful(alloc, &system, words)? {
-        "lawful"
-    } else {
-        "unlawful"
-    };
+    let lawful = is_lawful(alloc, &system, words);
+    drop(system);
+    let answer = if lawful? { "lawful" } else { "unlawful" };
     Ok(String::from_str(alloc, answer)?)
 }
 
 fn is_lawful(alloc: Global, system: &System, words: Words) -> Result<bool> {
     let world = world(alloc, system, words)?;
-    Ok(system.holds(alloc, &world)?)
+    let lawful = system.holds(alloc, &world);
+    drop(world);
+    Ok(lawful?)
 }
 
 /// The world of words.
