@@ -6,10 +6,11 @@
 
 Wants root and some hours on a machine on which nothing else runs. It works on a clone, with caches of its own and an
 empty folder in the place of what the kit keeps, which isn't touched."""
-import argparse, os, resource, subprocess, sys, tempfile, threading, time
+import argparse, os, resource, signal, subprocess, sys, tempfile, threading, time
 
 STORE = "/opt/rattle-kept"
 TOP = os.path.dirname(os.path.dirname(os.path.abspath(__file__)))
+UNSHARED = "unshare --mount --pid --fork --kill-child --mount-proc sh -c".split()
 HIDDEN = f'mount --make-rprivate / && mount --bind "$1" {STORE} && shift && exec "$@"'
 
 
@@ -58,6 +59,7 @@ def main():
     words = argparse.ArgumentParser(description=__doc__, formatter_class=argparse.RawDescriptionHelpFormatter)
     words.add_argument("--script", metavar="COMMIT", default="HEAD")
     script = words.parse_args().script
+    signal.signal(signal.SIGTERM, lambda *_: sys.exit(128 + signal.SIGTERM))
     with tempfile.TemporaryDirectory(prefix="first-call-") as room:
         os.chmod(room, 0o711)
         clone, kept, home = f"{room}/clone", f"{room}/kept", f"{room}/home"
@@ -68,16 +70,20 @@ def main():
             subprocess.run(["git", "-C", TOP, "show", f"{script}:clap_debug"], stdout=it, check=True)
         subprocess.run(["sh", "-c", "sync; echo 3 > /proc/sys/vm/drop_caches"], check=True)
         env = {name: it for name, it in os.environ.items() if name != "TMPDIR"} | {"HOME": home, "XDG_CACHE_HOME": f"{home}/.cache"}
-        call = ["unshare", "-m", "sh", "-c", HIDDEN, "", kept, "./clap_debug", "list", f"{clone}/examples/first/p.tc"]
+        call = [*UNSHARED, HIDDEN, "", kept, "./clap_debug", "list", f"{clone}/examples/first/p.tc"]
         watch, is_over = Watch(), threading.Event()
         ran = subprocess.Popen(call, cwd=clone, env=env, stdout=subprocess.DEVNULL, stderr=subprocess.PIPE, text=True)
         looking = threading.Thread(target=watch.look, args=(is_over,))
         looking.start()
-        for line in ran.stderr:
-            watch.say(line.rstrip())
-        status, whole = ran.wait(), time.monotonic() - watch.start
-        is_over.set()
-        looking.join()
+        try:
+            for line in ran.stderr:
+                watch.say(line.rstrip())
+            status, whole = ran.wait(), time.monotonic() - watch.start
+        finally:
+            # (where it is broken off, with all that it has started)
+            ran.kill()
+            is_over.set()
+            looking.join()
         used = resource.getrusage(resource.RUSAGE_CHILDREN)
     print(f"{clock(whole)} by the clock, of which the host took {clock(watch.taken)}; {(used.ru_utime + used.ru_stime) / 60:.0f} processor minutes; status {status}")
     return status
