@@ -1,11 +1,12 @@
 #!/usr/bin/env python3
-"""Times a first call of ./clap_debug, with nothing kept, and what the host of the machine took of that time.
+"""Times a newcomer's first calls in a fresh clone, with nothing kept: ./clap_debug without a proof, and once more.
 
-  bench/first_call.py                    by the script of this commit
-  bench/first_call.py --script cd12ff3   by the script as it was then, over the same sources
+  bench/first_call.py                    on all processors
+  bench/first_call.py --processors 2     on the first two alone
+  bench/first_call.py --prove            then ./prove, and a call of the proved program; on a machine on which nothing else runs
 
-Wants root and some hours on a machine on which nothing else runs. It works on a clone, with caches of its own and an
-empty folder in the place of what the kit keeps, which isn't touched."""
+Wants root. It works on a clone of the last commit, with caches of its own and an empty folder in the place of what a kit may
+keep, which isn't touched. At the end it says what of the time the host of the machine took for itself."""
 import argparse, os, resource, signal, subprocess, sys, tempfile, threading, time
 
 STORE = "/opt/rattle-kept"
@@ -25,68 +26,67 @@ def ticks():
     return user + nice + system + irq + soft, steal
 
 
-def provers():
-    """The crates that are proved now, with the jobs of each."""
-    for pid in filter(str.isdigit, os.listdir("/proc")):
-        try:
-            with open(f"/proc/{pid}/cmdline", "rb") as it:
-                words = it.read().decode(errors="replace").split("\0")
-            yield words[words.index("--crate-name") + 1], words[words.index("--jobs") + 1]
-        except (OSError, ValueError):
-            continue
-
-
 class Watch:
     def __init__(self):
-        self.start, self.taken, self.seen = time.monotonic(), 0, set()
+        self.start, self.taken, self.is_over = time.monotonic(), 0, threading.Event()
 
     def say(self, text):
         print(clock(time.monotonic() - self.start), text, flush=True)
 
-    def look(self, is_over):
-        """Sums what the host takes, and says when the proof of a crate begins."""
+    def look(self):
+        """Sums what the host takes."""
         before = time.monotonic(), *ticks()
-        while not is_over.wait(5):
+        while not self.is_over.wait(5):
             now = time.monotonic(), *ticks()
             passed, worked, stolen = (b - a for a, b in zip(before, now))
             self.taken, before = self.taken + passed * stolen / max(worked + stolen, 1), now
-            for name, jobs in set(provers()) - self.seen:
-                self.seen.add((name, jobs))
-                self.say(f"{name} is begun, jobs: {jobs}")
+
+
+def call(watch, words, clone, kept, env):
+    """Runs the words in the clone, and says each line as it comes, and how long all took."""
+    start, used = time.monotonic(), resource.getrusage(resource.RUSAGE_CHILDREN)
+    ran = subprocess.Popen([*UNSHARED, HIDDEN, "", kept, *words], cwd=clone, env=env, stdout=subprocess.PIPE, stderr=subprocess.STDOUT, text=True)
+    try:
+        for line in ran.stdout:
+            watch.say(line.rstrip())
+        status = ran.wait()
+    finally:
+        # (where it is broken off, with all that it has started)
+        ran.kill()
+    now = resource.getrusage(resource.RUSAGE_CHILDREN)
+    worked = sum(getattr(now, it) - getattr(used, it) for it in ("ru_utime", "ru_stime"))
+    watch.say(f"{' '.join(words)}: {clock(time.monotonic() - start)} by the clock, {worked / 60:.1f} processor minutes, status {status}")
+    return status
 
 
 def main():
     words = argparse.ArgumentParser(description=__doc__, formatter_class=argparse.RawDescriptionHelpFormatter)
-    words.add_argument("--script", metavar="COMMIT", default="HEAD")
-    script = words.parse_args().script
+    words.add_argument("--processors", type=int, default=os.cpu_count(), metavar="N")
+    words.add_argument("--prove", action="store_true")
+    given = words.parse_args()
+    os.sched_setaffinity(0, range(given.processors))
     signal.signal(signal.SIGTERM, lambda *_: sys.exit(128 + signal.SIGTERM))
+    first = ["./clap_debug", "solve", "examples/buffering/p.tc", "examples/buffering/p.log", "p.sched"]
+    calls = [first, first, ["./clap_debug", "--version"]]
+    if given.prove:
+        calls += [["./prove"], first, calls[-1]]
     with tempfile.TemporaryDirectory(prefix="first-call-") as room:
         os.chmod(room, 0o711)
         clone, kept, home = f"{room}/clone", f"{room}/kept", f"{room}/home"
         for it in (kept, home, STORE):
             os.makedirs(it, exist_ok=True)
         subprocess.run(["git", "clone", "-q", TOP, clone], check=True)
-        with open(f"{clone}/clap_debug", "wb") as it:
-            subprocess.run(["git", "-C", TOP, "show", f"{script}:clap_debug"], stdout=it, check=True)
-        subprocess.run(["sh", "-c", "sync; echo 3 > /proc/sys/vm/drop_caches"], check=True)
         env = {name: it for name, it in os.environ.items() if name != "TMPDIR"} | {"HOME": home, "XDG_CACHE_HOME": f"{home}/.cache"}
-        call = [*UNSHARED, HIDDEN, "", kept, "./clap_debug", "list", f"{clone}/examples/first/p.tc"]
-        watch, is_over = Watch(), threading.Event()
-        ran = subprocess.Popen(call, cwd=clone, env=env, stdout=subprocess.DEVNULL, stderr=subprocess.PIPE, text=True)
-        looking = threading.Thread(target=watch.look, args=(is_over,))
+        watch = Watch()
+        looking = threading.Thread(target=watch.look)
         looking.start()
         try:
-            for line in ran.stderr:
-                watch.say(line.rstrip())
-            status, whole = ran.wait(), time.monotonic() - watch.start
+            statuses = [call(watch, it, clone, kept, env) for it in calls]
         finally:
-            # (where it is broken off, with all that it has started)
-            ran.kill()
-            is_over.set()
+            watch.is_over.set()
             looking.join()
-        used = resource.getrusage(resource.RUSAGE_CHILDREN)
-    print(f"{clock(whole)} by the clock, of which the host took {clock(watch.taken)}; {(used.ru_utime + used.ru_stime) / 60:.0f} processor minutes; status {status}")
-    return status
+    print(f"on {given.processors} processors; the host took {clock(watch.taken)}")
+    return max(statuses)
 
 
 if __name__ == "__main__":
