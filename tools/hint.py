@@ -1,0 +1,224 @@
+#!/usr/bin/env python3
+"""What the scripts say beside the programs: help, and one line on a refusal that says where to look. Not proved, and no
+answer rests on it.
+
+  hint.py help PROGRAM               the commands and options of a program
+  hint.py clash PROGRAM WORD..       ends with 1, and says which, where an output is one of the inputs
+  hint.py refusal PROGRAM STATUS WORD..      a line on what was wrong, where it can be told"""
+import dataclasses, difflib, os, sys
+
+MODELS = ("sc", "tso", "pso")
+LAST = 2**64 - 1
+
+
+@dataclasses.dataclass
+class Option:
+    """An option takes one of some names, a number of a range, or the name of a file."""
+
+    what: str
+    names: tuple = ()
+    range: tuple = ()
+    default: str = ""
+
+    def value(self):
+        return "|".join(self.names) if self.names else "N" if self.range else "FILE"
+
+    def refuses(self, word):
+        """What it takes, where it doesn't take this word."""
+        if self.names:
+            return None if word in self.names else ", ".join(self.names[:-1]) + f" or {self.names[-1]}"
+        if self.range:
+            low, high = self.range
+            return None if word.isascii() and word.isdigit() and low <= int(word) <= high else f"a number from {low} to {high}"
+        return None
+
+
+@dataclasses.dataclass
+class Command:
+    """The words that a command takes: inputs, then outputs; and options by name, of which those of `writes` name outputs."""
+
+    what: str
+    inputs: tuple
+    outputs: tuple = ()
+    options: dict = dataclasses.field(default_factory=dict)
+    numbers: dict = dataclasses.field(default_factory=dict)
+    writes: tuple = ()
+
+    def words(self):
+        return (*self.inputs, *self.numbers, *self.outputs)
+
+    def usage(self):
+        return " ".join([*self.words(), *(f"[--{name} {it.value()}]" for name, it in self.options.items())])
+
+
+def model(default):
+    return {"model": Option("memory model", names=MODELS, default=default)}
+
+
+LOGS = ("PROGRAM", "LOG")
+SEED = Option("", range=(0, LAST))
+OF_LOG = model("the log's")
+BUDGET = Option("how many clauses a search may learn", range=(1, 10_000_000), default="1000000")
+PROGRAMS = {
+    "clap_debug": {
+        "record": Command("runs a program by moves that a seed chooses, and keeps the log of a run that fails or deadlocks",
+                          ("PROGRAM",), ("LOG",), model("sc") | {
+                              "seed": Option("chooses the moves", range=(0, LAST), default="0"),
+                              "steps": Option("the most moves that are made", range=(1, 1_000_000), default="1000000")}),
+        "solve": Command("writes a schedule that reproduces the log, or a refutation, which shows that none does", LOGS, ("OUT",),
+                         OF_LOG | {"budget": BUDGET, "least": Option("with the fewest context switches; FILE gets a refutation of fewer")},
+                         writes=("least",)),
+        "replay": Command("says whether a schedule reproduces the log", (*LOGS, "SCHEDULE")),
+        "check": Command("says whether a refutation shows that no schedule reproduces the log", (*LOGS, "REFUTATION")),
+        "why": Command("says on which rules of the machine a refutation rests", (*LOGS, "REFUTATION")),
+        "list": Command("prints the flat code of a program", ("PROGRAM",)),
+        "workload": Command("makes a program of N workers (1 to 12) and a log of it, and solves it", (),
+                            numbers={"N": Option("", range=(1, 12)), "SEED": SEED}),
+        "migrate": Command("brings a log to the newest format", LOGS, ("OUT",)),
+        "cnf": Command("writes the clauses of a log as a DIMACS text", LOGS, ("OUT",), OF_LOG),
+        "import": Command("writes the schedule that another solver's answer says", (*LOGS, "ANSWER"), ("OUT",), OF_LOG),
+    },
+    # it has no command: its words come at once
+    "clap_debug_show": {
+        "": Command("shows what a schedule or a log did, as text or as a page", ("PROGRAM", "SCHEDULE or LOG"), (),
+                    {"html": Option("writes a page into FILE")}, writes=("html",)),
+    },
+}
+KINDS = {b"CLPL": "a log", b"clap-schedule ": "a schedule", b"clap-refutation ": "a refutation", b"p cnf ": "a list of clauses"}
+WANTED = {"PROGRAM": "a program", "LOG": "a log", "SCHEDULE": "a schedule", "REFUTATION": "a refutation", "ANSWER": "a solver's answer"}
+
+
+def split(program, words):
+    """The command that words name, its positional words, and its options with their values."""
+    commands = PROGRAMS[program]
+    if "" not in commands:
+        if not words or words[0] not in commands:
+            return None, words, []
+        command, rest = commands[words[0]], list(words[1:])
+    else:
+        command, rest = commands[""], list(words)
+    plain, options = [], []
+    while rest:
+        word = rest.pop(0)
+        if word == "--":
+            return command, plain + rest, options
+        if word.startswith("--"):
+            name, found, value = word[2:].partition("=")
+            options.append((name, value if found else rest.pop(0) if rest else None))
+        elif word.startswith("-") and word != "-":
+            options.append((word[1:], None))
+        else:
+            plain.append(word)
+    return command, plain, options
+
+
+def files(command, plain, options):
+    """The files that words name, each with what it is to be, and whether it is an output."""
+    named = list(zip(command.words(), plain))
+    yield from ((name, word, name in command.outputs) for name, word in named if name not in command.numbers)
+    for name, value in options:
+        if value is not None and name in command.writes:
+            yield name, value, True
+
+
+def clash(program, words):
+    """The first output that is also an input."""
+    command, plain, options = split(program, words)
+    if not command:
+        return None
+    found = list(files(command, plain, options))
+    for _, out, is_output in found:
+        for kind, name, is_other in found:
+            if is_output and not is_other and os.path.exists(out) and os.path.exists(name) and os.path.samefile(out, name):
+                return f"{name} would be written over, and is the {kind} that is read; --force does it all the same"
+    return None
+
+
+def nearest(word, words, sign=""):
+    found = difflib.get_close_matches(word, words, 1, 0.5)
+    return f"; did you mean {sign}{found[0]}?" if found else ""
+
+
+def wrong_words(program, words):
+    """What was wrong with words that the program doesn't take."""
+    commands = PROGRAMS[program]
+    command, plain, options = split(program, words)
+    if not command:
+        return f"there is no command {words[0]}{nearest(words[0], commands)}" if words else None
+    name = words[0] if "" not in commands else program
+    for option, value in options:
+        if option not in command.options:
+            return f"{name} has no option --{option}{nearest(option, command.options, '--')}"
+        if value is None:
+            return f"--{option} takes a value: {command.options[option].value()}"
+        wanted = command.options[option].refuses(value)
+        if wanted:
+            return f"--{option} takes {wanted}, and not {value}"
+    twice = [it for it, _ in options if [one for one, _ in options].count(it) > 1]
+    if twice:
+        return f"--{twice[0]} was given twice"
+    if len(plain) != len(command.words()):
+        return f"{name} takes {' '.join(command.words())}, and {len(plain)} of these {len(command.words())} were given"
+    for (word, number), given in zip(command.numbers.items(), plain):
+        if number.refuses(given):
+            return f"{word} is {number.refuses(given)}, and not {given}"
+    return None
+
+
+def kind_of(file):
+    """What a file is by its first bytes, if that can be told."""
+    try:
+        with open(file, "rb") as it:
+            start = it.read(16)
+    except OSError:
+        return None
+    return next((kind for sign, kind in KINDS.items() if start.startswith(sign)), None)
+
+
+def wrong_file(program, words):
+    """The first input that is of another kind than the command reads, by its first bytes."""
+    command, plain, options = split(program, words)
+    for kind, name, is_output in files(command, plain, options) if command else ():
+        wanted = WANTED.get(kind)
+        found = kind_of(name)
+        if wanted and not is_output and found and found != wanted:
+            return f"{name} is {found}, and {kind} is to be {wanted}"
+    return None
+
+
+def missing(program, words):
+    """The first input that isn't there, or that is a folder."""
+    command, plain, options = split(program, words)
+    for _, name, is_output in files(command, plain, options) if command else ():
+        if not is_output and not os.path.isfile(name):
+            return f"{name} is a folder" if os.path.isdir(name) else f"there is no file {name}"
+    return None
+
+
+def refusal(program, status, words):
+    by_status = {2: wrong_words, 3: wrong_file, 4: wrong_file, 5: wrong_file, 7: missing}
+    return by_status[status](program, words) if status in by_status else None
+
+
+def show_help(program):
+    for name, command in PROGRAMS[program].items():
+        print(f"{' '.join(filter(None, [program, name, command.usage()]))}\n    {command.what}")
+        for option, it in command.options.items():
+            low_high = f", {it.range[0]} to {it.range[1]}" if it.range else ""
+            default = f"; {it.default} if left out" if it.default else ""
+            print(f"    --{option}: {it.what}{low_high}{default}")
+    print("--version says whether the program is proved, and with which kit; README.md and docs/MESSAGES.md say more")
+
+
+def main(what, program, *rest):
+    if what == "help":
+        show_help(program)
+        return 0
+    said = clash(program, rest) if what == "clash" else refusal(program, int(rest[0]), rest[1:])
+    if said:
+        print(f"{program}: hint: {said}", file=sys.stderr)
+    return 1 if said and what == "clash" else 0
+
+
+if __name__ == "__main__":
+    sys.exit(main(*sys.argv[1:]))
