@@ -1,8 +1,8 @@
 //! The words of a command line, read by `clap`: one command of the program, with its files.
 #![tactic(auto)]
 
-ghost use Rattle.std.specs.Prelude.{◌≡◌, ◌≤◌, List, Some, true, false, map, codes, IfOk, IsSomeAnd, option_map, string_bytes};
-ghost use Rattle.clap.specs.Words.{app_of, found_of, rows_of, rule_of, shape_of, subcommand_of, subcommand_rows_of, with_subcommand, Shape, Text};
+ghost use Rattle.std.specs.Prelude.{◌≡◌, ◌≤◌, List, Some, true, false, bytes_eq, map, codes, IfOk, IsSomeAnd, option_map, string_bytes};
+ghost use Rattle.clap.specs.Words.{app_of, found_of, new_app, rows_of, rule_of, shape_of, subcommand_of, subcommand_rows_of, with_rule, with_subcommand, App, Rule, Shape, Text};
 ghost use Rattle.clap_debug_words.specs.CommandLine as spec;
 ghost use Rattle.clap_debug_words.specs.CommandLine.{AreModelNames, command_line, words_taken};
 ghost use Rattle.clap_debug_words.specs.Calls.{plain_call, called, searched, call_of, text_of, model_in, model_of, written_model, number_of, seed_of, steps_of, budget_of, workers_of, within};
@@ -17,6 +17,7 @@ use clap::builder::ValueParser;
 use clap::error::ErrorKind;
 use clap::{Arg, ArgMatches, Command};
 use std::alloc::{AllocError, Global};
+use std::mem::drop;
 use tc_base::Model;
 use tc_base::limits::{BUDGET, MOVES};
 pub use workers::{WORKERS, Workers};
@@ -36,7 +37,7 @@ const MOST_WORKERS: u64 = WORKERS as u64;
 const USUAL_CONFLICTS: u64 = USUAL_BUDGET as u64;
 
 /// What the words ask for.
-#[derive(Clone, Copy, Debug)]
+#[derive(Clone, Copy)]
 pub enum Call<'a> {
     /// Print the flat code of a program.
     List {
@@ -162,56 +163,69 @@ fn called<'a>(name: &str, matches: &ArgMatches<'a>) -> Call<'a>
         Call::List {
             program: text(matches, "program"),
         }
-    } else if name == "replay" {
+    } else if name == "workload" {
+        Call::Workload {
+            workers: workers_in(matches),
+            seed: seed_in(matches),
+        }
+    } else {
+        called_of_log(name, matches)
+    }
+}
+
+/// The call of a command that reads or writes a log.
+fn called_of_log<'a>(name: &str, matches: &ArgMatches<'a>) -> Call<'a>
+    requires listless { bytes_eq name.now (codes "list") ≡ false }
+    requires workless { bytes_eq name.now (codes "workload") ≡ false }
+    ensures { plain_call result ≡ called (name.now, rows_of (found_of matches.now)) }
+{
+    let program = text(matches, "program");
+    let log = text(matches, "log");
+    if name == "replay" {
         Call::Replay {
-            program: text(matches, "program"),
-            log: text(matches, "log"),
+            program,
+            log,
             schedule: text(matches, "schedule"),
         }
     } else if name == "migrate" {
         Call::Migrate {
-            program: text(matches, "program"),
-            log: text(matches, "log"),
+            program,
+            log,
             out: text(matches, "out"),
         }
     } else if name == "solve" {
         searched(matches)
     } else if name == "check" {
         Call::Check {
-            program: text(matches, "program"),
-            log: text(matches, "log"),
+            program,
+            log,
             refutation: text(matches, "refutation"),
-        }
-    } else if name == "workload" {
-        Call::Workload {
-            workers: workers_in(matches),
-            seed: seed_in(matches),
         }
     } else if name == "cnf" {
         Call::Cnf {
-            program: text(matches, "program"),
-            log: text(matches, "log"),
+            program,
+            log,
             out: text(matches, "out"),
             model: written_model(matches),
         }
     } else if name == "import" {
         Call::Import {
-            program: text(matches, "program"),
-            log: text(matches, "log"),
+            program,
+            log,
             answer: text(matches, "answer"),
             out: text(matches, "out"),
             model: written_model(matches),
         }
     } else if name == "why" {
         Call::Why {
-            program: text(matches, "program"),
-            log: text(matches, "log"),
+            program,
+            log,
             refutation: text(matches, "refutation"),
         }
     } else {
         Call::Record {
-            program: text(matches, "program"),
-            log: text(matches, "log"),
+            program,
+            log,
             model: model_in(matches),
             seed: seed_in(matches),
             steps: steps_in(matches),
@@ -344,28 +358,51 @@ fn text<'a>(matches: &ArgMatches<'a>, id: &str) -> &'a str
 fn command_line<'a>(alloc: Global, names: &'a [&'a str]) -> Result<Command<'a>, AllocError>
     ensures { IfOk result (λ command. app_of command ≡ spec.command_line_at names.entry) }
 {
-    let command = commands(Command::new(alloc, "clap_debug"));
-    let command = add_command(command, list(alloc))?;
-    let command = add_command(command, replay(alloc))?;
-    let command = add_command(command, recording(alloc, names))?;
-    let command = add_command(command, migration(alloc))?;
-    let command = add_command(command, solving(alloc, names))?;
-    let command = add_command(command, checking(alloc))?;
-    let command = add_command(command, workload(alloc))?;
-    let command = add_command(command, cnf(alloc, names))?;
-    let command = add_command(command, import(alloc, names))?;
+    let command = Ok(commands(Command::new(alloc, "clap_debug")));
+    let command = add_command(command, list(alloc));
+    let command = add_command(command, replay(alloc));
+    let command = add_command(command, recording(alloc, names));
+    let command = add_command(command, migration(alloc));
+    let command = add_command(command, solving(alloc, names));
+    let command = add_command(command, checking(alloc));
+    let command = add_command(command, workload(alloc));
+    let command = add_command(command, cnf(alloc, names));
+    let command = add_command(command, import(alloc, names));
     add_command(command, why(alloc))
 }
 
-/// The command, with this subcommand.
+/// The command, where there is one, with this subcommand.
 fn add_command<'a>(
+    command: Result<Command<'a>, AllocError>,
+    subcommand: Result<Command<'a>, AllocError>,
+) -> Result<Command<'a>, AllocError>
+    ensures { (app : App) (shape : Shape) → shape.is_plain ≡ true → IfOk command.entry (λ c. app_of c ≡ app)
+        → IfOk subcommand.entry (λ s. shape_of s ≡ shape) → IfOk result (λ whole. app_of whole ≡ with_subcommand app shape) }
+{
+    match command {
+        Ok(command) => with_command(command, subcommand),
+        Err(fault) => {
+            drop(subcommand);
+            Err(fault)
+        }
+    }
+}
+
+/// The command with this subcommand.
+fn with_command<'a>(
     command: Command<'a>,
     subcommand: Result<Command<'a>, AllocError>,
 ) -> Result<Command<'a>, AllocError>
     ensures { (shape : Shape) → shape.is_plain ≡ true → IfOk subcommand.entry (λ s. shape_of s ≡ shape)
         → IfOk result (λ whole. app_of whole ≡ with_subcommand (app_of command.entry) shape) }
 {
-    command.subcommand(subcommand?)
+    match subcommand {
+        Ok(subcommand) => command.subcommand(subcommand),
+        Err(fault) => {
+            drop(command);
+            Err(fault)
+        }
+    }
 }
 
 /// The command, where it wants a subcommand and knows no help.
@@ -389,10 +426,7 @@ fn list<'a>(alloc: Global) -> Result<Command<'a>, AllocError>
 fn replay<'a>(alloc: Global) -> Result<Command<'a>, AllocError>
     ensures { IfOk result (λ command. shape_of command ≡ spec.replay) }
 {
-    Command::new(alloc, "replay")
-        .arg(positional(alloc, "program"))?
-        .arg(positional(alloc, "log"))?
-        .arg(positional(alloc, "schedule"))
+    with(of_log(alloc, "replay"), positional(alloc, "schedule"))
 }
 
 /// `record PROGRAM LOG [--model sc|tso|pso] [--seed N] [--steps N]`.
@@ -407,22 +441,15 @@ fn recording<'a>(alloc: Global, names: &'a [&'a str]) -> Result<Command<'a>, All
         "1000000",
         ValueParser::unsigned(1, MOST_MOVES),
     );
-    Command::new(alloc, "record")
-        .arg(positional(alloc, "program"))?
-        .arg(positional(alloc, "log"))?
-        .arg(model)?
-        .arg(seed)?
-        .arg(steps)
+    let command = with(of_log(alloc, "record"), model);
+    with(with(command, seed), steps)
 }
 
 /// `migrate PROGRAM LOG OUT`.
 fn migration<'a>(alloc: Global) -> Result<Command<'a>, AllocError>
     ensures { IfOk result (λ command. shape_of command ≡ spec.migration) }
 {
-    Command::new(alloc, "migrate")
-        .arg(positional(alloc, "program"))?
-        .arg(positional(alloc, "log"))?
-        .arg(positional(alloc, "out"))
+    with(of_log(alloc, "migrate"), positional(alloc, "out"))
 }
 
 /// `solve PROGRAM LOG OUT [--model sc|tso|pso] [--budget N] [--least REFUTATION]`.
@@ -436,23 +463,16 @@ fn solving<'a>(alloc: Global, names: &'a [&'a str]) -> Result<Command<'a>, Alloc
         "1000000",
         ValueParser::unsigned(1, MOST_CONFLICTS),
     );
-    Command::new(alloc, "solve")
-        .arg(positional(alloc, "program"))?
-        .arg(positional(alloc, "log"))?
-        .arg(positional(alloc, "out"))?
-        .arg(model)?
-        .arg(budget)?
-        .arg(option_of_any(alloc, "least"))
+    let command = with(of_log(alloc, "solve"), positional(alloc, "out"));
+    let command = with(with(command, model), budget);
+    with(command, option_of_any(alloc, "least"))
 }
 
 /// `check PROGRAM LOG REFUTATION`.
 fn checking<'a>(alloc: Global) -> Result<Command<'a>, AllocError>
     ensures { IfOk result (λ command. shape_of command ≡ spec.checking) }
 {
-    Command::new(alloc, "check")
-        .arg(positional(alloc, "program"))?
-        .arg(positional(alloc, "log"))?
-        .arg(positional(alloc, "refutation"))
+    with(of_log(alloc, "check"), positional(alloc, "refutation"))
 }
 
 /// `workload N SEED`.
@@ -461,9 +481,8 @@ fn workload<'a>(alloc: Global) -> Result<Command<'a>, AllocError>
 {
     let workers = ValueParser::unsigned(1, MOST_WORKERS);
     let seed = ValueParser::unsigned(0, u64::MAX);
-    Command::new(alloc, "workload")
-        .arg(positional_of(alloc, "workers", workers))?
-        .arg(positional_of(alloc, "seed", seed))
+    let command = Command::new(alloc, "workload").arg(positional_of(alloc, "workers", workers));
+    with(command, positional_of(alloc, "seed", seed))
 }
 
 /// `cnf PROGRAM LOG OUT [--model sc|tso|pso]`.
@@ -471,11 +490,8 @@ fn cnf<'a>(alloc: Global, names: &'a [&'a str]) -> Result<Command<'a>, AllocErro
     ensures { IfOk result (λ command. shape_of command ≡ spec.cnf names.entry) }
 {
     let model = option_alone(alloc, "model", ValueParser::from(names));
-    Command::new(alloc, "cnf")
-        .arg(positional(alloc, "program"))?
-        .arg(positional(alloc, "log"))?
-        .arg(positional(alloc, "out"))?
-        .arg(model)
+    let command = with(of_log(alloc, "cnf"), positional(alloc, "out"));
+    with(command, model)
 }
 
 /// `import PROGRAM LOG ANSWER OUT [--model sc|tso|pso]`.
@@ -483,22 +499,42 @@ fn import<'a>(alloc: Global, names: &'a [&'a str]) -> Result<Command<'a>, AllocE
     ensures { IfOk result (λ command. shape_of command ≡ spec.import names.entry) }
 {
     let model = option_alone(alloc, "model", ValueParser::from(names));
-    Command::new(alloc, "import")
-        .arg(positional(alloc, "program"))?
-        .arg(positional(alloc, "log"))?
-        .arg(positional(alloc, "answer"))?
-        .arg(positional(alloc, "out"))?
-        .arg(model)
+    let command = with(of_log(alloc, "import"), positional(alloc, "answer"));
+    with(with(command, positional(alloc, "out")), model)
 }
 
 /// `why PROGRAM LOG REFUTATION`.
 fn why<'a>(alloc: Global) -> Result<Command<'a>, AllocError>
     ensures { IfOk result (λ command. shape_of command ≡ spec.why) }
 {
-    Command::new(alloc, "why")
-        .arg(positional(alloc, "program"))?
-        .arg(positional(alloc, "log"))?
-        .arg(positional(alloc, "refutation"))
+    with(of_log(alloc, "why"), positional(alloc, "refutation"))
+}
+
+/// A command of a program and its log, to which more can be added.
+fn of_log<'a>(alloc: Global, name: &'a str) -> Result<Command<'a>, AllocError>
+    ensures { IfOk result (λ command. app_of command
+        ≡ with_rule (with_rule (new_app name.entry.now) (spec.positional (codes "program"))) (spec.positional (codes "log"))) }
+{
+    let command = Command::new(alloc, name).arg(positional(alloc, "program"));
+    with(command, positional(alloc, "log"))
+}
+
+/// The command, where there is one, with this argument.
+fn with<'a>(
+    command: Result<Command<'a>, AllocError>,
+    argument: Arg<'a>,
+) -> Result<Command<'a>, AllocError>
+    requires { argument.global ≡ false }
+    ensures { (app : App) (rule : Rule) → IfOk command.entry (λ c. app_of c ≡ app) → rule_of argument.entry ≡ rule
+        → IfOk result (λ c. app_of c ≡ with_rule app rule) }
+{
+    match command {
+        Ok(command) => command.arg(argument),
+        Err(fault) => {
+            drop(argument);
+            Err(fault)
+        }
+    }
 }
 
 /// The names of the memory models.

@@ -1,24 +1,18 @@
-use Rattle.std.proofs.Common.{◌≡◌, ◌∙◌, ap, codes, refl}
-use Rattle.std.proofs.lemmas.Result.{IfOk-weaker}
-use Rattle.clap.specs.Words.{App, Shape, app_of, new_app, with_subcommand}
+use Rattle.std.proofs.Common.{◌∙◌, ap, refl}
 use Rattle.clap_debug_words.specs.CommandLine as spec
 use Rattle.clap_debug_words.proofs.command_line.Goals as goal
-
--- one more subcommand behind equal ones
-more : (s : Shape) (a b : App) → a ≡ b → with_subcommand a s ≡ with_subcommand b s
-more s a b is = ap (λ (x : App). with_subcommand x s) is
 
 pub returns : goal.returns
 returns c =
     let names = c.args.names in
-    let top : app_of c.commands-command.result ≡ spec.commands (new_app (codes "clap_debug")) = c.commands-command.ensures ∙ ap spec.commands c.new.ensures.app in
-    let listed = c.in_ok-command.ensures spec.list refl c.list.ensures ∙ more spec.list _ _ top in
-    let replayed = c.in_ok-command-2.ensures spec.replay refl c.replay.ensures ∙ more spec.replay _ _ listed in
-    let recorded = c.in_ok-command-3.ensures (spec.recording names) refl c.recording.ensures ∙ more (spec.recording names) _ _ replayed in
-    let migrated = c.in_ok-command-4.ensures spec.migration refl c.migration.ensures ∙ more spec.migration _ _ recorded in
-    let solved = c.in_ok-command-5.ensures (spec.solving names) refl c.solving.ensures ∙ more (spec.solving names) _ _ migrated in
-    let checked = c.in_ok-command-6.ensures spec.checking refl c.checking.ensures ∙ more spec.checking _ _ solved in
-    let worked = c.in_ok-command-7.ensures spec.workload refl c.workload.ensures ∙ more spec.workload _ _ checked in
-    let exported = c.in_ok-command-8.ensures (spec.cnf names) refl c.cnf.ensures ∙ more (spec.cnf names) _ _ worked in
-    let imported = c.in_ok-command-9.ensures (spec.import names) refl c.import.ensures ∙ more (spec.import names) _ _ exported in
-    IfOk-weaker c.add_command-10.result _ _ (λ _ h. h ∙ more spec.why _ _ imported) (c.add_command-10.ensures spec.why refl c.why.ensures)
+    let top = c.commands.ensures ∙ ap spec.commands c.new.ensures.app in
+    let listed = c.add_command-command.ensures _ spec.list refl top c.list.ensures in
+    let replayed = c.add_command-command-2.ensures _ spec.replay refl listed c.replay.ensures in
+    let recorded = c.add_command-command-3.ensures _ (spec.recording names) refl replayed c.recording.ensures in
+    let migrated = c.add_command-command-4.ensures _ spec.migration refl recorded c.migration.ensures in
+    let solved = c.add_command-command-5.ensures _ (spec.solving names) refl migrated c.solving.ensures in
+    let checked = c.add_command-command-6.ensures _ spec.checking refl solved c.checking.ensures in
+    let worked = c.add_command-command-7.ensures _ spec.workload refl checked c.workload.ensures in
+    let exported = c.add_command-command-8.ensures _ (spec.cnf names) refl worked c.cnf.ensures in
+    let imported = c.add_command-command-9.ensures _ (spec.import names) refl exported c.import.ensures in
+    c.add_command.ensures _ spec.why refl imported c.why.ensures

@@ -1,6 +1,6 @@
-use Rattle.std.proofs.Common.{◌≡◌, ◌∙◌, ap, ap₂, codes}
+use Rattle.std.proofs.Common.{◌≡◌, ◌∙◌, ap, codes}
 use Rattle.std.proofs.lemmas.Result.{IfOk-weaker}
-use Rattle.clap.specs.Words.{App, rule_of, with_rule}
+use Rattle.clap.specs.Words.{App, rule_of}
 use Rattle.clap.specs.declared.builder.value_parser.ValueParser.TheVariants as parser
 use Rattle.clap_debug_words.specs.CommandLine as spec
 use Rattle.clap_debug_words.proofs.import.Goals as goal
@@ -9,12 +9,6 @@ pub returns : goal.returns
 returns c =
     let model_is : rule_of c.option_alone-model.result ≡ spec.option_alone (codes "model") (parser.Names c.args.names) =
     c.option_alone-model.ensures.rule ∙ ap (spec.option_alone (codes "model")) c.from.ensures in
-    let program_is : rule_of c.positional.result ≡ spec.positional (codes "program") = c.positional.ensures.rule in
-    let log_is : rule_of c.positional-2.result ≡ spec.positional (codes "log") = c.positional-2.ensures.rule in
-    let answer_is : rule_of c.positional-3.result ≡ spec.positional (codes "answer") = c.positional-3.ensures.rule in
-    let out_is : rule_of c.positional-4.result ≡ spec.positional (codes "out") = c.positional-4.ensures.rule in
-    let one = c.in_ok-arg.ensures.shape c.positional.ensures.local ∙ ap₂ with_rule c.new.ensures.app program_is in
-    let two = c.in_ok-arg-2.ensures.shape c.positional-2.ensures.local ∙ ap₂ with_rule one log_is in
-    let three = c.in_ok-arg-3.ensures.shape c.positional-3.ensures.local ∙ ap₂ with_rule two answer_is in
-    let four = c.in_ok-arg-4.ensures.shape c.positional-4.ensures.local ∙ ap₂ with_rule three out_is in
-    IfOk-weaker c.arg-5.result _ _ (λ m h. ap (λ (a : App). a.top) (h.shape c.option_alone-model.ensures.local ∙ ap₂ with_rule four model_is)) c.arg-5.ensures
+    let answered = c.with-command.ensures _ _ c.of_log.ensures c.positional.ensures.rule in
+    let exported = c.with.ensures _ _ answered c.positional-2.ensures.rule in
+    IfOk-weaker c.with-2.result _ _ (λ _ h. ap (λ (a : App). a.top) h) (c.with-2.ensures _ _ exported model_is)

@@ -1,6 +1,6 @@
 use Rattle.std.proofs.Common.{◌≡◌, ◌∙◌, ap, ap₂, codes}
 use Rattle.std.proofs.lemmas.Result.{IfOk-weaker}
-use Rattle.clap.specs.Words.{App, rule_of, with_rule}
+use Rattle.clap.specs.Words.{App, app_of, new_app, rule_of, with_rule}
 use Rattle.clap.specs.declared.builder.value_parser.ValueParser.TheVariants as parser
 use Rattle.clap_debug_words.specs.CommandLine as spec
 use Rattle.clap_debug_words.specs.declared.workers.TheConstants.{WORKERS}
@@ -12,5 +12,6 @@ returns c =
     c.positional_of.ensures.rule ∙ ap (spec.positional_of (codes "workers")) c.unsigned-workers.ensures in
     let seed_is : rule_of c.positional_of-2.result ≡ spec.positional_of (codes "seed") (parser.Unsigned 0 18446744073709551615) =
     c.positional_of-2.ensures.rule ∙ ap (spec.positional_of (codes "seed")) c.unsigned-seed.ensures in
-    let one = c.in_ok-arg.ensures.shape c.positional_of.ensures.local ∙ ap₂ with_rule c.new.ensures.app workers_is in
-    IfOk-weaker c.arg-2.result _ _ (λ m h. ap (λ (a : App). a.top) (h.shape c.positional_of-2.ensures.local ∙ ap₂ with_rule one seed_is)) c.arg-2.ensures
+    let counted = IfOk-weaker c.arg-command.result _ (λ m. app_of m ≡ with_rule (new_app (codes "workload")) (spec.positional_of (codes "workers") (parser.Unsigned 1 WORKERS)))
+    (λ _ h. h.shape c.positional_of.ensures.local ∙ ap₂ with_rule c.new.ensures.app workers_is) c.arg-command.ensures in
+    IfOk-weaker c.with.result _ _ (λ _ h. ap (λ (a : App). a.top) h) (c.with.ensures _ _ counted seed_is)
