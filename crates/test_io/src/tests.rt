@@ -4,6 +4,7 @@ ghost use Rattle.std.specs.Prelude.{◌≤◌, IfOk};
 use std::alloc::{AllocError, Allocator, Global};
 use std::fs::{Metadata, OpenFile, OpenOptions};
 use std::io::{self, ErrorKind, SeekFrom};
+use std::mem::drop;
 use std::os::unix::fs::symlink;
 use std::process::Abort;
 use std::rt::Files;
@@ -39,27 +40,27 @@ fn keeps<H: Shelf>(
     }
 }
 
-/// The bytes that a reading of the name gives by pieces, and whether it comes to its end.
+/// Takes the bytes that a reading of the name gives by pieces, and tells whether it comes to its end.
 fn read_by_pieces<H: Shelf>(
     alloc: Global,
     shelf: &mut H,
     name: &str,
     buf: &mut [u8],
-) -> Result<(Vec<u8>, bool), AllocError> {
-    let mut bytes = Vec::new(alloc);
+    bytes: &mut Vec<u8>,
+) -> Result<bool, AllocError> {
     if shelf.open(alloc, name).is_ok() {
         for _ in 0..1000 {
             if buf.is_empty() || !shelf.is_open() {
                 break;
             }
             match shelf.piece(buf) {
-                Ok(0) => return Ok((bytes, true)),
+                Ok(0) => return Ok(true),
                 Ok(count) => bytes.extend_from_slice(&buf[..count])?,
                 Err(PieceFault::Failed) => break,
             }
         }
     }
-    Ok((bytes, false))
+    Ok(false)
 }
 
 /// Tests what a reading by pieces gives, and that it stays open only where it came to its end.
@@ -70,8 +71,12 @@ fn reads<H: Shelf>(
     buf: &mut [u8],
     want: (&[u8], bool),
 ) -> Result<(), AllocError> {
-    let (bytes, ended) = read_by_pieces(rt.alloc(), shelf, name, buf)?;
-    assert!(rt; (bytes.as_slice(), ended) == want, "{name} by pieces");
+    let mut bytes = Vec::new(rt.alloc());
+    let ended = read_by_pieces(rt.alloc(), shelf, name, buf, &mut bytes);
+    let is_wanted = bytes.as_slice() == want.0;
+    drop(bytes);
+    let ended = ended?;
+    assert!(rt; is_wanted && ended == want.1, "{name} by pieces");
     assert!(rt; shelf.is_open() == ended, "{name} afterwards");
     Ok(())
 }
@@ -274,9 +279,40 @@ fn a_piece_fails(rt: HostRuntime) -> Result<(), test::Fail> {
     Ok(())
 }
 
+/// Tests what a reading of the name gives by pieces, and that the digits are fetched after it, where a call fails.
+fn reads_digits(
+    rt: &(impl Abort + AllocGlobal),
+    shelf: &mut MemShelf,
+    fail: Fail,
+    name: &str,
+    want: (&[u8], bool),
+) -> Result<(), AllocError> {
+    shelf.hold(rt.alloc(), "a", b"0123456789")?;
+    shelf.hold(rt.alloc(), "empty", b"")?;
+    shelf.fail(fail)?;
+    reads(rt, shelf, name, &mut [0; 4], want)?;
+    fetches(rt, shelf, &[("a", 10, Ok("0123456789"))]);
+    Ok(())
+}
+
+/// The same over a shelf that never fails, on which a missing name is an empty file.
+fn reads_surely(rt: &(impl Abort + AllocGlobal), shelf: &mut SureShelf) -> Result<(), AllocError> {
+    shelf.hold(rt.alloc(), "a", b"0123456789")?;
+    for (name, text) in [("a", "0123456789"), ("missing", "")] {
+        reads(rt, shelf, name, &mut [0; 4], (text.as_bytes(), true))?;
+    }
+    Ok(())
+}
+
+/// Holds a text in a shelf, of which readings are ended.
+fn ends_held(rt: &(impl Abort + AllocGlobal), shelf: &mut MemShelf) -> Result<(), AllocError> {
+    shelf.hold(rt.alloc(), "a", b"text")?;
+    ends_readings(rt, shelf, "a", "missing");
+    Ok(())
+}
+
 #[test]
 fn memory_by_pieces(rt: HostRuntime) -> Result<(), test::Fail> {
-    let alloc = rt.alloc();
     // the call that fails, and after how many bytes; what is read, and whether it comes to its end
     let cases: [(u64, usize, &str, &str, bool); 7] = [
         (9, 0, "a", "0123456789", true),
@@ -288,22 +324,20 @@ fn memory_by_pieces(rt: HostRuntime) -> Result<(), test::Fail> {
         (9, 0, "missing", "", false),
     ];
     for &(call, after, name, text, ended) in &cases {
-        let mut shelf = MemShelf::new(alloc);
-        shelf.hold(alloc, "a", b"0123456789")?;
-        shelf.hold(alloc, "empty", b"")?;
-        shelf.fail(Fail { call, after })?;
-        reads(&rt, &mut shelf, name, &mut [0; 4], (text.as_bytes(), ended))?;
-        fetches(&rt, &mut shelf, &[("a", 10, Ok("0123456789"))]);
+        let mut shelf = MemShelf::new(rt.alloc());
+        let want = (text.as_bytes(), ended);
+        let read = reads_digits(&rt, &mut shelf, Fail { call, after }, name, want);
+        drop(shelf);
+        read?;
     }
-    let mut shelf = SureShelf::new(alloc);
-    shelf.hold(alloc, "a", b"0123456789")?;
-    for (name, text) in [("a", "0123456789"), ("missing", "")] {
-        reads(&rt, &mut shelf, name, &mut [0; 4], (text.as_bytes(), true))?;
-    }
-    let mut shelf = MemShelf::new(alloc);
-    shelf.hold(alloc, "a", b"text")?;
-    ends_readings(&rt, &mut shelf, "a", "missing");
-    Ok(())
+    let mut shelf = SureShelf::new(rt.alloc());
+    let read = reads_surely(&rt, &mut shelf);
+    drop(shelf);
+    read?;
+    let mut shelf = MemShelf::new(rt.alloc());
+    let ended = ends_held(&rt, &mut shelf);
+    drop(shelf);
+    Ok(ended?)
 }
 
 /// Writes a file, and fetches it within limits about its length.
@@ -332,138 +366,328 @@ fn fetches_file<H: Shelf>(
     fs::remove_file(rt, name)
 }
 
+/// The nanoseconds of this moment, by which no two folders have one name.
+fn moment(rt: &HostRuntime) -> Result<u128, test::Fail> {
+    let since = SystemTime::now(rt)?.duration_since(SystemTime::UNIX_EPOCH)?;
+    Ok(since.as_nanos())
+}
+
 /// A folder of a test's own, which is empty.
 fn own_folder(rt: &HostRuntime, what: &str) -> Result<String, test::Fail> {
+    let now = moment(rt)?;
     let folder = env::temp_dir(rt)?;
-    let now = SystemTime::now(rt)?
-        .duration_since(SystemTime::UNIX_EPOCH)?
-        .as_nanos();
-    let own = format!(in rt.alloc(); "{}/tc_io-{what}-{now}", folder.as_str())?;
+    let own = format!(in rt.alloc(); "{}/tc_io-{what}-{now}", folder.as_str());
+    drop(folder);
+    let own = own?;
     fs::create_dir(rt, own.as_str())?;
     Ok(own)
 }
 
-/// Tests whether the folder holds these names and no others, in their order.
-fn holds(rt: &HostRuntime, folder: &str, want: &[&str]) -> Result<bool, test::Fail> {
-    let mut names = Vec::new(rt.alloc());
+/// The path of a name in a folder.
+fn path_in(alloc: Global, folder: &str, name: &str) -> Result<String, AllocError> {
+    format!(in alloc; "{folder}/{name}")
+}
+
+/// Takes a name.
+fn push_name(alloc: Global, names: &mut Vec<String>, name: &str) -> Result<(), AllocError> {
+    Ok(names.push(String::from_str(alloc, name)?)?)
+}
+
+/// Takes the names in a folder, and brings them into their order.
+fn take_names(
+    rt: &(impl AllocGlobal + Files + Clone + Drop),
+    folder: &str,
+    names: &mut Vec<String>,
+) -> io::Result<()> {
     for entry in fs::read_dir(rt, folder)? {
-        names.push(String::from_str(rt.alloc(), entry?.file_name())?)?;
+        let entry = entry?;
+        let pushed = push_name(rt.alloc(), names, entry.file_name());
+        drop(entry);
+        pushed?;
     }
-    names.sort()?;
-    Ok(
-        names.len() == want.len()
-            && names
-                .iter()
-                .zip(want)
-                .all(|(name, want)| name.as_str() == *want),
-    )
+    Ok(names.sort()?)
+}
+
+/// Tests that a folder holds these names and no others, in their order.
+fn holds(
+    rt: &(impl Abort + AllocGlobal + Files + Clone + Drop),
+    folder: &str,
+    want: &[&str],
+) -> io::Result<()> {
+    let mut names = Vec::new(rt.alloc());
+    let taken = take_names(rt, folder, &mut names);
+    let is_wanted = names.len() == want.len()
+        && names
+            .iter()
+            .zip(want)
+            .all(|(name, want)| name.as_str() == *want);
+    drop(names);
+    taken?;
+    assert!(rt; is_wanted, "its folder");
+    Ok(())
+}
+
+/// Fetches files of three lengths, and what no byte can be read of.
+fn fetches_files<H: Shelf>(
+    rt: &(impl Abort + AllocGlobal + Files + Clone + Drop),
+    shelf: &mut H,
+    folder: &str,
+    name: &str,
+    long: &str,
+) -> io::Result<()> {
+    for text in ["", "hello", long] {
+        fetches_file(rt, shelf, name, text)?;
+    }
+    // a folder opens, and no byte of it can be read
+    for missing in [name, folder] {
+        fetches(rt, shelf, &[(missing, 9, Err(FetchFault::Failed))]);
+    }
+    holds(rt, folder, &[])?;
+    fs::remove_dir(rt, folder)
+}
+
+/// Fetches files in a folder, which is removed then.
+fn fetches_in<H: Shelf>(
+    rt: &(impl Abort + AllocGlobal + Files + Clone + Drop),
+    shelf: &mut H,
+    folder: &str,
+) -> io::Result<()> {
+    let name = path_in(rt.alloc(), folder, "a")?;
+    let long = format!(in rt.alloc(); "{:>10000}", "x")?;
+    let fetched = fetches_files(rt, shelf, folder, name.as_str(), long.as_str());
+    drop(long);
+    drop(name);
+    fetched
 }
 
 #[test]
 fn real_files(rt: HostRuntime) -> Result<(), test::Fail> {
-    let folder = own_folder(&rt, "read")?;
-    let name = format!(in rt.alloc(); "{folder}/a")?;
-    let long = format!(in rt.alloc(); "{:>10000}", "x")?;
     let mut shelf = FileShelf::new(rt.clone()?);
-    for text in ["", "hello", long.as_str()] {
-        fetches_file(&rt, &mut shelf, name.as_str(), text)?;
+    let folder = own_folder(&rt, "read")?;
+    let fetched = fetches_in(&rt, &mut shelf, folder.as_str());
+    drop(folder);
+    drop(shelf);
+    Ok(fetched?)
+}
+
+/// Tests that a file has these bytes.
+fn stays(
+    rt: &(impl Abort + AllocGlobal + Files + Clone + Drop),
+    name: &str,
+    bytes: &[u8],
+) -> io::Result<()> {
+    let found = fs::read(rt, name)?;
+    let is_same = found.as_slice() == bytes;
+    drop(found);
+    assert!(rt; is_same, "the file stays");
+    Ok(())
+}
+
+/// Makes files of some lengths in a folder, and reads them by pieces.
+fn reads_lengths<H: Shelf>(
+    rt: &(impl Abort + AllocGlobal + Files + Clone + Drop),
+    shelf: &mut H,
+    folder: &str,
+    name: &str,
+    buf: &mut [u8],
+    bytes: &mut Vec<u8>,
+) -> io::Result<()> {
+    for place in 0..200_000u32 {
+        bytes.push((place % 251) as u8)?;
     }
+    for length in [0, 1, 65_536, 200_000] {
+        let text = &bytes[..length.min(bytes.len())];
+        fs::write(rt, name, text)?;
+        reads(rt, shelf, name, buf, (text, true))?;
+        stays(rt, name, text)?;
+        holds(rt, folder, &["a"])?;
+    }
+    Ok(())
+}
+
+/// Ends readings of a file, and opens what no byte can be read of.
+fn ends_in<H: Shelf>(
+    rt: &(impl Abort + AllocGlobal + Files + Clone + Drop),
+    shelf: &mut H,
+    folder: &str,
+    names: [&str; 2],
+    buf: &mut [u8],
+) -> io::Result<()> {
+    let [name, missing] = names;
+    fs::write(rt, name, "text")?;
+    ends_readings(rt, shelf, name, missing);
     // a folder opens, and no byte of it can be read
-    for missing in [name.as_str(), folder.as_str()] {
-        fetches(&rt, &mut shelf, &[(missing, 9, Err(FetchFault::Failed))]);
+    for unread in [missing, folder] {
+        reads(rt, shelf, unread, buf, (&[], false))?;
     }
-    assert!(rt; holds(&rt, folder.as_str(), &[])?, "its folder");
-    Ok(fs::remove_dir(&rt, folder.as_str())?)
+    holds(rt, folder, &["a"])?;
+    fs::remove_dir_all(rt, folder)
+}
+
+/// Reads files in a folder by pieces.
+fn reads_files(
+    rt: &(impl Abort + AllocGlobal + Files + Clone + Drop),
+    shelf: &mut FileShelf<HostRuntime>,
+    folder: &str,
+    names: [&str; 2],
+    buf: &mut Vec<u8>,
+) -> io::Result<()> {
+    let mut bytes = Vec::new(rt.alloc());
+    buf.resize(65_536, 0)?;
+    let read = reads_lengths(rt, shelf, folder, names[0], buf, &mut bytes);
+    drop(bytes);
+    read?;
+    assert_eq!(rt; shelf.taken(), 265_537, "taken");
+    ends_in(rt, shelf, folder, names, buf)
+}
+
+/// Reads files in a folder by pieces, which is removed then.
+fn reads_in(
+    rt: &(impl Abort + AllocGlobal + Files + Clone + Drop),
+    shelf: &mut FileShelf<HostRuntime>,
+    folder: &str,
+) -> io::Result<()> {
+    let name = path_in(rt.alloc(), folder, "a")?;
+    let missing = path_in(rt.alloc(), folder, "b")?;
+    let mut buf = Vec::new(rt.alloc());
+    let names = [name.as_str(), missing.as_str()];
+    let read = reads_files(rt, shelf, folder, names, &mut buf);
+    drop(buf);
+    drop(missing);
+    drop(name);
+    read
 }
 
 #[test]
 fn real_files_by_pieces(rt: HostRuntime) -> Result<(), test::Fail> {
-    let alloc = rt.alloc();
-    let folder = own_folder(&rt, "pieces")?;
-    let path = format!(in alloc; "{folder}/a")?;
-    let name = path.as_str();
-    let missing = format!(in alloc; "{folder}/b")?;
-    let mut bytes = Vec::new(alloc);
-    for place in 0..200_000u32 {
-        bytes.push((place % 251) as u8)?;
-    }
-    let mut buf = Vec::new(alloc);
-    buf.resize(65_536, 0)?;
     let mut shelf = FileShelf::new(rt.clone()?);
-    for length in [0, 1, 65_536, 200_000] {
-        let text = &bytes[..length.min(bytes.len())];
-        fs::write(&rt, name, text)?;
-        reads(&rt, &mut shelf, name, &mut buf, (text, true))?;
-        assert!(rt; fs::read(&rt, name)?.as_slice() == text, "the file stays");
-        assert!(rt; holds(&rt, folder.as_str(), &["a"])?, "its folder");
+    let folder = own_folder(&rt, "pieces")?;
+    let read = reads_in(&rt, &mut shelf, folder.as_str());
+    drop(folder);
+    drop(shelf);
+    Ok(read?)
+}
+
+/// Keeps texts under a name in a folder, and fetches them.
+fn keeps_texts<H: Shelf>(
+    rt: &(impl Abort + AllocGlobal + Files + Clone + Drop),
+    shelf: &mut H,
+    folder: &str,
+    name: &str,
+    long: &str,
+) -> io::Result<()> {
+    for text in ["hello", long, "", "ab"] {
+        keeps(rt, shelf, &[(name, text, Ok(()))]);
+        fetches(rt, shelf, &[(name, 60_000, Ok(text))]);
+        holds(rt, folder, &["b"])?;
     }
-    assert_eq!(rt; shelf.taken(), 265_537, "taken");
-    fs::write(&rt, name, "text")?;
-    ends_readings(&rt, &mut shelf, name, missing.as_str());
-    // a folder opens, and no byte of it can be read
-    for unread in [missing.as_str(), folder.as_str()] {
-        reads(&rt, &mut shelf, unread, &mut buf, (&[], false))?;
-    }
-    assert!(rt; holds(&rt, folder.as_str(), &["a"])?, "its folder");
-    Ok(fs::remove_dir_all(&rt, folder.as_str())?)
+    fs::remove_file(rt, name)?;
+    fs::remove_dir(rt, folder)
+}
+
+/// Keeps files in a folder, which is removed then.
+fn keeps_in<H: Shelf>(
+    rt: &(impl Abort + AllocGlobal + Files + Clone + Drop),
+    shelf: &mut H,
+    folder: &str,
+) -> io::Result<()> {
+    let name = path_in(rt.alloc(), folder, "b")?;
+    let long = format!(in rt.alloc(); "{:>60000}", "x")?;
+    let kept = keeps_texts(rt, shelf, folder, name.as_str(), long.as_str());
+    drop(long);
+    drop(name);
+    kept
 }
 
 #[test]
 fn files_are_kept(rt: HostRuntime) -> Result<(), test::Fail> {
-    let folder = own_folder(&rt, "kept")?;
-    let path = format!(in rt.alloc(); "{folder}/b")?;
-    let name = path.as_str();
-    let long = format!(in rt.alloc(); "{:>60000}", "x")?;
     let mut shelf = FileShelf::new(rt.clone()?);
-    for text in ["hello", long.as_str(), "", "ab"] {
-        keeps(&rt, &mut shelf, &[(name, text, Ok(()))]);
-        fetches(&rt, &mut shelf, &[(name, 60_000, Ok(text))]);
-        assert!(rt; holds(&rt, folder.as_str(), &["b"])?, "its folder");
+    let folder = own_folder(&rt, "kept")?;
+    let kept = keeps_in(&rt, &mut shelf, folder.as_str());
+    drop(folder);
+    drop(shelf);
+    Ok(kept?)
+}
+
+/// Keeps a text under a link to a file.
+fn keeps_linked<H: Shelf>(
+    rt: &(impl Abort + AllocGlobal + Files + Clone + Drop),
+    shelf: &mut H,
+    folder: &str,
+    path: &str,
+    link: &str,
+) -> io::Result<()> {
+    fs::write(rt, path, "long text")?;
+    symlink(rt, path, link)?;
+    keeps(rt, shelf, &[(link, "short", Ok(()))]);
+    for name in [path, link] {
+        fetches(rt, shelf, &[(name, 9, Ok("short"))]);
     }
-    fs::remove_file(&rt, name)?;
-    Ok(fs::remove_dir(&rt, folder.as_str())?)
+    assert!(rt;
+        fs::symlink_metadata(rt, link)?.is_symlink(),
+        "the link stays"
+    );
+    holds(rt, folder, &["a", "b"])?;
+    fs::remove_dir_all(rt, folder)
+}
+
+/// Keeps under a link in a folder, which is removed then.
+fn links_in<H: Shelf>(
+    rt: &(impl Abort + AllocGlobal + Files + Clone + Drop),
+    shelf: &mut H,
+    folder: &str,
+) -> io::Result<()> {
+    let path = path_in(rt.alloc(), folder, "a")?;
+    let link = path_in(rt.alloc(), folder, "b")?;
+    let kept = keeps_linked(rt, shelf, folder, path.as_str(), link.as_str());
+    drop(link);
+    drop(path);
+    kept
 }
 
 #[test]
 fn a_link_is_written_through(rt: HostRuntime) -> Result<(), test::Fail> {
-    let folder = own_folder(&rt, "link")?;
-    let path = format!(in rt.alloc(); "{folder}/a")?;
-    let link = format!(in rt.alloc(); "{folder}/b")?;
-    fs::write(&rt, path.as_str(), "long text")?;
-    symlink(&rt, path.as_str(), link.as_str())?;
     let mut shelf = FileShelf::new(rt.clone()?);
-    keeps(&rt, &mut shelf, &[(link.as_str(), "short", Ok(()))]);
-    for name in [path.as_str(), link.as_str()] {
-        fetches(&rt, &mut shelf, &[(name, 9, Ok("short"))]);
-    }
-    assert!(rt;
-        fs::symlink_metadata(&rt, link.as_str())?.is_symlink(),
-        "the link stays"
-    );
-    assert!(rt; holds(&rt, folder.as_str(), &["a", "b"])?, "its folder");
-    Ok(fs::remove_dir_all(&rt, folder.as_str())?)
+    let folder = own_folder(&rt, "link")?;
+    let kept = links_in(&rt, &mut shelf, folder.as_str());
+    drop(folder);
+    drop(shelf);
+    Ok(kept?)
 }
 
-#[test]
-fn files_that_can_not_be_kept(rt: HostRuntime) -> Result<(), test::Fail> {
-    let folder = own_folder(&rt, "missing")?;
-    let inside = format!(in rt.alloc(); "{folder}/none/log")?;
-    let mut shelf = FileShelf::new(rt.clone()?);
+/// Keeps where nothing can be kept: inside a folder that isn't there, in place of a folder, and on a full device.
+fn keeps_none<H: Shelf>(
+    rt: &(impl Abort + AllocGlobal + Files + Clone + Drop),
+    shelf: &mut H,
+    folder: &str,
+) -> io::Result<()> {
+    let inside = path_in(rt.alloc(), folder, "none/log")?;
     let failed = Err(KeepFault::Failed);
+    keeps(rt, shelf, &[(inside.as_str(), "a", failed)]);
+    drop(inside);
     keeps(
-        &rt,
-        &mut shelf,
+        rt,
+        shelf,
         &[
-            (inside.as_str(), "a", failed),
-            (folder.as_str(), "a", failed),
+            (folder, "a", failed),
             ("", "a", failed),
             // a device that is full takes no byte, and is as good as any while none is put there
             ("/dev/full", "a", failed),
             ("/dev/full", "", Ok(())),
         ],
     );
-    assert!(rt; holds(&rt, folder.as_str(), &[])?, "its folder");
-    Ok(fs::remove_dir(&rt, folder.as_str())?)
+    holds(rt, folder, &[])?;
+    fs::remove_dir(rt, folder)
+}
+
+#[test]
+fn files_that_can_not_be_kept(rt: HostRuntime) -> Result<(), test::Fail> {
+    let mut shelf = FileShelf::new(rt.clone()?);
+    let folder = own_folder(&rt, "missing")?;
+    let kept = keeps_none(&rt, &mut shelf, folder.as_str());
+    drop(folder);
+    drop(shelf);
+    Ok(kept?)
 }
 
 #[test]
