@@ -60,17 +60,6 @@ module _ {B : Type 0} (ops : BufferOps B) (code : Code) (s : State B) where
       by_exits true all = tt
       by_exits false left = (going.0, record { unfailed = going.1; still = still; left = some_is_left s left })
 
-  -- where a thread has failed or nothing can go on
-  pub where_failed : (e : End) → IsEndAt ops code s (Some e) → e ≡ Failed → IsWithin s × (s.failed ≡ None → IsStuck ops code s)
-  where_failed e at is =
-      let both : IsEndAt ops code s (Some Failed) = subst (λ x. IsEndAt ops code s (Some x)) is at in
-      (both.0, λ none. absurd (true≢false (sym both.1 ∙ ap is_some none)))
-
-  pub where_stuck : (e : End) → IsEndAt ops code s (Some e) → e ≡ Deadlock → IsWithin s × (s.failed ≡ None → IsStuck ops code s)
-  where_stuck e at is =
-      let both : IsEndAt ops code s (Some Deadlock) = subst (λ x. IsEndAt ops code s (Some x)) is at in
-      (both.0, λ none. both.1)
-
 -- a run goes on from its opening
 module _ {B : Type 0} (ops : BufferOps B) (code : Code) where
   main_alone : fin.keys (opening ops code).threads ≡ main ∷ []
