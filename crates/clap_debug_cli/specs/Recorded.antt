@@ -46,7 +46,7 @@ HasEnded run (Over which) = run.end ≡ end.Over which
 abbrev pub with_digest : List ℕ → Log → StoredLog
 with_digest program log = record { digest = Some (sha256 program); log = log }
 
--- the run failed or came to a deadlock, and this is the text of its log, with the program's digest
+-- the text of the log of a run that failed or came to a deadlock, with the program's digest
 pub record IsLogText {B : Type 0} (model : Model) (program : List ℕ) (run : Ended B) (text : List ℕ) : Type 0 where
   pub has_log : HasLog run
   pub log : Log
@@ -61,11 +61,12 @@ ComesTo program model seed steps o = (code : Code) × IsCodeOf program code × H
 abbrev pub EndsSo : List ℕ → Model → (seed steps : ℕ) → Ending → Type 0
 EndsSo program model seed steps e = (code : Code) × IsCodeOf program code × HasEnded (run_of model code seed steps) e
 
--- it has a log, and this is its text
+-- it failed or came to a deadlock, and this is the text of its log
 abbrev pub IsRecorded : List ℕ → Model → (seed steps : ℕ) → List ℕ → Type 0
-IsRecorded program model seed steps text = (code : Code) × IsCodeOf program code × IsLogText model program (run_of model code seed steps) text
+IsRecorded program model seed steps text =
+    (code : Code) × IsCodeOf program code × IsLogText model program (run_of model code seed steps) text
 
--- the moves of that run reproduce the log that the text is read back as, which has its model and tells of its end; and the text isn't long
+-- the text is read back as a log of that run's model and end, which its moves reproduce
 pub record IsReproduced (program : List ℕ) (model : Model) (seed steps : ℕ) (text : List ℕ) : Type 0 where
   pub code : Code
   pub log : Log

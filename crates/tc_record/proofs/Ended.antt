@@ -71,8 +71,11 @@ module _ {B : Type 0} (ops : BufferOps B) (model : Model) (bound : Binding) (law
   ends_from [] s r going = tt
   ends_from (word ∷ words) s r going = after_choice words (ends_from words) s r going word (chosen ops code s word) refl
 
-  pub run_ends : (seed steps : ℕ) → EndsWell (seeded_run ops code seed steps)
+  run_ends : (seed steps : ℕ) → EndsWell (seeded_run ops code seed steps)
   run_ends seed steps = ends_from _ (opening ops code) (opening_is_reached ops code) (goes_on_from_opening ops code (opening ops code) refl)
+
+  pub ends_as_told : (seed steps : ℕ) (run : Ended B) → run ≡ seeded_run ops code seed steps → IsEndAt ops code run.state (Some run.end)
+  ends_as_told seed steps run is = subst EndsWell (sym is) (run_ends seed steps)
 
   module _ (seed steps : ℕ) where
     abbrev run : Ended B

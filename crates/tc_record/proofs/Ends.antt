@@ -16,17 +16,14 @@ use Rattle.tc_base.specs.Buffers.{BufferOps}
 use Rattle.tc_base.specs.States.{Thread, State}
 use Rattle.tc_base.specs.declared.moves.Move.{Move}
 use Rattle.tc_code.specs.Code.{Code}
-use Rattle.tc_code.specs.Run.{IsStuck}
 use Rattle.tc_code.specs.Step.{step, opening, born}
 use Rattle.run_laws.proofs.Basics.{none_unless}
 use Rattle.run_laws.proofs.Names.{get_put}
 use Rattle.tc_machine.specs.Exits.{all_have_exited}
 use Rattle.tc_machine.proofs.Exits.{some_is_left}
-use Rattle.tc_record.specs.declared.end.End.{End}
 use Rattle.tc_record.specs.declared.end.End.TheVariants.{Over, Failed, Finished, Deadlock}
 use Rattle.tc_record.specs.declared.end.Which.TheVariants.{Threads, Depth, Steps}
 use Rattle.tc_record.specs.Ends.{limit_of, has_many_steps, some_is_deep, some_has_many_steps, end_at, end_without_moves}
-use Rattle.tc_record.specs.helpers.Paths.{IsWithin}
 use Rattle.tc_record.specs.helpers.Turns.{IsEndAt}
 
 -- none of those that fail a test passes it

@@ -1,5 +1,5 @@
 -- A state has one log.
-use Rattle.std.proofs.Common.{◌≡◌, ◌∙◌, ◌≢◌, inl, inr, ℕ, suc, Bool, true, false, List, [], ◌∷◌, map, Option, Some, None, IsSome, refl, ap, sym, subst}
+use Rattle.std.proofs.Common.{◌≡◌, ◌∙◌, inl, inr, ℕ, suc, Bool, true, false, List, [], ◌∷◌, map, Option, Some, None, IsSome, refl, ap, sym, subst}
 use Rattle.std.proofs.Common.{bytes_eq, true≢false, length, arith}
 use Rattle.std.specs.Prelude.{slice_get, option_map, option_and_then, IfSome, ◌||◌}
 use Rattle.std.specs.List.{list_any}

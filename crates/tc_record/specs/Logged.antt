@@ -9,7 +9,7 @@ use Rattle.tc_base.specs.declared.model.Model.{Model}
 use Rattle.tc_code.specs.Run.{path_in}
 use Rattle.path_log.specs.Texts.{StoredLog, is_log}
 
--- the log has the thread that failed, if one did, and the path of each thread, in the order of their names, and it names no program
+-- the log of a state: the thread that failed, if one did, and each thread's path, ordered by name
 pub record IsLogOf {B : Type 0} (under : Model) (s : State B) (stored : StoredLog) : Type 0 where
   pub digest : stored.digest ≡ None
   pub model : stored.log.model ≡ under

@@ -8,8 +8,8 @@ use Rattle.path_laws.proofs.Logs.{reproduced_fits}
 use Rattle.tc_code.specs.Run.{Reproduces, run}
 use Rattle.tc_record.specs.Logged.{is_small}
 use Rattle.tc_record.specs.Seeded.{behind, seeded_from, seeded_run, IsRecordOf}
-use Rattle.tc_record.specs.helpers.Turns.{IsTurn, IsEndAt}
-use Rattle.tc_record.proofs.Ended.{log_is_of_format, log_is_small, run_ends, run_reproduces}
+use Rattle.tc_record.specs.helpers.Turns.{IsTurn}
+use Rattle.tc_record.proofs.Ended.{ends_as_told, log_is_of_format, log_is_small, run_reproduces}
 use Rattle.tc_record.proofs.Fitting.{on_log}
 use Rattle.tc_record.proofs.Runs.{words, begins, goes_on, ends_so}
 use Rattle.tc_record.proofs.recording.record_run.Goals as goal
@@ -44,13 +44,13 @@ pub answer-requires-clause-ends : goal.answer-requires-clause-ends
 answer-requires-clause-ends g c =
     let ops = g.M.MemoryModel.ops in
     let code = c.args.code.now in
-    subst (λ r. IsEndAt ops code r.state (Some r.end))
-    (sym (ends_so ops code c.loop.state c.turn.new.state c.loop.made.items c.turn.new.made.items c.next_u64-word.result
+    ends_as_told ops _ _ g.met.M.MemoryModel.laws code c.functions.ensures.lawful c.args.seed c.args.steps
+    (record { moves = c.turn.new.made.items; state = c.turn.new.state; end = c.in-Some.end })
+    (ends_so ops code c.loop.state c.turn.new.state c.loop.made.items c.turn.new.made.items c.next_u64-word.result
     (stream_of splitmix_steps c.loop.rng) (stream_of splitmix_steps c.next_u64-word.new.self) c.loop.counter c.args.steps
     (seeded_run ops code c.args.seed c.args.steps) c.loop-test.true c.next_u64-word.ensures c.loop.invariant.so_far c.in-Some.end
     (subst (IsTurn ops code c.loop.state c.turn.new.state c.loop.made.items c.turn.new.made.items c.next_u64-word.result) c.in-Some.is
-    c.in_ok-end.ensures.turn)))
-    (run_ends ops _ _ g.met.M.MemoryModel.laws code c.functions.ensures.lawful c.args.seed c.args.steps)
+    c.in_ok-end.ensures.turn))
 
 pub returns-in-Some-clause-answer : goal.returns-in-Some-clause-answer
 returns-in-Some-clause-answer g c =

@@ -1,4 +1,4 @@
-use Rattle.std.proofs.Common.{◌≡◌, ◌∙◌, Some, ap, sym, subst}
+use Rattle.std.proofs.Common.{◌≡◌, ◌∙◌, Some, sym, subst}
 use Rattle.tc_code.proofs.Facts.{run_from-step}
 use Rattle.tc_code.specs.Run.{run}
 use Rattle.tc_code.specs.Step.{opening}
