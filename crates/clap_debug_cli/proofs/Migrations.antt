@@ -56,7 +56,7 @@ digest_bytes_are h (suc n) =
     list_all-append (λ byte. nat_lt byte 256) (digest_bytes h n) (to_be_bytes w32 (slice_index h n))
     ∙ ap₂ (λ x y. x && y) (digest_bytes_are h n) (bytes_are 4 (slice_index h n))
 
-sha256_is : (program : List ℕ) → IsTrue (is_digest (sha256 program))
+pub sha256_is : (program : List ℕ) → IsTrue (is_digest (sha256 program))
 unfolding sha256
 sha256_is program = ap₂ (λ x y. x && y) (eq-eqb (length (sha256 program)) 32 (length-sha256 program)) (digest_bytes_are _ 8)
 

@@ -1,5 +1,6 @@
 -- What a search found, as an answer and as what is kept.
-use Rattle.std.proofs.Common.{◌≡◌, ap, sym, subst, refl, ℕ, List, Option, true, unwrap_or}
+use Rattle.std.proofs.Common.{◌≡◌, ap, sym, subst, refl, arith, ℕ, List, length, Option, None, true, unwrap_or}
+use Rattle.sha2.specs.Sha256.{sha256}
 use Rattle.tc_base.specs.Buffers.{BufferOps, buffer_of, no_buffer, fifo_buffer, cell_buffer}
 use Rattle.tc_base.specs.Logs.{Log}
 use Rattle.tc_base.specs.declared.model.Model.{Model}
@@ -23,13 +24,16 @@ use Rattle.least_switch.specs.Least.{IsLeastAnswer}
 use Rattle.least_switch.specs.declared.answer.Least.{Least}
 use Rattle.least_switch.specs.declared.answer.Least.TheVariants as least
 use Rattle.tc_compile.proofs.OnePrograms.{one_code}
+use Rattle.tc_record.proofs.Ended.{log_has_text, log_is_short, run_is_told, run_reproduces}
 use Rattle.clap_debug_cli.specs.Causes.{IsMinimizeAnswer, IsSolveAnswer}
 use Rattle.clap_debug_cli.specs.Fewest.{IsMinimum, found_in, minimum}
-use Rattle.clap_debug_cli.specs.Recorded.{IsRecorded, run_of, with_digest}
+use Rattle.clap_debug_cli.specs.Recorded.{IsRecorded, IsReproduced, run_of, with_digest}
 use Rattle.clap_debug_cli.specs.Solved.{IsPossible, IsSolution, allows, model_for, solution}
 use Rattle.clap_debug_cli.specs.declared.answer.Answer.TheVariants.{Minimized, Solved}
 use Rattle.clap_debug_cli.specs.declared.answer.Minimum.{Minimum}
 use Rattle.clap_debug_cli.specs.declared.answer.Solution.{Solution}
+use Rattle.clap_debug_cli.proofs.Migrations.{sha256_is}
+use Rattle.clap_debug_cli.proofs.Refuted.{code_is_lawful, model_laws}
 
 -- what is answered was found
 pub solution_of : (program log : List ℕ) (model : Option Model) (budget : ℕ) (x : Solution) → IsSolveAnswer program log model budget (Solved x)
@@ -125,18 +129,45 @@ more Tso Sc e code log moves r = cc
 more Pso Sc e code log moves r = cc
 more Pso Tso e code log moves r = cc
 
--- what was recorded is possible, under its model and under each that allows more
+-- what was recorded is reproduced by the moves of its run
+pub recorded_reproduced : (program log : List ℕ) (made : Model) (seed steps : ℕ) → IsRecorded program made seed steps log
+    → IsReproduced program made seed steps log
+recorded_reproduced program log made seed steps w =
+    let code = w.0 in
+    let is = w.2 in
+    let stored : StoredLog = record { digest = None; log = is.log } in
+    let ops = buffer_of made in
+    let laws = model_laws made in
+    let lawful = code_is_lawful program code w.1 in
+    let digest = sha256_is program in
+    let size = log_is_short ops made (bound_of made) laws code lawful seed steps stored is.has_log is.is (sha256 program) digest in
+    record {
+      code = code;
+      log = is.log;
+      programs = w.1;
+      logs = record {
+        has_text = log_has_text ops made (bound_of made) laws code lawful seed steps stored is.has_log is.is (sha256 program) digest;
+        text = is.is_text;
+      };
+      model_is = is.is.model;
+      tells = run_is_told ops made (bound_of made) laws code lawful seed steps stored is.has_log is.is;
+      reproduces = run_reproduces ops made (bound_of made) laws code lawful seed steps stored is.has_log is.is;
+      short = omega (arith, size, ap length is.is_text);
+    }
+
+-- so it is possible, under its model and under each that allows more
 pub recorded_possible : (program log : List ℕ) (made : Model) (seed steps : ℕ) (model : Option Model) → IsRecorded program made seed steps log
     → allows made (unwrap_or model made) ≡ true → IsPossible program log model
 recorded_possible program log made seed steps model w e =
-    let is = w.2 in
-    let same : unwrap_or model made ≡ model_for model is.log = ap (unwrap_or model) (sym is.is.model) in
-    let others = more made (model_for model is.log) (subst (λ n. allows made n ≡ true) same e) w.0 is.log (run_of made w.0 seed steps).moves is.reproduced in
+    let is = recorded_reproduced program log made seed steps w in
+    let same : unwrap_or model made ≡ model_for model is.log = ap (unwrap_or model) (sym is.model_is) in
+    let others =
+    more made (model_for model is.log) (subst (λ n. allows made n ≡ true) same e) is.code is.log (run_of made is.code seed steps).moves is.reproduces in
     record {
-      code = w.0;
+      code = is.code;
       run = with_digest program is.log;
-      programs = w.1;
-      logs = record { has_text = is.has_text; text = is.is_text };
+      programs = is.programs;
+      logs = is.logs;
       moves = others.0;
       reproduces = others.1;
     }

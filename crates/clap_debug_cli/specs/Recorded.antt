@@ -1,17 +1,16 @@
 -- Recorded runs of a program: how one ended, and the text of its log where it failed or came to a deadlock.
 use Rattle.std.specs.Prelude.{◌≡◌, ℕ, ◌≤◌, List, length, Some, None}
 use Rattle.sha2.specs.Sha256.{sha256}
-use Rattle.tc_base.specs.Buffers.{BufferOf, BufferOps, buffer_of}
+use Rattle.tc_base.specs.Buffers.{BufferOf, buffer_of}
 use Rattle.tc_base.specs.Logs.{Log}
-use Rattle.tc_base.specs.declared.failing.Failing.{Failing}
-use Rattle.tc_base.specs.declared.failing.Failing.TheVariants as failing
 use Rattle.tc_base.specs.declared.model.Model.{Model}
 use Rattle.tc_code.specs.Code.{Code}
 use Rattle.tc_code.specs.Run.{Reproduces}
-use Rattle.path_log.specs.Texts.{StoredLog, HasText, log_text}
+use Rattle.path_log.specs.Texts.{StoredLog, IsLog, log_text}
+use Rattle.tc_record.specs.Ends.{told_end}
 use Rattle.tc_record.specs.Failing.{failing_line}
 use Rattle.tc_record.specs.Logged.{IsLogOf, most_log_bytes}
-use Rattle.tc_record.specs.Seeded.{Ended, seeded_run}
+use Rattle.tc_record.specs.Seeded.{Ended, HasLog, seeded_run}
 use Rattle.tc_record.specs.declared.end.End.{End}
 use Rattle.tc_record.specs.declared.end.End.TheVariants as end
 use Rattle.tc_compile.specs.Programs.{IsCodeOf}
@@ -47,20 +46,12 @@ HasEnded run (Over which) = run.end ≡ end.Over which
 abbrev pub with_digest : List ℕ → Log → StoredLog
 with_digest program log = record { digest = Some (sha256 program); log = log }
 
--- the end of the run that a log tells of
-abbrev pub told_end : Failing → End
-told_end (failing.Thread _) = end.Failed
-told_end failing.Deadlock = end.Deadlock
-
--- the text of the log of a run that failed or came to a deadlock, with the program's digest: the moves of the run reproduce that log
-pub record IsLogText {B : Type 0} (ops : BufferOps B) (model : Model) (program : List ℕ) (code : Code) (run : Ended B) (text : List ℕ) : Type 0 where
+-- the text of the log of a run that failed or came to a deadlock, with the program's digest
+pub record IsLogText {B : Type 0} (model : Model) (program : List ℕ) (run : Ended B) (text : List ℕ) : Type 0 where
+  pub has_log : HasLog run
   pub log : Log
-  pub tells : run.end ≡ told_end log.failing
   pub is : IsLogOf model run.state (record { digest = None; log = log })
-  pub reproduced : Reproduces ops code log run.moves
-  pub has_text : HasText (with_digest program log)
   pub is_text : text ≡ log_text (with_digest program log)
-  pub short : length text ≤ most_log_bytes
 
 -- the run of the program that the text is came to this end, of which its log tells
 abbrev pub ComesTo : List ℕ → Model → (seed steps : ℕ) → Outcome → Type 0
@@ -70,10 +61,21 @@ ComesTo program model seed steps o = (code : Code) × IsCodeOf program code × H
 abbrev pub EndsSo : List ℕ → Model → (seed steps : ℕ) → Ending → Type 0
 EndsSo program model seed steps e = (code : Code) × IsCodeOf program code × HasEnded (run_of model code seed steps) e
 
--- the text of its log
+-- it failed or came to a deadlock, and this is the text of its log
 abbrev pub IsRecorded : List ℕ → Model → (seed steps : ℕ) → List ℕ → Type 0
 IsRecorded program model seed steps text =
-    (code : Code) × IsCodeOf program code × IsLogText (buffer_of model) model program code (run_of model code seed steps) text
+    (code : Code) × IsCodeOf program code × IsLogText model program (run_of model code seed steps) text
+
+-- the text is read back as a log of that run's model and end, which its moves reproduce
+pub record IsReproduced (program : List ℕ) (model : Model) (seed steps : ℕ) (text : List ℕ) : Type 0 where
+  pub code : Code
+  pub log : Log
+  pub programs : IsCodeOf program code
+  pub logs : IsLog text (with_digest program log)
+  pub model_is : log.model ≡ model
+  pub tells : (run_of model code seed steps).end ≡ told_end log.failing
+  pub reproduces : Reproduces (buffer_of model) code log (run_of model code seed steps).moves
+  pub short : length text ≤ most_log_bytes
 
 -- the status of a run that ended
 abbrev pub end_status : End → ℕ

@@ -14,7 +14,7 @@ ghost use Rattle.clap_debug_cli.specs.declared.answer.Minimum.{Minimum};
 ghost use Rattle.clap_debug_cli.specs.Call.{IfTold, Says, SaysNoMore, CallAnswers, ToldAnswers, CommandAnswers};
 ghost use Rattle.clap_debug_cli.specs.Inputs.{texts_under};
 ghost use Rattle.clap_debug_cli.specs.Migrated.{IsMigrated};
-ghost use Rattle.clap_debug_cli.specs.Recorded.{IsRecorded, with_digest};
+ghost use Rattle.clap_debug_cli.specs.Recorded.{IsRecorded, IsReproduced, with_digest};
 ghost use Rattle.clap_debug_cli.specs.Solved.{IsPossible, IsSolution, allows, solution_text};
 ghost use Rattle.clap_debug_cli.specs.declared.answer.Solution.{Solution};
 ghost use Rattle.clap_debug_cli.specs.helpers.Refused.{IsEither};
@@ -72,6 +72,12 @@ pub fn migrating_keeps_the_log()
         → text ≡ log }
     // The text isn't too long for a log's: it has at most half of the bytes that a log may have.
     ensures short { (program log text : List ℕ) → IsMigrated program log text → length text ≤ most_log_bytes }
+{}
+
+/// The log of a run that failed or came to a deadlock is reproduced by the moves of that run, and its text, which `record` keeps, is
+/// read back as that log.
+pub fn recorded_logs_are_reproduced()
+    ensures { (program log : List ℕ) (made : Model) (seed steps : ℕ) → IsRecorded program made seed steps log → IsReproduced program made seed steps log }
 {}
 
 /// Some moves reproduce a log that `record` wrote, under its memory model and under each that allows more. So `solve` never

@@ -46,7 +46,7 @@ fn recorded_under<'a, M: MemoryModel>(
     steps: u32,
 ) -> Result<(Outcome, Vec<u8>), Answer<'a>>
     ensures outcome { IfOk result (λ both. HasOutcome code.now (seeded_run M.ops code.now seed steps) both.0) }
-    ensures text { IfOk result (λ both. IsLogText M.ops M.MODEL program.now code.now (seeded_run M.ops code.now seed steps) both.1.items) }
+    ensures text { IfOk result (λ both. IsLogText M.MODEL program.now (seeded_run M.ops code.now seed steps) both.1.items) }
     ensures answer { IfErr result (IsEndOf (seeded_run M.ops code.now seed steps)) }
 {
     match record_run::<M>(alloc, code, seed, steps)? {

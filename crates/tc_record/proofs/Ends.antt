@@ -16,17 +16,14 @@ use Rattle.tc_base.specs.Buffers.{BufferOps}
 use Rattle.tc_base.specs.States.{Thread, State}
 use Rattle.tc_base.specs.declared.moves.Move.{Move}
 use Rattle.tc_code.specs.Code.{Code}
-use Rattle.tc_code.specs.Run.{IsStuck}
 use Rattle.tc_code.specs.Step.{step, opening, born}
 use Rattle.run_laws.proofs.Basics.{none_unless}
 use Rattle.run_laws.proofs.Names.{get_put}
 use Rattle.tc_machine.specs.Exits.{all_have_exited}
 use Rattle.tc_machine.proofs.Exits.{some_is_left}
-use Rattle.tc_record.specs.declared.end.End.{End}
 use Rattle.tc_record.specs.declared.end.End.TheVariants.{Over, Failed, Finished, Deadlock}
 use Rattle.tc_record.specs.declared.end.Which.TheVariants.{Threads, Depth, Steps}
 use Rattle.tc_record.specs.Ends.{limit_of, has_many_steps, some_is_deep, some_has_many_steps, end_at, end_without_moves}
-use Rattle.tc_record.specs.helpers.Paths.{IsWithin}
 use Rattle.tc_record.specs.helpers.Turns.{IsEndAt}
 
 -- none of those that fail a test passes it
@@ -59,17 +56,6 @@ module _ {B : Type 0} (ops : BufferOps B) (code : Code) (s : State B) where
       by_exits : (b : Bool) → all_have_exited s ≡ b → IsEndAt ops code s (Some (if b then Finished else Deadlock))
       by_exits true all = tt
       by_exits false left = (going.0, record { unfailed = going.1; still = still; left = some_is_left s left })
-
-  -- where a thread has failed or nothing can go on
-  pub where_failed : (e : End) → IsEndAt ops code s (Some e) → e ≡ Failed → IsWithin s × (s.failed ≡ None → IsStuck ops code s)
-  where_failed e at is =
-      let both : IsEndAt ops code s (Some Failed) = subst (λ x. IsEndAt ops code s (Some x)) is at in
-      (both.0, λ none. absurd (true≢false (sym both.1 ∙ ap is_some none)))
-
-  pub where_stuck : (e : End) → IsEndAt ops code s (Some e) → e ≡ Deadlock → IsWithin s × (s.failed ≡ None → IsStuck ops code s)
-  where_stuck e at is =
-      let both : IsEndAt ops code s (Some Deadlock) = subst (λ x. IsEndAt ops code s (Some x)) is at in
-      (both.0, λ none. both.1)
 
 -- a run goes on from its opening
 module _ {B : Type 0} (ops : BufferOps B) (code : Code) where

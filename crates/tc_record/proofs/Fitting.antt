@@ -1,31 +1,25 @@
--- The log of a run that fails or comes to a deadlock fits the code.
-use Rattle.std.proofs.Common.{Result, Ok, Err, List}
-use Rattle.tc_base.specs.Buffers.{BufferOps}
+-- From what holds of a run and its log to what holds of what is answered.
+use Rattle.std.proofs.Common.{Result, Ok, Err, List, inl, inr, subst, sym}
 use Rattle.tc_base.specs.declared.model.Model.{Model}
 use Rattle.tc_base.specs.declared.moves.Move.{Move}
-use Rattle.store_buffers.specs.Laws.{Laws}
-use Rattle.store_buffers.specs.Pending.{Binding}
 use Rattle.path_log.specs.Texts.{StoredLog}
 use Rattle.tc_code.specs.Code.{Code}
-use Rattle.tc_code.specs.Lawful.{IsLawful}
-use Rattle.tc_code.specs.Run.{Reproduces}
-use Rattle.path_walk.specs.Fits.{Fits}
-use Rattle.path_laws.proofs.Logs.{reproduced_fits}
 use Rattle.tc_record.specs.declared.seeded.Recorded.{Recorded}
 use Rattle.tc_record.specs.declared.seeded.Recorded.TheVariants.{Failed, Finished, Deadlock, StepLimit}
 use Rattle.tc_record.specs.declared.seeded.SeededFault.{SeededFault}
 use Rattle.tc_record.specs.declared.seeded.SeededFault.TheVariants.{Limit, Memory}
-use Rattle.tc_record.specs.Seeded.{Ended, IsAnswer, IfLogged, IsRecordOf, IfRecorded}
+use Rattle.tc_record.specs.Logged.{IsLogOf}
+use Rattle.tc_record.specs.Seeded.{Ended, HasLog, IsAnswer, IfLogged, IsRecordOf, IfRecorded}
 use Rattle.tc_record.specs.helpers.Recorded.{without_line}
 
--- since its moves reproduce it
-pub logged_fits : {B : Type 0} (ops : BufferOps B) (model : Model) (bound : Binding) → Laws ops model bound → (code : Code) (r : Result Recorded SeededFault)
-    → IsLawful code → IfRecorded r (λ stored moves. Reproduces ops code stored.log moves) → IfRecorded r (λ stored moves. Fits code stored.log)
-logged_fits ops model bound laws code (Ok (Failed stored moves line)) lawful h =
-    reproduced_fits code ops model bound laws lawful stored.log moves.items h
-logged_fits ops model bound laws code (Ok (Deadlock stored moves)) lawful h =
-    reproduced_fits code ops model bound laws lawful stored.log moves.items h
-logged_fits ops model bound laws code _ lawful h = tt
+-- a fact of the log of a run that has one is a fact of what is answered
+pub on_log : {B : Type 0} (model : Model) (code : Code) (run : Ended B) (P : StoredLog → List Move → Type 0)
+    → ((x : StoredLog) → HasLog run → IsLogOf model run.state x → P x run.moves) → (r : Result Recorded SeededFault) → IsRecordOf model code run r → IfRecorded r P
+on_log model code run P each (Ok (Failed x moves line)) h = subst (P x) (sym h.1) (each x (inl h.0) h.2)
+on_log model code run P each (Ok (Finished moves)) h = tt
+on_log model code run P each (Ok (Deadlock x moves)) h = subst (P x) (sym h.1) (each x (inr h.0) h.2)
+on_log model code run P each (Ok (StepLimit moves)) h = tt
+on_log model code run P each (Err fault) h = tt
 
 -- what is told with the line stands without it
 pub answer_stands : {B : Type 0} (model : Model) (code : Code) (run : Ended B) (r : Result Recorded SeededFault) → IsRecordOf model code run r

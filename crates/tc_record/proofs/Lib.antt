@@ -7,3 +7,5 @@ pub mod Places
 pub mod Sizes
 pub mod Leads
 pub mod Fitting
+pub mod OneLog
+pub mod Ended

@@ -146,11 +146,12 @@ module _ {B : Type 0} (s : State B) where
   -- and it is the state's
   pub log_there : (under : Model) (stored : StoredLog) (model : Model) (f : Failing) (threads : List ThreadPath)
       → stored ≡ record { digest = None; log = record { model = model; failing = f; threads = threads } } → model ≡ under
-      → EndsBy s f → threads ≡ map (named_path s) (fin.keys s.threads) → IsLogOf under s stored
-  log_there under stored model f threads e same ends is =
+      → HasThreads s → EndsBy s f → threads ≡ map (named_path s) (fin.keys s.threads) → IsLogOf under s stored
+  log_there under stored model f threads e same has ends is =
       subst (IsLogOf under s) (sym e) (record {
         digest = refl;
         model = same;
+        is_log = is_log_there model f threads has ends is;
         failing =
             ap (λ (ts : List ThreadPath). failing_of (record { model = model; failing = f; threads = ts })) is
             ∙ failing_same model f ends;
@@ -174,11 +175,11 @@ module _ {B : Type 0} (ops : BufferOps B) (code : Code) (s : State B) where
 
   -- moves that led to a state at which a thread has failed or nothing can go on reproduce its log
   pub reproduced : (under : Model) (stored : StoredLog) (moves : List Move) → run ops code moves ≡ Some s → (s.failed ≡ None → IsStuck ops code s)
-      → is_log stored.log ≡ true → IsLogOf under s stored → Reproduces ops code stored.log moves
-  reproduced under stored moves leads stuck lawful is = record {
+      → IsLogOf under s stored → Reproduces ops code stored.log moves
+  reproduced under stored moves leads stuck is = record {
     state = s;
     leads = leads;
     ends = ends_as stored.log.failing stored.log.threads is.failing
-        (and_parts (rises_from None stored.log.threads) (is_there stored.log.failing (length stored.log.threads)) lawful).1 stuck;
+        (and_parts (rises_from None stored.log.threads) (is_there stored.log.failing (length stored.log.threads)) is.is_log).1 stuck;
     paths = is.paths;
   }

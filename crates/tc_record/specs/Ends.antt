@@ -6,6 +6,8 @@ use Rattle.std.specs.FinMap as fin
 use Rattle.tc_base.specs.declared.limits.TheConstants.{THREADS, DEPTH, STEPS}
 use Rattle.tc_base.specs.Names.{Name}
 use Rattle.tc_base.specs.States.{State}
+use Rattle.tc_base.specs.declared.failing.Failing.{Failing}
+use Rattle.tc_base.specs.declared.failing.Failing.TheVariants as failing
 use Rattle.tc_machine.specs.Exits.{all_have_exited}
 use Rattle.tc_record.specs.declared.end.Which.{Which}
 use Rattle.tc_record.specs.declared.end.Which.TheVariants.{Threads, Depth, Steps}
@@ -42,3 +44,8 @@ module _ {B : Type 0} (s : State B) where
   -- where no move is enabled
   abbrev pub end_without_moves : End
   end_without_moves = if all_have_exited s then Finished else Deadlock
+
+-- the end of which a log tells
+abbrev pub told_end : Failing → End
+told_end (failing.Thread _) = Failed
+told_end failing.Deadlock = Deadlock

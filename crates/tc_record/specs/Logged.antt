@@ -1,5 +1,5 @@
 -- Logs of states.
-use Rattle.std.specs.Prelude.{◌≡◌, ℕ, None, Bool, ◌&&◌, nat_le, length}
+use Rattle.std.specs.Prelude.{◌≡◌, ℕ, None, Bool, ◌&&◌, nat_le, length, IsTrue}
 use Rattle.std.specs.List.{list_all}
 use Rattle.tc_base.specs.declared.limits.TheConstants.{THREADS, DEPTH}
 use Rattle.tc_base.specs.Names.{Name}
@@ -7,12 +7,13 @@ use Rattle.tc_base.specs.States.{State}
 use Rattle.tc_base.specs.Logs.{Log, failing_of, path_under}
 use Rattle.tc_base.specs.declared.model.Model.{Model}
 use Rattle.tc_code.specs.Run.{path_in}
-use Rattle.path_log.specs.Texts.{StoredLog}
+use Rattle.path_log.specs.Texts.{StoredLog, is_log}
 
--- the log has the thread that failed, if one did, and the path of each thread, and it names no program
+-- the log of a state: the thread that failed, if one did, and each thread's path, ordered by name
 pub record IsLogOf {B : Type 0} (under : Model) (s : State B) (stored : StoredLog) : Type 0 where
   pub digest : stored.digest ≡ None
   pub model : stored.log.model ≡ under
+  pub is_log : IsTrue (is_log stored.log)
   pub failing : failing_of stored.log ≡ s.failed
   pub paths : (n : Name) → path_in s n ≡ path_under n stored.log.threads
 

