@@ -1,12 +1,12 @@
 -- From what `cnf` and `import` come to to the cause of that answer, and to what it means.
-use Rattle.std.proofs.Common.{◌≡◌, sym, subst, ℕ, ℤ, List, Option, Ok}
+use Rattle.std.proofs.Common.{◌≡◌, sym, subst, ℕ, ℤ, List, Option}
 use Rattle.tc_base.specs.Buffers.{buffer_of}
 use Rattle.tc_base.specs.declared.model.Model.{Model}
 use Rattle.tc_code.specs.Code.{Code}
 use Rattle.tc_compile.specs.Programs.{IsCodeOf}
 use Rattle.path_log.specs.Texts.{StoredLog, IsLog, IsOfOther}
 use Rattle.cnf_core.specs.Clauses.{Formula}
-use Rattle.dimacs_text.specs.Answers.{answer as answer_in}
+use Rattle.dimacs_text.specs.Answers.{IsAnswerWith}
 use Rattle.dimacs_text.specs.Faults.{IsFault}
 use Rattle.dimacs_text.specs.declared.fault.AnswerFault.{AnswerFault}
 use Rattle.dimacs_text.specs.declared.fault.AnswerFault.TheVariants as fault
@@ -66,7 +66,7 @@ module _ (program log : List ℕ) (model : Option Model) (code : Code) (run : St
     unread_import (fault.Form line) h = refused_import (AnswerRefused line) h
     unread_import fault.Memory h = tt
 
-    module _ (literals : List ℤ) (reads : answer_in bytes ≡ Ok literals) where
+    module _ (literals : List ℤ) (reads : IsAnswerWith bytes literals) where
       pub other_import : (a : Answer) → IsWhyOther program run a → Refuses (IsImportAnswer program log bytes model) a
       other_import (LogRefused OtherProgram) h = refused_import (LogRefused OtherProgram) (literals, reads, h)
       other_import _ h = absurd h

@@ -13,8 +13,8 @@ use Rattle.path_log.specs.Texts.{StoredLog}
 use Rattle.path_log.proofs.Logs.{log_or_fault, one_fault, one_log}
 use Rattle.tc_workload.specs.Workload.{workload_log}
 use Rattle.cnf_core.specs.Clauses.{Formula}
+use Rattle.dimacs_text.proofs.Breaks.{answer_or_break, one_answer, one_break}
 use Rattle.dimacs_text.proofs.FirstFalse.{one_first_false, false_or_satisfied}
-use Rattle.dimacs_text.specs.Answers.{answer as answer_in}
 use Rattle.refute_check.specs.Refutations.{check}
 use Rattle.refute_check.specs.declared.line.Line.{Line}
 use Rattle.refute_check.specs.declared.head.Head.{Head}
@@ -255,21 +255,12 @@ one_taken model code log literals (Imported s) b decided x y = absurd decided
 one_taken model code log literals (ClauseFalse _) _ _ x y = absurd y
 one_taken model code log literals _ b _ x y = absurd x
 
-pub same_literals : (bytes : List ℕ) (ls ms : List ℤ) → answer_in bytes ≡ Ok ls → answer_in bytes ≡ Ok ms → ls ≡ ms
-same_literals bytes ls ms x y = let e : Ok ls ≡ Ok ms = sym x ∙ y in cc
-
-same_breach : (bytes : List ℕ) (m n : ℕ) → answer_in bytes ≡ Err m → answer_in bytes ≡ Err n → m ≡ n
-same_breach bytes m n x y = let e : Err m ≡ Err n = sym x ∙ y in cc
-
-pub literals_or_breach : (bytes : List ℕ) (ls : List ℤ) (n : ℕ) → answer_in bytes ≡ Ok ls → answer_in bytes ≡ Err n → ⊥
-literals_or_breach bytes ls n x y = let e : Ok ls ≡ Err n = sym x ∙ y in cc
-
 one_of_literals : (bytes : List ℕ) (P : List ℤ → Answer → Type 0) → ((ls : List ℤ) → IsOne (P ls)) → IsOne (IsLiteralsAnswer bytes P)
-one_of_literals bytes P one (AnswerRefused m) (AnswerRefused n) _ f g = ap (λ x. AnswerRefused x) (same_breach bytes m n f g)
-one_of_literals bytes P one (AnswerRefused m) b _ f g = absurd (literals_or_breach bytes g.0 m g.1 f)
-one_of_literals bytes P one a (AnswerRefused n) _ f g = absurd (literals_or_breach bytes f.0 n f.1 g)
+one_of_literals bytes P one (AnswerRefused m) (AnswerRefused n) _ f g = ap (λ x. AnswerRefused x) (one_break bytes m n f g)
+one_of_literals bytes P one (AnswerRefused m) b _ f g = absurd (answer_or_break bytes g.0 m g.1 f)
+one_of_literals bytes P one a (AnswerRefused n) _ f g = absurd (answer_or_break bytes f.0 n f.1 g)
 one_of_literals bytes P one a b decided f g =
-    one f.0 a b decided f.2 (subst (λ ls. P ls b) (same_literals bytes g.0 f.0 g.1 f.1) g.2)
+    one f.0 a b decided f.2 (subst (λ ls. P ls b) (one_answer bytes g.0 f.0 g.1 f.1) g.2)
 
 pub one_import_answer : (program log answer : List ℕ) (model : Option Model) → IsOne (IsImportAnswer program log answer model)
 one_import_answer program log answer model =

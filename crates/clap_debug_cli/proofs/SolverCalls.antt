@@ -12,6 +12,7 @@ use Rattle.path_walk.specs.declared.fault.WalkFault.TheVariants as walk
 use Rattle.schedule_file.specs.Schedules.{schedule_text}
 use Rattle.schedule_file.specs.declared.schedule.Schedule.{Schedule}
 use Rattle.cnf_core.specs.Clauses.{Formula}
+use Rattle.dimacs_text.proofs.Breaks.{answer_or_break, one_answer}
 use Rattle.dimacs_text.proofs.FirstFalse.{false_or_satisfied}
 use Rattle.dimacs_text.specs.Texts.{cnf_text}
 use Rattle.clap_system.specs.Faults.{IsBuildFault, limit_of as most_of}
@@ -32,7 +33,7 @@ use Rattle.clap_debug_cli.specs.declared.answer.LogRefusal.TheVariants.{Form, Ot
 use Rattle.clap_debug_cli.specs.declared.input.Input.TheVariants as input
 use Rattle.clap_debug_cli.proofs.Calls.{IsKnown, exactly_at, alone_of, plain_at, status_at, work_of}
 use Rattle.clap_debug_cli.proofs.Fetches.{not_within}
-use Rattle.clap_debug_cli.proofs.OneTexts.{over_or_within, unfit_or_within, same_literals, literals_or_breach}
+use Rattle.clap_debug_cli.proofs.OneTexts.{over_or_within, unfit_or_within}
 use Rattle.clap_debug_cli.proofs.Exchanged.{exported_answer, exported_of, false_of, found_of}
 use Rattle.clap_debug_cli.proofs.Statuses.{is_program_refused, is_log_refused, is_third_refused}
 
@@ -195,11 +196,11 @@ module _ (files : Files) (p l r o program log bytes : List ℕ) (model : Option 
     satisfied (Imported s) w = refl
     satisfied (ClauseFalse n) w =
         absurd (all_true w.1.0 w.1.2.0 w.1.2.2.0 (code_is w.1.0 w.1.1) (run_is w.1.2.0 w.1.2.1)
-        (same_literals bytes w.1.2.2.0 is.literals w.1.2.2.1 is.answers) n w.1.2.2.2.1.1)
+        (one_answer bytes w.1.2.2.0 is.literals w.1.2.2.1 is.answers) n w.1.2.2.2.1.1)
     satisfied (TooLong i) w = absurd (not_within (inputs_of Asked) (program ∷ log ∷ bytes ∷ []) i w (short, (small, (fits, tt))))
     satisfied (ProgramRefused f) w = absurd (refused_no_code program f is.code w.1 is.programs)
     satisfied (LogRefused (Form offset)) w = absurd (log_or_fault log is.run offset is.logs w.1.2)
-    satisfied (AnswerRefused n) w = absurd (literals_or_breach bytes is.literals n is.answers w.1.2.2)
+    satisfied (AnswerRefused n) w = absurd (answer_or_break bytes is.literals n is.answers w.1.2.2)
     satisfied (LogRefused OtherProgram) w = absurd (is.recorded (subst (IsOfOther program) (run_is w.1.2.0 w.1.2.1) w.1.2.2.2))
     satisfied (LogRefused (Unfit n m)) w =
         absurd (unfit_or_within is.code is.run.log n m

@@ -13,7 +13,8 @@ use Rattle.schedule_replay.specs.Verdicts.{IsVerdict}
 use Rattle.path_walk.specs.Fits.{Fits, IsFirst}
 use Rattle.path_walk.specs.declared.fault.WalkFault.TheVariants as walk
 use Rattle.cnf_core.specs.Clauses.{Formula}
-use Rattle.dimacs_text.specs.Answers.{answer as answer_in}
+use Rattle.dimacs_text.specs.Answers.{IsAnswerWith}
+use Rattle.dimacs_text.specs.Faults.{BreaksAt as AnswerBreaksAt}
 use Rattle.dimacs_text.specs.Texts.{cnf_text}
 use Rattle.refute_check.specs.Broken.{BreaksAt as RefutationBreaksAt}
 use Rattle.refute_check.specs.Refutations.{check}
@@ -235,8 +236,8 @@ IsCnfAnswer program log model =
 
 -- and so does `import`, but tests the form of the solver's answer where `check` does that of a refutation
 abbrev pub IsLiteralsAnswer : (answer : List ℕ) → (List ℤ → Answer → Type 0) → Answer → Type 0
-IsLiteralsAnswer answer P (AnswerRefused line) = answer_in answer ≡ Err line
-IsLiteralsAnswer answer P a = (literals : List ℤ) × (answer_in answer ≡ Ok literals) × P literals a
+IsLiteralsAnswer answer P (AnswerRefused line) = AnswerBreaksAt answer line
+IsLiteralsAnswer answer P a = (literals : List ℤ) × IsAnswerWith answer literals × P literals a
 
 abbrev pub IsTakenAnswer : Option Model → Code → Log → List ℤ → Answer → Type 0
 IsTakenAnswer model code log literals (Imported schedule) = IsTaken model (taken.Found schedule) code log literals

@@ -1,5 +1,5 @@
 -- What goes to other solvers and what comes back: the clauses of a log, and values of their variables.
-use Rattle.std.specs.Prelude.{◌≡◌, ◌↔◌, ℕ, List, ℤ, Option, Ok, IsTrue}
+use Rattle.std.specs.Prelude.{◌≡◌, ◌↔◌, ℕ, List, ℤ, Option, IsTrue}
 use Rattle.tc_base.specs.Buffers.{buffer_of}
 use Rattle.tc_base.specs.Logs.{Log}
 use Rattle.tc_base.specs.declared.model.Model.{Model}
@@ -8,7 +8,7 @@ use Rattle.tc_code.specs.Code.{Code}
 use Rattle.tc_code.specs.Run.{Reproduces}
 use Rattle.path_log.specs.Texts.{StoredLog, IsLog, IsOfOther}
 use Rattle.cnf_core.specs.Clauses.{Formula, Valuation, satisfies}
-use Rattle.dimacs_text.specs.Answers.{answer as answer_in}
+use Rattle.dimacs_text.specs.Answers.{IsAnswerWith}
 use Rattle.clap_solve.specs.Clauses.{bound_of, model_clauses}
 use Rattle.clap_solve.specs.Imported.{IsImported, values_of}
 use Rattle.clap_solve.specs.Solved.{IsWithin}
@@ -52,7 +52,7 @@ pub record IsAnswered (program log answer : List ℕ) (P : Code → Log → List
   pub literals : List ℤ
   pub programs : IsCodeOf program code
   pub logs : IsLog log run
-  pub answers : answer_in answer ≡ Ok literals
+  pub answers : IsAnswerWith answer literals
   pub recorded : IsOfOther program run → ⊥
   pub within : IsWithin code run.log
   pub holds : P code run.log literals

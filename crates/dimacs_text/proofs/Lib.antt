@@ -1,3 +1,7 @@
+pub mod Breaks
 pub mod FirstFalse
 pub mod Firsts
+pub mod Forms
+pub mod Once
 pub mod Readings
+pub mod Spelled

@@ -1,12 +1,14 @@
 -- Lines and words, read one after another.
-use Rattle.std.proofs.Common.{◌≡◌, ◌∙◌, ◌<◌, ◌+◌, ℕ, ℤ, List, [], ◌∷◌, length, Option, Some, None, Result, Err, refl, sym, ap}
+use Rattle.std.proofs.Common.{◌≡◌, ◌∙◌, ◌<◌, ◌+◌, ℕ, ℤ, List, [], ◌∷◌, length, Option, Some, None, Result, Ok, Err, refl, sym, ap, arith}
 use Rattle.std.proofs.lemmas.List.{length-map}
 use Rattle.std.proofs.lemmas.List.FromFn.{length-range_with_len}
 use Rattle.std.specs.List.{range_with_len}
 use Rattle.std.specs.Option.{option_and_then, option_map_or}
-use Rattle.dimacs_text.specs.Answers.{after_any, after_part, after_parts, is_blank, is_line_feed, pieces, reading, without_end}
+use Rattle.dimacs_text.specs.Answers.{is_blank, is_line_feed, pieces, trimmed}
+use Rattle.dimacs_text.specs.helpers.Reading.{after_any, after_part, after_parts, at_end, reading}
 use Rattle.dimacs_text.specs.Values.{assigned, is_made_true}
 use Rattle.dimacs_text.specs.declared.said.Said.{Said}
+use Rattle.dimacs_text.specs.declared.said.Said.TheVariants.{Nothing, Begun, Whole}
 use Rattle.dimacs_text.specs.helpers.Pieces.{behind_first, first_piece}
 use Rattle.dimacs_text.proofs.Firsts.{begins_with_first}
 
@@ -14,22 +16,35 @@ module _ (number : ℕ) (said : Said) (rest line behind : List ℕ) (some : 0 < 
     (as_behind : behind ≡ behind_first is_line_feed rest) where
   -- what is read from here on, by what is said after the first line
   first_line : reading number said (pieces is_line_feed rest)
-      ≡ option_map_or (λ next. reading (number + 1) next (pieces is_line_feed behind)) (after_any said (without_end line)) (Err number)
+      ≡ option_map_or (λ next. reading (number + 1) next (pieces is_line_feed behind)) (after_any said (trimmed line)) (Err number)
   first_line =
       ap (reading number said) (begins_with_first is_line_feed rest some)
       ∙ ap (λ l.
-      option_map_or (λ next. reading (number + 1) next (pieces is_line_feed (behind_first is_line_feed rest))) (after_any said (without_end l)) (Err number))
+      option_map_or (λ next. reading (number + 1) next (pieces is_line_feed (behind_first is_line_feed rest))) (after_any said (trimmed l)) (Err number))
       (sym as_line)
-      ∙ ap (λ bs. option_map_or (λ next. reading (number + 1) next (pieces is_line_feed bs)) (after_any said (without_end line)) (Err number)) (sym as_behind)
+      ∙ ap (λ bs. option_map_or (λ next. reading (number + 1) next (pieces is_line_feed bs)) (after_any said (trimmed line)) (Err number)) (sym as_behind)
 
   -- a line that goes on, and one that breaks the form
-  pub reads_on : (next : Said) → Some next ≡ after_any said (without_end line)
+  pub reads_on : (next : Said) → Some next ≡ after_any said (trimmed line)
       → reading number said (pieces is_line_feed rest) ≡ reading (number + 1) next (pieces is_line_feed behind)
   reads_on next is =
       first_line ∙ ap (λ o. option_map_or (λ n. reading (number + 1) n (pieces is_line_feed behind)) o (Err number)) (sym is)
 
-  pub breaks : None ≡ after_any said (without_end line) → reading number said (pieces is_line_feed rest) ≡ Err number
+  pub breaks : None ≡ after_any said (trimmed line) → reading number said (pieces is_line_feed rest) ≡ Err number
   breaks is = first_line ∙ ap (λ o. option_map_or (λ n. reading (number + 1) n (pieces is_line_feed behind)) o (Err number)) (sym is)
+
+-- where no line is left
+pub whole_at_end : (number : ℕ) (said : Said) (rest : List ℕ) (literals : List ℤ) → length rest ≡ 0 → said ≡ Whole literals
+    → reading number said (pieces is_line_feed rest) ≡ Ok literals
+whole_at_end number said [] literals empty is = ap (at_end number) is
+whole_at_end number said (b ∷ rest) literals empty is = absurd (omega (arith, empty))
+
+pub not_whole_at_end : (number : ℕ) (said : Said) (rest : List ℕ) → length rest ≡ 0 → ((literals : List ℤ) → said ≡ Whole literals → ⊥)
+    → reading number said (pieces is_line_feed rest) ≡ Err number
+not_whole_at_end number Nothing [] empty not_whole = refl
+not_whole_at_end number (Begun kept) [] empty not_whole = refl
+not_whole_at_end number (Whole kept) [] empty not_whole = absurd (not_whole kept refl)
+not_whole_at_end number said (b ∷ rest) empty not_whole = absurd (omega (arith, empty))
 
 module _ (said : Said) (rest part behind : List ℕ) (some : 0 < length rest) (as_part : part ≡ first_piece is_blank rest)
     (as_behind : behind ≡ behind_first is_blank rest) where

@@ -1,21 +1,20 @@
--- What the text of a solver's answer says: the literals that it makes true, or the first line that breaks the form of an answer.
-use Rattle.std.specs.Prelude.{ℕ, ◌+◌, ◌-◌, Bool, true, ◌==◌, ◌||◌, if◌then◌else◌, List, [], ◌∷◌, length, take, ℤ, pos, neg_ℤ, Option, Some, None, Result, Ok, Err, codes}
-use Rattle.std.specs.List.{list_any, onto_first, suffix_len}
-use Rattle.std.specs.Option.{option_and_then, option_map, option_map_or}
+-- The form of a solver's answer, and the literals that an answer has.
+use Rattle.std.specs.Prelude.{◌≡◌, ℕ, ◌-◌, ◌==◌, nat_lt, nat_le, Bool, true, not, ◌||◌, ◌&&◌}
+use Rattle.std.specs.Prelude.{IsTrue, if◌then◌else◌, List, [], ◌∷◌, ◌++◌, length, take, map}
+use Rattle.std.specs.Prelude.{codes, ℤ, neg_ℤ}
+use Rattle.std.specs.List.{filter, flat_map, list_all, list_any, onto_first, suffix_len}
+use Rattle.std.specs.Fmt.{signed_decimal}
 use Rattle.std.specs.Ordering.{int_eq}
-use Rattle.std.specs.Str.{bytes_eq}
 use Rattle.std.specs.Str.Lines.{strip_carriage_return}
-use Rattle.indexmap.specs.IndexSet.{insert_key}
-use Rattle.tc_decimal.specs.Decimals.{number_of}
-use Rattle.dimacs_text.specs.declared.said.Said.{Said}
-use Rattle.dimacs_text.specs.declared.said.Said.TheVariants.{Nothing, Begun, Whole}
-use Rattle.dimacs_text.specs.declared.words.Word.{Word}
-use Rattle.dimacs_text.specs.declared.words.Word.TheVariants.{Literal, End}
+use Rattle.cnf_core.specs.Clauses.{var_of}
 
--- the pieces of some bytes, each of which ends at a byte that passes the test; the last may lack that end
+-- Lines, and the words of a line.
+
+-- the pieces of some bytes, each of which ends at a byte that passes the test; the last may lack it
 abbrev pub pieces : (ℕ → Bool) → List ℕ → List (List ℕ)
 pieces ends [] = []
-pieces ends (b ∷ bytes) = if ends b then [] ∷ pieces ends bytes else onto_first b (pieces ends bytes)
+pieces ends (b ∷ bytes) =
+    if ends b then [] ∷ pieces ends bytes else onto_first b (pieces ends bytes)
 
 abbrev pub is_line_feed : ℕ → Bool
 is_line_feed b = b == 10
@@ -24,84 +23,87 @@ is_line_feed b = b == 10
 abbrev pub is_blank : ℕ → Bool
 is_blank b = b == 32 || b == 9
 
--- a line without the carriage return at its end
-abbrev pub without_return : List ℕ → List ℕ
-without_return line = strip_carriage_return line
+-- the lines of a text
+abbrev pub lines_of : List ℕ → List (List ℕ)
+lines_of text = pieces is_line_feed text
 
--- how many blanks stand at its end
-abbrev pub blanks_len : List ℕ → ℕ
-blanks_len line = suffix_len is_blank line
-
--- without them
 abbrev pub without_blanks : List ℕ → List ℕ
-without_blanks line = take (length line - blanks_len line) line
+without_blanks line = take (length line - suffix_len is_blank line) line
 
--- without what is skipped at its end
-abbrev pub without_end : List ℕ → List ℕ
-without_end line = without_blanks (without_return line)
+-- a line without a carriage return at its end, and then without the blanks there
+abbrev pub trimmed : List ℕ → List ℕ
+trimmed line = without_blanks (strip_carriage_return line)
 
--- a line that says nothing: it is empty, or begins with `c`
+-- a line is skipped that is empty, or a comment: it begins with `c`
 abbrev pub is_skipped : List ℕ → Bool
 is_skipped [] = true
 is_skipped (b ∷ bytes) = b == 99
 
--- the greatest variable
-abbrev pub last_var : ℕ
-last_var = 2147483647
+-- the trimmed lines that aren't skipped
+abbrev pub unskipped : List (List ℕ) → List (List ℕ)
+unskipped lines = filter (λ line. not (is_skipped line)) (map trimmed lines)
 
--- no literal is `-0`
-abbrev pub negated : ℕ → Option Word
-negated n = if n == 0 then None else Some (Literal (neg_ℤ (pos n)))
+abbrev pub is_word : List ℕ → Bool
+is_word piece = nat_lt 0 (length piece)
 
--- a literal, or the 0 after the last
-abbrev pub plain : ℕ → Word
-plain n = if n == 0 then End else Literal (pos n)
+-- the first piece, and the words among the others
+abbrev pub words_in : List (List ℕ) → List (List ℕ)
+words_in [] = []
+words_in (first ∷ others) = first ∷ filter is_word others
 
--- what a word of a line of values is
-abbrev pub word_in : List ℕ → Option Word
-word_in [] = None
-word_in (b ∷ bytes) = if b == 45 then option_and_then negated (number_of last_var bytes) else option_map plain (number_of last_var (b ∷ bytes))
+-- the words of a line: what comes before its first blank, and then what lies between blanks
+abbrev pub words_of : List ℕ → List (List ℕ)
+words_of line = words_in (pieces is_blank line)
 
--- after a word: a literal isn't the opposite of an earlier one, and nothing comes after the 0
-abbrev pub after_word : Said → Word → Option Said
-after_word (Begun literals) (Literal l) = if list_any (int_eq (neg_ℤ l)) literals then None else Some (Begun (insert_key int_eq literals l))
-after_word (Begun literals) End = Some (Whole literals)
-after_word said word = None
+-- Literals.
 
--- after what stands between blanks: nothing, or a word
-abbrev pub after_part : Said → List ℕ → Option Said
-after_part said [] = Some said
-after_part said (b ∷ bytes) = option_and_then (after_word said) (word_in (b ∷ bytes))
+-- a variable from 1 to 2147483647, or its opposite
+abbrev pub is_literal : ℤ → Bool
+is_literal l = nat_lt 0 (var_of l) && nat_le (var_of l) 2147483647
 
-abbrev pub after_parts : Said → List (List ℕ) → Option Said
-after_parts said [] = Some said
-after_parts said (part ∷ parts) = option_and_then (λ next. after_parts next parts) (after_part said part)
+-- the literal is one of those
+abbrev pub is_among : List ℤ → ℤ → Bool
+is_among literals l = list_any (int_eq l) literals
 
--- after a line of values: `v`, and words, each after blanks
-abbrev pub after_values : Said → List (List ℕ) → Option Said
-after_values said [] = None
-after_values said (part ∷ parts) = if bytes_eq part (codes "v") then after_parts said parts else None
+-- no literal is among them with its opposite
+abbrev pub HaveNoOpposites : List ℤ → Type 0
+HaveNoOpposites literals =
+    (l : ℤ) → IsTrue (is_among literals l) → IsTrue (is_among literals (neg_ℤ l)) → ⊥
 
--- after a line that isn't skipped: first that there is an answer, then values up to the 0, then none
-abbrev pub after_line : Said → List ℕ → Option Said
-after_line Nothing line = if bytes_eq line (codes "s SATISFIABLE") then Some (Begun []) else None
-after_line (Begun literals) line = after_values (Begun literals) (pieces is_blank line)
-after_line (Whole literals) line = None
+-- each of them once, in the order in which they first come
+abbrev pub each_once : List ℤ → List ℤ
+each_once [] = []
+each_once (l ∷ ls) = l ∷ filter (λ k. not (int_eq l k)) (each_once ls)
 
-abbrev pub after_any : Said → List ℕ → Option Said
-after_any said line = if is_skipped line then Some said else after_line said line
+-- Answers.
 
--- what the end of a text says, where the line of that number would come
-abbrev pub at_end : ℕ → Said → Result (List ℤ) ℕ
-at_end number (Whole literals) = Ok literals
-at_end number said = Err number
+-- the words of a line of values: `v`, and its literals
+abbrev pub value_words : List ℤ → List (List ℕ)
+value_words literals = codes "v" ∷ map signed_decimal literals
 
--- what the lines say from that of a number on: the line that breaks the form is told
-abbrev pub reading : ℕ → Said → List (List ℕ) → Result (List ℤ) ℕ
-reading number said [] = at_end number said
-reading number said (line ∷ lines) =
-    option_map_or (λ next. reading (number + 1) next lines) (after_any said (without_end line)) (Err number)
+-- Lines are an answer with these literals: the first that isn't skipped is `s SATISFIABLE`, and
+-- each other is a line of values. A 0 follows the literals of the last one.
+pub record AreAnswerWith (lines : List (List ℕ)) (literals : List ℤ) : Type 0 where
+  -- the lines of values
+  pub values : List (List ℕ)
+  -- the literals of each of them but the last, and those of the last
+  pub before : List (List ℤ)
+  pub last : List ℤ
+  -- all literals, as they come
+  pub all : List ℤ
+  pub lines_are : unskipped lines ≡ codes "s SATISFIABLE" ∷ values
+  pub values_are :
+      map words_of values ≡ map value_words before ++ (value_words last ++ codes "0" ∷ []) ∷ []
+  pub all_are : all ≡ flat_map (λ ls. ls) before ++ last
+  pub are_literals : IsTrue (list_all is_literal all)
+  pub no_opposites : HaveNoOpposites all
+  pub literals_are : literals ≡ each_once all
 
--- the literals of an answer's text, or the number, from 1, of the first line that breaks the form
-abbrev pub answer : List ℕ → Result (List ℤ) ℕ
-answer text = reading 1 Nothing (pieces is_line_feed text)
+-- the text is an answer that has these literals
+abbrev pub IsAnswerWith : (text : List ℕ) (literals : List ℤ) → Type 0
+IsAnswerWith text literals = AreAnswerWith (lines_of text) literals
+
+-- lines begin an answer: with the lines of some text behind them they are one
+abbrev pub BeginAnswer : List (List ℕ) → Type 0
+BeginAnswer lines =
+    (more : List ℕ) × (literals : List ℤ) × AreAnswerWith (lines ++ lines_of more) literals

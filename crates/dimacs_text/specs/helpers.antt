@@ -1,2 +1,3 @@
 -- No promise speaks of what stands in this folder.
 pub mod Pieces
+pub mod Reading

@@ -8,8 +8,7 @@ use thiserror::Error;
 /// Why a text is no answer.
 #[derive(Clone, Copy, Debug, PartialEq, Eq, Error)]
 pub enum AnswerFault {
-    /// The number, from 1, of the first line that breaks the form of an answer. Where the text ends too early, it is the line after
-    /// the last.
+    /// The number, from 1, of the first line with which no answer begins. Where the text ends too early, it is the line after the last.
     #[error("line {0}")]
     Form(usize),
     /// There is no memory.

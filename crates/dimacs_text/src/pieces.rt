@@ -1,6 +1,7 @@
 //! The pieces of bytes.
 ghost use Rattle.std.specs.Prelude.{◌≡◌, ◌≤◌, suc, length, take, drop};
-ghost use Rattle.std.specs.List.{prefix_len};
+ghost use Rattle.std.specs.List.{prefix_len, suffix_len};
+ghost use Rattle.std.specs.Str.Lines.{strip_carriage_return};
 ghost use Rattle.dimacs_text.specs.Answers as answers;
 ghost use Rattle.dimacs_text.specs.helpers.Pieces.{piece_len, first_piece, behind_first};
 
@@ -54,14 +55,14 @@ fn is_blank(b: u8) -> bool
 }
 
 /// A line without what is skipped at its end.
-pub(crate) fn without_end(line: &[u8]) -> &[u8]
-    ensures { result.now ≡ answers.without_end line.now }
+pub(crate) fn trimmed(line: &[u8]) -> &[u8]
+    ensures { result.now ≡ answers.trimmed line.now }
 {
     without_blanks(without_return(line))
 }
 
 fn without_return(line: &[u8]) -> &[u8]
-    ensures { result.now ≡ answers.without_return line.now }
+    ensures { result.now ≡ strip_carriage_return line.now }
 {
     match line {
         [front @ .., b'\r'] => front,
@@ -77,7 +78,7 @@ fn without_blanks(line: &[u8]) -> &[u8]
 
 /// How many blanks stand at the end.
 fn blanks_len(line: &[u8]) -> usize
-    ensures len { result ≡ answers.blanks_len line.now }
+    ensures len { result ≡ suffix_len answers.is_blank line.now }
     ensures within { result ≤ length line.now }
 {
     line.iter().rev().take_while(|b| is_blank(**b)).count()

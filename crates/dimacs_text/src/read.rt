@@ -1,6 +1,6 @@
 //! From a text to the literals of the answer.
-ghost use Rattle.std.specs.Prelude.{◌≡◌, Ok, IfOk, IfErr};
-ghost use Rattle.dimacs_text.specs.Answers.{answer};
+ghost use Rattle.std.specs.Prelude.{IfOk, IfErr};
+ghost use Rattle.dimacs_text.specs.Answers.{IsAnswerWith};
 ghost use Rattle.dimacs_text.specs.Faults.{IsFault};
 
 use crate::pieces::next_line;
@@ -8,13 +8,12 @@ use crate::said::Said;
 use crate::{AnswerFault, Literals};
 use std::alloc::Global;
 
-/// The literals that a solver's answer makes true.
+/// The literals that a solver's answer makes true, or the first line with which no answer begins.
 ///
-/// A text either has literals or has one line that is the first to break the form of an answer, so the answer is the only one that
-/// there is, but for `Memory`. That there is an answer is all that is read: whether its literals satisfy clauses, who has the clauses
-/// can see. The time grows linearly with the text.
+/// A text has one reading (`texts_have_one_reading`), so only want of memory leaves the result open. Nothing but the form is read:
+/// `first_false` says whether the literals satisfy clauses. The time grows linearly with the text.
 pub fn read_answer(alloc: Global, text: &[u8]) -> Result<Literals, AnswerFault>
-    ensures found { IfOk result (λ literals. answer text.now ≡ Ok literals) }
+    ensures found { IfOk result (λ literals. IsAnswerWith text.now literals) }
     ensures refused { IfErr result (λ fault. IsFault text.now fault) }
 {
     let mut said = Said::Nothing;

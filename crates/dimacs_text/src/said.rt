@@ -1,9 +1,10 @@
 //! What the lines of an answer's text say so far.
 ghost use Rattle.std.specs.Prelude.{◌≡◌, IfOk};
 ghost use Rattle.dimacs_text.specs.Answers as answers;
+ghost use Rattle.dimacs_text.specs.helpers.Reading as reading;
 
 use crate::Literals;
-use crate::pieces::{next_part, without_end};
+use crate::pieces::{next_part, trimmed};
 use crate::words::{Word, word_in};
 use cnf_core::Lit;
 use std::alloc::{AllocError, Global};
@@ -22,9 +23,9 @@ pub(crate) enum Said {
 impl Said {
     /// What they say with one line more, unless it breaks the form.
     pub(crate) fn after_line(self, alloc: Global, line: &[u8]) -> Result<Option<Said>, AllocError>
-        ensures { IfOk result (λ next. next ≡ answers.after_any self (answers.without_end line.now)) }
+        ensures { IfOk result (λ next. next ≡ reading.after_any self (answers.trimmed line.now)) }
     {
-        let line = without_end(line);
+        let line = trimmed(line);
         if is_skipped(line) {
             return Ok(Some(self));
         }
@@ -39,7 +40,7 @@ impl Said {
 
     /// What they say with what stands between two blanks more, unless it breaks the form.
     fn after_part(self, part: &[u8]) -> Result<Option<Said>, AllocError>
-        ensures { IfOk result (λ next. next ≡ answers.after_part self part.now) }
+        ensures { IfOk result (λ next. next ≡ reading.after_part self part.now) }
     {
         if part.is_empty() {
             return Ok(Some(self));
@@ -52,7 +53,7 @@ impl Said {
 
     /// What they say with a word more, unless it breaks the form.
     fn after_word(self, word: Word) -> Result<Option<Said>, AllocError>
-        ensures { IfOk result (λ next. next ≡ answers.after_word self word) }
+        ensures { IfOk result (λ next. next ≡ reading.after_word self word) }
     {
         match (self, word) {
             (Said::Begun(literals), Word::Literal(lit)) => with_literal(literals, lit),
@@ -71,7 +72,7 @@ fn is_skipped(line: &[u8]) -> bool
 
 /// What is said after a line of values.
 fn after_values(literals: Literals, line: &[u8]) -> Result<Option<Said>, AllocError>
-    ensures { IfOk result (λ next. next ≡ answers.after_line (Said.Begun literals) line.now) }
+    ensures { IfOk result (λ next. next ≡ reading.after_line (Said.Begun literals) line.now) }
 {
     let (first, rest) = next_part(line);
     if first == b"v".as_slice() {
@@ -83,7 +84,7 @@ fn after_values(literals: Literals, line: &[u8]) -> Result<Option<Said>, AllocEr
 
 /// What is said after the words of a line.
 fn after_parts(literals: Literals, words: &[u8]) -> Result<Option<Said>, AllocError>
-    ensures { IfOk result (λ next. next ≡ answers.after_parts (Said.Begun literals) (answers.pieces answers.is_blank words.now)) }
+    ensures { IfOk result (λ next. next ≡ reading.after_parts (Said.Begun literals) (answers.pieces answers.is_blank words.now)) }
 {
     let mut said = Said::Begun(literals);
     let mut rest = words;
@@ -100,7 +101,7 @@ fn after_parts(literals: Literals, words: &[u8]) -> Result<Option<Said>, AllocEr
 
 /// What is said with one literal more, unless its opposite is there.
 fn with_literal(literals: Literals, lit: Lit) -> Result<Option<Said>, AllocError>
-    ensures { IfOk result (λ next. next ≡ answers.after_word (Said.Begun literals) (Word.Literal lit)) }
+    ensures { IfOk result (λ next. next ≡ reading.after_word (Said.Begun literals) (Word.Literal lit)) }
 {
     if literals.contains(lit.opposite()) {
         return Ok(None);

@@ -1,6 +1,6 @@
 //! Words of a line of values.
 ghost use Rattle.std.specs.Prelude.{◌≡◌, ◌<◌, ◌^◌, neg_ℤ, pos, if◌then◌else◌};
-ghost use Rattle.dimacs_text.specs.Answers as answers;
+ghost use Rattle.dimacs_text.specs.helpers.Reading as reading;
 
 use cnf_core::Lit;
 use tc_decimal::number_of;
@@ -19,7 +19,7 @@ pub(crate) enum Word {
 
 /// What these bytes are, none of them a blank.
 pub(crate) fn word_in(bytes: &[u8]) -> Option<Word>
-    ensures { result ≡ answers.word_in bytes.now }
+    ensures { result ≡ reading.word_in bytes.now }
 {
     match bytes {
         [b'-', digits @ ..] => match number_of(LAST_VAR, digits)? {

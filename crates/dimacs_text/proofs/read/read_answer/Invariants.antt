@@ -1,5 +1,6 @@
 use Rattle.std.proofs.Common.{◌≡◌, ◌≤◌, ◌<◌, ◌+◌, length}
-use Rattle.dimacs_text.specs.Answers.{answer, is_line_feed, pieces, reading}
+use Rattle.dimacs_text.specs.Answers.{is_line_feed, pieces}
+use Rattle.dimacs_text.specs.helpers.Reading.{answer, reading}
 use Rattle.dimacs_text.proofs.read.read_answer.Given as goal
 
 abbrev pub invariant-loop-rest : goal.invariant-loop-rest

@@ -1,6 +1,7 @@
 use Rattle.std.proofs.Common.{◌≡◌, length}
-use Rattle.dimacs_text.specs.Answers.{after_parts, is_blank, pieces}
+use Rattle.dimacs_text.specs.Answers.{is_blank, pieces}
 use Rattle.dimacs_text.specs.declared.said.Said.TheVariants.{Begun}
+use Rattle.dimacs_text.specs.helpers.Reading.{after_parts}
 use Rattle.dimacs_text.proofs.said.after_parts.Given as goal
 
 abbrev pub invariant-loop-rest : goal.invariant-loop-rest
