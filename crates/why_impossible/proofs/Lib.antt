@@ -1,1 +1,5 @@
+mod Kept
+mod There
+mod Lines
+mod Once
 mod Rests

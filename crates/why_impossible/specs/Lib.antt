@@ -1,3 +1,4 @@
+pub mod Enders
 pub mod Explained
 pub mod Reasons
 pub mod helpers

@@ -1,8 +1,7 @@
 -- Reasons, by the names of threads, and the text of each.
-use Rattle.std.specs.Prelude.{ℕ, List, ◌++◌, codes, flat_map, length, slice_get}
+use Rattle.std.specs.Prelude.{ℕ, List, ◌++◌, codes, flat_map, length, Option, Some, option_map, slice_get}
 use Rattle.std.specs.Fmt.{decimal}
-use Rattle.std.specs.Option.{option_map_or}
-use Rattle.tc_base.specs.Names.{Name, main, name_text}
+use Rattle.tc_base.specs.Names.{Name, name_text}
 use Rattle.path_walk.specs.Paths.{Paths}
 use Rattle.order_formula.specs.declared.group.Group.{Group}
 use Rattle.order_formula.specs.declared.group.Group.TheVariants as group
@@ -10,19 +9,19 @@ use Rattle.dead_paths.specs.Causes.{Cause}
 use Rattle.why_impossible.specs.declared.reason.Reason.{Reason}
 use Rattle.why_impossible.specs.declared.reason.Reason.TheVariants.{Own, Child, Read, Mutex, Condition, Test, Stuck, Dead}
 
--- the name of the thread at a place among those of paths
-abbrev pub name_at : Paths → ℕ → Name
-name_at paths t = option_map_or (λ w. w.name) (slice_get paths.threads t) main
+-- the name of the thread at a place among those of paths, if there is one
+abbrev pub name_at : Paths → ℕ → Option Name
+name_at paths t = option_map (λ w. w.name) (slice_get paths.threads t)
 
--- the reason of a group
-abbrev pub reason_of : Paths → Group → Reason
-reason_of paths (group.Own t) = Own (name_at paths t)
-reason_of paths (group.Child t) = Child (name_at paths t)
-reason_of paths (group.Read t line) = Read (name_at paths t) line
-reason_of paths (group.Mutex m) = Mutex m
-reason_of paths (group.Condition c) = Condition c
-reason_of paths (group.Test t line) = Test (name_at paths t) line
-reason_of paths (group.Stuck t) = Stuck (name_at paths t)
+-- the reason of a group, if the thread that it names is there
+abbrev pub reason_of : Paths → Group → Option Reason
+reason_of paths (group.Own t) = option_map Own (name_at paths t)
+reason_of paths (group.Child t) = option_map Child (name_at paths t)
+reason_of paths (group.Read t line) = option_map (λ name. Read name line) (name_at paths t)
+reason_of paths (group.Mutex m) = Some (Mutex m)
+reason_of paths (group.Condition c) = Some (Condition c)
+reason_of paths (group.Test t line) = option_map (λ name. Test name line) (name_at paths t)
+reason_of paths (group.Stuck t) = option_map Stuck (name_at paths t)
 
 -- the reason of a cause of dead paths
 abbrev pub cause_reason : Cause → Reason

@@ -1,2 +1,3 @@
 -- No promise speaks of what stands in this folder: private contracts alone cite it.
 pub mod Posed
+pub mod There

@@ -1,5 +1,6 @@
 //! What a derivation shows of a log, with its reasons.
 ghost use Rattle.std.specs.Prelude.{◌≡◌, false, length, IfOk, IfErr, OnOk, Ok};
+ghost use Rattle.std.specs.List.{All};
 ghost use Rattle.path_walk.specs.Paths.{paths_of};
 ghost use Rattle.refute_check.specs.Refutations.{IsClosed, check};
 ghost use Rattle.clap_solve.specs.Faults.{IsCheckImpossibleFault};
@@ -7,6 +8,7 @@ ghost use Rattle.clap_solve.specs.Posed.{IsGiven, posed_of};
 ghost use Rattle.clap_solve.specs.Solved.{IsWithin};
 ghost use Rattle.why_impossible.specs.Explained.{IsExplained, TellsCause, TellsGroups};
 ghost use Rattle.why_impossible.specs.helpers.Posed.{AreReasonsOn, IsExplainedOn};
+ghost use Rattle.why_impossible.specs.helpers.There.{IsThere};
 
 use crate::Reasons;
 use crate::naming::{caused, named};
@@ -80,6 +82,7 @@ fn explain(
     requires checked { check posed.now.blasted.clauses derivation.now ≡ Ok checked }
     requires paths { posed.now.paths ≡ paths_of code.now log.now.log }
     requires conjuncts { posed.now.paths.dead ≡ false → posed.now.blasted.conjuncts ≡ length posed.now.formula }
+    requires there { All (λ conjunct. IsThere posed.now.paths conjunct.group) posed.now.formula }
     ensures { IfOk result (IsExplainedOn code.now log.now.log posed.now derivation.now) }
 {
     match checked {
@@ -102,12 +105,14 @@ fn reasons(
     requires closed { IsClosed posed.now.blasted.clauses derivation.now }
     requires paths { posed.now.paths ≡ paths_of code.now log.now.log }
     requires conjuncts { posed.now.paths.dead ≡ false → posed.now.blasted.conjuncts ≡ length posed.now.formula }
+    requires there { All (λ conjunct. IsThere posed.now.paths conjunct.group) posed.now.formula }
     ensures { IfOk result (λ reasons. AreReasonsOn code.now log.now.log posed.now derivation.now reasons) }
 {
-    if posed.paths().dead() {
-        let cause = cause_of(alloc, code, log, posed.paths())?;
+    let paths = posed.paths();
+    if paths.dead() {
+        let cause = cause_of(alloc, code, log, paths)?;
         return caused(alloc, &cause);
     }
     let groups = reached_groups(alloc, posed.formula(), posed.blasted(), derivation)?;
-    named(alloc, posed.paths(), groups.as_slice())
+    named(alloc, paths, groups.as_slice())
 }

@@ -1,6 +1,8 @@
 //! Groups of rules by the names of threads.
-ghost use Rattle.std.specs.Prelude.{◌≡◌, [], ◌∷◌, map, IfOk};
+ghost use Rattle.std.specs.Prelude.{◌≡◌, ◌<◌, [], ◌∷◌, length, map, IfOk, Some};
+ghost use Rattle.std.specs.List.{All};
 ghost use Rattle.why_impossible.specs.Reasons.{cause_reason, name_at, reason_of};
+ghost use Rattle.why_impossible.specs.helpers.There.{IsSmall, IsThere};
 
 use crate::{Reason, Reasons};
 use dead_paths::Cause;
@@ -11,11 +13,13 @@ use tc_base::ThreadName;
 
 /// A reason for each group.
 pub(crate) fn named(alloc: Global, paths: &Paths, groups: &[Group]) -> Result<Reasons, AllocError>
-    ensures { IfOk result (λ reasons. reasons ≡ map (reason_of paths.now) groups.now) }
+    requires { All (IsThere paths.now) groups.now }
+    ensures told { IfOk result (λ reasons. map (reason_of paths.now) groups.now ≡ map Some reasons) }
+    ensures small { IfOk result (All IsSmall) }
 {
     let mut reasons = Vec::new(alloc);
     for group in groups {
-        reasons.push(reason_of(alloc, paths, *group)?)?;
+        reasons.push(reason_of(paths, *group)?)?;
     }
     Ok(Reasons::new(reasons))
 }
@@ -31,26 +35,26 @@ pub(crate) fn caused(alloc: Global, cause: &Cause) -> Result<Reasons, AllocError
 }
 
 /// The reason of a group.
-fn reason_of(alloc: Global, paths: &Paths, group: Group) -> Result<Reason, AllocError>
-    ensures { IfOk result (λ reason. reason ≡ reason_of paths.now group) }
+fn reason_of(paths: &Paths, group: Group) -> Result<Reason, AllocError>
+    requires { IsThere paths.now group }
+    ensures told { IfOk result (λ reason. reason_of paths.now group ≡ Some reason) }
+    ensures small { IfOk result IsSmall }
 {
     match group {
-        Group::Own { thread } => Ok(Reason::Own(name_at(alloc, paths, thread)?)),
-        Group::Child { thread } => Ok(Reason::Child(name_at(alloc, paths, thread)?)),
-        Group::Read { thread, line } => Ok(Reason::Read(name_at(alloc, paths, thread)?, line)),
+        Group::Own { thread } => Ok(Reason::Own(name_at(paths, thread)?)),
+        Group::Child { thread } => Ok(Reason::Child(name_at(paths, thread)?)),
+        Group::Read { thread, line } => Ok(Reason::Read(name_at(paths, thread)?, line)),
         Group::Mutex(mutex) => Ok(Reason::Mutex(mutex)),
         Group::Condition(condition) => Ok(Reason::Condition(condition)),
-        Group::Test { thread, line } => Ok(Reason::Test(name_at(alloc, paths, thread)?, line)),
-        Group::Stuck { thread } => Ok(Reason::Stuck(name_at(alloc, paths, thread)?)),
+        Group::Test { thread, line } => Ok(Reason::Test(name_at(paths, thread)?, line)),
+        Group::Stuck { thread } => Ok(Reason::Stuck(name_at(paths, thread)?)),
     }
 }
 
-/// The name of the thread at a place among the threads of paths. All groups name such places.
-fn name_at(alloc: Global, paths: &Paths, thread: usize) -> Result<ThreadName, AllocError>
-    ensures { IfOk result (λ name. name ≡ name_at paths.now thread) }
+/// The name of the thread at a place among the threads of paths.
+fn name_at(paths: &Paths, thread: usize) -> Result<ThreadName, AllocError>
+    requires { thread < length paths.now.threads }
+    ensures { IfOk result (λ name. name_at paths.now thread ≡ Some name) }
 {
-    match paths.threads().get(thread) {
-        Some(walk) => walk.name().clone(),
-        None => Ok(ThreadName::main(alloc)),
-    }
+    paths.threads()[thread].name().clone()
 }

@@ -1,5 +1,6 @@
 -- What a derivation shows over clauses that are posed.
 use Rattle.std.specs.Prelude.{List}
+use Rattle.std.specs.List.{All}
 use Rattle.tc_base.specs.Logs.{Log}
 use Rattle.tc_code.specs.Code.{Code}
 use Rattle.refute_check.specs.Refutations.{IsClosed, IsOpen}
@@ -9,11 +10,12 @@ use Rattle.why_impossible.specs.Explained.{TellsCause, TellsGroups}
 use Rattle.why_impossible.specs.declared.explained.Explained.{Explained}
 use Rattle.why_impossible.specs.declared.explained.Explained.TheVariants.{Closed, Open}
 use Rattle.why_impossible.specs.declared.reason.Reason.{Reason}
+use Rattle.why_impossible.specs.helpers.There.{IsSmall}
 
 module _ (code : Code) (log : Log) (p : Posed) (lines : List Line) where
   -- the reasons tell groups, or the cause of dead paths
   pub data AreReasonsOn (reasons : List Reason) : Type 0 where
-    Groups : TellsGroups p lines reasons → AreReasonsOn reasons
+    Groups : TellsGroups p lines reasons → All IsSmall reasons → AreReasonsOn reasons
     Cause : TellsCause code log p reasons → AreReasonsOn reasons
 
   pub record IsClosedOn (reasons : List Reason) : Type 0 where

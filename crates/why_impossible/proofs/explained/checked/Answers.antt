@@ -5,7 +5,7 @@ use Rattle.refute_check.specs.Refutations.{check}
 use Rattle.refute_check.specs.declared.verdict.CheckFault.{CheckFault}
 use Rattle.clap_solve.specs.Posed.{Posed, posed_of}
 use Rattle.clap_solve.proofs.Posing.{check_cause, own_clauses}
-use Rattle.why_impossible.proofs.Rests.{conjuncts_are, is_explained}
+use Rattle.why_impossible.proofs.Rests.{conjuncts_are, formula_there, is_explained}
 use Rattle.why_impossible.proofs.explained.checked.Goals as goal
 
 pub explain-requires-clause-checked : goal.explain-requires-clause-checked
@@ -18,6 +18,10 @@ explain-requires-clause-paths g c = ap (λ (p : Posed). p.paths) c.requires.pose
 pub explain-requires-clause-conjuncts : goal.explain-requires-clause-conjuncts
 explain-requires-clause-conjuncts g c =
     conjuncts_are g.M.MemoryModel.BUFFERED g.M.MemoryModel.bound c.args.code.now c.args.log.now.log c.args.posed.now c.requires.posed
+
+pub explain-requires-clause-there : goal.explain-requires-clause-there
+explain-requires-clause-there g c =
+    formula_there g.M.MemoryModel.BUFFERED g.M.MemoryModel.bound c.args.code.now c.args.log.now.log c.requires.given c.args.posed.now c.requires.posed
 
 pub returns-clause-ok : goal.returns-clause-ok
 returns-clause-ok g c =

@@ -1,0 +1,15 @@
+-- What may end the sleeps on a condition, in a world in which any event may end any sleep.
+use Rattle.std.specs.Prelude.{◌≡◌, ◌⊎◌, ℕ, Some}
+use Rattle.path_walk.specs.Paths.{Paths}
+use Rattle.path_walk.specs.declared.event.Sleep.{Sleep}
+use Rattle.order_formula.specs.Worlds.{World}
+use Rattle.lawful_order.specs.Conditions.{IsBroadcast, IsSignal, IsSleep}
+use Rattle.lawful_order.specs.Events.{Of, ender_of}
+
+module _ (paths : Paths) (w : World) where
+  -- its signals and broadcasts alone end them, and its signals end no other sleep
+  pub record EnderRule (c : ℕ) : Type 0 where
+    pub own : (s g : ℕ) (x : Of Sleep) → IsSleep paths w s x c → ender_of w s ≡ Some g
+        → IsSignal paths w g c ⊎ IsBroadcast paths w g c
+    pub alone : (s g : ℕ) → IsSignal paths w g c → ender_of w s ≡ Some g
+        → (x : Of Sleep) × IsSleep paths w s x c
