@@ -1,15 +1,17 @@
 #!/usr/bin/env python3
 """Opens pages of `clap_debug_show` in a headless Chromium, steps through their moves by keys, and compares memory and buffers with
-those of the machine of machine.py after each move.
+those of the machine of machine.py after each move. It also tries what else one does with a page: the pointer, each key, the filter,
+the address, a narrow window.
 
-  pages.py [SHOW]                  pages of three examples that SHOW, or ./clap_debug_show, makes
+  pages.py [SHOW]                  pages of examples, and of programs of its own, that SHOW, or ./clap_debug_show, makes
   pages.py [SHOW] --pictures       the same, and writes the pictures of docs/
+  pages.py [SHOW] --speed          how long pages of 256 events and of 2,000 moves take to paint, and to step
 
 It wants Debian's package `chromium`, and nothing else beside Python.
 """
 import base64
 import json
-import os
+import re
 import secrets
 import socket
 import struct
@@ -23,7 +25,38 @@ sys.dont_write_bytecode = True
 import machine
 import show
 
-PAGES = ["buffering/p", "once/p", "deadlock/p"]
+PAGES = ["buffering/p", "once/p", "deadlock/p", "dekker/p"]
+
+# A program whose threads move in another order than that of their names, and one of which, 0.11, never moves.
+LATE = "int x;\nthread one() {\n    x = x + 1;\n}\nmain {\n    tid t;\n" + "    t = create one();\n" * 11 + "    assert(x == 1);\n}\n"
+
+# Two threads that count under a mutex, in some 40 moves a round.
+LONG = """int x;
+int y;
+mutex m;
+thread count() {
+    int i;
+    while (i < 60) {
+        lock(m);
+        x = x + 1;
+        unlock(m);
+        y = y + x;
+        i = i + 1;
+    }
+}
+main {
+    tid a;
+    tid b;
+    a = create count();
+    b = create count();
+    join(a);
+    join(b);
+    assert(x == 0);
+}
+"""
+
+# What an event asks, but for a store, and the failing step.
+EVENTS = {"load", "loadat", "swap", "cas", "fence", "exit", "lock", "unlock", "sleep", "wake", "broadcast", "signal", "create", "join"}
 
 
 class Browser:
@@ -87,19 +120,39 @@ class Browser:
         while self.value("document.readyState + location.href") != f"complete{url}":
             time.sleep(0.02)
 
-    def press(self, key):
-        for kind in ("keyDown", "keyUp"):
-            self.ask("Input.dispatchKeyEvent", type=kind, key=key)
+    def press(self, key, times=1):
+        for _ in range(times):
+            for kind in ("keyDown", "keyUp"):
+                self.ask("Input.dispatchKeyEvent", type=kind, key=key)
+
+    def size(self, width, height):
+        self.ask("Emulation.setDeviceMetricsOverride", width=width, height=height, deviceScaleFactor=1, mobile=False)
+
+    def point(self, what, kind="mouseMoved", **words):
+        """Moves the pointer onto an element, over a place beside it, or presses it there."""
+        x, y = self.value(f"(() => {{ const box = document.querySelector('{what}').getBoundingClientRect();"
+                          "return [box.left + box.width / 2, box.top + box.height / 2]; })()")
+        if kind == "mouseMoved":
+            self.ask("Input.dispatchMouseEvent", type=kind, x=x + 3, y=y, **words)
+        self.ask("Input.dispatchMouseEvent", type=kind, x=x, y=y, **words)
+
+    def click(self, what):
+        self.point(what)
+        for kind in ("mousePressed", "mouseReleased"):
+            self.point(what, kind, button="left", clickCount=1)
 
     def picture(self, name, width, height, scheme):
-        self.ask("Emulation.setDeviceMetricsOverride", width=width, height=height, deviceScaleFactor=1, mobile=False)
+        self.size(width, height)
         self.ask("Emulation.setEmulatedMedia", features=[{"name": "prefers-color-scheme", "value": scheme}])
         time.sleep(0.2)
         with open(name, "wb") as file:
             file.write(base64.b64decode(self.ask("Page.captureScreenshot", format="png")["data"]))
 
-    def close(self):
-        self.ask("Browser.close")
+    def __enter__(self):
+        return self
+
+    def __exit__(self, *_):
+        self.process.terminate()
         self.process.wait()
 
 
@@ -127,13 +180,55 @@ def wanted(code, rows, number):
     }
 
 
-def steps(browser, example, page):
+def is_seen(browser, number):
+    """Whether a move's row lies within the window, and nothing lies over it."""
+    return browser.value(f"""(() => {{
+      const box = document.querySelector('#m{number} .deed').getBoundingClientRect();
+      const seen = y => document.elementFromPoint(box.left + box.width / 2, y)?.closest('.row')?.id === 'm{number}';
+      return seen(box.top + 1) && seen(box.bottom - 1);
+    }})()""")
+
+
+def events_of(code, model, moves):
+    """The numbers of the moves by which events take place."""
+    state, events = machine.State(code, model), []
+    for number, move in enumerate(moves, 1):
+        word = state.instr(move[1])[0]
+        state.make((*move[:2], state.threads[move[1]].buffer[0][0]) if model == "tso" and move[0] == "d" else move)
+        stores = word in ("store", "storeat") and model == "sc"
+        if move[0] != "r" or word in EVENTS or stores or state.failed is not None:
+            events.append(number)
+    return events
+
+
+class Page:
+    """A page, with what the machine has of its moves."""
+
+    def __init__(self, name, program, schedule, file):
+        with open(program) as source, open(schedule) as given:
+            self.code = show.Code(source.read())
+            self.model, self.moves = show.moves_of(given.read())
+        self.name, self.program, self.file = name, program, file
+        self.rows, self.state, self.why = show.told(self.code, self.model, self.moves)
+        self.events = events_of(self.code, self.model, self.moves[:len(self.rows)])
+
+    def switches(self):
+        """The numbers of the events that are of another thread than the event before."""
+        return [n for m, n in zip(self.events, self.events[1:]) if self.moves[m - 1][1] != self.moves[n - 1][1]]
+
+    def cell(self, number):
+        """The name of the cell that a move accesses, or None."""
+        found = re.match(r"(?:store |swap |cas )?([\w\[\]]+)(?:: took | = )", self.rows[number - 1].words)
+        return found and found[1]
+
+    def accesses(self, cell):
+        return [n for n in range(1, len(self.rows) + 1) if self.cell(n) == cell]
+
+
+def steps(browser, page):
     """Goes through a page's moves by keys, and says where it differs."""
-    base = f"{show.TOP}/examples/{example}"
-    with open(f"{base}.tc") as source, open(f"{base}.sched") as file:
-        code = show.Code(source.read())
-        rows, _, _ = show.told(code, *show.moves_of(file.read()))
-    browser.open(f"file://{page}")
+    example, code, rows = page.name, page.code, page.rows
+    browser.open(f"file://{page.file}")
     count, bad = len(rows), []
 
     def look(how, number):
@@ -144,10 +239,12 @@ def steps(browser, example, page):
             bad.append(f"{example}, {how}: {came}, and is to be {wanted(code, rows, number)}")
         if number and rows[number - 1].words.endswith(" reaches memory") and arrows != 1:
             bad.append(f"{example}, {how}: {arrows} arrows lead to a drain")
+        if number and not is_seen(browser, number):
+            bad.append(f"{example}, {how}: move {number} isn't in view")
 
     look("opened", count)
-    for keys, numbers in ((["Home"], [0]), (["j", "ArrowDown"] * count, range(1, count + 1)), (["j"], [count]),
-                          (["k", "ArrowUp"] * count, range(count - 1, -1, -1)), (["k"], [0]), (["End"], [count])):
+    for keys, numbers in ((["Home"], [1]), (["k"], [0]), (["j", "ArrowDown"] * count, range(1, count + 1)), (["j"], [count]),
+                          (["k", "ArrowUp"] * count, range(count - 1, -1, -1)), (["k"], [0]), (["End"], [count]), (["Home"], [1])):
         for key, number in zip(keys, numbers):
             browser.press(key)
             look(f"{key} to {number}", number)
@@ -161,35 +258,255 @@ def steps(browser, example, page):
     return bad
 
 
-def made(program, folder):
-    """The pages of the examples, by name."""
-    pages = {}
-    for example in PAGES:
-        base, page = f"{show.TOP}/examples/{example}", f"{folder}/{example.replace('/', '_')}.html"
-        came = subprocess.run([program, f"{base}.tc", f"{base}.sched", "--html", page], capture_output=True, text=True)
-        if (came.returncode, came.stdout) != (0, "page kept\n"):
-            raise SystemExit(f"{program} of {example}: {came.returncode} {came.stdout}")
-        pages[example] = page
-    return pages
+def at(browser):
+    """The number of the selected move."""
+    return browser.value("+(document.querySelector('.row[aria-current]') ?? document.querySelector('.row.at'))?.id.slice(1)")
+
+
+def differs(page, what, came, wanted):
+    return [] if came == wanted else [f"{page.name}, {what}: {came}, and is to be {wanted}"]
+
+
+def resting(browser, page):
+    """Steps while the pointer rests over a lane, so that rows come under it."""
+    browser.open(f"file://{page.file}")
+    browser.press("Home")
+    browser.point(f"#m{min(6, len(page.rows))} .deed")
+    came = []
+    for _ in page.rows[1:]:
+        browser.press("j")
+        time.sleep(0.03)
+        came.append(at(browser))
+    return differs(page, "steps under a pointer that rests", came, list(range(2, len(page.rows) + 1)))
+
+
+def look(browser, page):
+    """What stands on a page at first: its title, its lanes, and how it ended."""
+    browser.open(f"file://{page.file}")
+    lanes = browser.value("[...document.querySelectorAll('.head > [data-lane]')].map(head => head.textContent)")
+    counts = f"{len(page.rows)} move{'s'[len(page.rows) == 1:]}, {len(page.switches())} switch{'es' if len(page.switches()) != 1 else ''}"
+    failed = page.state.failed is not None or not page.state.moves()
+    is_marked = browser.value("getComputedStyle(document.querySelector('pre')).borderLeftColor"
+                              " === getComputedStyle(document.body.appendChild(Object.assign(document.createElement('pre'),"
+                              " { className: 'fail' }))).borderLeftColor")
+    return [*differs(page, "lanes", lanes, [show.thread_of(page.code, page.state, it) for it in sorted(page.state.threads)]),
+            *differs(page, "title", browser.value("document.title"), f"{page.program} under {page.model}: {counts}"),
+            *differs(page, "the mark of a failure", is_marked, failed and not page.why)]
+
+
+def walks(browser, page):
+    """Goes along the events, switches and accesses of a cell, on and back."""
+    browser.open(f"file://{page.file}")
+    cell = next((it for it in map(page.cell, range(1, len(page.rows) + 1)) if it), None)
+    bad, last = [], len(page.rows)
+    for key, numbers in (("e", page.events), ("s", page.switches()), ("c", page.accesses(cell) if cell else [])):
+        browser.press("Home")
+        number = 1
+        for way, known in ((key, lambda n: min((it for it in numbers if it > n), default=n)),
+                           (key.upper(), lambda n: max((it for it in numbers if it < n), default=n))):
+            for _ in range(len(numbers) + 1):
+                browser.press(way)
+                number = known(number)
+                bad += differs(page, f"key {way}", at(browser), number)
+    browser.press("Home")
+    browser.press("f")
+    bad += differs(page, "key f", at(browser), last)
+    browser.press("PageUp")
+    bad += differs(page, "key PageUp", at(browser), max(1, last - 10))
+    browser.press("PageDown")
+    bad += differs(page, "key PageDown", at(browser), last)
+    for key, other in (("j", 2), ("f", 1)):  # with Ctrl, Meta or Alt a key is the browser's
+        browser.press("Home")
+        browser.ask("Input.dispatchKeyEvent", type="keyDown", key=key, modifiers=other)
+        bad += differs(page, f"modifier {other} with {key}", at(browser), 1)
+    is_open = "document.getElementById('keys').open"
+    browser.press("?")
+    bad += differs(page, "the list of keys", browser.value(is_open), True)
+    browser.press("j")
+    bad += differs(page, "j while the list is open", at(browser), 1)
+    browser.value("document.querySelector('#keys button').click()")
+    bad += differs(page, "the list of keys, closed", browser.value(is_open), False)
+    browser.click("#help")
+    return bad + differs(page, "the button for keys", browser.value(is_open), True)
+
+
+def pointing(browser, page):
+    """Points at moves, pins one by a click, and opens the address that follows."""
+    browser.open(f"file://{page.file}")
+    place = "[document.querySelector('.row.at').id, document.querySelector('.row[aria-current]').id, document.getElementById('at').textContent]"
+    text = lambda shown, pinned: [f"m{shown}", f"m{pinned}", f"after move {shown} of {len(page.rows)}"]
+    last, bad = len(page.rows), []
+    browser.press("Home")
+    browser.point("#m2 .deed")
+    bad += differs(page, "pointed at move 2", browser.value(place), text(2, 1))
+    browser.click("#m4 .deed")
+    bad += differs(page, "a click on move 4", browser.value(place), text(4, 4))
+    browser.point("#m3 .deed")
+    bad += differs(page, "pointed at move 3", browser.value(place), text(3, 4))
+    browser.point("h1")
+    bad += differs(page, "pointed elsewhere", browser.value(place), text(4, 4))
+    time.sleep(0.2)
+    address = browser.value("location.href")
+    bad += differs(page, "address", address, f"file://{page.file}#m4")
+    browser.press("End")
+    time.sleep(0.2)
+    bad += differs(page, "address after a key", browser.value("location.hash"), f"#m{last}")
+    browser.open("about:blank")
+    browser.open(address)
+    return bad + differs(page, "the address opened", browser.value(place), text(4, 4)) + differs(page, "move 4 in view", is_seen(browser, 4), True)
+
+
+def filtering(browser, page):
+    """Shows one thread or cell alone, steps, and shows all again."""
+    browser.open(f"file://{page.file}")
+    names = sorted(page.state.threads)
+    count = range(1, len(page.rows) + 1)
+    choices = {f"lane {k}": [n for n in count if page.moves[n - 1][1] == it] for k, it in enumerate(names)}
+    choices |= {f"cell {k}": page.accesses(it) for k, it in page.code.cells.items()}
+    choices = {it: numbers for it, numbers in choices.items() if numbers}
+    offered = browser.value("[...document.querySelectorAll('#filter option')].map(option => option.value)")
+    bad = differs(page, "what the filter offers", offered, ["", *choices])
+    seen = "[...document.querySelectorAll('#moves > .row')].filter(row => row.offsetHeight).map(row => +row.id.slice(1))"
+    ends = "[...document.querySelectorAll('#arrows path')].length"
+    arrows = browser.value(ends)
+    for choice, numbers in choices.items():
+        browser.press("End")
+        browser.value(f"filter.value = '{choice}', filter.dispatchEvent(new Event('change'))")
+        bad += differs(page, choice, browser.value(seen), numbers)
+        bad += differs(page, f"{choice}, selected", at(browser), numbers[-1])
+        browser.press("Home")
+        came = [at(browser)]
+        for _ in numbers[1:]:
+            browser.press("j")
+            came.append(at(browser))
+        bad += differs(page, f"{choice}, stepping", came, numbers)
+        bad += differs(page, f"{choice}, in view", is_seen(browser, numbers[-1]), True)
+        browser.press("f")
+        bad += differs(page, f"{choice}, then f", at(browser), len(page.rows))
+        browser.press("Escape")
+        bad += differs(page, "all again", [browser.value(seen), browser.value(ends)], [list(count), arrows])
+    browser.press("/")
+    bad += differs(page, "key /", browser.value("document.activeElement.id"), "filter")
+    browser.press("j")
+    bad += differs(page, "j in the filter", at(browser), len(page.rows))
+    browser.press("Enter")
+    browser.press("k")
+    return bad + differs(page, "k after the filter", at(browser), len(page.rows) - 1)
+
+
+def reading(browser, page):
+    """What one who doesn't see the page is told, and reaches by the keyboard."""
+    browser.open(f"file://{page.file}")
+    browser.press("Home")
+    browser.press("j")
+    row = page.rows[1]
+    said = f"move 2 of {len(page.rows)}, {row.thread}, line {row.line}: {page.code.source[row.line - 1]} {row.words}"
+    bad = differs(page, "read out", browser.value("document.querySelector('[aria-live=polite]').textContent"), said)
+    browser.press("k")
+    browser.press("k")
+    bad += differs(page, "read out at the start", browser.value("document.querySelector('[aria-live=polite]').textContent"), "before the first move")
+    reached = [""]
+    while reached[-1] != "run" and len(reached) < 9:
+        browser.ask("Input.dispatchKeyEvent", type="keyDown", key="Tab", code="Tab", windowsVirtualKeyCode=9)
+        reached.append(browser.value("document.activeElement.id"))
+    # a long summary, which scrolls, is reached too, and has no name
+    bad += differs(page, "reached by Tab", [it for it in reached if it], ["filter", "help", "run"])
+    nodes = browser.ask("Accessibility.getFullAXTree")["nodes"]
+    parts = {(it["role"]["value"], it.get("name", {}).get("value")) for it in nodes if "role" in it}
+    wanted = {("region", "moves"), ("complementary", "memory and buffers"), ("combobox", "show"), ("button", "keys ?")}
+    return bad + differs(page, "parts", sorted(wanted - parts), [])
+
+
+def narrow(browser, page):
+    """A window of 700 pixels, in which lanes, selected move and state are in view, and only the lanes scroll sideways."""
+    browser.size(700, 800)
+    browser.open(f"file://{page.file}")
+    bad = []
+    for key, number in (("Home", 1), ("End", len(page.rows))):
+        browser.press(key)
+        bad += differs(page, f"700 pixels, {key}", is_seen(browser, number), True)
+        box = browser.value("(({ top, bottom }) => [top >= 0, bottom <= innerHeight])(document.querySelector('#memory tr').getBoundingClientRect())")
+        bad += differs(page, f"700 pixels, memory after {key}", box, [True, True])
+    bad += differs(page, "700 pixels wide", browser.value("document.documentElement.scrollWidth <= innerWidth"), True)
+    bad += differs(page, "700 pixels, the lanes' height", browser.value("document.getElementById('run').clientHeight >= 250"), True)
+    browser.size(1200, 900)
+    return bad
+
+
+def speed(browser, page):
+    """How long a page takes until it is painted, and a step by a key until its frame is done, in milliseconds."""
+    browser.open("about:blank")
+    browser.open(f"file://{page.file}")
+    time.sleep(1)
+    paint = browser.value("performance.getEntriesByName('first-contentful-paint')[0].startTime")
+    times = browser.ask("Runtime.evaluate", awaitPromise=True, returnByValue=True, expression="""(async () => {
+      const frame = () => new Promise(done => requestAnimationFrame(() => setTimeout(done)));
+      const press = key => dispatchEvent(new KeyboardEvent('keydown', { key, bubbles: true }));
+      const times = [];
+      press('Home');
+      for (let k = 1; k < Math.min(400, document.querySelectorAll('#moves > .row').length); k++) {
+        await frame();
+        const start = performance.now();
+        press('j');
+        document.getElementById('run').getBoundingClientRect();
+        times.push(performance.now() - start);
+      }
+      return times.sort((a, b) => a - b);
+    })()""")["result"]["value"]
+    print(f"{page.name}: {len(page.rows)} moves, {len(page.events)} events: painted after {paint:.0f} ms, "
+          f"a step {times[len(times) // 2]:.1f} ms, the longest of {len(times)} {times[-1]:.1f} ms")
+    return (paint >= 1000) + (times[-1] >= 16)
+
+
+def made(program, name, source, schedule, folder):
+    """The page of a schedule."""
+    file = f"{folder}/{name.replace('/', '_')}.html"
+    came = subprocess.run([program, source, schedule, "--html", file], capture_output=True, text=True)
+    if (came.returncode, came.stdout) != (0, "page kept\n"):
+        raise SystemExit(f"{program} of {name}: {came.returncode} {came.stdout}")
+    return Page(name, source, schedule, file)
+
+
+def written(program, name, text, model, moves, folder):
+    """The page of a program's moves."""
+    source, schedule = f"{folder}/{name}.tc", f"{folder}/{name}.sched"
+    with open(source, "w") as file:
+        file.write(text)
+    with open(schedule, "w") as file:
+        file.write(machine.schedule(model, moves))
+    return made(program, name, source, schedule, folder)
+
+
+def late():
+    """The moves of LATE: main creates all, then some threads run, the last first, but never 0.11."""
+    run = lambda *name: ("r", name)
+    return [run()] * 11 + [run(10)] * 2 + [run(2)] * 3 + [run(1)] * 2 + [run()] * 3
+
+
+def long(moves=2000, events=None):
+    """The first moves of a run of LONG, so many or with so many events."""
+    code = show.Code(LONG)
+    made = machine.run(code, "tso", 1, moves)[2]
+    return made if events is None else made[:events_of(code, "tso", made)[events - 1]]
 
 
 def main():
-    words = [it for it in sys.argv[1:] if it != "--pictures"]
+    words = [it for it in sys.argv[1:] if not it.startswith("--")]
     program = words[0] if words else f"{show.TOP}/clap_debug_show"
-    with tempfile.TemporaryDirectory() as folder:
-        pages = made(program, folder)
-        browser = Browser(f"{folder}/browser")
-        browser.ask("Emulation.setDeviceMetricsOverride", width=1200, height=900, deviceScaleFactor=1, mobile=False)
-        bad = [it for example, page in pages.items() for it in steps(browser, example, page)]
+    with tempfile.TemporaryDirectory() as folder, Browser(f"{folder}/browser") as browser:
+        browser.size(1200, 900)
+        if "--speed" in sys.argv:
+            pages = [written(program, f"long{count}", LONG, "tso", long(**{what: count}), folder)
+                     for what, count in (("events", 256), ("moves", 2000))]
+            return 1 if any([speed(browser, page) for page in pages]) else 0
+        examples = [made(program, it, f"{show.TOP}/examples/{it}.tc", f"{show.TOP}/examples/{it}.sched", folder) for it in PAGES]
+        pages = [*examples, written(program, "late", LATE, "sc", late(), folder)]
+        tries = (steps, resting, look, walks, pointing, filtering, reading, narrow)
+        bad = [it for page in pages for tried in tries for it in tried(browser, page)]
         if "--pictures" in sys.argv:
-            browser.open(f"file://{pages['buffering/p']}")
-            browser.press("Home")
-            for _ in range(8):
-                browser.press("j")
-            browser.value("scrollTo(0, 0)")
+            browser.open(f"file://{examples[0].file}#m8")
             for scheme in ("light", "dark"):
                 browser.picture(f"{show.TOP}/docs/show-{scheme}.png", 1100, 900, scheme)
-        browser.close()
     print("\n".join(bad) or f"{len(pages)} pages say what the machine does")
     return 1 if bad else 0
 

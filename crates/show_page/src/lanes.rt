@@ -1,34 +1,64 @@
-//! Lanes: a column for each thread, in the order in which they come.
+//! Lanes: a column for each thread of a run, in the order of the threads' names.
 
+use show_rows::Told;
+use show_words::Program;
 use std::alloc::{AllocError, Global};
+use std::collections::BTreeMap;
+use tc_base::ThreadName;
 
-/// The titles of the lanes.
+/// The title of each thread's lane.
 #[derive(Drop)]
 pub(crate) struct Lanes {
-    titles: Vec<String>,
+    titles: BTreeMap<ThreadName, String>,
 }
 
 impl Lanes {
-    pub(crate) fn new(alloc: Global) -> Lanes {
-        Lanes {
-            titles: Vec::new(alloc),
+    /// The lanes of a run: of each thread that moved, and of each that hasn't exited, which may not have moved at all.
+    pub(crate) fn of(
+        alloc: Global,
+        program: Program<'_>,
+        told: &Told,
+    ) -> Result<Lanes, AllocError> {
+        let mut lanes = Lanes {
+            titles: BTreeMap::new(alloc),
+        };
+        for row in told.rows.iter() {
+            lanes.add(alloc, program, row.deed.thread(), row.function)?;
         }
+        for thread in told.standing.iter() {
+            lanes.add(alloc, program, &thread.thread, thread.function)?;
+        }
+        Ok(lanes)
     }
 
-    /// The titles.
-    pub(crate) fn titles(&self) -> &[String] {
-        self.titles.as_slice()
+    /// Adds the lane of a thread that does a function, where it has none.
+    fn add(
+        &mut self,
+        alloc: Global,
+        program: Program<'_>,
+        name: &ThreadName,
+        function: usize,
+    ) -> Result<(), AllocError> {
+        if !self.titles.contains_key(name) {
+            let function = program.function(alloc, function)?;
+            let title = format!(in alloc; "{name} {function}")?;
+            self.titles.insert(name.clone()?, title)?;
+        }
+        Ok(())
     }
 
-    /// The number of the lane of this title, from 0; a new one where there is none.
-    pub(crate) fn lane(&mut self, title: &str) -> Result<usize, AllocError> {
-        for (i, known) in self.titles.iter().enumerate() {
-            if known.as_str() == title {
-                return Ok(i);
+    /// The titles, lane by lane.
+    pub(crate) fn titles(&self) -> &BTreeMap<ThreadName, String> {
+        &self.titles
+    }
+
+    /// The number of a thread's lane, from 0.
+    pub(crate) fn lane(&self, name: &ThreadName) -> usize {
+        for (i, known) in self.titles.keys().enumerate() {
+            if known == name {
+                return i;
             }
         }
-        let alloc = *self.titles.allocator();
-        self.titles.push(String::from_str(alloc, title)?)?;
-        Ok(self.titles.len().saturating_sub(1))
+        0
     }
 }

@@ -2,8 +2,11 @@
 #![tactic(auto)]
 
 mod escape;
+mod frame;
 mod lanes;
 mod log;
+mod marks;
+mod moves;
 mod schedule;
 mod script;
 mod sources;

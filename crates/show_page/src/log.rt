@@ -1,7 +1,7 @@
 //! The page of a log.
 
 use crate::escape::push_text;
-use crate::schedule::push_top;
+use crate::frame::{push_bottom, push_end, push_top};
 use path_log::Log;
 use path_walk::{Paths, Walk};
 use show_words::{Program, Went, ending_words, walk_title, walk_words};
@@ -16,17 +16,19 @@ pub fn log_page(
 ) -> Result<String, AllocError> {
     let mut out = String::new(alloc);
     let model = log.model().name();
-    push_top(
+    let title = format!(in alloc; "a log recorded under {model}")?;
+    push_top(&mut out, "ways", title.as_str())?;
+    push_end(
         &mut out,
-        format!(in alloc; "a log recorded under {model}")?.as_str(),
+        true,
+        ending_words(alloc, program, paths)?.as_str(),
     )?;
-    out.push_str("<pre>")?;
-    push_text(&mut out, ending_words(alloc, program, paths)?.as_str())?;
-    out.push_str("</pre>\n<div class=\"lanes\">\n")?;
+    out.push_str("<div class=\"lanes\">\n")?;
     for walk in paths.threads() {
         push_lane(alloc, &mut out, program, walk)?;
     }
-    out.push_str("</div>\n</body>\n</html>\n")?;
+    out.push_str("</div>\n")?;
+    push_bottom(&mut out)?;
     Ok(out)
 }
 

@@ -1,69 +1,111 @@
 //! How pages look.
 
 /// The style sheet: in light and in dark, on narrow screens, and on paper.
-pub(crate) const STYLE: &str = concat!(
-    ":root { color-scheme: light dark; --ink: #1c2128; --faint: #606b78; --paper: #ffffff; --card: #f4f6f8;",
-    " --edge: #d3dae1; --take: #0a5bb5; --drain: #a8480f; --mark: #fff1b8; --fail: #b3261e; --failed: #fdeceb; }\n",
-    "@media (prefers-color-scheme: dark) { :root { --ink: #e3e7ec; --faint: #97a3b0; --paper: #13171b; --card: #1d2329;",
-    " --edge: #39424c; --take: #73b5ff; --drain: #f2a26b; --mark: #413a12; --fail: #ff8a80; --failed: #3a1c1b; } }\n",
-    "* { box-sizing: border-box; }\n",
-    "body { margin: 0 auto; max-width: 100rem; padding: 1.25rem 1.5rem; color: var(--ink); background: var(--paper);",
-    " font: 14px/1.4 system-ui, sans-serif; }\n",
-    "h1 { font-size: 1.3rem; font-weight: 650; margin: 0 0 .5rem; }\n",
-    "h2 { font-size: .8rem; font-weight: 600; color: var(--faint); margin: 1.1rem 0 .3rem; }\n",
-    "p { margin: .3rem 0; }\n",
-    "code, pre, kbd { font: 12.5px/1.45 ui-monospace, \"DejaVu Sans Mono\", Consolas, monospace; }\n",
-    "code { white-space: pre-wrap; overflow-wrap: anywhere; }\n",
-    "pre { margin: .5rem 0; padding: .6rem .8rem; background: var(--card); border-left: 3px solid var(--edge);",
-    " white-space: pre-wrap; }\n",
-    "pre.fail { border-color: var(--fail); background: var(--failed); }\n",
-    "kbd { padding: 0 .3rem; border: 1px solid var(--edge); border-radius: 3px; }\n",
-    ".keys { color: var(--faint); margin-bottom: 1rem; }\n",
-    "main { display: flex; gap: 2rem; align-items: flex-start; }\n",
-    "#run { position: relative; flex: 1; min-width: 0; }\n",
-    "ol { list-style: none; margin: 0; padding: 0; }\n",
-    ".row { display: grid; column-gap: 1.75rem; }\n",
-    ".row > .n { color: var(--faint); text-align: right; padding: .35rem 0; font-variant-numeric: tabular-nums; }\n",
-    ".head { position: sticky; top: 0; z-index: 3; background: var(--paper); margin-bottom: .3rem; }\n",
-    ".head > [data-lane] { font-weight: 600; padding: .35rem .5rem; border-bottom: 2px solid var(--edge); }\n",
-    ".deed { position: relative; z-index: 1; background: var(--card); border: 1px solid var(--edge); border-radius: 5px;",
-    " margin: .15rem 0; padding: .25rem .5rem; cursor: pointer; min-width: 0; }\n",
-    ".deed > code { display: block; color: var(--faint); }\n",
-    ".deed > .line { float: right; padding-left: .5rem; color: var(--faint); font-size: 12px;",
-    " font-variant-numeric: tabular-nums; }\n",
-    ".row.later .deed { color: var(--faint); border-style: dashed; background: var(--paper); }\n",
-    ".row.fail .deed { border-color: var(--fail); background: var(--failed); font-weight: 600; }\n",
-    ".row.at .deed { background: var(--mark); border-color: var(--take); box-shadow: 0 0 0 1px var(--take); }\n",
-    ".row.at > .n { color: var(--ink); font-weight: 600; }\n",
-    "#arrows { position: absolute; left: 0; top: 0; pointer-events: none; overflow: visible; }\n",
-    "#arrows path { fill: none; stroke-width: 1.4; opacity: .55; }\n",
-    "#arrows .take { stroke: var(--take); }\n",
-    "#arrows .drain { stroke: var(--drain); stroke-dasharray: 4 3; }\n",
-    "#arrows .now { stroke-width: 2.6; opacity: 1; }\n",
-    "#arrows .later { opacity: .15; }\n",
-    "aside { position: sticky; top: .5rem; width: 17rem; flex: none; max-height: 100vh; overflow-y: auto; }\n",
-    "#at { font-weight: 600; font-variant-numeric: tabular-nums; }\n",
-    "table { border-collapse: collapse; width: 100%; }\n",
-    "td, th { border-bottom: 1px solid var(--edge); padding: .15rem .4rem; text-align: left; font-weight: 400; }\n",
-    "td { text-align: right; font-variant-numeric: tabular-nums; }\n",
-    ".new > * { background: var(--mark); font-weight: 600; }\n",
-    ".key { display: flex; flex-wrap: wrap; gap: 0 1.2rem; color: var(--faint); }\n",
-    ".key svg { width: 2.2rem; height: .7rem; vertical-align: middle; margin-right: .3rem; }\n",
-    ".key path { fill: none; stroke-width: 2; }\n",
-    ".key .take { stroke: var(--take); }\n",
-    ".key .drain { stroke: var(--drain); stroke-dasharray: 4 3; }\n",
-    ".lanes { display: flex; gap: 1.5rem; align-items: flex-start; overflow-x: auto; }\n",
-    ".lanes > section { flex: 1; min-width: 15rem; }\n",
-    ".lanes .deed { cursor: auto; }\n",
-    ".lanes .deed > code { display: inline; color: inherit; }\n",
-    ".went { color: var(--take); padding-left: .8rem; }\n",
-    "@media screen and (max-width: 56rem) { body { padding: .75rem; } main { flex-direction: column-reverse; gap: 1rem;",
-    " align-items: stretch; } aside { position: static; width: auto; max-height: none; } #run { overflow-x: auto; } }\n",
-    "@media print { :root { --ink: #000; --faint: #444; --paper: #fff; --card: #fff; --edge: #999; --take: #0a5bb5;",
-    " --drain: #a8480f; --mark: #fff; --fail: #b3261e; --failed: #fff; } body { padding: 0; font-size: 10px; max-width: none; }",
-    " code, pre { font-size: 9px; } .key svg { width: 1.6rem; }",
-    " .keys, .key, .key ~ *, aside h2:has(+ .key) { display: none; } main { flex-direction: column-reverse; gap: 1rem; align-items: stretch; }",
-    " .head { position: static; } aside { position: static; width: auto; max-height: none; }",
-    " .row { column-gap: 1rem; } .row, .deed { break-inside: avoid; } .row.later .deed { border-style: solid; color: inherit; }",
-    " .row.at .deed { border-color: var(--edge); box-shadow: none; } }\n",
-);
+pub(crate) const STYLE: &str = r#"
+:root { color-scheme: light dark; --ink: #1c2128; --faint: #606b78; --paper: #ffffff; --card: #f4f6f8;
+  --edge: #d3dae1; --take: #0a5bb5; --drain: #a8480f; --mark: #fff1b8; --fail: #b3261e; --failed: #fdeceb; }
+@media (prefers-color-scheme: dark) { :root { --ink: #e3e7ec; --faint: #97a3b0; --paper: #13171b; --card: #1d2329;
+  --edge: #39424c; --take: #73b5ff; --drain: #f2a26b; --mark: #413a12; --fail: #ff8a80; --failed: #3a1c1b; } }
+* { box-sizing: border-box; }
+body { margin: 0; padding: 1rem 1.5rem; color: var(--ink); background: var(--paper);
+  font: 14px/1.4 system-ui, sans-serif; }
+h1 { font-size: 1.3rem; font-weight: 650; margin: 0 0 .5rem; overflow-wrap: anywhere; }
+h2 { font-size: .8rem; font-weight: 600; color: var(--faint); margin: 1.1rem 0 .3rem; }
+p { margin: .3rem 0; }
+code, pre, kbd { font: 12.5px/1.45 ui-monospace, "DejaVu Sans Mono", Consolas, monospace; }
+code { white-space: pre-wrap; overflow-wrap: anywhere; }
+pre { margin: .5rem 0; padding: .6rem .8rem; background: var(--card); border-left: 3px solid var(--edge);
+  white-space: pre-wrap; overflow-wrap: anywhere; }
+pre.fail { border-color: var(--fail); background: var(--failed); }
+kbd { padding: 0 .3rem; border: 1px solid var(--edge); border-radius: 3px; }
+ol { list-style: none; margin: 0; padding: 0; }
+table { border-collapse: collapse; width: 100%; }
+td, th { border-bottom: 1px solid var(--edge); padding: .15rem .4rem; text-align: left; font-weight: 400; }
+select, button { font: inherit; color: inherit; background: var(--card); border: 1px solid var(--edge);
+  border-radius: 4px; padding: .15rem .5rem; max-width: 20rem; }
+:focus-visible { outline: 2px solid var(--take); outline-offset: 1px; }
+.who, #said { position: absolute; width: 1px; height: 1px; overflow: hidden; clip-path: inset(50%); white-space: nowrap; }
+
+/* A window as high as the screen, in which the lanes and the state scroll. */
+.moves { display: flex; flex-direction: column; height: 100vh; height: 100dvh; }
+.moves > pre { flex: none; max-height: 9.5rem; overflow: auto; }
+.tools { display: flex; flex-wrap: wrap; align-items: baseline; gap: .3rem 1rem; margin-bottom: .6rem; color: var(--faint); }
+.tools p { margin: 0; }
+main { flex: 1; min-height: 20rem; display: flex; gap: 1.5rem; }
+#run { flex: 1; min-width: 0; overflow: auto; scroll-padding: 3rem 1rem 4rem 4.5rem; }
+#sheet { position: relative; min-width: calc(3rem + var(--lanes) * 13.75rem); padding: 0 .25rem 1rem 0; }
+aside { width: 17rem; flex: none; overflow: auto; }
+
+.row { display: grid; grid-template-columns: 3rem repeat(var(--lanes), minmax(12rem, 1fr)); column-gap: 1.75rem; }
+.row[hidden] { display: none; }
+.row > .n { position: sticky; left: 0; z-index: 2; background: var(--paper); color: var(--faint); text-align: right;
+  padding: .35rem 0; font-variant-numeric: tabular-nums; }
+.head { position: sticky; top: 0; z-index: 3; background: var(--paper); margin-bottom: .3rem; }
+.head > [data-lane] { font-weight: 600; padding: .35rem .5rem; border-bottom: 2px solid var(--edge); overflow-wrap: anywhere; }
+.deed { position: relative; z-index: 1; background: var(--card); border: 1px solid var(--edge); border-radius: 5px;
+  margin: .15rem 0; padding: .25rem .5rem; min-width: 0; overflow-wrap: anywhere; }
+#moves > .row { cursor: pointer; }
+.deed > code { display: block; color: var(--faint); }
+.deed > .line { float: right; padding-left: .5rem; color: var(--faint); font-size: 12px;
+  font-variant-numeric: tabular-nums; }
+.row.later .deed { color: var(--faint); border-style: dashed; background: var(--paper); }
+.row.fail .deed { border-color: var(--fail); background: var(--failed); font-weight: 600; }
+.row[aria-current] .deed { border-color: var(--take); box-shadow: 0 0 0 1px var(--take); }
+.row.at .deed { background: var(--mark); border-color: var(--take); border-style: solid; color: inherit; }
+.row.at > .n { color: var(--ink); font-weight: 600; }
+
+#arrows { position: absolute; left: 0; top: 0; pointer-events: none; }
+#arrows path { fill: none; stroke-width: 1.4; opacity: .55; }
+#arrows .take { stroke: var(--take); }
+#arrows .drain { stroke: var(--drain); stroke-dasharray: 4 3; }
+#arrows .now { stroke-width: 2.6; opacity: 1; }
+#arrows .later { opacity: .15; }
+
+#at { font-weight: 600; font-variant-numeric: tabular-nums; margin-top: .35rem; }
+#memory td { text-align: right; font-variant-numeric: tabular-nums; }
+.new > * { background: var(--mark); font-weight: 600; }
+.key { display: flex; flex-wrap: wrap; gap: 0 1.2rem; color: var(--faint); }
+.key svg { width: 2.2rem; height: .7rem; vertical-align: middle; margin-right: .3rem; }
+.key path { fill: none; stroke-width: 2; }
+.key .take { stroke: var(--take); }
+.key .drain { stroke: var(--drain); stroke-dasharray: 4 3; }
+dialog { color: var(--ink); background: var(--paper); border: 1px solid var(--edge); border-radius: 6px; max-width: 30rem; }
+dialog::backdrop { background: rgb(0 0 0 / .35); }
+dialog h2 { margin-top: 0; }
+dialog form { margin-top: .8rem; text-align: right; }
+
+/* The page of a log. */
+.lanes { display: flex; gap: 1.5rem; align-items: flex-start; overflow-x: auto; }
+.lanes > section { flex: 1; min-width: 15rem; }
+.lanes .deed > code { display: inline; color: inherit; }
+.went { color: var(--take); padding-left: .8rem; }
+
+@media screen and (max-width: 56rem) {
+  body { padding: .6rem .75rem; }
+  .moves > pre { max-height: 6.5rem; }
+  .tools p { display: none; }
+  main { flex-direction: column; gap: .5rem; }
+  aside { width: auto; max-height: 32%; border-top: 1px solid var(--edge); }
+  aside h2 { margin: .4rem 0 .1rem; }
+  #memory tbody { display: flex; flex-wrap: wrap; gap: 0 .8rem; }
+  .key, aside h2:has(+ .key) { display: none; }
+}
+@media print {
+  :root { --ink: #000; --faint: #444; --paper: #fff; --card: #fff; --edge: #999; --take: #0a5bb5;
+    --drain: #a8480f; --mark: #fff; --fail: #b3261e; --failed: #fff; }
+  body { padding: 0; font-size: 10px; }
+  code, pre { font-size: 9px; }
+  .moves { display: block; height: auto; }
+  .moves > pre { max-height: none; }
+  .tools, .key, .key ~ *, aside h2:has(+ .key) { display: none; }
+  main { flex-direction: column-reverse; gap: 1rem; }
+  aside { width: auto; }
+  #run, aside { overflow: visible; }
+  #sheet { min-width: 0; }
+  .head, .row > .n { position: static; }
+  .row { grid-template-columns: 2rem repeat(var(--lanes), minmax(0, 1fr)); column-gap: 1rem; break-inside: avoid; }
+  .deed { break-inside: avoid; }
+  .row.later .deed { border-style: solid; color: inherit; }
+  .row.at .deed, .row[aria-current] .deed { border-color: var(--edge); box-shadow: none; }
+}
+"#;
