@@ -19,18 +19,16 @@
 //!
 //! A line that is empty or begins with `#` says nothing. Texts are those of module `text`.
 use crate::halves;
-use crate::text::{bytes_of, quoted, writes};
-use crate::turns::{Answer, Call, Edit, Turn, Want, fail_of};
+use crate::text::{bytes_of, quoted};
+use crate::turns::{Answer, Call, Edit, Turn, Want, fail_of, words_of};
 use anyhow::{Context, Result, bail};
 use std::alloc::Global;
 use std::collections::BTreeMap;
 use std::fmt::Write;
-use std::mem::drop;
-use tc_io::Shelf;
 use tc_io::mem::{Fail, MemShelf};
 
 /// Calls, one after another: the files of the shelf, its calls that are to fail; and what must stand there afterwards.
-#[derive(Drop)]
+#[derive(Clone, Drop)]
 pub struct Row {
     pub name: String,
     pub turns: Vec<Turn>,
@@ -40,10 +38,10 @@ pub struct Row {
     after: BTreeMap<String, Option<String>>,
 }
 
-/// The rows so far, and the lines that each begins with.
+/// The rows so far, and what each begins with.
 #[derive(Drop)]
 struct Table {
-    base: String,
+    base: Row,
     rows: Vec<Row>,
 }
 
@@ -52,84 +50,67 @@ impl Table {
     fn take(&mut self, alloc: Global, line: &str) -> Result<()> {
         let (key, rest) = halves(line);
         if key == "row" {
-            self.rows.push(Row::new(alloc))?;
-            let row = self.rows.last_mut().context("no row")?;
-            return row.begin(alloc, rest, self.base.as_str());
+            let mut row = self.base.clone()?;
+            row.name = String::from_str(alloc, rest)?;
+            self.rows.push(row)?;
+            return Ok(());
         }
         match self.rows.last_mut() {
             Some(row) => row.read(alloc, key, rest),
-            None => {
-                self.base.push_str(line)?;
-                Ok(self.base.push('\n')?)
-            }
+            None => self.base.read(alloc, key, rest),
         }
-    }
-
-    /// Takes the lines of standard input.
-    fn read(&mut self, rt: &(impl Input + AllocGlobal)) -> Result<()> {
-        let mut number = 0u64;
-        for line in rt.lines(rt.alloc()) {
-            number = number.saturating_add(1);
-            let line = line?;
-            let taken = self.take(rt.alloc(), line.as_str());
-            drop(line);
-            taken.context(format_args!("line {number}"))?;
-        }
-        Ok(())
     }
 }
 
 /// The rows of the table in standard input.
 pub fn rows_of(rt: &(impl Input + AllocGlobal)) -> Result<Vec<Row>> {
     let mut table = Table {
-        base: String::new(rt.alloc()),
+        base: Row::new(rt.alloc())?,
         rows: Vec::new(rt.alloc()),
     };
-    table.read(rt)?;
+    let mut number = 0u64;
+    for line in rt.lines(rt.alloc()) {
+        number = number.saturating_add(1);
+        table
+            .take(rt.alloc(), line?.as_str())
+            .context(format_args!("line {number}"))?;
+    }
     Ok(table.rows)
 }
 
 impl Row {
-    fn new(alloc: Global) -> Row {
-        Row {
+    fn new(alloc: Global) -> Result<Row> {
+        let mut turns = Vec::new(alloc);
+        turns.push(Turn::Call(Call::new(alloc, Vec::new(alloc))))?;
+        Ok(Row {
             name: String::new(alloc),
-            turns: Vec::new(alloc),
+            turns,
             files: BTreeMap::new(alloc),
             fetches: Vec::new(alloc),
             usage: String::new(alloc),
             after: BTreeMap::new(alloc),
-        }
+        })
     }
 
-    /// Takes its name, and the lines that it begins with.
-    fn begin(&mut self, alloc: Global, name: &str, base: &str) -> Result<()> {
-        self.name.push_str(name)?;
-        self.turns.push(Turn::Call(Call::new(alloc)))?;
-        for line in base.lines() {
-            let (key, rest) = halves(line);
-            self.read(alloc, key, rest)?;
-        }
-        Ok(())
-    }
-
-    /// Has a shelf hold its files, and fail where it says.
-    pub fn fill(&self, alloc: Global, shelf: &mut MemShelf) -> Result<()> {
+    /// A shelf that holds its files, and fails where it says.
+    pub fn shelf(&self, alloc: Global) -> Result<MemShelf> {
+        let mut shelf = MemShelf::new(alloc);
         for (name, text) in &self.files {
-            hold(alloc, shelf, name.as_str(), text.as_str())?;
+            shelf.hold(alloc, name.as_str(), &bytes_of(alloc, text.as_str())?)?;
         }
         for fail in &self.fetches {
             shelf.fail(*fail)?;
         }
-        Ok(())
+        Ok(shelf)
     }
 
-    /// Takes what stands afterwards under the names of which it says what must.
-    pub fn look(&self, alloc: Global, shelf: &mut MemShelf, came: &mut Came) -> Result<()> {
+    /// The names under which something must stand afterwards, or nothing.
+    pub fn names(&self, alloc: Global) -> Result<Vec<String>> {
+        let mut names = Vec::new(alloc);
         for (name, _) in &self.after {
-            came.after
-                .push(shelf.fetch(alloc, name.as_str(), u64::MAX).ok())?;
+            names.push(name.clone()?)?;
         }
-        Ok(())
+        Ok(names)
     }
 
     /// Whether what came is what must come.
@@ -144,24 +125,24 @@ impl Row {
             }
         }
         let mut after = came.after.iter();
-        for (_, wanted) in &self.after {
-            let met = match (wanted, after.next()) {
-                (Some(text), Some(Some(bytes))) => writes(alloc, text.as_str(), bytes)?,
-                (None, Some(None)) => true,
-                _ => false,
+        for (_, text) in &self.after {
+            let wanted = match text {
+                Some(text) => Some(bytes_of(alloc, text.as_str())?),
+                None => None,
             };
-            if !met {
+            if after.next() != Some(&wanted) {
                 return Ok(false);
             }
         }
         Ok(true)
     }
 
-    /// Adds what must come, as the row writes it.
-    pub fn push_text(&self, text: &mut String) -> Result<()> {
+    /// What must come, as the row writes it.
+    pub fn text(&self, alloc: Global) -> Result<String> {
+        let mut text = String::new(alloc);
         for turn in &self.turns {
             if let Turn::Call(call) = turn {
-                call.push_text(text)?;
+                call.push_text(&mut text)?;
             }
         }
         for (_, wanted) in &self.after {
@@ -170,28 +151,38 @@ impl Row {
                 None => text.push_str(" nothing")?,
             }
         }
-        Ok(())
+        Ok(text)
     }
 
     fn read(&mut self, alloc: Global, key: &str, rest: &str) -> Result<()> {
         match key {
-            "" if rest.is_empty() => Ok(()),
-            "file" => self.read_file(alloc, rest),
-            "fetch" | "keep" => Ok(self.fetches.push(fail_of(rest)?)?),
-            "usage" => {
-                self.usage.clear();
-                Ok(self.usage.push_str(quoted(rest)?)?)
+            "" if rest.is_empty() => {}
+            "file" => {
+                let (name, text) = halves(rest);
+                let text = String::from_str(alloc, text)?;
+                self.files.insert(String::from_str(alloc, name)?, text)?;
             }
+            "fetch" | "keep" => self.fetches.push(fail_of(rest)?)?,
+            "usage" => self.usage = quoted(alloc, rest)?,
             "then" => {
-                self.turns.push(Turn::Call(Call::new(alloc)))?;
-                self.read_call(alloc, "words", rest)
+                let words = words_of(alloc, rest)?;
+                self.turns.push(Turn::Call(Call::new(alloc, words)))?;
             }
-            "edit" | "cut" => Ok(self.turns.push(Turn::Edit(Edit::read(alloc, key, rest)?))?),
-            "holds" => self.read_holds(alloc, rest),
-            "stays" => self.stay(alloc, rest),
-            _ if key.starts_with('#') => Ok(()),
-            _ => self.read_call(alloc, key, rest),
+            "edit" | "cut" => {
+                let edit = Edit::read(alloc, key, rest)?;
+                self.turns.push(Turn::Edit(edit))?;
+            }
+            "holds" => {
+                let (name, text) = halves(rest);
+                let text = quoted(alloc, text)?;
+                self.after
+                    .insert(String::from_str(alloc, name)?, Some(text))?;
+            }
+            "stays" => self.stay(alloc, rest)?,
+            _ if key.starts_with('#') => {}
+            _ => self.read_call(alloc, key, rest)?,
         }
+        Ok(())
     }
 
     /// Takes a line of the last call.
@@ -200,32 +191,11 @@ impl Row {
             bail!("no call before {key:?}");
         };
         match key {
-            "words" => call.read_words(alloc, rest),
-            "put" => Ok(call.puts.push(fail_of(rest)?)?),
-            "want" => {
-                call.want = Some(Want::read(alloc, self.usage.as_str(), rest)?);
-                Ok(())
-            }
+            "words" => call.words = words_of(alloc, rest)?,
+            "put" => call.puts.push(fail_of(rest)?)?,
+            "want" => call.want = Some(Want::read(alloc, self.usage.as_str(), rest)?),
             _ => bail!("no such line: {key:?}"),
         }
-    }
-
-    fn read_file(&mut self, alloc: Global, rest: &str) -> Result<()> {
-        let (name, text) = halves(rest);
-        let text = String::from_str(alloc, text)?;
-        self.files.insert(String::from_str(alloc, name)?, text)?;
-        Ok(())
-    }
-
-    fn read_holds(&mut self, alloc: Global, rest: &str) -> Result<()> {
-        let (name, text) = halves(rest);
-        let text = String::from_str(alloc, quoted(text)?)?;
-        self.want_after(alloc, name, Some(text))
-    }
-
-    /// Takes what must stand under a name afterwards.
-    fn want_after(&mut self, alloc: Global, name: &str, text: Option<String>) -> Result<()> {
-        self.after.insert(String::from_str(alloc, name)?, text)?;
         Ok(())
     }
 
@@ -235,18 +205,10 @@ impl Row {
                 Some(text) => Some(text.clone()?),
                 None => None,
             };
-            self.want_after(alloc, name, text)?;
+            self.after.insert(String::from_str(alloc, name)?, text)?;
         }
         Ok(())
     }
-}
-
-/// Has a shelf hold what a text writes.
-fn hold(alloc: Global, shelf: &mut MemShelf, name: &str, text: &str) -> Result<()> {
-    let bytes = bytes_of(alloc, text)?;
-    let held = shelf.hold(alloc, name, &bytes);
-    drop(bytes);
-    Ok(held?)
 }
 
 /// What comes of a row: the answer of each call, and what stands under names afterwards.
@@ -257,18 +219,11 @@ pub struct Came {
 }
 
 impl Came {
-    /// Nothing yet.
-    pub fn new(alloc: Global) -> Came {
-        Came {
-            answers: Vec::new(alloc),
-            after: Vec::new(alloc),
-        }
-    }
-
-    /// Adds it as a row writes it.
-    pub fn push_text(&self, text: &mut String) -> Result<()> {
+    /// As a row writes it.
+    pub fn text(&self, alloc: Global) -> Result<String> {
+        let mut text = String::new(alloc);
         for answer in &self.answers {
-            answer.push_text(text)?;
+            answer.push_text(&mut text)?;
         }
         for bytes in &self.after {
             match bytes {
@@ -276,6 +231,6 @@ impl Came {
                 None => text.push_str(" nothing")?,
             }
         }
-        Ok(())
+        Ok(text)
     }
 }

@@ -15,9 +15,9 @@ pub mod turns;
 use anyhow::Result;
 use std::env::{self, Env};
 
-/// The word behind the program's own name, or the empty one: only the rows that have it are tried.
-pub fn chosen(rt: &(impl Env + AllocGlobal)) -> Result<String> {
-    Ok(env::args(rt)?.nth(1).unwrap_or(String::new(rt.alloc())))
+/// The word behind the program's own name, if there is one: then only the rows that have it are tried.
+pub fn chosen(rt: &(impl Env + AllocGlobal)) -> Result<Option<String>> {
+    Ok(env::args(rt)?.nth(1))
 }
 
 /// What stands before the first blank, and what stands behind it.

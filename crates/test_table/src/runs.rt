@@ -8,7 +8,7 @@ use crate::turns::{Answer, Call, Turn};
 use anyhow::{Context, Result};
 use std::alloc::Global;
 use std::env::Env;
-use std::mem::drop;
+use tc_io::Shelf;
 use tc_io::mem::{MemShelf, MemSink};
 
 /// What comes of a call.
@@ -17,113 +17,38 @@ where
     F: Fn(Global, &[String], &mut MemShelf, &mut MemSink) -> u8,
     requires { F.IsAlwaysCallable program.now }
 {
-    let mut sink = MemSink::new(alloc);
-    let answered = answer_in(alloc, call, shelf, &mut sink, program);
-    drop(sink);
-    answered
-}
-
-/// The same, where it is written into this sink.
-fn answer_in<F>(
-    alloc: Global,
-    call: &Call,
-    shelf: &mut MemShelf,
-    sink: &mut MemSink,
-    program: &F,
-) -> Result<Answer>
-where
-    F: Fn(Global, &[String], &mut MemShelf, &mut MemSink) -> u8,
-    requires { F.IsAlwaysCallable program.now }
-{
-    call.fail_puts(sink)?;
-    let status = program(alloc, &call.words, shelf, sink);
+    let mut sink = call.sink(alloc)?;
+    let status = program(alloc, &call.words, shelf, &mut sink);
     let written = Vec::from_slice(alloc, sink.written())?;
     Ok(Answer { status, written })
 }
 
-/// Takes what comes of the calls of a row, over this shelf.
-fn play<F>(
-    alloc: Global,
-    row: &Row,
-    shelf: &mut MemShelf,
-    came: &mut Came,
-    program: &F,
-) -> Result<()>
+/// What comes of the calls of a row.
+fn come<F>(alloc: Global, row: &Row, program: &F) -> Result<Came>
 where
     F: Fn(Global, &[String], &mut MemShelf, &mut MemSink) -> u8,
     requires { F.IsAlwaysCallable program.now }
 {
-    row.fill(alloc, shelf)?;
+    let mut shelf = row.shelf(alloc)?;
+    let (mut answers, mut after) = (Vec::new(alloc), Vec::new(alloc));
     for turn in &row.turns {
         match turn {
-            Turn::Call(call) => came.answers.push(answer(alloc, call, shelf, program)?)?,
-            Turn::Edit(edit) => edit.make(alloc, shelf)?,
+            Turn::Call(call) => answers.push(answer(alloc, call, &mut shelf, program)?)?,
+            Turn::Edit(edit) => edit.make(alloc, &mut shelf)?,
         }
     }
-    row.look(alloc, shelf, came)
+    for name in &row.names(alloc)? {
+        after.push(shelf.fetch(alloc, name.as_str(), u64::MAX).ok())?;
+    }
+    Ok(Came { answers, after })
 }
 
-/// Adds what is said of a row of which this came.
-fn push_verdict(alloc: Global, row: &Row, came: &Came, said: &mut String) -> Result<()> {
+/// What is said of a row.
+fn verdict(alloc: Global, row: &Row, came: &Came) -> Result<String> {
     if row.is_met(alloc, came)? {
-        return Ok(said.push_str("ok")?);
+        return Ok(String::from_str(alloc, "ok")?);
     }
-    came.push_text(said)?;
-    said.push_str("\n  must be")?;
-    row.push_text(said)
-}
-
-/// Tries a row, and adds what is said of it.
-fn judge<F>(alloc: Global, row: &Row, program: &F, said: &mut String) -> Result<()>
-where
-    F: Fn(Global, &[String], &mut MemShelf, &mut MemSink) -> u8,
-    requires { F.IsAlwaysCallable program.now }
-{
-    let mut shelf = MemShelf::new(alloc);
-    let mut came = Came::new(alloc);
-    let played = play(alloc, row, &mut shelf, &mut came, program);
-    drop(shelf);
-    let judged = match played {
-        Ok(()) => push_verdict(alloc, row, &came, said),
-        Err(why) => Err(why),
-    };
-    drop(came);
-    judged
-}
-
-/// Tries a row, and prints what is said of it.
-fn try_row<F>(rt: &(impl Print + AllocGlobal), row: &Row, program: &F) -> Result<()>
-where
-    F: Fn(Global, &[String], &mut MemShelf, &mut MemSink) -> u8,
-    requires { F.IsAlwaysCallable program.now }
-{
-    let mut said = String::new(rt.alloc());
-    let judged = judge(rt.alloc(), row, program, &mut said);
-    let printed = match judged {
-        Ok(()) => print(rt, row, said.as_str()),
-        Err(why) => Err(why),
-    };
-    drop(said);
-    printed.context(format_args!("{}", row.name))
-}
-
-fn print(rt: &impl Print, row: &Row, said: &str) -> Result<()> {
-    println!(rt; "{}: {said}", row.name)?;
-    Ok(())
-}
-
-/// Tries the rows that have the word in their names.
-fn try_rows<F>(rt: &(impl Print + AllocGlobal), rows: &[Row], word: &str, program: &F) -> Result<()>
-where
-    F: Fn(Global, &[String], &mut MemShelf, &mut MemSink) -> u8,
-    requires { F.IsAlwaysCallable program.now }
-{
-    for row in rows {
-        if row.name.contains(word) {
-            try_row(rt, row, program)?;
-        }
-    }
-    Ok(())
+    Ok(format!(in alloc; "{}\n  must be {}", came.text(alloc)?, row.text(alloc)?)?)
 }
 
 /// Tries each row of the table in standard input, and prints of each whether it comes out as it must, or what came and what must
@@ -133,10 +58,13 @@ where
     F: Fn(Global, &[String], &mut MemShelf, &mut MemSink) -> u8,
     requires { F.IsAlwaysCallable program }
 {
-    let word = chosen(rt)?;
-    let rows = rows_of(rt)?;
-    let tried = try_rows(rt, &rows, word.as_str(), &program);
-    drop(rows);
-    drop(word);
-    tried
+    let word = chosen(rt)?.unwrap_or(String::new(rt.alloc()));
+    for row in &rows_of(rt)? {
+        if row.name.contains(word.as_str()) {
+            let came = come(rt.alloc(), row, &program).context(format_args!("{}", row.name))?;
+            let verdict = verdict(rt.alloc(), row, &came).context(format_args!("{}", row.name))?;
+            println!(rt; "{}: {verdict}", row.name)?;
+        }
+    }
+    Ok(())
 }

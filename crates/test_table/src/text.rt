@@ -3,8 +3,7 @@
 //! `\n`, `\r`, `\t`, `\0` and `\xNN` write a byte. `\N'TEXT'` writes a text so many times, in which `\#` is the number
 //! of the turn, from 0, and `\#+K` that number and K. Each other character writes itself.
 use anyhow::{Context, Result, bail};
-use std::alloc::{AllocError, Global};
-use std::mem::drop;
+use std::alloc::Global;
 
 /// The value of a hex digit.
 fn digit(byte: u8) -> Result<u8> {
@@ -41,66 +40,46 @@ fn push_plain(bytes: &mut Vec<u8>, text: &str) -> Result<()> {
     Ok(())
 }
 
-/// A text behind `\#`: what is added to the number of the turn, and the rest.
-fn added(text: &str) -> Result<(u32, &str)> {
-    let digits = text.strip_prefix('+').unwrap_or("");
-    let len = digits
-        .find(|c: char| !c.is_ascii_digit())
-        .unwrap_or(digits.len());
-    let (number, rest) = digits.split_at(len);
-    if number.is_empty() {
-        return Ok((0, text));
-    }
-    Ok((number.parse()?, rest))
+/// What a text writes, and before it, but for the first, the number of the turn and so much.
+#[derive(Drop)]
+struct Part {
+    more: u32,
+    bytes: Vec<u8>,
 }
 
-/// Adds the digits of a number.
-fn push_number(alloc: Global, bytes: &mut Vec<u8>, number: u64) -> Result<()> {
-    let digits = format!(in alloc; "{number}")?;
-    let pushed = bytes.extend_from_slice(digits.as_bytes());
-    drop(digits);
-    Ok(pushed?)
-}
-
-/// Adds what a text writes at a turn.
-fn push_turn(alloc: Global, bytes: &mut Vec<u8>, text: &str, turn: u32) -> Result<()> {
-    for (place, part) in text.split("\\#").enumerate() {
-        if place == 0 {
-            push_plain(bytes, part)?;
-        } else {
-            let (more, rest) = added(part)?;
-            push_number(alloc, bytes, u64::from(turn) + u64::from(more))?;
-            push_plain(bytes, rest)?;
+impl Part {
+    /// What follows `\#`.
+    fn read(alloc: Global, text: &str) -> Result<Part> {
+        let digits = text.strip_prefix('+').unwrap_or("");
+        let len = digits
+            .find(|c: char| !c.is_ascii_digit())
+            .unwrap_or(digits.len());
+        let (number, rest) = digits.split_at(len);
+        let mut bytes = Vec::new(alloc);
+        if number.is_empty() {
+            push_plain(&mut bytes, text)?;
+            return Ok(Part { more: 0, bytes });
         }
+        push_plain(&mut bytes, rest)?;
+        let more = number.parse()?;
+        Ok(Part { more, bytes })
     }
-    Ok(())
 }
 
 /// Adds what a text writes so many times.
 fn push_repeated(alloc: Global, bytes: &mut Vec<u8>, text: &str, count: u32) -> Result<()> {
+    let mut parts = Vec::new(alloc);
+    for part in text.split("\\#") {
+        parts.push(Part::read(alloc, part)?)?;
+    }
     for turn in 0..count {
-        push_turn(alloc, bytes, text, turn)?;
-    }
-    Ok(())
-}
-
-/// Adds the bytes that a text writes.
-pub fn push_bytes(alloc: Global, bytes: &mut Vec<u8>, text: &str) -> Result<()> {
-    let mut count = None;
-    let mut is_quoted = false;
-    for piece in text.split('\'') {
-        if is_quoted {
-            let count = count.context("a quote without a number")?;
-            push_repeated(alloc, bytes, piece, count)?;
-        } else {
-            let (plain, number) = counted(piece);
-            push_plain(bytes, plain)?;
-            count = number;
+        for (place, part) in parts.iter().enumerate() {
+            if place > 0 {
+                let number = u64::from(turn) + u64::from(part.more);
+                bytes.extend_from_slice(format!(in alloc; "{number}")?.as_bytes())?;
+            }
+            bytes.extend_from_slice(&part.bytes)?;
         }
-        is_quoted = !is_quoted;
-    }
-    if !is_quoted || count.is_some() {
-        bail!("a text that isn't ended");
     }
     Ok(())
 }
@@ -108,29 +87,23 @@ pub fn push_bytes(alloc: Global, bytes: &mut Vec<u8>, text: &str) -> Result<()> 
 /// The bytes that a text writes.
 pub fn bytes_of(alloc: Global, text: &str) -> Result<Vec<u8>> {
     let mut bytes = Vec::new(alloc);
-    push_bytes(alloc, &mut bytes, text)?;
-    Ok(bytes)
-}
-
-/// Whether a text writes these bytes.
-pub fn writes(alloc: Global, text: &str, bytes: &[u8]) -> Result<bool> {
-    let mut written = Vec::new(alloc);
-    let pushed = push_bytes(alloc, &mut written, text);
-    let is_same = written.as_slice() == bytes;
-    drop(written);
-    pushed?;
-    Ok(is_same)
-}
-
-/// That what was written is this text again.
-pub fn must_be(text: &[u8], written: Result<Vec<u8>, AllocError>) -> Result<()> {
-    let written = written?;
-    let is_same = written.as_slice() == text;
-    drop(written);
-    if !is_same {
-        bail!("another text was written");
+    let mut count = None;
+    let mut is_quoted = false;
+    for piece in text.split('\'') {
+        if is_quoted {
+            let count = count.context("a quote without a number")?;
+            push_repeated(alloc, &mut bytes, piece, count)?;
+        } else {
+            let (plain, number) = counted(piece);
+            push_plain(&mut bytes, plain)?;
+            count = number;
+        }
+        is_quoted = !is_quoted;
     }
-    Ok(())
+    if !is_quoted || count.is_some() {
+        bail!("a text that isn't ended");
+    }
+    Ok(bytes)
 }
 
 /// What stands before the number of a repetition, and the number.
@@ -145,16 +118,10 @@ fn counted(piece: &str) -> (&str, Option<u32>) {
 }
 
 /// What stands between quotes, as it is written.
-pub fn quoted(text: &str) -> Result<&str> {
-    text.strip_prefix('"')
+pub fn quoted(alloc: Global, text: &str) -> Result<String> {
+    let inside = text
+        .strip_prefix('"')
         .and_then(|text| text.strip_suffix('"'))
-        .context("no text in quotes")
-}
-
-/// Parts what follows from what stands there.
-pub fn push_blank(text: &mut String) -> Result<()> {
-    if !text.is_empty() {
-        text.push(' ')?;
-    }
-    Ok(())
+        .context("no text in quotes")?;
+    Ok(String::from_str(alloc, inside)?)
 }
