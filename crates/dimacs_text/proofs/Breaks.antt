@@ -1,10 +1,10 @@
 -- A text is an answer, or has one line that is the first to break the form.
-use Rattle.std.proofs.Common.{◌≡◌, ◌∙◌, ◌<◌, ◌≤◌, ◌+◌, ◌-◌, ◌⊎◌, inl, inr, ℕ, zero, suc, Bool, true, false, ltb, List, [], ◌∷◌, ◌++◌, length, take, drop, ℤ, Option, Some, None, Result, Ok, Err, refl, sym, ap, subst, arith}
+use Rattle.std.proofs.Common.{◌≡◌, ◌∙◌, ◌<◌, ◌≤◌, ◌+◌, ◌-◌, ◌⊎◌, inl, inr, ℕ, suc, Bool, true, false, ltb, List, [], ◌∷◌, ◌++◌, length, take, drop, ℤ, Option, Some, None, Result, Ok, Err, refl, sym, ap, subst, arith}
 use Rattle.std.specs.Prelude.{codes}
 use Rattle.std.specs.Option.{option_and_then, option_map_or}
 use Rattle.std.proofs.lemmas.Bool.{ltb-true, ltb-false}
 use Rattle.std.proofs.lemmas.List.{take-append-drop, take-take}
-use Rattle.dimacs_text.specs.Answers.{AreAnswerWith, BeginAnswer, IsAnswerWith, lines_of, trimmed}
+use Rattle.dimacs_text.specs.Answers.{BeginAnswer, IsAnswerWith, lines_of, trimmed}
 use Rattle.dimacs_text.specs.Faults.{BreaksAt}
 use Rattle.dimacs_text.specs.declared.said.Said.{Said}
 use Rattle.dimacs_text.specs.declared.said.Said.TheVariants.{Nothing, Begun, Whole}

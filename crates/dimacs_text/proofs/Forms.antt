@@ -1,6 +1,6 @@
 -- A reader's way through an answer, and the form of the answer.
-use Rattle.std.proofs.Common.{◌≡◌, ◌∙◌, ℕ, zero, suc, Bool, true, false, not, ◌&&◌, List, [], ◌∷◌, ◌++◌, map, length, ℤ, Option, Some, None, refl, sym, ap, subst, append_assoc, arith}
-use Rattle.std.specs.Prelude.{pos, negsuc, neg_ℤ, codes, nat_lt, if◌then◌else◌}
+use Rattle.std.proofs.Common.{◌≡◌, ◌∙◌, ℕ, zero, suc, Bool, true, false, List, [], ◌∷◌, ◌++◌, map, length, ℤ, Option, Some, None, refl, sym, ap, subst, append_assoc, arith}
+use Rattle.std.specs.Prelude.{pos, negsuc, neg_ℤ, codes, if◌then◌else◌}
 use Rattle.std.specs.List.{filter, flat_map, list_all}
 use Rattle.std.specs.Fmt.{signed_decimal}
 use Rattle.std.specs.Option.{option_and_then}
@@ -16,7 +16,7 @@ use Rattle.dimacs_text.specs.declared.said.Said.{Said}
 use Rattle.dimacs_text.specs.declared.said.Said.TheVariants.{Nothing, Begun, Whole}
 use Rattle.dimacs_text.specs.declared.words.Word.{Word}
 use Rattle.dimacs_text.specs.declared.words.Word.TheVariants.{Literal, End}
-use Rattle.dimacs_text.specs.helpers.Reading.{after_any, after_line, after_part, after_parts, after_values, after_word, word_in}
+use Rattle.dimacs_text.specs.helpers.Reading.{after_any, after_line, after_parts, after_values, after_word, word_in}
 use Rattle.dimacs_text.proofs.Once.{among_once, apart_more, front_apart, once_more, opposite_not_before}
 use Rattle.dimacs_text.proofs.Spelled.{IsOf, end_again, literal_again, word_is}
 

@@ -1,7 +1,7 @@
 -- Literals once each, in the order in which they first come.
 use Rattle.std.proofs.Common.{◌≡◌, ◌∙◌, Bool, true, false, not, ◌||◌, ◌⊎◌, inl, inr, List, [], ◌∷◌, ◌++◌, ℤ, refl, sym, ap}
 use Rattle.std.specs.Prelude.{neg_ℤ, if◌then◌else◌}
-use Rattle.std.specs.List.{filter, list_any}
+use Rattle.std.specs.List.{filter}
 use Rattle.std.specs.Ordering.{int_eq}
 use Rattle.std.proofs.Math.IntN.{neg_ℤ-neg_ℤ}
 use Rattle.std.proofs.lemmas.Bool.{false≢true, or_cases, or_left, or_right}

@@ -1,12 +1,11 @@
 -- The words that are literals, and the 0 after them.
-use Rattle.std.proofs.Common.{◌≡◌, ◌∙◌, ◌<◌, ◌≤◌, ◌^◌, ℕ, zero, suc, Bool, true, false, ◌&&◌, ◌==◌, List, [], ◌∷◌, ℤ, Option, Some, None, refl, sym, ap, subst, arith}
-use Rattle.std.specs.Prelude.{pos, negsuc, neg_ℤ, codes, if◌then◌else◌}
+use Rattle.std.proofs.Common.{◌≡◌, ◌∙◌, ◌<◌, ◌≤◌, ◌^◌, ℕ, zero, suc, Bool, true, false, ◌==◌, List, [], ◌∷◌, ℤ, Option, Some, None, refl, sym, ap, subst, arith}
+use Rattle.std.specs.Prelude.{pos, negsuc, codes}
 use Rattle.std.specs.Fmt.{decimal, signed_decimal}
 use Rattle.std.specs.Option.{option_and_then, option_map}
-use Rattle.std.proofs.lemmas.Bool.{and_parts, and_from, eqb-true, leb-true, ltb-true, le-leb, lt-ltb}
+use Rattle.std.proofs.lemmas.Bool.{and_parts, and_from, eqb-true, leb-true, le-leb, lt-ltb}
 use Rattle.std.proofs.lemmas.Bool.Decides.{nat_tests}
 use Rattle.std.proofs.lemmas.Fmt.{decimal_digit}
-use Rattle.cnf_core.specs.Clauses.{var_of}
 use Rattle.tc_decimal.specs.Decimals.{is_digit, number_of}
 use Rattle.tc_decimal.proofs.Decimals.{decimal_cells, number_again, number_is}
 use Rattle.dimacs_text.specs.Answers.{is_literal}
