@@ -1,6 +1,6 @@
 -- A world with only those enders of sleeps that are signals or broadcasts of their conditions: it is one of the paths, and meets the rules of each
 -- group that the world meets, where the group of a condition says what ends the sleeps on it.
-use Rattle.std.proofs.Common.{◌≡◌, ◌∙◌, ◌⊎◌, inl, inr, ℕ, zero, suc, ◌+◌, ◌<◌, Bool, true, false, ◌||◌, cond, List, [], ◌∷◌, Option, Some, None, length}
+use Rattle.std.proofs.Common.{◌≡◌, ◌∙◌, ◌⊎◌, inl, inr, ℕ, zero, suc, ◌+◌, Bool, true, false, ◌||◌, cond, List, [], ◌∷◌, Option, Some, None, length}
 use Rattle.std.proofs.Common.{get_or, refl, sym, ap, subst, arith}
 use Rattle.std.specs.Prelude.{slice_get}
 use Rattle.std.specs.Option.{option_map_or}
@@ -24,7 +24,7 @@ use Rattle.lawful_order.specs.Conditions.{ConditionRule, IsBroadcast, IsSignal, 
 use Rattle.lawful_order.specs.Events.{Of, all_events, all_sleeps, ender_of}
 use Rattle.lawful_order.specs.Lawful.{IsWorldOf, MeetsRule}
 use Rattle.lawful_order.specs.Reads.{ReadRule, Sees, TakesFirst, TakesFrom}
-use Rattle.lawful_order.specs.Stuck.{CannotGoOn, StuckRule}
+use Rattle.lawful_order.specs.Stuck.{CannotGoOn}
 use Rattle.why_impossible.specs.Enders.{EnderRule}
 
 module _ (paths : Paths) (w : World) where

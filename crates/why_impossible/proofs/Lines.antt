@@ -1,6 +1,6 @@
 -- Each reason has a line of its own: the line tells the reason, where names are those of threads and numbers have 32 bits.
 use Rattle.std.proofs.Common.{◌≡◌, ◌∙◌, ℕ, ◌-◌, ◌<◌, ◌^◌, true, List, ◌++◌, Option, Some, sym, ap, arith, append_assoc, refl}
-use Rattle.std.specs.Prelude.{codes, option_map}
+use Rattle.std.specs.Prelude.{codes}
 use Rattle.std.specs.Fmt.{decimal}
 use Rattle.std.proofs.lemmas.Option.{same_Some}
 use Rattle.tc_base.specs.Names.{Name, main, name_text}
@@ -9,7 +9,7 @@ use Rattle.tc_decimal.proofs.Decimals.{front_again}
 use Rattle.schedule_file.specs.Schedules.{is_name}
 use Rattle.schedule_file.specs.helpers.Reading.{◌>>=◌, behind, name_at, or_else}
 use Rattle.schedule_file.proofs.Fronts.{name_again}
-use Rattle.why_impossible.specs.Reasons.{at_line, reason_line, reason_text}
+use Rattle.why_impossible.specs.Reasons.{at_line, reason_line}
 use Rattle.why_impossible.specs.declared.reason.Reason.{Reason}
 use Rattle.why_impossible.specs.declared.reason.Reason.TheVariants.{Own, Child, Read, Mutex, Condition, Test, Stuck, Dead}
 use Rattle.why_impossible.specs.helpers.There.{IsSmall}
