@@ -1,0 +1,62 @@
+-- What reproduces a log within the limits has a short text.
+use Rattle.std.proofs.Common.{◌≡◌, ◌^◌, ◌≤◌, true, ◌&&◌, List, length, map, arith}
+use Rattle.std.specs.Prelude.{nat_le, nat_lt, sum}
+use Rattle.std.specs.List.{All, list_all}
+use Rattle.std.proofs.lemmas.Bool.{and_parts, ltb-true}
+use Rattle.std.proofs.lemmas.List.Elements.{All-weaker}
+use Rattle.std.proofs.lemmas.List.Sums.{AllPass-from_list_all, sum-map}
+use Rattle.tc_base.specs.Buffers.{BufferOps}
+use Rattle.tc_base.specs.Logs.{Log, ThreadPath}
+use Rattle.tc_base.specs.declared.limits.TheConstants.{SCHEDULE_BYTES, STEPS, EVENTS}
+use Rattle.tc_base.specs.declared.model.Model.{Model}
+use Rattle.tc_base.specs.declared.moves.Move.{Move}
+use Rattle.tc_code.specs.Code.{Code}
+use Rattle.tc_code.specs.Lawful.{IsLawful}
+use Rattle.tc_code.specs.Run.{Reproduces}
+use Rattle.store_buffers.specs.Laws.{Laws}
+use Rattle.store_buffers.specs.Pending.{Binding}
+use Rattle.path_log.specs.Texts.{is_of_format, is_thread, is_within}
+use Rattle.path_walk.specs.Paths.{walk_of}
+use Rattle.schedule_file.specs.Schedules.{HaveText, schedule_text}
+use Rattle.schedule_length.specs.Lengths.{IsSmall, most_bytes}
+use Rattle.schedule_length.proofs.Lines.{text_length}
+use Rattle.schedule_length.proofs.Moves.{runs_are_steps, others_are_long}
+use Rattle.schedule_length.proofs.Threads.{steps_are_few, long_are_few}
+
+pub short : {B : Type 0} (ops : BufferOps B) (model : Model) (bound : Binding) (code : Code) (log : Log) (form : Model) (moves : List Move)
+    → Laws ops model bound → IsLawful code → IsSmall code log → HaveText form moves → Reproduces ops code log moves
+    → length (schedule_text form moves) ≤ most_bytes
+short ops model bound code log form moves laws lawful small text r =
+    let runs = runs_are_steps ops code moves r.state r.leads in
+    let steps = steps_are_few ops model bound laws code lawful log small moves r in
+    let others = others_are_long ops code moves r.state r.leads in
+    let events = long_are_few ops model bound laws code lawful log small moves r in
+    let added = sum-map (λ (t : ThreadPath). length (walk_of code log t).events) log.threads in
+    let threads = small.threads in
+    let few : sum (map (λ (t : ThreadPath). length (walk_of code log t).events) log.threads) ≤ EVENTS = small.events in
+    let long = text_length form moves text.1 in
+    omega (arith, runs, steps, others, events, added, threads, few, long)
+
+pub room : most_bytes ≤ SCHEDULE_BYTES
+room = omega arith
+
+-- so a schedule may have it
+pub short_enough : {B : Type 0} (ops : BufferOps B) (model : Model) (bound : Binding) (code : Code) (log : Log) (form : Model) (moves : List Move)
+    → Laws ops model bound → IsLawful code → IsSmall code log → HaveText form moves → Reproduces ops code log moves
+    → length (schedule_text form moves) ≤ SCHEDULE_BYTES
+short_enough ops model bound code log form moves laws lawful small text r =
+    let few = short ops model bound code log form moves laws lawful small text r in
+    omega (arith, few, room)
+
+-- a log that has a text counts steps in two bytes
+pub steps_of_text : (log : Log) → is_of_format log ≡ true → All (λ t. t.path.steps ≤ STEPS) log.threads
+steps_of_text log is =
+    All-weaker (λ t. is_thread t ≡ true) (λ t. t.path.steps ≤ STEPS) few log.threads
+    (AllPass-from_list_all is_thread log.threads (and_parts (nat_le (length log.threads) 255) (list_all is_thread log.threads) is).1)
+  where
+    few : (t : ThreadPath) → is_thread t ≡ true → t.path.steps ≤ STEPS
+    few t h =
+        let counts = (and_parts (nat_le (length t.name) 255 && list_all (is_within 1 255) t.name)
+        (nat_lt t.path.steps (2 ^ 16) && nat_lt (length t.path.outcomes) (2 ^ 16)) h).1 in
+        let steps = ltb-true t.path.steps (2 ^ 16) (and_parts (nat_lt t.path.steps (2 ^ 16)) (nat_lt (length t.path.outcomes) (2 ^ 16)) counts).0 in
+        omega (arith, steps)

@@ -1,0 +1,35 @@
+-- How long the text of a schedule may be that reproduces a log.
+use Rattle.std.specs.Prelude.{◌≡◌, ℕ, ◌+◌, ◌*◌, ◌≤◌, true, length}
+use Rattle.std.specs.List.{All}
+use Rattle.tc_base.specs.Logs.{Log}
+use Rattle.tc_base.specs.declared.limits.TheConstants.{THREADS, DEPTH, STEPS, EVENTS}
+use Rattle.tc_code.specs.Code.{Code}
+use Rattle.path_log.specs.Texts.{is_log}
+use Rattle.path_walk.specs.Paths.{paths_of}
+
+-- the first line: `clap-schedule 1`, a space, at most three letters of the model, and the end of the line
+abbrev pub header_bytes : ℕ
+header_bytes = 20
+
+-- a name: a zero, and for each create a dot and at most three digits
+abbrev pub name_bytes : ℕ
+name_bytes = 1 + 4 * DEPTH
+
+-- the line of a run: its letter, a space, a name, and the end of the line
+abbrev pub run_bytes : ℕ
+run_bytes = 3 + name_bytes
+
+-- any line: a wake has one more space and name, and a drain a space and at most four digits
+abbrev pub line_bytes : ℕ
+line_bytes = run_bytes + (1 + name_bytes)
+
+-- the first line, the line of a run for each step of each thread, and for each event a line of any kind
+abbrev pub most_bytes : ℕ
+most_bytes = header_bytes + (THREADS * STEPS * run_bytes + EVENTS * line_bytes)
+
+-- a log has few threads with few steps each, and its paths have few events
+pub record IsSmall (code : Code) (log : Log) : Type 0 where
+  pub is_log : is_log log ≡ true
+  pub threads : length log.threads ≤ THREADS
+  pub steps : All (λ t. t.path.steps ≤ STEPS) log.threads
+  pub events : (paths_of code log).events ≤ EVENTS
