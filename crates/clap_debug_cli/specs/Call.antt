@@ -346,7 +346,8 @@ pub record CnfAnswers (files : Files) (program log out : List ℕ) (model : Opti
 -- the answers of `import` to three files that the shelf tells of, by status, over what is held before and after it
 pub record ImportAnswers (files : Files) (program log answer out : List ℕ) (model : Option Model) (held : Option Files) (status : ℕ)
     (before after : SinkTells) : Type 0 where
-  -- the values satisfy the log's clauses, and a schedule stands under OUT that reproduces the log under the memory model that is meant
+  -- the values satisfy the log's clauses, and a schedule stands under OUT that reproduces the log under the memory model that is meant.
+  -- A value of `Schedule` has a text, which is read back as it is
   pub found : status ≡ 0 → (s : Schedule) × IsAnswered program log answer (IsTaken model (taken.Found s)) × Puts before after (Imported s)
       × (held ≡ put_under out (schedule_text s.model s.moves.items) (Some files))
   -- they leave a clause false, and none before it

@@ -1,5 +1,6 @@
 -- Why an answer is given: what the words are, what the shelf did, and what the bytes that it gave say.
 use Rattle.std.specs.Prelude.{◌≡◌, ◌⊎◌, ℕ, ℤ, ◌≤◌, ◌-◌, List, [], ◌∷◌, length, Option, Some, None, Ok, Err, IsSomeAnd}
+use Rattle.tc_base.specs.declared.limits.TheConstants.{SCHEDULE_BYTES}
 use Rattle.tc_base.specs.declared.model.Model.{Model}
 use Rattle.tc_base.specs.Buffers.{buffer_of}
 use Rattle.tc_base.specs.Logs.{Log}
@@ -247,10 +248,10 @@ abbrev pub IsImportAnswer : (program log answer : List ℕ) → Option Model →
 IsImportAnswer program log answer model = IsTextsAnswer program log (λ code run. IsLiteralsAnswer answer
     (λ literals. IsStoredAnswer program run (IsLimitAnswer code run.log (IsTakenAnswer model code run.log literals))))
 
--- What is answered where `solve` kept this text of what it found: `replay` that the schedule reproduces the log, and `check` that it
--- accepts the refutation.
+-- What is answered where `solve` kept this text of what it found: the schedule isn't too long for `replay`, which answers that it
+-- reproduces the log, and `check` that it accepts the refutation.
 abbrev pub IsAcceptedAs : (program log text : List ℕ) → Found → Type 0
-IsAcceptedAs program log text (found.Found _) = IsReplayAnswer program log text (Replayed verdict.Reproduces)
+IsAcceptedAs program log text (found.Found _) = (length text ≤ SCHEDULE_BYTES) × IsReplayAnswer program log text (Replayed verdict.Reproduces)
 IsAcceptedAs program log text (found.Impossible _) = IsCheckAnswer program log text (Accepted Impossible)
 IsAcceptedAs program log text (found.Spent _) = IsCheckAnswer program log text (Accepted Open)
 

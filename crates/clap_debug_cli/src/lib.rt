@@ -6,6 +6,10 @@ ghost use Rattle.sha2.specs.Sha256.{sha256};
 ghost use Rattle.tc_base.specs.declared.model.Model.{Model};
 ghost use Rattle.path_log.specs.Texts.{StoredLog, IsLog};
 ghost use Rattle.tc_record.specs.Logged.{most_log_bytes};
+ghost use Rattle.schedule_file.specs.Schedules.{schedule_text};
+ghost use Rattle.schedule_file.specs.declared.schedule.Schedule.{Schedule};
+ghost use Rattle.clap_solve.specs.declared.answer.Answer.TheVariants as search;
+ghost use Rattle.clap_solve.specs.declared.imported.Imported.TheVariants as taken;
 ghost use Rattle.clap_debug_words.specs.Calls.{plain_call};
 ghost use Rattle.clap_debug_cli.specs.declared.answer.Answer.TheVariants.{NoMemory};
 ghost use Rattle.clap_debug_cli.specs.Causes.{IsAcceptedAs, IsAcceptedBelow, IsCause, IsCauseOf};
@@ -16,6 +20,7 @@ ghost use Rattle.clap_debug_cli.specs.Inputs.{texts_under};
 ghost use Rattle.clap_debug_cli.specs.Migrated.{IsMigrated};
 ghost use Rattle.clap_debug_cli.specs.Recorded.{IsRecorded, with_digest};
 ghost use Rattle.clap_debug_cli.specs.Solved.{IsPossible, IsSolution, allows, solution_text};
+ghost use Rattle.clap_debug_cli.specs.Solvers.{IsAnswered, IsTaken};
 ghost use Rattle.clap_debug_cli.specs.declared.answer.Solution.{Solution};
 ghost use Rattle.clap_debug_cli.specs.helpers.Refused.{IsEither};
 
@@ -81,21 +86,29 @@ pub fn recorded_logs_are_possible()
         → allows made (unwrap_or model made) ≡ true → IsPossible program log model }
 {}
 
-/// What `solve` keeps is accepted: with the same program and log `replay` answers that its schedule reproduces the log, and
-/// `check` that its refutation shows the log to be impossible, or that it is open. So by `told.exactly` of [`clap_debug`] the
-/// status is 0, and 10 where it is open, but for devices, memory and a file that is too long.
+/// What `solve` keeps is accepted: its schedule isn't too long for `replay`, which answers with the same program and log that it
+/// reproduces the log, and `check` answers that its refutation shows the log to be impossible, or that it is open. So by
+/// `told.exactly` of [`clap_debug`] the status is 0, and 10 where it is open, but for devices and memory.
 pub fn solutions_are_accepted()
     ensures { (program log : List ℕ) (model : Option Model) (budget : ℕ) (x : Solution) → IsSolution program log model budget x
         → IsAcceptedAs program log (solution_text x) x.answer }
 {}
 
-/// What `solve --least` keeps is accepted: with the same program and log `replay` answers that its schedule reproduces the log, and
-/// `check` that its refutation shows that there are more switches than its first line says, or that it is open.
+/// What `solve --least` keeps is accepted: its schedule isn't too long for `replay`, which answers with the same program and log that
+/// it reproduces the log, and `check` answers that its refutation shows that there are more switches than its first line says, or
+/// that it is open.
 pub fn minima_are_accepted()
     ensures first { (program log : List ℕ) (model : Option Model) (budget : ℕ) (x : Minimum) → IsMinimum program log model budget x
         → IsAcceptedAs program log (first_text x) (found_in x.least) }
     ensures below { (program log : List ℕ) (model : Option Model) (budget : ℕ) (x : Minimum) → IsMinimum program log model budget x
         → IsAcceptedBelow program log x.model x.least }
+{}
+
+/// What `import` keeps is accepted too: the schedule isn't too long for `replay`, which answers with the same program and log that it
+/// reproduces the log.
+pub fn imports_are_accepted()
+    ensures { (program log answer : List ℕ) (model : Option Model) (s : Schedule) → IsAnswered program log answer (IsTaken model (taken.Found s))
+        → IsAcceptedAs program log (schedule_text s.model s.moves.items) (search.Found s) }
 {}
 
 /// What is answered to the words.
