@@ -28,7 +28,6 @@ use Rattle.run_history.specs.History.{Deed, Did, Drained, history}
 use Rattle.run_history.specs.Told.{is_step_of, steps_in}
 use Rattle.run_history.proofs.of_pending.In.{In, all_in, in_at, in_left, in_split}
 use Rattle.run_follows.proofs.Follows.{AllTold, all_told}
-use Rattle.path_log.specs.Texts.{is_log}
 use Rattle.path_walk.specs.Paths.{walk_of}
 use Rattle.path_walk.specs.declared.event.Event.{Event}
 use Rattle.path_laws.specs.Deeds.{done_as, events_before}
