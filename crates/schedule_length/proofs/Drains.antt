@@ -1,5 +1,5 @@
 -- The signals and drains of a thread are no more than its events: each drain is that of a store of its own.
-use Rattle.std.proofs.Common.{◌≡◌, ◌≢◌, ◌∙◌, inl, inr, ℕ, ◌+◌, ◌≤◌, ◌==◌, ℤ, Bool, true, false, ◌&&◌, ◌||◌, cond, List, [], ◌∷◌, ◌++◌, length}
+use Rattle.std.proofs.Common.{◌≡◌, ◌≢◌, ◌∙◌, inl, inr, ℕ, ◌+◌, ◌≤◌, ℤ, Bool, true, false, ◌&&◌, ◌||◌, List, [], ◌∷◌, ◌++◌, length}
 use Rattle.std.proofs.Common.{Option, Some, None, refl, sym, ap, ap₂, subst, arith, append-nil, append_assoc}
 use Rattle.std.specs.Prelude.{is_some, if◌then◌else◌}
 use Rattle.std.specs.List.{count_by, filter_map}
@@ -11,7 +11,7 @@ use Rattle.tc_base.specs.declared.request.Request.{Request}
 use Rattle.tc_base.specs.declared.request.Request.TheVariants.{Silent, Write, WakeOne}
 use Rattle.tc_code.specs.Code.{Code}
 use Rattle.store_buffers.specs.Pending.{Binding}
-use Rattle.run_laws.proofs.Names.{same_self, same_other, is_same, same_or_apart}
+use Rattle.run_laws.proofs.Names.{same_self, same_other, same_or_apart}
 use Rattle.run_history.specs.History.{Deed, Did, Drained, same, drains, has_drained}
 use Rattle.run_history.specs.pending.Deeds.{IsIssuedIn}
 use Rattle.run_history.proofs.Lists.{count-push}

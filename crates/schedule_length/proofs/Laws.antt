@@ -1,13 +1,13 @@
 -- What reproduces a log within the limits has a short text.
-use Rattle.std.proofs.Common.{◌≡◌, ℕ, ◌+◌, ◌*◌, ◌^◌, ◌≤◌, true, ◌&&◌, List, length, map, arith}
-use Rattle.std.specs.Prelude.{nat_le, nat_lt}
-use Rattle.std.specs.List.{All, count_by, list_all, sum_by}
+use Rattle.std.proofs.Common.{◌≡◌, ◌^◌, ◌≤◌, true, ◌&&◌, List, length, map, arith}
+use Rattle.std.specs.Prelude.{nat_le, nat_lt, sum}
+use Rattle.std.specs.List.{All, list_all}
 use Rattle.std.proofs.lemmas.Bool.{and_parts, ltb-true}
 use Rattle.std.proofs.lemmas.List.Elements.{All-weaker}
 use Rattle.std.proofs.lemmas.List.Sums.{AllPass-from_list_all, sum-map}
 use Rattle.tc_base.specs.Buffers.{BufferOps}
 use Rattle.tc_base.specs.Logs.{Log, ThreadPath}
-use Rattle.tc_base.specs.declared.limits.TheConstants.{SCHEDULE_BYTES, THREADS, STEPS, EVENTS}
+use Rattle.tc_base.specs.declared.limits.TheConstants.{SCHEDULE_BYTES, STEPS, EVENTS}
 use Rattle.tc_base.specs.declared.model.Model.{Model}
 use Rattle.tc_base.specs.declared.moves.Move.{Move}
 use Rattle.tc_code.specs.Code.{Code}
@@ -16,10 +16,10 @@ use Rattle.tc_code.specs.Run.{Reproduces}
 use Rattle.store_buffers.specs.Laws.{Laws}
 use Rattle.store_buffers.specs.Pending.{Binding}
 use Rattle.path_log.specs.Texts.{is_of_format, is_thread, is_within}
-use Rattle.path_walk.specs.Paths.{paths_of, walk_of}
+use Rattle.path_walk.specs.Paths.{walk_of}
 use Rattle.schedule_file.specs.Schedules.{HaveText, schedule_text}
 use Rattle.schedule_length.specs.Lengths.{IsSmall, most_bytes}
-use Rattle.schedule_length.proofs.Lines.{is_run, is_seldom, text_length}
+use Rattle.schedule_length.proofs.Lines.{text_length}
 use Rattle.schedule_length.proofs.Moves.{runs_are_steps, others_are_long}
 use Rattle.schedule_length.proofs.Threads.{steps_are_few, long_are_few}
 
@@ -31,11 +31,11 @@ short ops model bound code log form moves laws lawful small text r =
     let steps = steps_are_few ops model bound laws code lawful log small moves r in
     let others = others_are_long ops code moves r.state r.leads in
     let events = long_are_few ops model bound laws code lawful log small moves r in
-    let sum = sum-map (λ (t : ThreadPath). length (walk_of code log t).events) log.threads in
+    let added = sum-map (λ (t : ThreadPath). length (walk_of code log t).events) log.threads in
     let threads = small.threads in
-    let few = small.events in
+    let few : sum (map (λ (t : ThreadPath). length (walk_of code log t).events) log.threads) ≤ EVENTS = small.events in
     let long = text_length form moves text.1 in
-    omega (arith, runs, steps, others, events, sum, threads, few, long)
+    omega (arith, runs, steps, others, events, added, threads, few, long)
 
 pub room : most_bytes ≤ SCHEDULE_BYTES
 room = omega arith

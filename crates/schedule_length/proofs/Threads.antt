@@ -1,9 +1,9 @@
 -- The threads of a log that moves reproduce: their steps and events in the history.
-use Rattle.std.proofs.Common.{◌≡◌, ◌∙◌, inl, inr, ℕ, ◌+◌, ◌≤◌, ℤ, ◌*◌, Bool, true, List, [], ◌∷◌, ◌++◌, length, map, Option, Some, None}
+use Rattle.std.proofs.Common.{◌≡◌, ◌∙◌, ℕ, ◌≤◌, ℤ, ◌*◌, Bool, true, List, [], ◌∷◌, length, Option, Some, None}
 use Rattle.std.proofs.Common.{refl, sym, ap, subst, arith, append-nil}
 use Rattle.std.specs.Prelude.{option_map, slice_get, nat_lt}
 use Rattle.std.specs.FinMap as fin
-use Rattle.std.specs.List.{count_by, filter, filter_map, sum_by}
+use Rattle.std.specs.List.{count_by, filter, sum_by}
 use Rattle.std.specs.Option.{option_map_or}
 use Rattle.std.proofs.lemmas.Bool.{false≢true}
 use Rattle.std.proofs.lemmas.List.{length-map}
@@ -12,7 +12,7 @@ use Rattle.std.proofs.lemmas.Option.{none-some, same_Some}
 use Rattle.tc_base.specs.Buffers.{BufferOps}
 use Rattle.tc_base.specs.Logs.{Log, Path, ThreadPath, path_under}
 use Rattle.tc_base.specs.Names.{Name}
-use Rattle.tc_base.specs.States.{Thread, State}
+use Rattle.tc_base.specs.States.{Thread}
 use Rattle.tc_base.specs.declared.limits.TheConstants.{STEPS}
 use Rattle.tc_base.specs.declared.model.Model.{Model}
 use Rattle.tc_base.specs.declared.moves.Move.{Move}
@@ -28,10 +28,9 @@ use Rattle.run_history.specs.History.{Deed, Did, Drained, history}
 use Rattle.run_history.specs.Told.{is_step_of, steps_in}
 use Rattle.run_history.proofs.of_pending.In.{In, all_in, in_at, in_left, in_split}
 use Rattle.run_follows.proofs.Follows.{AllTold, all_told}
-use Rattle.path_log.specs.Texts.{is_log}
 use Rattle.path_walk.specs.Paths.{walk_of}
 use Rattle.path_walk.specs.declared.event.Event.{Event}
-use Rattle.path_laws.specs.Deeds.{done_as, event_by, events_before}
+use Rattle.path_laws.specs.Deeds.{done_as, events_before}
 use Rattle.path_laws.proofs.Deeds.{deeds_are_events}
 use Rattle.path_laws.proofs.Logs.{place_of, reproduced_fits}
 use Rattle.path_laws.proofs.Prefixes.{beginnings_on, own_under}
