@@ -11,6 +11,7 @@ It wants Debian's package `chromium`, and nothing else beside Python.
 """
 import base64
 import json
+import os
 import re
 import secrets
 import socket
@@ -427,35 +428,39 @@ def narrow(browser, page):
         bad += differs(page, f"700 pixels, {key}", is_seen(browser, number), True)
         box = browser.value("(({ top, bottom }) => [top >= 0, bottom <= innerHeight])(document.querySelector('#memory tr').getBoundingClientRect())")
         bad += differs(page, f"700 pixels, memory after {key}", box, [True, True])
+    lanes = browser.value("[...document.querySelectorAll('.head > [data-lane]')].filter(head => head.getBoundingClientRect().right <= innerWidth).length")
+    bad += differs(page, "700 pixels, lanes in view", lanes >= min(3, len(page.state.threads)), True)
     bad += differs(page, "700 pixels wide", browser.value("document.documentElement.scrollWidth <= innerWidth"), True)
     bad += differs(page, "700 pixels, the lanes' height", browser.value("document.getElementById('run').clientHeight >= 250"), True)
     browser.size(1200, 900)
     return bad
 
 
+def busy(browser):
+    """How many milliseconds of a processor the page has taken."""
+    metrics = browser.ask("Performance.getMetrics")["metrics"]
+    return 1000 * next(it["value"] for it in metrics if it["name"] == "TaskDuration")
+
+
 def speed(browser, page):
-    """How long a page takes until it is painted, and a step by a key until its frame is done, in milliseconds."""
+    """Says how long a page takes until it is painted, and how much of a processor a step by a key takes, its frame included. Gives
+    whether that is too long."""
+    browser.ask("Performance.enable", timeDomain="threadTicks")
     browser.open("about:blank")
     browser.open(f"file://{page.file}")
     time.sleep(1)
     paint = browser.value("performance.getEntriesByName('first-contentful-paint')[0].startTime")
-    times = browser.ask("Runtime.evaluate", awaitPromise=True, returnByValue=True, expression="""(async () => {
-      const frame = () => new Promise(done => requestAnimationFrame(() => setTimeout(done)));
-      const press = key => dispatchEvent(new KeyboardEvent('keydown', { key, bubbles: true }));
-      const times = [];
-      press('Home');
-      for (let k = 1; k < Math.min(400, document.querySelectorAll('#moves > .row').length); k++) {
-        await frame();
-        const start = performance.now();
-        press('j');
-        document.getElementById('run').getBoundingClientRect();
-        times.push(performance.now() - start);
-      }
-      return times.sort((a, b) => a - b);
-    })()""")["result"]["value"]
-    print(f"{page.name}: {len(page.rows)} moves, {len(page.events)} events: painted after {paint:.0f} ms, "
-          f"a step {times[len(times) // 2]:.1f} ms, the longest of {len(times)} {times[-1]:.1f} ms")
-    return (paint >= 1000) + (times[-1] >= 16)
+    browser.press("Home")
+    count, start = min(400, len(page.rows) - 1), busy(browser)
+    browser.ask("Runtime.evaluate", awaitPromise=True, expression=f"""(async () => {{
+      for (let k = 0; k < {count}; k++) {{
+        dispatchEvent(new KeyboardEvent('keydown', {{ key: 'j' }}));
+        await new Promise(done => requestAnimationFrame(() => setTimeout(done)));
+      }}
+    }})()""")
+    step = (busy(browser) - start) / count
+    print(f"{len(page.rows)} moves with {len(page.events)} events: painted after {paint:.0f} ms, a step takes {step:.1f} ms")
+    return paint >= 1000 or step >= 16
 
 
 def made(program, name, source, schedule, folder):
@@ -492,19 +497,22 @@ def long(moves=2000, events=None):
 
 def main():
     words = [it for it in sys.argv[1:] if not it.startswith("--")]
-    program = words[0] if words else f"{show.TOP}/clap_debug_show"
+    program = os.path.abspath(words[0] if words else f"{show.TOP}/clap_debug_show")
+    os.chdir(show.TOP)
     with tempfile.TemporaryDirectory() as folder, Browser(f"{folder}/browser") as browser:
         browser.size(1200, 900)
         if "--speed" in sys.argv:
             pages = [written(program, f"long{count}", LONG, "tso", long(**{what: count}), folder)
                      for what, count in (("events", 256), ("moves", 2000))]
             return 1 if any([speed(browser, page) for page in pages]) else 0
-        examples = [made(program, it, f"{show.TOP}/examples/{it}.tc", f"{show.TOP}/examples/{it}.sched", folder) for it in PAGES]
+        examples = [made(program, it, f"examples/{it}.tc", f"examples/{it}.sched", folder) for it in PAGES]
         pages = [*examples, written(program, "late", LATE, "sc", late(), folder)]
         tries = (steps, resting, look, walks, pointing, filtering, reading, narrow)
         bad = [it for page in pages for tried in tries for it in tried(browser, page)]
         if "--pictures" in sys.argv:
-            browser.open(f"file://{examples[0].file}#m8")
+            browser.open(f"file://{examples[0].file}")
+            browser.press("Home")
+            browser.press("j", 7)
             for scheme in ("light", "dark"):
                 browser.picture(f"{show.TOP}/docs/show-{scheme}.png", 1100, 900, scheme)
     print("\n".join(bad) or f"{len(pages)} pages say what the machine does")

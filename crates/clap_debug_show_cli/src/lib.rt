@@ -72,7 +72,7 @@ fn answer_to<'a, H: Shelf>(
     let Some(name) = call.page else {
         return Ok(Answer::Shown(shown));
     };
-    let page = shown.page(alloc)?;
+    let page = shown.page(alloc, call.program)?;
     keep(alloc, shelf, name, page.as_bytes())?;
     Ok(Answer::PageKept)
 }

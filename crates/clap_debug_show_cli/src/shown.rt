@@ -53,12 +53,12 @@ impl Shown {
         }
     }
 
-    /// As a page for a browser.
-    pub(crate) fn page(&self, alloc: Global) -> Result<String, AllocError> {
+    /// As a page for a browser, in whose title the program is named so.
+    pub(crate) fn page(&self, alloc: Global, name: &str) -> Result<String, AllocError> {
         let program = self.program();
         match &self.story {
-            Story::Moves(schedule, told) => schedule_page(alloc, program, schedule, told),
-            Story::Ways(log, paths) => log_page(alloc, program, log, paths),
+            Story::Moves(schedule, told) => schedule_page(alloc, name, program, schedule, told),
+            Story::Ways(log, paths) => log_page(alloc, name, program, log, paths),
         }
     }
 

@@ -8,15 +8,17 @@ use show_words::{Program, Went, ending_words, walk_title, walk_words};
 use std::alloc::{AllocError, Global};
 
 /// The page of a log: a lane for each thread, with the lines that it went along and the outcomes of its branches.
+/// The title names the program so.
 pub fn log_page(
     alloc: Global,
+    name: &str,
     program: Program<'_>,
     log: &Log,
     paths: &Paths,
 ) -> Result<String, AllocError> {
     let mut out = String::new(alloc);
     let model = log.model().name();
-    let title = format!(in alloc; "a log recorded under {model}")?;
+    let title = format!(in alloc; "{name}: a log recorded under {model}")?;
     push_top(&mut out, "ways", title.as_str())?;
     push_end(
         &mut out,

@@ -47,9 +47,11 @@ const KEYS: &str = r#"<dialog id="keys" aria-labelledby="keys-title">
 "#;
 
 /// The page of a schedule's moves: a lane for each thread, time downwards, an arrow from the store to each load that took its
-/// value and from each store's issue to its drain, and memory and buffers after the move that one selects.
+/// value and from each store's issue to its drain, and memory and buffers after the move that one selects. The title names the
+/// program so.
 pub fn schedule_page(
     alloc: Global,
+    name: &str,
     program: Program<'_>,
     schedule: &Schedule,
     told: &Told,
@@ -63,7 +65,9 @@ pub fn schedule_page(
         }
     }
     let mut out = String::new(alloc);
-    let title = title(alloc, schedule, told, moves.switches())?;
+    let numbers = numbers(alloc, told, moves.switches())?;
+    let model = schedule.model.name();
+    let title = format!(in alloc; "{name} under {model}: {numbers}")?;
     push_top(&mut out, "moves", title.as_str())?;
     let is_failure = matches!(told.end, End::Failed | End::Deadlock);
     push_end(
@@ -84,18 +88,12 @@ pub fn schedule_page(
     Ok(out)
 }
 
-/// The title, with the model and the numbers of moves and switches.
-fn title(
-    alloc: Global,
-    schedule: &Schedule,
-    told: &Told,
-    switches: usize,
-) -> Result<String, AllocError> {
-    let model = schedule.model.name();
+/// How many moves and switches there are, in words.
+fn numbers(alloc: Global, told: &Told, switches: usize) -> Result<String, AllocError> {
     let count = told.rows.len();
     let moves = if count == 1 { "move" } else { "moves" };
     let times = if switches == 1 { "switch" } else { "switches" };
-    format!(in alloc; "{count} {moves} under {model}, {switches} {times}")
+    format!(in alloc; "{count} {moves}, {switches} {times}")
 }
 
 /// Adds the lanes with their rows.

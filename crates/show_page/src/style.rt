@@ -3,7 +3,8 @@
 /// The style sheet: in light and in dark, on narrow screens, and on paper.
 pub(crate) const STYLE: &str = r#"
 :root { color-scheme: light dark; --ink: #1c2128; --faint: #606b78; --paper: #ffffff; --card: #f4f6f8;
-  --edge: #d3dae1; --take: #0a5bb5; --drain: #a8480f; --mark: #fff1b8; --fail: #b3261e; --failed: #fdeceb; }
+  --edge: #d3dae1; --take: #0a5bb5; --drain: #a8480f; --mark: #fff1b8; --fail: #b3261e; --failed: #fdeceb;
+  --number: 3rem; --lane: 12rem; --gap: 1.75rem; }
 @media (prefers-color-scheme: dark) { :root { --ink: #e3e7ec; --faint: #97a3b0; --paper: #13171b; --card: #1d2329;
   --edge: #39424c; --take: #73b5ff; --drain: #f2a26b; --mark: #413a12; --fail: #ff8a80; --failed: #3a1c1b; } }
 * { box-sizing: border-box; }
@@ -24,7 +25,10 @@ td, th { border-bottom: 1px solid var(--edge); padding: .15rem .4rem; text-align
 select, button { font: inherit; color: inherit; background: var(--card); border: 1px solid var(--edge);
   border-radius: 4px; padding: .15rem .5rem; max-width: 20rem; }
 :focus-visible { outline: 2px solid var(--take); outline-offset: 1px; }
-.who, #said { position: absolute; width: 1px; height: 1px; overflow: hidden; clip-path: inset(50%); white-space: nowrap; }
+#said { position: absolute; width: 1px; height: 1px; overflow: hidden; clip-path: inset(50%); white-space: nowrap; }
+
+/* Read out, but not seen: of each row, and so cheaper than what is cut off. */
+.who { float: left; font-size: 0; line-height: 0; }
 
 /* A window as high as the screen, in which the lanes and the state scroll. */
 .moves { display: flex; flex-direction: column; height: 100vh; height: 100dvh; }
@@ -32,17 +36,16 @@ select, button { font: inherit; color: inherit; background: var(--card); border:
 .tools { display: flex; flex-wrap: wrap; align-items: baseline; gap: .3rem 1rem; margin-bottom: .6rem; color: var(--faint); }
 .tools p { margin: 0; }
 main { flex: 1; min-height: 20rem; display: flex; gap: 1.5rem; }
-#run { flex: 1; min-width: 0; overflow: auto; scroll-padding: 3rem 1rem 4rem 4.5rem; }
-#sheet { position: relative; min-width: calc(3rem + var(--lanes) * 13.75rem); padding: 0 .25rem 1rem 0; }
-aside { width: 17rem; flex: none; overflow: auto; }
+#run { flex: 1; min-width: 0; overflow: auto; contain: strict; scroll-padding: 3rem 1rem 4rem 5rem; }
+#sheet { position: relative; isolation: isolate; min-width: calc(var(--number) + var(--lanes) * (var(--lane) + var(--gap))); padding: 0 .25rem 1rem 0; }
+aside { width: 17rem; flex: none; overflow: auto; contain: content; }
 
-.row { display: grid; grid-template-columns: 3rem repeat(var(--lanes), minmax(12rem, 1fr)); column-gap: 1.75rem; }
+.row { display: grid; grid-template-columns: var(--number) repeat(var(--lanes), minmax(var(--lane), 1fr)); column-gap: var(--gap); }
 .row[hidden] { display: none; }
-.row > .n { position: sticky; left: 0; z-index: 2; background: var(--paper); color: var(--faint); text-align: right;
-  padding: .35rem 0; font-variant-numeric: tabular-nums; }
+.row > .n { color: var(--faint); text-align: right; padding: .35rem 0; font-variant-numeric: tabular-nums; }
 .head { position: sticky; top: 0; z-index: 3; background: var(--paper); margin-bottom: .3rem; }
 .head > [data-lane] { font-weight: 600; padding: .35rem .5rem; border-bottom: 2px solid var(--edge); overflow-wrap: anywhere; }
-.deed { position: relative; z-index: 1; background: var(--card); border: 1px solid var(--edge); border-radius: 5px;
+.deed { background: var(--card); border: 1px solid var(--edge); border-radius: 5px;
   margin: .15rem 0; padding: .25rem .5rem; min-width: 0; overflow-wrap: anywhere; }
 #moves > .row { cursor: pointer; }
 .deed > code { display: block; color: var(--faint); }
@@ -52,9 +55,10 @@ aside { width: 17rem; flex: none; overflow: auto; }
 .row.fail .deed { border-color: var(--fail); background: var(--failed); font-weight: 600; }
 .row[aria-current] .deed { border-color: var(--take); box-shadow: 0 0 0 1px var(--take); }
 .row.at .deed { background: var(--mark); border-color: var(--take); border-style: solid; color: inherit; }
+.row.fail .deed { border-left: 4px solid var(--fail); }
 .row.at > .n { color: var(--ink); font-weight: 600; }
 
-#arrows { position: absolute; left: 0; top: 0; pointer-events: none; }
+#arrows { position: absolute; left: 0; top: 0; z-index: -1; pointer-events: none; }
 #arrows path { fill: none; stroke-width: 1.4; opacity: .55; }
 #arrows .take { stroke: var(--take); }
 #arrows .drain { stroke: var(--drain); stroke-dasharray: 4 3; }
@@ -81,6 +85,7 @@ dialog form { margin-top: .8rem; text-align: right; }
 .went { color: var(--take); padding-left: .8rem; }
 
 @media screen and (max-width: 56rem) {
+  :root { --number: 2.2rem; --lane: 10.5rem; --gap: 1.25rem; }
   body { padding: .6rem .75rem; }
   .moves > pre { max-height: 6.5rem; }
   .tools p { display: none; }
@@ -100,9 +105,9 @@ dialog form { margin-top: .8rem; text-align: right; }
   .tools, .key, .key ~ *, aside h2:has(+ .key) { display: none; }
   main { flex-direction: column-reverse; gap: 1rem; }
   aside { width: auto; }
-  #run, aside { overflow: visible; }
+  #run, aside { overflow: visible; contain: none; }
   #sheet { min-width: 0; }
-  .head, .row > .n { position: static; }
+  .head { position: static; }
   .row { grid-template-columns: 2rem repeat(var(--lanes), minmax(0, 1fr)); column-gap: 1rem; break-inside: avoid; }
   .deed { break-inside: avoid; }
   .row.later .deed { border-style: solid; color: inherit; }
