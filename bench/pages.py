@@ -37,7 +37,7 @@ int y;
 mutex m;
 thread count() {
     int i;
-    while (i < 60) {
+    while (i < 100) {
         lock(m);
         x = x + 1;
         unlock(m);

@@ -56,7 +56,7 @@ aside { width: 17rem; flex: none; overflow: auto; contain: content; }
 .row[aria-current] .deed { border-color: var(--take); box-shadow: 0 0 0 1px var(--take); }
 .row.at .deed { background: var(--mark); border-color: var(--take); border-style: solid; color: inherit; }
 .row.fail .deed { border-left: 4px solid var(--fail); }
-.row.at > .n { color: var(--ink); font-weight: 600; }
+.row.at > .n { color: var(--ink); }
 
 #arrows { position: absolute; left: 0; top: 0; z-index: -1; pointer-events: none; }
 #arrows path { fill: none; stroke-width: 1.4; opacity: .55; }
