@@ -1,20 +1,35 @@
--- How many variables and clauses the clauses of a formula take at most.
+-- How many variables, and how many clauses, the clauses of a formula take at most.
 use Rattle.std.specs.Prelude.{ℕ, ◌+◌, ◌*◌, List, length, sum_by}
 use Rattle.order_formula.specs.declared.formula.Body.{Body}
 use Rattle.order_formula.specs.declared.formula.Body.TheVariants as body
 use Rattle.order_formula.specs.declared.formula.Conjunct.{Conjunct}
-use Rattle.order_formula.specs.Formulas.{case_nodes}
+use Rattle.order_formula.specs.declared.literal.Atom.{Atom}
+use Rattle.order_formula.specs.declared.literal.Atom.TheVariants.{Before, Ends, Test}
+use Rattle.order_formula.specs.declared.literal.Literal.{Literal}
 use Rattle.sym_terms.specs.declared.node.Node.{Node}
-use Rattle.bit_ops.specs.declared.TheConstants.{MOST}
 use Rattle.bit_order.specs.Comparators as order
 use Rattle.bit_order.specs.Layouts.{Layout}
+use Rattle.bit_terms.specs.Sizes.{terms_size}
+
+-- that a word isn't 0 takes gates; the literals of an order are there
+abbrev pub atom_size : Atom → ℕ
+atom_size (Before _ _) = 0
+atom_size (Ends _ _) = 0
+atom_size (Test _) = 96
+
+-- a gate more for each literal of a case, and for each case
+abbrev pub literal_size : Literal → ℕ
+literal_size l = atom_size l.atom + 3
+
+abbrev pub case_size : List Literal → ℕ
+case_size literals = sum_by literal_size literals + 3
 
 -- a read of so many candidates: a clause for every two, and 64 for the value of each
 abbrev pub read_size : ℕ → ℕ
 read_size candidates = (candidates + 1) * (candidates + 170)
 
 abbrev pub body_size : Body → ℕ
-body_size (body.Any cases) = 100 * sum_by case_nodes cases
+body_size (body.Any cases) = sum_by case_size cases
 body_size (body.Read r) = read_size (length r.candidates)
 
 abbrev pub bodies_size : List Conjunct → ℕ
@@ -26,4 +41,4 @@ size_of formula = sum_by (λ c. body_size c.body + 1) formula
 
 -- those of an order, of terms and of a formula together
 abbrev pub whole_size : Layout → List Node → List Conjunct → ℕ
-whole_size y nodes formula = order.size_of y + MOST * length nodes + size_of formula
+whole_size y nodes formula = order.size_of y + terms_size nodes + size_of formula

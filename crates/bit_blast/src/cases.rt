@@ -1,11 +1,12 @@
 //! The literals of conjuncts that have cases.
-ghost use Rattle.std.specs.Prelude.{◌≡◌, ◌<◌, ◌≤◌, ◌*◌, length, sum_by, IfOk, OnOk};
+ghost use Rattle.std.specs.Prelude.{◌≡◌, ◌<◌, ◌≤◌, length, sum_by, IfOk, OnOk};
 ghost use Rattle.std.specs.List.{All};
 ghost use Rattle.cnf_core.specs.Clauses.{var_of};
 ghost use Rattle.bit_gates.specs.Folded.{HasRoom, IsLarger};
-ghost use Rattle.order_formula.specs.Formulas.{AtomIsOf, LiteralIsOf, case_nodes};
+ghost use Rattle.order_formula.specs.Formulas.{AtomIsOf, LiteralIsOf};
 ghost use Rattle.bit_blast.specs.Cases.{atom_made, literal_made, case_made, cases_made};
 ghost use Rattle.bit_blast.specs.Layered.{parts_of};
+ghost use Rattle.bit_blast.specs.Sizes.{atom_size, literal_size, case_size};
 ghost use Rattle.bit_blast.specs.helpers.Within.{ArePartsWithin};
 
 use bit_gates::{and, constant, or};
@@ -26,11 +27,11 @@ pub(crate) fn some_case(
     requires one { 0 < cnf.old.vars }
     requires parts { ArePartsWithin cnf.old.vars (parts_of layout.now words.now) }
     requires terms { All (All (LiteralIsOf (length words.now))) cases.now }
-    requires room { HasRoom (100 * sum_by case_nodes cases.now) cnf.old }
+    requires room { HasRoom (sum_by case_size cases.now) cnf.old }
     ensures literal { IfOk result (λ l. l ≡ (cases_made (parts_of layout.now words.now) cnf.old cases.now).literal) }
     ensures formula { OnOk result (cnf.new ≡ (cases_made (parts_of layout.now words.now) cnf.old cases.now).formula) }
     ensures within { IfOk result (λ l. var_of l ≤ cnf.new.vars) }
-    ensures larger { OnOk result (IsLarger (100 * sum_by case_nodes cases.now) cnf.old cnf.new) }
+    ensures larger { OnOk result (IsLarger (sum_by case_size cases.now) cnf.old cnf.new) }
 {
     let mut some = constant(false);
     for case in cases {
@@ -50,11 +51,11 @@ fn whole_case(
     requires one { 0 < cnf.old.vars }
     requires parts { ArePartsWithin cnf.old.vars (parts_of layout.now words.now) }
     requires terms { All (LiteralIsOf (length words.now)) literals.now }
-    requires room { HasRoom (99 * length literals.now) cnf.old }
+    requires room { HasRoom (sum_by literal_size literals.now) cnf.old }
     ensures literal { IfOk result (λ l. l ≡ (case_made (parts_of layout.now words.now) cnf.old literals.now).literal) }
     ensures formula { OnOk result (cnf.new ≡ (case_made (parts_of layout.now words.now) cnf.old literals.now).formula) }
     ensures within { IfOk result (λ l. var_of l ≤ cnf.new.vars) }
-    ensures larger { OnOk result (IsLarger (99 * length literals.now) cnf.old cnf.new) }
+    ensures larger { OnOk result (IsLarger (sum_by literal_size literals.now) cnf.old cnf.new) }
 {
     let mut all = constant(true);
     for literal in literals {
@@ -73,11 +74,11 @@ fn literal_of(
     requires one { 0 < cnf.old.vars }
     requires parts { ArePartsWithin cnf.old.vars (parts_of layout.now words.now) }
     requires terms { LiteralIsOf (length words.now) literal }
-    requires room { HasRoom 96 cnf.old }
+    requires room { HasRoom (atom_size literal.atom) cnf.old }
     ensures literal { IfOk result (λ l. l ≡ (literal_made (parts_of layout.now words.now) cnf.old literal).literal) }
     ensures formula { OnOk result (cnf.new ≡ (literal_made (parts_of layout.now words.now) cnf.old literal).formula) }
     ensures within { IfOk result (λ l. var_of l ≤ cnf.new.vars) }
-    ensures larger { OnOk result (IsLarger 96 cnf.old cnf.new) }
+    ensures larger { OnOk result (IsLarger (atom_size literal.atom) cnf.old cnf.new) }
 {
     let here = atom(cnf, layout, words, literal.atom)?;
     Ok(if literal.wanted {
@@ -91,11 +92,11 @@ fn atom(cnf: &mut Cnf, layout: &Layout, words: &[Word], atom: Atom) -> Result<Li
     requires one { 0 < cnf.old.vars }
     requires parts { ArePartsWithin cnf.old.vars (parts_of layout.now words.now) }
     requires terms { AtomIsOf (length words.now) atom }
-    requires room { HasRoom 96 cnf.old }
+    requires room { HasRoom (atom_size atom) cnf.old }
     ensures literal { IfOk result (λ l. l ≡ (atom_made (parts_of layout.now words.now) cnf.old atom).literal) }
     ensures formula { OnOk result (cnf.new ≡ (atom_made (parts_of layout.now words.now) cnf.old atom).formula) }
     ensures within { IfOk result (λ l. var_of l ≤ cnf.new.vars) }
-    ensures larger { OnOk result (IsLarger 96 cnf.old cnf.new) }
+    ensures larger { OnOk result (IsLarger (atom_size atom) cnf.old cnf.new) }
 {
     match atom {
         Atom::Before { first, second } => Ok(layout.before(first, second)),

@@ -4,14 +4,14 @@ ghost use Rattle.cnf_core.specs.declared.cnf.TheConstants.{LIMIT};
 ghost use Rattle.order_formula.specs.Formulas.{IsOf};
 ghost use Rattle.order_formula.specs.Orders.{IsOrder};
 ghost use Rattle.bit_gates.specs.Folded.{HasRoom};
-ghost use Rattle.bit_ops.specs.declared.TheConstants.{MOST};
 ghost use Rattle.bit_order.specs.Comparators.{ordered};
 ghost use Rattle.bit_order.specs.Layouts.{base};
+ghost use Rattle.bit_terms.specs.Sizes.{terms_size};
 ghost use Rattle.bit_blast.specs.Sizes.{size_of, whole_size};
 ghost use Rattle.bit_blast.specs.Whole.{load_words, whole};
 
 use crate::roots::{add_formula, formula_size};
-use bit_ops::{MOST, Word};
+use bit_ops::Word;
 use bit_order::Layout;
 use bit_terms::term_words;
 use cnf_core::Cnf;
@@ -25,7 +25,7 @@ pub(crate) fn size(order: &Order, loads: u32, terms: &Terms, formula: &Formula) 
     ensures { result ≡ min (whole_size (record { order = order.now; loads = loads }) terms.now formula.now) (2 ^ 64 - 1) }
 {
     bit_order::size(order, loads)
-        .saturating_add(u64::from(MOST).saturating_mul(terms.len() as u64))
+        .saturating_add(bit_terms::size(terms))
         .saturating_add(formula_size(formula))
 }
 
@@ -62,7 +62,7 @@ fn add_system(
     requires ordered { cnf.old ≡ ordered layout.now }
     requires lawful { IsOrder layout.now.order }
     requires terms { IsOf (length terms.now) formula.now }
-    requires room { HasRoom (MOST * length terms.now + size_of formula.now) cnf.old }
+    requires room { HasRoom (terms_size terms.now + size_of formula.now) cnf.old }
     ensures formula { OnOk result (cnf.new ≡ whole layout.now terms.now formula.now) }
     ensures variables { OnOk result ((base layout.now).vars ≤ cnf.new.vars) }
     ensures roots { OnOk result (length formula.now ≤ length cnf.new.clauses) }

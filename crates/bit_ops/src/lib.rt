@@ -9,6 +9,7 @@ ghost use Rattle.bit_arith.specs.Sums.{minus_word, zeros};
 ghost use Rattle.bit_shift.specs.Shifts.{shifted};
 ghost use Rattle.bit_ops.specs.Laws.{OpsMean};
 ghost use Rattle.bit_ops.specs.Ops.{some_of, differ, kept_where, where_some, where_near, unary_word, binary_word};
+ghost use Rattle.bit_ops.specs.Sizes.{unary_size, binary_size};
 
 use bit_arith::{minus, plus, times};
 use bit_gates::constant;
@@ -21,9 +22,6 @@ use tc_base::{BinOp, UnOp};
 
 /// A word, the lowest bit first.
 pub type Word = [Lit; 32];
-
-/// An operator adds at most so many variables, and at most so many clauses.
-pub const MOST: u32 = 29_200;
 
 /// Wherever the clauses are satisfied, what an operator's circuit makes has the operator's value; and it adds gates alone.
 pub fn ops_mean()
@@ -143,15 +141,42 @@ fn negate<const W: usize>(cnf: &mut Cnf, a: &[Lit; W]) -> Result<[Lit; W], Alloc
     minus(cnf, &[constant(false); W], a)
 }
 
+/// The circuit of an operator over one word adds at most so many variables, and at most so many clauses.
+pub fn unary_size(op: UnOp) -> u32
+    ensures { result ≡ unary_size op }
+{
+    match op {
+        UnOp::Neg => 544,
+        UnOp::Not => 96,
+        UnOp::Inv => 0,
+    }
+}
+
+/// The circuit of an operator over two words adds at most so many variables, and at most so many clauses.
+pub fn binary_size(op: BinOp) -> u32
+    ensures { result ≡ binary_size op }
+{
+    match op {
+        BinOp::Add | BinOp::Sub => 544,
+        BinOp::Mul => 21_504,
+        BinOp::Div => 28_868,
+        BinOp::Rem => 28_864,
+        BinOp::And | BinOp::Or | BinOp::Xor => 128,
+        BinOp::Shl | BinOp::Shr => 1_664,
+        BinOp::Eq | BinOp::Ne => 224,
+        BinOp::Lt | BinOp::Le | BinOp::Gt | BinOp::Ge => 384,
+    }
+}
+
 /// The circuit of an operator over one word.
 pub fn unary(cnf: &mut Cnf, op: UnOp, a: &Word) -> Result<Word, AllocError>
     requires one { 0 < cnf.old.vars }
     requires operand { AreWithin cnf.old.vars a.now }
-    requires room { HasRoom MOST cnf.old }
+    requires room { HasRoom (unary_size op) cnf.old }
     ensures word { IfOk result (λ out. out ≡ (unary_word op cnf.old a.now).word) }
     ensures formula { OnOk result (cnf.new ≡ (unary_word op cnf.old a.now).state) }
     ensures within { IfOk result (λ out. AreWithin cnf.new.vars out) }
-    ensures larger { OnOk result (IsLarger MOST cnf.old cnf.new) }
+    ensures larger { OnOk result (IsLarger (unary_size op) cnf.old cnf.new) }
 {
     match op {
         UnOp::Neg => negate(cnf, a),
@@ -172,11 +197,11 @@ pub fn binary(cnf: &mut Cnf, op: BinOp, a: &Word, b: &Word) -> Result<Word, Allo
     requires one { 0 < cnf.old.vars }
     requires first { AreWithin cnf.old.vars a.now }
     requires second { AreWithin cnf.old.vars b.now }
-    requires room { HasRoom MOST cnf.old }
+    requires room { HasRoom (binary_size op) cnf.old }
     ensures word { IfOk result (λ out. out ≡ (binary_word op cnf.old a.now b.now).word) }
     ensures formula { OnOk result (cnf.new ≡ (binary_word op cnf.old a.now b.now).state) }
     ensures within { IfOk result (λ out. AreWithin cnf.new.vars out) }
-    ensures larger { OnOk result (IsLarger MOST cnf.old cnf.new) }
+    ensures larger { OnOk result (IsLarger (binary_size op) cnf.old cnf.new) }
 {
     match op {
         BinOp::Add => plus(cnf, a, b),

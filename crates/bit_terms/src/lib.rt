@@ -1,7 +1,7 @@
 //! Circuits of terms: a word of 32 literals for each, made once, from the words of the values that the loads take.
 #![tactic(auto)]
 
-ghost use Rattle.std.specs.Prelude.{◌≡◌, ◌<◌, ◌≤◌, ◌*◌, length, IfOk, OnOk};
+ghost use Rattle.std.specs.Prelude.{◌≡◌, ◌<◌, ◌≤◌, ◌-◌, ◌^◌, min, length, IfOk, OnOk};
 ghost use Rattle.std.specs.List.{All};
 ghost use Rattle.sym_terms.specs.Terms.{NamesBelow};
 ghost use Rattle.cnf_core.specs.Clauses.{var_of};
@@ -9,10 +9,11 @@ ghost use Rattle.bit_gates.specs.Folded.{HasRoom, IsLarger};
 ghost use Rattle.bit_words.specs.Words.{AreWithin};
 ghost use Rattle.bit_ops.specs.Ops.{some_of};
 ghost use Rattle.bit_terms.specs.Laws.{TermsMean, NonzeroMeans};
+ghost use Rattle.bit_terms.specs.Sizes.{node_size, terms_size};
 ghost use Rattle.bit_terms.specs.Terms.{constant_word, node_word, term_words, word_at};
 
 use bit_gates::constant;
-use bit_ops::{MOST, Word, binary, unary};
+use bit_ops::{Word, binary, binary_size, unary, unary_size};
 use bit_words::any;
 use cnf_core::{Cnf, Lit};
 use std::alloc::{AllocError, Global};
@@ -28,6 +29,28 @@ pub fn nonzero_means()
     ensures { NonzeroMeans }
 {}
 
+/// The circuits of all terms add at most so many variables, and at most so many clauses; the greatest number where it is more.
+pub fn size(terms: &Terms) -> u64
+    ensures { result ≡ min (terms_size terms.now) (2 ^ 64 - 1) }
+{
+    let mut size: u64 = 0;
+    for node in terms.nodes() {
+        size = size.saturating_add(u64::from(node_size(*node)));
+    }
+    size
+}
+
+/// The circuit of a node adds at most so many variables, and at most so many clauses.
+fn node_size(node: Node) -> u32
+    ensures { result ≡ node_size node }
+{
+    match node {
+        Node::Constant(_) | Node::Symbol(_) => 0,
+        Node::Unary(op, _) => unary_size(op),
+        Node::Binary(op, _, _) => binary_size(op),
+    }
+}
+
 /// A word for each term, in the order of the names, from the words of the values that the loads take. A load past them takes 0.
 ///
 /// Refused for want of memory, with the circuits of some terms made.
@@ -39,11 +62,11 @@ pub fn term_words(
 ) -> Result<Vec<Word>, AllocError>
     requires one { 0 < cnf.old.vars }
     requires symbols { All (AreWithin cnf.old.vars) symbols.now }
-    requires room { HasRoom (MOST * length terms.now) cnf.old }
+    requires room { HasRoom (terms_size terms.now) cnf.old }
     ensures words { IfOk result (λ words. words.items ≡ (term_words terms.now symbols.now cnf.old).words) }
     ensures formula { OnOk result (cnf.new ≡ (term_words terms.now symbols.now cnf.old).formula) }
     ensures within { IfOk result (λ words. All (AreWithin cnf.new.vars) words.items) }
-    ensures larger { OnOk result (IsLarger (MOST * length terms.now) cnf.old cnf.new) }
+    ensures larger { OnOk result (IsLarger (terms_size terms.now) cnf.old cnf.new) }
 {
     let mut words = Vec::with_capacity(alloc, terms.len())?;
     for node in terms.nodes() {
@@ -77,11 +100,11 @@ fn node_word(
     requires names { NamesBelow (length known.now) node }
     requires symbols { All (AreWithin cnf.old.vars) symbols.now }
     requires known { All (AreWithin cnf.old.vars) known.now }
-    requires room { HasRoom MOST cnf.old }
+    requires room { HasRoom (node_size node) cnf.old }
     ensures word { IfOk result (λ word. word ≡ (node_word symbols.now known.now cnf.old node).word) }
     ensures formula { OnOk result (cnf.new ≡ (node_word symbols.now known.now cnf.old node).state) }
     ensures within { IfOk result (λ word. AreWithin cnf.new.vars word) }
-    ensures larger { OnOk result (IsLarger MOST cnf.old cnf.new) }
+    ensures larger { OnOk result (IsLarger (node_size node) cnf.old cnf.new) }
 {
     match node {
         Node::Constant(value) => Ok(constant_word(value)),

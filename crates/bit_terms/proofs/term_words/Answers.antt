@@ -1,10 +1,12 @@
-use Rattle.std.proofs.Common.{◌<◌, ◌+◌, ◌*◌, ℕ, List, ℤ, ap, sym, ◌∙◌, subst, arith, rules, length, take}
+use Rattle.std.proofs.Common.{◌≡◌, ◌<◌, ◌+◌, ℕ, List, ℤ, ap, sym, ◌∙◌, subst, arith, rules, length, take}
 use Rattle.std.specs.List.{All}
 use Rattle.std.proofs.lemmas.List.{length_push}
 use Rattle.std.proofs.lemmas.List.Elements.{All-push}
+use Rattle.std.proofs.lemmas.List.Sums.{sum_by_more}
 use Rattle.cnf_core.specs.Clauses.{Formula}
 use Rattle.bit_words.specs.Words.{AreWithin}
 use Rattle.bit_words.proofs.Loops.{larger_more}
+use Rattle.bit_terms.specs.Sizes.{node_size, terms_size}
 use Rattle.bit_terms.specs.Terms.{Words, node_word, term_words}
 use Rattle.bit_terms.proofs.Loops.{next_words, formula_next, words_next, words_more}
 use Rattle.bit_terms.proofs.term_words.Goals as goal
@@ -28,11 +30,13 @@ loop-node-preserved c =
     let made = c.in_ok-word.ensures.formula ∙ ap (λ ws. (node_word symbols ws g node).state) c.as_slice.ensures.value in
     let of = c.in_ok-word.ensures.word ∙ ap (λ ws. (node_word symbols ws g node).word) c.as_slice.ensures.value in
     let more = c.in_ok-push.ensures.items in
+    let more_size : terms_size (take (i + 1) nodes) ≡ terms_size (take i nodes) + node_size node =
+    sum_by_more node_size nodes i node within ∙ ap (λ n. terms_size (take i nodes) + node_size n) (sym c.node-item.is) in
     record {
       formula = formula_next symbols node m all next g h known c.push.new.self.items word was.formula was.words made of more;
       words = words_next symbols node m all next g h known c.push.new.self.items word was.formula was.words made of more;
       count = ap length more ∙ length_push known word ∙ ap (λ n. n + 1) was.count;
       within = subst (All (AreWithin h.vars)) (sym more)
           (All-push (AreWithin h.vars) known word (words_more g.vars h.vars known c.in_ok-word.ensures.larger.0 was.within) c.in_ok-word.ensures.within);
-      larger = larger_more (29_200 * i) 29_200 (29_200 * (i + 1)) f g h was.larger c.in_ok-word.ensures.larger (omega arith);
+      larger = larger_more (terms_size (take i nodes)) (node_size node) (terms_size (take (i + 1) nodes)) f g h was.larger c.in_ok-word.ensures.larger more_size;
     }

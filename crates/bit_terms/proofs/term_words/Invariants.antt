@@ -1,7 +1,8 @@
-use Rattle.std.proofs.Common.{◌≡◌, ◌*◌, length, take}
+use Rattle.std.proofs.Common.{◌≡◌, length, take}
 use Rattle.std.specs.List.{All}
 use Rattle.bit_gates.specs.Folded.{IsLarger}
 use Rattle.bit_words.specs.Words.{AreWithin}
+use Rattle.bit_terms.specs.Sizes.{terms_size}
 use Rattle.bit_terms.specs.Terms.{term_words}
 use Rattle.bit_terms.proofs.term_words.Given as goal
 
@@ -11,5 +12,5 @@ invariant-loop-node l = record {
   words : l.words.items ≡ (term_words (take l.node-index l.node-items) l.symbols l.initial.cnf).words;
   count : length l.words.items ≡ l.node-index;
   within : All (AreWithin l.cnf.vars) l.words.items;
-  larger : IsLarger (29_200 * l.node-index) l.initial.cnf l.cnf;
+  larger : IsLarger (terms_size (take l.node-index l.node-items)) l.initial.cnf l.cnf;
 }

@@ -1,8 +1,9 @@
-use Rattle.std.proofs.Common.{◌≡◌, ◌≤◌, ◌*◌, take}
+use Rattle.std.proofs.Common.{◌≡◌, ◌≤◌, sum_by, take}
 use Rattle.cnf_core.specs.Clauses.{var_of}
 use Rattle.bit_gates.specs.Folded.{IsLarger}
 use Rattle.bit_blast.specs.Cases.{case_made}
 use Rattle.bit_blast.specs.Layered.{parts_of}
+use Rattle.bit_blast.specs.Sizes.{literal_size}
 use Rattle.bit_blast.proofs.cases.whole_case.Given as goal
 
 abbrev pub invariant-loop-literal : goal.invariant-loop-literal
@@ -10,5 +11,5 @@ invariant-loop-literal l = record {
   formula : l.cnf ≡ (case_made (parts_of l.layout l.words) l.initial.cnf (take l.literal-index l.literals)).formula;
   literal : l.all ≡ (case_made (parts_of l.layout l.words) l.initial.cnf (take l.literal-index l.literals)).literal;
   within : var_of l.all ≤ l.cnf.vars;
-  larger : IsLarger (99 * l.literal-index) l.initial.cnf l.cnf;
+  larger : IsLarger (sum_by literal_size (take l.literal-index l.literals)) l.initial.cnf l.cnf;
 }
