@@ -1,0 +1,13 @@
+use Rattle.std.proofs.Common.{ap, arith, length}
+use Rattle.test_circuits.proofs.Sizes.{unary_most, binary_most}
+use Rattle.test_circuits.proofs.Op.circuit.Goals as goal
+
+pub unary-requires-clause-room : goal.unary-requires-clause-room
+unary-requires-clause-room c =
+    let few = unary_most c.in-Unary.op in
+    (omega (arith, few, c.new-cnf.ensures.vars), omega (arith, few, ap length c.new-cnf.ensures.clauses))
+
+pub binary-requires-clause-room : goal.binary-requires-clause-room
+binary-requires-clause-room c =
+    let few = binary_most c.in-Binary.op in
+    (omega (arith, few, c.new-cnf.ensures.vars), omega (arith, few, ap length c.new-cnf.ensures.clauses))
