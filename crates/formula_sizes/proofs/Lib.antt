@@ -1,0 +1,8 @@
+pub mod Sums
+pub mod Terms
+pub mod Own
+pub mod Loads
+pub mod Sync
+pub mod Waits
+pub mod Walks
+pub mod Whole

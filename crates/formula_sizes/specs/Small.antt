@@ -1,0 +1,46 @@
+-- How large the parts of the formula of a log within the limits are at most, and the circuits of
+-- its terms: in variables, and in clauses.
+use Rattle.std.specs.Prelude.{◌+◌, ◌*◌, ◌≤◌, Bool, List, length, sum_by}
+use Rattle.std.specs.List.{All}
+use Rattle.tc_base.specs.Logs.{Log}
+use Rattle.tc_base.specs.declared.limits.TheConstants.{THREADS, STEPS, EVENTS, OPERATORS}
+use Rattle.tc_code.specs.Code.{Code}
+use Rattle.path_walk.specs.Paths.{Paths, paths_of}
+use Rattle.store_buffers.specs.Pending.{Binding}
+use Rattle.sym_terms.specs.declared.node.Node.{Node}
+use Rattle.sym_exec.specs.Executed.{Symbolic, Executed}
+use Rattle.memory_order.specs.Own.{own_formula, own_needs}
+use Rattle.sync_order.specs.Sync.{sync_formula}
+use Rattle.read_write.specs.Reading.{read_formula, read_needs}
+use Rattle.bit_terms.specs.Sizes.{terms_size}
+use Rattle.bit_blast.specs.Sizes.{size_of}
+
+-- a log with no more threads, steps, events and operators than there may be
+pub record IsWithin (code : Code) (log : Log) : Type 0 where
+  pub threads : length log.threads ≤ THREADS
+  pub steps : All (λ t. t.path.steps ≤ STEPS) log.threads
+  pub events : (paths_of code log).events ≤ EVENTS
+  pub operators : (paths_of code log).operators ≤ OPERATORS
+
+-- The execution of its paths. An operator has 28,868 at most, a test of range 896, and a load of a
+-- compare-and-exchange 1,152, of which a step's 896 are a part.
+pub record IsSmall (x : Executed) : Type 0 where
+  pub loads : x.symbolic.loads ≤ EVENTS
+  pub tests : sum_by (λ c. length c.tests) x.symbolic.threads ≤ THREADS * STEPS
+  pub terms : terms_size x.nodes ≤ 28_868 * OPERATORS + 896 * (THREADS * STEPS) + 256 * EVENTS
+
+module _ (buffered : Bool) (bound : Binding) (code : Code) (paths : Paths) where
+  module _ (symbolic : Symbolic) (nodes : List Node) where
+    -- The conjuncts over its events. Most are about what ends a sleep: for each sleep, each two of
+    -- the events that may end it.
+    pub record HasSmall : Type 0 where
+      pub own : size_of (own_formula buffered bound paths symbolic nodes)
+          ≤ 123 * (EVENTS * EVENTS)
+      pub sync : size_of (sync_formula paths)
+          ≤ 28 * (EVENTS * EVENTS * EVENTS) + 120 * (EVENTS * EVENTS)
+      pub read : size_of (read_formula code paths symbolic nodes)
+          ≤ EVENTS * ((EVENTS + 1) * (EVENTS + 170) + 1)
+      -- and the terms that these need
+      pub own_needs : terms_size (own_needs buffered bound paths symbolic nodes)
+          ≤ 224 * (EVENTS * EVENTS)
+      pub read_needs : terms_size (read_needs code symbolic nodes) ≤ 224 * (EVENTS * EVENTS)

@@ -1,0 +1,31 @@
+//! How large the formula of a log within the limits is at most, in variables and in clauses.
+//!
+//! Each function's clause is a law, and its body does nothing.
+#![tactic(auto)]
+
+ghost use Rattle.std.specs.Prelude.{◌≤◌, ℕ, Bool, List, [], length};
+ghost use Rattle.tc_base.specs.Logs.{Log};
+ghost use Rattle.tc_base.specs.declared.limits.TheConstants.{EVENTS};
+ghost use Rattle.tc_code.specs.Code.{Code};
+ghost use Rattle.path_walk.specs.Paths.{paths_of};
+ghost use Rattle.store_buffers.specs.Pending.{Binding};
+ghost use Rattle.sym_terms.specs.declared.node.Node.{Node};
+ghost use Rattle.sym_exec.specs.Executed.{executed};
+ghost use Rattle.lawful_order.specs.Events.{all_events, all_sleeps};
+ghost use Rattle.formula_sizes.specs.Small.{IsWithin, IsSmall, HasSmall};
+
+/// A log within the limits has few events, sleeps and loads.
+pub fn logs_are_small()
+    ensures events { (code : Code) (log : Log) → IsWithin code log
+        → length (all_events (paths_of code log)) ≤ EVENTS }
+    ensures sleeps { (code : Code) (log : Log) → IsWithin code log
+        → length (all_sleeps (paths_of code log)) ≤ EVENTS }
+    ensures executed { (code : Code) (log : Log) → IsWithin code log
+        → IsSmall (executed code (paths_of code log) []) }
+{}
+
+/// So its conjuncts are small, whatever terms there are.
+pub fn formulas_are_small()
+    ensures { (buffered : Bool) (bound : Binding) (code : Code) (log : Log) (nodes : List Node) → IsWithin code log
+        → HasSmall buffered bound code (paths_of code log) (executed code (paths_of code log) []).symbolic nodes }
+{}
