@@ -5,7 +5,7 @@ answer rests on it.
   hint.py help PROGRAM               the commands and options of a program
   hint.py clash PROGRAM WORD..       ends with 1, and says which, where an output is one of the inputs
   hint.py refusal PROGRAM STATUS WORD..      a line on what was wrong, where it can be told"""
-import dataclasses, difflib, os, sys
+import dataclasses, difflib, os, signal, sys
 
 MODELS = ("sc", "tso", "pso")
 LAST = 2**64 - 1
@@ -221,4 +221,6 @@ def main(what, program, *rest):
 
 
 if __name__ == "__main__":
+    # (a reader may close the pipe before the end, as `head` does)
+    signal.signal(signal.SIGPIPE, signal.SIG_DFL)
     sys.exit(main(*sys.argv[1:]))
