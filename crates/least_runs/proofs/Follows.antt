@@ -1,5 +1,5 @@
 -- What is left of a run without a step that nothing needs is a run.
-use Rattle.std.proofs.Common.{◌≡◌, ◌≢◌, ◌∙◌, inl, inr, ℕ, zero, suc, ◌+◌, ◌<◌, ◌≤◌, ℤ, Bool, true, false, not, ◌&&◌, ◌||◌, cond, nat_lt, List, [], ◌∷◌, ◌++◌}
+use Rattle.std.proofs.Common.{◌≡◌, ◌≢◌, ◌∙◌, inl, inr, ℕ, ◌+◌, ◌<◌, ◌≤◌, ℤ, Bool, true, false, not, ◌&&◌, ◌||◌, cond, nat_lt, List, [], ◌∷◌, ◌++◌}
 use Rattle.std.proofs.Common.{Option, Some, None, refl, sym, ap, ap₂, subst, arith, append_assoc}
 use Rattle.std.specs.Prelude.{is_none, option_map, option_and_then, unwrap_or, ◌==◌}
 use Rattle.std.specs.FinMap as fin
@@ -23,17 +23,17 @@ use Rattle.run_laws.proofs.Names.{tells_names, same_self}
 use Rattle.run_history.specs.History.{Deed, Did, Drained, same, drains, has_drained, pending}
 use Rattle.run_history.specs.Locals.{locals_in}
 use Rattle.run_history.specs.Told.{owner_in, waiting_in, is_step_of, steps_in, failed_in}
-use Rattle.run_history.specs.pending.Deeds.{IsIssuedIn, is_bar_between, has_bar_between, MayDrainNext}
+use Rattle.run_history.specs.pending.Deeds.{IsIssuedIn, is_bar_between, MayDrainNext}
 use Rattle.run_history.proofs.of_pending.Apart.{Named}
 use Rattle.run_history.proofs.of_pending.In.{In, in_append, in_left, in_right, in_at, in_split}
-use Rattle.run_follows.specs.Follow.{seen_in, is_let_in, is_allowed_in, may_do_in, taken_in, OtherIs, IsNextStep, MayFollow, AllFollow, moves_for}
+use Rattle.run_follows.specs.Follow.{seen_in, is_let_in, is_allowed_in, may_do_in, taken_in, OtherIs, IsNextStep, MayFollow, AllFollow}
 use Rattle.run_follows.specs.Logged.{path_by, path_told}
 use Rattle.least_runs.proofs.Reached.{reaches}
 use Rattle.run_follows.proofs.of_deeds.Follow.{first_follow}
 use Rattle.least_runs.proofs.Used.{IsUnused}
 use Rattle.least_runs.proofs.Skips.{skip_any, seam}
 use Rattle.least_runs.proofs.Unseen.{value_still, waiting_still, failed_still, owner_still, steps_still, children_still, pending_still, exited_still}
-use Rattle.least_runs.proofs.Locals.{Agree, StepsApart, children_told, locals_agree}
+use Rattle.least_runs.proofs.Locals.{StepsApart, children_told, locals_agree}
 
 -- who does a step in a list has done one
 done_first : (h : List Deed) (x : Deed) (q : Name) → steps_in (x ∷ h) q ≡ cond (is_step_of q x) 1 0 + steps_in h q
@@ -72,8 +72,7 @@ module _ {B : Type 0} (ops : BufferOps B) (model : Model) (bound : Binding) (cod
 
   apart : StepsApart code n other later
   apart q j s v o i =
-      let done = done_in later q j s v o i in
-      (
+      let done = done_in later q j s v o i in (
         λ e. let none : steps_in later q ≡ 0 = subst (λ m. steps_in later m ≡ 0) (sym e) last in omega (arith, done, none),
         λ e. let none = child_idle r next_step.other_is unused q e in omega (arith, done, none),
       )
@@ -102,7 +101,7 @@ module _ {B : Type 0} (ops : BufferOps B) (model : Model) (bound : Binding) (cod
     let_still q (Acquire m) free may = owner_free m may
     let_still q (EndWait c m) free may =
         let both = and_parts (not (set.contains (waiting_in (older ++ Did n k r took other ∷ front) c) q))
-            (is_none (owner_in (older ++ Did n k r took other ∷ front) m)) may in
+        (is_none (owner_in (older ++ Did n k r took other ∷ front) m)) may in
         and_from (not (set.contains (waiting_in (older ++ front) c) q)) (is_none (owner_in (older ++ front) m))
         (ap (λ ns. not (set.contains ns q)) (sym (waiting_still n k took other later older front r unused c)) ∙ both.0) (owner_free m both.1)
     let_still q (WakeOne c) free may = ap (λ ns. set.len ns == 0) (sym (waiting_still n k took other later older front r unused c)) ∙ may
@@ -118,7 +117,7 @@ module _ {B : Type 0} (ops : BufferOps B) (model : Model) (bound : Binding) (cod
           → is_allowed_in ops.buffered (older ++ Did n k r took other ∷ front) q s ≡ true → is_allowed_in ops.buffered (older ++ front) q s ≡ true
       allowed_still s free may =
           let both = and_parts (not (drains_first s) || is_nil (stores (pending ops.buffered (older ++ Did n k r took other ∷ front) q)))
-              (is_let_in (older ++ Did n k r took other ∷ front) q s) may in
+          (is_let_in (older ++ Did n k r took other ∷ front) q s) may in
           and_from (not (drains_first s) || is_nil (stores (pending ops.buffered (older ++ front) q))) (is_let_in (older ++ front) q s)
           (ap (λ b. not (drains_first s) || b) (sym empty_still) ∙ both.0) (let_still q s free both.1)
 
@@ -265,7 +264,7 @@ module _ {B : Type 0} (ops : BufferOps B) (model : Model) (bound : Binding) (cod
         | inr s ↦
             let front = s.0 in
             let m = all (older ++ Did n k r took other ∷ front) rest d
-                (ap (λ h. older ++ Did n k r took other ∷ h) s.2 ∙ sym (append_assoc older (Did n k r took other ∷ front) (d ∷ rest))) in
+            (ap (λ h. older ++ Did n k r took other ∷ h) s.2 ∙ sym (append_assoc older (Did n k r took other ∷ front) (d ∷ rest))) in
             subst (λ g. (failed_in g ≡ None) × MayFollow ops.buffered bound code g d) (sym s.1)
             (sym (failed_still n k took other later older front r unused) ∙ m.0, still front rest d s.2 m.1)
       ]

@@ -1,10 +1,9 @@
 -- Steps are left out of a run that fails until none can be.
-use Rattle.std.proofs.Common.{◌≡◌, ◌∙◌, ◌⊎◌, inl, inr, ℕ, zero, suc, ◌+◌, ◌≤◌, ◌==◌, ℤ, Bool, true, false, ◌&&◌, List, [], ◌∷◌, ◌++◌, length}
+use Rattle.std.proofs.Common.{◌≡◌, ◌∙◌, ◌⊎◌, inl, inr, ℕ, zero, suc, ◌≤◌, ◌==◌, ℤ, Bool, true, false, ◌&&◌, List, [], ◌∷◌, ◌++◌, length}
 use Rattle.std.proofs.Common.{Option, Some, refl, sym, ap, subst, arith, append-nil, append_assoc}
 use Rattle.std.proofs.lemmas.Bool.{false≢true, and_parts, eqb-true}
 use Rattle.std.proofs.lemmas.List.{length-append}
 use Rattle.tc_base.specs.Buffers.{BufferOps}
-use Rattle.tc_base.specs.Logs.{Path}
 use Rattle.tc_base.specs.Names.{Name}
 use Rattle.tc_base.specs.declared.model.Model.{Model}
 use Rattle.tc_base.specs.declared.request.Request.{Request}
@@ -19,7 +18,7 @@ use Rattle.run_history.specs.Told.{steps_in, failed_in}
 use Rattle.run_follows.specs.Follow.{AllFollow}
 use Rattle.run_follows.specs.Logged.{path_told}
 use Rattle.least_runs.specs.Unused.{is_unused, comes_out}
-use Rattle.least_runs.specs.Least.{is_by, IsLeast, Begins, IsPart, HasLeast}
+use Rattle.least_runs.specs.Least.{is_by, IsLeast, IsPart, HasLeast}
 use Rattle.least_runs.proofs.Used.{unused_is}
 use Rattle.least_runs.proofs.Unseen.{failed_still}
 use Rattle.least_runs.proofs.Follows.{left_follows}
@@ -135,7 +134,7 @@ module _ {B : Type 0} (ops : BufferOps B) (model : Model) (bound : Binding) (cod
       let count = ap length o.there ∙ length-append o.older (deed ∷ o.newer) in
       let count_left = length-append o.older o.newer in
       let rest = shorter left (omega (arith, short, count, count_left))
-          (left_follows ops model bound code laws lawful o.older o.newer o.thread o.number o.asks o.took o.other whole o.last used) still_fails in
+      (left_follows ops model bound code laws lawful o.older o.newer o.thread o.number o.asks o.took o.other whole o.last used) still_fails in
       let part = is_part ops model bound code laws lawful o.older o.newer o.thread o.number o.asks o.took o.other whole o.last used in
       let apart : f ≡ o.thread → ⊥ = λ e. false≢true (sym o.apart ∙ same_self o.thread f (sym e)) in
       record {

@@ -6,3 +6,4 @@ pub mod Locals
 pub mod Follows
 pub mod Part
 pub mod Least
+pub mod Ends

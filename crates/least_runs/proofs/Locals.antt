@@ -1,15 +1,13 @@
 -- What the other threads have to themselves stays as it was.
-use Rattle.std.proofs.Common.{◌≡◌, ◌≢◌, ◌∙◌, inl, inr, ℕ, ◌+◌, ◌<◌, ℤ, cond, List, [], ◌∷◌, ◌++◌, Option, Some, None, refl, sym, ap, ap₂, subst, arith}
-use Rattle.std.specs.Prelude.{option_map, fold}
-use Rattle.std.specs.List.{count_by}
+use Rattle.std.proofs.Common.{◌≡◌, ◌≢◌, ◌∙◌, inl, inr, ℕ, ◌+◌, ℤ, cond, List, [], ◌∷◌, ◌++◌, Option, Some, None, refl, sym, ap, subst}
+use Rattle.std.specs.Prelude.{fold}
 use Rattle.std.specs.Option.{option_map_or}
 use Rattle.std.specs.FinMap as fin
 use Rattle.std.proofs.lemmas.Cmp.{nat_list_cmp_total}
 use Rattle.std.proofs.lemmas.List.Sums.{fold-append}
-use Rattle.std.proofs.lemmas.Option.{none-some, same_Some}
 use Rattle.tc_base.specs.Buffers.{BufferOps}
 use Rattle.tc_base.specs.Names.{Name, ByName, child}
-use Rattle.tc_base.specs.States.{Local, Thread, State}
+use Rattle.tc_base.specs.States.{Local}
 use Rattle.tc_base.specs.declared.model.Model.{Model}
 use Rattle.tc_base.specs.declared.request.Request.{Request}
 use Rattle.tc_base.specs.declared.request.Request.TheVariants.{Silent, Start}
@@ -19,7 +17,7 @@ use Rattle.tc_code.specs.Step.{instr_of}
 use Rattle.tc_code.specs.declared.instr.Instr.{Instr}
 use Rattle.store_buffers.specs.Laws.{Laws}
 use Rattle.store_buffers.specs.Pending.{Binding}
-use Rattle.run_laws.proofs.Names.{same_other, get_put_apart}
+use Rattle.run_laws.proofs.Names.{get_put_apart}
 use Rattle.run_history.specs.History.{Deed, Did, Drained, same}
 use Rattle.run_history.specs.Locals.{after_step, with_child, after_deed, locals_in}
 use Rattle.run_history.specs.Told.{children_in}

@@ -1,18 +1,16 @@
 -- Without its last step a thread has gone the beginning of its path, and the others have gone theirs.
-use Rattle.std.proofs.Common.{◌≡◌, ◌≢◌, ◌∙◌, ◌⊎◌, inl, inr, ℕ, ◌+◌, ◌<◌, ◌≤◌, ℤ, Bool, true, false, cond, List, [], ◌∷◌, ◌++◌, append-nil, append_assoc}
-use Rattle.std.proofs.Common.{IsSome, Option, Some, None, refl, sym, ap, subst, arith}
+use Rattle.std.proofs.Common.{◌≡◌, ◌≢◌, ◌∙◌, ◌⊎◌, inl, inr, ℕ, ◌+◌, ◌<◌, ◌≤◌, ℤ, Bool, cond, List, [], ◌∷◌, ◌++◌, append-nil, append_assoc}
+use Rattle.std.proofs.Common.{Option, Some, None, refl, sym, ap, subst, arith}
 use Rattle.std.specs.Prelude.{option_map, option_and_then}
 use Rattle.std.specs.Option.{option_map_or}
 use Rattle.std.specs.FinMap as fin
-use Rattle.std.specs.List.{count_by}
-use Rattle.std.proofs.lemmas.Bool.{false≢true}
 use Rattle.std.proofs.lemmas.List.{same_from_push}
 use Rattle.std.proofs.lemmas.List.Sums.{fold-append, sum_by-append}
 use Rattle.std.proofs.lemmas.Option.{none-some, same_Some}
 use Rattle.tc_base.specs.Buffers.{BufferOps}
 use Rattle.tc_base.specs.Logs.{Path}
-use Rattle.tc_base.specs.Names.{Name, ByName, main, child}
-use Rattle.tc_base.specs.States.{Local, Thread, State}
+use Rattle.tc_base.specs.Names.{Name, ByName, child}
+use Rattle.tc_base.specs.States.{Local, Thread}
 use Rattle.tc_base.specs.declared.model.Model.{Model}
 use Rattle.tc_base.specs.declared.request.Request.{Request}
 use Rattle.tc_base.specs.declared.request.Request.TheVariants.{Silent, WakeOne, Start, Fail}
@@ -27,7 +25,7 @@ use Rattle.run_laws.proofs.After.{branch_is}
 use Rattle.run_laws.proofs.Basics.{none_unless}
 use Rattle.run_laws.proofs.Created.{reached_is_created}
 use Rattle.run_laws.proofs.Names.{same_or_apart, get_put, get_put_apart, child_apart, child_not_main}
-use Rattle.run_history.specs.History.{Deed, Did, Drained, same}
+use Rattle.run_history.specs.History.{Deed, Did, Drained}
 use Rattle.run_history.specs.Locals.{after_step, with_child, after_deed, locals_in}
 use Rattle.run_history.specs.Told.{is_step_of, steps_in, is_start_of, children_in, fails, failed_in}
 use Rattle.run_history.proofs.Last.{is_last}
@@ -35,10 +33,8 @@ use Rattle.run_history.proofs.Threads.{children_are, none_done}
 use Rattle.run_history.proofs.of_pending.In.{In, in_at}
 use Rattle.run_follows.specs.Follow.{AllFollow, OtherIs, moves_for}
 use Rattle.run_follows.specs.Logged.{path_by, path_told}
-use Rattle.run_follows.proofs.of_deeds.Follow.{first_follow}
 use Rattle.least_runs.specs.Least.{Begins, IsPart}
 use Rattle.least_runs.proofs.Used.{IsUnused}
-use Rattle.least_runs.proofs.Unseen.{failed_still}
 use Rattle.least_runs.proofs.Reached.{Reaches, reaches, still}
 use Rattle.least_runs.proofs.Follows.{done_in, next_step, left_follows, paths_stay}
 

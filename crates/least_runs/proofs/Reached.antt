@@ -1,5 +1,5 @@
 -- Deeds that follow one another are the history of a run, and lead to a state.
-use Rattle.std.proofs.Common.{◌≡◌, ◌∙◌, ℕ, ◌+◌, ◌≤◌, Bool, true, false, ◌||◌, cond, List, [], ◌∷◌, ◌++◌, Option, Some, None, refl, sym, ap, subst, arith, map}
+use Rattle.std.proofs.Common.{◌≡◌, ◌∙◌, ◌+◌, Bool, true, false, ◌||◌, cond, List, ◌++◌, Option, Some, None, refl, sym, ap, subst, arith}
 use Rattle.std.specs.Prelude.{is_some, option_map, option_and_then}
 use Rattle.std.specs.FinMap as fin
 use Rattle.std.specs.List.{filter_map, list_any}
@@ -15,13 +15,13 @@ use Rattle.tc_base.specs.States.{Local, Thread, State}
 use Rattle.tc_base.specs.declared.model.Model.{Model}
 use Rattle.tc_code.specs.Code.{Code}
 use Rattle.tc_code.specs.Lawful.{IsLawful}
-use Rattle.tc_code.specs.Run.{IsReached, run, run_from}
+use Rattle.tc_code.specs.Run.{run, run_from}
 use Rattle.tc_code.proofs.Facts.{run_from-append}
 use Rattle.store_buffers.specs.Laws.{Laws}
 use Rattle.store_buffers.specs.Pending.{Binding}
 use Rattle.run_laws.specs.Alone.{after_steps, taken_from}
 use Rattle.run_laws.proofs.GoesAlone.{threads_go_alone}
-use Rattle.run_history.specs.History.{Deed, same, history}
+use Rattle.run_history.specs.History.{Deed, same}
 use Rattle.run_history.specs.Locals.{locals_in}
 use Rattle.run_history.specs.Told.{creates, is_thread_in, is_step_of, steps_in}
 use Rattle.run_history.proofs.Threads.{number_is}
@@ -88,7 +88,7 @@ module _ {B : Type 0} (ops : BufferOps B) (model : Model) (bound : Binding) (law
       sym (ap (option_and_then (λ u. run_from ops code u (moves_for bound newer))) a.leads)
       ∙ sym (run_from-append ops code _ (moves_for bound older) (moves_for bound newer)) ∙ ap (run ops code) (sym moves) ∙ b.leads in
       let g = threads_go_alone ops code a.state b.state (moves_for bound newer) n x.thread y.0 (record { moves = moves_for bound older; leads = a.leads }) leads
-          x.there y.1 in
+      x.there y.1 in
       let before = number_is ops code a.state older n a.tells.deeds.buffers.threads x.thread x.there in
       let after = number_is ops code b.state (older ++ newer) n b.tells.deeds.buffers.threads y.0 y.1 in
       let count : steps_in (older ++ newer) n ≡ steps_in older n + steps_in newer n = sum_by-append (λ d. cond (is_step_of n d) 1 0) older newer in

@@ -3,17 +3,22 @@
 //! Each function's clause is a law, and its body does nothing.
 #![tactic(auto)]
 
-ghost use Rattle.std.specs.Prelude.{◌≡◌, ◌≢◌, ℕ, ℤ, true, List, ◌∷◌, ◌++◌, Option, Some};
+ghost use Rattle.std.specs.Prelude.{◌≡◌, ◌≢◌, ℕ, ℤ, Bool, true, List, ◌∷◌, ◌++◌, Option, Some};
+ghost use Rattle.std.specs.FinMap as fin;
 ghost use Rattle.tc_base.specs.Buffers.{BufferOps};
-ghost use Rattle.tc_base.specs.Names.{Name};
+ghost use Rattle.tc_base.specs.Names.{Name, child};
+ghost use Rattle.tc_base.specs.States.{Local};
 ghost use Rattle.tc_base.specs.declared.model.Model.{Model};
 ghost use Rattle.tc_base.specs.declared.request.Request.{Request};
+ghost use Rattle.tc_base.specs.declared.request.Request.TheVariants.{Await};
 ghost use Rattle.tc_code.specs.Code.{Code};
 ghost use Rattle.tc_code.specs.Lawful.{IsLawful};
+ghost use Rattle.tc_code.specs.Step.{holds};
 ghost use Rattle.store_buffers.specs.Laws.{Laws};
 ghost use Rattle.store_buffers.specs.Pending.{Binding};
 ghost use Rattle.run_history.specs.History.{Deed, Did};
-ghost use Rattle.run_history.specs.Told.{steps_in, failed_in};
+ghost use Rattle.run_history.specs.Locals.{locals_in};
+ghost use Rattle.run_history.specs.Told.{steps_in, has_exited_in, failed_in};
 ghost use Rattle.run_follows.specs.Follow.{AllFollow};
 ghost use Rattle.run_follows.specs.Logged.{path_told};
 ghost use Rattle.least_runs.specs.Least.{HasLeast};
@@ -41,4 +46,18 @@ pub fn failing_runs_have_least_ones<B>()
     ensures { (ops : BufferOps B) (model : Model) (bound : Binding) (code : Code) (h : List Deed) (f : Name)
         → Laws ops model bound → IsLawful code → AllFollow ops.buffered bound code h → failed_in h ≡ Some f
         → HasLeast ops.buffered bound code h f }
+{}
+
+/// A thread that was joined has exited.
+pub fn joined_threads_have_exited()
+    ensures { (buffered : Bool) (bound : Binding) (code : Code) (older newer : List Deed) (n : Name) (k j : ℕ) (took : ℤ) (other : Option Name)
+        → AllFollow buffered bound code (older ++ Did n k (Await j) took other ∷ newer)
+        → has_exited_in (older ++ Did n k (Await j) took other ∷ newer) (child n j) ≡ true }
+{}
+
+/// Two threads don't hold one mutex.
+pub fn mutexes_have_one_holder<B>()
+    ensures { (ops : BufferOps B) (model : Model) (bound : Binding) (code : Code) (h : List Deed) (n q : Name) (t u : Local) (m : ℕ)
+        → Laws ops model bound → IsLawful code → AllFollow ops.buffered bound code h
+        → fin.get (locals_in code h) n ≡ Some t → fin.get (locals_in code h) q ≡ Some u → holds t m ≡ true → holds u m ≡ true → n ≡ q }
 {}
