@@ -24,7 +24,7 @@ PAGE = TOP / "docs" / "CLAP.md"
 SHARED = {"load", "loadat", "store", "storeat", "swap", "cas"}
 SECONDS = 120
 SIZES = ["bug", "threads", "shared accesses", "events", "log, format 1", "log, format 2", "variables", "clauses"]
-TIMES = ["bug", "model", "seconds", "MB", "switches", "seconds", "fewest", "mended: lines", "seconds", "checked in"]
+TIMES = ["bug", "model", "first: seconds", "MB", "switches", "least: seconds", "switches", "mended: lines", "seconds", "`check`: seconds"]
 
 
 @dataclass
