@@ -5,8 +5,8 @@
 
 It reads each page README.md below examples/, or in the folders that are given, that has a line `<!-- verdicts -->`:
 
-- Each command of a block ```console, after `$ `, is run, and the block is to have its output. A log that a command writes is to be
-  the one of its name in the page's folder.
+- Each command of a block ```console, after `$ `, is run, and the block is to have its output. These commands are to write each log
+  of the page's folder, by its name.
 - Each log of the folder is solved under each model: between `<!-- verdicts -->` and `<!-- end -->` stands whether it is possible, and
   with how few context switches. Schedules are replayed and refutations checked.
 - Each schedule of the folder is to reproduce its log, with as few switches as any.
@@ -110,11 +110,13 @@ class Example:
                 raise Wrong(f"{kept} has {switches_of(kept, log)} switches, and is to have {least}")
 
     def test_logs(self):
-        """Whether the logs that commands have written are those of the folder."""
-        for written in self.room.glob("*.log"):
-            kept = self.folder / written.name
+        """Whether the commands of the page have written the logs of the folder."""
+        for name in sorted({it.name for folder in (self.room, self.folder) for it in folder.glob("*.log")}):
+            written, kept = self.room / name, self.folder / name
+            if not written.exists():
+                raise Wrong(f"no command of the page writes {name}")
             if not kept.exists() or written.read_bytes() != kept.read_bytes():
-                raise Wrong(f"a command of the page writes another {written.name} than {kept}")
+                raise Wrong(f"a command of the page writes another {name}")
 
     def sessions(self, lines):
         """The lines of a page, with what each command prints."""
