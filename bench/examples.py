@@ -5,14 +5,14 @@
 
 It reads each page README.md below examples/, or in the folders that are given, that has a line `<!-- verdicts -->`:
 
-- Each command of a block ```console, after `$ `, is run, and the block is to have its output. These commands are to write each log
-  of the page's folder, by its name.
-- Each log of the folder is solved under each model: between `<!-- verdicts -->` and `<!-- end -->` stands whether it is possible, and
-  with how few context switches. Schedules are replayed and refutations checked.
-- Each schedule of the folder is to reproduce its log, with as few switches as any.
+- It runs each command of a block ```console, after `$ `; the block must have its output. Together these commands must write each
+  log of the page's folder, by its name.
+- It solves each log of the folder under each model: the table between `<!-- verdicts -->` and `<!-- end -->` must say whether the log
+  is possible, and with how few context switches. It replays the schedules and checks the refutations.
+- Each schedule of the folder must reproduce its log, with as few switches as any.
 
-With --rewrite the pages get what comes, and a log without a schedule gets one with the fewest switches. P and S are the built programs
-clap_debug and clap_debug_show; without them the scripts of these names are called, which takes longer. Ends with 1 where a page differs.
+With --rewrite the pages get what comes, and a log without a schedule gets one with the fewest switches. P and S are the built
+programs clap_debug and clap_debug_show; the default is the scripts of these names, which take longer. Ends with 1 if a page differs.
 """
 import argparse
 import difflib
@@ -89,7 +89,8 @@ class Example:
         for log in sorted(self.folder.glob("*.log"), key=lambda it: (it.stem == "mended", it.stem)):
             found = [self.solve(log, model) for model in machine.MODELS]
             self.verdicts[log.stem] = found
-            rows.append(f"| `{log.stem}` | {' | '.join('impossible' if it is None else f'{it} switches' for it in found)} |")
+            cells = ["impossible" if it is None else f"{it} switches" for it in found]
+            rows.append(f"| `{log.stem}` | {' | '.join(cells)} |")
         return rows
 
     def keep_schedules(self):
@@ -98,7 +99,8 @@ class Example:
             out = log.with_suffix(".sched")
             switches = self.verdicts[log.stem][machine.MODELS.index(model_of(log))]
             if not out.exists() and switches is not None:
-                self.programs.run(["./clap_debug", "solve", log.with_suffix(".tc"), log, out, "--least", self.room / "fewer"], self.room)
+                given = [log.with_suffix(".tc"), log, out]
+                self.programs.run(["./clap_debug", "solve", *given, "--least", self.room / "fewer"], self.room)
 
     def test_schedules(self):
         """Whether each schedule reproduces its log with as few switches as any."""
@@ -173,7 +175,7 @@ def test(page, programs, is_rewritten):
         made = Example(page.parent, programs, room_of(folder)).page(text, is_rewritten)
     if made == text:
         return True
-    name = page.relative_to(TOP)
+    name = os.path.relpath(page, TOP)
     print(*difflib.unified_diff(text.split("\n"), made.split("\n"), f"{name}", f"{name}, as it comes", lineterm=""), sep="\n")
     if is_rewritten:
         page.write_text(made)
@@ -193,13 +195,16 @@ def main():
     parser.add_argument("--show", default=TOP / "clap_debug_show")
     parser.add_argument("folders", nargs="*", default=[TOP / "examples"])
     given = parser.parse_args()
+    for program in (given.program, given.show):
+        if not os.access(program, os.X_OK):
+            parser.error(f"there is no program {program}")
     programs = Programs(os.path.abspath(given.program), os.path.abspath(given.show))
     found, wrong = pages_of(given.folders), 0
     for page in found:
         try:
             wrong += not test(page, programs, given.rewrite)
         except Wrong as said:
-            print(f"{page.relative_to(TOP)}: {said}", file=sys.stderr)
+            print(f"{os.path.relpath(page, TOP)}: {said}", file=sys.stderr)
             wrong += 1
     print(f"{len(found)} pages of examples, {wrong} {'rewritten or wrong' if given.rewrite else 'wrong'}")
     return 1 if wrong else 0
