@@ -23,7 +23,7 @@ TOP = Path(__file__).resolve().parent.parent
 PAGE = TOP / "docs" / "CLAP.md"
 SHARED = {"load", "loadat", "store", "storeat", "swap", "cas"}
 SECONDS = 120
-SIZES = ["bug", "threads", "shared accesses", "events", "log, format 1", "log, format 2", "variables", "clauses"]
+SIZES = ["bug", "threads", "shared accesses", "events", "bytes, format 1", "bytes, format 2", "variables", "clauses"]
 TIMES = ["bug", "model", "first: seconds", "MB", "switches", "least: seconds", "switches", "mended: lines", "seconds", "`check`: seconds"]
 
 
