@@ -1,7 +1,8 @@
 -- A failure or a deadlock is that of a normal log.
-use Rattle.std.proofs.Common.{◌≡◌, ◌∙◌, ◌≤◌, ℕ, List, length, Option, Some, None, IsSome, refl, sym, ap, subst, arith}
+use Rattle.std.proofs.Common.{◌≡◌, ◌∙◌, ℕ, Bool, true, List, ◌++◌, length, Option, Some, None, IsSome, refl, sym, ap, subst, arith}
 use Rattle.std.specs.Prelude.{option_map, slice_get, IsSomeAnd}
 use Rattle.std.specs.FinMap as fin
+use Rattle.std.proofs.lemmas.Bool.{leb-true, le-leb}
 use Rattle.std.proofs.lemmas.List.{length-append}
 use Rattle.std.proofs.lemmas.Option.{none-some, same_Some}
 use Rattle.tc_base.specs.Buffers.{BufferOps}
@@ -35,7 +36,7 @@ use Rattle.tc_record.proofs.Paths.{reproduced}
 use Rattle.tc_record.proofs.Reached.{has_threads}
 use Rattle.path_log.specs.Texts.{StoredLog}
 use Rattle.normal_logs.specs.Normal.{IsNormal, IsNormalDeadlock}
-use Rattle.normal_logs.specs.Within.{ComesTo, ReproducesSome}
+use Rattle.normal_logs.specs.Within.{Allowed, at_most, HasBeginnings, ComesTo, ReproducesSome}
 use Rattle.normal_logs.proofs.Reproduced.{fit_together}
 use Rattle.normal_logs.proofs.Least.{used}
 use Rattle.normal_logs.proofs.Deadlock.{caused}
@@ -45,34 +46,33 @@ module _ {B : Type 0} where
   path_of_local None = refl
   path_of_local (Some t) = refl
 
-  -- a path of a state within a bound is within it
-  bounded_by : (s : State B) (most : ℕ) (n : Name) → ((t : Thread B) → fin.get s.threads n ≡ Some t → length t.local.outcomes ≤ most)
-      → (o : Option (Thread B)) → fin.get s.threads n ≡ o → (p : Path) → option_map path_of o ≡ Some p → length p.outcomes ≤ most
-  bounded_by s most n within None here p is = absurd (none-some p is)
-  bounded_by s most n within (Some t) here p is =
-      subst (λ (q : Path). length q.outcomes ≤ most) (same_Some (path_of t) p is) (within t here)
+  -- the path of a thread is allowed where its outcomes are
+  bounded_by : (s : State B) (n : Name) (a : List Bool → Bool) → ((t : Thread B) → fin.get s.threads n ≡ Some t → a t.local.outcomes ≡ true)
+      → (o : Option (Thread B)) → fin.get s.threads n ≡ o → (p : Path) → option_map path_of o ≡ Some p → a p.outcomes ≡ true
+  bounded_by s n a within None here p is = absurd (none-some p is)
+  bounded_by s n a within (Some t) here p is = subst (λ (q : Path). a q.outcomes ≡ true) (same_Some (path_of t) p is) (within t here)
 
-  bounded : (s : State B) (most : ℕ) → ((n : Name) (t : Thread B) → fin.get s.threads n ≡ Some t → length t.local.outcomes ≤ most)
-      → (n : Name) (p : Path) → path_in s n ≡ Some p → length p.outcomes ≤ most
-  bounded s most within n p is = bounded_by s most n (within n) (fin.get s.threads n) refl p is
+  bounded : (s : State B) (n : Name) (a : List Bool → Bool) → ((t : Thread B) → fin.get s.threads n ≡ Some t → a t.local.outcomes ≡ true)
+      → (p : Path) → path_in s n ≡ Some p → a p.outcomes ≡ true
+  bounded s n a within p is = bounded_by s n a within (fin.get s.threads n) refl p is
 
   -- who ends as no failure is stuck
   not_failed : (s : State B) → s.failed ≡ None → (o : Option ThreadPath) → IsSomeAnd o (λ t. s.failed ≡ Some t.name) → ⊥
   not_failed s none None e = absurd e
   not_failed s none (Some t) e = none-some t.name (sym none ∙ e)
 
-module _ {B : Type 0} (ops : BufferOps B) (model : Model) (bound : Binding) (laws : Laws ops model bound) (code : Code) (lawful : IsLawful code) (most : ℕ) where
+module _ {B : Type 0} (ops : BufferOps B) (model : Model) (bound : Binding) (laws : Laws ops model bound) (code : Code) (lawful : IsLawful code) (allowed : Allowed) where
   deadlock_by : (s : State B) (f : Failing) (ts : List ThreadPath) → s.failed ≡ None → EndsAs ops code f ts s → f ≡ failing.Deadlock
   deadlock_by s (failing.Thread k) ts none e = absurd (not_failed s none (slice_get ts k) e)
   deadlock_by s failing.Deadlock ts none e = refl
 
   -- a log that is reproduced leads to a state within its bound
   within_log : (log : Log) (moves : List Move) (again : Reproduces ops code log moves)
-      → ((n : Name) (p : Path) → path_under n log.threads ≡ Some p → length p.outcomes ≤ most)
-      → (n : Name) (t : Thread B) → fin.get again.state.threads n ≡ Some t → length t.local.outcomes ≤ most
+      → ((n : Name) (p : Path) → path_under n log.threads ≡ Some p → allowed n p.outcomes ≡ true)
+      → (n : Name) (t : Thread B) → fin.get again.state.threads n ≡ Some t → allowed n t.local.outcomes ≡ true
   within_log log moves again within n t here = within n (path_of t) (thread_path ops code log moves again n t here)
 
-  pub fails_from : ReproducesSome ops code most model (IsNormal code) → ComesTo ops code most (λ s. IsSome s.failed)
+  pub fails_from : ReproducesSome ops code allowed model (IsNormal code) → ComesTo ops code allowed (λ s. IsSome s.failed)
   fails_from r = record {
     moves = r.moves;
     state = r.again.state;
@@ -81,7 +81,7 @@ module _ {B : Type 0} (ops : BufferOps B) (model : Model) (bound : Binding) (law
     within = within_log r.log r.moves r.again r.within;
   }
 
-  pub stuck_from : ReproducesSome ops code most model (IsNormalDeadlock code) → ComesTo ops code most (IsStuck ops code)
+  pub stuck_from : ReproducesSome ops code allowed model (IsNormalDeadlock code) → ComesTo ops code allowed (IsStuck ops code)
   stuck_from r = record {
     moves = r.moves;
     state = r.again.state;
@@ -91,7 +91,7 @@ module _ {B : Type 0} (ops : BufferOps B) (model : Model) (bound : Binding) (law
   }
 
   -- the log of a deadlock
-  pub stuck_to : ComesTo ops code most (IsStuck ops code) → ReproducesSome ops code most model (IsNormalDeadlock code)
+  pub stuck_to : ComesTo ops code allowed (IsStuck ops code) → ReproducesSome ops code allowed model (IsNormalDeadlock code)
   stuck_to c =
       let x = some_log model c.state (has_threads ops code c.state (record { moves = c.moves; leads = c.leads })) in
       let log = x.0.log in
@@ -106,13 +106,13 @@ module _ {B : Type 0} (ops : BufferOps B) (model : Model) (bound : Binding) (law
           caused = caused ops model bound laws code lawful log x.1.is_log c.moves again dead;
         };
         under = x.1.model;
-        within = λ n p is. bounded c.state most c.within n p (x.1.paths n ∙ is);
+        within = λ n p is. bounded c.state n (allowed n) (c.within n) p (x.1.paths n ∙ is);
         moves = c.moves;
         again = again;
       }
 
   -- the log of a least run
-  module _ (c : ComesTo ops code most (λ s. IsSome s.failed)) (f : Name) (fails : c.state.failed ≡ Some f) where
+  module _ (begins : HasBeginnings allowed) (c : ComesTo ops code allowed (λ s. IsSome s.failed)) (f : Name) (fails : c.state.failed ≡ Some f) where
     abbrev whole : List Deed
     whole = history ops code c.moves
 
@@ -146,15 +146,14 @@ module _ {B : Type 0} (ops : BufferOps B) (model : Model) (bound : Binding) (law
     whole_path : (n : Name) → path_told code whole n ≡ path_in c.state n
     whole_path n = ap (option_map path_by) (told.tells.locals n) ∙ path_of_local (fin.get c.state.threads n)
 
-    within : (n : Name) (p : Path) → path_under n log.threads ≡ Some p → length p.outcomes ≤ most
+    within : (n : Name) (p : Path) → path_under n log.threads ≡ Some p → allowed n p.outcomes ≡ true
     within n p is =
         let goes = (reproduces_as_logged ops model bound code log moves laws lawful again).paths n in
         let b = least.part n p (ap (λ g. path_told code g n) (sym reached.2) ∙ goes ∙ is) in
-        let few = bounded c.state most c.within n b.path (sym (whole_path n) ∙ b.there) in
-        let long = ap length b.outcomes ∙ length-append p.outcomes b.later in
-        omega (arith, few, long)
+        begins n p.outcomes b.later
+        (subst (λ os. allowed n os ≡ true) b.outcomes (bounded c.state n (allowed n) (c.within n) b.path (sym (whole_path n) ∙ b.there)))
 
-    fails_by : ReproducesSome ops code most model (IsNormal code)
+    fails_by : ReproducesSome ops code allowed model (IsNormal code)
     fails_by = record {
       log = log;
       is = record {
@@ -170,5 +169,11 @@ module _ {B : Type 0} (ops : BufferOps B) (model : Model) (bound : Binding) (law
       again = again;
     }
 
-  pub fails_to : ComesTo ops code most (λ s. IsSome s.failed) → ReproducesSome ops code most model (IsNormal code)
-  fails_to c = let f = some_value c.state.failed c.is in fails_by c f.0 f.1
+  pub fails_to : HasBeginnings allowed → ComesTo ops code allowed (λ s. IsSome s.failed) → ReproducesSome ops code allowed model (IsNormal code)
+  fails_to begins c = let f = some_value c.state.failed c.is in fails_by begins c f.0 f.1
+
+-- the first of at most so many are at most so many
+pub few_begin : (most : ℕ) → HasBeginnings (at_most most)
+few_begin most n first later few =
+    let within = leb-true (length (first ++ later)) most few in
+    le-leb (length first) most (omega (arith, within, length-append first later))

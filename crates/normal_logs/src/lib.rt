@@ -13,19 +13,22 @@ ghost use Rattle.tc_code.specs.Run.{IsStuck};
 ghost use Rattle.store_buffers.specs.Laws.{Laws};
 ghost use Rattle.store_buffers.specs.Pending.{Binding};
 ghost use Rattle.normal_logs.specs.Normal.{IsNormal, IsNormalDeadlock};
-ghost use Rattle.normal_logs.specs.Within.{ComesTo, ReproducesSome};
+ghost use Rattle.normal_logs.specs.Within.{Allowed, at_most, HasBeginnings, ComesTo, ReproducesSome};
 
-/// Some moves lead to a failure in which no thread has more than so many outcomes exactly where some moves reproduce a normal
-/// log within this bound, under every memory model.
+/// Some moves lead to a failure in which each thread has allowed outcomes exactly where some moves reproduce a normal log of
+/// which the same holds, under every memory model: where the first of allowed outcomes are allowed too, as with at most so many.
 pub fn failures_have_normal_logs<B>()
-    ensures { (ops : BufferOps B) (model : Model) (bound : Binding) (code : Code) (most : ℕ)
+    ensures allowed { (ops : BufferOps B) (model : Model) (bound : Binding) (code : Code) (allowed : Allowed)
+        → Laws ops model bound → IsLawful code → HasBeginnings allowed
+        → ComesTo ops code allowed (λ s. IsSome s.failed) ↔ ReproducesSome ops code allowed model (IsNormal code) }
+    ensures most { (ops : BufferOps B) (model : Model) (bound : Binding) (code : Code) (most : ℕ)
         → Laws ops model bound → IsLawful code
-        → ComesTo ops code most (λ s. IsSome s.failed) ↔ ReproducesSome ops code most model (IsNormal code) }
+        → ComesTo ops code (at_most most) (λ s. IsSome s.failed) ↔ ReproducesSome ops code (at_most most) model (IsNormal code) }
 {}
 
-/// The same of deadlocks.
+/// The same of deadlocks, whatever is allowed.
 pub fn deadlocks_have_normal_logs<B>()
-    ensures { (ops : BufferOps B) (model : Model) (bound : Binding) (code : Code) (most : ℕ)
+    ensures { (ops : BufferOps B) (model : Model) (bound : Binding) (code : Code) (allowed : Allowed)
         → Laws ops model bound → IsLawful code
-        → ComesTo ops code most (IsStuck ops code) ↔ ReproducesSome ops code most model (IsNormalDeadlock code) }
+        → ComesTo ops code allowed (IsStuck ops code) ↔ ReproducesSome ops code allowed model (IsNormalDeadlock code) }
 {}
