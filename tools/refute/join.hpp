@@ -4,7 +4,7 @@
 
 #include "needed.hpp"
 
-constexpr std::string_view PIECE = "clap-piece 1 ";
+constexpr std::string_view PIECE = "clap-piece 1 ", REFUTATION = "clap-refutation 2 ";
 
 // A clause that was shown, with its number.
 struct Shown {
@@ -49,7 +49,10 @@ class Joiner {
     Clause cube_of(const std::string& path, Lines& lines) const {
         std::string_view line;
         std::vector<int64_t> numbers;
-        const bool is_piece = lines.next(line) && line.substr(0, PIECE.size()) == PIECE && read_numbers(line.substr(PIECE.size()), numbers) &&
+        if (!lines.next(line)) throw Refused(path + ": no piece");
+        // A refutation is the piece of a cube without literals.
+        if (line.substr(0, REFUTATION.size()) == REFUTATION) return {};
+        const bool is_piece = line.substr(0, PIECE.size()) == PIECE && read_numbers(line.substr(PIECE.size()), numbers) &&
                               !numbers.empty() && numbers.back() == 0;
         if (!is_piece) throw Refused(path + ": no piece");
         numbers.pop_back();

@@ -23,7 +23,7 @@ Status 0: OUT is written, and a line says how much is in it. 1: the proof or a p
 
 namespace {
 
-std::string first_line(const std::string& model) { return "clap-refutation 2 " + model + "\n"; }
+std::string first_line(const std::string& model) { return std::string(REFUTATION) + model + "\n"; }
 
 std::string first_line_of_piece(const Clause& cube) {
     std::string line(PIECE);
