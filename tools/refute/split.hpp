@@ -30,7 +30,7 @@ class Splitter {
 
    private:
     // How many questions are tried at first, and how many of these at each cube.
-    static constexpr size_t TRIED = 2000, BEST = 100;
+    static constexpr size_t TRIED = 1000, BEST = 30;
 
     bool extend(Clause& cube, Literal literal) {
         cube.push_back(literal);
