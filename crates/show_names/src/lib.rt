@@ -7,3 +7,4 @@ mod names;
 mod text;
 
 pub use names::Names;
+pub use text::shown;

@@ -1,0 +1,8 @@
+//! Where the words of a text stop being a program's, and which kinds of tokens could stand there.
+#![tactic(auto)]
+
+mod kinds;
+mod stuck;
+
+pub use kinds::ALL_KINDS;
+pub use stuck::{Stuck, find_stuck};

@@ -1,0 +1,90 @@
+//! The first word with which no program goes on, and what could stand in its place.
+ghost use Rattle.std.specs.Prelude.{◌≡◌, ◌↔◌, ◌++◌, ◌∷◌, [], true, IfOk, MatchOption};
+ghost use Rattle.next_tokens.specs.Next.{all_kinds, sample, AreProgram, ArePicked, GoesOnWith, IsStuck};
+
+use crate::kinds::ALL_KINDS;
+use std::alloc::{AllocError, Global};
+use tc_base::Place;
+use tc_lexer::{Token, TokenKind};
+use tc_syntax::{Stop, read_program};
+use tc_tree::Word;
+
+/// Where words stop being a program's.
+#[derive(Debug, Drop)]
+pub struct Stuck {
+    /// How many words stand before the first with which no program goes on.
+    pub place: usize,
+    /// The kinds of tokens that could stand there, in the order of [`ALL_KINDS`].
+    pub kinds: Vec<TokenKind>,
+    /// Whether the text could end there.
+    pub may_end: bool,
+}
+
+/// Where the words stop being a program's, or `None` where they are a program.
+pub fn find_stuck(alloc: Global, words: &[Word]) -> Result<Option<Stuck>, AllocError>
+    ensures { IfOk result (λ stuck. MatchOption stuck (AreProgram words.now) (IsStuck words.now)) }
+{
+    let left = match read_program(alloc, words) {
+        Ok(_) => return Ok(None),
+        Err(Stop::Memory) => return Err(AllocError),
+        Err(Stop::Left(left)) => left,
+    };
+    let place = words.len() - left;
+    let before = &words[..place];
+    Ok(Some(Stuck {
+        place,
+        kinds: kinds_after(alloc, before)?,
+        may_end: is_program(alloc, before)?,
+    }))
+}
+
+/// Of all kinds of tokens those with which a program goes on after these words.
+fn kinds_after(alloc: Global, before: &[Word]) -> Result<Vec<TokenKind>, AllocError>
+    ensures { IfOk result (λ found. ArePicked (GoesOnWith before.now) all_kinds found.items) }
+{
+    let mut found = Vec::new(alloc);
+    let mut rest: &[TokenKind] = &ALL_KINDS;
+    while let [kind, later @ ..] = rest {
+        if goes_on_with(alloc, before, *kind)? {
+            found.push(*kind)?;
+        }
+        rest = later;
+    }
+    Ok(found)
+}
+
+/// Whether some program begins with these words and then a token of this kind.
+fn goes_on_with(alloc: Global, before: &[Word], kind: TokenKind) -> Result<bool, AllocError>
+    ensures { IfOk result (λ goes_on. (goes_on ≡ true) ↔ GoesOnWith before.now kind) }
+{
+    let mut words = before.to_vec(alloc)?;
+    words.push(sample(kind))?;
+    match read_program(alloc, words.as_slice()) {
+        Ok(_) => Ok(true),
+        Err(Stop::Memory) => Err(AllocError),
+        Err(Stop::Left(left)) => Ok(left == 0),
+    }
+}
+
+/// A token of this kind, as the grammar sees it.
+fn sample(kind: TokenKind) -> Word
+    ensures { result ≡ sample kind }
+{
+    Word::new(&Token {
+        kind,
+        start: 0,
+        end: 0,
+        place: Place { line: 1, col: 1 },
+    })
+}
+
+/// Whether the words are a program.
+fn is_program(alloc: Global, words: &[Word]) -> Result<bool, AllocError>
+    ensures { IfOk result (λ is. (is ≡ true) ↔ AreProgram words.now) }
+{
+    match read_program(alloc, words) {
+        Ok(_) => Ok(true),
+        Err(Stop::Memory) => Err(AllocError),
+        Err(Stop::Left(_)) => Ok(false),
+    }
+}

@@ -1,0 +1,61 @@
+//! A line of a text with a caret.
+
+use show_names::shown;
+use std::alloc::{AllocError, Global};
+use tc_base::Place;
+
+/// How many characters of a line are shown before the caret at most.
+const BEFORE: usize = 60;
+
+/// How many characters of a line are shown at most.
+const WIDTH: usize = 100;
+
+/// Adds the line of a place with its number, and a caret under the place.
+pub(crate) fn push_quote(
+    alloc: Global,
+    out: &mut String,
+    text: &[u8],
+    place: Place,
+) -> Result<(), AllocError> {
+    let line = line_at(text, place.line);
+    let column = (place.col as usize).saturating_sub(1).min(line.len());
+    let before = shown(alloc, &line[..column])?.chars().count();
+    let hidden = before.saturating_sub(BEFORE);
+    let number = place.line;
+    let head = format!(in alloc; "{number} | ")?;
+    out.push_str(head.as_str())?;
+    for c in shown(alloc, line)?.chars().skip(hidden).take(WIDTH) {
+        out.push(c)?;
+    }
+    out.push('\n')?;
+    push_blanks(out, head.len().saturating_sub(2))?;
+    out.push_str("| ")?;
+    push_blanks(out, before.saturating_sub(hidden))?;
+    out.push_str("^\n")
+}
+
+/// Adds so many blanks.
+fn push_blanks(out: &mut String, count: usize) -> Result<(), AllocError> {
+    for _ in 0..count {
+        out.push(' ')?;
+    }
+    Ok(())
+}
+
+/// The line of a text with this number, from 1, without its line feed.
+fn line_at(text: &[u8], number: u32) -> &[u8] {
+    let mut rest = text;
+    for _ in 1..number {
+        rest = match line_end(rest) {
+            Some(end) => rest.get(end.saturating_add(1)..).unwrap_or(b""),
+            None => b"",
+        };
+    }
+    let end = line_end(rest).unwrap_or(rest.len());
+    rest.get(..end).unwrap_or(rest)
+}
+
+/// How many bytes stand before the first line feed.
+fn line_end(text: &[u8]) -> Option<usize> {
+    text.iter().position(|byte| *byte == b'\n')
+}
