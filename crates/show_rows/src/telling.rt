@@ -8,7 +8,7 @@ ghost use Rattle.tc_code.specs.Step.{step};
 ghost use Rattle.show_deeds.specs.Deeds.{plain_deed};
 ghost use Rattle.show_deeds.specs.Seen.{at_start, seen_after};
 ghost use Rattle.show_deeds.specs.declared.deed.Deed.TheVariants as deed;
-ghost use Rattle.show_rows.specs.Rows.{deeds};
+ghost use Rattle.show_rows.specs.Rows.{deeds, WasAt};
 ghost use Rattle.show_rows.specs.helpers.SoFar.{IsSoFar};
 
 use crate::row::Row;
@@ -70,7 +70,8 @@ impl Telling {
         requires so_far { IsSoFar M.ops code.now state.now self.now }
         requires enabled { IsSome (step M.ops code.now state.now m.now) }
         requires counters { CountersAreBelowLast state.now }
-        ensures { IfOk result (λ row. deed_of M.ops code.now state.now (deeds self.now.rows.items) m.now ≡ plain_deed row.deed ∷ []) }
+        ensures did { IfOk result (λ row. deed_of M.ops code.now state.now (deeds self.now.rows.items) m.now ≡ plain_deed row.deed ∷ []) }
+        ensures at { IfOk result (WasAt code.now (deeds self.now.rows.items)) }
     {
         let deed = self.deed(code, state, m)?;
         let Some(thread) = thread_of(state, deed.thread()) else {

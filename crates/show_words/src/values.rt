@@ -122,6 +122,7 @@ impl<'a> Values<'a> {
             name,
             value: *value,
             is_local: true,
-        })
+        })?;
+        Ok(())
     }
 }
