@@ -32,7 +32,7 @@ pub(crate) enum Answer<'a> {
     /// The second file is no schedule, from the line of this number on.
     ScheduleRefused(u32),
     /// This is to be shown as text.
-    Shown(Shown),
+    Shown(Shown<'a>),
     /// The page is kept.
     PageKept,
     /// The page couldn't be kept under this name.

@@ -68,7 +68,7 @@ fn answer_to<'a, H: Shelf>(
 {
     let program = fetch(alloc, shelf, What::ProgramBytes, call.program)?;
     let file = fetch(alloc, shelf, What::ScheduleBytes, call.file)?;
-    let shown = read_shown(alloc, &program, &file)?;
+    let shown = read_shown(alloc, call.program, &program, &file)?;
     let Some(name) = call.page else {
         return Ok(Answer::Shown(shown));
     };

@@ -16,7 +16,7 @@ use schedule_file::{Schedule, read_schedule};
 use show_names::Names;
 use show_page::{log_page, schedule_page};
 use show_rows::{Told, tell};
-use show_text::{log_text, schedule_text};
+use show_text::{Detail, log_text, schedule_text};
 use show_words::Program;
 use std::alloc::{AllocError, Global};
 use store_buffers::{PsoModel, Sc, TsoModel};
@@ -37,18 +37,22 @@ pub(crate) enum Story {
 
 /// What a file shows of a program.
 #[derive(Drop)]
-pub(crate) struct Shown {
+pub(crate) struct Shown<'a> {
+    name: &'a str,
     code: Code,
     names: Names,
     story: Story,
 }
 
-impl Shown {
+impl Shown<'_> {
     /// As text.
     pub(crate) fn text(&self, alloc: Global) -> Result<String, AllocError> {
         let program = self.program();
         match &self.story {
-            Story::Moves(schedule, told) => schedule_text(alloc, program, schedule, told),
+            Story::Moves(schedule, told) => {
+                let detail = Detail::Statements;
+                schedule_text(alloc, self.name, program, schedule, told, detail)
+            }
             Story::Ways(log, paths) => log_text(alloc, program, log, paths),
         }
     }
@@ -70,12 +74,13 @@ impl Shown {
     }
 }
 
-/// What a file shows of a program. Of the two that isn't of its form the first is told.
+/// What a file shows of a program of this name. Of the two that isn't of its form the first is told.
 pub(crate) fn read_shown<'a>(
     alloc: Global,
+    name: &'a str,
     program: &[u8],
     file: &[u8],
-) -> Result<Shown, Answer<'a>>
+) -> Result<Shown<'a>, Answer<'a>>
     requires { length program.now ≤ PROGRAM_BYTES }
     ensures shown { IfOk result (IsShown program.now file.now) }
     ensures answer { IfErr result (IsWhyNotShown program.now file.now) }
@@ -86,7 +91,12 @@ pub(crate) fn read_shown<'a>(
     } else {
         schedule_story(alloc, &code, file)?
     };
-    Ok(Shown { code, names, story })
+    Ok(Shown {
+        name,
+        code,
+        names,
+        story,
+    })
 }
 
 /// The code of a program, and what its text calls the parts of that.
