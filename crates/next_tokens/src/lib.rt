@@ -3,6 +3,8 @@
 
 mod kinds;
 mod stuck;
+mod texts;
 
 pub use kinds::ALL_KINDS;
 pub use stuck::{Stuck, find_stuck};
+pub use texts::stuck_of;

@@ -7,10 +7,9 @@ use crate::counts::{count_hint, count_token};
 use crate::expected::expected_words;
 use crate::habits::syntax_hint;
 use crate::names::Fault;
-use crate::quote::push_quote;
+use crate::quote::{legible, push_quote};
 use crate::source::Source;
 use next_tokens::Stuck;
-use show_names::shown;
 use std::alloc::{AllocError, Global};
 use tc_base::Place;
 use tc_lexer::{LexFault, Token, TokenKind, lex};
@@ -87,7 +86,7 @@ fn found_bytes(alloc: Global, fault: &LexFault, rest: &[u8]) -> Result<String, A
     match rest {
         [byte @ (0..=31 | 127..=255), ..] => format!(in alloc; "a byte of value {byte}"),
         _ => {
-            let word = shown(alloc, rest.get(..count).unwrap_or(rest))?;
+            let word = legible(alloc, rest.get(..count).unwrap_or(rest))?;
             format!(in alloc; "`{word}`")
         }
     }

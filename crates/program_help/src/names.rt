@@ -3,8 +3,7 @@
 use crate::foreign::foreign_hint;
 use crate::meanings::{meaning_words, wanted_at};
 use crate::scopes::{Known, Scope, known_names, scope_at};
-use crate::source::Source;
-use show_names::shown;
+use crate::source::{Source, word_of};
 use std::alloc::{AllocError, Global};
 use strsim::levenshtein;
 use tc_base::Place;
@@ -74,22 +73,22 @@ impl<'a> Fault<'a> {
             Scope::Whole => String::from_str(alloc, "the program"),
             Scope::Main => String::from_str(alloc, "main"),
             Scope::Thread(name) => {
-                let thread = shown(alloc, name.text(self.source.text))?;
+                let thread = word_of(self.source.text, &name);
                 format!(in alloc; "thread {thread}")
             }
         }
     }
 
     /// The known name that is written most like this one, if one is.
-    fn nearest(&self, alloc: Global, name: &str) -> Result<Option<String>, AllocError> {
+    fn nearest(&self, alloc: Global, name: &str) -> Result<Option<&'a str>, AllocError> {
         let mut best = None;
-        let mut least = 1 + name.len() / 4;
+        let mut least = (name.len() / 4).saturating_add(1);
         for known in self.known.iter() {
             if known.scope != Scope::Whole && known.scope != self.scope {
                 continue;
             }
-            let other = shown(alloc, known.name.text(self.source.text))?;
-            let distance = levenshtein(alloc, name, other.as_str())?;
+            let other = word_of(self.source.text, &known.name);
+            let distance = levenshtein(alloc, name, other)?;
             if distance <= least {
                 least = distance.saturating_sub(1);
                 best = Some(other);

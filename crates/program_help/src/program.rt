@@ -3,34 +3,38 @@ ghost use Rattle.std.specs.Prelude.{◌≤◌, length};
 ghost use Rattle.tc_base.specs.declared.limits.TheConstants.{PROGRAM_BYTES};
 
 use crate::counts::{longest_stretch, most_open};
-use crate::source::Source;
-use show_names::shown;
+use crate::source::{Source, word_of};
 use std::alloc::{AllocError, Global as Heap};
 use tc_base::limits::{
     BRACKETS, CELLS, CONDITIONS, DEPTH, EVENTS, MUTEXES, OPERATORS, PROGRAM_BYTES, STRETCH, THREADS,
 };
 use tc_code::{Code, Func, Instr};
 use tc_lexer::{Keyword, TokenKind, lex};
-use tc_tree::{Global, Initial, Name, Tree};
+use tc_tree::{Global, Initial, Name, Program};
 
 /// What is said of a program: its globals, its threads, and its limits.
-pub fn describe(alloc: Heap, tree: &Tree, code: &Code) -> Result<String, AllocError>
-    requires { length tree.now.text.now ≤ PROGRAM_BYTES }
+pub fn describe(
+    alloc: Heap,
+    text: &[u8],
+    program: &Program,
+    code: &Code,
+) -> Result<String, AllocError>
+    requires { length text.now ≤ PROGRAM_BYTES }
 {
-    let Ok(tokens) = lex(alloc, tree.text) else {
+    let Ok(tokens) = lex(alloc, text) else {
         return Err(AllocError);
     };
     let source = Source {
-        text: tree.text,
+        text,
         tokens: tokens.as_slice(),
     };
     let mut out = String::new(alloc);
     out.push_str("globals\n")?;
-    for global in &tree.program.globals {
-        push_global(alloc, &mut out, tree.text, global)?;
+    for global in &program.globals {
+        push_global(alloc, &mut out, text, global)?;
     }
     out.push_str("threads\n")?;
-    push_threads(alloc, &mut out, tree, code)?;
+    push_threads(alloc, &mut out, text, program, code)?;
     push_main(alloc, &mut out, source, code)?;
     out.push_str("limits\n")?;
     push_text_limits(alloc, &mut out, source)?;
@@ -53,15 +57,15 @@ fn push_global(
     let (name, words) = match global {
         Global::Int(name, initial) => (name, int_words(alloc, text, name, initial)?),
         Global::Array(name, length) => {
-            let (word, length) = (shown(alloc, name.text(text))?, length.value);
+            let (word, length) = (word_of(text, name), length.value);
             (name, format!(in alloc; "int {word}[{length}]")?)
         }
         Global::Mutex(name) => {
-            let word = shown(alloc, name.text(text))?;
+            let word = word_of(text, name);
             (name, format!(in alloc; "mutex {word}")?)
         }
         Global::Condition(name) => {
-            let word = shown(alloc, name.text(text))?;
+            let word = word_of(text, name);
             (name, format!(in alloc; "cond {word}")?)
         }
     };
@@ -75,7 +79,7 @@ fn int_words(
     name: &Name,
     initial: &Initial,
 ) -> Result<String, AllocError> {
-    let word = shown(alloc, name.text(text))?;
+    let word = word_of(text, name);
     match initial {
         Initial::Zero => format!(in alloc; "int {word} = 0"),
         Initial::Plain(number) => {
@@ -93,15 +97,16 @@ fn int_words(
 fn push_threads(
     alloc: Heap,
     out: &mut String,
-    tree: &Tree,
+    text: &[u8],
+    program: &Program,
     code: &Code,
 ) -> Result<(), AllocError> {
-    for (thread, function) in tree.program.threads.iter().zip(code.functions().iter()) {
-        let name = shown(alloc, thread.name.text(tree.text))?;
+    for (thread, function) in program.threads.iter().zip(code.functions().iter()) {
+        let name = word_of(text, &thread.name);
         let mut words = format!(in alloc; "{name}(")?;
         for (i, parameter) in thread.parameters.iter().enumerate() {
             words.push_str(if i > 0 { ", int " } else { "int " })?;
-            words.push_str(shown(alloc, parameter.text(tree.text))?.as_str())?;
+            words.push_str(word_of(text, parameter))?;
         }
         words.push_str("): ")?;
         words.push_str(function_words(alloc, function)?.as_str())?;

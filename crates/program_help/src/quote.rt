@@ -1,6 +1,5 @@
 //! A line of a text with a caret.
 
-use show_names::shown;
 use std::alloc::{AllocError, Global};
 use tc_base::Place;
 
@@ -19,12 +18,12 @@ pub(crate) fn push_quote(
 ) -> Result<(), AllocError> {
     let line = line_at(text, place.line);
     let column = (place.col as usize).saturating_sub(1).min(line.len());
-    let before = shown(alloc, &line[..column])?.chars().count();
+    let before = legible(alloc, line.get(..column).unwrap_or(line))?.len();
     let hidden = before.saturating_sub(BEFORE);
     let number = place.line;
     let head = format!(in alloc; "{number} | ")?;
     out.push_str(head.as_str())?;
-    for c in shown(alloc, line)?.chars().skip(hidden).take(WIDTH) {
+    for c in legible(alloc, line)?.chars().skip(hidden).take(WIDTH) {
         out.push(c)?;
     }
     out.push('\n')?;
@@ -58,4 +57,19 @@ fn line_at(text: &[u8], number: u32) -> &[u8] {
 /// How many bytes stand before the first line feed.
 fn line_end(text: &[u8]) -> Option<usize> {
     text.iter().position(|byte| *byte == b'\n')
+}
+
+/// Bytes as they are shown: a blank stands for each control character, and a `?` for each character that isn't ASCII.
+pub(crate) fn legible(alloc: Global, bytes: &[u8]) -> Result<String, AllocError> {
+    let mut out = String::new(alloc);
+    for byte in bytes {
+        match *byte {
+            0x20..=0x7e => out.push(*byte as char)?,
+            // (a later byte of a character)
+            0x80..=0xbf => {}
+            0xc0..=0xff => out.push('?')?,
+            _ => out.push(' ')?,
+        }
+    }
+    Ok(out)
 }

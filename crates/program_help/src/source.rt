@@ -16,7 +16,7 @@ impl<'a> Source<'a> {
     /// The token of this number, from 0, as it is written, and nothing past the last one.
     pub(crate) fn word(&self, number: usize) -> &'a str {
         match self.tokens.get(number) {
-            Some(token) => str::from_utf8(name_of(token).text(self.text)).unwrap_or(""),
+            Some(token) => word_of(self.text, &name_of(token)),
             None => "",
         }
     }
@@ -60,6 +60,11 @@ impl<'a> Source<'a> {
             _ => false,
         }
     }
+}
+
+/// A name of a text, which is ASCII.
+pub(crate) fn word_of<'a>(text: &'a [u8], name: &Name) -> &'a str {
+    str::from_utf8(name.text(text)).unwrap_or("")
 }
 
 /// The span of a token.

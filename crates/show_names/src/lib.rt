@@ -7,4 +7,3 @@ mod names;
 mod text;
 
 pub use names::Names;
-pub use text::shown;

@@ -81,7 +81,7 @@ fn trimmed(line: &[u8]) -> &[u8] {
 
 /// Bytes as text: a blank stands for each control character, and where they are no UTF-8, a question mark for each byte that
 /// isn't ASCII.
-pub fn shown(alloc: Global, bytes: &[u8]) -> Result<String, AllocError> {
+pub(crate) fn shown(alloc: Global, bytes: &[u8]) -> Result<String, AllocError> {
     let mut text = String::new(alloc);
     match str::from_utf8(bytes) {
         Ok(whole) => {
