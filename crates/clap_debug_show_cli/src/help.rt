@@ -60,11 +60,7 @@ fn try_help<'a>(alloc: Global, text: &[u8]) -> Result<Answer<'a>, AllocError>
 }
 
 /// Why a text with this fault is no program.
-fn explain_fault<'a>(
-    alloc: Global,
-    text: &[u8],
-    fault: TextFault,
-) -> Result<Answer<'a>, AllocError>
+fn explain_fault<'a>(alloc: Global, text: &[u8], fault: TextFault) -> Result<Answer<'a>, AllocError>
     requires size { length text.now ≤ PROGRAM_BYTES }
     requires refused { IsRefusal text.now fault }
     ensures { IfOk result (IsHelpTo text.now) }

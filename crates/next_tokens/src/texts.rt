@@ -12,11 +12,7 @@ use tc_parser::{ParseFault, TextFault};
 use tc_tree::Word;
 
 /// What could stand at the fault of a text, where it is one of syntax.
-pub fn stuck_of(
-    alloc: Global,
-    text: &[u8],
-    fault: &TextFault,
-) -> Result<Option<Stuck>, AllocError>
+pub fn stuck_of(alloc: Global, text: &[u8], fault: &TextFault) -> Result<Option<Stuck>, AllocError>
     requires size { length text.now ≤ PROGRAM_BYTES }
     requires fault { IsTextFault 3 text.now fault.now }
     ensures { IfOk result (Tells text.now fault.now) }

@@ -3,8 +3,9 @@
 use std::str;
 use tc_lexer::LexFault;
 
-const NO_TEXT: &str = "this is no text: is it the program?";
-const PLAIN: &str = "outside of comments a program has plain letters, digits and signs alone, no typographic ones";
+const NO_TEXT: &str = "this is not text: is it the right file?";
+
+const PLAIN: &str = "outside comments a program has only ASCII letters, digits and signs";
 
 /// What is written in place of bytes that begin no token.
 pub(crate) fn bytes_hint(fault: &LexFault, rest: &[u8]) -> Option<&'static str> {
@@ -19,26 +20,32 @@ pub(crate) fn bytes_hint(fault: &LexFault, rest: &[u8]) -> Option<&'static str> 
 /// What is written in place of the byte at the front.
 fn byte_hint(rest: &[u8]) -> Option<&'static str> {
     if rest.starts_with(b"\xef\xbb\xbf") {
-        return Some("a byte order mark stands there: save the text without it");
+        return Some("this is a byte order mark: save the text without it");
     }
     if rest.starts_with(b"#include") {
-        return Some("there is no `#include`, and nothing to include: leave the line out");
+        return Some("there is nothing to include: leave the line out");
     }
     if rest.starts_with(b"::") {
         return Some("there are no name spaces and no methods");
     }
     let first = *rest.first()?;
     match first {
-        b'#' => Some("there are no macros: leave the line out, and write numbers where they are used"),
-        b'\'' => Some("there are no characters: write the number, 97 for an a"),
-        b'"' => Some("there are no strings"),
-        b'.' => Some("there are no fields, methods and fractions: take variables and arrays of `int`"),
+        b'#' => Some(
+            "there are no macros: leave the line out, and write numbers where they are used",
+        ),
+        b'\'' => Some("there are no character literals: write the number, such as 97 for an a"),
+        b'"' => Some(
+            "there are no strings, and a program prints nothing: store what you want to see, or `assert` it",
+        ),
+        b'.' => Some(
+            "there are no fields, methods or fractions: use variables and arrays of `int`",
+        ),
         b'?' => Some("there is no `? :`: write `if (..) { .. } else { .. }`"),
         b':' => Some("there are no labels and no `? :`"),
-        b'\\' => Some("lines need no `\\` at their end"),
+        b'\\' => Some("no `\\` is needed at the end of a line"),
         0x80..=0xff => Some(PLAIN),
         0..=8 | 14..=31 => Some(NO_TEXT),
-        11 | 12 => Some("blanks are spaces, tabs, carriage returns and line feeds alone"),
+        11 | 12 => Some("only spaces, tabs, carriage returns and line feeds part tokens"),
         _ => None,
     }
 }
@@ -47,12 +54,14 @@ fn byte_hint(rest: &[u8]) -> Option<&'static str> {
 fn number_hint(rest: &[u8]) -> Option<&'static str> {
     let digits = rest.iter().take_while(|byte| byte.is_ascii_digit()).count();
     match rest {
-        [b'0', b'x' | b'X' | b'b' | b'B', ..] => Some("numbers are written in decimal digits"),
-        [b'0', b'0'..=b'9', ..] => Some("a number has no leading zeros"),
+        [b'0', b'x' | b'X' | b'b' | b'B', ..] => Some("write numbers in decimal"),
+        [b'0', b'0'..=b'9', ..] => Some("write the number without leading zeros"),
         _ => match rest.get(digits) {
-            Some(b'u' | b'U' | b'l' | b'L') => Some("a number has no letters behind it: write it without them"),
-            Some(byte) if is_letter(*byte) => Some("a name begins with a letter, and a number has digits alone"),
-            _ => Some("the greatest number is 2147483647, and the least `-2147483647 - 1`"),
+            Some(b'u' | b'U' | b'l' | b'L') => Some("write the number without a suffix"),
+            Some(byte) if is_letter(*byte) => Some(
+                "a name begins with a letter or `_`, and a number has only digits",
+            ),
+            _ => Some("numbers go up to 2147483647; write -2147483648 as `-2147483647 - 1`"),
         },
     }
 }
@@ -64,16 +73,16 @@ fn is_letter(byte: u8) -> bool {
 /// What another kind of file begins with.
 pub(crate) fn kind_of_file(text: &[u8]) -> Option<&'static str> {
     if text.starts_with(b"CLPL") {
-        return Some("this is a log, and no program");
+        return Some("this is a log, not a program");
     }
     if text.starts_with(b"clap-schedule ") {
-        return Some("this is a schedule, and no program");
+        return Some("this is a schedule, not a program");
     }
     if text.starts_with(b"clap-refutation ") {
-        return Some("this is a refutation, and no program");
+        return Some("this is a refutation, not a program");
     }
     if text.starts_with(b"p cnf ") {
-        return Some("this is a list of clauses, and no program");
+        return Some("this is a list of clauses, not a program");
     }
     None
 }

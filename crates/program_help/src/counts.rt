@@ -8,11 +8,13 @@ use tc_parser::What;
 /// Why there is too much of this.
 pub(crate) fn count_hint(what: What) -> &'static str {
     match what {
-        What::Brackets => "so many `(`, `[` and `{` may be open at once: name parts of the expression, or of the loop",
-        What::Stretch => "so many tokens may stand in a row without `;`, `{` and `}`: keep parts of the expression in locals",
-        What::Cells => "an int takes one cell, and an array one for each element",
-        What::Mutexes => "so many mutexes may be declared",
-        What::Conditions => "so many conditions may be declared",
+        What::Brackets =>
+            "too many `(`, `[` and `{` are open here: split the expression or the block",
+        What::Stretch =>
+            "too many tokens follow without `;`, `{` or `}`: keep parts of the expression in locals",
+        What::Cells => "an int takes one cell, an array one for each element",
+        What::Mutexes => "each `mutex` counts, used or not",
+        What::Conditions => "each `cond` counts, used or not",
     }
 }
 
@@ -55,7 +57,11 @@ fn open_after(open: usize, token: &Token) -> usize {
 fn too_long(source: Source) -> Option<usize> {
     let mut length: usize = 0;
     for (i, token) in source.tokens.iter().enumerate() {
-        length = if ends_stretch(token) { 0 } else { length.saturating_add(1) };
+        length = if ends_stretch(token) {
+            0
+        } else {
+            length.saturating_add(1)
+        };
         if length > STRETCH {
             return i.checked_sub(STRETCH);
         }
@@ -86,7 +92,11 @@ pub(crate) fn longest_stretch(source: Source) -> usize {
     let mut length: usize = 0;
     let mut most: usize = 0;
     for token in source.tokens {
-        length = if ends_stretch(token) { 0 } else { length.saturating_add(1) };
+        length = if ends_stretch(token) {
+            0
+        } else {
+            length.saturating_add(1)
+        };
         most = most.max(length);
     }
     most

@@ -49,10 +49,19 @@ fn lex_lines(alloc: Global, text: &[u8], fault: &LexFault) -> Result<String, All
         LexFault::Memory => return Err(AllocError),
     };
     let rest = rest_at(text, place);
-    let mut out = String::new(alloc);
+    let mut out = String::from_str(alloc, "\n")?;
     push_quote(alloc, &mut out, text, place)?;
-    push_line(alloc, &mut out, "found", found_bytes(alloc, fault, rest)?.as_str())?;
-    push_hint(alloc, &mut out, kind_of_file(text).or(bytes_hint(fault, rest)))?;
+    push_line(
+        alloc,
+        &mut out,
+        "found",
+        found_bytes(alloc, fault, rest)?.as_str(),
+    )?;
+    push_hint(
+        alloc,
+        &mut out,
+        kind_of_file(text).or(bytes_hint(fault, rest)),
+    )?;
     Ok(out)
 }
 
@@ -106,7 +115,7 @@ fn parse_lines(
     fault: &ParseFault,
     stuck: Option<&Stuck>,
 ) -> Result<String, AllocError> {
-    let mut out = String::new(alloc);
+    let mut out = String::from_str(alloc, "\n")?;
     match fault {
         ParseFault::Syntax(place) => {
             push_quote(alloc, &mut out, source.text, *place)?;
@@ -137,8 +146,17 @@ fn push_stuck(
     };
     let found = found_token(alloc, source, stuck.place)?;
     push_line(alloc, out, "found", found.as_str())?;
-    push_line(alloc, out, "expected", expected_words(alloc, stuck)?.as_str())?;
-    push_hint(alloc, out, kind_of_file(source.text).or(syntax_hint(source, stuck)))
+    push_line(
+        alloc,
+        out,
+        "expected",
+        expected_words(alloc, stuck)?.as_str(),
+    )?;
+    push_hint(
+        alloc,
+        out,
+        kind_of_file(source.text).or(syntax_hint(source, stuck)),
+    )
 }
 
 /// A token in words.

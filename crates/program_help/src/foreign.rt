@@ -1,25 +1,55 @@
 //! Words that other languages have.
 
-const ONE_TYPE: &str = "`int` is the only type of a variable: 32 bits, with a sign";
-const NO_JUMP: &str = "no statement leaves a loop: let the condition of the `while` say when it ends";
-const NO_WORD: &str = "the word isn't of the language, and nothing stands for it: leave it out";
-const NO_RECORD: &str = "there are no types of one's own: take variables and arrays of `int`";
-const NO_HEAP: &str = "there is no heap and there are no pointers: declare a global, or an array of a fixed length";
+const ONE_TYPE: &str = "`int` is the only type of variables: 32 bits, signed";
+
+const NO_JUMP: &str = "nothing jumps out of a loop: let the condition of the `while` end it";
+
+const NO_WORD: &str = "there is no such word: leave it out";
+
+const NO_RECORD: &str = "there are no types of your own: use variables and arrays of `int`";
+
+const NO_HEAP: &str =
+    "there is no heap and there are no pointers: declare a global, or an array with a fixed length";
+
 const NO_PRINT: &str = "a program prints nothing: store what you want to see, or `assert` it";
-const NO_TRUTH: &str = "there is no such name: write 1 or 0";
-const ATOMIC: &str = "each load and each store of an `int` is one step; `swap`, `cas`, `fence()` and `stbar()` do what is more";
+
+const NO_TRUTH: &str = "there is no such name: write 1 for true, and 0 for false";
+
+const ATOMIC: &str =
+    "each load and each store of an `int` is atomic; `swap`, `cas`, `fence()` and `stbar()` do the rest";
 
 /// Words that people write from habit, or the beginning of some with a `*` behind it, and what is written here.
 static WORDS: [(&str, &str); 56] = [
-    ("for", "there is no `for`: write `i = 0; while (i < n) { .. i = i + 1; }`"),
-    ("do", "there is no `do`: write the body before a `while` too, or let a variable say whether it goes on"),
-    ("return", "there is no `return`: a thread ends at its closing brace, and leaves what it found in a global"),
+    (
+        "for",
+        "there is no `for`: write `i = 0; while (i < n) { .. i = i + 1; }`",
+    ),
+    (
+        "do",
+        "there is no `do`: write the body before the `while` too, or keep a flag that says whether to go on",
+    ),
+    (
+        "return",
+        "there is no `return`: a thread ends at its closing brace, and leaves its result in a global",
+    ),
     ("break", NO_JUMP),
-    ("continue", "there is no `continue`: put the rest of the loop's body under an `if`"),
+    (
+        "continue",
+        "there is no `continue`: put the rest of the loop under an `if`",
+    ),
     ("goto", NO_JUMP),
-    ("switch", "there is no `switch`: write `if (..) { .. } else if (..) { .. }`"),
-    ("case", "there is no `switch`: write `if (..) { .. } else if (..) { .. }`"),
-    ("volatile", "no `volatile`: each read of a global is one load, and each assignment to it one store"),
+    (
+        "switch",
+        "there is no `switch`: write `if (..) { .. } else if (..) { .. }`",
+    ),
+    (
+        "case",
+        "there is no `switch`: write `if (..) { .. } else if (..) { .. }`",
+    ),
+    (
+        "volatile",
+        "there is no `volatile`: each read of a global is one load, and each assignment to it one store",
+    ),
     ("const", NO_WORD),
     ("static", NO_WORD),
     ("extern", NO_WORD),
@@ -41,7 +71,10 @@ static WORDS: [(&str, &str); 56] = [
     ("int16_t", ONE_TYPE),
     ("int32_t", ONE_TYPE),
     ("int64_t", ONE_TYPE),
-    ("void", "there is no `void`: a thread is `thread NAME(int x) { .. }`, and the program ends with `main { .. }`"),
+    (
+        "void",
+        "there is no `void`: write `thread NAME(int x) { .. }` for a thread, and `main { .. }`",
+    ),
     ("struct", NO_RECORD),
     ("union", NO_RECORD),
     ("enum", NO_RECORD),
@@ -55,18 +88,45 @@ static WORDS: [(&str, &str); 56] = [
     ("false", NO_TRUTH),
     ("printf", NO_PRINT),
     ("puts", NO_PRINT),
-    ("atomic_load*", "each read of a global is one load: write its name"),
-    ("atomic_store*", "each assignment to a global is one store: write `x = e;`"),
-    ("atomic_exchange*", "write `r = swap(x, e);`, where r is an int of the body"),
-    ("atomic_compare_exchange*", "write `r = cas(x, old, new);`, where r is an int of the body that takes what x was"),
+    (
+        "atomic_load*",
+        "a read of a global is an atomic load: write its name",
+    ),
+    (
+        "atomic_store*",
+        "an assignment to a global is an atomic store: write `x = e;`",
+    ),
+    (
+        "atomic_exchange*",
+        "write `r = swap(x, e);`, where r is an int of the body",
+    ),
+    (
+        "atomic_compare_exchange*",
+        "write `r = cas(x, old, new);`, where r is an int of the body",
+    ),
     ("atomic_thread_fence", "write `fence();`"),
     ("atomic_*", ATOMIC),
     ("_Atomic", ATOMIC),
-    ("pthread_mutex_*", "a mutex is declared by `mutex m;`, and taken and left by `lock(m);` and `unlock(m);`"),
-    ("pthread_cond_*", "a condition is declared by `cond c;`: `wait(c, m);`, `signal(c);` and `broadcast(c);`"),
-    ("pthread_*", "a thread is begun by `t = create f(..);` with `tid t;`, and `join(t);` waits for its end"),
-    ("usleep", "threads are switched anywhere, so waiting changes nothing: leave it out"),
-    ("sched_yield", "threads are switched anywhere, so waiting changes nothing: leave it out"),
+    (
+        "pthread_mutex_*",
+        "declare `mutex m;`, and write `lock(m);` and `unlock(m);`",
+    ),
+    (
+        "pthread_cond_*",
+        "declare `cond c;`, and write `wait(c, m);`, `signal(c);` and `broadcast(c);`",
+    ),
+    (
+        "pthread_*",
+        "declare `tid t;`, and write `t = create f(..);` and `join(t);`",
+    ),
+    (
+        "usleep",
+        "threads may switch anywhere, so waiting changes nothing: leave it out",
+    ),
+    (
+        "sched_yield",
+        "threads may switch anywhere, so waiting changes nothing: leave it out",
+    ),
 ];
 
 /// Whether a word is this one, or one of those that begin so.

@@ -5,29 +5,58 @@ use crate::source::Source;
 use next_tokens::Stuck;
 use tc_lexer::{Keyword, Sign, TokenKind};
 
-const MAIN: &str = "main has no type and no parentheses: write `main { .. }`";
-const FUNCTION: &str = "there are no functions: a thread is `thread NAME(int x) { .. }`, begun by `t = create NAME(1);`";
+const MAIN: &str = "`main` has no type and no parentheses: write `main { .. }`";
+
+const FUNCTION: &str =
+    "there are no functions: declare `thread NAME(int x) { .. }`, and start it by `t = create NAME(1);`";
+
 const ONE_MORE: &str = "there is no `++`: write `x = x + 1;`";
+
 const ONE_LESS: &str = "there is no `--`: write `x = x - 1;`";
-const UPDATE: &str = "there are no `+=`, `-=` and the like: write `x = x + 2;`";
-const POINTER: &str = "there are no pointers and no fields: take variables and arrays of `int`";
+
+const UPDATE: &str = "there is no `+=` or the like: write `x = x + 2;`";
+
+const POINTER: &str = "there are no pointers and no fields: use variables and arrays of `int`";
+
 const ADDRESS: &str = "there are no addresses: write the name without `&`";
-const ONE_NAME: &str = "each declaration has one name: write `int a; int b;`";
-const NO_VALUE: &str = "a declaration in a body has no value: write `int x;`, and after the declarations `x = 1;`";
-const HANDLE_VALUE: &str = "a declaration has no value: write `tid t;`, and after the declarations `t = create f(1);`";
-const NO_FIRST: &str = "a mutex and a condition have no first value";
-const MUTEX_ARRAY: &str = "there are no arrays of mutexes and conditions: declare each by a name of its own";
-const HANDLE_ARRAY: &str = "there are no arrays of tids: declare each by a name of its own";
-const LOCAL_ARRAY: &str = "an array is a global: declare it before the threads";
+
+const ONE_NAME: &str = "declare one name at a time: `int a; int b;`";
+
+const NO_VALUE: &str =
+    "a declaration in a body has no value: write `int x;`, and `x = 1;` after the declarations";
+
+const HANDLE_VALUE: &str =
+    "a declaration in a body has no value: write `tid t;`, and `t = create f(1);` after the declarations";
+
+const NO_FIRST: &str = "a mutex or a condition has no first value";
+
+const MUTEX_ARRAY: &str =
+    "there are no arrays of mutexes or conditions: declare each under its own name";
+
+const HANDLE_ARRAY: &str = "there are no arrays of tids: declare each under its own name";
+
+const LOCAL_ARRAY: &str = "arrays are global: declare it before the threads";
+
 const LENGTH: &str = "the length of an array is a number";
-const ARRAY_VALUE: &str = "an array has no first values: each element begins with 0";
-const FIRST_VALUE: &str = "a global begins with a number, which may have a `-` before it: compute others in main";
-const ELEMENT: &str = "`swap` and `cas` work on a variable, and on no element of an array";
-const CAS: &str = "`cas` gives what x was: write `r = cas(x, old, new);`, where r is an int of the body";
-const SWAP: &str = "`swap` gives what x was: write `r = swap(x, new);`, where r is an int of the body";
-const CREATE: &str = "`create` gives a tid: write `t = create f(1);`, where `tid t;` is declared in the body";
-const COMPARE: &str = "`=` stores, and `==` compares";
-const CHAIN: &str = "an assignment has no value: write one statement for each";
+
+const ARRAY_VALUE: &str = "an array has no first values: each element begins as 0";
+
+const FIRST_VALUE: &str =
+    "a global begins as a number, with or without `-`: compute anything else in main";
+
+const ELEMENT: &str = "`swap` and `cas` work on a variable, not on an element of an array";
+
+const CAS: &str =
+    "`cas` gives the old value: write `r = cas(x, old, new);`, where r is an int of the body";
+
+const SWAP: &str =
+    "`swap` gives the old value: write `r = swap(x, new);`, where r is an int of the body";
+
+const CREATE: &str = "`create` gives a tid: declare `tid t;`, and write `t = create f(1);`";
+
+const COMPARE: &str = "`=` stores, `==` compares";
+
+const CHAIN: &str = "an assignment has no value: write two statements";
 
 /// Tokens, and what is written in their place. The one with `@` before it is that with which no program goes on; `NAME` is any
 /// name, and `_` any token.
@@ -58,9 +87,15 @@ static HABITS: [(&str, &str); 77] = [
     ("@&", ADDRESS),
     ("int NAME @,", ONE_NAME),
     ("int NAME = _ @,", ONE_NAME),
-    ("tid NAME @,", "each declaration has one name: write `tid a; tid b;`"),
-    ("mutex NAME @,", "each declaration has one name: write `mutex a; mutex b;`"),
-    ("cond NAME @,", "each declaration has one name: write `cond a; cond b;`"),
+    ("tid NAME @,", "declare one name at a time: `tid a; tid b;`"),
+    (
+        "mutex NAME @,",
+        "declare one name at a time: `mutex a; mutex b;`",
+    ),
+    (
+        "cond NAME @,",
+        "declare one name at a time: `cond a; cond b;`",
+    ),
     ("int NAME @=", NO_VALUE),
     ("tid NAME @=", HANDLE_VALUE),
     ("mutex NAME @=", NO_FIRST),
@@ -83,9 +118,18 @@ static HABITS: [(&str, &str); 77] = [
     ("signal ( NAME @[", MUTEX_ARRAY),
     ("broadcast ( NAME @[", MUTEX_ARRAY),
     ("join ( NAME @[", HANDLE_ARRAY),
-    ("wait ( NAME @)", "`wait` takes a condition and the mutex that is held: `wait(c, m);`"),
-    ("] = @cas", "`cas` gives its value to an int of the body: write `r = cas(x, old, new);`, then `a[i] = r;`"),
-    ("] = @swap", "`swap` gives its value to an int of the body: write `r = swap(x, new);`, then `a[i] = r;`"),
+    (
+        "wait ( NAME @)",
+        "`wait` takes a condition and the mutex that is held: `wait(c, m);`",
+    ),
+    (
+        "] = @cas",
+        "`cas` gives its value to an int of the body: write `r = cas(x, old, new);`, then `a[i] = r;`",
+    ),
+    (
+        "] = @swap",
+        "`swap` gives its value to an int of the body: write `r = swap(x, new);`, then `a[i] = r;`",
+    ),
     ("] = @create", HANDLE_ARRAY),
     ("@cas", CAS),
     ("@swap", SWAP),
@@ -95,19 +139,37 @@ static HABITS: [(&str, &str); 77] = [
     ("|| NAME @=", COMPARE),
     ("NAME @==", COMPARE),
     ("= NAME @=", CHAIN),
-    ("thread NAME ( @NAME", "a parameter is written `int NAME`"),
-    ("thread NAME ( @mutex", "a parameter is an int: mutexes and conditions are globals"),
-    ("thread NAME ( @tid", "a parameter is an int: a tid is known in its own body alone"),
-    (", @NAME", "each parameter is written `int NAME`"),
-    ("thread NAME @{", "a thread has parentheses, also without parameters: `thread f() { .. }`"),
+    ("thread NAME ( @NAME", "write `int NAME` for a parameter"),
+    (
+        "thread NAME ( @mutex",
+        "a parameter is an int: mutexes and conditions are global",
+    ),
+    (
+        "thread NAME ( @tid",
+        "a parameter is an int: a tid is known only in its own body",
+    ),
+    (", @NAME", "write `int NAME` for each parameter"),
+    (
+        "thread NAME @{",
+        "a thread has parentheses, even without parameters: `thread f() { .. }`",
+    ),
     ("thread @main", MAIN),
-    ("else @_", "what stands after `else` stands in braces, one statement too, or is another `if`"),
-    ("} @;", "no `;` stands after a closing brace"),
+    (
+        "else @_",
+        "put what follows `else` in braces, even one statement, or write another `if`",
+    ),
+    ("} @;", "no `;` follows a closing brace"),
     ("; @;", "there is no empty statement"),
     ("{ @;", "there is no empty statement"),
-    ("@else", "an `else` stands right after the closing brace of its `if`"),
-    ("@{", "braces stand round the body of a thread, of main, of an `if`, an `else` or a `while`, and nowhere else"),
-    ("@thread", "threads stand after the globals and before main, which is the last"),
+    ("@else", "an `else` follows the closing brace of its `if`"),
+    (
+        "@{",
+        "braces go only around the body of a thread, of main, or of an `if`, `else` or `while`",
+    ),
+    (
+        "@thread",
+        "threads come after the globals and before main, which is last",
+    ),
     ("NAME @(", FUNCTION),
 ];
 
@@ -164,7 +226,8 @@ fn has(stuck: &Stuck, kind: TokenKind) -> bool {
 
 /// A semicolon that may be missing at the end of a line.
 fn line_hint(source: Source, stuck: &Stuck) -> Option<&'static str> {
-    let is_missing = has(stuck, TokenKind::Sign(Sign::Semicolon)) && source.begins_line(stuck.place);
+    let is_missing = has(stuck, TokenKind::Sign(Sign::Semicolon))
+        && source.begins_line(stuck.place);
     if is_missing {
         Some("is a `;` missing at the end of the line before?")
     } else {
@@ -178,20 +241,20 @@ fn declaration_hint(source: Source, stuck: &Stuck) -> Option<&'static str> {
     let is_in_body = has(stuck, TokenKind::Keyword(Keyword::If));
     let is_outside = has(stuck, TokenKind::Keyword(Keyword::Main));
     if word == "tid" && is_outside {
-        return Some("a tid is declared in the body that creates the thread");
+        return Some("declare a tid in the body that creates the thread");
     }
     if word == "int" || word == "tid" {
         if is_in_body {
-            return Some("declarations stand at the head of the thread or of main, before its first statement");
+            return Some("declarations come first in the body of a thread or of main");
         }
     }
     if word == "mutex" || word == "cond" {
         if is_in_body {
-            return Some("mutexes and conditions are globals: declare them before the threads");
+            return Some("mutexes and conditions are global: declare them before the threads");
         }
     }
     if is_outside && (word == "int" || word == "mutex" || word == "cond") {
-        return Some("globals stand before the threads");
+        return Some("globals come before the threads");
     }
     None
 }
@@ -203,16 +266,16 @@ fn brace_hint(source: Source, stuck: &Stuck) -> Option<&'static str> {
         return None;
     }
     if source.word(stuck.place) == ";" {
-        Some("the body stands in braces: one that does nothing is `{ }`")
+        Some("put the body in braces: an empty one is `{ }`")
     } else {
-        Some("the body stands in braces, one statement too: `if (x) { y = 1; }`")
+        Some("put the body in braces, even one statement: `if (x) { y = 1; }`")
     }
 }
 
 /// What is missing at the end of the text.
 fn end_hint(source: Source, stuck: &Stuck) -> Option<&'static str> {
     if stuck.may_end {
-        return Some("main is the last of a program: nothing stands after its closing brace");
+        return Some("main comes last: nothing follows its closing brace");
     }
     if stuck.place < source.tokens.len() {
         return None;

@@ -55,17 +55,25 @@ impl Wanted {
     /// What is written in place of a name that means something else.
     pub(crate) fn hint(self, meaning: Meaning) -> Option<&'static str> {
         match (self, meaning) {
-            (Wanted::Global, _) => Some("`swap` and `cas` work on a global int, not on an element of an array"),
+            (Wanted::Global, _) => Some(
+                "`swap` and `cas` work on a global int, not on an array or a local",
+            ),
             (Wanted::Local, Meaning::Global) => {
-                Some("take what `swap` and `cas` give in an int of the body, and store that")
+                Some("let an int of the body take the old value, and store that")
             }
             (Wanted::Local, Meaning::Parameter) => {
-                Some("a parameter takes no value of `swap` and `cas`: declare an int in the body")
+                Some("a parameter can't take the old value: declare an int in the body")
             }
-            (Wanted::Int, Meaning::Array) => Some("an element of an array is written `a[i]`"),
-            (Wanted::Array, Meaning::Global) => Some("an array is declared with its length: `int a[4];`"),
-            (Wanted::Handle, _) => Some("`create` gives a tid: declare `tid t;` in the body"),
-            (Wanted::Thread, _) => Some("`create` begins a thread of the program: `thread f() { .. }`"),
+            (Wanted::Int, Meaning::Array) => Some("write `a[i]` for an element of an array"),
+            (Wanted::Array, Meaning::Global) => Some(
+                "declare an array with its length: `int a[4];`",
+            ),
+            (Wanted::Handle, _) => Some(
+                "a tid names a created thread: declare `tid t;` in the body",
+            ),
+            (Wanted::Thread, _) => Some(
+                "`create` starts a thread of the program: `thread f() { .. }`",
+            ),
             _ => None,
         }
     }

@@ -22,7 +22,12 @@ pub(crate) struct Fault<'a> {
 
 impl<'a> Fault<'a> {
     /// The name at a place of a program.
-    pub(crate) fn at(alloc: Global, source: Source<'a>, program: &Program, place: Place) -> Result<Fault<'a>, AllocError> {
+    pub(crate) fn at(
+        alloc: Global,
+        source: Source<'a>,
+        program: &Program,
+        place: Place,
+    ) -> Result<Fault<'a>, AllocError> {
         Ok(Fault {
             source,
             number: source.number_at(place),
@@ -59,7 +64,9 @@ impl<'a> Fault<'a> {
         } else if let Some(other) = self.known.iter().find(|known| self.is_named(known)) {
             let line = other.name.place.line;
             let owner = self.owner(alloc, other.scope)?;
-            let hint = format!(in alloc; "hint: the `{name}` of line {line} is known in {owner} alone\n")?;
+            let hint = format!(in alloc;
+                "hint: the `{name}` of line {line} is known only in {owner}\n"
+            )?;
             lines.push_str(hint.as_str())?;
         } else if let Some(near) = self.nearest(alloc, name)? {
             lines.push_str(format!(in alloc; "hint: did you mean `{near}`?\n")?.as_str())?;
@@ -110,9 +117,11 @@ impl<'a> Fault<'a> {
             Some(first) => {
                 let line = first.name.place.line;
                 let meaning = meaning_words(alloc, first.meaning)?;
-                format!(in alloc; "found: the name `{name}`, which is declared in line {line} already, as {meaning}\n")
+                format!(in alloc;
+                    "found: the name `{name}`, already declared in line {line}, as {meaning}\n"
+                )
             }
-            None => format!(in alloc; "found: the name `{name}`, which is declared already\n"),
+            None => format!(in alloc; "found: the name `{name}`, already declared\n"),
         }
     }
 
@@ -147,7 +156,7 @@ impl<'a> Fault<'a> {
         let name = self.name();
         let meaning = meaning_words(alloc, known.meaning)?;
         let line = known.name.place.line;
-        format!(in alloc; "`{name}`, {meaning} that is declared in line {line}")
+        format!(in alloc; "`{name}`, {meaning}, declared in line {line}")
     }
 
     /// How many arguments stand in the parentheses after the name.

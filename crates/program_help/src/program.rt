@@ -116,12 +116,7 @@ fn push_threads(
 }
 
 /// Adds main, which is the last function.
-fn push_main(
-    alloc: Heap,
-    out: &mut String,
-    source: Source,
-    code: &Code,
-) -> Result<(), AllocError> {
+fn push_main(alloc: Heap, out: &mut String, source: Source, code: &Code) -> Result<(), AllocError> {
     let Some(main) = code.functions().last() else {
         return Ok(());
     };
@@ -169,12 +164,24 @@ fn is_site(instr: &Instr) -> bool {
 
 /// Adds how near the text is to its limits.
 fn push_text_limits(alloc: Heap, out: &mut String, source: Source) -> Result<(), AllocError> {
-    push_limit(alloc, out, "bytes", source.text.len(), PROGRAM_BYTES as usize)?;
-    push_limit(alloc, out, "brackets open at once", most_open(source), BRACKETS)?;
     push_limit(
         alloc,
         out,
-        "tokens in a row without `;`, `{` and `}`",
+        "bytes",
+        source.text.len(),
+        PROGRAM_BYTES as usize,
+    )?;
+    push_limit(
+        alloc,
+        out,
+        "brackets open at once",
+        most_open(source),
+        BRACKETS,
+    )?;
+    push_limit(
+        alloc,
+        out,
+        "tokens in a row without `;`, `{` or `}`",
         longest_stretch(source),
         STRETCH,
     )
@@ -184,10 +191,20 @@ fn push_text_limits(alloc: Heap, out: &mut String, source: Source) -> Result<(),
 fn push_code_limits(alloc: Heap, out: &mut String, code: &Code) -> Result<(), AllocError> {
     push_limit(alloc, out, "cells", code.memory().len(), CELLS)?;
     push_limit(alloc, out, "mutexes", code.mutexes() as usize, MUTEXES)?;
-    push_limit(alloc, out, "conditions", code.conditions() as usize, CONDITIONS)?;
-    let run = format!(in alloc; "  a run: {THREADS} threads at most, created {DEPTH} deep\n")?;
+    push_limit(
+        alloc,
+        out,
+        "conditions",
+        code.conditions() as usize,
+        CONDITIONS,
+    )?;
+    let run = format!(in alloc;
+        "  in a run: at most {THREADS} threads, created at most {DEPTH} deep\n"
+    )?;
     out.push_str(run.as_str())?;
-    let solved = format!(in alloc; "  a log that is solved: {EVENTS} events and {OPERATORS} operators at most\n")?;
+    let solved = format!(in alloc;
+        "  in a log to be solved: at most {EVENTS} events and {OPERATORS} operators\n"
+    )?;
     out.push_str(solved.as_str())
 }
 
