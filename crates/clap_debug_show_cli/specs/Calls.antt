@@ -47,9 +47,13 @@ words_taken words = is_empty (fault_of command_line words)
 abbrev pub text_of : Text → List Row → Text
 text_of id rows = unwrap_or (first_of id rows) []
 
+-- whether a flag's value is that of one that is given
+abbrev pub is_true : Option Text → Bool
+is_true word = option_map_or (λ t. bytes_eq t (codes "true")) word false
+
 -- whether a flag is given
 abbrev pub is_given : Text → List Row → Bool
-is_given id rows = option_map_or (λ t. bytes_eq t (codes "true")) (first_of id rows) false
+is_given id rows = is_true (first_of id rows)
 
 -- with a file that is shown, and else help with the program, which takes no option
 abbrev pub asked : (program : Text) → (file page : Option Text) → (moves : Bool) → Option Asked

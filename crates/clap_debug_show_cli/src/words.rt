@@ -79,7 +79,14 @@ fn asked<'a>(
 fn is_given(matches: &ArgMatches<'_>, id: &str) -> bool
     ensures { result ≡ spec.is_given id.now (rows_of (found_of matches.now)) }
 {
-    match matches.get_str(id) {
+    is_true(matches.get_str(id))
+}
+
+/// Whether a flag's value is that of one that is given.
+fn is_true(word: Option<&str>) -> bool
+    ensures { result ≡ spec.is_true (plain_text word) }
+{
+    match word {
         Some(word) => word == "true",
         None => false,
     }

@@ -37,7 +37,7 @@ GoesOnWith before k = Begins 3 (before ++ sample k ∷ [])
 
 -- of the first list those of which this holds, in its order
 abbrev pub ArePicked : {A : Type 0} → (A → Type 0) → List A → List A → Type 0
-ArePicked P [] picked = picked ≡ []
+ArePicked {A} P [] picked = picked ≡ []
 ArePicked {A} P (x ∷ xs) picked =
     (P x × (rest : List A) × (picked ≡ x ∷ rest) × ArePicked P xs rest) ⊎ ((P x → ⊥) × ArePicked P xs picked)
 

@@ -1,5 +1,6 @@
 //! The first word with which no program goes on, and what could stand in its place.
 ghost use Rattle.std.specs.Prelude.{◌≡◌, ◌↔◌, ◌++◌, ◌∷◌, [], true, IfOk, MatchOption};
+ghost use Rattle.tc_tree.specs.Grammar.{Begins, IsSyntaxFault};
 ghost use Rattle.next_tokens.specs.Next.{all_kinds, sample, AreProgram, ArePicked, GoesOnWith, IsStuck};
 
 use crate::kinds::ALL_KINDS;
@@ -24,18 +25,26 @@ pub struct Stuck {
 pub fn find_stuck(alloc: Global, words: &[Word]) -> Result<Option<Stuck>, AllocError>
     ensures { IfOk result (λ stuck. MatchOption stuck (AreProgram words.now) (IsStuck words.now)) }
 {
-    let left = match read_program(alloc, words) {
-        Ok(_) => return Ok(None),
-        Err(Stop::Memory) => return Err(AllocError),
-        Err(Stop::Left(left)) => left,
-    };
-    let place = words.len() - left;
+    match read_program(alloc, words) {
+        Ok(_) => Ok(None),
+        Err(Stop::Memory) => Err(AllocError),
+        Err(Stop::Left(left)) => Ok(Some(stuck_at(alloc, words, words.len() - left)?)),
+    }
+}
+
+/// What could stand at a place where words stop being a program's.
+fn stuck_at(alloc: Global, words: &[Word], place: usize) -> Result<Stuck, AllocError>
+    requires { IsSyntaxFault 3 words.now place }
+    ensures { IfOk result (IsStuck words.now) }
+{
     let before = &words[..place];
-    Ok(Some(Stuck {
+    let kinds = kinds_after(alloc, before)?;
+    let may_end = is_program(alloc, before)?;
+    Ok(Stuck {
         place,
-        kinds: kinds_after(alloc, before)?,
-        may_end: is_program(alloc, before)?,
-    }))
+        kinds,
+        may_end,
+    })
 }
 
 /// Of all kinds of tokens those with which a program goes on after these words.
@@ -57,13 +66,17 @@ fn kinds_after(alloc: Global, before: &[Word]) -> Result<Vec<TokenKind>, AllocEr
 fn goes_on_with(alloc: Global, before: &[Word], kind: TokenKind) -> Result<bool, AllocError>
     ensures { IfOk result (λ goes_on. (goes_on ≡ true) ↔ GoesOnWith before.now kind) }
 {
+    let words = with_sample(alloc, before, kind)?;
+    begins_program(alloc, words.as_slice())
+}
+
+/// The words, and then a token of this kind.
+fn with_sample(alloc: Global, before: &[Word], kind: TokenKind) -> Result<Vec<Word>, AllocError>
+    ensures { IfOk result (λ words. words.items ≡ before.now ++ sample kind ∷ []) }
+{
     let mut words = before.to_vec(alloc)?;
     words.push(sample(kind))?;
-    match read_program(alloc, words.as_slice()) {
-        Ok(_) => Ok(true),
-        Err(Stop::Memory) => Err(AllocError),
-        Err(Stop::Left(left)) => Ok(left == 0),
-    }
+    Ok(words)
 }
 
 /// A token of this kind, as the grammar sees it.
@@ -76,6 +89,17 @@ fn sample(kind: TokenKind) -> Word
         end: 0,
         place: Place { line: 1, col: 1 },
     })
+}
+
+/// Whether some program begins with these words.
+fn begins_program(alloc: Global, words: &[Word]) -> Result<bool, AllocError>
+    ensures { IfOk result (λ begins. (begins ≡ true) ↔ Begins 3 words.now) }
+{
+    match read_program(alloc, words) {
+        Ok(_) => Ok(true),
+        Err(Stop::Memory) => Err(AllocError),
+        Err(Stop::Left(left)) => Ok(left == 0),
+    }
 }
 
 /// Whether the words are a program.

@@ -7,7 +7,7 @@ use crate::counts::{count_hint, count_token};
 use crate::expected::expected_words;
 use crate::habits::syntax_hint;
 use crate::names::Fault;
-use crate::quote::{legible, push_quote};
+use crate::quote::{legible, push_quote, rest_at};
 use crate::source::Source;
 use next_tokens::Stuck;
 use std::alloc::{AllocError, Global};
@@ -63,26 +63,6 @@ fn lex_lines(alloc: Global, text: &[u8], fault: &LexFault) -> Result<String, All
         kind_of_file(text).or(bytes_hint(fault, rest)),
     )?;
     Ok(out)
-}
-
-/// The text from a place on.
-fn rest_at(text: &[u8], place: Place) -> &[u8] {
-    let mut line: u32 = 1;
-    let mut col: u32 = 1;
-    let mut rest = text;
-    while let [byte, later @ ..] = rest {
-        if line == place.line && col == place.col {
-            return rest;
-        }
-        if *byte == b'\n' {
-            line = line.saturating_add(1);
-            col = 1;
-        } else {
-            col = col.saturating_add(1);
-        }
-        rest = later;
-    }
-    rest
 }
 
 /// What no token begins with.

@@ -41,22 +41,32 @@ fn push_blanks(out: &mut String, count: usize) -> Result<(), AllocError> {
     Ok(())
 }
 
+/// The text from a place on.
+pub(crate) fn rest_at(text: &[u8], place: Place) -> &[u8] {
+    let mut rest = text;
+    for _ in 1..place.line {
+        let next = line_length(rest).saturating_add(1);
+        rest = rest.get(next..).unwrap_or(b"");
+    }
+    let column = (place.col as usize).saturating_sub(1);
+    rest.get(column..).unwrap_or(b"")
+}
+
 /// The line of a text with this number, from 1, without its line feed.
 fn line_at(text: &[u8], number: u32) -> &[u8] {
-    let mut rest = text;
-    for _ in 1..number {
-        rest = match line_end(rest) {
-            Some(end) => rest.get(end.saturating_add(1)..).unwrap_or(b""),
-            None => b"",
-        };
-    }
-    let end = line_end(rest).unwrap_or(rest.len());
-    rest.get(..end).unwrap_or(rest)
+    let rest = rest_at(
+        text,
+        Place {
+            line: number,
+            col: 1,
+        },
+    );
+    rest.get(..line_length(rest)).unwrap_or(rest)
 }
 
 /// How many bytes stand before the first line feed.
-fn line_end(text: &[u8]) -> Option<usize> {
-    text.iter().position(|byte| *byte == b'\n')
+fn line_length(text: &[u8]) -> usize {
+    text.iter().take_while(|byte| **byte != b'\n').count()
 }
 
 /// Bytes as they are shown: a blank stands for each control character, and a `?` for each character that isn't ASCII.

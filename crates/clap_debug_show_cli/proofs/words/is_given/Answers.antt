@@ -1,5 +1,8 @@
-use Rattle.std.proofs.Common.{◌≡◌, ◌∙◌, refl, ap, codes, bytes_eq, false, Option, option_map}
-use Rattle.std.specs.Option.{option_map_or}
-use Rattle.clap.specs.Words.{first_of, found_of, rows_of}
+use Rattle.std.proofs.Common.{◌≡◌, ◌∙◌, ap}
+use Rattle.clap.specs.Words.{found_of}
 use Rattle.clap.proofs.WalkLemmas.{first_value-rows}
+use Rattle.clap_debug_show_cli.specs.Calls.{is_true}
 use Rattle.clap_debug_show_cli.proofs.words.is_given.Goals as goal
+
+pub returns : goal.returns
+returns c = c.is_true.ensures ∙ ap is_true (c.get_str.ensures ∙ first_value-rows (found_of c.args.matches.now) c.args.id.now)
