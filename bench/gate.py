@@ -1,7 +1,7 @@
 #!/usr/bin/env python3
 """Sums the processor time of a gate by crate, while it runs.
 
-  bench/gate.py rt ci          runs the words, and prints the table of docs/GATE.md once they have ended
+  bench/gate.py rt ci          runs the words, and prints the table of bench/results/gate.md once they have ended
 
 A process is looked at each second, so what lives shorter isn't counted. Only the run's own processes are."""
 import os, re, subprocess, sys, time

@@ -1,5 +1,5 @@
 #!/usr/bin/env python3
-"""Gives the clauses of logs to other solvers, and what they say back to the program: a row of docs/PERFORMANCE.md for each.
+"""Gives the clauses of logs to other solvers, and what they say back to the program: a row of bench/results/performance.md for each.
 
   others.py [--models sc,tso,pso] [--seconds N] [--spoil N] [--false-first] FOLDER..
 

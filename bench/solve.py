@@ -1,5 +1,5 @@
 #!/usr/bin/env python3
-"""Solves logs, and replays or checks each answer: a row of docs/PERFORMANCE.md for each, seconds of the user and the system.
+"""Solves logs, and replays or checks each answer: a row of bench/results/performance.md for each, seconds of the user and the system.
 
   solve.py [--models sc,tso,pso] [--budget N] [--seconds N] [--least | --learnt | --false-first] FOLDER..
 

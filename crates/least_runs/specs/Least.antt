@@ -1,0 +1,41 @@
+-- Runs that fail with as few steps as possible.
+use Rattle.std.specs.Prelude.{◌≡◌, Bool, false, List, ◌∷◌, ◌++◌, Some}
+use Rattle.tc_base.specs.Logs.{Path}
+use Rattle.tc_base.specs.Names.{Name}
+use Rattle.tc_code.specs.Code.{Code}
+use Rattle.store_buffers.specs.Pending.{Binding}
+use Rattle.run_history.specs.History.{Deed, Did, Drained, same}
+use Rattle.run_history.specs.Told.{failed_in}
+use Rattle.run_follows.specs.Follow.{AllFollow}
+use Rattle.run_follows.specs.Logged.{path_told}
+use Rattle.least_runs.specs.Unused.{comes_out}
+
+abbrev pub is_by : Name → Deed → Bool
+is_by f (Did n k r took other) = same n f
+is_by f (Drained n k c v) = same n f
+
+-- no step of another thread than this can be left out
+abbrev pub IsLeast : Name → List Deed → Type 0
+IsLeast f h =
+    (older newer : List Deed) (d : Deed) → h ≡ older ++ d ∷ newer → is_by f d ≡ false → comes_out d newer ≡ false
+
+-- a thread went at least as far as this path goes
+pub record Begins (code : Code) (h : List Deed) (n : Name) (p : Path) : Type 0 where
+  pub path : Path
+  pub there : path_told code h n ≡ Some path
+  pub later : List Bool
+  pub outcomes : path.outcomes ≡ p.outcomes ++ later
+
+-- each thread of the one goes the beginning of its path in the other
+abbrev pub IsPart : Code → List Deed → List Deed → Type 0
+IsPart code g h = (n : Name) (p : Path) → path_told code g n ≡ Some p → Begins code h n p
+
+-- a run with no step that can be left out fails where this one does, and no thread goes further in it
+pub record HasLeast (buffered : Bool) (bound : Binding) (code : Code) (h : List Deed) (f : Name) : Type 0 where
+  pub deeds : List Deed
+  pub run : AllFollow buffered bound code deeds
+  pub fails : failed_in deeds ≡ Some f
+  pub least : IsLeast f deeds
+  pub part : IsPart code deeds h
+  -- who fails goes its whole path
+  pub failing : path_told code deeds f ≡ path_told code h f

@@ -1,0 +1,63 @@
+//! Runs with as few steps as possible: which steps can be left out of a run, so that what is left is still one.
+//!
+//! Each function's clause is a law, and its body does nothing.
+#![tactic(auto)]
+
+ghost use Rattle.std.specs.Prelude.{◌≡◌, ◌≢◌, ℕ, ℤ, Bool, true, List, ◌∷◌, ◌++◌, Option, Some};
+ghost use Rattle.std.specs.FinMap as fin;
+ghost use Rattle.tc_base.specs.Buffers.{BufferOps};
+ghost use Rattle.tc_base.specs.Names.{Name, child};
+ghost use Rattle.tc_base.specs.States.{Local};
+ghost use Rattle.tc_base.specs.declared.model.Model.{Model};
+ghost use Rattle.tc_base.specs.declared.request.Request.{Request};
+ghost use Rattle.tc_base.specs.declared.request.Request.TheVariants.{Await};
+ghost use Rattle.tc_code.specs.Code.{Code};
+ghost use Rattle.tc_code.specs.Lawful.{IsLawful};
+ghost use Rattle.tc_code.specs.Step.{holds};
+ghost use Rattle.store_buffers.specs.Laws.{Laws};
+ghost use Rattle.store_buffers.specs.Pending.{Binding};
+ghost use Rattle.run_history.specs.History.{Deed, Did};
+ghost use Rattle.run_history.specs.Locals.{locals_in};
+ghost use Rattle.run_history.specs.Told.{steps_in, has_exited_in, failed_in};
+ghost use Rattle.run_follows.specs.Follow.{AllFollow};
+ghost use Rattle.run_follows.specs.Logged.{path_told};
+ghost use Rattle.least_runs.specs.Least.{HasLeast};
+ghost use Rattle.least_runs.specs.Unused.{is_unused};
+
+/// The last step of a thread can be left out where nothing after it needs it: what is left is still a run, fails where the
+/// whole one does, and takes each other thread along the same path, but for one that the step creates.
+pub fn unused_steps_come_out<B>()
+    ensures run { (ops : BufferOps B) (model : Model) (bound : Binding) (code : Code) (older newer : List Deed) (n : Name) (k : ℕ) (r : Request)
+        (took : ℤ) (other : Option Name)
+        → Laws ops model bound → IsLawful code → AllFollow ops.buffered bound code (older ++ Did n k r took other ∷ newer)
+        → steps_in newer n ≡ 0 → is_unused r n other newer ≡ true → AllFollow ops.buffered bound code (older ++ newer) }
+    ensures failure { (older newer : List Deed) (n : Name) (k : ℕ) (r : Request) (took : ℤ) (other : Option Name)
+        → is_unused r n other newer ≡ true → failed_in (older ++ newer) ≡ failed_in (older ++ Did n k r took other ∷ newer) }
+    ensures paths { (ops : BufferOps B) (model : Model) (bound : Binding) (code : Code) (older newer : List Deed) (n q : Name) (k : ℕ) (r : Request)
+        (took : ℤ) (other : Option Name)
+        → Laws ops model bound → IsLawful code → AllFollow ops.buffered bound code (older ++ Did n k r took other ∷ newer)
+        → steps_in newer n ≡ 0 → is_unused r n other newer ≡ true → q ≢ n → other ≢ Some q
+        → path_told code (older ++ newer) q ≡ path_told code (older ++ Did n k r took other ∷ newer) q }
+{}
+
+/// So of each run that fails there is one that fails in the same thread, as far along that thread's path, in which no thread
+/// goes further than in the first, and no step of another thread can be left out.
+pub fn failing_runs_have_least_ones<B>()
+    ensures { (ops : BufferOps B) (model : Model) (bound : Binding) (code : Code) (h : List Deed) (f : Name)
+        → Laws ops model bound → IsLawful code → AllFollow ops.buffered bound code h → failed_in h ≡ Some f
+        → HasLeast ops.buffered bound code h f }
+{}
+
+/// A thread that was joined has exited.
+pub fn joined_threads_have_exited()
+    ensures { (buffered : Bool) (bound : Binding) (code : Code) (older newer : List Deed) (n : Name) (k j : ℕ) (took : ℤ) (other : Option Name)
+        → AllFollow buffered bound code (older ++ Did n k (Await j) took other ∷ newer)
+        → has_exited_in (older ++ Did n k (Await j) took other ∷ newer) (child n j) ≡ true }
+{}
+
+/// Two threads don't hold one mutex.
+pub fn mutexes_have_one_holder<B>()
+    ensures { (ops : BufferOps B) (model : Model) (bound : Binding) (code : Code) (h : List Deed) (n q : Name) (t u : Local) (m : ℕ)
+        → Laws ops model bound → IsLawful code → AllFollow ops.buffered bound code h
+        → fin.get (locals_in code h) n ≡ Some t → fin.get (locals_in code h) q ≡ Some u → holds t m ≡ true → holds u m ≡ true → n ≡ q }
+{}
