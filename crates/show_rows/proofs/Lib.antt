@@ -1,3 +1,3 @@
 pub mod Deeds
 pub mod Moves
-pub mod Slots
+pub mod Stores

@@ -177,7 +177,7 @@ impl<'a> At<'a> {
         let is_true = value_over(self.row.slots.as_slice(), choice.left) != 0;
         match self.right_of(slot) {
             Some(right) if self.form == Form::Name || is_true != choice.is_or => {
-                self.push(out, right, own + 1, depth)?;
+                self.push(out, right, own.saturating_add(1), depth)?;
             }
             _ => out.push_str("..")?,
         }
