@@ -38,11 +38,7 @@ fn line_of(alloc: Global, line: &[u8], is_open: &mut bool) -> Result<String, All
 }
 
 /// A line with a blank in the place of each comment, and whether one is open behind it, by whether one is before it.
-fn without_comments(
-    alloc: Global,
-    line: &[u8],
-    is_open: &mut bool,
-) -> Result<Vec<u8>, AllocError> {
+fn without_comments(alloc: Global, line: &[u8], is_open: &mut bool) -> Result<Vec<u8>, AllocError> {
     let mut code = Vec::new(alloc);
     let mut rest = line;
     while let [byte, later @ ..] = rest {

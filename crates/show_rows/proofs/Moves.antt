@@ -23,7 +23,7 @@ use Rattle.show_rows.specs.declared.telling.Telling.{Telling}
 use Rattle.show_rows.specs.helpers.SoFar.{IsSoFar}
 
 -- the deeds of a row more
-deeds-push : (rows : List Row) (row : Row) → deeds (rows ++ row ∷ []) ≡ deeds rows ++ plain_deed row.deed ∷ []
+pub deeds-push : (rows : List Row) (row : Row) → deeds (rows ++ row ∷ []) ≡ deeds rows ++ plain_deed row.deed ∷ []
 deeds-push rows row = map-append (λ (r : Row). plain_deed r.deed) rows (row ∷ [])
 
 -- a row more was where its thread was, if the others were

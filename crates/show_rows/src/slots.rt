@@ -6,21 +6,21 @@ ghost use Rattle.tc_code.specs.Code as flat;
 use std::alloc::{AllocError, Global};
 use store_buffers::MemoryModel;
 use tc_base::Request;
-use tc_code::{Code, Expr, Instr};
+use tc_code::{Expr, Instr};
 use tc_threads::Thread;
 
-/// The value of each slot of a thread.
+/// The value of each slot of a thread that has so many.
 pub(crate) fn slots_of<M: MemoryModel>(
     alloc: Global,
-    code: &Code,
+    count: u32,
     thread: &Thread<M>,
 ) -> Result<Vec<i32>, AllocError>
-    requires { IsWholeThread code.now thread.now.local }
+    requires whole { (code : flat.Code) × IsWholeThread code thread.now.local }
+    requires count { count ≡ length thread.now.local.slots }
     ensures { IfOk result (λ slots. slots.items ≡ thread.now.local.slots) }
 {
-    let (function, _) = thread.local().place();
     let mut slots = Vec::new(alloc);
-    for slot in 0..code.functions()[function].ints {
+    for slot in 0..count {
         slots.push(slot_of(thread, slot))?;
     }
     Ok(slots)

@@ -78,7 +78,8 @@ impl Telling {
             unreachable!()
         };
         let (function, instruction) = thread.local().place();
-        let slots = slots_of(alloc, code, thread)?;
+        let count = code.functions()[function].ints;
+        let slots = slots_of(alloc, count, thread)?;
         Ok(Row {
             deed,
             function,

@@ -83,6 +83,7 @@ fn finish<M: MemoryModel>(
     rows: Vec<Row>,
     end: End,
 ) -> Result<Told, AllocError>
+    requires { IsReached M.ops code.now state.now }
     ensures rows { IfOk result (λ told. told.rows.items ≡ rows.items) }
     ensures end { IfOk result (λ told. told.end ≡ end) }
 {

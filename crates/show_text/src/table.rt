@@ -86,10 +86,7 @@ fn head(
 }
 
 /// A row for each move.
-fn lines_of_moves<'a>(
-    alloc: Global,
-    words: &'a [Words<'_>],
-) -> Result<Vec<Line<'a>>, AllocError> {
+fn lines_of_moves<'a>(alloc: Global, words: &'a [Words<'_>]) -> Result<Vec<Line<'a>>, AllocError> {
     let mut lines = Vec::new(alloc);
     for (i, row) in words.iter().enumerate() {
         lines.push(line_of(i, row, row.deed.as_str()))?;

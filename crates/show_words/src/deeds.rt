@@ -170,7 +170,16 @@ fn creation_words(
     row: &Row,
     step: &Step,
 ) -> Result<String, AllocError> {
-    let (Some(child), Some(Instr::Create { function, arguments, .. })) = (&step.other, program.instr(row))
+    let (
+        Some(child),
+        Some(
+            Instr::Create {
+                function,
+                arguments,
+                ..
+            },
+        ),
+    ) = (&step.other, program.instr(row))
     else {
         return String::from_str(alloc, "");
     };

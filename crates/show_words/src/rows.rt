@@ -45,17 +45,54 @@ pub fn row_words<'a>(
     model: Model,
     rows: &[Row],
 ) -> Result<Vec<Words<'a>>, AllocError> {
-    let buffered = is_buffered(model);
-    let mut seen = Seen::at_start(alloc, program.code)?;
-    let mut wakes = Wakes::new(alloc);
+    let mut wording = Wording {
+        program,
+        buffered: is_buffered(model),
+        seen: Seen::at_start(alloc, program.code)?,
+        wakes: Wakes::new(alloc),
+    };
     let mut words = Vec::new(alloc);
     for (i, row) in rows.iter().enumerate() {
-        let woken = wakes.take(alloc, i, &row.deed)?;
-        let own = is_own(&seen, &row.deed);
-        words.push(words_of(alloc, program, buffered, &rows[..i], row, own, woken)?)?;
-        seen.take(buffered, &row.deed)?;
+        words.push(wording.put(alloc, &rows[..i], row)?)?;
     }
     Ok(words)
+}
+
+/// What the rows so far made of memory, of the stores that wait, and of those who sleep.
+#[derive(Drop)]
+struct Wording<'a> {
+    program: Program<'a>,
+    buffered: bool,
+    seen: Seen,
+    wakes: Wakes,
+}
+
+impl<'a> Wording<'a> {
+    /// Puts the row behind the rows so far in words, and takes it in.
+    fn put(&mut self, alloc: Global, before: &[Row], row: &Row) -> Result<Words<'a>, AllocError> {
+        let program = self.program;
+        let name = row.deed.thread();
+        let function = program.function(alloc, row.function)?;
+        let line = program.line_of(stated_at(before, row));
+        let own = is_own(&self.seen, &row.deed);
+        let Woken { wakes, woken_by } = self.wakes.take(alloc, before.len(), &row.deed)?;
+        let shared = Shared {
+            own,
+            wakes: wakes.as_slice(),
+            waker: waker_of(before, woken_by),
+        };
+        let deed = deed_words(alloc, program, row, self.buffered, &shared)?;
+        self.seen.take(self.buffered, &row.deed)?;
+        Ok(Words {
+            thread: format!(in alloc; "{name} {function}")?,
+            line,
+            source: program.names.line(line),
+            deed,
+            own,
+            wakes,
+            woken_by,
+        })
+    }
 }
 
 /// Whether stores wait in buffers under a memory model.
@@ -88,37 +125,6 @@ pub fn issue_of(before: &[Row], stored: &Stored) -> Option<usize> {
         }
     }
     None
-}
-
-/// A row in words, by the rows before it.
-fn words_of<'a>(
-    alloc: Global,
-    program: Program<'a>,
-    buffered: bool,
-    before: &[Row],
-    row: &Row,
-    own: bool,
-    woken: Woken,
-) -> Result<Words<'a>, AllocError> {
-    let Woken { wakes, woken_by } = woken;
-    let name = row.deed.thread();
-    let function = program.function(alloc, row.function)?;
-    let line = program.line_of(stated_at(before, row));
-    let shared = Shared {
-        own,
-        wakes: wakes.as_slice(),
-        waker: waker_of(before, woken_by),
-    };
-    let deed = deed_words(alloc, program, row, buffered, &shared)?;
-    Ok(Words {
-        thread: format!(in alloc; "{name} {function}")?,
-        line,
-        source: program.names.line(line),
-        deed,
-        own,
-        wakes,
-        woken_by,
-    })
 }
 
 /// The thread of the row at a place.

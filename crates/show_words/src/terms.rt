@@ -87,13 +87,8 @@ pub(crate) fn value_over(slots: &[i32], e: &Expr) -> i32
 
 impl<'a> At<'a> {
     /// Adds an expression, in parentheses where it binds less tightly than is wanted.
-    fn push(
-        &self,
-        out: &mut String,
-        e: &Expr,
-        level: u32,
-        depth: u32,
-    ) -> Result<(), AllocError> {
+    #[cycle(terms)]
+    fn push(&self, out: &mut String, e: &Expr, level: u32, depth: u32) -> Result<(), AllocError> {
         let Some(depth) = depth.checked_sub(1) else {
             return out.push_str("..");
         };
@@ -117,6 +112,7 @@ impl<'a> At<'a> {
     }
 
     /// Adds what a slot stands for.
+    #[cycle(terms)]
     fn push_slot(
         &self,
         out: &mut String,
@@ -133,7 +129,11 @@ impl<'a> At<'a> {
             return self.push_choice(out, slot, place, level, depth);
         }
         if self.form == Form::Value {
-            return push_value(out, value_over(self.row.slots.as_slice(), &Expr::slot(slot)), level);
+            return push_value(
+                out,
+                value_over(self.row.slots.as_slice(), &Expr::slot(slot)),
+                level,
+            );
         }
         if let Some(name) = names.int(function, slot) {
             return out.push_str(name);
@@ -151,6 +151,7 @@ impl<'a> At<'a> {
     }
 
     /// Adds the `&&` or `||` whose slot is first set at a place.
+    #[cycle(terms)]
     fn push_choice(
         &self,
         out: &mut String,
@@ -159,17 +160,24 @@ impl<'a> At<'a> {
         level: u32,
         depth: u32,
     ) -> Result<(), AllocError> {
+        let Some(depth) = depth.checked_sub(1) else {
+            return out.push_str("..");
+        };
         let Some(choice) = self.program.choice(self.row.function, place) else {
             return out.push('?');
         };
-        let (own, sign) = if choice.is_or { (1, " || ") } else { (2, " && ") };
+        let (own, sign) = if choice.is_or {
+            (1, " || ")
+        } else {
+            (2, " && ")
+        };
         push_if(out, own < level, "(")?;
         self.push(out, choice.left, own, depth)?;
         out.push_str(sign)?;
         let is_true = value_over(self.row.slots.as_slice(), choice.left) != 0;
         match self.right_of(slot) {
             Some(right) if self.form == Form::Name || is_true != choice.is_or => {
-                self.push(out, right, own + 1, depth)?;
+                self.push(out, right, own.saturating_add(1), depth)?;
             }
             _ => out.push_str("..")?,
         }
@@ -205,7 +213,8 @@ impl<'a> At<'a> {
         for place in (0..self.row.instruction).rev() {
             let instr = self.program.code.instr(function, place);
             match instr {
-                Some(Instr::Load { slot: to, .. } | Instr::LoadAt { slot: to, .. }) if *to == slot => {
+                Some(Instr::Load { slot: to, .. } | Instr::LoadAt { slot: to, .. })
+                    if *to == slot => {
                     return instr;
                 }
                 _ => {}
@@ -231,7 +240,11 @@ fn push_value(out: &mut String, value: i32, level: u32) -> Result<(), AllocError
 
 /// Adds a text where it is wanted.
 fn push_if(out: &mut String, is_wanted: bool, text: &str) -> Result<(), AllocError> {
-    if is_wanted { out.push_str(text) } else { Ok(()) }
+    if is_wanted {
+        out.push_str(text)
+    } else {
+        Ok(())
+    }
 }
 
 /// An operator before its operand.

@@ -90,12 +90,7 @@ impl<'a> Values<'a> {
     }
 
     /// Takes in the ints of the body that an expression names.
-    fn push_ints(
-        &mut self,
-        program: Program<'a>,
-        row: &Row,
-        e: &Expr,
-    ) -> Result<(), AllocError> {
+    fn push_ints(&mut self, program: Program<'a>, row: &Row, e: &Expr) -> Result<(), AllocError> {
         match &e.node {
             Node::Number(_) => Ok(()),
             Node::Slot(slot) => self.push_int(program, row, *slot),
@@ -115,7 +110,11 @@ impl<'a> Values<'a> {
         ) else {
             return Ok(());
         };
-        if self.values.iter().any(|other| other.is_local && other.name == name) {
+        if self
+            .values
+            .iter()
+            .any(|other| other.is_local && other.name == name)
+        {
             return Ok(());
         }
         self.values.push(Value {

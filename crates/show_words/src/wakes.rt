@@ -47,12 +47,7 @@ impl Wakes {
     }
 
     /// Takes in a step.
-    fn take_step(
-        &mut self,
-        alloc: Global,
-        place: usize,
-        step: &Step,
-    ) -> Result<Woken, AllocError> {
+    fn take_step(&mut self, alloc: Global, place: usize, step: &Step) -> Result<Woken, AllocError> {
         let mut woken = Woken::nobody(alloc);
         match step.asks {
             Request::BeginWait(condition, _) => {
