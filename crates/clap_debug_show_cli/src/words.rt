@@ -64,14 +64,14 @@ fn asked<'a>(
     ensures { option_map plain_call result ≡ spec.asked program.now (plain_text file) (plain_text page) moves }
 {
     match (file, page, moves) {
-        (Some(file), page, moves) => Some(Call::Show(Showing {
+        (Some(file), _, _) => Some(Call::Show(Showing {
             program,
             file,
             page,
             moves,
         })),
         (None, None, false) => Some(Call::Help(program)),
-        _ => None,
+        (None, None, true) | (None, Some(_), _) => None,
     }
 }
 
