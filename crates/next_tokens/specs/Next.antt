@@ -1,5 +1,5 @@
 -- Where words stop being a program's, and which tokens could stand there.
-use Rattle.std.specs.Prelude.{◌≡◌, ◌↔◌, ◌⊎◌, true, ℕ, List, [], ◌∷◌, ◌++◌, map, take}
+use Rattle.std.specs.Prelude.{◌≡◌, ◌↔◌, ◌⊎◌, true, ℕ, pos, List, [], ◌∷◌, ◌++◌, map, take}
 use Rattle.tc_lexer.specs.declared.token.Keyword.{Keyword as AnyKeyword}
 use Rattle.tc_lexer.specs.declared.token.Keyword.TheVariants.{Int, Mutex, Cond, Thread, Main, Tid, If, Else, While, Create, Join, Lock, Unlock, Wait, Signal}
 use Rattle.tc_lexer.specs.declared.token.Keyword.TheVariants.{Broadcast, Fence, Assert, Swap, Cas, Stbar}
@@ -25,7 +25,7 @@ all_signs = OpenParen ∷ CloseParen ∷ OpenBracket ∷ CloseBracket ∷ OpenBr
 
 -- each kind of token once; 0 stands for every number
 abbrev pub all_kinds : List TokenKind
-all_kinds = kind.Name ∷ kind.Number 0 ∷ (map kind.Keyword all_keywords ++ map kind.Sign all_signs)
+all_kinds = kind.Name ∷ kind.Number (pos 0) ∷ (map kind.Keyword all_keywords ++ map kind.Sign all_signs)
 
 -- a token of this kind, as the grammar sees it
 abbrev pub sample : TokenKind → Word
