@@ -1,14 +1,15 @@
 -- What a reader's answer to some words says of what goes on with them.
-use Rattle.std.proofs.Common.{◌≡◌, ◌≤◌, ◌<◌, ◌+◌, ◌-◌, zero, suc, sym, subst, refl, ap, arith, append_assoc, ℕ, Bool, true, false, List, [], ◌∷◌, ◌++◌, length, take, drop, take-append-drop, nat_eq, eqb-true, eq-eqb}
-use Rattle.std.specs.Prelude.{◌↔◌}
+use Rattle.std.proofs.Common.{◌≡◌, ◌≤◌, ◌<◌, ◌+◌, ◌-◌, zero, suc, sym, subst, refl, ap, arith, append_assoc, ℕ, Bool, true, false, List, [], ◌∷◌, ◌++◌, length, take, drop, take-append-drop, nat_eq, eqb-true, eq-eqb, false≢true, Option, Some, None, is_none}
+use Rattle.std.specs.Prelude.{◌↔◌, unwrap_or}
 use Rattle.std.proofs.lemmas.List.{append-nil}
 use Rattle.std.proofs.Math.Seq.{take-length}
 use Rattle.tc_tree.specs.declared.word.Word.{Word}
 use Rattle.tc_tree.specs.Grammar.{Program, Begins, IsSpelled, IsSyntaxFault}
 use Rattle.next_tokens.specs.Next.{AreProgram}
+use Rattle.next_tokens.specs.helpers.Searched.{IsLeft}
 
 -- a program begins with all its words
-pub spelled_begins : (words : List Word) (p : Program) → IsSpelled 3 words p → Begins 3 words
+spelled_begins : (words : List Word) (p : Program) → IsSpelled 3 words p → Begins 3 words
 spelled_begins words p is = record {
   program = p;
   more = [];
@@ -39,19 +40,17 @@ begins_zero words (suc n) within fault b =
     absurd (fault.after short (front_begins (take (k + 1) words) (drop (k + 1) words)
     (subst (λ (ws : List Word). Begins 3 ws) (sym (take-append-drop (k + 1) words)) b)))
 
-pub left_begins : (words : List Word) (n : ℕ) → n ≤ length words → IsSyntaxFault 3 words (length words - n) → (nat_eq n 0 ≡ true) ↔ Begins 3 words
+left_begins : (words : List Word) (n : ℕ) → n ≤ length words → IsSyntaxFault 3 words (length words - n) → (nat_eq n 0 ≡ true) ↔ Begins 3 words
 left_begins words n within fault = (
   λ e. zero_begins words n (eqb-true n 0 e) fault,
   λ b. eq-eqb n 0 (begins_zero words n within fault b),
 )
 
--- words that are no program
-pub no_program : (words : List Word) (k : ℕ) → IsSyntaxFault 3 words k → (false ≡ true) ↔ AreProgram words
-no_program words k fault = (λ e. absurd cc, λ is. absurd (fault.none is.0 is.1))
+-- the same of what a reader finds
+pub begins_by : (words : List Word) (left : Option ℕ) → IsLeft words left → (nat_eq (unwrap_or left 0) 0 ≡ true) ↔ Begins 3 words
+begins_by words None is = (λ e. spelled_begins words is.0 is.1, λ b. refl)
+begins_by words (Some n) stop = left_begins words n stop.0 stop.1
 
--- words that are one
-pub a_program : (words : List Word) (p : Program) → IsSpelled 3 words p → (true ≡ true) ↔ AreProgram words
-a_program words p is = (λ e. (p, is), λ h. refl)
-
-pub goes_on : (words : List Word) (p : Program) → IsSpelled 3 words p → (true ≡ true) ↔ Begins 3 words
-goes_on words p is = (λ e. spelled_begins words p is, λ h. refl)
+pub program_by : (words : List Word) (left : Option ℕ) → IsLeft words left → (is_none left ≡ true) ↔ AreProgram words
+program_by words None is = (λ e. is, λ h. refl)
+program_by words (Some n) stop = (λ e. absurd (false≢true e), λ is. absurd (stop.1.none is.0 is.1))

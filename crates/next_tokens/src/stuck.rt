@@ -1,7 +1,8 @@
 //! The first word with which no program goes on, and what could stand in its place.
-ghost use Rattle.std.specs.Prelude.{◌≡◌, ◌↔◌, ◌++◌, ◌∷◌, [], true, IfOk, MatchOption};
+ghost use Rattle.std.specs.Prelude.{◌≡◌, ◌↔◌, ◌++◌, ◌∷◌, [], true, IfOk, MatchOption, OnOk, if◌then◌else◌};
 ghost use Rattle.tc_tree.specs.Grammar.{Begins, IsSyntaxFault};
 ghost use Rattle.next_tokens.specs.Next.{all_kinds, sample, AreProgram, ArePicked, GoesOnWith, IsStuck};
+ghost use Rattle.next_tokens.specs.helpers.Searched.{IsLeft};
 
 use crate::kinds::ALL_KINDS;
 use std::alloc::{AllocError, Global};
@@ -25,10 +26,21 @@ pub struct Stuck {
 pub fn find_stuck(alloc: Global, words: &[Word]) -> Result<Option<Stuck>, AllocError>
     ensures { IfOk result (λ stuck. MatchOption stuck (AreProgram words.now) (IsStuck words.now)) }
 {
+    let end = words_left(alloc, words)?;
+    match end {
+        None => Ok(None),
+        Some(left) => Ok(Some(stuck_at(alloc, words, words.len() - left)?)),
+    }
+}
+
+/// How many words are left at the first with which no program goes on, or `None` where they are a program.
+fn words_left(alloc: Global, words: &[Word]) -> Result<Option<usize>, AllocError>
+    ensures { IfOk result (IsLeft words.now) }
+{
     match read_program(alloc, words) {
         Ok(_) => Ok(None),
         Err(Stop::Memory) => Err(AllocError),
-        Err(Stop::Left(left)) => Ok(Some(stuck_at(alloc, words, words.len() - left)?)),
+        Err(Stop::Left(left)) => Ok(Some(left)),
     }
 }
 
@@ -48,18 +60,28 @@ fn stuck_at(alloc: Global, words: &[Word], place: usize) -> Result<Stuck, AllocE
 }
 
 /// Of all kinds of tokens those with which a program goes on after these words.
+#[tactic(auto, using(crate::proofs::Picks::next, crate::proofs::Picks::all_picked))]
 fn kinds_after(alloc: Global, before: &[Word]) -> Result<Vec<TokenKind>, AllocError>
     ensures { IfOk result (λ found. ArePicked (GoesOnWith before.now) all_kinds found.items) }
 {
     let mut found = Vec::new(alloc);
     let mut rest: &[TokenKind] = &ALL_KINDS;
     while let [kind, later @ ..] = rest {
-        if goes_on_with(alloc, before, *kind)? {
-            found.push(*kind)?;
-        }
+        let goes_on = goes_on_with(alloc, before, *kind)?;
+        push_if(&mut found, *kind, goes_on)?;
         rest = later;
     }
     Ok(found)
+}
+
+/// Adds the kind, if it is wanted.
+fn push_if(found: &mut Vec<TokenKind>, kind: TokenKind, is_wanted: bool) -> Result<(), AllocError>
+    ensures { OnOk result (found.new.items ≡ (if is_wanted then found.old.items ++ kind ∷ [] else found.old.items)) }
+{
+    if is_wanted {
+        found.push(kind)?;
+    }
+    Ok(())
 }
 
 /// Whether some program begins with these words and then a token of this kind.
@@ -91,24 +113,18 @@ fn sample(kind: TokenKind) -> Word
     })
 }
 
-/// Whether some program begins with these words.
+/// Whether some program begins with these words: then none of them is left at their fault.
 fn begins_program(alloc: Global, words: &[Word]) -> Result<bool, AllocError>
     ensures { IfOk result (λ begins. (begins ≡ true) ↔ Begins 3 words.now) }
 {
-    match read_program(alloc, words) {
-        Ok(_) => Ok(true),
-        Err(Stop::Memory) => Err(AllocError),
-        Err(Stop::Left(left)) => Ok(left == 0),
-    }
+    let left = words_left(alloc, words)?;
+    Ok(left.unwrap_or(0) == 0)
 }
 
 /// Whether the words are a program.
 fn is_program(alloc: Global, words: &[Word]) -> Result<bool, AllocError>
     ensures { IfOk result (λ is. (is ≡ true) ↔ AreProgram words.now) }
 {
-    match read_program(alloc, words) {
-        Ok(_) => Ok(true),
-        Err(Stop::Memory) => Err(AllocError),
-        Err(Stop::Left(_)) => Ok(false),
-    }
+    let left = words_left(alloc, words)?;
+    Ok(left.is_none())
 }

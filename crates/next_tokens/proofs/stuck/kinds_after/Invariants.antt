@@ -5,7 +5,7 @@ use Rattle.next_tokens.proofs.stuck.kinds_after.Given as goal
 
 -- what is picked of the rest completes what was found
 abbrev pub invariant-loop-rest : goal.invariant-loop-rest
-invariant-loop-rest l = IsSoFar (GoesOnWith l.before) all_kinds l.found l.rest
+invariant-loop-rest l = IsSoFar (GoesOnWith l.before) all_kinds l.found.items l.rest
 
 abbrev pub decreases-loop-rest : goal.decreases-loop-rest
 decreases-loop-rest l = length l.rest
