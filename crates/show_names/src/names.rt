@@ -3,14 +3,16 @@
 use crate::body::{BodyNames, body_names};
 use crate::globals::{GlobalNames, global_names};
 use crate::text::lines_of;
+use sha2::{Digest, Sha256};
 use std::alloc::{AllocError, Global};
 use tc_tree::Tree;
 
-/// What the text calls a cell, a mutex, a condition, a slot or a thread variable of its code, and the text's lines.
+/// What the text calls a cell, a mutex, a condition, a slot or a thread variable of its code, the text's lines, and its digest.
 ///
 /// What has no name is shown as `?`: a slot that the code keeps for a value of its own, a number past the last.
 #[derive(Drop)]
 pub struct Names {
+    digest: String,
     lines: Vec<String>,
     globals: GlobalNames,
     bodies: Vec<BodyNames>,
@@ -20,13 +22,20 @@ impl Names {
     /// The names of a program.
     pub fn of_tree(alloc: Global, tree: &Tree) -> Result<Names, AllocError> {
         Ok(Names {
+            digest: hex::encode(alloc, Sha256::digest(tree.text).as_slice())?,
             lines: lines_of(alloc, tree.text)?,
             globals: global_names(alloc, tree)?,
             bodies: body_names(alloc, tree)?,
         })
     }
 
-    /// The line of that number, from 1, without the blanks at its ends.
+    /// The SHA-256 digest of the text, in 64 digits.
+    pub fn digest(&self) -> &str {
+        self.digest.as_str()
+    }
+
+    /// The line of that number, from 1, without comments and the blanks at its ends, and cut off where it is longer than 60
+    /// characters.
     pub fn line(&self, number: u32) -> &str {
         match number.checked_sub(1) {
             Some(place) => named(self.lines.get(place as usize)),
@@ -42,6 +51,16 @@ impl Names {
     /// The names of all cells.
     pub fn cells(&self) -> &[String] {
         self.globals.cells.as_slice()
+    }
+
+    /// The name of the array that begins at a cell.
+    pub fn array(&self, first: u32) -> &str {
+        for array in self.globals.arrays.iter() {
+            if array.first == first as usize {
+                return array.name.as_str();
+            }
+        }
+        "?"
     }
 
     /// The name of a mutex.

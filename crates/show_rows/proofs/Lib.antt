@@ -1,2 +1,4 @@
 pub mod Deeds
 pub mod Moves
+pub mod Owners
+pub mod Stores
