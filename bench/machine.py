@@ -744,26 +744,31 @@ def fewest(code, log, model):
     return None
 
 
-def shown(code, log):
-    """A line for each thread of a log, going along its path."""
-    functions, lines, total = {(): len(code.functions) - 1}, [], 0
+def walked(code, log):
+    """Of each thread of a log its name, its function, and the instructions of its path, each as a word with its line."""
+    functions = {(): len(code.functions) - 1}
     for name in sorted(log.threads):
         steps, outcomes = log.threads[name]
-        function = code.functions[functions[name]]
-        at, branches, children, events, line = 0, 0, 0, 0, 0
-        for step in range(steps):
+        function, at, children, path, ways = code.functions[functions[name]], 0, 0, [], iter(outcomes)
+        for _ in range(steps):
             word, *args = function.instrs[at]
-            line = function.lines[at]
-            events += word in EVENTS or (name == log.failing and step + 1 == steps)
+            path.append((word, function.lines[at]))
             at += 1
             if word == "create":
                 children += 1
                 functions[name + (children,)] = args[1]
-            elif word == "goto":
-                at = args[0]
-            elif word == "branch":
-                at = at if outcomes[branches] else args[1]
-                branches += 1
+            elif word == "goto" or (word == "branch" and not next(ways)):
+                at = args[-1]
+        yield name, function, path
+
+
+def shown(code, log):
+    """A line for each thread of a log, going along its path."""
+    lines, total = [], 0
+    for name, function, path in walked(code, log):
+        steps, outcomes = log.threads[name]
+        word, line = path[-1] if path else (None, 0)
+        events = sum(it in EVENTS for it, _ in path) + (name == log.failing and word not in EVENTS)
         total += events
         bits = "".join(map(str, outcomes))
         lines.append(f"{spelled(name)} {function.name}: {steps} steps, outcomes {bits or 'none'}, {events} events, ends in line {line}")
