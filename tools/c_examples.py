@@ -1,8 +1,8 @@
 #!/usr/bin/env python3
-"""What clap_debug says of the C programs in examples/c: records each by seeds until a run fails, solves its log under each memory
-model, and records the mended program, -DMENDED, by seeds under PSO.
+"""What clap_debug says of the C programs in examples/c: records each by a seed with which it fails, solves its log under each
+memory model, and records the mended program, -DMENDED, by seeds under PSO.
 
-    c_examples.py [--check | --rewrite] [NAME..]
+    c_examples.py [--check | --rewrite] [--search] [NAME..]
 
 Prints the table of examples/c/README.md; --rewrite puts it there, --check compares it with what is there. NOT PROVED; it wants what
 tools/fromc wants, and a clap_debug, which CLAP_DEBUG may name."""
@@ -12,18 +12,19 @@ import re
 import subprocess
 import sys
 import tempfile
-from typing import List, NamedTuple, Optional, Tuple
+from typing import Iterable, List, NamedTuple, Optional, Tuple
 
 TOP = os.path.dirname(os.path.dirname(os.path.realpath(__file__)))
 PAGE = f"{TOP}/examples/c/README.md"
 MODELS = ("sc", "tso", "pso")
-# The memory model under which each is recorded.
+# The memory model under which each is recorded, and a seed that fails, found by --search.
 RECORDED = {
-    "barrier": "sc", "bounded": "sc", "chase_lev": "tso", "dekker": "tso", "hazard": "tso", "mcs": "pso", "message": "pso",
-    "ms_queue": "pso", "once": "pso", "peterson": "tso", "philosophers": "sc", "refcount": "sc", "ring": "pso", "rwlock": "sc", "seqlock": "pso",
-    "sleeper": "tso", "spinlock": "pso", "store_buffer": "tso", "ticket": "pso", "treiber": "sc", "wakeup": "sc",
+    "barrier": ("sc", 0), "bounded": ("sc", 0), "chase_lev": ("tso", 0), "dekker": ("tso", 170), "hazard": ("tso", 0), "mcs": ("pso", 0),
+    "message": ("pso", 47), "ms_queue": ("pso", 0), "once": ("pso", 0), "peterson": ("tso", 290), "philosophers": ("sc", 0),
+    "refcount": ("sc", 0), "ring": ("pso", 0), "rwlock": ("sc", 0), "seqlock": ("pso", 642), "sleeper": ("tso", 0),
+    "spinlock": ("pso", 510), "store_buffer": ("tso", 24), "ticket": ("pso", 398), "treiber": ("sc", 0), "wakeup": ("sc", 0),
 }
-SEEDS = 20000
+SEARCHED = 20000
 MENDED_SEEDS = 100
 STEPS = "20000"
 HEAD = ["| program | recorded | ends | `sc` | `tso` | `pso` | mended |", "|---|---|---|---|---|---|---|"]
@@ -51,9 +52,9 @@ def translate(name: str, folder: str, *words: str) -> str:
     return out
 
 
-def recorded(program: str, log: str, model: str, seeds: int) -> Optional[Found]:
-    """The first seed that fails, if one of these does."""
-    for seed in range(seeds):
+def recorded(program: str, log: str, model: str, seeds: Iterable[int]) -> Optional[Found]:
+    """The first of these seeds that fails, if one does."""
+    for seed in seeds:
         status, line = clap_debug("record", program, log, "--model", model, "--seed", str(seed), "--steps", STEPS)
         if status == 0:
             return Found(model, seed, line)
@@ -70,16 +71,17 @@ def line_in_c(line: str, lines: str) -> str:
     return f"`{found[1]}` at line {known[found[2]]}"
 
 
-def row(name: str, folder: str) -> str:
+def row(name: str, folder: str, is_search: bool) -> str:
     """The row of the table of an example."""
     program, log = translate(name, folder), f"{folder}/log"
-    found = recorded(program, log, RECORDED[name], SEEDS)
+    model, known = RECORDED[name]
+    found = recorded(program, log, model, range(SEARCHED) if is_search else [known])
     if found is None:
-        return f"| [{name}]({name}.c) | none of {SEEDS} seeds fails under `{RECORDED[name]}` | | | | | |"
+        return f"| [{name}]({name}.c) | `{model}`, not found | | | | | |"
     says = [clap_debug("solve", program, log, f"{folder}/answer", "--model", it)[1] for it in MODELS]
     ends = line_in_c(found.line, f"{folder}/{name}.map")
     mended = translate(name, folder, "-DMENDED")
-    fails = recorded(mended, log, "pso", MENDED_SEEDS)
+    fails = recorded(mended, log, "pso", range(MENDED_SEEDS))
     verdict = f"fails with seed {fails.seed}" if fails else f"no failure in {MENDED_SEEDS} runs"
     return f"| [{name}]({name}.c) | `{found.model}`, seed {found.seed} | {ends} | {' | '.join(says)} | {verdict} |"
 
@@ -89,12 +91,13 @@ def main(arguments: List[str]) -> int:
     parser.add_argument("names", nargs="*", metavar="NAME")
     parser.add_argument("--check", action="store_true", help="compare with the table of examples/c/README.md")
     parser.add_argument("--rewrite", action="store_true", help="put the table into examples/c/README.md")
+    parser.add_argument("--search", action="store_true", help="record by one seed after another, and not by the one that is known")
     given = parser.parse_args(arguments)
     names = given.names or sorted(RECORDED)
     with tempfile.TemporaryDirectory() as folder:
         rows = []
         for name in names:
-            rows.append(row(name, folder))
+            rows.append(row(name, folder, given.search))
             print(rows[-1], flush=True)
     if not given.check and not given.rewrite:
         return 0

@@ -58,8 +58,24 @@ static void swap_them(int *a, int *b)
 """
 
 
+MUTEX_GLOBALS = """int sum, most, done, count[3];
+unsigned mix;
+pthread_mutex_t locks[3] = {PTHREAD_MUTEX_INITIALIZER, PTHREAD_MUTEX_INITIALIZER, PTHREAD_MUTEX_INITIALIZER};
+pthread_mutex_t m = PTHREAD_MUTEX_INITIALIZER;
+pthread_cond_t all = PTHREAD_COND_INITIALIZER;
+static void at_most(int v)
+{
+    if (v <= most)
+        return;
+    most = v;
+}
+"""
+
+
 class Programs:
-    """Programs of one thread."""
+    """Programs of one thread, without what is before them: HEAD, GLOBALS and FUNCTIONS."""
+
+    before = HEAD + GLOBALS + FUNCTIONS
 
     def __init__(self, seed: int) -> None:
         self.chance = random.Random(seed)
@@ -204,11 +220,14 @@ class Programs:
             for _ in range(self.chance.randint(1, 2)):
                 lines.append(f"OBSERVE({self.chance.choice([self.number(2), *self.locals, 'ga', 'gb', 'arr[2]', 'one.left', '(int)gu', 'na', 'cells[1]', 'cells[3]'])});")
         lines += [f"OBSERVE({it});" for it in ("ga", "gb", "(int)gu", "na", "(int)nu", "arr[0]", "cells[2]", "many[1].left", "la", "lb", "lc")]
-        return f"{HEAD}{GLOBALS}{FUNCTIONS}int main(void)\n{{\n" + "".join(f"    {it}\n" for it in lines) + "    return 0;\n}\n"
+        return "int main(void)\n{\n" + "".join(f"    {it}\n" for it in lines) + "    return 0;\n}\n"
 
 
 class MutexPrograms:
-    """Programs of two to four threads that use shared variables under mutexes alone, by operations that commute."""
+    """Programs of two to four threads that use shared variables under mutexes alone, by operations that commute, without what is before
+    them: HEAD and MUTEX_GLOBALS."""
+
+    before = HEAD + MUTEX_GLOBALS
 
     def __init__(self, seed: int) -> None:
         self.chance = random.Random(seed)
@@ -220,14 +239,8 @@ class MutexPrograms:
         join = [f"for (int i = 0; i < {self.count}; i++)", "    pthread_join(t[i], NULL);"]
         observed = [f"OBSERVE({it});" for it in ("sum", "(int)mix", "most", "count[0]", "count[1]", "count[2]", "done")]
         main = [*handles, *create, *self.waiting(), *join, *observed]
-        return "\n".join([HEAD + self.globals(), "static void *work(void *arg)", "{", "    int id = (int)(intptr_t)arg;", *self.body(),
+        return "\n".join(["static void *work(void *arg)", "{", "    int id = (int)(intptr_t)arg;", *self.body(),
                           "    return NULL;", "}", "int main(void)", "{", *(f"    {it}" for it in main), "    return 0;", "}", ""])
-
-    def globals(self) -> str:
-        return ("int sum, most, done, count[3];\nunsigned mix;\npthread_mutex_t locks[3] = {PTHREAD_MUTEX_INITIALIZER, "
-                "PTHREAD_MUTEX_INITIALIZER, PTHREAD_MUTEX_INITIALIZER};\npthread_mutex_t m = PTHREAD_MUTEX_INITIALIZER;\n"
-                "pthread_cond_t all = PTHREAD_COND_INITIALIZER;\n"
-                "static void at_most(int v)\n{\n    if (v <= most)\n        return;\n    most = v;\n}\n")
 
     def waiting(self) -> List[str]:
         return ["pthread_mutex_lock(&m);", f"while (done < {self.count})", "    pthread_cond_wait(&all, &m);", "pthread_mutex_unlock(&m);"]

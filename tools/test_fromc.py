@@ -5,9 +5,9 @@
 
 Translated programs are run by the clap_debug that CLAP_DEBUG names, or by the one that this checkout has built, or else by
 bench/machine.py. It wants gcc, and pycparser for some Python here; without these it says so, and ends with 0."""
-import collections
 import os
 import re
+import shutil
 import subprocess
 import sys
 import tempfile
@@ -26,6 +26,10 @@ except ImportError:
     print("test_fromc.py: skipped, since no Python here has pycparser (apt-get install python3-pycparser)")
     sys.exit(0)
 
+if not shutil.which("gcc"):
+    print("test_fromc.py: skipped, since there is no gcc")
+    sys.exit(0)
+
 import c_programs  # noqa: E402
 from from_c.main import translation  # noqa: E402
 from from_c.refusal import Refusal  # noqa: E402
@@ -33,6 +37,7 @@ from from_c.unit import Options  # noqa: E402
 
 NATIVE = ["-std=gnu11", "-w", "-fwrapv", "-O0", "-pthread"]
 OBSERVE = re.compile(r"^(\s*)OBSERVE\((.*)\);$", re.M)
+MODELS = ("sc", "tso", "pso")
 PROGRAMS = int(os.environ.get("FROMC_PROGRAMS", "200"))
 MUTEXES = int(os.environ.get("FROMC_MUTEXES", "50"))
 
@@ -58,79 +63,105 @@ def recorded(text: str, model: str = "sc", seed: int = 0) -> Tuple[str, int]:
     return (found[2], 0) if found[2] else ("failed", int(found[1]))
 
 
-def translated(source: str, options: Options = Options()) -> Tuple[str, Dict[int, int], List[str]]:
-    """The program, by its lines those in C, and the warnings."""
+def translated(source: str, options: Options = Options(), is_checked: bool = True) -> Tuple[str, Dict[int, int], List[str]]:
+    """The program, by its lines those in C, and the warnings. Most tests know already whether gcc takes the file."""
     with tempfile.TemporaryDirectory() as folder:
         file = f"{folder}/p.c"
         with open(file, "w", encoding="utf-8") as out:
             out.write(source)
-        text, lines, notes = translation(file, options, [])
+        text, lines, notes = translation(file, options, [], is_checked)
     pairs = [line.split()[:2] for line in lines.splitlines()[1:]]
     return text, {int(ours): int(theirs) for ours, theirs in pairs}, notes.lines()
 
 
-def native(source: str, *words: str) -> Tuple[int, str, str]:
-    """The status of the C program as gcc makes it, and what it writes."""
+def compiled(sources: List[str], folder: str, *words: str) -> None:
+    """Makes one native program of some, of which the number that it is given says which one runs. What is before them is that of the
+    first. Each has the lines that it has alone."""
+    before, parts = sources[0], []
+    for number, source in enumerate(sources[1:]):
+        parts += [f"#define main main_{number}", f"#define work work_{number}", f'#line {before.count(chr(10)) + 1} "p.c"', source,
+                  "#undef main", "#undef work"]
+    table = ", ".join(f"main_{number}" for number in range(len(sources) - 1))
+    chosen = f"int (*const all_mains[])(void) = {{{table}}};\nint main(int n, char **w)\n{{\n    return all_mains[atoi(w[1])]();\n}}\n"
+    with open(f"{folder}/p.c", "w", encoding="utf-8") as out:
+        out.write("\n".join([before, *parts, chosen]))
+    made = subprocess.run(["gcc", *NATIVE, *words, "-include", "stdio.h", "-include", "stdlib.h", f"{folder}/p.c", "-o", f"{folder}/p"],
+                          capture_output=True, text=True, check=False)
+    if made.returncode:
+        raise AssertionError(made.stderr)
+
+
+def native(folder: str, number: int) -> Tuple[int, str, str]:
+    """The status of a native program, and what it writes."""
+    done = subprocess.run([f"{folder}/p", str(number)], capture_output=True, text=True, timeout=300, check=False)
+    return done.returncode, done.stdout, done.stderr
+
+
+def values(before: str, sources: List[str]) -> List[List[int]]:
+    """What each program observes natively."""
     with tempfile.TemporaryDirectory() as folder:
-        file = f"{folder}/p.c"
-        with open(file, "w", encoding="utf-8") as out:
-            out.write(source)
-        made = subprocess.run(["gcc", *NATIVE, *words, "-include", "stdio.h", file, "-o", f"{folder}/p"], capture_output=True, text=True, check=False)
-        if made.returncode:
-            raise AssertionError(made.stderr + source)
-        done = subprocess.run([f"{folder}/p"], capture_output=True, text=True, timeout=60, check=False)
-        return done.returncode, done.stdout, done.stderr
+        compiled([before, *sources], folder, "-DOBSERVE(e)=printf(\"%d\\n\",(int)(e))")
+        return [list(map(int, native(folder, number)[1].split())) for number in range(len(sources))]
 
 
-def outcome(source: str) -> Tuple[str, int]:
-    """How a native run ends, as `recorded` says it."""
-    status, _, said = native(source)
-    found = re.search(r"p\.c:(\d+): .*Assertion", said)
-    if status == 0:
-        return "finished", 0
-    if not found:
-        raise AssertionError(f"{status} {said}\n{source}")
-    return "failed", int(found[1])
+def outcomes(before: str, sources: List[str]) -> List[Tuple[str, int]]:
+    """How a native run of each program ends, as `recorded` says it."""
+    ends: List[Tuple[str, int]] = []
+    with tempfile.TemporaryDirectory() as folder:
+        compiled([before, *sources], folder)
+        for number, source in enumerate(sources):
+            status, _, said = native(folder, number)
+            found = re.search(r"p\.c:(\d+): .*Assertion", said)
+            if status and not found:
+                raise AssertionError(f"{status} {said}\n{source}")
+            ends.append(("failed", int(found[1])) if found and status else ("finished", 0))
+    return ends
 
 
-def asserting(source: str, wrong: Optional[int] = None) -> str:
+def asserting(source: str, observed: List[int], wrong: Optional[int] = None) -> str:
     """The program with an assertion for each thing that is observed: that it is what it was natively; of one, that it is another."""
-    _, out, _ = native(source, "-DOBSERVE(e)=printf(\"%d\\n\",(int)(e))")
-    values = iter(out.split())
-    places = iter(range(len(out.split())))
+    given = iter(enumerate(observed))
 
     def checked(found: "re.Match[str]") -> str:
-        value = int(next(values)) ^ (next(places) == wrong)
+        number, value = next(given)
+        value ^= number == wrong
         return f"{found[1]}assert(({found[2]}) == ({value if value > -(1 << 31) else '-2147483647 - 1'}));"
 
-    return OBSERVE.sub(checked, source)
+    made = OBSERVE.sub(checked, source)
+    if next(given, None) is not None:
+        raise AssertionError(f"more was observed than there is\n{source}")
+    return made
 
 
 class Generated(unittest.TestCase):
     """Random programs: each assertion comes out natively as it does translated."""
 
-    def compare(self, source: str, what: object, **run: object) -> None:
-        text, lines, _ = translated(source)
-        kind, line = recorded(text, **run)  # type: ignore[arg-type]
-        self.assertEqual((kind, lines.get(line, 0)), outcome(source), f"{what}\n{source}\n{text}")
+    def compare(self, before: str, source: str, end: Tuple[str, int], models: Tuple[str, ...], seed: int) -> None:
+        text, lines, _ = translated(before + source)
+        for model in models:
+            kind, line = recorded(text, model, seed)
+            self.assertEqual((kind, lines.get(line, 0)), end, f"{seed} {model}\n{before}{source}\n{text}")
 
     def test_programs_of_one_thread(self) -> None:
-        ends: Dict[str, int] = collections.Counter()
-        for seed in range(PROGRAMS):
-            made = c_programs.Programs(seed)
-            source = made.program()
-            count = len(OBSERVE.findall(source))
-            wrong = made.chance.randrange(count) if seed % 2 else None
-            source = asserting(source, wrong)
-            self.compare(source, seed)
-            ends["failed" if wrong is not None else "finished"] += 1
-        self.assertEqual(dict(ends), {"failed": PROGRAMS // 2, "finished": PROGRAMS - PROGRAMS // 2})
+        made = [c_programs.Programs(seed) for seed in range(PROGRAMS)]
+        sources = [it.program() for it in made]
+        observed = values(made[0].before, sources)
+        wrong = [it.chance.randrange(len(found)) if seed % 2 else None for seed, (it, found) in enumerate(zip(made, observed))]
+        sources = [asserting(*each) for each in zip(sources, observed, wrong)]
+        ends = outcomes(made[0].before, sources)
+        self.assertEqual([end[0] for end in ends], ["finished" if it is None else "failed" for it in wrong])
+        for seed, (source, end) in enumerate(zip(sources, ends)):
+            self.compare(made[0].before, source, end, ("sc",), seed)
 
     def test_programs_with_mutexes(self) -> None:
-        for seed in range(MUTEXES):
-            source = asserting(c_programs.MutexPrograms(seed).program())
-            for model in ("sc", "tso", "pso"):
-                self.compare(source, seed, model=model, seed=seed)
+        made = [c_programs.MutexPrograms(seed) for seed in range(MUTEXES)]
+        sources = [it.program() for it in made]
+        sources = [asserting(*each) for each in zip(sources, values(made[0].before, sources))]
+        ends = outcomes(made[0].before, sources)
+        self.assertEqual(set(ends), {("finished", 0)})
+        for seed, (source, end) in enumerate(zip(sources, ends)):
+            self.compare(made[0].before, source, end, MODELS, seed)
+
 
 def sections(name: str) -> List[Tuple[str, str, str]]:
     """The sections of a file beside this one: a heading, what stands at file scope, and the statements of main."""
@@ -171,25 +202,26 @@ def whole(globals_: str, *lines: str) -> str:
 
 class Constructs(unittest.TestCase):
     def test_each_construct(self) -> None:
+        """What is observed is as it is natively; and where the last thing is to be another one, it fails there."""
         for name, globals_, body in sections("test_fromc_constructs.txt"):
             with self.subTest(name):
-                source = asserting(whole(globals_, body))
-                count = len(re.findall("OBSERVE", body))
-                self.assertGreater(count, 0)
-                self.assertEqual(source.count("assert(("), count)
-                text, lines, _ = translated(source)
+                source = whole(globals_, body)
+                observed = values("", [source])[0]
+                self.assertEqual(len(observed), body.count("OBSERVE"))
+                text, _, _ = translated(asserting(source, observed))
                 self.assertEqual(recorded(text), ("finished", 0), source + text)
-                # And the last one the other way fails there.
-                spoilt = asserting(whole(globals_, body), count - 1)
+                spoilt = asserting(source, observed, len(observed) - 1)
                 text, lines, _ = translated(spoilt)
                 kind, line = recorded(text)
-                self.assertEqual((kind, lines.get(line)), outcome(spoilt), spoilt + text)
+                last = max(number for number, it in enumerate(spoilt.splitlines(), 1) if it.startswith("    assert(("))
+                self.assertEqual((kind, lines.get(line)), ("failed", last), spoilt + text)
 
     def test_threads(self) -> None:
         """What a thread is given: nothing, a number, a place; and the calls of <threads.h>."""
         for name, globals_, body in sections("test_fromc_threads.txt"):
             with self.subTest(name):
-                text, _, _ = translated(asserting(whole(globals_, body)))
+                source = whole(globals_, body)
+                text, _, _ = translated(asserting(source, values("", [source])[0]))
                 ends = [recorded(text, model, seed) for model in ("sc", "pso") for seed in range(3)]
                 self.assertEqual(ends, [("finished", 0)] * 6, text)
 
@@ -225,7 +257,7 @@ class Refused(unittest.TestCase):
         for source, found in ((whole("", "undeclared(1);"), "implicit declaration"), (whole("#include <string.h>", ""), "only these are known: assert.h"),
                               (whole("int x = \"a\";", ""), "makes integer from pointer"), (whole("", "int x = ;"), "expected expression")):
             with self.assertRaises(Refusal) as caught:
-                translated(source)
+                translated(source, is_checked=False)
             self.assertIn(found, str(caught.exception))
 
     def test_no_main(self) -> None:
@@ -264,10 +296,10 @@ class Warned(unittest.TestCase):
     def test_unguarded_variables(self) -> None:
         guarded = "pthread_mutex_lock(&m); n++; pthread_mutex_unlock(&m);"
         for globals_, thread, main, warned in (
-            ("int n;", "n++;", "n++;", True), ("int n;", "n++;", ""), ("int n;", "int k = n; (void)k;", "int k = n; (void)k;"),
-            ("atomic_int n;", "n++;", "n++;"), ("pthread_mutex_t m; int n;", guarded, guarded),
+            ("int n;", "n++;", "n++;", True), ("int n;", "n++;", "", False), ("int n;", "int k = n; (void)k;", "int k = n; (void)k;", False),
+            ("atomic_int n;", "n++;", "n++;", False), ("pthread_mutex_t m; int n;", guarded, guarded, False),
             ("pthread_mutex_t m; int n;", guarded, "n++;", True), ("pthread_mutex_t m, k; int n;", guarded, guarded.replace("&m", "&k"), True),
-            ("pthread_mutex_t m; int n, c;", f"if (c) pthread_mutex_lock(&m); n++;", guarded, True),
+            ("pthread_mutex_t m; int n, c;", "if (c) pthread_mutex_lock(&m); n++;", guarded, True),
         ):
             said = self.warnings(globals_, thread, main)
             self.assertEqual(any("without a common mutex" in it and " n (" in it for it in said), warned, (globals_, thread, main, said))

@@ -43,8 +43,8 @@ def preprocess(path: str, defines: List[str]) -> str:
     return done.stdout
 
 
-def parse(path: str, defines: List[str]) -> Any:
-    """The syntax tree of a C file."""
+def parse(path: str, defines: List[str], is_checked: bool = False) -> Any:
+    """The syntax tree of a C file, which gcc checks before where it isn't checked yet."""
     from pycparser import CParser
 
     try:
@@ -53,7 +53,8 @@ def parse(path: str, defines: List[str]) -> Any:
     except (OSError, UnicodeDecodeError) as fault:
         raise Refusal(None, f"{path} can't be read", str(getattr(fault, "strerror", None) or "it is no text in UTF-8")) from None
     text = preprocess(path, defines)
-    check(path, defines)
+    if not is_checked:
+        check(path, defines)
     try:
         return CParser().parse(text, path)
     except Exception as fault:  # each version has its own kinds of errors

@@ -18,11 +18,11 @@ def heading(file: str, options: Options) -> List[str]:
     return [f"// From {os.path.basename(file)} by tools/fromc, for runs {models}. Behind // is the line in C.", ""]
 
 
-def translation(file: str, options: Options, defines: List[str]) -> Tuple[str, str, Notes]:
-    """The program's text, its map of lines, and the warnings."""
+def translation(file: str, options: Options, defines: List[str], is_checked: bool = False) -> Tuple[str, str, Notes]:
+    """The program's text, its map of lines, and the warnings. `is_checked` says that gcc is known to take the file."""
     from pycparser import c_ast
 
-    tree = front.parse(file, defines)
+    tree = front.parse(file, defines, is_checked)
     program, notes = translate(tree, c_ast, options)
     checks.note(program, notes)
     printer = Printer(file)
