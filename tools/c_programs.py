@@ -23,10 +23,11 @@ enum color paint;
 """
 FUNCTIONS = """static int first_of(const int *a, int n, int what)
 {
-    for (int i = 0; i < n; i++) {
-        if (a[i] == what)
-            return i;
-        if (a[i] > 1000)
+    for (int index = 0; index < n; index++) {
+        int seen = a[index];
+        if (seen == what)
+            return index;
+        if (seen > 1000)
             break;
     }
     return -1;
@@ -43,17 +44,17 @@ static void put(struct pair *p, int v)
     p->right = (unsigned)v * 3u;
     p->set = v;
 }
-static int pick(int c, int x, int y)
+static int pick(int kept, int chosen, int go)
 {
-    if (c)
-        return x;
-    return y;
+    if (kept)
+        return chosen;
+    return go;
 }
 static void swap_them(int *a, int *b)
 {
-    int t = *a;
+    int old = *a;
     *a = *b;
-    *b = t;
+    *b = old;
 }
 """
 

@@ -11,13 +11,13 @@ static int value[4];
 
 static void enqueue(int node, int what)
 {
-    value[node] = what;
     atomic_store_explicit(&next[node], 0, memory_order_relaxed);
     for (;;) {
         int last = atomic_load_explicit(&tail, memory_order_acquire);
         int behind = atomic_load_explicit(&next[last], memory_order_acquire);
 
         if (behind == 0) {
+            value[node] = what;
 #ifdef MENDED
             int none = 0;
 

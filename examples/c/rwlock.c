@@ -5,7 +5,8 @@
 #include <stddef.h>
 
 static atomic_int state;
-static int a, b;
+static atomic_bool writing;
+static int value;
 
 static void read_lock(void)
 {
@@ -44,9 +45,7 @@ static void write_unlock(void)
 static void *reader(void *unused)
 {
     read_lock();
-    int x = a;
-    int y = b;
-    assert(x == y);
+    assert(!atomic_load(&writing));
     read_unlock();
     return NULL;
 }
@@ -54,8 +53,9 @@ static void *reader(void *unused)
 static void *writer(void *unused)
 {
     write_lock();
-    a = 1;
-    b = 1;
+    atomic_store(&writing, 1);
+    value++;
+    atomic_store(&writing, 0);
     write_unlock();
     return NULL;
 }

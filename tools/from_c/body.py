@@ -65,7 +65,7 @@ class Body:
 
     def temporary(self, base: str) -> Local:
         """A local that nothing else uses."""
-        made = Local(self.names.fresh(base))
+        made = Local(self.names.fresh(base, self.ints))
         self.ints.append(made.name)
         self.temporaries.add(made)
         return made

@@ -1,7 +1,7 @@
 """Where C's variables are: which names of the program hold the parts of a variable, and what an lvalue leads to."""
 import dataclasses
 import math
-from typing import Dict, Iterator, List, Optional, Set, Tuple, Union
+from typing import Container, Dict, Iterator, List, Optional, Set, Tuple, Union
 
 from .operators import simplified
 from .program import Expression, Number
@@ -21,9 +21,10 @@ class Names:
     def has(self, name: str) -> bool:
         return name in self.taken or self.around is not None and self.around.has(name)
 
-    def fresh(self, base: str) -> str:
+    def fresh(self, base: str, others: Container[str] = ()) -> str:
+        """A name that isn't taken, and isn't one of some others."""
         name, number = base, 2
-        while self.has(name):
+        while self.has(name) or name in others:
             name, number = f"{base}_{number}", number + 1
         self.taken.add(name)
         return name
