@@ -1,0 +1,1 @@
+/* What tools/fromc knows of <sched.h>. sched_yield is built in. */

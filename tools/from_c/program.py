@@ -1,0 +1,261 @@
+"""Programs between C and the language: statements and expressions of the language, and blocks that can be left early."""
+import dataclasses
+from typing import FrozenSet, Iterable, Iterator, Optional, Tuple, Union
+
+from .refusal import Place
+
+# What is read or written: a local's name, or a shared name with the element where it is known.
+Object = Tuple[str, str, Optional[int]]
+
+
+@dataclasses.dataclass(frozen=True)
+class Number:
+    value: int
+
+
+@dataclasses.dataclass(frozen=True)
+class Local:
+    name: str
+
+
+@dataclasses.dataclass(frozen=True)
+class Cell:
+    """A shared variable. It is atomic where C says so."""
+
+    name: str
+    atomic: bool
+
+
+@dataclasses.dataclass(frozen=True)
+class Element:
+    """An element of a shared array."""
+
+    array: str
+    index: "Expression"
+    atomic: bool
+
+
+@dataclasses.dataclass(frozen=True)
+class Unary:
+    operator: str
+    operand: "Expression"
+
+
+@dataclasses.dataclass(frozen=True)
+class Binary:
+    operator: str
+    left: "Expression"
+    right: "Expression"
+
+
+Expression = Union[Number, Local, Cell, Element, Unary, Binary]
+
+
+@dataclasses.dataclass(frozen=True)
+class Assign:
+    target: Union[Local, Cell, Element]
+    value: Expression
+    at: Place
+
+
+@dataclasses.dataclass(frozen=True)
+class Swap:
+    """The local takes what the shared variable held, which takes the value, in one step."""
+
+    target: Local
+    cell: Cell
+    value: Expression
+    at: Place
+
+
+@dataclasses.dataclass(frozen=True)
+class CompareSwap:
+    """The local takes what the shared variable held, which takes the value where it held what is expected, in one step."""
+
+    target: Local
+    cell: Cell
+    expected: Expression
+    value: Expression
+    at: Place
+
+
+@dataclasses.dataclass(frozen=True)
+class Call:
+    """lock, unlock, wait, signal, broadcast, join, fence or stbar."""
+
+    name: str
+    arguments: Tuple[str, ...]
+    at: Place
+
+
+@dataclasses.dataclass(frozen=True)
+class Create:
+    handle: str
+    thread: str
+    arguments: Tuple[Expression, ...]
+    at: Place
+
+
+@dataclasses.dataclass(frozen=True)
+class Assert:
+    condition: Expression
+    at: Place
+
+
+@dataclasses.dataclass(frozen=True)
+class If:
+    condition: Expression
+    then: Tuple["Statement", ...]
+    other: Tuple["Statement", ...]
+    at: Place
+
+
+@dataclasses.dataclass(frozen=True)
+class While:
+    condition: Expression
+    body: Tuple["Statement", ...]
+    at: Place
+
+
+@dataclasses.dataclass(frozen=True)
+class Labelled:
+    """A block that a `Leave` of its label ends."""
+
+    label: int
+    name: str
+    body: Tuple["Statement", ...]
+    at: Place
+
+
+@dataclasses.dataclass(frozen=True)
+class Leave:
+    label: int
+    at: Place
+
+
+Statement = Union[Assign, Swap, CompareSwap, Call, Create, Assert, If, While, Labelled, Leave]
+Block = Tuple[Statement, ...]
+
+
+@dataclasses.dataclass(frozen=True)
+class Thread:
+    """A thread's body, or main's."""
+
+    name: str
+    parameters: Tuple[str, ...]
+    ints: Tuple[str, ...]
+    handles: Tuple[str, ...]
+    body: Block
+    end: Place
+
+
+@dataclasses.dataclass(frozen=True)
+class Global:
+    """A declaration of shared memory, of a mutex or of a condition. Length 0 is a single variable."""
+
+    kind: str
+    name: str
+    length: int
+    value: int
+    at: Place
+
+
+@dataclasses.dataclass(frozen=True)
+class Program:
+    globals: Tuple[Global, ...]
+    threads: Tuple[Thread, ...]
+
+
+@dataclasses.dataclass(frozen=True)
+class Effects:
+    """What some code reads and writes; whether it has an access or a call that orders others; whether it uses shared memory."""
+
+    reads: FrozenSet[Object] = frozenset()
+    writes: FrozenSet[Object] = frozenset()
+    orders: bool = False
+
+    def __or__(self, other: "Effects") -> "Effects":
+        return Effects(self.reads | other.reads, self.writes | other.writes, self.orders or other.orders)
+
+    @property
+    def shares(self) -> bool:
+        return any(it[0] == "shared" for it in self.reads | self.writes)
+
+
+def overlap(some: Iterable[Object], others: Iterable[Object]) -> bool:
+    others = list(others)
+    return any(a[:2] == b[:2] and (a[2] is None or b[2] is None or a[2] == b[2]) for a in some for b in others)
+
+
+def expressions_of(expression: Expression) -> Iterator[Expression]:
+    """An expression and those in it."""
+    yield expression
+    if isinstance(expression, Unary):
+        yield from expressions_of(expression.operand)
+    elif isinstance(expression, Binary):
+        yield from expressions_of(expression.left)
+        yield from expressions_of(expression.right)
+    elif isinstance(expression, Element):
+        yield from expressions_of(expression.index)
+
+
+def object_of(target: Union[Local, Cell, Element]) -> Object:
+    if isinstance(target, Local):
+        return "local", target.name, None
+    if isinstance(target, Cell):
+        return "shared", target.name, None
+    return "shared", target.array, target.index.value if isinstance(target.index, Number) else None
+
+
+def effects_of(*expressions: Expression) -> Effects:
+    found = [it for each in expressions for it in expressions_of(each) if isinstance(it, (Local, Cell, Element))]
+    return Effects(frozenset(map(object_of, found)), frozenset(), any(getattr(it, "atomic", False) for it in found))
+
+
+def write_of(target: Union[Local, Cell, Element]) -> Effects:
+    index = effects_of(target.index) if isinstance(target, Element) else Effects()
+    return index | Effects(frozenset(), frozenset([object_of(target)]), getattr(target, "atomic", False))
+
+
+def read_in(statement: Statement) -> Tuple[Expression, ...]:
+    """The expressions that a statement evaluates, those of its blocks apart."""
+    if isinstance(statement, Assign):
+        return (statement.value,)
+    if isinstance(statement, Swap):
+        return (statement.value, statement.cell)
+    if isinstance(statement, CompareSwap):
+        return (statement.expected, statement.value, statement.cell)
+    if isinstance(statement, Create):
+        return statement.arguments
+    if isinstance(statement, (Assert, If, While)):
+        return (statement.condition,)
+    return ()
+
+
+def blocks_of(statement: Statement) -> Tuple[Block, ...]:
+    if isinstance(statement, If):
+        return statement.then, statement.other
+    return (statement.body,) if isinstance(statement, (While, Labelled)) else ()
+
+
+def effects_in(block: Block) -> Effects:
+    found = Effects()
+    for statement in block:
+        found |= effects_of(*read_in(statement))
+        if isinstance(statement, (Assign, Swap, CompareSwap)):
+            found |= write_of(statement.target)
+        if isinstance(statement, (Swap, CompareSwap)):
+            found |= write_of(statement.cell)
+        if isinstance(statement, (Call, Create)):
+            found |= Effects(orders=True)
+        for inner in blocks_of(statement):
+            found |= effects_in(inner)
+    return found
+
+
+def statements_in(block: Block) -> Iterator[Statement]:
+    """All statements of a block, those of inner blocks too."""
+    for statement in block:
+        yield statement
+        for inner in blocks_of(statement):
+            yield from statements_in(inner)

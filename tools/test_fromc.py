@@ -1,0 +1,330 @@
+#!/usr/bin/env python3
+"""Tries tools/fromc: generated C programs, run natively and translated; each construct; each refusal; what each atomic access becomes.
+
+    test_fromc.py [NAME..]      all tests, or those of these names, as unittest has them
+
+Translated programs are run by the clap_debug that CLAP_DEBUG names, or by the one that this checkout has built, or else by
+bench/machine.py. It wants gcc, and pycparser for some Python here; without these it says so, and ends with 0."""
+import os
+import re
+import shutil
+import subprocess
+import sys
+import tempfile
+import unittest
+from typing import Dict, List, Optional, Tuple
+
+TOP = os.path.dirname(os.path.dirname(os.path.abspath(__file__)))
+sys.path.insert(0, f"{TOP}/tools")
+SYSTEM = "/usr/bin/python3"
+try:
+    import pycparser  # noqa: F401
+except ImportError:
+    if os.path.realpath(SYSTEM) != os.path.realpath(sys.executable) and not os.environ.get("FROMC_SECOND"):
+        os.environ["FROMC_SECOND"] = "1"
+        os.execv(SYSTEM, [SYSTEM, *sys.argv])
+    print("test_fromc.py: skipped, since no Python here has pycparser (apt-get install python3-pycparser)")
+    sys.exit(0)
+
+if not shutil.which("gcc"):
+    print("test_fromc.py: skipped, since there is no gcc")
+    sys.exit(0)
+
+import c_programs  # noqa: E402
+from from_c.main import translation  # noqa: E402
+from from_c.refusal import Refusal  # noqa: E402
+from from_c.unit import Options  # noqa: E402
+
+NATIVE = ["-std=gnu11", "-w", "-fwrapv", "-O0", "-pthread"]
+OBSERVE = re.compile(r"^(\s*)OBSERVE\((.*)\);$", re.M)
+MODELS = ("sc", "tso", "pso")
+PROGRAMS = int(os.environ.get("FROMC_PROGRAMS", "200"))
+MUTEXES = int(os.environ.get("FROMC_MUTEXES", "50"))
+
+
+def program() -> Optional[List[str]]:
+    """What runs a translated program."""
+    named = [os.environ.get("CLAP_DEBUG", ""), f"{TOP}/crates/clap_debug/out/clap_debug", f"{TOP}/out/clap_debug", f"{TOP}/out/clap_debug.unproved"]
+    return next(([it] for it in named if it and os.access(it, os.X_OK)), None)
+
+
+def recorded(text: str, model: str = "sc", seed: int = 0) -> Tuple[str, int]:
+    """How a run of a program ends: finished, failed or deadlock, and the line of a failure or 0."""
+    with tempfile.TemporaryDirectory() as folder:
+        file = f"{folder}/p.tc"
+        with open(file, "w", encoding="utf-8") as out:
+            out.write(text)
+        known = program()
+        words = [*known, "record", file, f"{folder}/log"] if known else [sys.executable, f"{TOP}/bench/machine.py", "record", file]
+        done = subprocess.run([*words, "--model", model, "--seed", str(seed)], capture_output=True, text=True, check=False)
+    found = re.match(r"failed \S+ line (\d+) |(finished|deadlock)", done.stdout)
+    if not found:
+        raise AssertionError(f"{done.stdout}{done.stderr}\n{text}")
+    return (found[2], 0) if found[2] else ("failed", int(found[1]))
+
+
+def translated(source: str, options: Options = Options(), is_checked: bool = True) -> Tuple[str, Dict[int, int], List[str]]:
+    """The program, by its lines those in C, and the warnings. Most tests know already whether gcc takes the file."""
+    with tempfile.TemporaryDirectory() as folder:
+        file = f"{folder}/p.c"
+        with open(file, "w", encoding="utf-8") as out:
+            out.write(source)
+        text, lines, notes = translation(file, options, [], is_checked)
+    pairs = [line.split()[:2] for line in lines.splitlines()[1:]]
+    return text, {int(ours): int(theirs) for ours, theirs in pairs}, notes.lines()
+
+
+def compiled(sources: List[str], folder: str, *words: str) -> None:
+    """Makes one native program of some, of which the number that it is given says which one runs. What is before them is that of the
+    first. Each has the lines that it has alone."""
+    before, parts = sources[0], []
+    for number, source in enumerate(sources[1:]):
+        parts += [f"#define main main_{number}", f"#define work work_{number}", f'#line {before.count(chr(10)) + 1} "p.c"', source,
+                  "#undef main", "#undef work"]
+    table = ", ".join(f"main_{number}" for number in range(len(sources) - 1))
+    chosen = f"int (*const all_mains[])(void) = {{{table}}};\nint main(int n, char **w)\n{{\n    return all_mains[atoi(w[1])]();\n}}\n"
+    with open(f"{folder}/p.c", "w", encoding="utf-8") as out:
+        out.write("\n".join([before, *parts, chosen]))
+    made = subprocess.run(["gcc", *NATIVE, *words, "-include", "stdio.h", "-include", "stdlib.h", f"{folder}/p.c", "-o", f"{folder}/p"],
+                          capture_output=True, text=True, check=False)
+    if made.returncode:
+        raise AssertionError(made.stderr)
+
+
+def native(folder: str, number: int) -> Tuple[int, str, str]:
+    """The status of a native program, and what it writes."""
+    done = subprocess.run([f"{folder}/p", str(number)], capture_output=True, text=True, timeout=300, check=False)
+    return done.returncode, done.stdout, done.stderr
+
+
+def values(before: str, sources: List[str]) -> List[List[int]]:
+    """What each program observes natively."""
+    with tempfile.TemporaryDirectory() as folder:
+        compiled([before, *sources], folder, "-DOBSERVE(e)=printf(\"%d\\n\",(int)(e))")
+        return [list(map(int, native(folder, number)[1].split())) for number in range(len(sources))]
+
+
+def outcomes(before: str, sources: List[str]) -> List[Tuple[str, int]]:
+    """How a native run of each program ends, as `recorded` says it."""
+    ends: List[Tuple[str, int]] = []
+    with tempfile.TemporaryDirectory() as folder:
+        compiled([before, *sources], folder)
+        for number, source in enumerate(sources):
+            status, _, said = native(folder, number)
+            found = re.search(r"p\.c:(\d+): .*Assertion", said)
+            if status and not found:
+                raise AssertionError(f"{status} {said}\n{source}")
+            ends.append(("failed", int(found[1])) if found and status else ("finished", 0))
+    return ends
+
+
+def asserting(source: str, observed: List[int], wrong: Optional[int] = None) -> str:
+    """The program with an assertion for each thing that is observed: that it is what it was natively; of one, that it is another."""
+    given = iter(enumerate(observed))
+
+    def checked(found: "re.Match[str]") -> str:
+        number, value = next(given)
+        value ^= number == wrong
+        return f"{found[1]}assert(({found[2]}) == ({value if value > -(1 << 31) else '-2147483647 - 1'}));"
+
+    made = OBSERVE.sub(checked, source)
+    if next(given, None) is not None:
+        raise AssertionError(f"more was observed than there is\n{source}")
+    return made
+
+
+class Generated(unittest.TestCase):
+    """Random programs: each assertion comes out natively as it does translated."""
+
+    def compare(self, before: str, source: str, end: Tuple[str, int], models: Tuple[str, ...], seed: int) -> None:
+        text, lines, _ = translated(before + source)
+        for model in models:
+            kind, line = recorded(text, model, seed)
+            self.assertEqual((kind, lines.get(line, 0)), end, f"{seed} {model}\n{before}{source}\n{text}")
+
+    def test_programs_of_one_thread(self) -> None:
+        made = [c_programs.Programs(seed) for seed in range(PROGRAMS)]
+        sources = [it.program() for it in made]
+        observed = values(made[0].before, sources)
+        wrong = [it.chance.randrange(len(found)) if seed % 2 else None for seed, (it, found) in enumerate(zip(made, observed))]
+        sources = [asserting(*each) for each in zip(sources, observed, wrong)]
+        ends = outcomes(made[0].before, sources)
+        self.assertEqual([end[0] for end in ends], ["finished" if it is None else "failed" for it in wrong])
+        for seed, (source, end) in enumerate(zip(sources, ends)):
+            self.compare(made[0].before, source, end, ("sc",), seed)
+
+    def test_programs_with_mutexes(self) -> None:
+        made = [c_programs.MutexPrograms(seed) for seed in range(MUTEXES)]
+        sources = [it.program() for it in made]
+        sources = [asserting(*each) for each in zip(sources, values(made[0].before, sources))]
+        ends = outcomes(made[0].before, sources)
+        self.assertEqual(set(ends), {("finished", 0)})
+        for seed, (source, end) in enumerate(zip(sources, ends)):
+            self.compare(made[0].before, source, end, MODELS, seed)
+
+
+def sections(name: str) -> List[Tuple[str, str, str]]:
+    """The sections of a file beside this one: a heading, what stands at file scope, and the statements of main."""
+    with open(f"{TOP}/tools/{name}", encoding="utf-8") as file:
+        parts = re.split(r"^### ", file.read(), flags=re.M)[1:]
+    heads = [it.partition("\n") for it in parts]
+    return [(title, *map(str.strip, text.split("---\n"))) for title, _, text in heads]  # type: ignore[misc]
+
+
+# What each access becomes, for runs under each model, for sc, for tso and for pso.
+STRONG = "stbar(); x = 1; fence();"
+ACCESSES: List[Tuple[str, Tuple[str, ...], Tuple[str, str, str, str]]] = [
+    ("r = atomic_load_explicit(&x, memory_order_{});", ("relaxed", "consume", "acquire", "seq_cst"), ("r = x;",) * 4),
+    ("atomic_store_explicit(&x, 1, memory_order_{});", ("relaxed",), ("x = 1;",) * 4),
+    ("atomic_store_explicit(&x, 1, memory_order_{});", ("release",), ("stbar(); x = 1;", "x = 1;", "x = 1;", "stbar(); x = 1;")),
+    ("atomic_store_explicit(&x, 1, memory_order_{});", ("seq_cst",), (STRONG, "x = 1;", "x = 1; fence();", STRONG)),
+    ("atomic_store(&x, 1);", ("",), (STRONG, "x = 1;", "x = 1; fence();", STRONG)),
+    ("x = 1;", ("",), (STRONG, "x = 1;", "x = 1; fence();", STRONG)),
+    ("r = x;", ("",), ("r = x;",) * 4),
+    ("r = atomic_exchange_explicit(&x, 1, memory_order_{});", ("relaxed", "acquire", "release", "acq_rel", "seq_cst"), ("r = swap(x, 1);",) * 4),
+    ("r = atomic_fetch_add_explicit(&x, 1, memory_order_{});", ("relaxed", "acquire", "release", "acq_rel", "seq_cst"),
+     ("old = x; seen = cas(x, old, old + 1); while (seen != old) { old = seen; seen = cas(x, old, old + 1); } r = old;",) * 4),
+    ("r = atomic_compare_exchange_strong_explicit(&x, &e, 1, memory_order_{}, memory_order_relaxed);", ("relaxed", "acquire", "release", "acq_rel", "seq_cst"),
+     ("seen = cas(x, e, 1); same = seen == e; e = seen; r = same;",) * 4),
+    ("atomic_thread_fence(memory_order_{});", ("relaxed", "consume", "acquire"), ("",) * 4),
+    ("atomic_thread_fence(memory_order_{});", ("release", "acq_rel"), ("stbar();", "", "", "stbar();")),
+    ("atomic_thread_fence(memory_order_{});", ("seq_cst",), ("fence();", "", "fence();", "fence();")),
+    ("atomic_signal_fence(memory_order_{});", ("seq_cst",), ("",) * 4),
+    ("atomic_init(&x, 1);", ("",), ("x = 1;",) * 4),
+]
+
+
+def whole(globals_: str, *lines: str) -> str:
+    """A C program of these globals and lines of main."""
+    body = "".join(f"    {line}\n" for each in lines for line in each.splitlines())
+    return f"{c_programs.HEAD}#include <stdio.h>\n#include <stdlib.h>\n{globals_}\nint main(void)\n{{\n{body}    return 0;\n}}\n"
+
+
+class Constructs(unittest.TestCase):
+    def test_each_construct(self) -> None:
+        """What is observed is as it is natively; and where the last thing is to be another one, it fails there."""
+        for name, globals_, body in sections("test_fromc_constructs.txt"):
+            with self.subTest(name):
+                source = whole(globals_, body)
+                observed = values("", [source])[0]
+                self.assertEqual(len(observed), body.count("OBSERVE"))
+                text, _, _ = translated(asserting(source, observed))
+                self.assertEqual(recorded(text), ("finished", 0), source + text)
+                spoilt = asserting(source, observed, len(observed) - 1)
+                text, lines, _ = translated(spoilt)
+                kind, line = recorded(text)
+                last = max(number for number, it in enumerate(spoilt.splitlines(), 1) if it.startswith("    assert(("))
+                self.assertEqual((kind, lines.get(line)), ("failed", last), spoilt + text)
+
+    def test_threads(self) -> None:
+        """What a thread is given: nothing, a number, a place; and the calls of <threads.h>."""
+        for name, globals_, body in sections("test_fromc_threads.txt"):
+            with self.subTest(name):
+                source = whole(globals_, body)
+                text, _, _ = translated(asserting(source, values("", [source])[0]))
+                ends = [recorded(text, model, seed) for model in ("sc", "pso") for seed in range(3)]
+                self.assertEqual(ends, [("finished", 0)] * 6, text)
+
+    def test_indexes_outside_fail(self) -> None:
+        """An element is never taken for another one."""
+        for globals_, access in (
+            ("int a[3];", "a[i] = 1;"), ("int a[2][3];", "a[0][i] = 1;"), ("atomic_int a[3];", "atomic_exchange(&a[i], 1);"),
+            ("struct s { int b[3]; } a[2];", "a[0].b[i] = 1;"), ("pthread_mutex_t a[3];", "pthread_mutex_lock(&a[i]);"),
+        ):
+            for value, ends in ((2, "finished"), (3, "failed"), (-1, "failed")):
+                source = whole(f"{globals_} int given = {value};", f"int i = given; {access}")
+                text, lines, _ = translated(source)
+                kind, line = recorded(text)
+                self.assertEqual(kind, ends, text)
+                self.assertTrue(line == 0 or access in source.splitlines()[lines[line] - 1], text)
+
+
+class Refused(unittest.TestCase):
+    def test_each_refusal(self) -> None:
+        for found, globals_, body in sections("test_fromc_refusals.txt"):
+            with self.subTest(globals_ + body):
+                source = whole(globals_, body)
+                before = source.partition("@")[0]
+                place = f"{before.count(chr(10)) + 1}:{len(before) - before.rfind(chr(10))}"
+                with self.assertRaises(Refusal) as caught:
+                    translated(source.replace("@", ""))
+                said = str(caught.exception)
+                self.assertIn(found, said)
+                self.assertGreater(len(caught.exception.advice), 5)
+                self.assertRegex(said, rf"/p\.c:{place}: ", before)
+
+    def test_what_gcc_refuses(self) -> None:
+        for source, found in ((whole("", "undeclared(1);"), "implicit declaration"), (whole("#include <string.h>", ""), "only these are known: assert.h"),
+                              (whole("int x = \"a\";", ""), "makes integer from pointer"), (whole("", "int x = ;"), "expected expression")):
+            with self.assertRaises(Refusal) as caught:
+                translated(source, is_checked=False)
+            self.assertIn(found, str(caught.exception))
+
+    def test_no_main(self) -> None:
+        with self.assertRaises(Refusal) as caught:
+            translated("int x;\n")
+        self.assertIn("there is no main", str(caught.exception))
+
+    def test_limits(self) -> None:
+        with self.assertRaises(Refusal) as caught:
+            translated(whole("int a[1025];", "a[0] = 1;"))
+        self.assertIn("1025 cells, of 1024", str(caught.exception))
+
+
+class Accesses(unittest.TestCase):
+    def test_what_each_access_becomes(self) -> None:
+        """All accesses are lines of one program; what each has become is found by the map."""
+        rows = [(access.format(order), wanted) for access, orders, wanted in ACCESSES for order in orders]
+        lines = ["int e = 3, r = 0;", *(access for access, _ in rows), "e = r;"]
+        source = whole("atomic_int x;", *lines)
+        first = source[: source.index(rows[0][0])].count("\n") + 1
+        for number, model in enumerate((None, "sc", "tso", "pso")):
+            text, places, _ = translated(source, Options(model))
+            for row, (access, wanted) in enumerate(rows):
+                found = [re.sub(r"\s*//.*", "", it).strip() for line, it in enumerate(text.splitlines(), 1) if places.get(line) == first + row]
+                said = re.sub(r"(old|seen|same)_\d+", r"\1", " ".join(found))
+                self.assertEqual(said, wanted[number].replace(" }", ""), f"{access} {model}")
+
+
+class Warned(unittest.TestCase):
+    THREADS = "pthread_t s; void *f(void *u) {{ {} return u; }} "
+    BOTH = "pthread_create(&s, 0, f, 0); {} pthread_join(s, 0);"
+
+    def warnings(self, globals_: str, thread: str, main: str, options: Options = Options()) -> List[str]:
+        return translated(whole(globals_ + self.THREADS.format(thread), self.BOTH.format(main)), options)[2]
+
+    def test_unguarded_variables(self) -> None:
+        guarded = "pthread_mutex_lock(&m); n++; pthread_mutex_unlock(&m);"
+        for globals_, thread, main, warned in (
+            ("int n;", "n++;", "n++;", True), ("int n;", "n++;", "", False), ("int n;", "int k = n; (void)k;", "int k = n; (void)k;", False),
+            ("atomic_int n;", "n++;", "n++;", False), ("pthread_mutex_t m; int n;", guarded, guarded, False),
+            ("pthread_mutex_t m; int n;", guarded, "n++;", True), ("pthread_mutex_t m, k; int n;", guarded, guarded.replace("&m", "&k"), True),
+            ("pthread_mutex_t m; int n, c;", "if (c) pthread_mutex_lock(&m); n++;", guarded, True),
+        ):
+            said = self.warnings(globals_, thread, main)
+            self.assertEqual(any("without a common mutex" in it and " n (" in it for it in said), warned, (globals_, thread, main, said))
+
+    def test_before_and_after_a_thread(self) -> None:
+        source = whole("int n; pthread_t s; void *f(void *u) { n++; return u; }", "n = 1; pthread_create(&s, 0, f, 0); pthread_join(s, 0); n = 2;")
+        self.assertEqual(translated(source)[2], [])
+
+    def test_other_kinds(self) -> None:
+        self.assertIn("volatile orders nothing", self.warnings("volatile int n;", "", "")[0])
+        self.assertIn("time is left out", self.warnings("#include <unistd.h>\n", "sleep(1);", "")[0])
+        self.assertIn("from left to right", self.warnings("atomic_int a, b;", "int r = a + b; (void)r;", "", Options(None, True))[0])
+        source = whole("pthread_t s; void *f(void *u) { return u; }", "pthread_create(&s, 0, f, 0);")
+        self.assertIn("main joins fewer threads", translated(source)[2][0])
+        said = self.warnings("pthread_mutex_t m; pthread_cond_t c;", "", "pthread_mutex_lock(&m); pthread_cond_wait(&c, &m); pthread_mutex_unlock(&m);")
+        self.assertIn("a wait outside a loop", said[0])
+
+    def test_left_to_right(self) -> None:
+        source = whole("int n = 1; int f(int k) { n = n * 10 + k; return n; }", "int r = f(2) - f(3) * n; assert(r == 12 - 123 * 123);")
+        text, _, _ = translated(source, Options(None, True))
+        self.assertEqual(recorded(text), ("finished", 0), text)
+
+
+
+if __name__ == "__main__":
+    known = program()
+    print(f"test_fromc.py: translated programs are run by {known[0] if known else 'bench/machine.py'}", file=sys.stderr)
+    unittest.main()
