@@ -1,0 +1,5 @@
+pub mod Deeds
+pub mod Reproduced
+pub mod Least
+pub mod Deadlock
+pub mod Logs

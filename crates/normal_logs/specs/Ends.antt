@@ -1,0 +1,77 @@
+-- How the paths of a log end.
+use Rattle.std.specs.Prelude.{◌≡◌, ◌+◌, ◌<◌, ℕ, length}
+use Rattle.std.specs.List.{Contains}
+use Rattle.tc_base.specs.Logs.{Log}
+use Rattle.tc_base.specs.Names.{Name, child}
+use Rattle.tc_code.specs.Code.{Code}
+use Rattle.path_walk.specs.Paths.{Walk}
+use Rattle.path_walk.specs.declared.event.Event.{Event}
+use Rattle.path_walk.specs.declared.event.EventKind.{EventKind}
+use Rattle.path_walk.specs.declared.event.EventKind.TheVariants.{Store, Exchange, Unlock, Sleep}
+use Rattle.path_walk.specs.declared.event.EventKind.TheVariants.{Signal, Broadcast, Create, Exit}
+use Rattle.path_walk.specs.declared.event.Link.{Link}
+use Rattle.path_walk.specs.declared.event.Region.{Region}
+use Rattle.path_laws.specs.events.Done.{IsOpenAfter}
+use Rattle.path_laws.specs.history.Along.{IsThread}
+
+-- the last step of a path asks this
+pub record EndsWith (w : Walk) (asked : EventKind) : Type 0 where
+  pub event : Event
+  pub there : Contains w.events event
+  pub asks : event.kind ≡ asked
+  pub last : event.step + 1 ≡ length w.places
+
+-- a thread holds a mutex at the end of its path
+pub record HoldsAtEnd (w : Walk) (m : ℕ) : Type 0 where
+  pub region : Region
+  pub there : Contains w.regions region
+  pub of : region.mutex ≡ m
+  pub lasts : IsOpenAfter (length w.places) region
+
+module _ (code : Code) (log : Log) where
+  -- some path joins the thread of a name
+  pub record IsJoined (n : Name) : Type 0 where
+    pub place : ℕ
+    pub walk : Walk
+    pub there : IsThread code log place walk
+    pub join : Link
+    pub joins : Contains walk.joins join
+    pub name : n ≡ child walk.name join.child
+
+  -- the thread of a name does a step
+  pub record Acts (n : Name) : Type 0 where
+    pub place : ℕ
+    pub walk : Walk
+    pub there : IsThread code log place walk
+    pub name : walk.name ≡ n
+    pub steps : 0 < length walk.places
+
+  -- another thread may have a use for the last step of the thread of a name, which asks this
+  abbrev pub IsUsed : Name → EventKind → Type 0
+  IsUsed n Store = Unit {0}
+  IsUsed n Exchange = Unit {0}
+  IsUsed n (Unlock m) = Unit {0}
+  IsUsed n (Sleep c m) = Unit {0}
+  IsUsed n (Signal c) = Unit {0}
+  IsUsed n (Broadcast c) = Unit {0}
+  IsUsed n (Create k) = Acts (child n k)
+  IsUsed n Exit = IsJoined n
+  IsUsed n _ = ⊥
+
+  -- a path ends with such a step
+  pub record EndsUsed (w : Walk) : Type 0 where
+    pub asked : EventKind
+    pub ends : EndsWith w asked
+    pub used : IsUsed w.name asked
+
+  -- some thread holds a mutex at the end of its path
+  pub record IsHeldAtEnd (m : ℕ) : Type 0 where
+    pub place : ℕ
+    pub walk : Walk
+    pub there : IsThread code log place walk
+    pub holds : HoldsAtEnd walk m
+
+  -- no path of the thread of a name ends with an exit
+  abbrev pub NeverExits : Name → Type 0
+  NeverExits n =
+      (j : ℕ) (w : Walk) → IsThread code log j w → w.name ≡ n → EndsWith w Exit → ⊥

@@ -1,0 +1,44 @@
+-- Runs and logs in which the outcomes of each thread are allowed.
+use Rattle.std.specs.Prelude.{◌≡◌, ℕ, Bool, true, nat_le, List, ◌++◌, length, Some}
+use Rattle.std.specs.FinMap as fin
+use Rattle.tc_base.specs.Buffers.{BufferOps}
+use Rattle.tc_base.specs.Logs.{Log, Path, path_under}
+use Rattle.tc_base.specs.Names.{Name}
+use Rattle.tc_base.specs.States.{Thread, State}
+use Rattle.tc_base.specs.declared.model.Model.{Model}
+use Rattle.tc_base.specs.declared.moves.Move.{Move}
+use Rattle.tc_code.specs.Code.{Code}
+use Rattle.tc_code.specs.Run.{run, Reproduces}
+
+-- which outcomes the thread of a name may have
+abbrev pub Allowed : Type 0
+Allowed = Name → List Bool → Bool
+
+-- at most so many
+abbrev pub at_most : ℕ → Allowed
+at_most most n outcomes = nat_le (length outcomes) most
+
+-- the first outcomes of those that are allowed are allowed too
+abbrev pub HasBeginnings : Allowed → Type 0
+HasBeginnings allowed =
+    (n : Name) (first later : List Bool) → allowed n (first ++ later) ≡ true → allowed n first ≡ true
+
+module _ {B : Type 0} (ops : BufferOps B) (code : Code) (allowed : Allowed) where
+  -- some moves lead to a state of a kind in which each thread has allowed outcomes
+  pub record ComesTo (kind : State B → Type 0) : Type 0 where
+    pub moves : List Move
+    pub state : State B
+    pub leads : run ops code moves ≡ Some state
+    pub is : kind state
+    pub within : (n : Name) (t : Thread B) → fin.get state.threads n ≡ Some t
+        → allowed n t.local.outcomes ≡ true
+
+  -- some moves reproduce a log of a kind, made for a model, in which each path has allowed outcomes
+  pub record ReproducesSome (model : Model) (kind : Log → Type 0) : Type 0 where
+    pub log : Log
+    pub is : kind log
+    pub under : log.model ≡ model
+    pub within : (n : Name) (p : Path) → path_under n log.threads ≡ Some p
+        → allowed n p.outcomes ≡ true
+    pub moves : List Move
+    pub again : Reproduces ops code log moves

@@ -1,0 +1,34 @@
+//! Logs that are enough to find each failure and each deadlock: in that of a failure no thread but the failing one ends with a
+//! step that no other needs.
+//!
+//! Each function's clause is a law, and its body does nothing.
+#![tactic(auto)]
+
+ghost use Rattle.std.specs.Prelude.{◌↔◌, ℕ, IsSome};
+ghost use Rattle.tc_base.specs.Buffers.{BufferOps};
+ghost use Rattle.tc_base.specs.declared.model.Model.{Model};
+ghost use Rattle.tc_code.specs.Code.{Code};
+ghost use Rattle.tc_code.specs.Lawful.{IsLawful};
+ghost use Rattle.tc_code.specs.Run.{IsStuck};
+ghost use Rattle.store_buffers.specs.Laws.{Laws};
+ghost use Rattle.store_buffers.specs.Pending.{Binding};
+ghost use Rattle.normal_logs.specs.Normal.{IsNormal, IsNormalDeadlock};
+ghost use Rattle.normal_logs.specs.Within.{Allowed, at_most, HasBeginnings, ComesTo, ReproducesSome};
+
+/// Some moves lead to a failure in which each thread has allowed outcomes exactly where some moves reproduce a normal log of
+/// which the same holds, under every memory model: where the first of allowed outcomes are allowed too, as with at most so many.
+pub fn failures_have_normal_logs<B>()
+    ensures allowed { (ops : BufferOps B) (model : Model) (bound : Binding) (code : Code) (allowed : Allowed)
+        → Laws ops model bound → IsLawful code → HasBeginnings allowed
+        → ComesTo ops code allowed (λ s. IsSome s.failed) ↔ ReproducesSome ops code allowed model (IsNormal code) }
+    ensures most { (ops : BufferOps B) (model : Model) (bound : Binding) (code : Code) (most : ℕ)
+        → Laws ops model bound → IsLawful code
+        → ComesTo ops code (at_most most) (λ s. IsSome s.failed) ↔ ReproducesSome ops code (at_most most) model (IsNormal code) }
+{}
+
+/// The same of deadlocks, whatever is allowed.
+pub fn deadlocks_have_normal_logs<B>()
+    ensures { (ops : BufferOps B) (model : Model) (bound : Binding) (code : Code) (allowed : Allowed)
+        → Laws ops model bound → IsLawful code
+        → ComesTo ops code allowed (IsStuck ops code) ↔ ReproducesSome ops code allowed model (IsNormalDeadlock code) }
+{}
