@@ -1,8 +1,9 @@
 -- Orders that were asked of every two contended events.
-use Rattle.std.proofs.Common.{◌≡◌, ℕ, ◌<◌, Bool, true, false, List, [], ◌∷◌, ◌++◌, refl, ◌∙◌}
+use Rattle.std.proofs.Common.{◌≡◌, ℕ, ◌<◌, Bool, true, false, List, [], ◌∷◌, ◌++◌, refl, ap, ◌∙◌}
 use Rattle.std.specs.Prelude.{fold, if◌then◌else◌, nat_eq}
 use Rattle.std.specs.List.{All, list_any}
 use Rattle.std.proofs.lemmas.List.Elements.{All-nil, All-head, All-push, All-tail}
+use Rattle.sym_terms.specs.declared.node.Node.{Node}
 use Rattle.order_formula.specs.declared.formula.Body.{Body}
 use Rattle.order_formula.specs.declared.formula.Body.TheVariants as body
 use Rattle.order_formula.specs.declared.formula.Conjunct.{Conjunct}
@@ -11,8 +12,9 @@ use Rattle.order_formula.specs.declared.literal.Atom.TheVariants.{Before, Ends, 
 use Rattle.order_formula.specs.declared.literal.Literal.{Literal}
 use Rattle.order_formula.specs.declared.order.Pair.{Pair}
 use Rattle.order_formula.specs.declared.read.Candidate.{Candidate}
-use Rattle.order_formula.specs.Orders.{Order, AtomIsIn, LiteralIsIn, BodyIsIn, ConjunctIsIn, with_pair}
+use Rattle.order_formula.specs.Orders.{Order, AtomIsIn, LiteralIsIn, BodyIsIn, ConjunctIsIn, unasked, with_pair}
 use Rattle.bit_order.specs.Comparators.{completed, pairs_among}
+use Rattle.bit_blast.specs.Sizes.{whole_size}
 use Rattle.bit_blast.specs.Contended.{contended, is_literal, with_atom, with_body, with_candidate, with_case, with_event}
 
 -- more pairs leave the rest of an order as it is
@@ -23,6 +25,16 @@ module _ {A : Type 0} (part : Order → A) (still : (o : Order) (p : Pair) → p
 
 pub completed_events : (o : Order) (events : List ℕ) → (completed o events).events ≡ o.events
 completed_events o events = same_part (λ (k : Order). k.events) (λ k p. refl) o (pairs_among events)
+
+pub completed_sleeps : (o : Order) (events : List ℕ) → (completed o events).sleeps ≡ o.sleeps
+completed_sleeps o events = same_part (λ (k : Order). k.sleeps) (λ k p. refl) o (pairs_among events)
+
+-- and its size, whatever stands over it
+pub same_size : (o p : Order) (loads : ℕ) (nodes : List Node) (formula : List Conjunct) → p.events ≡ o.events → p.sleeps ≡ o.sleeps
+    → whole_size (record { order = p; loads = loads }) nodes formula ≡ whole_size (record { order = o; loads = loads }) nodes formula
+same_size o p loads nodes formula events sleeps =
+    ap (λ e. whole_size (record { order = unasked e p.sleeps; loads = loads }) nodes formula) events
+    ∙ ap (λ s. whole_size (record { order = unasked o.events s; loads = loads }) nodes formula) sleeps
 
 -- contended events are the order's
 module _ (o : Order) where

@@ -1,5 +1,5 @@
 -- How many variables, and how many clauses, the clauses of a formula take at most.
-use Rattle.std.specs.Prelude.{ℕ, ◌+◌, ◌*◌, List, length, sum_by}
+use Rattle.std.specs.Prelude.{ℕ, ◌+◌, ◌*◌, ◌≤◌, List, length, sum_by}
 use Rattle.order_formula.specs.declared.formula.Body.{Body}
 use Rattle.order_formula.specs.declared.formula.Body.TheVariants as body
 use Rattle.order_formula.specs.declared.formula.Conjunct.{Conjunct}
@@ -7,6 +7,7 @@ use Rattle.order_formula.specs.declared.literal.Atom.{Atom}
 use Rattle.order_formula.specs.declared.literal.Atom.TheVariants.{Before, Ends, Test}
 use Rattle.order_formula.specs.declared.literal.Literal.{Literal}
 use Rattle.sym_terms.specs.declared.node.Node.{Node}
+use Rattle.cnf_core.specs.Clauses.{Formula}
 use Rattle.bit_order.specs.Comparators as order
 use Rattle.bit_order.specs.Layouts.{Layout}
 use Rattle.bit_terms.specs.Sizes.{terms_size}
@@ -39,6 +40,10 @@ bodies_size formula = sum_by (λ c. body_size c.body) formula
 abbrev pub size_of : List Conjunct → ℕ
 size_of formula = sum_by (λ c. body_size c.body + 1) formula
 
--- those of an order, of terms and of a formula together
+-- those of an order, of terms and of a formula together; what the order is asked more changes nothing
 abbrev pub whole_size : Layout → List Node → List Conjunct → ℕ
 whole_size y nodes formula = order.size_of y + terms_size nodes + size_of formula
+
+-- a formula has at most this many variables, and this many clauses
+abbrev pub IsUpTo : ℕ → Formula → Type 0
+IsUpTo most f = (f.vars ≤ most) × (length f.clauses ≤ most)

@@ -1,5 +1,5 @@
 //! A formula as clauses, and what its answers mean.
-ghost use Rattle.std.specs.Prelude.{◌≡◌, ◌<◌, ◌≤◌, length, IfOk, IsTrue};
+ghost use Rattle.std.specs.Prelude.{◌≡◌, ◌<◌, ◌≤◌, length, IfOk};
 ghost use Rattle.std.specs.List.{All};
 ghost use Rattle.cnf_core.specs.Clauses.{value_in};
 ghost use Rattle.cnf_core.specs.declared.cnf.TheConstants.{LIMIT};
@@ -10,12 +10,12 @@ ghost use Rattle.bit_order.specs.Layouts.{base};
 ghost use Rattle.bit_order.specs.Readings.{world_of};
 ghost use Rattle.bit_blast.specs.Blasted.{blast, blast_over, impossible, root_of};
 ghost use Rattle.bit_blast.specs.Contended.{contended};
-ghost use Rattle.bit_blast.specs.Sizes.{whole_size};
+ghost use Rattle.bit_blast.specs.Sizes.{IsUpTo, whole_size};
 
 use crate::contended::contended;
-use crate::whole::{clauses, size};
+use crate::whole::clauses;
 use bit_order::{Layout, complete};
-use cnf_core::{Assignment, Cnf, LIMIT};
+use cnf_core::{Assignment, Cnf};
 use order_formula::{Formula, Order, World};
 use std::alloc::{AllocError, Global};
 use std::marker::Model;
@@ -44,9 +44,9 @@ impl Model for Blasted {
     ghost invariant = { IsHeld };
 }
 
-/// The clauses of a formula over terms, an order that was asked all that the formula asks, and so many loads.
+/// The clauses of a formula over terms, an order that was asked all that the formula asks, and loads of this number.
 ///
-/// Refused for want of memory, and where there would be more variables or clauses than can be numbered.
+/// Fails for want of memory alone. That there is room for the clauses of a log within the limits is a law of `formula_sizes`.
 pub fn blast(
     alloc: Global,
     terms: &Terms,
@@ -57,22 +57,14 @@ pub fn blast(
     requires terms { IsOf (length terms.now) formula.now }
     requires events { order.events ≤ 256 }
     requires within { All (ConjunctIsIn order) formula.now }
+    requires room { whole_size (record { order = order; loads = loads }) terms.now formula.now < LIMIT }
     ensures blasted { IfOk result (λ blasted. blasted ≡ blast terms.now formula.now order loads) }
     ensures lawful { IfOk result (λ blasted. IsOrder blasted.layout.order) }
     ensures variables { IfOk result (λ blasted. 0 < blasted.clauses.vars) }
+    ensures size { IfOk result (λ blasted. IsUpTo (whole_size (record { order = order; loads = loads }) terms.now formula.now) blasted.clauses) }
 {
     let order = complete_order(alloc, order, formula)?;
-    if !has_room(&order, loads, terms, formula) {
-        return Err(AllocError);
-    }
     blast_completed(alloc, terms, formula, order, loads)
-}
-
-/// Whether the variables and the clauses can be numbered.
-fn has_room(order: &Order, loads: u32, terms: &Terms, formula: &Formula) -> bool
-    ensures { IsTrue result → whole_size (record { order = order.now; loads = loads }) terms.now formula.now < LIMIT }
-{
-    size(order, loads, terms, formula) < u64::from(LIMIT)
 }
 
 /// The clauses, where the order was asked of the contended events too.
@@ -89,6 +81,7 @@ fn blast_completed(
     ensures blasted { IfOk result (λ blasted. blasted ≡ blast_over terms.now formula.now (record { order = order; loads = loads })) }
     ensures lawful { IfOk result (λ blasted. IsOrder blasted.layout.order) }
     ensures variables { IfOk result (λ blasted. 0 < blasted.clauses.vars) }
+    ensures size { IfOk result (λ blasted. IsUpTo (whole_size (record { order = order; loads = loads }) terms.now formula.now) blasted.clauses) }
 {
     let (layout, clauses) = clauses(alloc, order, loads, terms, formula)?;
     Ok(Blasted {
@@ -99,18 +92,16 @@ fn blast_completed(
 }
 
 /// The order, asked of every two contended events too.
-#[tactic(auto, using(crate::proofs::Completed::completed_events))]
+#[tactic(auto, using(crate::proofs::Completed::completed_events, crate::proofs::Completed::completed_sleeps))]
 fn complete_order(alloc: Global, order: Order, formula: &Formula) -> Result<Order, AllocError>
+    requires events { order.events ≤ 256 }
     requires within { All (ConjunctIsIn order) formula.now }
     ensures completed { IfOk result (λ made. made ≡ completed order (contended formula.now)) }
     ensures events { IfOk result (λ made. made.events ≡ order.events) }
+    ensures sleeps { IfOk result (λ made. made.sleeps ≡ order.sleeps) }
 {
     let mut order = order;
     let events = contended(alloc, formula)?;
-    let pairs = (events.len() as u64).saturating_mul(events.len() as u64);
-    if pairs.saturating_add(order.pairs().len() as u64) >= u64::from(u32::MAX) {
-        return Err(AllocError);
-    }
     complete(&mut order, events.as_slice())?;
     Ok(order)
 }

@@ -1,5 +1,5 @@
 //! The literals of all conjuncts, and the clauses that they are true.
-ghost use Rattle.std.specs.Prelude.{◌≡◌, ◌<◌, ◌≤◌, ◌+◌, ◌-◌, ◌*◌, ◌^◌, ◌++◌, [], ◌∷◌, min, map, sum_by, length, IfOk, OnOk};
+ghost use Rattle.std.specs.Prelude.{◌≡◌, ◌<◌, ◌≤◌, ◌+◌, ◌++◌, [], ◌∷◌, map, length, IfOk, OnOk};
 ghost use Rattle.cnf_core.specs.Clauses.{var_of};
 ghost use Rattle.cnf_core.specs.declared.cnf.TheConstants.{LIMIT};
 ghost use Rattle.bit_gates.specs.Folded.{HasRoom, IsLarger};
@@ -7,7 +7,7 @@ ghost use Rattle.bit_words.specs.Words.{AreWithin};
 ghost use Rattle.order_formula.specs.Formulas.{BodyIsOf, IsOf};
 ghost use Rattle.bit_blast.specs.Layered.{parts_of};
 ghost use Rattle.bit_blast.specs.Roots.{body_made, roots, blasted};
-ghost use Rattle.bit_blast.specs.Sizes.{literal_size, case_size, body_size, bodies_size, size_of};
+ghost use Rattle.bit_blast.specs.Sizes.{body_size, bodies_size, size_of};
 ghost use Rattle.bit_blast.specs.helpers.Within.{ArePartsWithin};
 
 use crate::cases::some_case;
@@ -15,62 +15,8 @@ use crate::reads::read_literal;
 use bit_ops::Word;
 use bit_order::Layout;
 use cnf_core::{Cnf, Lit};
-use order_formula::{Atom, Body, Case, Formula, Literal};
+use order_formula::{Body, Formula};
 use std::alloc::{AllocError, Global};
-
-/// The clauses of a formula take at most so many variables and clauses; the greatest number where it is more.
-pub(crate) fn formula_size(formula: &Formula) -> u64
-    ensures { result ≡ min (size_of formula.now) (2 ^ 64 - 1) }
-{
-    let mut size: u64 = 0;
-    for conjunct in formula.conjuncts() {
-        size = size
-            .saturating_add(body_size(&conjunct.body))
-            .saturating_add(1);
-    }
-    size
-}
-
-fn body_size(body: &Body) -> u64
-    ensures { result ≡ min (body_size body.now) (2 ^ 64 - 1) }
-{
-    match body {
-        Body::Any(cases) => cases_size(cases.as_slice()),
-        Body::Read(read) => {
-            let candidates = read.candidates().len() as u64;
-            (candidates + 1).saturating_mul(candidates + 170)
-        }
-    }
-}
-
-fn cases_size(cases: &[Case]) -> u64
-    ensures { result ≡ min (sum_by case_size cases.now) (2 ^ 64 - 1) }
-{
-    let mut size: u64 = 0;
-    for case in cases {
-        size = size.saturating_add(case_size(case.literals()));
-    }
-    size
-}
-
-fn case_size(literals: &[Literal]) -> u64
-    ensures { result ≡ min (case_size literals.now) (2 ^ 64 - 1) }
-{
-    let mut size: u64 = 3;
-    for literal in literals {
-        size = size.saturating_add(literal_size(*literal));
-    }
-    size
-}
-
-fn literal_size(literal: Literal) -> u64
-    ensures { result ≡ literal_size literal }
-{
-    match literal.atom {
-        Atom::Before { .. } | Atom::Ends { .. } => 3,
-        Atom::Test(_) => 99,
-    }
-}
 
 /// The clauses of a formula, over those of its order and its terms: at the end stands one for each conjunct, in order, that its
 /// literal is true.

@@ -1,16 +1,16 @@
 //! All clauses of an order, its terms and a formula.
-ghost use Rattle.std.specs.Prelude.{◌≡◌, ◌<◌, ◌≤◌, ◌+◌, ◌-◌, ◌*◌, ◌^◌, min, length, IfOk, OnOk};
+ghost use Rattle.std.specs.Prelude.{◌≡◌, ◌<◌, ◌≤◌, ◌+◌, length, IfOk, OnOk};
 ghost use Rattle.cnf_core.specs.declared.cnf.TheConstants.{LIMIT};
 ghost use Rattle.order_formula.specs.Formulas.{IsOf};
 ghost use Rattle.order_formula.specs.Orders.{IsOrder};
-ghost use Rattle.bit_gates.specs.Folded.{HasRoom};
+ghost use Rattle.bit_gates.specs.Folded.{HasRoom, IsLarger};
 ghost use Rattle.bit_order.specs.Comparators.{ordered};
 ghost use Rattle.bit_order.specs.Layouts.{base};
 ghost use Rattle.bit_terms.specs.Sizes.{terms_size};
-ghost use Rattle.bit_blast.specs.Sizes.{size_of, whole_size};
+ghost use Rattle.bit_blast.specs.Sizes.{IsUpTo, size_of, whole_size};
 ghost use Rattle.bit_blast.specs.Whole.{load_words, whole};
 
-use crate::roots::{add_formula, formula_size};
+use crate::roots::add_formula;
 use bit_ops::Word;
 use bit_order::Layout;
 use bit_terms::term_words;
@@ -18,16 +18,6 @@ use cnf_core::Cnf;
 use order_formula::{Formula, Order};
 use std::alloc::{AllocError, Global};
 use sym_terms::Terms;
-
-/// The clauses of an order with what was asked of it, of so many loads, of terms and of a formula take at most so many variables
-/// and clauses; the greatest number where it is more.
-pub(crate) fn size(order: &Order, loads: u32, terms: &Terms, formula: &Formula) -> u64
-    ensures { result ≡ min (whole_size (record { order = order.now; loads = loads }) terms.now formula.now) (2 ^ 64 - 1) }
-{
-    bit_order::size(order, loads)
-        .saturating_add(bit_terms::size(terms))
-        .saturating_add(formula_size(formula))
-}
 
 /// The clauses of an order with what was asked of it, of so many loads, of terms and of a formula; and the layout, by which values
 /// that satisfy the clauses are read as a world. At the end stands a clause for each conjunct, in order.
@@ -45,6 +35,7 @@ pub(crate) fn clauses(
     ensures lawful { IfOk result (λ made. IsOrder made.0.order) }
     ensures variables { IfOk result (λ made. (base made.0).vars ≤ made.1.vars) }
     ensures roots { IfOk result (λ made. length formula.now ≤ length made.1.clauses) }
+    ensures size { IfOk result (λ made. IsUpTo (whole_size (record { order = order; loads = loads }) terms.now formula.now) made.1) }
 {
     let (layout, mut cnf) = Layout::clauses(alloc, order, loads)?;
     add_system(alloc, &mut cnf, &layout, terms, formula)?;
@@ -66,6 +57,7 @@ fn add_system(
     ensures formula { OnOk result (cnf.new ≡ whole layout.now terms.now formula.now) }
     ensures variables { OnOk result ((base layout.now).vars ≤ cnf.new.vars) }
     ensures roots { OnOk result (length formula.now ≤ length cnf.new.clauses) }
+    ensures larger { OnOk result (IsLarger (terms_size terms.now + size_of formula.now) cnf.old cnf.new) }
 {
     let symbols = load_words(alloc, layout)?;
     let words = term_words(alloc, cnf, terms, symbols.as_slice())?;

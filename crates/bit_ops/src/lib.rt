@@ -141,33 +141,6 @@ fn negate<const W: usize>(cnf: &mut Cnf, a: &[Lit; W]) -> Result<[Lit; W], Alloc
     minus(cnf, &[constant(false); W], a)
 }
 
-/// The circuit of an operator over one word adds at most so many variables, and at most so many clauses.
-pub fn unary_size(op: UnOp) -> u32
-    ensures { result ≡ unary_size op }
-{
-    match op {
-        UnOp::Neg => 544,
-        UnOp::Not => 96,
-        UnOp::Inv => 0,
-    }
-}
-
-/// The circuit of an operator over two words adds at most so many variables, and at most so many clauses.
-pub fn binary_size(op: BinOp) -> u32
-    ensures { result ≡ binary_size op }
-{
-    match op {
-        BinOp::Add | BinOp::Sub => 544,
-        BinOp::Mul => 21_504,
-        BinOp::Div => 28_868,
-        BinOp::Rem => 28_864,
-        BinOp::And | BinOp::Or | BinOp::Xor => 128,
-        BinOp::Shl | BinOp::Shr => 1_664,
-        BinOp::Eq | BinOp::Ne => 224,
-        BinOp::Lt | BinOp::Le | BinOp::Gt | BinOp::Ge => 384,
-    }
-}
-
 /// The circuit of an operator over one word.
 pub fn unary(cnf: &mut Cnf, op: UnOp, a: &Word) -> Result<Word, AllocError>
     requires one { 0 < cnf.old.vars }

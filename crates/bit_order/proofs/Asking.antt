@@ -1,8 +1,8 @@
 -- Orders that were asked of every two of some events: they were asked all that a conjunct asks that names them.
-use Rattle.std.proofs.Common.{◌≡◌, ◌≢◌, ◌⊎◌, ℕ, zero, suc, ◌+◌, ◌≤◌, Bool, true, false, cond, List, [], ◌∷◌, ◌++◌, inl, inr, refl, ap, sym, ◌∙◌, subst, arith, length, map, min, max}
+use Rattle.std.proofs.Common.{◌≡◌, ◌≢◌, ◌⊎◌, ℕ, zero, suc, true, List, [], ◌∷◌, ◌++◌, inl, inr, refl, ap, sym, ◌∙◌, subst, arith, map, min, max}
 use Rattle.std.specs.Prelude.{fold}
 use Rattle.std.specs.List.{All, Contains, list_any}
-use Rattle.std.proofs.lemmas.List.{get_or-map, length-map, length-append}
+use Rattle.std.proofs.lemmas.List.{get_or-map, length-map}
 use Rattle.std.proofs.lemmas.List.Elements.{All-head, All-contains, Contains-append_left, Contains-append_right}
 use Rattle.std.proofs.lemmas.List.Folds.{fold-map}
 use Rattle.std.proofs.lemmas.List.Sums.{fold-append}
@@ -94,11 +94,3 @@ completed-asked o events first second p q apart =
       | inr there ↦ subst (λ r. list_any (same_pair r) after.pairs ≡ true) (pair_turned first second)
           (All-contains (LiteralIsAsked after) (literals_among events) (before second first) all there)
     ])
-
--- one question more
-pub length_asked : (o : Order) (p : Pair) → length (with_pair o p).pairs ≤ length o.pairs + 1
-length_asked o p = by (list_any (same_pair p) o.pairs)
-  where
-    by : (b : Bool) → length (cond b o.pairs (o.pairs ++ p ∷ [])) ≤ length o.pairs + 1
-    by true = omega arith
-    by false = omega (arith, length-append o.pairs (p ∷ []))

@@ -1,4 +1,5 @@
 pub mod Ranges
+pub mod Counts
 pub mod ClauseLaws
 pub mod WordLaws
 pub mod Compared

@@ -1,10 +1,11 @@
 -- Lists made of pieces, one for each number of a range, and searches along a range.
-use Rattle.std.proofs.Common.{◌≡◌, ℕ, zero, suc, ◌+◌, ◌<◌, ◌≤◌, Bool, true, false, List, [], ◌∷◌, ◌++◌, Option, Some, None, inl, inr, cond, refl, ap, sym, ◌∙◌, arith}
+use Rattle.std.proofs.Common.{◌≡◌, ℕ, zero, suc, ◌+◌, ◌<◌, ◌≤◌, Bool, true, false, List, [], ◌∷◌, ◌++◌, Option, Some, None, inl, inr, cond, refl, ap, sym, ◌∙◌, arith, length}
 use Rattle.std.specs.Prelude.{◌&&◌}
 use Rattle.std.specs.List.{flat_map, range_with_len, list_all, find}
 use Rattle.std.specs.Option.{MatchOption}
 use Rattle.std.proofs.lemmas.Bool.{and_parts, and_from, cases_eq, cond-true, cond-false}
-use Rattle.std.proofs.lemmas.List.{append-nil, append_assoc}
+use Rattle.std.proofs.Math.Nat.{eq-or-lt_of_le}
+use Rattle.std.proofs.lemmas.List.{append-nil, append_assoc, length-append}
 use Rattle.std.proofs.lemmas.List.Folds.{list_all-append}
 
 -- one number more, at the end
@@ -97,3 +98,19 @@ pub pieces_step : {A : Type 0} (f : ℕ → List A) (a n k : ℕ) (old now next 
 pieces_step f a n k old now next piece before added is place =
     added ∙ ap (λ xs. xs ++ piece) before ∙ append_assoc old (flat_map f (range_with_len a n)) piece
     ∙ ap (λ xs. old ++ (flat_map f (range_with_len a n) ++ xs)) is ∙ ap (λ xs. old ++ xs) (sym (pieces_more f a n k place))
+
+-- the pieces up to a number, with that of the number, aren't more than those up to a greater one
+pub pieces_within : {A : Type 0} (f : ℕ → List A) (k n : ℕ) → k < n
+    → length (flat_map f (range_with_len 0 k)) + length (f k) ≤ length (flat_map f (range_with_len 0 n))
+pieces_within f k zero below = absurd (omega (arith, below))
+pieces_within f k (suc n) below =
+    let all = ap length (pieces_more f 0 n n (omega arith)) ∙ length-append (flat_map f (range_with_len 0 n)) (f n) in
+    let e : suc n ≡ n + 1 = omega arith in
+    let last = ap (λ m. length (flat_map f (range_with_len 0 m))) e in
+    elim (eq-or-lt_of_le (below_suc k n below)) [
+      | inl same ↦ omega (arith, all, last, ap (λ m. length (f m)) same, ap (λ m. length (flat_map f (range_with_len 0 m))) same)
+      | inr less ↦ omega (arith, all, last, pieces_within f k n less)
+    ]
+  where
+    below_suc : (k n : ℕ) → k < suc n → k ≤ n
+    below_suc k n h = omega (arith, h)

@@ -1,5 +1,5 @@
 -- Which of two events comes first: a comparison of their positions, where equal ones go by the numbers of the events.
-use Rattle.std.specs.Prelude.{ℕ, ◌+◌, ◌-◌, ◌*◌, false, if◌then◌else◌, nat_lt, nat_le, List, [], ◌∷◌, ◌++◌, ℤ, neg_ℤ, Option, Some, None, fold, map, length, slice_index_or, position}
+use Rattle.std.specs.Prelude.{ℕ, ◌+◌, ◌-◌, ◌*◌, false, if◌then◌else◌, nat_lt, nat_le, List, [], ◌∷◌, ◌++◌, ℤ, neg_ℤ, Option, Some, None, fold, map, slice_index_or, position}
 use Rattle.std.specs.List.{flat_map, range_with_len}
 use Rattle.std.specs.Option.{option_map, option_map_or}
 use Rattle.cnf_core.specs.Clauses.{Formula}
@@ -62,8 +62,8 @@ transitivity y =
 abbrev pub ordered : Layout → Formula
 ordered y = record { vars = (comparators y).state.vars; clauses = (comparators y).state.clauses ++ transitivity y }
 
--- there are at most so many variables, and so many clauses
+-- there are at most this many variables, and this many clauses: no pair and no choice is asked twice
 abbrev pub size_of : Layout → ℕ
 size_of y =
-    2 + 8 * y.order.events + 32 * y.loads + length y.order.choices + length y.order.choices * length y.order.choices
-    + length y.order.pairs * (96 + 2 * y.order.events)
+    2 + 8 * y.order.events + 32 * y.loads + y.order.sleeps * y.order.events * (1 + y.order.events)
+    + y.order.events * y.order.events * (96 + 2 * y.order.events)

@@ -1,3 +1,4 @@
 -- No promise speaks of what stands in this folder.
+pub mod Asked
 pub mod Held
 pub mod Places

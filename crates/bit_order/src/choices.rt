@@ -2,22 +2,26 @@
 ghost use Rattle.std.specs.Prelude.{◌≡◌, ◌<◌, ◌≤◌, ◌+◌, ◌*◌, ◌++◌, length, OnOk};
 ghost use Rattle.std.specs.List.{flat_map, range_with_len};
 ghost use Rattle.cnf_core.specs.declared.cnf.TheConstants.{LIMIT};
+ghost use Rattle.order_formula.specs.Orders.{IsOrder};
 ghost use Rattle.bit_order.specs.Layouts.{exclusion, exclusions};
 
 use cnf_core::{Cnf, Lit};
-use order_formula::Choice;
+use order_formula::{Choice, Order};
 use std::alloc::AllocError;
 
-/// Every two choices of one sleep exclude each other. The variables of the choices begin at a number.
-pub(crate) fn exclude(cnf: &mut Cnf, start: u32, choices: &[Choice]) -> Result<(), AllocError>
+/// Every two choices of one sleep exclude each other. The variables of the choices begin at a number. No event is asked twice of one
+/// sleep, so that a choice excludes at most one for each event.
+pub(crate) fn exclude(cnf: &mut Cnf, start: u32, order: &Order) -> Result<(), AllocError>
+    requires lawful { IsOrder order.now }
     requires positive { 0 < start }
-    requires variables { start + length choices.now ≤ cnf.old.vars + 1 }
+    requires variables { start + length order.now.choices ≤ cnf.old.vars + 1 }
     requires small { cnf.old.vars < LIMIT }
-    requires room { length cnf.old.clauses + length choices.now * length choices.now < LIMIT }
+    requires room { length cnf.old.clauses + length order.now.choices * order.now.events < LIMIT }
     ensures vars { cnf.new.vars ≡ cnf.old.vars }
-    ensures clauses { OnOk result (cnf.new.clauses ≡ cnf.old.clauses ++ exclusions start choices.now) }
-    ensures few { length cnf.new.clauses ≤ length cnf.old.clauses + length choices.now * length choices.now }
+    ensures clauses { OnOk result (cnf.new.clauses ≡ cnf.old.clauses ++ exclusions start order.now.choices) }
+    ensures few { OnOk result (length cnf.new.clauses ≤ length cnf.old.clauses + length order.now.choices * order.now.events) }
 {
+    let choices = order.choices();
     for later in 0..choices.len() {
         exclude_earlier(cnf, start, choices, later)?;
     }
@@ -35,11 +39,11 @@ fn exclude_earlier(
     requires there { later < length choices.now }
     requires variables { start + length choices.now ≤ cnf.old.vars + 1 }
     requires small { cnf.old.vars < LIMIT }
-    requires room { length cnf.old.clauses + later < LIMIT }
+    requires room { length cnf.old.clauses
+        + length (flat_map (λ earlier. exclusion start choices.now earlier later) (range_with_len 0 later)) < LIMIT }
     ensures vars { cnf.new.vars ≡ cnf.old.vars }
     ensures clauses { OnOk result (cnf.new.clauses
         ≡ cnf.old.clauses ++ flat_map (λ earlier. exclusion start choices.now earlier later) (range_with_len 0 later)) }
-    ensures few { length cnf.new.clauses ≤ length cnf.old.clauses + later }
 {
     for earlier in 0..later {
         if choices[earlier].sleep == choices[later].sleep {

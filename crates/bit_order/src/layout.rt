@@ -1,5 +1,5 @@
 //! How an order lies in variables.
-ghost use Rattle.std.specs.Prelude.{◌≡◌, ◌<◌, ◌≤◌, ◌+◌, ◌-◌, ◌*◌, ◌^◌, ◌++◌, min, length, IfOk, OnOk, IfSome};
+ghost use Rattle.std.specs.Prelude.{◌≡◌, ◌<◌, ◌≤◌, ◌+◌, ◌-◌, ◌*◌, ◌++◌, length, IfOk, OnOk, IfSome};
 ghost use Rattle.std.specs.List.{flat_map, range_with_len};
 ghost use Rattle.cnf_core.specs.Clauses.{var_of};
 ghost use Rattle.cnf_core.specs.declared.cnf.TheConstants.{LIMIT};
@@ -7,6 +7,7 @@ ghost use Rattle.bit_words.specs.Words.{AreWithin};
 ghost use Rattle.order_formula.specs.Orders.{IsOrder};
 ghost use Rattle.bit_order.specs.Layouts.{base};
 ghost use Rattle.bit_order.specs.Comparators.{clauses_of_three, where_asked, size_of};
+ghost use Rattle.bit_order.specs.helpers.Asked.{asked_size};
 
 use crate::add_clause;
 use crate::choices::exclude;
@@ -38,30 +39,18 @@ impl Model for Layout {
     ghost invariant = { IsHeld };
 }
 
-/// An order and so many loads take at most so many variables and clauses; the greatest number where it is more.
-pub fn size(order: &Order, loads: u32) -> u64
-    ensures { result ≡ min (size_of (record { order = order.now; loads = loads })) (2 ^ 64 - 1) }
-{
-    let choices = order.choices().len() as u64;
-    let pairs = order.pairs().len() as u64;
-    let events = u64::from(order.events());
-    (2 + 8 * events + 32 * u64::from(loads))
-        .saturating_add(choices)
-        .saturating_add(choices.saturating_mul(choices))
-        .saturating_add(pairs.saturating_mul(96 + 2 * events))
-}
-
 /// The variables before any gate, and what holds of them.
 fn base(alloc: Global, order: &Order, loads: u32) -> Result<Cnf, AllocError>
-    requires { size_of (record { order = order.now; loads = loads }) < LIMIT }
+    requires lawful { IsOrder order.now }
+    requires small { asked_size (record { order = order.now; loads = loads }) < LIMIT }
     ensures formula { IfOk result (λ cnf. cnf ≡ base (record { order = order.now; loads = loads })) }
-    ensures few { IfOk result (λ cnf. length cnf.clauses ≤ 1 + length order.now.choices * length order.now.choices) }
+    ensures few { IfOk result (λ cnf. length cnf.clauses ≤ 1 + length order.now.choices * order.now.events) }
 {
     let start = 2 + 8 * order.events() + 32 * loads;
     let choices = order.choices();
     let mut cnf = Cnf::new(alloc, start + choices.len() as u32 - 1);
     cnf.push(&[constant(true)])?;
-    exclude(&mut cnf, start, choices)?;
+    exclude(&mut cnf, start, order)?;
     Ok(cnf)
 }
 
@@ -78,8 +67,23 @@ impl Layout {
         ensures variables { IfOk result (λ made. made.1.vars ≤ size_of made.0) }
         ensures few { IfOk result (λ made. length made.1.clauses ≤ size_of made.0) }
     {
+        let _asked = order.pairs();
+        Layout::add_clauses(alloc, order, loads)
+    }
+
+    /// The same, where the questions take no more than there may be of them.
+    fn add_clauses(alloc: Global, order: Order, loads: u32) -> Result<(Layout, Cnf), AllocError>
+        requires small { size_of (record { order = order; loads = loads }) < LIMIT }
+        requires asked { asked_size (record { order = order; loads = loads }) ≤ size_of (record { order = order; loads = loads }) }
+        ensures layout { IfOk result (λ made. made.0 ≡ record { order = order; loads = loads }) }
+        ensures formula { IfOk result (λ made. made.1 ≡ ordered (record { order = order; loads = loads })) }
+        ensures lawful { IfOk result (λ made. IsOrder made.0.order) }
+        ensures variables { IfOk result (λ made. made.1.vars ≤ size_of made.0) }
+        ensures few { IfOk result (λ made. length made.1.clauses ≤ size_of made.0) }
+    {
+        let pairs = order.pairs();
         let mut cnf = base(alloc, &order, loads)?;
-        let comparators = compare_pairs(alloc, &mut cnf, order.pairs())?;
+        let comparators = compare_pairs(alloc, &mut cnf, pairs)?;
         let layout = Layout {
             order,
             loads,

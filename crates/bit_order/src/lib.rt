@@ -13,5 +13,5 @@ mod words;
 mod writing;
 
 pub use clause::add_clause;
-pub use layout::{Layout, size};
+pub use layout::Layout;
 pub use pairs::complete;

@@ -1,5 +1,5 @@
 //! Which of two events comes first.
-ghost use Rattle.std.specs.Prelude.{◌≡◌, ◌<◌, ◌≤◌, ◌+◌, ◌-◌, ◌*◌, ◌^◌, [], length, map, fold, IfOk, OnOk};
+ghost use Rattle.std.specs.Prelude.{◌≡◌, ◌<◌, ◌≤◌, ◌*◌, [], length, map, fold, IfOk, OnOk};
 ghost use Rattle.std.specs.List.{All};
 ghost use Rattle.cnf_core.specs.Clauses.{var_of};
 ghost use Rattle.bit_gates.specs.Folded.{HasRoom, IsLarger};
@@ -20,8 +20,8 @@ use std::alloc::{AllocError, Global};
 /// With the events of all atoms that aren't conjuncts by themselves, and of what loads take, contended logs need far fewer conflicts:
 /// transitivity then speaks of every three of them.
 pub fn complete(order: &mut Order, events: &[u32]) -> Result<(), AllocError>
+    requires few { order.old.events ≤ 256 }
     requires events { All (λ event. event < order.old.events) events.now }
-    requires room { length order.old.pairs + length events.now * length events.now < 2 ^ 32 - 1 }
     ensures { OnOk result (order.new ≡ completed order.old events.now) }
 {
     for place in 0..events.len() {
@@ -31,18 +31,29 @@ pub fn complete(order: &mut Order, events: &[u32]) -> Result<(), AllocError>
 }
 
 /// Asks of an event and each of some others which comes first.
-#[tactic(auto, using(crate::proofs::Asking::length_asked))]
 fn ask_pairs(order: &mut Order, event: u32, others: &[u32]) -> Result<(), AllocError>
+    requires few { order.old.events ≤ 256 }
     requires event { event < order.old.events }
     requires others { All (λ other. other < order.old.events) others.now }
-    requires room { length order.old.pairs + length others.now < 2 ^ 32 - 1 }
     ensures asked { OnOk result (order.new ≡ fold with_pair order.old (map (pair_of event) others.now)) }
     ensures events { OnOk result (order.new.events ≡ order.old.events) }
-    ensures few { length order.new.pairs ≤ length order.old.pairs + length others.now }
 {
     for other in others {
-        order.before(event, *other)?;
+        ask_pair(order, event, *other)?;
     }
+    Ok(())
+}
+
+/// Asks which of two events comes first. No pair is asked twice, so that each has a number.
+#[tactic(auto, using(crate::proofs::Counts::few_pairs))]
+fn ask_pair(order: &mut Order, first: u32, second: u32) -> Result<(), AllocError>
+    requires few { order.old.events ≤ 256 }
+    requires first { first < order.old.events }
+    requires second { second < order.old.events }
+    ensures { OnOk result (order.new ≡ with_pair order.old (pair_of first second)) }
+{
+    let _asked = order.pairs();
+    order.before(first, second)?;
     Ok(())
 }
 

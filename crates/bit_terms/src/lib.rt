@@ -1,7 +1,7 @@
 //! Circuits of terms: a word of 32 literals for each, made once, from the words of the values that the loads take.
 #![tactic(auto)]
 
-ghost use Rattle.std.specs.Prelude.{◌≡◌, ◌<◌, ◌≤◌, ◌-◌, ◌^◌, min, length, IfOk, OnOk};
+ghost use Rattle.std.specs.Prelude.{◌≡◌, ◌<◌, ◌≤◌, length, IfOk, OnOk};
 ghost use Rattle.std.specs.List.{All};
 ghost use Rattle.sym_terms.specs.Terms.{NamesBelow};
 ghost use Rattle.cnf_core.specs.Clauses.{var_of};
@@ -13,7 +13,7 @@ ghost use Rattle.bit_terms.specs.Sizes.{node_size, terms_size};
 ghost use Rattle.bit_terms.specs.Terms.{constant_word, node_word, term_words, word_at};
 
 use bit_gates::constant;
-use bit_ops::{Word, binary, binary_size, unary, unary_size};
+use bit_ops::{Word, binary, unary};
 use bit_words::any;
 use cnf_core::{Cnf, Lit};
 use std::alloc::{AllocError, Global};
@@ -28,28 +28,6 @@ pub fn terms_mean()
 pub fn nonzero_means()
     ensures { NonzeroMeans }
 {}
-
-/// The circuits of all terms add at most so many variables, and at most so many clauses; the greatest number where it is more.
-pub fn size(terms: &Terms) -> u64
-    ensures { result ≡ min (terms_size terms.now) (2 ^ 64 - 1) }
-{
-    let mut size: u64 = 0;
-    for node in terms.nodes() {
-        size = size.saturating_add(u64::from(node_size(*node)));
-    }
-    size
-}
-
-/// The circuit of a node adds at most so many variables, and at most so many clauses.
-fn node_size(node: Node) -> u32
-    ensures { result ≡ node_size node }
-{
-    match node {
-        Node::Constant(_) | Node::Symbol(_) => 0,
-        Node::Unary(op, _) => unary_size(op),
-        Node::Binary(op, _, _) => binary_size(op),
-    }
-}
 
 /// A word for each term, in the order of the names, from the words of the values that the loads take. A load past them takes 0.
 ///

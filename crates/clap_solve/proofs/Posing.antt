@@ -1,22 +1,29 @@
 -- What is made of the parts of a log's system, and what is told of a derivation over its clauses.
-use Rattle.std.proofs.Common.{◌≡◌, ◌≢◌, ◌∙◌, ℕ, Bool, List, Result, Ok, Err, ap, sym}
+use Rattle.std.proofs.Common.{◌≡◌, ◌≢◌, ◌∙◌, ℕ, ◌+◌, ◌<◌, ◌≤◌, Bool, List, Result, Ok, Err, ap, sym, subst}
 use Rattle.std.specs.Prelude.{if◌then◌else◌}
 use Rattle.tc_base.specs.Logs.{Log}
+use Rattle.tc_base.specs.declared.limits.TheConstants.{EVENTS, OPERATORS}
 use Rattle.tc_code.specs.Code.{Code}
 use Rattle.store_buffers.specs.Pending.{Binding}
+use Rattle.path_walk.specs.Fits.{Fits}
 use Rattle.path_walk.specs.Paths.{Paths, paths_of}
 use Rattle.sym_terms.specs.declared.node.Node.{Node}
 use Rattle.sym_exec.specs.Executed.{Symbolic}
 use Rattle.order_formula.specs.Orders.{Order}
 use Rattle.order_formula.specs.declared.formula.Conjunct.{Conjunct}
 use Rattle.cnf_core.specs.Clauses.{Formula}
+use Rattle.cnf_core.specs.declared.cnf.TheConstants.{LIMIT}
 use Rattle.bit_blast.specs.Blasted.{Blasted, blast, impossible}
+use Rattle.bit_blast.specs.Sizes.{whole_size}
+use Rattle.switch_order.specs.Sizes as levels
+use Rattle.formula_sizes.specs.Small.{ClausesHaveRoom}
 use Rattle.refute_check.specs.Refutations.{IsClosed, check}
 use Rattle.refute_check.specs.declared.line.Line.{Line}
 use Rattle.refute_check.specs.declared.verdict.CheckFault.{CheckFault}
 use Rattle.refute_check.specs.declared.verdict.CheckFault.TheVariants as fault
 use Rattle.refute_check.specs.declared.verdict.Checked.{Checked}
 use Rattle.refute_check.specs.declared.verdict.Checked.TheVariants.{Closed}
+use Rattle.clap_system.specs.Faults.{IsShallow}
 use Rattle.clap_system.specs.Systems.{System, system_of}
 use Rattle.clap_solve.specs.Clauses.{blasted_of, clauses_of}
 use Rattle.clap_solve.specs.Faults.{IsCheckImpossibleFault}
@@ -36,6 +43,30 @@ blasted_is buffered bound code log s paths symbolic nodes order formula dead loa
     ∙ ap (λ (o : Order). if s.paths.dead then impossible else blast s.nodes s.formula o loads) as_order
     ∙ ap (λ (n : ℕ). if s.paths.dead then impossible else blast s.nodes s.formula s.order n) (as_loads ∙ ap (λ (x : Symbolic). x.loads) as_symbolic)
     ∙ ap (λ (t : System). if t.paths.dead then impossible else blast t.nodes t.formula t.order t.symbolic.loads) of
+
+-- the log of a system that was built is within the limits
+pub within_by : (buffered : Bool) (bound : Binding) (code : Code) (log : Log) (s : System) → s ≡ system_of buffered bound code log → IsShallow log
+    → Fits code log → s.paths.events ≤ EVENTS → s.paths.operators ≤ OPERATORS → IsWithin code log
+within_by buffered bound code log s of shallow fits events operators = record {
+  shallow = shallow;
+  fits = fits;
+  events = subst (λ (t : System). t.paths.events ≤ EVENTS) of events;
+  operators = subst (λ (t : System). t.paths.operators ≤ OPERATORS) of operators;
+}
+
+-- there is room for the clauses of the parts of a system that has room
+module _ (buffered : Bool) (bound : Binding) (code : Code) (log : Log) (s : System) where
+  abbrev Room : Order → ℕ → List Node → List Conjunct → Type 0
+  Room order loads nodes formula = whole_size (record { order = order; loads = loads }) nodes formula + levels.size_of EVENTS 255 < LIMIT
+
+  pub room_is : (symbolic : Symbolic) (nodes : List Node) (order : Order) (formula : List Conjunct) (loads : ℕ) → s ≡ system_of buffered bound code log
+      → symbolic ≡ s.symbolic → nodes ≡ s.nodes → order ≡ s.order → formula ≡ s.formula → loads ≡ symbolic.loads
+      → ClausesHaveRoom (system_of buffered bound code log) → Room order loads nodes formula
+  room_is symbolic nodes order formula loads of as_symbolic as_nodes as_order as_formula as_loads room =
+      subst (λ n. Room order n nodes formula) (sym (as_loads ∙ ap (λ (x : Symbolic). x.loads) as_symbolic))
+      (subst (λ (o : Order). Room o s.symbolic.loads nodes formula) (sym as_order)
+      (subst (λ (cs : List Conjunct). Room s.order s.symbolic.loads nodes cs) (sym as_formula)
+      (subst (λ (ns : List Node). Room s.order s.symbolic.loads ns s.formula) (sym as_nodes) (subst (λ (t : System). ClausesHaveRoom t) (sym of) room))))
 
 -- parts of a system, with its clauses
 abbrev parts : Paths → Symbolic → List Node → List Conjunct → Blasted → Posed

@@ -34,6 +34,10 @@ use Rattle.order_events.proofs.Lists.{in_at, of_map}
 use Rattle.order_events.proofs.Parts.{each_in}
 use Rattle.order_events.proofs.Whole.{whole}
 use Rattle.schedule_decode.specs.Decodable.{HaveRoom}
+use Rattle.store_buffers.specs.Pending.{Binding}
+use Rattle.clap_system.specs.Systems.{system_of}
+use Rattle.formula_sizes.specs.Small.{ClausesHaveRoom}
+use Rattle.formula_sizes.proofs.Room as sizes
 use Rattle.clap_solve.specs.Solved.{IsWithin}
 
 -- where none is found, none passes
@@ -186,3 +190,9 @@ have_room code log is within few = record {
     each : (P : Walk → Type 0) → ((t : ThreadPath) → Contains log.threads t → P (walk_of code log t)) → All P (paths_of code log).threads
     each P of = each_in P (map (walk_of code log) log.threads) (λ q j.
         let o = of_map (walk_of code log) q log.threads j in subst P o.2 (of o.0 o.1))
+
+-- there is room for its clauses, and for levels over them
+pub clauses_have_room : (buffered : Bool) (bound : Binding) (code : Code) (log : Log) → IsWithin code log → All (λ t. t.path.steps ≤ STEPS) log.threads
+    → ClausesHaveRoom (system_of buffered bound code log)
+clauses_have_room buffered bound code log within few =
+    sizes.has_room buffered bound code log (record { threads = within.shallow.threads; steps = few; events = within.events; operators = within.operators })

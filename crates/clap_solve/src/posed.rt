@@ -1,10 +1,11 @@
 //! A log's clauses, with all that they are made of.
 ghost use Rattle.std.specs.Prelude.{◌≡◌, ◌≤◌, ◌<◌, false, length, IfOk, IfErr, OnOk, if◌then◌else◌};
 ghost use Rattle.std.specs.List.{All};
-ghost use Rattle.tc_base.specs.declared.limits.TheConstants.{STEPS};
 ghost use Rattle.order_formula.specs.Formulas.{IsOf};
 ghost use Rattle.order_formula.specs.Orders.{ConjunctIsIn};
+ghost use Rattle.cnf_core.specs.declared.cnf.TheConstants.{LIMIT};
 ghost use Rattle.bit_blast.specs.Blasted.{blast, impossible};
+ghost use Rattle.bit_blast.specs.Sizes.{whole_size};
 ghost use Rattle.clap_system.specs.Faults.{IsBuildFault};
 ghost use Rattle.clap_solve.specs.Clauses.{clauses_of};
 ghost use Rattle.clap_solve.specs.Posed.{IsGiven, posed_of};
@@ -14,7 +15,7 @@ use bit_blast::{Blasted, blast};
 use clap_system::{BuildFault, build};
 use cnf_core::Cnf;
 use order_formula::{Formula, Order};
-use path_log::{Log, ThreadPath};
+use path_log::Log;
 use path_walk::Paths;
 use std::alloc::{AllocError, Global};
 use std::marker::Model;
@@ -105,7 +106,7 @@ pub fn pose<M: MemoryModel>(alloc: Global, code: &Code, log: &Log) -> Result<Pos
 {
     // Lawful code, and a log whose names rise.
     let _functions = code.functions();
-    read_steps(log.threads());
+    let _threads = log.threads();
     let (paths, symbolic, terms, order, formula) = build::<M>(alloc, code, log)?.into_parts();
     let dead = paths.dead();
     let blasted = blasted(alloc, dead, &terms, &formula, order, symbolic.loads())?;
@@ -130,15 +131,6 @@ pub fn clauses<M: MemoryModel>(alloc: Global, code: &Code, log: &Log) -> Result<
     Ok(pose::<M>(alloc, code, log)?.into_clauses())
 }
 
-/// Reads the steps of each thread, which a log counts in 16 bits.
-fn read_steps(threads: &[ThreadPath])
-    ensures { All (λ t. t.path.steps ≤ STEPS) threads.now }
-{
-    for thread in threads {
-        let _steps = thread.steps();
-    }
-}
-
 /// The clauses of a formula, or of what is impossible where the paths are dead.
 fn blasted(
     alloc: Global,
@@ -151,6 +143,7 @@ fn blasted(
     requires terms { IsOf (length terms.now) formula.now }
     requires events { order.events ≤ 256 }
     requires within { All (ConjunctIsIn order) formula.now }
+    requires room { whole_size (record { order = order; loads = loads }) terms.now formula.now < LIMIT }
     ensures blasted { IfOk result (λ blasted. blasted ≡ (if dead then impossible else blast terms.now formula.now order loads)) }
     ensures variables { IfOk result (λ blasted. dead ≡ false → 0 < blasted.clauses.vars) }
 {

@@ -1,7 +1,8 @@
 //! From a log to its system.
 ghost use Rattle.std.specs.Prelude.{◌≡◌, ◌≤◌, length, IfOk, IfErr, OnOk};
+ghost use Rattle.std.specs.List.{All};
 ghost use Rattle.std.specs.Option.{MatchOption};
-ghost use Rattle.tc_base.specs.declared.limits.TheConstants.{EVENTS, OPERATORS};
+ghost use Rattle.tc_base.specs.declared.limits.TheConstants.{EVENTS, OPERATORS, STEPS};
 ghost use Rattle.path_walk.specs.Fits.{Fits};
 ghost use Rattle.path_walk.specs.Paths.{ArePaths};
 ghost use Rattle.tc_code.specs.Code as spec;
@@ -32,11 +33,13 @@ use tc_code::Code;
 /// The system of a log, under a memory model.
 ///
 /// Refused are, in this order: a log with too many threads; one with a name that is too deep, the first; one that doesn't fit the
-/// program; and one whose paths have too many events, or too many operators.
+/// program; and one whose paths have too many events, or too many operators. There is room for the clauses of what it takes: that is a
+/// law, `clauses_have_room` of `formula_sizes`.
 pub fn build<M: MemoryModel>(alloc: Global, code: &Code, log: &Log) -> Result<System, BuildFault>
     ensures system { IfOk result (λ system. system ≡ system_of M.BUFFERED M.bound code.now log.now.log) }
     ensures fits { OnOk result (Fits code.now log.now.log) }
     ensures shallow { OnOk result (IsShallow log.now.log) }
+    ensures steps { OnOk result (All (λ t. t.path.steps ≤ STEPS) log.now.log.threads) }
     ensures events { IfOk result (λ system. system.paths.events ≤ EVENTS) }
     ensures operators { IfOk result (λ system. system.paths.operators ≤ OPERATORS) }
     ensures err { IfErr result (IsBuildFault code.now log.now.log) }
@@ -44,6 +47,7 @@ pub fn build<M: MemoryModel>(alloc: Global, code: &Code, log: &Log) -> Result<Sy
     if let Some(fault) = too_much(log) {
         return Err(fault);
     }
+    read_steps(log.threads());
     let paths = walk(alloc, code, log)?;
     if paths.events() > EVENTS {
         return Err(over(Which::Events, paths.events() as u64));
@@ -74,6 +78,15 @@ fn too_deep(threads: &[ThreadPath]) -> Option<usize>
         .iter()
         .map(|thread| thread.name().children().len())
         .find(|depth| *depth > DEPTH)
+}
+
+/// Reads the steps of each thread, which a log counts in 16 bits.
+fn read_steps(threads: &[ThreadPath])
+    ensures { All (λ t. t.path.steps ≤ STEPS) threads.now }
+{
+    for thread in threads {
+        let _steps = thread.steps();
+    }
 }
 
 /// That there is so much of something, which is too much.

@@ -6,3 +6,4 @@ pub mod Sync
 pub mod Waits
 pub mod Walks
 pub mod Whole
+pub mod Room

@@ -1,6 +1,6 @@
 -- How large the parts of the formula of a log within the limits are at most, and the circuits of
 -- its terms: in variables, and in clauses.
-use Rattle.std.specs.Prelude.{◌+◌, ◌*◌, ◌≤◌, Bool, List, length, sum_by}
+use Rattle.std.specs.Prelude.{◌+◌, ◌*◌, ◌<◌, ◌≤◌, Bool, List, length, sum_by}
 use Rattle.std.specs.List.{All}
 use Rattle.tc_base.specs.Logs.{Log}
 use Rattle.tc_base.specs.declared.limits.TheConstants.{THREADS, STEPS, EVENTS, OPERATORS}
@@ -13,7 +13,10 @@ use Rattle.memory_order.specs.Own.{own_formula, own_needs}
 use Rattle.sync_order.specs.Sync.{sync_formula}
 use Rattle.read_write.specs.Reading.{read_formula, read_needs}
 use Rattle.bit_terms.specs.Sizes.{terms_size}
-use Rattle.bit_blast.specs.Sizes.{size_of}
+use Rattle.bit_blast.specs.Sizes.{size_of, whole_size}
+use Rattle.cnf_core.specs.declared.cnf.TheConstants.{LIMIT}
+use Rattle.switch_order.specs.Sizes as levels
+use Rattle.clap_system.specs.Systems.{System}
 
 -- a log with no more threads, steps, events and operators than there may be
 pub record IsWithin (code : Code) (log : Log) : Type 0 where
@@ -44,3 +47,10 @@ module _ (buffered : Bool) (bound : Binding) (code : Code) (paths : Paths) where
       pub own_needs : terms_size (own_needs buffered bound paths symbolic nodes)
           ≤ 224 * (EVENTS * EVENTS)
       pub read_needs : terms_size (read_needs code symbolic nodes) ≤ 224 * (EVENTS * EVENTS)
+
+-- There is room for the clauses of a system, and for levels of 255 switches over them: together
+-- they have fewer variables, and fewer clauses, than can be numbered.
+abbrev pub ClausesHaveRoom : System → Type 0
+ClausesHaveRoom s =
+    whole_size (record { order = s.order; loads = s.symbolic.loads }) s.nodes s.formula
+    + levels.size_of EVENTS 255 < LIMIT

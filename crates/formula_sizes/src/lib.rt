@@ -12,7 +12,8 @@ ghost use Rattle.store_buffers.specs.Pending.{Binding};
 ghost use Rattle.sym_terms.specs.declared.node.Node.{Node};
 ghost use Rattle.sym_exec.specs.Executed.{executed};
 ghost use Rattle.lawful_order.specs.Events.{all_events, all_sleeps};
-ghost use Rattle.formula_sizes.specs.Small.{IsWithin, IsSmall, HasSmall};
+ghost use Rattle.clap_system.specs.Systems.{system_of};
+ghost use Rattle.formula_sizes.specs.Small.{ClausesHaveRoom, IsWithin, IsSmall, HasSmall};
 
 /// A log within the limits has few events, sleeps and loads.
 pub fn logs_are_small()
@@ -28,4 +29,10 @@ pub fn logs_are_small()
 pub fn formulas_are_small()
     ensures { (buffered : Bool) (bound : Binding) (code : Code) (log : Log) (nodes : List Node) → IsWithin code log
         → HasSmall buffered bound code (paths_of code log) (executed code (paths_of code log) []).symbolic nodes }
+{}
+
+/// So there is room for its clauses, and for levels of 255 switches over them.
+pub fn clauses_have_room()
+    ensures { (buffered : Bool) (bound : Binding) (code : Code) (log : Log) → IsWithin code log
+        → ClausesHaveRoom (system_of buffered bound code log) }
 {}

@@ -1,16 +1,16 @@
 -- The clauses of a log with at most so many switches are made of the parts of its system.
-use Rattle.std.proofs.Common.{◌≡◌, ◌∙◌, ℕ, ◌+◌, ◌≤◌, Bool, true, false, List, [], ◌∷◌, ◌++◌, length, refl, sym, ap, subst, arith}
+use Rattle.std.proofs.Common.{◌≡◌, ◌∙◌, ℕ, ◌+◌, ◌*◌, ◌<◌, ◌≤◌, Bool, true, false, List, [], ◌∷◌, ◌++◌, length, refl, sym, ap, subst, arith}
+use Rattle.std.proofs.Math.Nat.{mul-le-mul}
 use Rattle.std.proofs.lemmas.Bool.{false≢true}
 use Rattle.std.proofs.lemmas.List.{map-id}
 use Rattle.std.proofs.lemmas.List.FromFn.{map-range_with_len_more}
 use Rattle.std.specs.Prelude.{if◌then◌else◌}
 use Rattle.std.specs.List.{range_with_len}
 use Rattle.tc_base.specs.Logs.{Log}
-use Rattle.tc_base.specs.declared.limits.TheConstants.{EVENTS, OPERATORS}
+use Rattle.tc_base.specs.declared.limits.TheConstants.{EVENTS, STEPS}
 use Rattle.tc_code.specs.Code.{Code}
 use Rattle.tc_code.specs.Lawful.{IsLawful}
 use Rattle.store_buffers.specs.Pending.{Binding}
-use Rattle.path_walk.specs.Fits.{Fits}
 use Rattle.path_walk.specs.Paths.{Paths, paths_of}
 use Rattle.sym_terms.specs.declared.node.Node.{Node}
 use Rattle.sym_exec.specs.Executed.{Symbolic}
@@ -19,16 +19,19 @@ use Rattle.order_formula.specs.declared.formula.Conjunct.{Conjunct}
 use Rattle.std.specs.List.{All}
 use Rattle.lawful_order.specs.Events.{all_events}
 use Rattle.cnf_core.specs.Clauses.{Formula}
+use Rattle.cnf_core.specs.declared.cnf.TheConstants.{LIMIT}
 use Rattle.bit_order.specs.Comparators.{pairs_among}
 use Rattle.bit_order.specs.Layouts.{Layout}
 use Rattle.bit_blast.specs.Blasted.{Blasted, blast, impossible}
-use Rattle.bit_blast.proofs.Completed.{completed_events, same_part}
+use Rattle.bit_blast.specs.Sizes.{whole_size}
+use Rattle.bit_blast.proofs.Completed.{completed_events, completed_sleeps, same_part, same_size}
 use Rattle.bit_blast.proofs.Posed.{formula_in}
-use Rattle.clap_system.specs.Faults.{IsShallow}
 use Rattle.clap_system.specs.Ready.{IsSound}
 use Rattle.clap_system.specs.Systems.{System, system_of}
 use Rattle.clap_solve.specs.Solved.{IsWithin}
 use Rattle.clap_solve.proofs.Meaning as solve
+use Rattle.clap_solve.proofs.Room.{clauses_have_room}
+use Rattle.switch_order.specs.Sizes.{size_of}
 use Rattle.switch_clauses.specs.Clauses.{asked_by, asked_of_all, switch_clauses, switched_by}
 use Rattle.switch_clauses.proofs.Meaning.{levels_ready}
 use Rattle.least_switch.specs.helpers.Bounded.{IsBounded}
@@ -49,6 +52,21 @@ asked_within o formula within =
     formula_in o (asked_of_all o) (asked_events o)
     (same_part (λ (k : Order). k.sleeps) (λ k p. refl) o (pairs_among (range_with_len 0 o.events))) formula within
 
+-- and the size of its clauses is the same
+pub size_asked : (o asked : Order) (loads : ℕ) (nodes : List Node) (formula : List Conjunct) → asked ≡ asked_of_all o
+    → whole_size (record { order = asked; loads = loads }) nodes formula ≡ whole_size (record { order = o; loads = loads }) nodes formula
+size_asked o asked loads nodes formula is =
+    same_size o asked loads nodes formula (ap (λ (k : Order). k.events) is ∙ asked_events o)
+    (ap (λ (k : Order). k.sleeps) is ∙ completed_sleeps o (range_with_len 0 o.events))
+
+-- levels of few switches of few events
+pub levels_few : (events most : ℕ) → events ≤ EVENTS → most ≤ 255 → size_of events most ≤ size_of EVENTS 255
+levels_few events most few least =
+    let two = mul-le-mul {n₁ = events} {m₁ = events} {n₂ = EVENTS} {m₂ = EVENTS} few few in
+    let all = mul-le-mul {n₁ = events * events} {m₁ = most + 1} {n₂ = EVENTS * EVENTS} {m₂ = 256} two (omega (arith, least)) in
+    let variables = mul-le-mul {n₁ = events} {m₁ = most} {n₂ = EVENTS} {m₂ = 255} few least in
+    omega (arith, all, variables)
+
 -- clauses with levels are those of a formula whose paths aren't dead
 pub bounded_by : (paths : Paths) (nodes : List Node) (formula : List Conjunct) (order : Order) (loads most : ℕ) (b : Blasted)
     → b ≡ blast nodes formula (asked_of_all order) loads → paths.dead ≡ false → (made : Layout × Formula) → AreLevelled paths b most made
@@ -56,16 +74,6 @@ pub bounded_by : (paths : Paths) (nodes : List Node) (formula : List Conjunct) (
 bounded_by paths nodes formula order loads most b is alive made levelled = record {
   lives = λ lives. subst (λ (x : Blasted). AreLevelled paths x most made) is levelled;
   dead = λ dead. absurd (false≢true (sym alive ∙ dead));
-}
-
--- the log of a system that was built is within the limits
-pub is_within : (buffered : Bool) (bound : Binding) (code : Code) (log : Log) (s : System) → s ≡ system_of buffered bound code log → IsShallow log
-    → Fits code log → s.paths.events ≤ EVENTS → s.paths.operators ≤ OPERATORS → IsWithin code log
-is_within buffered bound code log s of shallow fits events operators = record {
-  shallow = shallow;
-  fits = fits;
-  events = subst (λ (t : System). t.paths.events ≤ EVENTS) of events;
-  operators = subst (λ (t : System). t.paths.operators ≤ OPERATORS) of operators;
 }
 
 -- parts of a system
@@ -81,7 +89,8 @@ moved P p q ns ms f g o k m n as_paths as_nodes as_formula as_order as_loads is 
     (subst (λ (x : List Conjunct). P q ms x o m) as_formula
     (subst (λ (x : List Node). P q x f o m) as_nodes (subst (λ (x : Paths). P x ns f o m) as_paths is))))
 
-module _ (buffered : Bool) (bound : Binding) (code : Code) (log : Log) (lawful : IsLawful code) (within : IsWithin code log) (s : System)
+module _ (buffered : Bool) (bound : Binding) (code : Code) (log : Log) (lawful : IsLawful code) (within : IsWithin code log)
+    (steps : All (λ t. t.path.steps ≤ STEPS) log.threads) (s : System)
     (of : s ≡ system_of buffered bound code log) (sound : IsSound s) (paths : Paths) (symbolic : Symbolic) (nodes : List Node) (order : Order)
     (formula : List Conjunct) (loads : ℕ) (as_paths : paths ≡ s.paths) (as_symbolic : symbolic ≡ s.symbolic) (as_nodes : nodes ≡ s.nodes)
     (as_order : order ≡ s.order) (as_formula : formula ≡ s.formula) (as_loads : loads ≡ symbolic.loads) where
@@ -95,6 +104,8 @@ module _ (buffered : Bool) (bound : Binding) (code : Code) (log : Log) (lawful :
     events = subst (λ (t : System). length (all_events t.paths) ≡ t.order.events) (sym of) (sym (solve.events buffered bound code log lawful within));
     few = sound.events;
     stands = subst (λ (t : System). StandsOnOrder (asked_by t)) (sym of) (record { more = (levels_ready buffered bound code log lawful within).more });
+    room = subst (λ (t : System). whole_size (record { order = t.order; loads = t.symbolic.loads }) t.nodes t.formula + size_of EVENTS 255 < LIMIT) (sym of)
+        (clauses_have_room buffered bound code log within steps);
   }
 
   -- they can be asked of every two events

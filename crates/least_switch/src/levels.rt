@@ -1,11 +1,13 @@
 //! Clauses of a formula with at most so many context switches.
-ghost use Rattle.std.specs.Prelude.{◌≡◌, ◌≤◌, ◌<◌, IfOk, IsTrue, length};
+ghost use Rattle.std.specs.Prelude.{◌≡◌, ◌+◌, ◌≤◌, ◌<◌, IfOk, length};
 ghost use Rattle.std.specs.List.{All, range_with_len};
 ghost use Rattle.tc_base.specs.declared.limits.TheConstants.{EVENTS};
+ghost use Rattle.cnf_core.specs.declared.cnf.TheConstants.{LIMIT};
 ghost use Rattle.order_formula.specs.Formulas.{IsOf};
 ghost use Rattle.order_formula.specs.Orders.{ConjunctIsIn, IsOrder};
 ghost use Rattle.lawful_order.specs.Events.{all_events};
 ghost use Rattle.bit_blast.specs.Blasted.{blast};
+ghost use Rattle.bit_blast.specs.Sizes.{whole_size};
 ghost use Rattle.bit_gates.specs.Folded.{HasRoom};
 ghost use Rattle.switch_order.specs.Sizes.{size_of};
 ghost use Rattle.switch_clauses.specs.Clauses.{asked_of_all};
@@ -14,11 +16,11 @@ ghost use Rattle.least_switch.specs.helpers.Levels.{AreLevelled, StandsOnOrder};
 use crate::events::threads_of;
 use bit_blast::{Blasted, blast};
 use bit_order::{Layout, complete};
-use cnf_core::{Cnf, LIMIT};
+use cnf_core::Cnf;
 use order_formula::{Formula, Order};
 use path_walk::Paths;
 use std::alloc::{AllocError, Global};
-use switch_order::{add_levels, size};
+use switch_order::add_levels;
 use sym_terms::Terms;
 
 /// The clauses of a formula over an order, which is asked of every two events.
@@ -32,9 +34,11 @@ pub(crate) fn blast_asked(
     requires terms { IsOf (length terms.now) formula.now }
     requires events { order.events ≤ 256 }
     requires within { All (ConjunctIsIn order) formula.now }
+    requires room { whole_size (record { order = order; loads = loads }) terms.now formula.now + size_of EVENTS 255 < LIMIT }
     ensures blasted { IfOk result (λ blasted. blasted ≡ blast terms.now formula.now (asked_of_all order) loads) }
     ensures lawful { IfOk result (λ blasted. IsOrder blasted.layout.order) }
     ensures variables { IfOk result (λ blasted. 0 < blasted.clauses.vars) }
+    ensures room { IfOk result (λ blasted. HasRoom (size_of EVENTS 255) blasted.clauses) }
 {
     let order = ask_all(alloc, order)?;
     blast(alloc, terms, formula, order, loads)
@@ -47,10 +51,6 @@ fn ask_all(alloc: Global, order: Order) -> Result<Order, AllocError>
 {
     let mut order = order;
     let events = numbers(alloc, order.events())?;
-    let pairs = (events.len() as u64).saturating_mul(events.len() as u64);
-    if pairs.saturating_add(order.pairs().len() as u64) >= u64::from(u32::MAX) {
-        return Err(AllocError);
-    }
     complete(&mut order, events.as_slice())?;
     Ok(order)
 }
@@ -79,13 +79,11 @@ pub(crate) fn with_levels(
     requires order { IsOrder blasted.layout.order }
     requires variables { 0 < blasted.clauses.vars }
     requires stands { StandsOnOrder blasted }
+    requires room { HasRoom (size_of EVENTS 255) blasted.clauses }
     ensures { IfOk result (AreLevelled paths.now blasted most) }
 {
     let (threads, failing) = threads_of(alloc, paths)?;
     let (layout, mut clauses) = blasted.into_parts();
-    if !has_room(&clauses, layout.order().events(), most) {
-        return Err(AllocError);
-    }
     add_levels(
         alloc,
         &mut clauses,
@@ -95,15 +93,4 @@ pub(crate) fn with_levels(
         most,
     )?;
     Ok((layout, clauses))
-}
-
-/// Whether the variables and the clauses can be numbered.
-fn has_room(clauses: &Cnf, events: u32, most: u32) -> bool
-    requires events { events ≤ 256 }
-    requires most { most ≤ 255 }
-    ensures { IsTrue result → HasRoom (size_of events most) clauses.now }
-{
-    let more = size(events, most);
-    let limit = u64::from(LIMIT);
-    u64::from(clauses.vars()) + more < limit && clauses.len() as u64 + more < limit
 }

@@ -15,17 +15,6 @@ use bit_order::{Layout, add_clause};
 use cnf_core::{Cnf, Lit};
 use std::alloc::{AllocError, Global};
 
-/// Levels up to a number take at most so many variables and clauses.
-pub fn size(events: u32, most: u32) -> u64
-    requires events { events ≤ 256 }
-    requires most { most ≤ 255 }
-    ensures { result ≡ size_of events most }
-{
-    let events = u64::from(events);
-    let most = u64::from(most);
-    events * events * (most + 1) + events * most
-}
-
 /// A formula that stands on the clauses of an order gets levels up to a number, and with them at most so many switches. `threads`
 /// has the thread of each event; where an event fails, those after it don't count.
 pub fn add_levels(

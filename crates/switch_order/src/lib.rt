@@ -12,7 +12,7 @@ ghost use Rattle.cnf_core.specs.Clauses.{Formula};
 ghost use Rattle.bit_order.specs.Layouts.{Layout as PlainLayout};
 ghost use Rattle.switch_order.specs.Laws.{IsReady, LevelsMean};
 
-pub use adding::{add_levels, size};
+pub use adding::add_levels;
 
 /// What satisfies a formula with levels up to a number satisfies the formula, and says a world of at most so many switches. What
 /// satisfies the formula and says such a world satisfies that with levels too, with some values of their variables.

@@ -60,6 +60,9 @@ fn all_of(alloc: Global, literals: Vec<Literal>) -> Result<Conjunct>
 /// The clauses of the formula that in each pair the first event comes before the second.
 fn clauses(alloc: Global, pairs: &[(u32, u32)]) -> Result<Blasted> {
     let literals = literals(alloc, pairs)?;
+    if literals.len() > 3 {
+        bail!("more than three pairs");
+    }
     let conjunct = all_of(alloc, literals)?;
     let mut formula = Formula::empty(alloc);
     let mut order = Order::empty(alloc, 3, 0);

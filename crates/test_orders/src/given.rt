@@ -3,6 +3,7 @@ ghost use Rattle.std.specs.Prelude.{◌≤◌, length, IfOk};
 ghost use Rattle.tc_base.specs.declared.limits.TheConstants.{PROGRAM_BYTES};
 
 use anyhow::{Context, Result, bail};
+use clap_solve::{Posed, pose};
 use clap_system::{BuildFault, System, build};
 use path_log::{Log, read_log};
 use std::alloc::Global;
@@ -20,6 +21,12 @@ pub(crate) fn split(given: &str) -> Result<(&str, &str)> {
 pub(crate) fn system(alloc: Global, model: &str, given: &str) -> Result<System> {
     let (code, log) = code_and_log(alloc, given)?;
     system_under(alloc, model, &code, &log)
+}
+
+/// The clauses of a log and a program under a model.
+pub(crate) fn posed(alloc: Global, model: &str, given: &str) -> Result<Posed> {
+    let (code, log) = code_and_log(alloc, given)?;
+    posed_under(alloc, model, &code, &log)
 }
 
 /// The code of a program, and a log.
@@ -51,6 +58,15 @@ fn system_under(alloc: Global, model: &str, code: &Code, log: &Log) -> Result<Sy
         "sc" => built(build::<Sc>(alloc, code, log)),
         "tso" => built(build::<TsoModel>(alloc, code, log)),
         "pso" => built(build::<PsoModel>(alloc, code, log)),
+        _ => bail!("no such model"),
+    }
+}
+
+fn posed_under(alloc: Global, model: &str, code: &Code, log: &Log) -> Result<Posed> {
+    match model {
+        "sc" => built(pose::<Sc>(alloc, code, log)),
+        "tso" => built(pose::<TsoModel>(alloc, code, log)),
+        "pso" => built(pose::<PsoModel>(alloc, code, log)),
         _ => bail!("no such model"),
     }
 }

@@ -1,6 +1,5 @@
 //! How large formulas and their clauses are.
-use crate::given::{split, system};
-use crate::verdicts::blasted;
+use crate::given::{posed, split, system};
 use anyhow::Result;
 use std::alloc::Global;
 use std::mem::drop;
@@ -18,8 +17,8 @@ pub(crate) fn formula(alloc: Global, given: &str) -> Result<String> {
 /// How many variables and clauses the formula of a log comes to.
 pub(crate) fn clauses(alloc: Global, given: &str) -> Result<String> {
     let (model, given) = split(given)?;
-    let blasted = blasted(alloc, system(alloc, model, given)?)?;
-    let (variables, clauses) = (blasted.clauses().vars(), blasted.clauses().len());
-    drop(blasted);
+    let posed = posed(alloc, model, given)?;
+    let (variables, clauses) = (posed.clauses().vars(), posed.clauses().len());
+    drop(posed);
     Ok(format!(in alloc; "{variables} variables, {clauses} clauses")?)
 }

@@ -1,12 +1,11 @@
 //! Whether logs are possible, by the clauses of their formulas.
-use crate::given::{split, system};
+use crate::given::{posed, split, system};
 use anyhow::{Result, bail};
-use bit_blast::{Blasted, blast};
+use bit_blast::Blasted;
 use cdcl_core::{Progress, Search, Solved, solve_cnf};
-use clap_system::System;
 use cnf_core::Cnf;
 use order_formula::World;
-use std::alloc::{AllocError, Global};
+use std::alloc::Global;
 use std::mem::drop;
 
 /// How many clauses a search may learn.
@@ -15,9 +14,9 @@ const BUDGET: u32 = 1_000_000;
 /// The verdict on a log.
 pub(crate) fn verdict(alloc: Global, given: &str) -> Result<String> {
     let (model, given) = split(given)?;
-    let blasted = blasted(alloc, system(alloc, model, given)?)?;
-    let world = found(alloc, &blasted);
-    drop(blasted);
+    let posed = posed(alloc, model, given)?;
+    let world = found(alloc, posed.blasted());
+    drop(posed);
     let answer = match world? {
         None => "impossible",
         Some(world) => possible(alloc, model, given, world)?,
@@ -28,9 +27,9 @@ pub(crate) fn verdict(alloc: Global, given: &str) -> Result<String> {
 /// What a search comes to that tries false first, and how many clauses it learns.
 pub(crate) fn learnt(alloc: Global, given: &str) -> Result<String> {
     let (model, given) = split(given)?;
-    let blasted = blasted(alloc, system(alloc, model, given)?)?;
-    let told = searched(alloc, blasted.clauses());
-    drop(blasted);
+    let posed = posed(alloc, model, given)?;
+    let told = searched(alloc, posed.clauses());
+    drop(posed);
     told
 }
 
@@ -71,13 +70,4 @@ fn possible(alloc: Global, model: &str, given: &str, world: World) -> Result<&'s
         bail!("a world that isn't lawful");
     }
     Ok("possible")
-}
-
-/// The clauses of a system.
-pub(crate) fn blasted(alloc: Global, system: System) -> Result<Blasted, AllocError> {
-    let (paths, symbolic, terms, order, formula) = system.into_parts();
-    if paths.dead() {
-        return Blasted::impossible(alloc);
-    }
-    blast(alloc, &terms, &formula, order, symbolic.loads())
 }

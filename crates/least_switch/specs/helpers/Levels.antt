@@ -1,5 +1,5 @@
 -- Clauses of a formula with at most so many switches.
-use Rattle.std.specs.Prelude.{◌≡◌, ℕ, ◌≤◌, true, false, List, length}
+use Rattle.std.specs.Prelude.{◌≡◌, ℕ, ◌+◌, ◌<◌, ◌≤◌, true, false, List, length}
 use Rattle.std.specs.List.{All}
 use Rattle.tc_base.specs.declared.limits.TheConstants.{EVENTS}
 use Rattle.path_walk.specs.Paths.{Paths}
@@ -9,10 +9,13 @@ use Rattle.order_formula.specs.Orders.{ConjunctIsIn, Order}
 use Rattle.order_formula.specs.declared.formula.Conjunct.{Conjunct}
 use Rattle.lawful_order.specs.Events.{all_events}
 use Rattle.cnf_core.specs.Clauses.{Formula}
+use Rattle.cnf_core.specs.declared.cnf.TheConstants.{LIMIT}
 use Rattle.bit_order.specs.Comparators.{ordered}
 use Rattle.bit_order.specs.Layouts.{Layout, base}
 use Rattle.bit_blast.specs.Blasted.{Blasted, blast, impossible}
+use Rattle.bit_blast.specs.Sizes.{whole_size}
 use Rattle.switch_order.specs.Levels.{levelled}
+use Rattle.switch_order.specs.Sizes.{size_of}
 use Rattle.switch_runs.specs.Worlds.{failing_of, threads_of}
 use Rattle.switch_clauses.specs.Clauses.{asked_of_all}
 
@@ -33,6 +36,7 @@ pub record IsAskable (paths : Paths) (nodes : List Node) (formula : List Conjunc
   pub events : length (all_events paths) ≡ order.events
   pub few : order.events ≤ EVENTS
   pub stands : StandsOnOrder (blast nodes formula (asked_of_all order) loads)
+  pub room : whole_size (record { order = order; loads = loads }) nodes formula + size_of EVENTS 255 < LIMIT
 
 -- where the paths aren't dead, its clauses with levels up to a number
 pub record AreBounded (paths : Paths) (nodes : List Node) (formula : List Conjunct) (order : Order) (loads most : ℕ) (made : Layout × Formula) : Type 0 where

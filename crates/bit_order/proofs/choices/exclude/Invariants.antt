@@ -8,5 +8,5 @@ invariant-loop-later l = record {
   vars : l.cnf.vars ≡ l.initial.cnf.vars;
   clauses : l.cnf.clauses ≡ l.initial.cnf.clauses
       ++ flat_map (λ later. flat_map (λ earlier. exclusion l.start l.choices earlier later) (range_with_len 0 later)) (range_with_len 0 l.later);
-  few : length l.cnf.clauses ≤ length l.initial.cnf.clauses + l.later * length l.choices;
+  few : length l.cnf.clauses ≤ length l.initial.cnf.clauses + l.later * l.order.events;
 }

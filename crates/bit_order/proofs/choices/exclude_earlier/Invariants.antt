@@ -1,4 +1,4 @@
-use Rattle.std.proofs.Common.{◌≡◌, ◌+◌, ◌≤◌, ◌++◌, length}
+use Rattle.std.proofs.Common.{◌≡◌, ◌++◌}
 use Rattle.std.specs.List.{flat_map, range_with_len}
 use Rattle.bit_order.specs.Layouts.{exclusion}
 use Rattle.bit_order.proofs.choices.exclude_earlier.Given as goal
@@ -8,5 +8,4 @@ invariant-loop-earlier l = record {
   vars : l.cnf.vars ≡ l.initial.cnf.vars;
   clauses : l.cnf.clauses ≡ l.initial.cnf.clauses
       ++ flat_map (λ earlier. exclusion l.start l.choices earlier l.later) (range_with_len 0 l.earlier);
-  few : length l.cnf.clauses ≤ length l.initial.cnf.clauses + l.earlier;
 }

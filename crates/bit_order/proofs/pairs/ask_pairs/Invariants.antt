@@ -1,4 +1,4 @@
-use Rattle.std.proofs.Common.{◌≡◌, ◌+◌, ◌≤◌, length, take, map}
+use Rattle.std.proofs.Common.{◌≡◌, take, map}
 use Rattle.std.specs.Prelude.{fold}
 use Rattle.order_formula.specs.Orders.{pair_of, with_pair}
 use Rattle.bit_order.proofs.pairs.ask_pairs.Given as goal
@@ -7,5 +7,4 @@ abbrev pub invariant-loop-other : goal.invariant-loop-other
 invariant-loop-other l = record {
   asked : l.order ≡ fold with_pair l.initial.order (map (pair_of l.event) (take l.other-index l.others));
   events : l.order.events ≡ l.initial.order.events;
-  few : length l.order.pairs ≤ length l.initial.order.pairs + l.other-index;
 }

@@ -1,4 +1,4 @@
-use Rattle.std.proofs.Common.{◌≡◌, ◌+◌, ◌*◌, ◌≤◌, length, drop}
+use Rattle.std.proofs.Common.{◌≡◌, drop}
 use Rattle.std.specs.Prelude.{fold}
 use Rattle.order_formula.specs.Orders.{with_pair}
 use Rattle.bit_order.specs.Comparators.{completed, pairs_among}
@@ -8,5 +8,4 @@ abbrev pub invariant-loop-place : goal.invariant-loop-place
 invariant-loop-place l = record {
   asked : completed l.initial.order l.events ≡ fold with_pair l.order (pairs_among (drop l.place l.events));
   events : l.order.events ≡ l.initial.order.events;
-  few : length l.order.pairs ≤ length l.initial.order.pairs + l.place * length l.events;
 }
