@@ -18,4 +18,5 @@ pub returns : goal.returns
 returns c =
     let found = c.loop-kind.found.items in
     all_picked (GoesOnWith c.args.before.now) all_kinds found
-    (subst (λ (rest : List TokenKind). IsSoFar (GoesOnWith c.args.before.now) all_kinds found rest) c.in-None.ensures c.loop-kind.invariant)
+    (subst (λ (rest : List TokenKind). IsSoFar (GoesOnWith c.args.before.now) all_kinds found rest) (rw c.in_default.is at c.first_of.ensures)
+    c.loop-kind.invariant)
