@@ -34,18 +34,18 @@ pub(crate) struct Described {
 }
 
 /// Why a text is no program, or what the program has.
-pub(crate) fn help<'a>(alloc: Global, text: &[u8]) -> Answer<'a>
+pub(crate) fn help_with<'a>(alloc: Global, text: &[u8]) -> Answer<'a>
     requires { length text.now ≤ PROGRAM_BYTES }
     ensures { IsHelpOrNone text.now result }
 {
-    match try_help(alloc, text) {
+    match try_help_with(alloc, text) {
         Ok(answer) => answer,
         Err(_) => Answer::NoMemory,
     }
 }
 
 /// The same, but for want of memory.
-fn try_help<'a>(alloc: Global, text: &[u8]) -> Result<Answer<'a>, AllocError>
+fn try_help_with<'a>(alloc: Global, text: &[u8]) -> Result<Answer<'a>, AllocError>
     requires { length text.now ≤ PROGRAM_BYTES }
     ensures { IfOk result (IsHelpTo text.now) }
 {

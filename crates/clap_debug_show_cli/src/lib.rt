@@ -18,7 +18,7 @@ mod words;
 
 use answer::Answer;
 use files::{fetch, keep};
-use help::help;
+use help::help_with;
 use limits::What;
 use shown::read_shown;
 use std::alloc::Global;
@@ -82,7 +82,7 @@ fn answer_help<'a, H: Shelf>(
     ensures { IsEither result (IsHelpCause name.now (H.tells shelf.old) (H.tells shelf.new)) }
 {
     let text = fetch(alloc, shelf, What::ProgramBytes, name)?;
-    Ok(help(alloc, &text))
+    Ok(help_with(alloc, &text))
 }
 
 /// What is answered to a call that shows a file: what it shows, or that its page is kept.

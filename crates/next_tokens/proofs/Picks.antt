@@ -1,6 +1,7 @@
 -- Of a list those of which something holds, found one by one.
-use Rattle.std.proofs.Common.{◌≡◌, ◌⊎◌, inl, inr, sym, subst, refl, append_assoc, Bool, true, false, false≢true, List, [], ◌∷◌, ◌++◌}
+use Rattle.std.proofs.Common.{◌≡◌, ◌⊎◌, inl, inr, sym, subst, refl, append_assoc, Bool, true, false, List, [], ◌∷◌, ◌++◌}
 use Rattle.std.specs.Prelude.{◌↔◌, if◌then◌else◌}
+use Rattle.std.proofs.lemmas.Bool.{false≢true}
 use Rattle.std.proofs.lemmas.List.{append-nil}
 use Rattle.next_tokens.specs.Next.{ArePicked}
 
@@ -8,8 +9,8 @@ use Rattle.next_tokens.specs.Next.{ArePicked}
 pub record IsSoFar {A : Type 0} (P : A → Type 0) (all found rest : List A) : Type 0 where
   pub completes : (picked : List A) → ArePicked P rest picked → ArePicked P all (found ++ picked)
 
-pub start : {A : Type 0} (P : A → Type 0) (all : List A) → IsSoFar P all [] all
-start P all = record { completes = λ picked h. h }
+pub start : {A : Type 0} (P : A → Type 0) (all found : List A) → found ≡ [] → IsSoFar P all found all
+start {A} P all found empty = subst (λ (xs : List A). IsSoFar P all xs all) (sym empty) (record { completes = λ picked h. h })
 
 pick : {A : Type 0} (P : A → Type 0) (all found : List A) (x : A) (rest : List A) → P x → IsSoFar P all found (x ∷ rest)
     → IsSoFar P all (found ++ x ∷ []) rest

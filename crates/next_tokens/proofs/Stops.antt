@@ -1,6 +1,7 @@
 -- What a reader's answer to some words says of what goes on with them.
-use Rattle.std.proofs.Common.{◌≡◌, ◌≤◌, ◌<◌, ◌+◌, ◌-◌, zero, suc, sym, subst, refl, ap, arith, append_assoc, ℕ, Bool, true, false, List, [], ◌∷◌, ◌++◌, length, take, drop, take-append-drop, nat_eq, eqb-true, eq-eqb, false≢true, Option, Some, None, is_none}
+use Rattle.std.proofs.Common.{◌≡◌, ◌≤◌, ◌<◌, ◌+◌, ◌-◌, zero, suc, sym, subst, refl, ap, arith, append_assoc, ℕ, Bool, true, false, List, [], ◌∷◌, ◌++◌, length, take, drop, take-append-drop, nat_eq, eqb-true, eq-eqb, Option, Some, None, is_some, not}
 use Rattle.std.specs.Prelude.{◌↔◌, unwrap_or}
+use Rattle.std.proofs.lemmas.Bool.{false≢true}
 use Rattle.std.proofs.lemmas.List.{append-nil}
 use Rattle.std.proofs.Math.Seq.{take-length}
 use Rattle.tc_tree.specs.declared.word.Word.{Word}
@@ -51,6 +52,8 @@ pub begins_by : (words : List Word) (left : Option ℕ) → IsLeft words left �
 begins_by words None is = (λ e. spelled_begins words is.0 is.1, λ b. refl)
 begins_by words (Some n) stop = left_begins words n stop.0 stop.1
 
-pub program_by : (words : List Word) (left : Option ℕ) → IsLeft words left → (is_none left ≡ true) ↔ AreProgram words
-program_by words None is = (λ e. is, λ h. refl)
-program_by words (Some n) stop = (λ e. absurd (false≢true e), λ is. absurd (stop.1.none is.0 is.1))
+pub program_by : (words : List Word) (left : Option ℕ) (none : Bool) → is_some left ≡ not none → IsLeft words left → (none ≡ true) ↔ AreProgram words
+program_by words None true e is = (λ h. is, λ h. refl)
+program_by words None false e is = absurd (false≢true e)
+program_by words (Some n) true e stop = absurd (false≢true (sym e))
+program_by words (Some n) false e stop = (λ h. absurd (false≢true h), λ is. absurd (stop.1.none is.0 is.1))

@@ -60,18 +60,27 @@ fn stuck_at(alloc: Global, words: &[Word], place: usize) -> Result<Stuck, AllocE
 }
 
 /// Of all kinds of tokens those with which a program goes on after these words.
-#[tactic(auto, using(crate::proofs::Picks::next, crate::proofs::Picks::all_picked))]
 fn kinds_after(alloc: Global, before: &[Word]) -> Result<Vec<TokenKind>, AllocError>
     ensures { IfOk result (λ found. ArePicked (GoesOnWith before.now) all_kinds found.items) }
 {
     let mut found = Vec::new(alloc);
     let mut rest: &[TokenKind] = &ALL_KINDS;
-    while let [kind, later @ ..] = rest {
-        let goes_on = goes_on_with(alloc, before, *kind)?;
-        push_if(&mut found, *kind, goes_on)?;
+    while let Some((kind, later)) = first_of(rest) {
+        let goes_on = goes_on_with(alloc, before, kind)?;
+        push_if(&mut found, kind, goes_on)?;
         rest = later;
     }
     Ok(found)
+}
+
+/// The first of some kinds, and the others.
+fn first_of(kinds: &[TokenKind]) -> Option<(TokenKind, &[TokenKind])>
+    ensures { MatchOption result (kinds.now ≡ []) (λ x. kinds.now ≡ x.0 ∷ x.1.now) }
+{
+    match kinds {
+        [first, others @ ..] => Some((*first, others)),
+        [] => None,
+    }
 }
 
 /// Adds the kind, if it is wanted.

@@ -4,6 +4,7 @@ ghost use Rattle.tc_base.specs.declared.limits.TheConstants.{PROGRAM_BYTES};
 ghost use Rattle.tc_lexer.specs.Text.{AreTokens};
 ghost use Rattle.tc_tree.specs.Words.{words_of};
 ghost use Rattle.tc_parser.specs.Programs.{IsTextFault};
+ghost use Rattle.tc_parser.specs.declared.fault.TextFault.TheVariants.{Parse};
 ghost use Rattle.next_tokens.specs.Texts.{Tells};
 ghost use Rattle.next_tokens.specs.helpers.Searched.{IsSearched};
 
@@ -20,7 +21,23 @@ pub fn stuck_of(alloc: Global, text: &[u8], fault: &TextFault) -> Result<Option<
     ensures { IfOk result (Tells text.now fault.now) }
 {
     match fault {
-        TextFault::Parse(ParseFault::Syntax(_)) => search(alloc, text),
+        TextFault::Lex(_) => Ok(None),
+        TextFault::Parse(fault) => stuck_of_parse(alloc, text, fault),
+    }
+}
+
+/// The same of a text that has tokens.
+fn stuck_of_parse(
+    alloc: Global,
+    text: &[u8],
+    fault: &ParseFault,
+) -> Result<Option<Stuck>, AllocError>
+    requires size { length text.now ≤ PROGRAM_BYTES }
+    requires fault { IsTextFault 3 text.now (Parse fault.now) }
+    ensures { IfOk result (Tells text.now (Parse fault.now)) }
+{
+    match fault {
+        ParseFault::Syntax(_) => search(alloc, text),
         _ => Ok(None),
     }
 }

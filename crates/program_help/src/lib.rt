@@ -4,15 +4,15 @@
 mod bytes;
 mod counts;
 mod expected;
-mod explain;
 mod foreign;
 mod habits;
 mod meanings;
 mod names;
 mod program;
 mod quote;
+mod refusal;
 mod scopes;
 mod source;
 
-pub use explain::explain;
 pub use program::describe;
+pub use refusal::explain;
