@@ -86,7 +86,7 @@ class Body:
         if self.names.has(name) and len(self.frames) > 1:
             base = f"{self.frames[-1].name}_{name}"
         variable = Variable(base, type_, False, at)
-        for made, part, _ in self.storage.declare(variable):
+        for made, part, _ in self.storage.declare(variable, self.ints):
             kinds = self.handles if isinstance(part, Handle) else self.ints
             if isinstance(part, Handle) and part.kind != "thread":
                 raise Refusal(at, f"a {part.kind} of a function's own", "declare it at file scope, or static")

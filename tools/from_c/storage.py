@@ -6,7 +6,7 @@ from typing import Container, Dict, Iterator, List, Optional, Set, Tuple, Union
 from .operators import simplified
 from .program import Expression, Number
 from .refusal import Place
-from .types import Array, Int, Struct, Type, scalars_of
+from .types import Array, Handle, Int, Struct, Type, scalars_of
 
 KEYWORDS = frozenset("int mutex cond thread main tid if else while create join lock unlock wait signal broadcast fence assert swap cas "
                      "stbar".split())
@@ -111,17 +111,18 @@ class Storage:
         self.names, self.apart = names, apart
         self.found: Dict[Part, Tuple[Tuple[int, ...], Type, Tuple[str, ...]]] = {}
 
-    def declare(self, variable: Variable) -> List[Tuple[str, Type, int]]:
-        """The names of a variable's parts, with their types, and the length of an array or 0."""
+    def declare(self, variable: Variable, ints: Container[str] = ()) -> List[Tuple[str, Type, int]]:
+        """The names of a variable's parts, with their types, and the length of an array or 0. A thread isn't named as an int was."""
         made = []
         for fields, dims, type_ in scalars_of(variable.type):
             base = "_".join((variable.name, *fields))
             size = math.prod(dims)
+            others = ints if isinstance(type_, Handle) else ()
             whole = variable.shared and isinstance(type_, Int) and key_of(variable, fields) not in self.apart
             if not dims or whole:
-                names: Tuple[str, ...] = (self.names.fresh(base),)
+                names: Tuple[str, ...] = (self.names.fresh(base, others),)
             else:
-                names = tuple(self.names.fresh(f"{base}_{index}") for index in range(size))
+                names = tuple(self.names.fresh(f"{base}_{index}", others) for index in range(size))
             self.found[variable, fields] = (dims, type_, names)
             made += [(name, type_, size if dims and whole else 0) for name in names]
         return made
