@@ -1,5 +1,5 @@
-//! Logs that are enough to find each failure and each deadlock: in that of a failure no thread but the failing one ends with a
-//! step that no other needs.
+//! Logs that are enough to find each failure and each deadlock. In the log of a failure each thread but the failing one
+//! does nothing, or ends with a step that another may have a use for.
 //!
 //! Each function's clause is a law, and its body does nothing.
 #![tactic(auto)]
@@ -15,8 +15,9 @@ ghost use Rattle.store_buffers.specs.Pending.{Binding};
 ghost use Rattle.normal_logs.specs.Normal.{IsNormal, IsNormalDeadlock};
 ghost use Rattle.normal_logs.specs.Within.{Allowed, at_most, HasBeginnings, ComesTo, ReproducesSome};
 
-/// Some moves lead to a failure in which each thread has allowed outcomes exactly where some moves reproduce a normal log of
-/// which the same holds, under every memory model: where the first of allowed outcomes are allowed too, as with at most so many.
+/// Some moves lead to a failure in which each thread has allowed outcomes exactly where some moves reproduce a normal log with
+/// allowed outcomes, under every memory model. A beginning of allowed outcomes must be allowed too, as it is where each thread
+/// may have at most so many.
 pub fn failures_have_normal_logs<B>()
     ensures allowed { (ops : BufferOps B) (model : Model) (bound : Binding) (code : Code) (allowed : Allowed)
         → Laws ops model bound → IsLawful code → HasBeginnings allowed
