@@ -62,7 +62,7 @@ module _ {B : Type 0} (ops : BufferOps B) (code : Code) (s : State B) where
     drain_does form = ap (λ o. option_map_or (λ (t : Thread B). drained ops code h n (ops.drain t.buffer form).entry ∷ []) o []) there
 
 -- the thread of the first of some deeds
-first_doer : List Deed → Name
+abbrev first_doer : List Deed → Name
 first_doer [] = []
 first_doer (Did n k r v o ∷ ds) = n
 first_doer (Drained n k c v ∷ ds) = n

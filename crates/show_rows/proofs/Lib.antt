@@ -1,4 +1,3 @@
 pub mod Deeds
 pub mod Moves
-pub mod Owners
 pub mod Stores

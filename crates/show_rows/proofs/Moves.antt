@@ -1,5 +1,5 @@
 -- Rows that are told one after another.
-use Rattle.std.proofs.Common.{◌≡◌, ◌∙◌, ℕ, ◌+◌, ◌<◌, ◌≤◌, List, [], ◌∷◌, ◌++◌, length, take, drop, get_or, map, Some, refl, suc, sym, ap, subst, append-nil, append-assoc, add-one, drop-cons}
+use Rattle.std.proofs.Common.{◌≡◌, ◌∙◌, ℕ, ◌+◌, ◌<◌, ◌≤◌, List, [], ◌∷◌, ◌++◌, length, take, drop, get_or, map, Some, refl, suc, sym, ap, subst, append-nil, append_assoc, add-one, drop-cons}
 use Rattle.std.proofs.lemmas.List.{take_all, take_more, take-append-drop, map-append}
 use Rattle.std.proofs.lemmas.List.Sums.{fold-append}
 use Rattle.tc_base.specs.Buffers.{BufferOps}
@@ -23,7 +23,7 @@ use Rattle.show_rows.specs.declared.telling.Telling.{Telling}
 use Rattle.show_rows.specs.helpers.SoFar.{IsSoFar}
 
 -- the deeds of a row more
-pub deeds-push : (rows : List Row) (row : Row) → deeds (rows ++ row ∷ []) ≡ deeds rows ++ plain_deed row.deed ∷ []
+deeds-push : (rows : List Row) (row : Row) → deeds (rows ++ row ∷ []) ≡ deeds rows ++ plain_deed row.deed ∷ []
 deeds-push rows row = map-append (λ (r : Row). plain_deed r.deed) rows (row ∷ [])
 
 -- a row more was where its thread was, if the others were
@@ -33,7 +33,7 @@ at-push code h [] row were was = (subst (λ g. WasAt code g row) (append-nil h) 
 at-push code h (r ∷ rs) row were was = (
   were.0,
   at-push code (h ++ plain_deed r.deed ∷ []) rs row were.1
-      (subst (λ g. WasAt code g row) (sym (append-assoc h (plain_deed r.deed ∷ []) (deeds rs))) was),
+      (subst (λ g. WasAt code g row) (sym (append_assoc h (plain_deed r.deed ∷ []) (deeds rs))) was),
 )
 
 -- a list at one of its places

@@ -2,12 +2,25 @@
 ghost use Rattle.std.specs.Prelude.{◌≡◌, ◌<◌, length, pos, slice_index_or, IfOk};
 ghost use Rattle.run_laws.specs.Whole.{IsWholeThread};
 ghost use Rattle.tc_code.specs.Code as flat;
+ghost use Rattle.tc_code.specs.Lawful.{IsLawful};
+ghost use Rattle.tc_code.specs.Step as plain;
 
 use std::alloc::{AllocError, Global};
 use store_buffers::MemoryModel;
 use tc_base::Request;
-use tc_code::{Expr, Instr};
+use tc_code::{Code, Expr, Instr};
 use tc_threads::Thread;
+
+/// How many int slots a function has, and 0 where it isn't there.
+pub(crate) fn ints_of(code: &Code, function: usize) -> u32
+    ensures ints { result ≡ plain.ints_of code.now function }
+    ensures lawful { IsLawful code.now }
+{
+    match code.functions().get(function) {
+        Some(func) => func.ints,
+        None => 0,
+    }
+}
 
 /// The value of each slot of a thread that has so many.
 pub(crate) fn slots_of<M: MemoryModel>(

@@ -12,7 +12,7 @@ ghost use Rattle.show_rows.specs.Rows.{deeds, WasAt};
 ghost use Rattle.show_rows.specs.helpers.SoFar.{IsSoFar};
 
 use crate::row::Row;
-use crate::slots::slots_of;
+use crate::slots::{ints_of, slots_of};
 use crate::thread::thread_of;
 use show_deeds::{Deed, Seen, Step, Stored};
 use std::alloc::{AllocError, Global};
@@ -78,7 +78,7 @@ impl Telling {
             unreachable!()
         };
         let (function, instruction) = thread.local().place();
-        let count = code.functions()[function].ints;
+        let count = ints_of(code, function);
         let slots = slots_of(alloc, count, thread)?;
         Ok(Row {
             deed,

@@ -2,7 +2,7 @@
 
 use crate::wakes::Wakes;
 use show_deeds::Deed;
-use show_rows::{Row, Standing, owner_of};
+use show_rows::{Row, Standing};
 use std::alloc::{AllocError, Global};
 use tc_base::{Request, ThreadName};
 
@@ -50,6 +50,24 @@ fn mutex_wait(rows: &[Row], mutex: u32) -> Result<Option<Waits>, AllocError> {
         Some(owner) => Ok(Some(Waits::Mutex(mutex, owner.clone()?))),
         None => Ok(None),
     }
+}
+
+/// The thread that has a mutex after the rows: that of the last step which took it, if none has left it since.
+fn owner_of(rows: &[Row], mutex: u32) -> Option<&ThreadName> {
+    for row in rows.iter().rev() {
+        if let Deed::Did(step) = &row.deed {
+            match step.asks {
+                Request::Acquire(taken) | Request::EndWait(_, taken) if taken == mutex => {
+                    return Some(&step.thread);
+                }
+                Request::Release(left) | Request::BeginWait(_, left) if left == mutex => {
+                    return None;
+                }
+                _ => {}
+            }
+        }
+    }
+    None
 }
 
 /// Whether a thread sleeps after the rows.
