@@ -73,5 +73,6 @@ blast-requires-clause-room c =
       ap body_size c.in_ok-conjunct.ensures,
       sum_by-cons case_size ls [],
       literals_few ls,
-      c.if-literals-gt.false,
+      c.if-len-gt3.false,
+      c.len.ensures,
     )
