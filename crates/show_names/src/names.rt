@@ -2,6 +2,7 @@
 
 use crate::body::{BodyNames, body_names};
 use crate::globals::{GlobalNames, global_names};
+use crate::source::source_of;
 use crate::text::lines_of;
 use sha2::{Digest, Sha256};
 use std::alloc::{AllocError, Global};
@@ -14,6 +15,7 @@ use tc_tree::Tree;
 pub struct Names {
     digest: String,
     lines: Vec<String>,
+    source: Vec<String>,
     globals: GlobalNames,
     bodies: Vec<BodyNames>,
 }
@@ -24,6 +26,7 @@ impl Names {
         Ok(Names {
             digest: hex::encode(alloc, Sha256::digest(tree.text).as_slice())?,
             lines: lines_of(alloc, tree.text)?,
+            source: source_of(alloc, tree.text)?,
             globals: global_names(alloc, tree)?,
             bodies: body_names(alloc, tree)?,
         })
@@ -41,6 +44,11 @@ impl Names {
             Some(place) => named(self.lines.get(place as usize)),
             None => "?",
         }
+    }
+
+    /// All lines as they are written, each tab as four blanks.
+    pub fn source(&self) -> &[String] {
+        self.source.as_slice()
     }
 
     /// The name of a cell: that of an int, or of an array with the index.
@@ -66,6 +74,16 @@ impl Names {
     /// The name of a mutex.
     pub fn mutex(&self, mutex: u32) -> &str {
         named(self.globals.mutexes.get(mutex as usize))
+    }
+
+    /// The names of all mutexes.
+    pub fn mutexes(&self) -> &[String] {
+        self.globals.mutexes.as_slice()
+    }
+
+    /// The names of all conditions.
+    pub fn conditions(&self) -> &[String] {
+        self.globals.conditions.as_slice()
     }
 
     /// The name of a condition.

@@ -6,10 +6,18 @@ use std::alloc::{AllocError, Global};
 use std::collections::BTreeMap;
 use tc_base::ThreadName;
 
-/// The title of each thread's lane.
+/// The lane of a thread.
+#[derive(Drop)]
+pub(crate) struct Lane {
+    pub(crate) title: String,
+    /// The line at which the thread is when the schedule ends, unless it has exited.
+    pub(crate) line: Option<u32>,
+}
+
+/// The lane of each thread.
 #[derive(Drop)]
 pub(crate) struct Lanes {
-    titles: BTreeMap<ThreadName, String>,
+    lanes: BTreeMap<ThreadName, Lane>,
 }
 
 impl Lanes {
@@ -20,13 +28,14 @@ impl Lanes {
         told: &Told,
     ) -> Result<Lanes, AllocError> {
         let mut lanes = Lanes {
-            titles: BTreeMap::new(alloc),
+            lanes: BTreeMap::new(alloc),
         };
-        for row in told.rows.iter() {
-            lanes.add(alloc, program, row.deed.thread(), row.function)?;
-        }
         for thread in told.standing.iter() {
-            lanes.add(alloc, program, &thread.thread, thread.function)?;
+            let line = program.line(thread.function, thread.instruction);
+            lanes.add(alloc, program, &thread.thread, thread.function, Some(line))?;
+        }
+        for row in told.rows.iter() {
+            lanes.add(alloc, program, row.deed.thread(), row.function, None)?;
         }
         Ok(lanes)
     }
@@ -38,23 +47,24 @@ impl Lanes {
         program: Program<'_>,
         name: &ThreadName,
         function: usize,
+        line: Option<u32>,
     ) -> Result<(), AllocError> {
-        if !self.titles.contains_key(name) {
+        if !self.lanes.contains_key(name) {
             let function = program.function(alloc, function)?;
             let title = format!(in alloc; "{name} {function}")?;
-            self.titles.insert(name.clone()?, title)?;
+            self.lanes.insert(name.clone()?, Lane { title, line })?;
         }
         Ok(())
     }
 
-    /// The titles, lane by lane.
-    pub(crate) fn titles(&self) -> &BTreeMap<ThreadName, String> {
-        &self.titles
+    /// The lanes, by their threads.
+    pub(crate) fn lanes(&self) -> &BTreeMap<ThreadName, Lane> {
+        &self.lanes
     }
 
     /// The number of a thread's lane, from 0.
     pub(crate) fn lane(&self, name: &ThreadName) -> usize {
-        for (i, known) in self.titles.keys().enumerate() {
+        for (i, known) in self.lanes.keys().enumerate() {
             if known == name {
                 return i;
             }

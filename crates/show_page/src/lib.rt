@@ -2,6 +2,7 @@
 #![tactic(auto)]
 
 mod escape;
+mod fixed;
 mod frame;
 mod lanes;
 mod log;
@@ -11,6 +12,7 @@ mod schedule;
 mod script;
 mod sources;
 mod style;
+mod tags;
 
 pub use log::log_page;
 pub use schedule::schedule_page;

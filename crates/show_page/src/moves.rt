@@ -2,7 +2,8 @@
 
 use crate::escape::push_text;
 use crate::lanes::Lanes;
-use crate::marks::{Access, access_of, is_event, is_failure};
+use crate::marks::{Access, Synchronization, access_of, is_event, is_failure, other_of, synchronization_of};
+use crate::tags::{push_mark, push_number};
 use crate::sources::Sources;
 use show_rows::Row;
 use show_words::{Program, Words};
@@ -56,12 +57,9 @@ impl Moves {
     ) -> Result<(), AllocError> {
         let lane = lanes.lane(row.deed.thread());
         let source = self.sources.source(before, row, words.own);
-        self.push_marks(before.len().saturating_add(1), lane, row)?;
+        self.push_marks(lanes, before.len().saturating_add(1), lane, row)?;
         if let Some(source) = source {
-            let alloc = *self.out.allocator();
-            let from = source.saturating_add(1);
-            self.out
-                .push_str(format!(in alloc; " data-from=\"{from}\"")?.as_str())?;
+            push_number(&mut self.out, "from", source.saturating_add(1))?;
         }
         self.push_words(before.len().saturating_add(1), lane, words)?;
         self.sources.take(row, before.len(), source, self.buffered);
@@ -69,7 +67,13 @@ impl Moves {
     }
 
     /// Adds the beginning of a row, with what the script reads.
-    fn push_marks(&mut self, number: usize, lane: usize, row: &Row) -> Result<(), AllocError> {
+    fn push_marks(
+        &mut self,
+        lanes: &Lanes,
+        number: usize,
+        lane: usize,
+        row: &Row,
+    ) -> Result<(), AllocError> {
         let alloc = *self.out.allocator();
         let fails = if is_failure(row) { " fail" } else { "" };
         let event = self.event(lane, row);
@@ -78,11 +82,44 @@ impl Moves {
         )?;
         self.out.push_str(head.as_str())?;
         if let Some(access) = access_of(row, self.buffered) {
-            let Access { kind, cell, value } = access;
-            let data = format!(in alloc;
-                " data-kind=\"{kind}\" data-cell=\"{cell}\" data-value=\"{value}\""
-            )?;
-            self.out.push_str(data.as_str())?;
+            self.push_access(access)?;
+        }
+        if let Some(sync) = synchronization_of(row) {
+            self.push_synchronization(sync)?;
+        }
+        match other_of(row)? {
+            Some(other) => push_number(&mut self.out, "other", lanes.lane(&other)),
+            None => Ok(()),
+        }
+    }
+
+    /// Adds what a row takes and puts.
+    fn push_access(&mut self, access: Access) -> Result<(), AllocError> {
+        let Access {
+            kind,
+            cell,
+            took,
+            put,
+        } = access;
+        push_mark(&mut self.out, "kind", kind)?;
+        push_number(&mut self.out, "cell", cell)?;
+        if let Some(value) = took {
+            push_number(&mut self.out, "took", value)?;
+        }
+        if let Some(value) = put {
+            push_number(&mut self.out, "put", value)?;
+        }
+        Ok(())
+    }
+
+    /// Adds what a row does with a mutex, a condition or another thread.
+    fn push_synchronization(&mut self, sync: Synchronization) -> Result<(), AllocError> {
+        push_mark(&mut self.out, "sync", sync.kind)?;
+        if let Some(mutex) = sync.mutex {
+            push_number(&mut self.out, "mutex", mutex)?;
+        }
+        if let Some(condition) = sync.condition {
+            push_number(&mut self.out, "condition", condition)?;
         }
         Ok(())
     }

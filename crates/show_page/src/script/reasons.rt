@@ -1,0 +1,34 @@
+//! Why a move did what it did.
+
+pub(super) const REASONS: &str = r#"
+  // Why a move did what it did, in lines of words and of numbers of moves, by the state before it.
+  function reasons(move, before) {
+    return [
+      ...move.took === undefined ? [] : taken(move, before),
+      ...move.put === undefined ? [] : stored(move, before),
+      ...move.back.filter(({ kind }) => Object.hasOwn(came, kind)).map(({ kind, from }) => [came[kind], from]),
+      ...move.on.filter(({ kind }) => Object.hasOwn(goes, kind)).map(({ kind, to }) => [goes[kind], to]),
+    ];
+  }
+  const came = { create: 'created by ', unlock: 'the mutex was freed by ', signal: 'woken by ', exit: 'the thread exited by ' };
+  const goes = { create: 'first step: ', unlock: 'next to lock it: ', signal: 'wakes ', exit: 'joined by ', take: 'value taken by ' };
+
+  // Where a value came from that is taken, and the newer ones that wait in the buffers of others.
+  function taken(move, before) {
+    const cell = cells[move.cell].name, isOwn = before.waiting.some(store => store.number === move.from);
+    const newer = before.waiting.filter(store => store.cell === move.cell && store.lane !== move.lane && !isOwn);
+    const source = move.from ? [`${cell} = ${move.took} was stored by `, move.from, isOwn ? ', in its own buffer' : '']
+      : [`${cell} = ${move.took} is its value at the start`];
+    return [source, ...newer.map(store => [`${cell} = ${store.put} of `, store.number, ' still waits in a buffer', ...end(store)])];
+  }
+  const drainOf = store => store.on.find(({ kind }) => kind === 'drain')?.to;
+  const end = store => drainOf(store) ? [', and reaches memory by ', drainOf(store)] : [''];
+
+  // What becomes of a value that is stored, and what it replaces.
+  function stored(move, before) {
+    const { value, by } = move.isPut ? before.memory[move.cell] : {};
+    const cell = cells[move.cell].name, replaces = by ? [`replaces ${cell} = ${value} of `, by] : [`replaces ${cell} = ${value} of the start`];
+    if (move.kind === 'issue') return [drainOf(move) ? ['reaches memory by ', drainOf(move)] : ['never reaches memory in this run']];
+    return move.kind === 'drain' ? [['stored by ', move.from], replaces] : [replaces];
+  }
+"#;
