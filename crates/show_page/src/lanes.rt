@@ -4,14 +4,22 @@ use show_rows::Told;
 use show_words::Program;
 use std::alloc::{AllocError, Global};
 use std::collections::BTreeMap;
-use tc_base::ThreadName;
+use tc_base::{Request, ThreadName};
 
 /// The lane of a thread.
 #[derive(Drop)]
 pub(crate) struct Lane {
     pub(crate) title: String,
-    /// The line at which the thread is when the schedule ends, unless it has exited.
-    pub(crate) line: Option<u32>,
+    /// Where the thread is when the schedule ends, unless it has exited.
+    pub(crate) end: Option<End>,
+}
+
+/// Where a thread is when the schedule ends.
+#[derive(Clone, Copy)]
+pub(crate) struct End {
+    pub(crate) line: u32,
+    /// What its next step asks.
+    pub(crate) asks: Request,
 }
 
 /// The lane of each thread.
@@ -31,8 +39,11 @@ impl Lanes {
             lanes: BTreeMap::new(alloc),
         };
         for thread in told.standing.iter() {
-            let line = program.line(thread.function, thread.instruction);
-            lanes.add(alloc, program, &thread.thread, thread.function, Some(line))?;
+            let end = End {
+                line: program.line(thread.function, thread.instruction),
+                asks: thread.asks,
+            };
+            lanes.add(alloc, program, &thread.thread, thread.function, Some(end))?;
         }
         for row in told.rows.iter() {
             lanes.add(alloc, program, row.deed.thread(), row.function, None)?;
@@ -47,12 +58,12 @@ impl Lanes {
         program: Program<'_>,
         name: &ThreadName,
         function: usize,
-        line: Option<u32>,
+        end: Option<End>,
     ) -> Result<(), AllocError> {
         if !self.lanes.contains_key(name) {
             let function = program.function(alloc, function)?;
             let title = format!(in alloc; "{name} {function}")?;
-            self.lanes.insert(name.clone()?, Lane { title, line })?;
+            self.lanes.insert(name.clone()?, Lane { title, end })?;
         }
         Ok(())
     }

@@ -8,6 +8,7 @@ mod lanes;
 mod log;
 mod marks;
 mod moves;
+mod panels;
 mod schedule;
 mod script;
 mod sources;

@@ -67,7 +67,7 @@ pub(crate) fn access_of(row: &Row, buffered: bool) -> Option<Access> {
     }
 }
 
-/// What a row's step does with a mutex, a condition or another thread.
+/// What a step does with a mutex, a condition or another thread.
 #[derive(Clone, Copy)]
 pub(crate) struct Synchronization {
     /// `lock`, `unlock`, `sleep`, `wake`, `signal`, `broadcast`, `create`, `join` or `exit`.
@@ -84,51 +84,54 @@ impl Synchronization {
             condition,
         }
     }
+
+    /// What a step does that asks this, if it does.
+    pub(crate) fn of(asks: Request) -> Option<Synchronization> {
+        let new = Synchronization::new;
+        match asks {
+            Request::Acquire(mutex) => Some(new("lock", Some(mutex), None)),
+            Request::Release(mutex) => Some(new("unlock", Some(mutex), None)),
+            Request::BeginWait(condition, mutex) => {
+                Some(new("sleep", Some(mutex), Some(condition)))
+            }
+            Request::EndWait(condition, mutex) => Some(new("wake", Some(mutex), Some(condition))),
+            Request::WakeOne(condition) => Some(new("signal", None, Some(condition))),
+            Request::WakeAll(condition) => Some(new("broadcast", None, Some(condition))),
+            Request::Start(_) => Some(new("create", None, None)),
+            Request::Await(_) => Some(new("join", None, None)),
+            Request::Finish => Some(new("exit", None, None)),
+            _ => None,
+        }
+    }
 }
 
-/// What a row's step does with a mutex, a condition or another thread, if it does.
-pub(crate) fn synchronization_of(row: &Row) -> Option<Synchronization> {
-    let Deed::Did(step) = &row.deed else {
-        return None;
-    };
-    match step.asks {
-        Request::Acquire(mutex) => Some(Synchronization::new("lock", Some(mutex), None)),
-        Request::Release(mutex) => Some(Synchronization::new("unlock", Some(mutex), None)),
-        Request::BeginWait(condition, mutex) => {
-            Some(Synchronization::new("sleep", Some(mutex), Some(condition)))
-        }
-        Request::EndWait(condition, mutex) => Some(Synchronization::new("wake", Some(mutex), Some(condition))),
-        Request::WakeOne(condition) => Some(Synchronization::new("signal", None, Some(condition))),
-        Request::WakeAll(condition) => Some(Synchronization::new("broadcast", None, Some(condition))),
-        Request::Start(_) => Some(Synchronization::new("create", None, None)),
-        Request::Await(_) => Some(Synchronization::new("join", None, None)),
-        Request::Finish => Some(Synchronization::new("exit", None, None)),
-        _ => None,
+/// What a row's move asks: a drain nothing.
+pub(crate) fn asks_of(row: &Row) -> Request {
+    match &row.deed {
+        Deed::Did(step) => step.asks,
+        Deed::Drained(_) => Request::Silent,
     }
 }
 
 /// The other thread of a row's step: the one that it creates, wakes by a signal, or joins.
 pub(crate) fn other_of(row: &Row) -> Result<Option<ThreadName>, AllocError> {
-    let Deed::Did(step) = &row.deed else {
-        return Ok(None);
-    };
-    match (&step.other, step.asks) {
-        (Some(other), _) => Ok(Some(other.clone()?)),
-        (None, Request::Await(child)) if child >= 1 => Ok(Some(step.thread.child(child)?)),
-        (None, _) => Ok(None),
+    match &row.deed {
+        Deed::Did(step) => match &step.other {
+            Some(other) => Ok(Some(other.clone()?)),
+            None => awaited_by(&step.thread, step.asks),
+        },
+        Deed::Drained(_) => Ok(None),
     }
 }
 
-/// Whether an event takes place by a row: a step that asks something of memory or of other threads, or the failing one. Of a
-/// store that waits in a buffer it does by the drain.
-pub(crate) fn is_event(row: &Row, buffered: bool) -> bool {
-    match &row.deed {
-        Deed::Drained(_) => true,
-        Deed::Did(step) => match step.asks {
-            Request::Silent | Request::Bar => false,
-            Request::Write(_, _) => !buffered,
-            _ => true,
-        },
+/// The child whose end a thread's step asks for, if it does.
+pub(crate) fn awaited_by(
+    thread: &ThreadName,
+    asks: Request,
+) -> Result<Option<ThreadName>, AllocError> {
+    match asks {
+        Request::Await(number) if number >= 1 => Ok(Some(thread.child(number)?)),
+        _ => Ok(None),
     }
 }
 

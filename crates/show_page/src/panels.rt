@@ -2,10 +2,12 @@
 
 use crate::escape::push_text;
 use crate::fixed::ARROWS;
-use crate::lanes::Lanes;
-use crate::tags::push_number;
+use crate::lanes::{End, Lanes};
+use crate::marks::{Synchronization, awaited_by};
+use crate::tags::{push_number, push_synchronization};
 use show_words::Program;
 use std::alloc::AllocError;
+use tc_base::ThreadName;
 
 /// Adds the program's text, line by line.
 pub(crate) fn push_program(out: &mut String, program: Program<'_>) -> Result<(), AllocError> {
@@ -25,11 +27,11 @@ pub(crate) fn push_run(out: &mut String, lanes: &Lanes, moves: &str) -> Result<(
     out.push_str("<div id=\"run\" role=\"region\" aria-label=\"moves\" tabindex=\"0\">\n")?;
     out.push_str(format!(in alloc; "<div id=\"sheet\" style=\"--lanes:{count}\">\n")?.as_str())?;
     out.push_str("<div class=\"row head\"><div class=\"n\"></div>")?;
-    for (i, lane) in lanes.lanes().values().enumerate() {
+    for (i, (thread, lane)) in lanes.lanes().iter().enumerate() {
         out.push_str("<div")?;
         push_number(out, "lane", i)?;
-        if let Some(line) = lane.line {
-            push_number(out, "line", line)?;
+        if let Some(end) = lane.end {
+            push_end_of(out, lanes, thread, end)?;
         }
         out.push('>')?;
         push_text(out, lane.title.as_str())?;
@@ -38,6 +40,23 @@ pub(crate) fn push_run(out: &mut String, lanes: &Lanes, moves: &str) -> Result<(
     out.push_str("</div>\n<ol id=\"moves\">\n")?;
     out.push_str(moves)?;
     out.push_str("</ol>\n<svg id=\"arrows\" aria-hidden=\"true\"></svg>\n</div>\n</div>\n")
+}
+
+/// Adds where a thread is at the end, and what its next step asks of others.
+fn push_end_of(
+    out: &mut String,
+    lanes: &Lanes,
+    thread: &ThreadName,
+    end: End,
+) -> Result<(), AllocError> {
+    push_number(out, "line", end.line)?;
+    if let Some(does) = Synchronization::of(end.asks) {
+        push_synchronization(out, does)?;
+    }
+    match awaited_by(thread, end.asks)? {
+        Some(child) => push_number(out, "other", lanes.lane(&child)),
+        None => Ok(()),
+    }
 }
 
 /// Adds the state: room for the reasons of a move, memory and mutexes as they are at the start, buffers, and threads.

@@ -3,12 +3,12 @@
 use crate::fixed::{KEYS, TOOLS};
 use crate::frame::{push_bottom, push_end, push_top};
 use crate::lanes::Lanes;
-use crate::moves::Moves;
+use crate::moves::{Moves, Said};
 use crate::panels::{push_program, push_run, push_state};
 use crate::script::push_script;
 use schedule_file::Schedule;
 use show_rows::{End, Told};
-use show_words::{Program, end_words, row_words};
+use show_words::{Counts, Program, counts_of, end_words, folded_words, row_words};
 use std::alloc::{AllocError, Global};
 
 /// The page of a schedule's moves: a lane for each thread, time downwards, an arrow from the store to each load that took its
@@ -24,7 +24,7 @@ pub fn schedule_page(
     let lanes = Lanes::of(alloc, program, told)?;
     let moves = moves_of(alloc, program, schedule, told, &lanes)?;
     let mut out = String::new(alloc);
-    let numbers = numbers(alloc, told, moves.switches())?;
+    let numbers = numbers(alloc, counts_of(schedule.model, told.rows.as_slice()))?;
     let model = schedule.model.name();
     let title = format!(in alloc; "{name} under {model}: {numbers}")?;
     push_top(&mut out, "moves", title.as_str())?;
@@ -54,20 +54,33 @@ fn moves_of(
     told: &Told,
     lanes: &Lanes,
 ) -> Result<Moves, AllocError> {
-    let words = row_words(alloc, program, schedule.model, told.rows.as_slice())?;
+    let rows = told.rows.as_slice();
+    let words = row_words(alloc, program, schedule.model, rows)?;
+    let folded = folded_words(alloc, program, rows, words.as_slice())?;
+    let mut left = folded.as_slice();
     let mut moves = Moves::new(alloc, program, schedule.model)?;
-    for (i, row) in told.rows.iter().enumerate() {
-        if let Some(shown) = words.get(i) {
-            moves.push(lanes, &told.rows.as_slice()[..i], row, shown)?;
+    for (i, (row, words)) in rows.iter().zip(words.as_slice()).enumerate() {
+        let mut said = Said {
+            words,
+            folded: None,
+        };
+        if let [first, rest @ ..] = left
+            && first.place == i
+        {
+            said.folded = Some(first.deed.as_str());
+            left = rest;
         }
+        moves.push(lanes, &rows[..i], row, said)?;
     }
     Ok(moves)
 }
 
 /// How many moves and switches there are, in words.
-fn numbers(alloc: Global, told: &Told, switches: usize) -> Result<String, AllocError> {
-    let count = told.rows.len();
-    let moves = if count == 1 { "move" } else { "moves" };
-    let times = if switches == 1 { "switch" } else { "switches" };
-    format!(in alloc; "{count} {moves}, {switches} {times}")
+fn numbers(alloc: Global, counts: Counts) -> Result<String, AllocError> {
+    let Counts {
+        moves, switches, ..
+    } = counts;
+    let moved = if moves == 1 { "move" } else { "moves" };
+    let switched = if switches == 1 { "switch" } else { "switches" };
+    format!(in alloc; "{moves} {moved}, {switches} {switched}")
 }

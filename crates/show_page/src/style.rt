@@ -51,7 +51,7 @@ aside { width: 17rem; flex: none; overflow: auto; contain: content; }
 
 .row { display: grid; grid-template-columns: var(--number) repeat(var(--lanes), minmax(var(--lane), 1fr)); column-gap: var(--gap); }
 .row[hidden] { display: none; }
-.row > .n { color: var(--faint); text-align: right; padding: .35rem 0; font-variant-numeric: tabular-nums; }
+.row > .n { position: sticky; left: 0; color: var(--faint); background: var(--paper); text-align: right; padding: .35rem .3rem .35rem 0; font-variant-numeric: tabular-nums; }
 .head { position: sticky; top: 0; z-index: 3; background: var(--paper); margin-bottom: .3rem; }
 .head > [data-lane] { font-weight: 600; padding: .35rem .5rem; border-bottom: 2px solid var(--edge); overflow-wrap: anywhere; }
 .deed { background: var(--card); border: 1px solid var(--edge); border-radius: 5px;
@@ -60,20 +60,21 @@ aside { width: 17rem; flex: none; overflow: auto; contain: content; }
 .deed > code { display: block; color: var(--faint); }
 .deed > .line { float: right; padding-left: .5rem; color: var(--faint); font-size: 12px;
   font-variant-numeric: tabular-nums; }
+#sheet.each .brief, #sheet:not(.each) .each { display: none; }
 .row.later .deed { color: var(--faint); border-style: dashed; background: var(--paper); }
 .row.fail .deed { border-color: var(--fail); background: var(--failed); font-weight: 600; }
-.row[aria-current] .deed { border-color: var(--take); box-shadow: 0 0 0 1px var(--take); }
+.row[aria-current] .deed { border-color: var(--take); }
 .row.at .deed { background: var(--mark); border-color: var(--take); border-style: solid; color: inherit; }
 .row.fail .deed { border-left: 4px solid var(--fail); }
 .row.at > .n { color: var(--ink); }
 
 #arrows { position: absolute; left: 0; top: 0; z-index: -1; pointer-events: none; }
-#arrows path { fill: none; stroke-width: 1.4; opacity: .55; }
+#arrows path { fill: none; stroke-width: 1.6; stroke-opacity: .55; }
 #arrows .take { stroke: var(--take); }
 #arrows .drain { stroke: var(--drain); stroke-dasharray: 4 3; }
 #arrows .order { stroke: var(--order); stroke-dasharray: 1.5 3; stroke-linecap: round; }
-#arrows .now { stroke-width: 2.6; opacity: 1; }
-#arrows .later { opacity: .15; }
+#arrows .now { stroke-opacity: 1; }
+#arrows .later { stroke-opacity: .15; }
 
 #at { font-weight: 600; font-variant-numeric: tabular-nums; margin-top: .35rem; }
 #why p { padding: .2rem .5rem; border-left: 2px solid var(--take); }
@@ -124,6 +125,6 @@ dialog form { margin-top: .8rem; text-align: right; }
   .row { grid-template-columns: 2rem repeat(var(--lanes), minmax(0, 1fr)); column-gap: 1rem; break-inside: avoid; }
   .deed { break-inside: avoid; }
   .row.later .deed { border-style: solid; color: inherit; }
-  .row.at .deed, .row[aria-current] .deed { border-color: var(--edge); box-shadow: none; }
+  .row.at .deed, .row[aria-current] .deed { border-color: var(--edge); }
 }
 "#;

@@ -19,6 +19,8 @@ pub(super) const PAGE: &str = r#"
     switches: data.event === 'switch', folds: data.fold !== undefined, fails: classList.contains('fail'),
     isStep: data.kind !== 'drain', isPut: data.kind === 'drain' || data.kind === 'store', next: 0, back: [], on: [],
   }));
+  const ends = heads.map(({ dataset: data }) =>
+    ({ line: +(data.line ?? 0), sync: data.sync, mutex: number(data.mutex), other: number(data.other) }));
   const last = rows.length;
   let at = last;     // the move that is selected, from 1, and 0 before the first
   let shown = last;  // the move whose state is shown: the selected one, or the one that is pointed at

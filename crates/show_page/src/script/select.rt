@@ -14,8 +14,8 @@ pub(super) const SELECT: &str = r#"
     by('said').textContent = n ? `move ${n} of ${last}, ${text(deeds[n - 1])}${spoken(reasons(moves[n - 1], state(n - 1)))}` : 'before the first move';
   }
   function text(deed) {
-    const [who, line, code, did] = [...deed.childNodes].map(node => node.textContent);
-    return `${who}line ${line}: ${code} ${did}`;
+    const [who, line, code, each, brief] = [...deed.children].map(part => part.textContent);
+    return `${who}line ${line}: ${code} ${isOn('each') ? each : brief}`;
   }
   function follow() {
     clearTimeout(following);

@@ -65,13 +65,13 @@ pub(super) const SHOW: &str = r#"
   // The line at which a thread is, or 0.
   function lineOf({ is, next }, k) {
     if (is === 'uncreated' || is === 'exited' || is === 'joined') return 0;
-    return next ? moves[next - 1].line : +(heads[k].dataset.line ?? 0);
+    return (moves[next - 1] ?? ends[k]).line;
   }
 
   function tellThreads(now) {
     now.threads.forEach((thread, k) => {
       const line = lineOf(thread, k);
-      put(threads[k].value, [words(thread), line ? `line ${line}` : '', waits(now, thread)].filter(Boolean).join(', '));
+      put(threads[k].value, [words(thread), line ? `line ${line}` : '', waits(now, thread, k)].filter(Boolean).join(', '));
     });
   }
   function words({ is, on }) {
@@ -79,9 +79,10 @@ pub(super) const SHOW: &str = r#"
     return is === 'uncreated' ? 'not created' : is === 'running' ? '' : is;
   }
   // What a thread waits for before its next step.
-  function waits({ owners, threads: those }, { is, next }) {
-    const { sync, mutex, other } = moves[next - 1] ?? {};
-    if (is !== 'asleep' && (sync === 'lock' || sync === 'wake') && owners[mutex] >= 0) return `waits for ${mutexes[mutex].name}`;
+  function waits({ owners, threads: those }, { is, next }, k) {
+    const { sync, mutex, other } = moves[next - 1] ?? ends[k];
+    if (is !== 'running' && is !== 'woken') return '';
+    if ((sync === 'lock' || sync === 'wake') && owners[mutex] >= 0) return `waits for ${mutexes[mutex].name}`;
     return sync === 'join' && those[other].is !== 'exited' ? `waits for ${lanes[other]}` : '';
   }
 

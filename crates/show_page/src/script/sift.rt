@@ -14,6 +14,7 @@ pub(super) const SIFT: &str = r#"
   const press = (id, on) => by(id).setAttribute('aria-pressed', on);
   function sieve() {
     const [kind, number] = filter.value.split(' '), folds = !isOn('each');
+    sheet.classList.toggle('each', !folds);
     rows.forEach((row, i) => { row.hidden = kind !== '' && moves[i][kind] !== +number || folds && moves[i].folds; });
     draw();
   }
