@@ -1,7 +1,7 @@
 #!/usr/bin/env python3
-"""Opens pages of `clap_debug_show` in a headless Chromium, steps through their moves by keys, and compares memory and buffers with
-those of the machine of machine.py after each move. It also tries what else one does with a page: the pointer, each key, the filter,
-the address, a narrow window.
+"""Opens pages of `clap_debug_show` in a headless Chromium, steps through their moves by keys, and compares memory, buffers, mutexes,
+conditions and threads with those of the machine of machine.py after each move, and the reasons of each move with those of deeds.py.
+It also tries what else one does with a page: the pointer, each key, the filter, the address, the program, a narrow window.
 
   pages.py [SHOW]                  pages of examples, and of programs of its own, that SHOW, or ./clap_debug_show, makes
   pages.py [SHOW] --pictures       the same, and writes the pictures of docs/
@@ -25,11 +25,20 @@ import urllib.request
 sys.dont_write_bytecode = True
 import machine
 import show
+from deeds import History
 
-PAGES = ["buffering/p", "once/p", "deadlock/p", "dekker/p"]
+PAGES = ["buffering/p", "once/p", "deadlock/p", "dekker/p", "signal/p"]
 
 # A program whose threads move in another order than that of their names, and one of which, 0.11, never moves.
 LATE = "int x;\nthread one() {\n    x = x + 1;\n}\nmain {\n    tid t;\n" + "    t = create one();\n" * 11 + "    assert(x == 1);\n}\n"
+
+# A program whose text would end the page, or begin something in it, if it were taken as HTML.
+ODD = """int x; // </script><script>alert(1)</script> <b>&amp; "it's" \u00e9\u2028
+/* <!-- ]]> */ main {
+\tx = 1; /* </code></ol> */ /* ${x} `x` \\u0041 */
+\tassert(x < 1 && x > 0);
+}
+"""
 
 # Two threads that count under a mutex, in some 40 moves a round.
 LONG = """int x;
@@ -164,21 +173,57 @@ def said(browser):
       marked: [...document.querySelectorAll('.row.at')].map(row => row.id),
       memory: [...document.querySelectorAll('#memory tr')].map(row => [row.cells[0].textContent, row.cells[1].textContent]),
       buffers: [...document.querySelectorAll('#buffers p')].map(p => p.textContent),
+      mutexes: [...document.querySelectorAll('#mutexes tr')].map(row => [row.cells[0].textContent, row.cells[1].textContent]),
+      conditions: [...document.querySelectorAll('#conditions tr')].map(row => [row.cells[0].textContent, row.cells[1].textContent]),
+      threads: [...document.querySelectorAll('#threads tr')].map(row => [row.cells[0].textContent, row.cells[1].textContent]),
+      lines: [...document.querySelectorAll('#program b')].map(tag => [tag.textContent, [...document.querySelectorAll('#program li')].indexOf(tag.closest('li')) + 1]),
+      line: [...document.querySelectorAll('#program li')].findIndex(line => line.classList.contains('now')) + 1,
       arrows: document.querySelectorAll('#arrows path.now').length,
     })""")
 
 
-def wanted(code, rows, number):
+def wanted(page, number):
     """The same, by the machine; the arrow is one where the move takes a value that a move before stored, or drains."""
-    state = rows[number - 1].state if number else machine.State(code, "sc")
+    code, rows = page.code, page.rows
+    state = rows[number - 1].state if number else machine.State(code, page.model)
+    titled = lambda name: show.thread_of(code, page.state, name)
     waits = [(name, [it for it in thread.buffer if it]) for name, thread in sorted(state.threads.items())]
+    lines = {name: line_of(code, thread) for name, thread in sorted(state.threads.items()) if not thread.exited}
     return {
         "at": f"after move {number} of {len(rows)}",
         "marked": [f"m{number}"] if number else [],
         "memory": [[code.cells[k], str(it)] for k, it in enumerate(state.memory)],
-        "buffers": sorted(f"{show.thread_of(code, state, name)}: " + ", ".join(f"{code.cells[c]} = {v}" for c, v in buffer)
-                          for name, buffer in waits if buffer),
+        "buffers": sorted(f"{titled(name)}: " + ", ".join(f"{code.cells[c]} = {v}" for c, v in buffer) for name, buffer in waits if buffer),
+        "mutexes": [[code.by_kind["mutex", k], "free" if owner is None else titled(owner)] for k, owner in enumerate(state.owners)],
+        "conditions": [[code.by_kind["cond", k], ", ".join(map(titled, sorted(asleep))) or "nobody waits"] for k, asleep in enumerate(state.waiting)],
+        "threads": [[titled(name), thread_words(page, state, number, name)] for name in sorted(page.state.threads)],
+        "lines": sorted([machine.spelled(name), line] for name, line in lines.items()),
+        "line": rows[number - 1].line if number else 0,
     }
+
+
+def line_of(code, thread):
+    return code.functions[thread.function].lines[thread.at]
+
+
+def thread_words(page, state, number, name):
+    """What a thread does in the state after that many moves, in the words of the page."""
+    code, thread = page.code, state.threads.get(name)
+    if thread is None:
+        return "not created"
+    if thread.exited:
+        return "joined" if any(it.word == "join" and it.other == name for it in page.history.deeds[:number]) else "exited"
+    word, *args = state.instr(name)
+    line = f"line {line_of(code, thread)}"
+    if word == "wake" and name in state.waiting[args[0]]:
+        return f"asleep on {code.by_kind['cond', args[0]]}, {line}"
+    words = ["failed"] if state.failed == name else ["woken"] if word == "wake" else []
+    words.append(line)
+    if word in ("lock", "wake") and state.owners[args[-1]] is not None:
+        words.append(f"waits for {code.by_kind['mutex', args[-1]]}")
+    if word == "join" and not state.threads[thread.tids[args[0]]].exited:
+        words.append(f"waits for {show.thread_of(code, state, thread.tids[args[0]])}")
+    return ", ".join(words)
 
 
 def is_seen(browser, number):
@@ -211,7 +256,9 @@ class Page:
             self.model, self.moves = show.moves_of(given.read())
         self.name, self.program, self.file = name, program, file
         self.rows, self.state, self.why = show.told(self.code, self.model, self.moves)
-        self.events = events_of(self.code, self.model, self.moves[:len(self.rows)])
+        made = self.moves[:len(self.rows)]
+        self.events, self.history = events_of(self.code, self.model, made), History(self.code, self.model, made)
+        self.folded = dict(show.folded(self.rows))
 
     def switches(self):
         """The numbers of the events that are of another thread than the event before."""
@@ -219,25 +266,72 @@ class Page:
 
     def cell(self, number):
         """The name of the cell that a move accesses, or None."""
-        found = re.match(r"(?:store |swap |cas )?([\w\[\]]+)(?:: took | = )", self.rows[number - 1].words)
-        return found and found[1]
+        return self.code.cells.get(self.history.deeds[number - 1].cell)
+
+    def called(self, number):
+        return f"move {number} ({self.rows[number - 1].thread})"
+
+    def why(self, number):
+        """Why a move did what it did, in lines, each with the moves that it names."""
+        deed, linked = self.history.deeds[number - 1], {
+            "create": ("created by ", "first step: "), "unlock": ("the mutex was freed by ", "next to lock it: "),
+            "signal": ("woken by ", "wakes "), "exit": ("the thread exited by ", "joined by "), "take": (None, "value taken by ")}
+        lines = [] if deed.took is None else self.taken(deed)
+        if deed.put is not None:
+            lines += self.stored(deed)
+        for kind, came, goes in self.history.links:
+            if goes == number and kind in linked and kind != "take":
+                lines.append((linked[kind][0] + self.called(came), [came]))
+        for kind, came, goes in self.history.links:
+            if came == number and kind in linked:
+                lines.append((linked[kind][1] + self.called(goes), [goes]))
+        return lines
+
+    def taken(self, deed):
+        """Where the value came from that a move took, and the newer ones that wait in buffers of others."""
+        cell, is_own = self.code.cells[deed.cell], any(it.number == deed.source for it in deed.waiting)
+        if deed.source is None:
+            lines = [(f"{cell} = {deed.took} is its value at the start", [])]
+        else:
+            lines = [(f"{cell} = {deed.took} was stored by {self.called(deed.source)}{', in its own buffer' if is_own else ''}", [deed.source])]
+        for it in deed.waiting:
+            if it.cell == deed.cell and it.name != deed.name and not is_own:
+                end = f" until {self.called(it.drain)}" if it.drain else " to the end"
+                lines.append((f"newer: {cell} = {it.put} of {self.called(it.number)} waits in a buffer{end}", [it.number] + [it.drain] * bool(it.drain)))
+        return lines
+
+    def stored(self, deed):
+        """What becomes of a value that a move stores, and what it replaces."""
+        if deed.is_issue(self.model):
+            return [(f"reaches memory by {self.called(deed.drain)}", [deed.drain])] if deed.drain else [("never reaches memory in this run", [])]
+        writer, value = deed.replaced
+        old = f"replaces {self.code.cells[deed.cell]} = {value}"
+        replaces = (f"{old} of {self.called(writer)}", [writer]) if writer else (f"{old}, its value at the start", [])
+        return [(f"stored by {self.called(deed.source)}", [deed.source])] * (deed.word == "drain") + [replaces]
 
     def accesses(self, cell):
         return [n for n in range(1, len(self.rows) + 1) if self.cell(n) == cell]
 
 
+def unfold(browser, page):
+    """Opens a page, and has it show each step."""
+    browser.open(f"file://{page.file}")
+    browser.press("m")
+
+
 def steps(browser, page):
     """Goes through a page's moves by keys, and says where it differs."""
-    example, code, rows = page.name, page.code, page.rows
-    browser.open(f"file://{page.file}")
+    example, rows = page.name, page.rows
+    unfold(browser, page)
     count, bad = len(rows), []
 
     def look(how, number):
         came = said(browser)
         arrows = came.pop("arrows")
         came["buffers"].sort()
-        if came != wanted(code, rows, number):
-            bad.append(f"{example}, {how}: {came}, and is to be {wanted(code, rows, number)}")
+        came["lines"].sort()
+        is_to_be = wanted(page, number)
+        bad.extend(f"{example}, {how}, {part}: {came[part]}, and is to be {is_to_be[part]}" for part in is_to_be if came[part] != is_to_be[part])
         if number and rows[number - 1].words.endswith(" reaches memory") and arrows != 1:
             bad.append(f"{example}, {how}: {arrows} arrows lead to a drain")
         if number and not is_seen(browser, number):
@@ -270,7 +364,7 @@ def differs(page, what, came, wanted):
 
 def resting(browser, page):
     """Steps while the pointer rests over a lane, so that rows come under it."""
-    browser.open(f"file://{page.file}")
+    unfold(browser, page)
     browser.press("Home")
     browser.point(f"#m{min(6, len(page.rows))} .deed")
     came = []
@@ -296,11 +390,12 @@ def look(browser, page):
 
 
 def walks(browser, page):
-    """Goes along the events, switches and accesses of a cell, on and back."""
-    browser.open(f"file://{page.file}")
+    """Goes along the events, switches, accesses of a cell and moves at a line, on and back."""
+    unfold(browser, page)
     cell = next((it for it in map(page.cell, range(1, len(page.rows) + 1)) if it), None)
     bad, last = [], len(page.rows)
-    for key, numbers in (("e", page.events), ("s", page.switches()), ("c", page.accesses(cell) if cell else [])):
+    here = [n for n, row in enumerate(page.rows, 1) if row.line == page.rows[0].line]
+    for key, numbers in (("e", page.events), ("s", page.switches()), ("c", page.accesses(cell) if cell else []), ("l", here)):
         browser.press("Home")
         number = 1
         for way, known in ((key, lambda n: min((it for it in numbers if it > n), default=n)),
@@ -333,7 +428,7 @@ def walks(browser, page):
 
 def pointing(browser, page):
     """Points at moves, pins one by a click, and opens the address that follows."""
-    browser.open(f"file://{page.file}")
+    unfold(browser, page)
     place = "[document.querySelector('.row.at').id, document.querySelector('.row[aria-current]').id, document.getElementById('at').textContent]"
     text = lambda shown, pinned: [f"m{shown}", f"m{pinned}", f"after move {shown} of {len(page.rows)}"]
     last, bad = len(page.rows), []
@@ -359,7 +454,7 @@ def pointing(browser, page):
 
 def filtering(browser, page):
     """Shows one thread or cell alone, steps, and shows all again."""
-    browser.open(f"file://{page.file}")
+    unfold(browser, page)
     names = sorted(page.state.threads)
     count = range(1, len(page.rows) + 1)
     choices = {f"lane {k}": [n for n in count if page.moves[n - 1][1] == it] for k, it in enumerate(names)}
@@ -397,31 +492,124 @@ def filtering(browser, page):
 
 def reading(browser, page):
     """What one who doesn't see the page is told, and reaches by the keyboard."""
-    browser.open(f"file://{page.file}")
+    unfold(browser, page)
     browser.press("Home")
     browser.press("j")
     row = page.rows[1]
-    said = f"move 2 of {len(page.rows)}, {row.thread}, line {row.line}: {page.code.source[row.line - 1]} {row.words}"
+    why = "".join(f". {text}" for text, _ in page.why(2))
+    said = f"move 2 of {len(page.rows)}, {row.thread}, line {row.line}: {page.code.source[row.line - 1]} {row.words}{why}"
     bad = differs(page, "read out", browser.value("document.querySelector('[aria-live=polite]').textContent"), said)
     browser.press("k")
     browser.press("k")
     bad += differs(page, "read out at the start", browser.value("document.querySelector('[aria-live=polite]').textContent"), "before the first move")
     reached = [""]
-    while reached[-1] != "run" and len(reached) < 9:
+    while reached[-1] != "run" and len(reached) < 12:
         browser.ask("Input.dispatchKeyEvent", type="keyDown", key="Tab", code="Tab", windowsVirtualKeyCode=9)
         reached.append(browser.value("document.activeElement.id"))
     # a long summary, which scrolls, is reached too, and has no name
-    bad += differs(page, "reached by Tab", [it for it in reached if it], ["filter", "help", "run"])
+    bad += differs(page, "reached by Tab", [it for it in reached if it], ["filter", "each", "orders", "text", "help", "program", "run"])
     nodes = browser.ask("Accessibility.getFullAXTree")["nodes"]
     parts = {(it["role"]["value"], it.get("name", {}).get("value")) for it in nodes if "role" in it}
-    wanted = {("region", "moves"), ("complementary", "memory and buffers"), ("combobox", "show"), ("button", "keys ?")}
+    wanted = {("region", "moves"), ("region", "program"), ("complementary", "state"), ("combobox", "show"), ("button", "keys ?"),
+              ("button", "each step m"), ("button", "order h"), ("button", "program p")}
     return bad + differs(page, "parts", sorted(wanted - parts), [])
+
+
+def reasons(browser, page):
+    """Looks why each move did what it did, and goes along what leads from move to move, and back."""
+    unfold(browser, page)
+    browser.press("Home")
+    bad = []
+    for number in range(1, len(page.rows) + 1):
+        why = browser.value("[...document.querySelectorAll('#why p')].map(line => [line.textContent, [...line.querySelectorAll('a')].map(a => +a.hash.slice(2))])")
+        bad += differs(page, f"why move {number}", why, [list(it) for it in page.why(number)])
+        browser.press("j")
+    for kind in sorted({it[0] for it in page.history.links}):
+        start, end = next(it[1:] for it in page.history.links if it[0] == kind)
+        browser.value(f"location.hash = '#m{end}'")
+        time.sleep(0.05)
+        for goes in (start, end):
+            browser.value(f"document.querySelector('#why a[href=\"#m{goes}\"]').focus()")
+            browser.ask("Input.dispatchKeyEvent", type="keyDown", key="Enter", code="Enter", windowsVirtualKeyCode=13, text="\r")
+            time.sleep(0.05)
+            bad += differs(page, f"{kind} along to {goes}", [at(browser), is_seen(browser, goes)], [goes, True])
+    return bad
+
+
+def ordering(browser, page):
+    """Switches the arrows on and off that show what happens before what."""
+    unfold(browser, page)
+    count = "[...document.querySelectorAll('#arrows .order')].length"
+    orders = [it for it in page.history.links if it[0] not in ("take", "drain")]
+    bad = differs(page, "arrows of order at first", browser.value(count), 0)
+    browser.press("h")
+    bad += differs(page, "arrows of order", browser.value(count), len(orders))
+    bad += differs(page, "order is on", browser.value("document.getElementById('orders').getAttribute('aria-pressed')"), "true")
+    for _, start, end in orders:
+        browser.value(f"location.hash = '#m{end}'")
+        time.sleep(0.05)
+        ends = browser.value(f"""(() => {{
+          const frame = document.getElementById('sheet').getBoundingClientRect();
+          const height = n => {{ const box = document.querySelector(`#m${{n}} .deed`).getBoundingClientRect(); return box.top + box.height / 2 - frame.top; }};
+          const near = (a, b) => Math.abs(a - b) < 1;
+          return [...document.querySelectorAll('#arrows .order.now')].filter(arrow => {{
+            const [, y1, , , y2] = /^M[-\\d.]+ ([\\d.]+)C[-\\d.]+ ([\\d.]+) ([-\\d.]+) ([\\d.]+) [-\\d.]+ ([\\d.]+)M/.exec(arrow.getAttribute('d')).map(Number);
+            return near(y1, height({start})) && near(y2, height({end}));
+          }}).length;
+        }})()""")
+        bad += differs(page, f"the arrow from {start} to {end}", ends, 1)
+    browser.press("h")
+    return bad + differs(page, "arrows of order, off", browser.value(count), 0)
+
+
+def folding(browser, page):
+    """Looks at the rows where silent steps are folded and where they aren't, and goes from one to the other."""
+    browser.open(f"file://{page.file}")
+    words = """[...document.querySelectorAll('#moves > .row')].filter(row => row.offsetHeight)
+      .map(row => [+row.id.slice(1), [...row.querySelectorAll('.each, .brief')].filter(part => part.offsetWidth).map(part => part.textContent).join()])"""
+    bad = differs(page, "folded", browser.value(words), [list(it) for it in page.folded.items()])
+    browser.press("m")
+    bad += differs(page, "each step", browser.value(words), [[n, row.words] for n, row in enumerate(page.rows, 1)])
+    hidden = [n for n in range(1, len(page.rows) + 1) if n not in page.folded]
+    if hidden:
+        browser.value(f"location.hash = '#m{hidden[-1]}'")
+        time.sleep(0.05)
+        browser.press("m")
+        near = max((n for n in page.folded if n < hidden[-1]), default=min(page.folded))
+        bad += differs(page, "folded while a folded step is selected", at(browser), near)
+        browser.value(f"location.hash = '#m{hidden[0]}'")
+        time.sleep(0.05)
+        bad += differs(page, "the address of a folded step", [at(browser), is_seen(browser, hidden[0])], [hidden[0], True])
+    return bad
+
+
+def program(browser, page):
+    """Looks at the program beside the run, clicks on its lines, and hides it."""
+    unfold(browser, page)
+    with open(page.program) as file:
+        text = file.read().replace("\t", "    ").split("\n")
+    lines = browser.value("[...document.querySelectorAll('#program li')].map(line => line.querySelector('code').textContent)")
+    bad = differs(page, "the program", [it.rstrip() for it in lines], [it.rstrip() for it in (text[:-1] if text[-1] == "" else text)])
+    browser.press("Home")
+    number = 1
+    for line in sorted({row.line for row in page.rows}) + [page.rows[0].line]:
+        there = [n for n, row in enumerate(page.rows, 1) if row.line == line]
+        number = next((n for n in there if n > number), there[0])
+        browser.value(f"document.querySelectorAll('#program li')[{line - 1}].click()")
+        bad += differs(page, f"a click on line {line}", at(browser), number)
+        seen = browser.value(f"(box => box.top >= 0 && box.bottom <= innerHeight)(document.querySelectorAll('#program li')[{line - 1}].getBoundingClientRect())")
+        bad += differs(page, f"line {line} in view", seen, True)
+    width = "document.getElementById('program').offsetWidth > 0"
+    bad += differs(page, "the program at first", browser.value(width), True)
+    browser.press("p")
+    bad += differs(page, "the program, hidden", [browser.value(width), is_seen(browser, number)], [False, True])
+    return bad
 
 
 def narrow(browser, page):
     """A window of 700 pixels, in which lanes, selected move and state are in view, and only the lanes scroll sideways."""
     browser.size(700, 800)
-    browser.open(f"file://{page.file}")
+    unfold(browser, page)
     bad = []
     for key, number in (("Home", 1), ("End", len(page.rows))):
         browser.press(key)
@@ -488,6 +676,11 @@ def late():
     return [run()] * 11 + [run(10)] * 2 + [run(2)] * 3 + [run(1)] * 2 + [run()] * 3
 
 
+def odd():
+    """The moves of ODD, to its failure."""
+    return machine.run(show.Code(ODD), "sc", 1, 100)[2]
+
+
 def long(moves=2000, events=None):
     """The first moves of a run of LONG, so many or with so many events."""
     code = show.Code(LONG)
@@ -497,17 +690,17 @@ def long(moves=2000, events=None):
 
 def main():
     words = [it for it in sys.argv[1:] if not it.startswith("--")]
-    program = os.path.abspath(words[0] if words else f"{show.TOP}/clap_debug_show")
+    show_page = os.path.abspath(words[0] if words else f"{show.TOP}/clap_debug_show")
     os.chdir(show.TOP)
     with tempfile.TemporaryDirectory() as folder, Browser(f"{folder}/browser") as browser:
         browser.size(1200, 900)
         if "--speed" in sys.argv:
-            pages = [written(program, f"long{count}", LONG, "tso", long(**{what: count}), folder)
+            pages = [written(show_page, f"long{count}", LONG, "tso", long(**{what: count}), folder)
                      for what, count in (("events", 256), ("moves", 2000))]
             return 1 if any([speed(browser, page) for page in pages]) else 0
-        examples = [made(program, it, f"examples/{it}.tc", f"examples/{it}.sched", folder) for it in PAGES]
-        pages = [*examples, written(program, "late", LATE, "sc", late(), folder)]
-        tries = (steps, resting, look, walks, pointing, filtering, reading, narrow)
+        examples = [made(show_page, it, f"examples/{it}.tc", f"examples/{it}.sched", folder) for it in PAGES]
+        pages = [*examples, written(show_page, "late", LATE, "sc", late(), folder), written(show_page, "odd", ODD, "sc", odd(), folder)]
+        tries = (steps, resting, look, walks, pointing, filtering, reading, reasons, ordering, folding, program, narrow)
         bad = [it for page in pages for tried in tries for it in tried(browser, page)]
         if "--pictures" in sys.argv:
             browser.open(f"file://{examples[0].file}")

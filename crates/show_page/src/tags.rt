@@ -14,7 +14,7 @@ pub(crate) fn push_mark(out: &mut String, name: &str, word: &str) -> Result<(), 
 }
 
 /// Adds an attribute with a number.
-pub(crate) fn push_number<N: Display>(
+pub(crate) fn push_number<N: Display + Copy>(
     out: &mut String,
     name: &str,
     number: N,

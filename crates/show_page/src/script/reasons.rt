@@ -19,16 +19,16 @@ pub(super) const REASONS: &str = r#"
     const newer = before.waiting.filter(store => store.cell === move.cell && store.lane !== move.lane && !isOwn);
     const source = move.from ? [`${cell} = ${move.took} was stored by `, move.from, isOwn ? ', in its own buffer' : '']
       : [`${cell} = ${move.took} is its value at the start`];
-    return [source, ...newer.map(store => [`${cell} = ${store.put} of `, store.number, ' still waits in a buffer', ...end(store)])];
+    return [source, ...newer.map(store => [`newer: ${cell} = ${store.put} of `, store.number, ' waits in a buffer', ...until(store)])];
   }
   const drainOf = store => store.on.find(({ kind }) => kind === 'drain')?.to;
-  const end = store => drainOf(store) ? [', and reaches memory by ', drainOf(store)] : [''];
+  const until = store => drainOf(store) ? [' until ', drainOf(store)] : [' to the end'];
 
   // What becomes of a value that is stored, and what it replaces.
   function stored(move, before) {
-    const { value, by } = move.isPut ? before.memory[move.cell] : {};
-    const cell = cells[move.cell].name, replaces = by ? [`replaces ${cell} = ${value} of `, by] : [`replaces ${cell} = ${value} of the start`];
     if (move.kind === 'issue') return [drainOf(move) ? ['reaches memory by ', drainOf(move)] : ['never reaches memory in this run']];
+    const { value, by } = before.memory[move.cell], old = `replaces ${cells[move.cell].name} = ${value}`;
+    const replaces = by ? [`${old} of `, by] : [`${old}, its value at the start`];
     return move.kind === 'drain' ? [['stored by ', move.from], replaces] : [replaces];
   }
 "#;

@@ -56,7 +56,7 @@ pub(super) const SELECT: &str = r#"
     C: () => next(-1, isSame),
     l: () => next(1, isHere),
     L: () => next(-1, isHere),
-    f: () => { if (last && !isShown(last)) sift(''); return last; },
+    f: () => { if (last && !isShown(last)) sift(''); return final(); },
   };
   steps.ArrowDown = steps.j;
   steps.ArrowUp = steps.k;
@@ -109,13 +109,10 @@ pub(super) const SELECT: &str = r#"
     follow();
   });
 
-  // The move that the address names, and else the last, at which the run fails or ends.
-  function asked() {
-    const [, number] = /^#m([0-9]+)$/.exec(location.hash) ?? [];
-    return number === undefined ? last : Math.min(+number, last);
-  }
+  // Selects the move that the address names, and else the last, at which the run fails or ends.
   function visit() {
-    const n = asked();
+    const [, number] = /^#m([0-9]+)$/.exec(location.hash) ?? [];
+    const n = number === undefined ? final() : Math.min(+number, last);
     if (n && !isShown(n)) {
       if (moves[n - 1].folds) press('each', true);
       sift('');

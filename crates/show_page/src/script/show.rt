@@ -40,7 +40,7 @@ pub(super) const SHOW: &str = r#"
   function tellMemory({ memory, owners, threads: those }, move) {
     cells.forEach(({ row, value }, c) => {
       put(value, memory[c].value);
-      row.classList.toggle('new', memory[c].by > 0 && memory[c].by === move?.number);
+      row.classList.toggle('new', Boolean(move?.isPut) && move.cell === c);
     });
     mutexes.forEach(({ row, value }, m) => {
       put(value, owners[m] < 0 ? 'free' : lanes[owners[m]]);

@@ -10,7 +10,7 @@ pub(super) const STATE: &str = r#"
     firsts[lane] = i + 1;
   }
 
-  // The state before the first move. Of each cell there is also the move that put its value, of each mutex the one that freed
+  // The state before the first move. Of each cell there is also the move that stored its value, of each mutex the one that freed
   // it, and of each thread its next step, and the moves that created it, woke it, and ended it.
   function start() {
     return {
@@ -43,7 +43,7 @@ pub(super) const STATE: &str = r#"
     const thread = state.threads[move.lane];
     if (move.kind === 'issue') state.waiting.push(move);
     if (move.kind === 'drain') state.waiting = state.waiting.filter(store => store.number !== move.from);
-    if (move.isPut) state.memory[move.cell] = { value: move.put, by: move.number };
+    if (move.isPut) state.memory[move.cell] = { value: move.put, by: move.isStep ? move.number : move.from };
     if (move.isStep) thread.next = move.next;
     if (move.fails) thread.is = 'failed';
     if (move.sync) syncs[move.sync](state, move, thread);
