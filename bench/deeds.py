@@ -9,7 +9,7 @@ class Deed:
     def __init__(self, number, name, word, waiting):
         self.number, self.name, self.word, self.waiting = number, name, word, list(waiting)
         self.cell = self.took = self.put = self.source = self.mutex = self.condition = self.other = self.drain = None
-        self.replaced = None
+        self.replaced = self.woken = None
 
     def is_issue(self, model):
         return self.put is not None and self.word in ("store", "storeat") and model != "sc"
@@ -21,7 +21,7 @@ class History:
     def __init__(self, code, model, moves):
         self.code, self.model, self.deeds, self.links = code, model, [], []
         self.writers, self.waiting = {}, []
-        self.freed, self.created, self.ended, self.woken = {}, {}, {}, {}
+        self.freed, self.created, self.ended, self.slept, self.woken = {}, {}, {}, {}, {}
         state = machine.State(code, model)
         for number, move in enumerate(moves, 1):
             if model == "tso" and move[0] == "d":
@@ -63,7 +63,8 @@ class History:
             deed.condition, deed.mutex = args
         elif word in ("signal", "broadcast"):
             deed.condition, = args
-            self.woken.update({it: deed.number for it in ([move[2]] if move[0] == "w" else state.waiting[args[0]] if word == "broadcast" else [])})
+            for it in [move[2]] if move[0] == "w" else state.waiting[args[0]] if word == "broadcast" else []:
+                self.woken[it] = self.slept[it].woken = deed.number
         elif word == "create":
             deed.other = name + (thread.children + 1,)
             self.created[deed.other] = deed.number
@@ -76,6 +77,8 @@ class History:
             self.link("unlock", self.freed.get(deed.mutex), deed)
         if word == "wake":
             self.link("signal", self.woken[name], deed)
+        if word == "sleep":
+            self.slept[name] = deed
         if word in ("unlock", "sleep"):
             self.freed[deed.mutex] = deed.number
 

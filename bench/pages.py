@@ -271,7 +271,7 @@ class Page:
     def called(self, number):
         return f"move {number} ({self.rows[number - 1].thread})"
 
-    def why(self, number):
+    def reasons(self, number):
         """Why a move did what it did, in lines, each with the moves that it names."""
         deed, linked = self.history.deeds[number - 1], {
             "create": ("created by ", "first step: "), "unlock": ("the mutex was freed by ", "next to lock it: "),
@@ -279,6 +279,8 @@ class Page:
         lines = [] if deed.took is None else self.taken(deed)
         if deed.put is not None:
             lines += self.stored(deed)
+        if deed.word == "sleep":
+            lines.append((f"woken by {self.called(deed.woken)}", [deed.woken]) if deed.woken else ("never woken in this run", []))
         for kind, came, goes in self.history.links:
             if goes == number and kind in linked and kind != "take":
                 lines.append((linked[kind][0] + self.called(came), [came]))
@@ -307,7 +309,7 @@ class Page:
         writer, value = deed.replaced
         old = f"replaces {self.code.cells[deed.cell]} = {value}"
         replaces = (f"{old} of {self.called(writer)}", [writer]) if writer else (f"{old}, its value at the start", [])
-        return [(f"stored by {self.called(deed.source)}", [deed.source])] * (deed.word == "drain") + [replaces]
+        return [(f"stored by {self.called(deed.source)}", [deed.source]), replaces] if deed.word == "drain" else [replaces]
 
     def accesses(self, cell):
         return [n for n in range(1, len(self.rows) + 1) if self.cell(n) == cell]
@@ -337,7 +339,7 @@ def steps(browser, page):
         if number and not is_seen(browser, number):
             bad.append(f"{example}, {how}: move {number} isn't in view")
 
-    look("opened", count)
+    look("opened", max(page.folded))
     for keys, numbers in ((["Home"], [1]), (["k"], [0]), (["j", "ArrowDown"] * count, range(1, count + 1)), (["j"], [count]),
                           (["k", "ArrowUp"] * count, range(count - 1, -1, -1)), (["k"], [0]), (["End"], [count]), (["Home"], [1])):
         for key, number in zip(keys, numbers):
@@ -496,7 +498,7 @@ def reading(browser, page):
     browser.press("Home")
     browser.press("j")
     row = page.rows[1]
-    why = "".join(f". {text}" for text, _ in page.why(2))
+    why = "".join(f". {text}" for text, _ in page.reasons(2))
     said = f"move 2 of {len(page.rows)}, {row.thread}, line {row.line}: {page.code.source[row.line - 1]} {row.words}{why}"
     bad = differs(page, "read out", browser.value("document.querySelector('[aria-live=polite]').textContent"), said)
     browser.press("k")
@@ -522,7 +524,7 @@ def reasons(browser, page):
     bad = []
     for number in range(1, len(page.rows) + 1):
         why = browser.value("[...document.querySelectorAll('#why p')].map(line => [line.textContent, [...line.querySelectorAll('a')].map(a => +a.hash.slice(2))])")
-        bad += differs(page, f"why move {number}", why, [list(it) for it in page.why(number)])
+        bad += differs(page, f"why move {number}", why, [list(it) for it in page.reasons(number)])
         browser.press("j")
     for kind in sorted({it[0] for it in page.history.links}):
         start, end = next(it[1:] for it in page.history.links if it[0] == kind)

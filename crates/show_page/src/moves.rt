@@ -69,7 +69,8 @@ impl Moves {
             push_number(&mut self.out, "from", source.saturating_add(1))?;
         }
         if is_event(&row.deed, self.buffered) {
-            push_mark(&mut self.out, "event", self.event(lane))?;
+            let event = self.event(lane);
+            push_mark(&mut self.out, "event", event)?;
         }
         if said.folded.is_none() {
             push_mark(&mut self.out, "fold", "")?;

@@ -65,9 +65,10 @@ pub(crate) fn push_state(
     program: Program<'_>,
     lanes: &Lanes,
 ) -> Result<(), AllocError> {
-    out.push_str("<aside aria-label=\"state\">\n<p id=\"at\"></p>\n")?;
+    out.push_str("<aside aria-label=\"state\">\n<div>\n<p id=\"at\"></p>\n")?;
     out.push_str("<p id=\"said\" role=\"status\" aria-live=\"polite\"></p>\n")?;
-    out.push_str("<div id=\"why\"></div>\n<h2>memory</h2>\n<table id=\"memory\">\n")?;
+    out.push_str("<div id=\"why\"></div>\n</div>\n<div class=\"held\">\n")?;
+    out.push_str("<h2>memory</h2>\n<table id=\"memory\">\n")?;
     for (cell, value) in program.names.cells().iter().zip(program.code.memory()) {
         out.push_str("<tr")?;
         push_number(out, "start", *value)?;
@@ -76,14 +77,14 @@ pub(crate) fn push_state(
     out.push_str("</table>\n<h2>buffers</h2>\n<div id=\"buffers\"></div>\n")?;
     push_table(out, "mutexes", program.names.mutexes())?;
     push_table(out, "conditions", program.names.conditions())?;
-    out.push_str("<h2>threads</h2>\n<table id=\"threads\">\n")?;
+    out.push_str("</div>\n<div>\n<h2>threads</h2>\n<table id=\"threads\">\n")?;
     for lane in lanes.lanes().values() {
         out.push_str("<tr")?;
         push_entry(out, lane.title.as_str())?;
     }
     out.push_str("</table>\n")?;
     out.push_str(ARROWS)?;
-    out.push_str("</aside>\n")
+    out.push_str("</div>\n</aside>\n")
 }
 
 /// Adds a table with an entry for each name, if there is one.

@@ -37,7 +37,7 @@ button[aria-pressed=true] { border-color: var(--take); box-shadow: inset 0 0 0 1
 .tools { display: flex; flex-wrap: wrap; align-items: baseline; gap: .3rem 1rem; margin-bottom: .6rem; color: var(--faint); }
 .tools p { margin: 0; }
 main { flex: 1; min-height: 20rem; display: flex; gap: 1.5rem; }
-#program { flex: 0 1 23rem; min-width: 12rem; overflow: auto; contain: content; counter-reset: line; }
+#program { flex: 0 1 20rem; min-width: 12rem; overflow: auto; contain: content; counter-reset: line; }
 #program[hidden] { display: none; }
 #program li { counter-increment: line; display: flex; gap: .6rem; padding-right: .3rem; border-left: 3px solid transparent; }
 #program li::before { content: counter(line); flex: none; width: 2rem; text-align: right; color: var(--faint); font-size: 12px;
@@ -79,6 +79,7 @@ aside { width: 17rem; flex: none; overflow: auto; contain: content; }
 #at { font-weight: 600; font-variant-numeric: tabular-nums; margin-top: .35rem; }
 #why p { padding: .2rem .5rem; border-left: 2px solid var(--take); }
 a { color: var(--take); }
+#threads th { width: 45%; }
 aside td { text-align: right; font-variant-numeric: tabular-nums; }
 .new > * { background: var(--mark); font-weight: 600; }
 .key { display: flex; flex-wrap: wrap; gap: 0 1.2rem; color: var(--faint); }
@@ -104,9 +105,12 @@ dialog form { margin-top: .8rem; text-align: right; }
   .moves > pre { max-height: 6.5rem; }
   .tools p { display: none; }
   main { flex-direction: column; gap: .5rem; }
-  aside { width: auto; max-height: 32%; border-top: 1px solid var(--edge); }
+  #program { flex: none; max-height: 26%; border-bottom: 1px solid var(--edge); }
+  aside { width: auto; max-height: 34%; border-top: 1px solid var(--edge);
+    display: grid; grid-template: auto 1fr / 1fr 1fr; gap: 0 1.2rem; }
   aside h2 { margin: .4rem 0 .1rem; }
-  #memory tbody { display: flex; flex-wrap: wrap; gap: 0 .8rem; }
+  .held { grid-area: 1 / 2 / 3 / 3; }
+  .held tbody { display: flex; flex-wrap: wrap; gap: 0 .8rem; }
   .key, aside h2:has(+ .key) { display: none; }
 }
 @media print {

@@ -17,7 +17,7 @@ pub(super) const PAGE: &str = r#"
     took: data.took, put: data.put, from: +(data.from ?? 0), sync: data.sync, mutex: number(data.mutex),
     condition: number(data.condition), other: number(data.other), event: data.event !== undefined,
     switches: data.event === 'switch', folds: data.fold !== undefined, fails: classList.contains('fail'),
-    isStep: data.kind !== 'drain', isPut: data.kind === 'drain' || data.kind === 'store', next: 0, back: [], on: [],
+    isStep: data.kind !== 'drain', isPut: data.kind === 'drain' || data.kind === 'store', next: 0, woken: 0, back: [], on: [],
   }));
   const ends = heads.map(({ dataset: data }) =>
     ({ line: +(data.line ?? 0), sync: data.sync, mutex: number(data.mutex), other: number(data.other) }));

@@ -11,24 +11,30 @@ pub(super) const STATE: &str = r#"
   }
 
   // The state before the first move. Of each cell there is also the move that stored its value, of each mutex the one that freed
-  // it, and of each thread its next step, and the moves that created it, woke it, and ended it.
+  // it, and of each thread its next step, and the moves by which it was created, fell asleep, was woken, and ended.
   function start() {
     return {
       memory: cells.map(cell => ({ value: cell.start, by: 0 })),
       waiting: [],
       owners: mutexes.map(() => -1),
       freed: mutexes.map(() => 0),
-      threads: lanes.map((_, k) => ({ is: k ? 'uncreated' : 'running', next: firsts[k], on: -1, created: 0, woken: 0, ended: 0 })),
+      threads: lanes.map((_, k) => ({ is: k ? 'uncreated' : 'running', next: firsts[k], on: -1, created: 0, slept: 0, woken: 0, ended: 0 })),
     };
   }
 
   // What synchronization does to a state.
   const free = (state, move) => { state.owners[move.mutex] = -1; state.freed[move.mutex] = move.number; };
-  const rouse = (thread, move) => { thread.is = 'woken'; thread.woken = move.number; };
+  function rouse(thread, move) {
+    Object.assign(thread, { is: 'woken', woken: move.number });
+    moves[thread.slept - 1].woken = move.number;
+  }
   const syncs = {
     lock(state, move) { state.owners[move.mutex] = move.lane; },
     unlock: free,
-    sleep(state, move, thread) { free(state, move); thread.is = 'asleep'; thread.on = move.condition; },
+    sleep(state, move, thread) {
+      free(state, move);
+      Object.assign(thread, { is: 'asleep', on: move.condition, slept: move.number });
+    },
     wake(state, move, thread) { state.owners[move.mutex] = move.lane; thread.is = 'running'; },
     signal(state, move) { if (move.other >= 0) rouse(state.threads[move.other], move); },
     broadcast(state, move) { sleepers(state, move.condition).forEach(k => rouse(state.threads[k], move)); },
