@@ -279,6 +279,8 @@ class Page:
         lines = [] if deed.took is None else self.taken(deed)
         if deed.put is not None:
             lines += self.stored(deed)
+        if self.rows[number - 1].state.failed is not None:
+            lines += self.looked(deed)
         if deed.word == "sleep":
             lines.append((f"woken by {self.called(deed.woken)}", [deed.woken]) if deed.woken else ("never woken in this run", []))
         for kind, came, goes in self.history.links:
@@ -287,6 +289,18 @@ class Page:
         for kind, came, goes in self.history.links:
             if came == number and kind in linked:
                 lines.append((linked[kind][1] + self.called(goes), [goes]))
+        return lines
+
+    def looked(self, deed):
+        """What the statement that fails took from memory."""
+        lines = []
+        for it in reversed(self.history.deeds[:deed.number - 1]):
+            if it.name != deed.name or it.word == "drain":
+                continue
+            if self.rows[it.number - 1].line != self.rows[deed.number - 1].line:
+                break
+            if it.took is not None:
+                lines.insert(0, (f"{self.code.cells[it.cell]} = {it.took} was taken by {self.called(it.number)}", [it.number]))
         return lines
 
     def taken(self, deed):
@@ -345,8 +359,7 @@ def steps(browser, page):
         for key, number in zip(keys, numbers):
             browser.press(key)
             look(f"{key} to {number}", number)
-    browser.value("location.hash = '#m3'")
-    time.sleep(0.05)
+    go(browser, 3)
     look("#m3", 3)
     wide = browser.value("document.documentElement.scrollWidth <= innerWidth")
     outside = browser.value("performance.getEntriesByType('resource').length")
@@ -358,6 +371,19 @@ def steps(browser, page):
 def at(browser):
     """The number of the selected move."""
     return browser.value("+(document.querySelector('.row[aria-current]') ?? document.querySelector('.row.at'))?.id.slice(1)")
+
+
+def go(browser, number):
+    """Opens the address of a move, and waits until that is selected, at most five seconds."""
+    browser.value(f"location.hash = '#m{number}'")
+    reaches(browser, number)
+
+
+def reaches(browser, number):
+    """Waits until a move is selected, at most five seconds."""
+    end = time.monotonic() + 5
+    while at(browser) != number and time.monotonic() < end:
+        time.sleep(0.02)
 
 
 def differs(page, what, came, wanted):
@@ -528,8 +554,7 @@ def reasons(browser, page):
         browser.press("j")
     for kind in sorted({it[0] for it in page.history.links}):
         start, end = next(it[1:] for it in page.history.links if it[0] == kind)
-        browser.value(f"location.hash = '#m{end}'")
-        time.sleep(0.05)
+        go(browser, end)
         for goes in (start, end):
             browser.value(f"document.querySelector('#why a[href=\"#m{goes}\"]').focus()")
             browser.ask("Input.dispatchKeyEvent", type="keyDown", key="Enter", code="Enter", windowsVirtualKeyCode=13, text="\r")
@@ -548,8 +573,7 @@ def ordering(browser, page):
     bad += differs(page, "arrows of order", browser.value(count), len(orders))
     bad += differs(page, "order is on", browser.value("document.getElementById('orders').getAttribute('aria-pressed')"), "true")
     for _, start, end in orders:
-        browser.value(f"location.hash = '#m{end}'")
-        time.sleep(0.05)
+        go(browser, end)
         ends = browser.value(f"""(() => {{
           const frame = document.getElementById('sheet').getBoundingClientRect();
           const height = n => {{ const box = document.querySelector(`#m${{n}} .deed`).getBoundingClientRect(); return box.top + box.height / 2 - frame.top; }};
@@ -574,13 +598,12 @@ def folding(browser, page):
     bad += differs(page, "each step", browser.value(words), [[n, row.words] for n, row in enumerate(page.rows, 1)])
     hidden = [n for n in range(1, len(page.rows) + 1) if n not in page.folded]
     if hidden:
-        browser.value(f"location.hash = '#m{hidden[-1]}'")
-        time.sleep(0.05)
+        go(browser, hidden[-1])
         browser.press("m")
         near = max((n for n in page.folded if n < hidden[-1]), default=min(page.folded))
         bad += differs(page, "folded while a folded step is selected", at(browser), near)
-        browser.value(f"location.hash = '#m{hidden[0]}'")
-        time.sleep(0.05)
+        time.sleep(0.2)
+        go(browser, hidden[0])
         bad += differs(page, "the address of a folded step", [at(browser), is_seen(browser, hidden[0])], [hidden[0], True])
     return bad
 

@@ -6,6 +6,7 @@ pub(super) const REASONS: &str = r#"
     return [
       ...move.took === undefined ? [] : taken(move, before),
       ...move.put === undefined ? [] : stored(move, before),
+      ...move.fails ? looked(move) : [],
       ...move.sync !== 'sleep' ? [] : [move.woken ? ['woken by ', move.woken] : ['never woken in this run']],
       ...move.back.filter(({ kind }) => Object.hasOwn(came, kind)).map(({ kind, from }) => [came[kind], from]),
       ...move.on.filter(({ kind }) => Object.hasOwn(goes, kind)).map(({ kind, to }) => [goes[kind], to]),
@@ -21,6 +22,13 @@ pub(super) const REASONS: &str = r#"
     const source = move.from ? [`${cell} = ${move.took} was stored by `, move.from, isOwn ? ', in its own buffer' : '']
       : [`${cell} = ${move.took} is its value at the start`];
     return [source, ...newer.map(store => [`newer: ${cell} = ${store.put} of `, store.number, ' waits in a buffer', ...until(store)])];
+  }
+  // What the statement that fails took from memory.
+  function looked(move) {
+    const steps = moves.filter(({ number, lane, isStep }) => number < move.number && lane === move.lane && isStep).reverse();
+    const others = steps.findIndex(({ line }) => line !== move.line);
+    return steps.slice(0, others < 0 ? steps.length : others).filter(({ took }) => took !== undefined).reverse()
+      .map(({ number, cell, took }) => [`${cells[cell].name} = ${took} was taken by `, number]);
   }
   const drainOf = store => store.on.find(({ kind }) => kind === 'drain')?.to;
   const until = store => drainOf(store) ? [' until ', drainOf(store)] : [' to the end'];
