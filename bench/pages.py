@@ -558,7 +558,7 @@ def reasons(browser, page):
         for goes in (start, end):
             browser.value(f"document.querySelector('#why a[href=\"#m{goes}\"]').focus()")
             browser.ask("Input.dispatchKeyEvent", type="keyDown", key="Enter", code="Enter", windowsVirtualKeyCode=13, text="\r")
-            time.sleep(0.05)
+            reaches(browser, goes)
             bad += differs(page, f"{kind} along to {goes}", [at(browser), is_seen(browser, goes)], [goes, True])
     return bad
 

@@ -18,8 +18,9 @@ pub(super) const SELECT: &str = r#"
     return `${who}line ${line}: ${code} ${isOn('each') ? each : brief}`;
   }
   function follow() {
+    const { hash } = location;
     clearTimeout(following);
-    following = setTimeout(() => history.replaceState(null, '', `#m${at}`), 100);
+    following = setTimeout(() => { if (location.hash === hash) history.replaceState(null, '', `#m${at}`); }, 100);
   }
 
   // The first move from here on or back, among those that are shown, of which the test is true; else the one from here.
