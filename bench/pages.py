@@ -292,7 +292,7 @@ class Page:
         return lines
 
     def looked(self, deed):
-        """What the statement that fails took from memory."""
+        """What the statement that fails took, and who stored that."""
         lines = []
         for it in reversed(self.history.deeds[:deed.number - 1]):
             if it.name != deed.name or it.word == "drain":
@@ -300,7 +300,9 @@ class Page:
             if self.rows[it.number - 1].line != self.rows[deed.number - 1].line:
                 break
             if it.took is not None:
-                lines.insert(0, (f"{self.code.cells[it.cell]} = {it.took} was taken by {self.called(it.number)}", [it.number]))
+                source = f", and stored by {self.called(it.source)}" if it.source else " from the start"
+                text = f"{self.code.cells[it.cell]} = {it.took} was taken by {self.called(it.number)}{source}"
+                lines.insert(0, (text, [it.number] + [it.source] * bool(it.source)))
         return lines
 
     def taken(self, deed):
@@ -645,7 +647,7 @@ def narrow(browser, page):
     bad += differs(page, "700 pixels, lanes in view", lanes >= min(3, len(page.state.threads)), True)
     bad += differs(page, "700 pixels wide", browser.value("document.documentElement.scrollWidth <= innerWidth"), True)
     bad += differs(page, "700 pixels, the lanes' height", browser.value("document.getElementById('run').clientHeight >= 250"), True)
-    browser.size(1200, 900)
+    browser.size(1440, 900)
     return bad
 
 
@@ -718,7 +720,7 @@ def main():
     show_page = os.path.abspath(words[0] if words else f"{show.TOP}/clap_debug_show")
     os.chdir(show.TOP)
     with tempfile.TemporaryDirectory() as folder, Browser(f"{folder}/browser") as browser:
-        browser.size(1200, 900)
+        browser.size(1440, 900)
         if "--speed" in sys.argv:
             pages = [written(show_page, f"long{count}", LONG, "tso", long(**{what: count}), folder)
                      for what, count in (("events", 256), ("moves", 2000))]
@@ -732,7 +734,7 @@ def main():
             browser.press("Home")
             browser.press("j", 7)
             for scheme in ("light", "dark"):
-                browser.picture(f"{show.TOP}/docs/show-{scheme}.png", 1100, 900, scheme)
+                browser.picture(f"{show.TOP}/docs/show-{scheme}.png", 1440, 800, scheme)
     print("\n".join(bad) or f"{len(pages)} pages say what the machine does")
     return 1 if bad else 0
 

@@ -11,7 +11,7 @@ use tc_base::ThreadName;
 
 /// Adds the program's text, line by line.
 pub(crate) fn push_program(out: &mut String, program: Program<'_>) -> Result<(), AllocError> {
-    out.push_str("<section id=\"program\" aria-label=\"program\" tabindex=\"0\">\n<ol>\n")?;
+    out.push_str("<section id=\"program\" aria-label=\"program\" tabindex=\"0\" hidden>\n<ol>\n")?;
     for line in program.names.source() {
         out.push_str("<li><code>")?;
         push_text(out, line.as_str())?;

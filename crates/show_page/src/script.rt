@@ -28,11 +28,17 @@ pub(crate) fn push_script(out: &mut String) -> Result<(), AllocError> {
     out.push_str("})();\n</script>\n")
 }
 
-/// How a page opens: on a wide window with the program's text.
+/// How a page opens: with the program's text, where the window is wide and this leaves the lanes their room, or they have none
+/// anyway.
 const BEGIN: &str = r#"
+  const size = (element, property) => parseFloat(getComputedStyle(element)[property]);
+  function hasRoom() {
+    const need = size(sheet, 'minWidth'), room = run.clientWidth, less = size(by('program'), 'flexBasis') + size(run.parentNode, 'columnGap');
+    return matchMedia('(min-width: 75rem)').matches && (need <= room - less || need > room);
+  }
   offer('thread', lanes, 'lane');
   offer('cell', cells.map(cell => cell.name), 'cell');
-  press('text', matchMedia('(min-width: 75rem)').matches);
+  press('text', hasRoom());
   by('program').hidden = !isOn('text');
   sieve();
   visit();

@@ -123,7 +123,7 @@ dialog form { margin-top: .8rem; text-align: right; }
   .tools, .key, .key ~ *, aside h2:has(+ .key) { display: none; }
   main { flex-direction: column-reverse; gap: 1rem; }
   aside { width: auto; }
-  #run, aside { overflow: visible; contain: none; }
+  #program, #run, aside { overflow: visible; contain: none; max-height: none; }
   #sheet { min-width: 0; }
   .head { position: static; }
   .row { grid-template-columns: 2rem repeat(var(--lanes), minmax(0, 1fr)); column-gap: 1rem; break-inside: avoid; }

@@ -23,12 +23,13 @@ pub(super) const REASONS: &str = r#"
       : [`${cell} = ${move.took} is its value at the start`];
     return [source, ...newer.map(store => [`newer: ${cell} = ${store.put} of `, store.number, ' waits in a buffer', ...until(store)])];
   }
-  // What the statement that fails took from memory.
+  // What the statement that fails took, and who stored that.
   function looked(move) {
     const steps = moves.filter(({ number, lane, isStep }) => number < move.number && lane === move.lane && isStep).reverse();
     const others = steps.findIndex(({ line }) => line !== move.line);
     return steps.slice(0, others < 0 ? steps.length : others).filter(({ took }) => took !== undefined).reverse()
-      .map(({ number, cell, took }) => [`${cells[cell].name} = ${took} was taken by `, number]);
+      .map(({ number, cell, took, from }) => [`${cells[cell].name} = ${took} was taken by `, number,
+        ...from ? [', and stored by ', from] : [' from the start']]);
   }
   const drainOf = store => store.on.find(({ kind }) => kind === 'drain')?.to;
   const until = store => drainOf(store) ? [' until ', drainOf(store)] : [' to the end'];
