@@ -6,6 +6,7 @@ It also tries what else one does with a page: the pointer, each key, the filter,
   pages.py [SHOW]                  pages of examples, and of programs of its own, that SHOW, or ./clap_debug_show, makes
   pages.py [SHOW] --pictures       the same, and writes the pictures of docs/
   pages.py [SHOW] --speed          how long pages of 256 events and of 2,000 moves take to paint, and to step
+  pages.py [SHOW] --faults         pages in which one thing is broken, each of which a test is to find
 
 It wants Debian's package `chromium`, and nothing else beside Python.
 """
@@ -64,6 +65,36 @@ main {
     assert(x == 0);
 }
 """
+
+# What --faults breaks: the example, the test that is to find it, and the text of the page with what stands in its place.
+FAULTS = [
+    ("deadlock/p", "steps", "lock(state, move) { state.owners[move.mutex] = move.lane; }", "lock() {}"),
+    ("once/p", "steps", "state.freed[move.mutex] = move.number; }", "}; const free = (state, move) => { state.freed[move.mutex] = move.number; }"),
+    ("signal/p", "steps", "is: 'asleep', on: move.condition", "on: move.condition"),
+    ("buffering/p", "steps", "state.threads[move.other].is = 'joined'", ""),
+    ("buffering/p", "steps", "lines[place - 1]?.append(tag)", ""),
+    ("buffering/p", "steps", "if (move.isStep) thread.next = move.next", ""),
+    ("buffering/p", "reasons", "...newer.map(", "...[].map("),
+    ("buffering/p", "reasons", "[' until ', drainOf(store)]", "['']"),
+    ("buffering/p", "reasons", "made.href = `#m${n}`", "made.href = '#m1'"),
+    ("buffering/p", "reasons", "...move.fails ? looked(move) : []", ""),
+    ("signal/p", "reasons", "move.woken ? ['woken by ', move.woken] : ['never woken in this run']", ""),
+    ("once/p", "reasons", "link('unlock', so.freed[move.mutex], move)", ""),
+    ("buffering/p", "ordering", "link('create', thread.created, move)", ""),
+    ("buffering/p", "ordering", "link('exit', so.threads[move.other].ended, move)", ""),
+    ("once/p", "ordering", "link('unlock', so.freed[move.mutex], move)", "link('unlock', so.freed[move.mutex] && 1, move)"),
+    ("buffering/p", "ordering", "orders || isAccess(kind)", "true"),
+    ("buffering/p", "folding", "folds && moves[i].folds", "false"),
+    ("dekker/p", "folding", "sheet.classList.toggle('each', !folds)", ""),
+    ("buffering/p", "folding", "if (moves[n - 1].folds) press('each', true);", ""),
+    ("buffering/p", "program", "<li><code>", "<li hidden><code>"),
+    ("buffering/p", "program", "lines.indexOf(event.target.closest('li')) + 1", "0"),
+    ("buffering/p", "program", "by('program').hidden = !isOn('text');\n    draw();", ""),
+    ("buffering/p", "walks", "l: () => next(1, isHere)", "l: () => at"),
+    ("buffering/p", "reading", "aria-pressed=\"false\">order", "tabindex=\"-1\">order"),
+    ("buffering/p", "reading", "${spoken(reasons(moves[n - 1], state(n - 1)))}", ""),
+    ("buffering/p", "narrow", "max-height: 34%", "height: 90%"),
+]
 
 # What an event asks, but for a store, and the failing step.
 EVENTS = {"load", "loadat", "swap", "cas", "fence", "exit", "lock", "unlock", "sleep", "wake", "broadcast", "signal", "create", "join"}
@@ -715,6 +746,29 @@ def long(moves=2000, events=None):
     return made if events is None else made[:events_of(code, "tso", made)[events - 1]]
 
 
+def faults(browser, show_page, folder):
+    """Says which faults no test has found."""
+    missed = []
+    for number, (name, test, old, new) in enumerate(FAULTS):
+        page = made(show_page, name, f"examples/{name}.tc", f"examples/{name}.sched", folder)
+        with open(page.file) as file:
+            text = file.read()
+        if old not in text:
+            missed.append(f"{name} has no text to break: {old}")
+            continue
+        page.file = f"{folder}/fault{number}.html"
+        with open(page.file, "w") as file:
+            file.write(text.replace(old, new, 1))
+        try:
+            found = globals()[test](browser, page)
+        except SystemExit as stopped:
+            found = [str(stopped)]
+        if not found:
+            missed.append(f"{test} doesn't find in {name}: {old}")
+    print("\n".join(missed) or f"each of {len(FAULTS)} faults is found")
+    return 1 if missed else 0
+
+
 def main():
     words = [it for it in sys.argv[1:] if not it.startswith("--")]
     show_page = os.path.abspath(words[0] if words else f"{show.TOP}/clap_debug_show")
@@ -725,6 +779,8 @@ def main():
             pages = [written(show_page, f"long{count}", LONG, "tso", long(**{what: count}), folder)
                      for what, count in (("events", 256), ("moves", 2000))]
             return 1 if any([speed(browser, page) for page in pages]) else 0
+        if "--faults" in sys.argv:
+            return faults(browser, show_page, folder)
         examples = [made(show_page, it, f"examples/{it}.tc", f"examples/{it}.sched", folder) for it in PAGES]
         pages = [*examples, written(show_page, "late", LATE, "sc", late(), folder), written(show_page, "odd", ODD, "sc", odd(), folder)]
         tries = (steps, resting, look, walks, pointing, filtering, reading, reasons, ordering, folding, program, narrow)

@@ -39,11 +39,11 @@ button[aria-pressed=true] { border-color: var(--take); box-shadow: inset 0 0 0 1
 main { flex: 1; min-height: 20rem; display: flex; gap: 1.5rem; }
 #program { flex: 0 1 20rem; min-width: 12rem; overflow: auto; contain: content; counter-reset: line; }
 #program[hidden] { display: none; }
-#program li { counter-increment: line; display: flex; gap: .6rem; padding-right: .3rem; border-left: 3px solid transparent; }
+#program li { counter-increment: line; display: flex; flex-wrap: wrap; justify-content: end; column-gap: .5rem; padding-right: .3rem; border-left: 3px solid transparent; }
 #program li::before { content: counter(line); flex: none; width: 2rem; text-align: right; color: var(--faint); font-size: 12px;
   font-variant-numeric: tabular-nums; }
 #program li.now { background: var(--mark); border-color: var(--take); }
-#program code { flex: 1; }
+#program code { flex: 1 0 auto; max-width: calc(100% - 2.5rem); }
 #program b { flex: none; padding: 0 .35rem; border-radius: 3px; background: var(--take); color: var(--paper); font-size: 11px; }
 #run { flex: 1; min-width: 0; overflow: auto; contain: strict; scroll-padding: 3rem 1rem 4rem 5rem; }
 #sheet { position: relative; isolation: isolate; min-width: calc(var(--number) + var(--lanes) * (var(--lane) + var(--gap))); padding: 0 .25rem 1rem 0; }
@@ -51,7 +51,7 @@ aside { width: 17rem; flex: none; overflow: auto; contain: content; }
 
 .row { display: grid; grid-template-columns: var(--number) repeat(var(--lanes), minmax(var(--lane), 1fr)); column-gap: var(--gap); }
 .row[hidden] { display: none; }
-.row > .n { position: sticky; left: 0; color: var(--faint); background: var(--paper); text-align: right; padding: .35rem .3rem .35rem 0; font-variant-numeric: tabular-nums; }
+.row > .n { color: var(--faint); text-align: right; padding: .35rem 0; font-variant-numeric: tabular-nums; }
 .head { position: sticky; top: 0; z-index: 3; background: var(--paper); margin-bottom: .3rem; }
 .head > [data-lane] { font-weight: 600; padding: .35rem .5rem; border-bottom: 2px solid var(--edge); overflow-wrap: anywhere; }
 .deed { background: var(--card); border: 1px solid var(--edge); border-radius: 5px;
