@@ -79,15 +79,15 @@ FAULTS = [
     ("buffering/p", "reasons", "made.href = `#m${n}`", "made.href = '#m1'"),
     ("buffering/p", "reasons", "...move.fails ? looked(move) : []", ""),
     ("signal/p", "reasons", "move.woken ? ['woken by ', move.woken] : ['never woken in this run']", ""),
-    ("once/p", "reasons", "link('unlock', so.freed[move.mutex], move)", ""),
+    ("signal/p", "reasons", "link('unlock', so.freed[move.mutex], move)", ""),
     ("buffering/p", "ordering", "link('create', thread.created, move)", ""),
     ("buffering/p", "ordering", "link('exit', so.threads[move.other].ended, move)", ""),
-    ("once/p", "ordering", "link('unlock', so.freed[move.mutex], move)", "link('unlock', so.freed[move.mutex] && 1, move)"),
+    ("signal/p", "ordering", "link('unlock', so.freed[move.mutex], move)", "link('unlock', so.freed[move.mutex] && 1, move)"),
     ("buffering/p", "ordering", "orders || isAccess(kind)", "true"),
     ("buffering/p", "folding", "folds && moves[i].folds", "false"),
     ("dekker/p", "folding", "sheet.classList.toggle('each', !folds)", ""),
     ("buffering/p", "folding", "if (moves[n - 1].folds) press('each', true);", ""),
-    ("buffering/p", "program", "<li><code>", "<li hidden><code>"),
+    ("buffering/p", "program", "<li><code>", "<li style=\"display: none\"><code>"),
     ("buffering/p", "program", "lines.indexOf(event.target.closest('li')) + 1", "0"),
     ("buffering/p", "program", "by('program').hidden = !isOn('text');\n    draw();", ""),
     ("buffering/p", "walks", "l: () => next(1, isHere)", "l: () => at"),
@@ -408,7 +408,7 @@ def at(browser):
 
 def go(browser, number):
     """Opens the address of a move, and waits until that is selected, at most five seconds."""
-    browser.value(f"location.hash = '#m{number}'")
+    browser.value(f"location.hash === '#m{number}' ? dispatchEvent(new Event('hashchange')) : location.hash = '#m{number}'")
     reaches(browser, number)
 
 
@@ -455,10 +455,11 @@ def walks(browser, page):
     unfold(browser, page)
     cell = next((it for it in map(page.cell, range(1, len(page.rows) + 1)) if it), None)
     bad, last = [], len(page.rows)
-    here = [n for n, row in enumerate(page.rows, 1) if row.line == page.rows[0].line]
-    for key, numbers in (("e", page.events), ("s", page.switches()), ("c", page.accesses(cell) if cell else []), ("l", here)):
-        browser.press("Home")
-        number = 1
+    lines = [row.line for row in page.rows]
+    here = [n for n, line in enumerate(lines, 1) if line == max(lines, key=lines.count)]
+    for key, start, numbers in (("e", 1, page.events), ("s", 1, page.switches()), ("c", 1, page.accesses(cell) if cell else []), ("l", here[0], here)):
+        go(browser, start)
+        number = start
         for way, known in ((key, lambda n: min((it for it in numbers if it > n), default=n)),
                            (key.upper(), lambda n: max((it for it in numbers if it < n), default=n))):
             for _ in range(len(numbers) + 1):
@@ -646,7 +647,7 @@ def program(browser, page):
     unfold(browser, page)
     with open(page.program) as file:
         text = file.read().replace("\t", "    ").split("\n")
-    lines = browser.value("[...document.querySelectorAll('#program li')].map(line => line.querySelector('code').textContent)")
+    lines = browser.value("[...document.querySelectorAll('#program li')].filter(line => line.offsetHeight).map(line => line.querySelector('code').textContent)")
     bad = differs(page, "the program", [it.rstrip() for it in lines], [it.rstrip() for it in (text[:-1] if text[-1] == "" else text)])
     browser.press("Home")
     number = 1
