@@ -9,7 +9,7 @@ class Deed:
     def __init__(self, number, name, word, waiting):
         self.number, self.name, self.word, self.waiting = number, name, word, list(waiting)
         self.cell = self.took = self.put = self.source = self.mutex = self.condition = self.other = self.drain = None
-        self.replaced = self.woken = None
+        self.replaced = self.woken = self.sets = None
 
     def is_issue(self, model):
         return self.put is not None and self.word in ("store", "storeat") and model != "sc"
@@ -57,6 +57,8 @@ class History:
             self.link("create", self.created.pop(name), deed)
         if word in ("load", "loadat", "store", "storeat", "swap", "cas"):
             self.access(deed, state, thread, word, args)
+        elif word == "set":
+            deed.sets = self.code.functions[thread.function].names["slot"].get(args[0])
         elif word in ("lock", "unlock"):
             deed.mutex, = args
         elif word in ("sleep", "wake"):

@@ -11,6 +11,7 @@ It also tries what else one does with a page: the pointer, each key, the filter,
 It wants Debian's package `chromium`, and nothing else beside Python.
 """
 import base64
+import itertools
 import json
 import os
 import re
@@ -28,7 +29,7 @@ import machine
 import show
 from deeds import History
 
-PAGES = ["buffering/p", "once/p", "deadlock/p", "dekker/p", "signal/p"]
+PAGES = ["buffering/p", "once/p", "deadlock/p", "dekker/p", "signal/p", "late", "odd", "locals"]
 
 # A program whose threads move in another order than that of their names, and one of which, 0.11, never moves.
 LATE = "int x;\nthread one() {\n    x = x + 1;\n}\nmain {\n    tid t;\n" + "    t = create one();\n" * 11 + "    assert(x == 1);\n}\n"
@@ -38,6 +39,23 @@ ODD = """int x; // </script><script>alert(1)</script> <b>&amp; "it's" \u00e9\u20
 /* <!-- ]]> */ main {
 \tx = 1; /* </code></ol> */ /* ${x} `x` \\u0041 */
 \tassert(x < 1 && x > 0);
+}
+"""
+
+# A program whose assertion looks at ints of its own alone.
+LOCALS = """int x;
+thread put() {
+    x = 1;
+}
+main {
+    tid t;
+    int before;
+    int after;
+    before = x + 2;
+    t = create put();
+    join(t);
+    after = x;
+    assert(after < before - 1);
 }
 """
 
@@ -78,6 +96,7 @@ FAULTS = [
     ("buffering/p", "reasons", "[' until ', drainOf(store)]", "['']"),
     ("buffering/p", "reasons", "made.href = `#m${n}`", "made.href = '#m1'"),
     ("buffering/p", "reasons", "...move.fails ? looked(move) : []", ""),
+    ("locals", "reasons", "...sets.map(", "...[].map("),
     ("signal/p", "reasons", "move.woken ? ['woken by ', move.woken] : ['never woken in this run']", ""),
     ("signal/p", "reasons", "link('unlock', so.freed[move.mutex], move)", ""),
     ("buffering/p", "ordering", "link('create', thread.created, move)", ""),
@@ -323,17 +342,21 @@ class Page:
         return lines
 
     def looked(self, deed):
-        """What the statement that fails took, and who stored that."""
-        lines = []
-        for it in reversed(self.history.deeds[:deed.number - 1]):
-            if it.name != deed.name or it.word == "drain":
-                continue
-            if self.rows[it.number - 1].line != self.rows[deed.number - 1].line:
-                break
+        """What the statement that fails took, and who stored that, and which move set each of its ints."""
+        lines, line = [], self.rows[deed.number - 1].line
+        steps = [it for it in self.history.deeds[:deed.number - 1] if it.name == deed.name and it.word != "drain"][::-1]
+        for it in itertools.takewhile(lambda it: self.rows[it.number - 1].line == line, steps):
             if it.took is not None:
                 source = f", and stored by {self.called(it.source)}" if it.source else " from the start"
                 text = f"{self.code.cells[it.cell]} = {it.took} was taken by {self.called(it.number)}{source}"
                 lines.insert(0, (text, [it.number] + [it.source] * bool(it.source)))
+        for name in dict.fromkeys(re.findall(r"[A-Za-z_]\w*", self.code.source[line - 1])):
+            place = next((k for k, it in enumerate(steps) if it.sets == name), None)
+            if place is not None:
+                number = steps[place].number
+                same = itertools.takewhile(lambda it: self.rows[it.number - 1].line == self.rows[number - 1].line, steps[place:])
+                home = next((it.number for it in same if it.number in self.folded), number)
+                lines.append((f"{self.rows[number - 1].words} was set by {self.called(home)}", [home]))
         return lines
 
     def taken(self, deed):
@@ -729,15 +752,24 @@ def written(program, name, text, model, moves, folder):
     return made(program, name, source, schedule, folder)
 
 
-def late():
+def late(_):
     """The moves of LATE: main creates all, then some threads run, the last first, but never 0.11."""
     run = lambda *name: ("r", name)
     return [run()] * 11 + [run(10)] * 2 + [run(2)] * 3 + [run(1)] * 2 + [run()] * 3
 
 
-def odd():
-    """The moves of ODD, to its failure."""
-    return machine.run(show.Code(ODD), "sc", 1, 100)[2]
+def to_end(text):
+    """The moves of a run of a program, to its end."""
+    return machine.run(show.Code(text), "sc", 1, 100)[2]
+
+
+def page_of(program, name, folder):
+    """The page of an example, or of a program of this file's own."""
+    own = {"late": (LATE, late), "odd": (ODD, to_end), "locals": (LOCALS, to_end)}
+    if name not in own:
+        return made(program, name, f"examples/{name}.tc", f"examples/{name}.sched", folder)
+    text, moves = own[name]
+    return written(program, name, text, "sc", moves(text), folder)
 
 
 def long(moves=2000, events=None):
@@ -751,7 +783,7 @@ def faults(browser, show_page, folder):
     """Says which faults no test has found."""
     missed = []
     for number, (name, test, old, new) in enumerate(FAULTS):
-        page = made(show_page, name, f"examples/{name}.tc", f"examples/{name}.sched", folder)
+        page = page_of(show_page, name, folder)
         with open(page.file) as file:
             text = file.read()
         if old not in text:
@@ -782,14 +814,13 @@ def main():
             return 1 if any([speed(browser, page) for page in pages]) else 0
         if "--faults" in sys.argv:
             return faults(browser, show_page, folder)
-        examples = [made(show_page, it, f"examples/{it}.tc", f"examples/{it}.sched", folder) for it in PAGES]
-        pages = [*examples, written(show_page, "late", LATE, "sc", late(), folder), written(show_page, "odd", ODD, "sc", odd(), folder)]
+        pages = [page_of(show_page, it, folder) for it in PAGES]
         tries = (steps, resting, look, walks, pointing, filtering, reading, reasons, ordering, folding, program, narrow)
         bad = [it for page in pages for tried in tries for it in tried(browser, page)]
         if "--pictures" in sys.argv:
-            browser.open(f"file://{examples[0].file}")
+            browser.open(f"file://{pages[0].file}")
             browser.press("Home")
-            browser.press("j", 7)
+            browser.press("j", 5)
             for scheme in ("light", "dark"):
                 browser.picture(f"{show.TOP}/docs/show-{scheme}.png", 1440, 800, scheme)
     print("\n".join(bad) or f"{len(pages)} pages say what the machine does")

@@ -2,8 +2,10 @@
 
 use show_deeds::Deed;
 use show_rows::Row;
+use show_words::Program;
 use std::alloc::AllocError;
 use tc_base::{Request, ThreadName};
+use tc_code::Instr;
 
 /// An access of a cell.
 #[derive(Clone, Copy)]
@@ -132,6 +134,17 @@ pub(crate) fn awaited_by(
     match asks {
         Request::Await(number) if number >= 1 => Ok(Some(thread.child(number)?)),
         _ => Ok(None),
+    }
+}
+
+/// The int of the program that a row's step sets, if it sets one.
+pub(crate) fn int_set<'a>(program: Program<'a>, row: &Row) -> Option<&'a str> {
+    match (
+        &row.deed,
+        program.code.instr(row.function, row.instruction)?,
+    ) {
+        (Deed::Did(_), Instr::Set { slot, .. }) => program.names.int(row.function, *slot),
+        _ => None,
     }
 }
 

@@ -2,7 +2,7 @@
 
 use crate::escape::push_text;
 use crate::lanes::Lanes;
-use crate::marks::{Synchronization, access_of, asks_of, is_failure, other_of};
+use crate::marks::{Synchronization, access_of, asks_of, int_set, is_failure, other_of};
 use crate::sources::Sources;
 use crate::tags::{push_access, push_mark, push_number, push_synchronization};
 use show_rows::Row;
@@ -20,7 +20,8 @@ pub(crate) struct Said<'a> {
 
 /// The rows so far.
 #[derive(Drop)]
-pub(crate) struct Moves {
+pub(crate) struct Moves<'a> {
+    program: Program<'a>,
     out: String,
     sources: Sources,
     buffered: bool,
@@ -28,14 +29,15 @@ pub(crate) struct Moves {
     last: Option<usize>,
 }
 
-impl Moves {
+impl<'a> Moves<'a> {
     /// No rows, under a memory model.
     pub(crate) fn new(
         alloc: Global,
-        program: Program<'_>,
+        program: Program<'a>,
         model: Model,
-    ) -> Result<Moves, AllocError> {
+    ) -> Result<Moves<'a>, AllocError> {
         Ok(Moves {
+            program,
             out: String::new(alloc),
             sources: Sources::new(alloc, program.code)?,
             buffered: !matches!(model, Model::Sc),
@@ -88,6 +90,9 @@ impl Moves {
         }
         if let Some(does) = Synchronization::of(asks_of(row)) {
             push_synchronization(&mut self.out, does)?;
+        }
+        if let Some(name) = int_set(self.program, row) {
+            push_mark(&mut self.out, "sets", name)?;
         }
         match other_of(row)? {
             Some(other) => push_number(&mut self.out, "other", lanes.lane(&other)),

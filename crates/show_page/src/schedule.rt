@@ -47,13 +47,13 @@ pub fn schedule_page(
 }
 
 /// The rows of a schedule's moves.
-fn moves_of(
+fn moves_of<'a>(
     alloc: Global,
-    program: Program<'_>,
+    program: Program<'a>,
     schedule: &Schedule,
     told: &Told,
     lanes: &Lanes,
-) -> Result<Moves, AllocError> {
+) -> Result<Moves<'a>, AllocError> {
     let rows = told.rows.as_slice();
     let words = row_words(alloc, program, schedule.model, rows)?;
     let folded = folded_words(alloc, program, rows, words.as_slice())?;

@@ -15,7 +15,7 @@ pub(super) const PAGE: &str = r#"
   const moves = rows.map(({ classList, dataset: data }, i) => ({
     number: i + 1, lane: +data.lane, line: +deeds[i].children[1].textContent, kind: data.kind, cell: number(data.cell),
     took: data.took, put: data.put, from: +(data.from ?? 0), sync: data.sync, mutex: number(data.mutex),
-    condition: number(data.condition), other: number(data.other), event: data.event !== undefined,
+    condition: number(data.condition), other: number(data.other), sets: data.sets, event: data.event !== undefined,
     switches: data.event === 'switch', folds: data.fold !== undefined, fails: classList.contains('fail'),
     isStep: data.kind !== 'drain', isPut: data.kind === 'drain' || data.kind === 'store', next: 0, woken: 0, back: [], on: [],
   }));

@@ -23,13 +23,24 @@ pub(super) const REASONS: &str = r#"
       : [`${cell} = ${move.took} is its value at the start`];
     return [source, ...newer.map(store => [`newer: ${cell} = ${store.put} of `, store.number, ' waits in a buffer', ...until(store)])];
   }
-  // What the statement that fails took, and who stored that.
+  // What the statement that fails took, and who stored that, and which move set each of its ints.
   function looked(move) {
     const steps = moves.filter(({ number, lane, isStep }) => number < move.number && lane === move.lane && isStep).reverse();
     const others = steps.findIndex(({ line }) => line !== move.line);
-    return steps.slice(0, others < 0 ? steps.length : others).filter(({ took }) => took !== undefined).reverse()
-      .map(({ number, cell, took, from }) => [`${cells[cell].name} = ${took} was taken by `, number,
-        ...from ? [', and stored by ', from] : [' from the start']]);
+    const loads = steps.slice(0, others < 0 ? steps.length : others).filter(({ took }) => took !== undefined).reverse();
+    const names = new Set(deeds[move.number - 1].querySelector('code').textContent.match(/[A-Za-z_][A-Za-z_0-9]*/g));
+    const sets = [...names].map(name => steps.find(step => step.sets === name)).filter(Boolean);
+    return [
+      ...loads.map(({ number, cell, took, from }) => [`${cells[cell].name} = ${took} was taken by `, number,
+        ...from ? [', and stored by ', from] : [' from the start']]),
+      ...sets.map(({ number }) => [`${deeds[number - 1].querySelector('.each').textContent} was set by `, home(number, steps)]),
+    ];
+  }
+  // The row in which a step is where silent steps are folded.
+  function home(n, steps) {
+    const { line } = moves[n - 1], place = steps.findIndex(({ number }) => number === n);
+    const found = steps.slice(place).find(step => step.line !== line || !step.folds);
+    return found?.line === line ? found.number : n;
   }
   const drainOf = store => store.on.find(({ kind }) => kind === 'drain')?.to;
   const until = store => drainOf(store) ? [' until ', drainOf(store)] : [' to the end'];
