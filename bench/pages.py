@@ -95,6 +95,7 @@ FAULTS = [
     ("buffering/p", "reasons", "...newer.map(", "...[].map("),
     ("buffering/p", "reasons", "[' until ', drainOf(store)]", "['']"),
     ("buffering/p", "reasons", "made.href = `#m${n}`", "made.href = '#m1'"),
+    ("buffering/p", "reasons", "if (isLinked) run.focus", "if (false) run.focus"),
     ("buffering/p", "reasons", "...move.fails ? looked(move) : []", ""),
     ("locals", "reasons", "...sets.map(", "...[].map("),
     ("signal/p", "reasons", "move.woken ? ['woken by ', move.woken] : ['never woken in this run']", ""),
@@ -616,7 +617,8 @@ def reasons(browser, page):
             browser.value(f"document.querySelector('#why a[href=\"#m{goes}\"]').focus()")
             browser.ask("Input.dispatchKeyEvent", type="keyDown", key="Enter", code="Enter", windowsVirtualKeyCode=13, text="\r")
             reaches(browser, goes)
-            bad += differs(page, f"{kind} along to {goes}", [at(browser), is_seen(browser, goes)], [goes, True])
+            focus = browser.value("document.activeElement.id")
+            bad += differs(page, f"{kind} along to {goes}", [at(browser), is_seen(browser, goes), focus], [goes, True, "run"])
     return bad
 
 

@@ -110,8 +110,10 @@ pub(super) const SELECT: &str = r#"
     follow();
   });
 
-  // Selects the move that the address names, and else the last, at which the run fails or ends.
+  // Selects the move that the address names, and else the last, at which the run fails or ends. From a link, which is gone then,
+  // the focus goes to the moves.
   function visit() {
+    const isLinked = by('why').contains(document.activeElement);
     const [, number] = /^#m([0-9]+)$/.exec(location.hash) ?? [];
     const n = number === undefined ? final() : Math.min(+number, last);
     if (n && !isShown(n)) {
@@ -119,6 +121,7 @@ pub(super) const SELECT: &str = r#"
       sift('');
     }
     select(n);
+    if (isLinked) run.focus({ preventScroll: true });
   }
   addEventListener('hashchange', visit);
 "#;
