@@ -112,8 +112,9 @@ pub(super) const SELECT: &str = r#"
 
   // Selects the move that the address names, and else the last, at which the run fails or ends. From a link, which is gone then,
   // the focus goes to the moves.
+  let isLinked = false;
+  by('why').addEventListener('click', event => { isLinked = event.target.closest('a') !== null; });
   function visit() {
-    const isLinked = by('why').contains(document.activeElement);
     const [, number] = /^#m([0-9]+)$/.exec(location.hash) ?? [];
     const n = number === undefined ? final() : Math.min(+number, last);
     if (n && !isShown(n)) {
@@ -122,6 +123,7 @@ pub(super) const SELECT: &str = r#"
     }
     select(n);
     if (isLinked) run.focus({ preventScroll: true });
+    isLinked = false;
   }
   addEventListener('hashchange', visit);
 "#;
