@@ -42,7 +42,7 @@ ODD = """int x; // </script><script>alert(1)</script> <b>&amp; "it's" \u00e9\u20
 }
 """
 
-# A program whose assertion looks at ints of its own alone.
+# A program whose assertion looks at ints of its own alone, and which takes one value often.
 LOCALS = """int x;
 thread put() {
     x = 1;
@@ -54,6 +54,9 @@ main {
     before = x + 2;
     t = create put();
     join(t);
+    while (after < 8) {
+        after = after + x;
+    }
     after = x;
     assert(after < before - 1);
 }
@@ -97,6 +100,7 @@ FAULTS = [
     ("buffering/p", "reasons", "made.href = `#m${n}`", "made.href = '#m1'"),
     ("buffering/p", "reasons", "if (isLinked) run.focus", "if (false) run.focus"),
     ("buffering/p", "reasons", "...move.fails ? looked(move) : []", ""),
+    ("locals", "reasons", "takes.slice(0, 6)", "takes.slice(0, 5)"),
     ("locals", "reasons", "...sets.map(", "...[].map("),
     ("signal/p", "reasons", "move.woken ? ['woken by ', move.woken] : ['never woken in this run']", ""),
     ("signal/p", "reasons", "link('unlock', so.freed[move.mutex], move)", ""),
@@ -326,21 +330,29 @@ class Page:
         """Why a move did what it did, in lines, each with the moves that it names."""
         deed, linked = self.history.deeds[number - 1], {
             "create": ("created by ", "first step: "), "unlock": ("the mutex was freed by ", "next to lock it: "),
-            "signal": ("woken by ", "wakes "), "exit": ("the thread exited by ", "joined by "), "take": (None, "value taken by ")}
+            "signal": ("woken by ", "wakes "), "exit": ("the thread exited by ", "joined by ")}
         lines = [] if deed.took is None else self.taken(deed)
         if deed.put is not None:
             lines += self.stored(deed)
+        lines += self.takers(number)
         if self.rows[number - 1].state.failed is not None:
             lines += self.looked(deed)
         if deed.word == "sleep":
             lines.append((f"woken by {self.called(deed.woken)}", [deed.woken]) if deed.woken else ("never woken in this run", []))
         for kind, came, goes in self.history.links:
-            if goes == number and kind in linked and kind != "take":
+            if goes == number and kind in linked:
                 lines.append((linked[kind][0] + self.called(came), [came]))
         for kind, came, goes in self.history.links:
             if came == number and kind in linked:
                 lines.append((linked[kind][1] + self.called(goes), [goes]))
         return lines
+
+    def takers(self, number):
+        """The moves that take the value of a move, the first six by name."""
+        all_of_them = [goes for kind, came, goes in self.history.links if (kind, came) == ("take", number)]
+        named, more = all_of_them[:6], len(all_of_them) - 6
+        text = f"value taken by {', '.join(map(self.called, named))}" + (f", and {more} more" if more > 0 else "")
+        return [(text, named)] if named else []
 
     def looked(self, deed):
         """What the statement that fails took, and who stored that, and which move set each of its ints."""

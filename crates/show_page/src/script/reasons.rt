@@ -6,6 +6,7 @@ pub(super) const REASONS: &str = r#"
     return [
       ...move.took === undefined ? [] : taken(move, before),
       ...move.put === undefined ? [] : stored(move, before),
+      ...takers(move),
       ...move.fails ? looked(move) : [],
       ...move.sync !== 'sleep' ? [] : [move.woken ? ['woken by ', move.woken] : ['never woken in this run']],
       ...move.back.filter(({ kind }) => Object.hasOwn(came, kind)).map(({ kind, from }) => [came[kind], from]),
@@ -13,7 +14,7 @@ pub(super) const REASONS: &str = r#"
     ];
   }
   const came = { create: 'created by ', unlock: 'the mutex was freed by ', signal: 'woken by ', exit: 'the thread exited by ' };
-  const goes = { create: 'first step: ', unlock: 'next to lock it: ', signal: 'wakes ', exit: 'joined by ', take: 'value taken by ' };
+  const goes = { create: 'first step: ', unlock: 'next to lock it: ', signal: 'wakes ', exit: 'joined by ' };
 
   // Where a value came from that is taken, and the newer ones that wait in the buffers of others.
   function taken(move, before) {
@@ -22,6 +23,12 @@ pub(super) const REASONS: &str = r#"
     const source = move.from ? [`${cell} = ${move.took} was stored by `, move.from, isOwn ? ', in its own buffer' : '']
       : [`${cell} = ${move.took} is its value at the start`];
     return [source, ...newer.map(store => [`newer: ${cell} = ${store.put} of `, store.number, ' waits in a buffer', ...until(store)])];
+  }
+  // The moves that take the value, the first six by name.
+  function takers(move) {
+    const takes = move.on.filter(({ kind }) => kind === 'take').map(({ to }) => to), more = takes.length - 6;
+    const named = takes.slice(0, 6).flatMap((n, i) => i ? [', ', n] : [n]);
+    return takes.length ? [['value taken by ', ...named, more > 0 ? `, and ${more} more` : '']] : [];
   }
   // What the statement that fails took, and who stored that, and which move set each of its ints.
   function looked(move) {
