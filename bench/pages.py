@@ -116,7 +116,7 @@ FAULTS = [
     ("buffering/p", "program", "by('program').hidden = !isOn('text');\n    draw();", ""),
     ("buffering/p", "walks", "l: () => next(1, isHere)", "l: () => at"),
     ("buffering/p", "reading", "aria-pressed=\"false\">order", "tabindex=\"-1\">order"),
-    ("buffering/p", "reading", "${spoken(reasons(moves[n - 1], state(n - 1)))}", ""),
+    ("buffering/p", "reading", "${spoken(why)}", ""),
     ("buffering/p", "narrow", "max-height: 34%", "height: 90%"),
 ]
 

@@ -128,9 +128,7 @@ fn push_words(out: &mut String, said: Said<'_>) -> Result<(), AllocError> {
     let line = words.line;
     out.push_str("<span class=\"who\">")?;
     push_text(out, words.thread.as_str())?;
-    out.push_str(format!(in alloc;
-        ", </span><span class=\"line\">{line}</span><code>"
-    )?.as_str())?;
+    out.push_str(format!(in alloc; ", </span><span class=\"line\">{line}</span><code>")?.as_str())?;
     push_text(out, words.source)?;
     out.push_str("</code><span class=\"each\">")?;
     push_text(out, words.deed.as_str())?;

@@ -78,7 +78,9 @@ fn moves_of<'a>(
 /// How many moves and switches there are, in words.
 fn numbers(alloc: Global, counts: Counts) -> Result<String, AllocError> {
     let Counts {
-        moves, switches, ..
+        moves,
+        switches,
+        ..
     } = counts;
     let moved = if moves == 1 { "move" } else { "moves" };
     let switched = if switches == 1 { "switch" } else { "switches" };

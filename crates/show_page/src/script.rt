@@ -22,7 +22,9 @@ use std::alloc::AllocError;
 /// Adds the script, which steps through the moves, tells the state after each and why it came, and draws the arrows.
 pub(crate) fn push_script(out: &mut String) -> Result<(), AllocError> {
     out.push_str("<script>\n(() => {\n  'use strict';\n")?;
-    for part in [PAGE, STATE, LINKS, REASONS, SHOW, SELECT, SIFT, ARROWS, BEGIN] {
+    for part in [
+        PAGE, STATE, LINKS, REASONS, SHOW, SELECT, SIFT, ARROWS, BEGIN,
+    ] {
         out.push_str(part)?;
     }
     out.push_str("})();\n</script>\n")

@@ -7,11 +7,11 @@ pub(super) const SELECT: &str = r#"
     rows[at - 1]?.removeAttribute('aria-current');
     rows[n - 1]?.setAttribute('aria-current', 'true');
     at = n;
-    show(n);
+    const why = show(n);
     if (n) deeds[n - 1].scrollIntoView({ block: 'nearest', inline: 'nearest' });
     else run.scrollTop = 0;
     if (n && !by('program').hidden) lines[moves[n - 1].line - 1]?.scrollIntoView({ block: 'nearest', inline: 'nearest' });
-    by('said').textContent = n ? `move ${n} of ${last}, ${text(deeds[n - 1])}${spoken(reasons(moves[n - 1], state(n - 1)))}` : 'before the first move';
+    by('said').textContent = n ? `move ${n} of ${last}, ${text(deeds[n - 1])}${spoken(why)}` : 'before the first move';
   }
   function text(deed) {
     const [who, line, code, each, brief] = [...deed.children].map(part => part.textContent);

@@ -1,7 +1,7 @@
 //! The state after the move that is selected or pointed at, and why the move did what it did.
 
 pub(super) const SHOW: &str = r#"
-  // Shows the state after the first n moves.
+  // Shows the state after the first n moves, and gives the reasons of the last of them.
   function show(n) {
     rows[shown - 1]?.classList.remove('at');
     for (let i = Math.min(shown, n); i < Math.max(shown, n); i++) rows[i].classList.toggle('later', i >= n);
@@ -9,13 +9,15 @@ pub(super) const SHOW: &str = r#"
     shown = n;
     mark();
     const now = state(Math.max(n - 1, 0)), move = moves[n - 1];
-    tellWhy(move ? reasons(move, now) : []);
+    const why = move ? reasons(move, now) : [];
+    tellWhy(why);
     if (move) take(now, move);
     tellMemory(now, move);
     tellBuffers(now);
     tellThreads(now);
     tellLines(now, move);
     put(by('at'), `after move ${n} of ${last}`);
+    return why;
   }
   const put = (place, text) => { if (place.textContent !== text) place.textContent = text; };
 
