@@ -17,10 +17,10 @@ from typing import Iterable, List, NamedTuple, Optional, Tuple
 TOP = os.path.dirname(os.path.dirname(os.path.realpath(__file__)))
 PAGE = f"{TOP}/examples/c/README.md"
 MODELS = ("sc", "tso", "pso")
-# The memory model under which each is recorded, and a seed that fails, found by --search.
+# The memory model under which each is recorded, and a seed that fails, found by --search, where one is known.
 RECORDED = {
-    "barrier": ("sc", 0), "bounded": ("sc", 0), "chase_lev": ("tso", 295), "dekker": ("tso", 170), "hazard": ("tso", 69), "mcs": ("pso", 0),
-    "message": ("pso", 47), "ms_queue": ("pso", 0), "once": ("pso", 0), "peterson": ("tso", 290), "philosophers": ("sc", 1),
+    "barrier": ("sc", 0), "bounded": ("sc", 0), "chase_lev": ("tso", 295), "dekker": ("tso", 170), "hazard": ("tso", 69), "mcs": ("pso", None),
+    "message": ("pso", 47), "ms_queue": ("pso", None), "once": ("pso", None), "peterson": ("tso", 290), "philosophers": ("sc", 1),
     "refcount": ("sc", 0), "ring": ("pso", 1500), "rwlock": ("sc", 10), "seqlock": ("pso", 642), "sleeper": ("tso", 5),
     "spinlock": ("pso", 510), "store_buffer": ("tso", 24), "ticket": ("pso", 398), "treiber": ("sc", 1), "wakeup": ("sc", 0),
 }
@@ -74,9 +74,9 @@ def row(name: str, folder: str, is_search: bool) -> str:
     """The row of the table of an example."""
     program, log = translate(name, folder), f"{folder}/log"
     model, known = RECORDED[name]
-    found = recorded(program, log, model, range(SEARCHED) if is_search else [known])
+    found = recorded(program, log, model, range(SEARCHED) if is_search else [] if known is None else [known])
     if found is None:
-        return f"| [{name}]({name}.c) | `{model}`, not found | | | | |"
+        return f"| [{name}]({name}.c) | `{model}`, no seed known | | | | |"
     says = [clap_debug("solve", program, log, f"{folder}/answer", "--model", it)[1] for it in MODELS]
     ends = line_in_c(found.line, f"{folder}/{name}.map")
     return f"| [{name}]({name}.c) | `{found.model}`, seed {found.seed} | {ends} | {' | '.join(says)} |"

@@ -462,11 +462,11 @@ class Expressions(Body):
 
     def write_of(self, ref: Ref) -> FrozenSet[Object]:
         """What a write to an lvalue writes."""
-        dims, _, names = self.storage_of(ref).found[ref.variable, ref.fields]
+        target = self.storage_of(ref).target(ref)
         kind = "shared" if ref.variable.shared else "local"
-        if len(names) == 1:
-            index = ref.indexes[0].value if len(dims) == 1 and isinstance(ref.indexes[0], Number) else None
-            return frozenset([(kind, names[0], index)])
+        if isinstance(target, Indexed):
+            return frozenset([(kind, target.array, target.index.value if isinstance(target.index, Number) else None)])
+        names = target.names if isinstance(target, Choice) else (target.name,)
         return frozenset((kind, it, None) for it in names)
 
     def refuse_second_write(self, written: FrozenSet[Object], direct: FrozenSet[Object], at: Place) -> None:
