@@ -32,7 +32,7 @@ pub fn waits_of(
                 mutex_wait(rows, mutex)
             }
         }
-        Request::Await(number) => {
+        Request::Await(number) if number > 0 => {
             let child = standing.thread.child(number)?;
             if has_exited(rows, &child) {
                 Ok(None)

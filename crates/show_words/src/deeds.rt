@@ -186,11 +186,13 @@ fn creation_words(
     let function = *function as usize;
     let name = program.function(alloc, function)?;
     let mut words = format!(in alloc; "creates {child} {name}(")?;
-    for (i, argument) in arguments.as_slice().iter().enumerate() {
-        let comma = if i == 0 { "" } else { ", " };
-        let parameter = program.names.int(function, i as u32).unwrap_or("?");
+    let mut number = 0u32;
+    for argument in arguments.as_slice() {
+        let comma = if number == 0 { "" } else { ", " };
+        let parameter = program.names.int(function, number).unwrap_or("?");
         let value = value_over(row.slots.as_slice(), argument);
         words.push_str(format!(in alloc; "{comma}{parameter} = {value}")?.as_str())?;
+        number = number.saturating_add(1);
     }
     words.push(')')?;
     Ok(words)

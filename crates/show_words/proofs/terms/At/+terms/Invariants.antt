@@ -1,4 +1,4 @@
-use Rattle.show_words.proofs.+terms.Given as goal
+use Rattle.show_words.proofs.terms.At.+terms.Given as goal
 
 abbrev pub decreases-push : goal.decreases-push
 decreases-push l = l.depth
