@@ -38,29 +38,53 @@ pub(crate) fn help_with<'a>(alloc: Global, text: &[u8]) -> Answer<'a>
     requires { length text.now ≤ PROGRAM_BYTES }
     ensures { IsHelpOrNone text.now result }
 {
-    match try_help_with(alloc, text) {
+    match describe_text(alloc, text) {
+        Ok(answer) => answer,
+        Err(fault) => answer_refused(alloc, text, fault),
+    }
+}
+
+/// What the program of a text has.
+fn describe_text<'a>(alloc: Global, text: &[u8]) -> Result<Answer<'a>, CompileFault>
+    requires { length text.now ≤ PROGRAM_BYTES }
+    ensures found { IfOk result (IsHelpTo text.now) }
+    ensures refused { IfErr result (IsWhyNoCode text.now) }
+{
+    let (tree, code) = read_code(alloc, text)?;
+    let words = describe(alloc, text, &tree.program, &code)?;
+    Ok(Answer::Described(Described { code, words }))
+}
+
+/// Why a text has no code.
+fn answer_refused<'a>(alloc: Global, text: &[u8], fault: CompileFault) -> Answer<'a>
+    requires size { length text.now ≤ PROGRAM_BYTES }
+    requires refused { IsWhyNoCode text.now fault }
+    ensures { IsHelpOrNone text.now result }
+{
+    match fault {
+        CompileFault::Refused(fault) => explain_fault(alloc, text, fault),
+        CompileFault::Memory => Answer::NoMemory,
+    }
+}
+
+/// Why a text with this fault is no program.
+fn explain_fault<'a>(alloc: Global, text: &[u8], fault: TextFault) -> Answer<'a>
+    requires size { length text.now ≤ PROGRAM_BYTES }
+    requires refused { IsRefusal text.now fault }
+    ensures { IsHelpOrNone text.now result }
+{
+    match try_explain_fault(alloc, text, fault) {
         Ok(answer) => answer,
         Err(_) => Answer::NoMemory,
     }
 }
 
 /// The same, but for want of memory.
-fn try_help_with<'a>(alloc: Global, text: &[u8]) -> Result<Answer<'a>, AllocError>
-    requires { length text.now ≤ PROGRAM_BYTES }
-    ensures { IfOk result (IsHelpTo text.now) }
-{
-    match read_code(alloc, text) {
-        Ok((tree, code)) => {
-            let words = describe(alloc, text, &tree.program, &code)?;
-            Ok(Answer::Described(Described { code, words }))
-        }
-        Err(CompileFault::Refused(fault)) => explain_fault(alloc, text, fault),
-        Err(CompileFault::Memory) => Err(AllocError),
-    }
-}
-
-/// Why a text with this fault is no program.
-fn explain_fault<'a>(alloc: Global, text: &[u8], fault: TextFault) -> Result<Answer<'a>, AllocError>
+fn try_explain_fault<'a>(
+    alloc: Global,
+    text: &[u8],
+    fault: TextFault,
+) -> Result<Answer<'a>, AllocError>
     requires size { length text.now ≤ PROGRAM_BYTES }
     requires refused { IsRefusal text.now fault }
     ensures { IfOk result (IsHelpTo text.now) }
