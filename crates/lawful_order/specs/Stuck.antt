@@ -1,4 +1,4 @@
--- For the log of a deadlock: in the end, no thread that hasn't exited can go on.
+-- For the log of a deadlock: at the end, no thread that hasn't exited can go on.
 use Rattle.std.specs.Prelude.{◌≡◌, ◌⊎◌, ℕ, Option, Some, None, slice_get}
 use Rattle.path_walk.specs.Paths.{Walk, Paths}
 use Rattle.path_walk.specs.declared.event.Blocked.{Blocked}
@@ -11,7 +11,7 @@ use Rattle.order_formula.specs.Worlds.{World}
 use Rattle.lawful_order.specs.Events.{Of, HasEvent, HasRegion, IsChild, all_sleeps, ender_of}
 
 module _ (paths : Paths) (w : World) where
-  -- a thread, which may have exited, holds the mutex in the end: its region is open
+  -- a thread, which may have exited, holds the mutex at the end: its region is open
   pub record IsHeld (mutex : ℕ) : Type 0 where
     pub thread : ℕ
     pub region : Region
@@ -32,6 +32,6 @@ module _ (paths : Paths) (w : World) where
   CannotGoOn t (Wake c m k) = IsHeld m ⊎ SleepsOn t k
   CannotGoOn t (Join k) = RunsOn t k
 
-  -- if the thread t is blocked in the end, it can't go on
+  -- if the thread t is blocked at the end, it can't go on
   pub record StuckRule (t : ℕ) : Type 0 where
     pub stuck : (q : Walk) (b : Blocked) → slice_get paths.threads t ≡ Some q → q.blocked ≡ Some b → CannotGoOn t b

@@ -12,7 +12,7 @@ module _ (nodes : List Node) (w : World) (formula : List Conjunct) (g : Group) w
   abbrev pub HoldsIn : Type 0
   HoldsIn = (c : Conjunct) → Contains formula c → c.group ≡ g → body_at nodes w c.body ≡ true
 
-  -- all conjuncts of the group are true in a world exactly if the world meets a rule
+  -- all conjuncts of the group are true in a world exactly when the world meets a rule
   pub record IsExactly (Rule : Type 0) : Type 0 where
     pub to : HoldsIn → Rule
     pub back : Rule → HoldsIn

@@ -62,7 +62,7 @@ module _ (nodes : List Node) (w : World) where
   abbrev pub source_at : Read → Option Candidate
   source_at r = reduce (later_of w) (filter (is_read r) r.candidates)
 
-  -- the load takes its value from this write: no later write that it sees is to its cell
+  -- the load takes its value from c, the last write to its cell that it sees
   pub record IsSource (r : Read) (c : Candidate) : Type 0 where
     pub among : Contains r.candidates c
     pub read : is_read r c ≡ true
