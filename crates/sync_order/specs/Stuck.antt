@@ -1,4 +1,4 @@
--- Conjuncts for a deadlock: in the end, no thread that hasn't exited can go on.
+-- Conjuncts for a deadlock: at the end, no thread that hasn't exited can go on.
 use Rattle.std.specs.Prelude.{ℕ, List, [], ◌∷◌, map, Bool, not, ◌&&◌, ◌==◌, is_none, option_to_list, if◌then◌else◌}
 use Rattle.std.specs.List.{list_any}
 use Rattle.path_walk.specs.Paths.{Walk, Paths}
@@ -44,7 +44,7 @@ module _ (events : List (Of Event)) where
   sleeps_on sleeps t k = of_each (sleeping t k) sleeps
 
 module _ (threads : List Walk) where
-  -- whether a thread holds the mutex in the end
+  -- whether a thread holds the mutex at the end
   abbrev pub is_held : ℕ → Bool
   is_held m = list_any (λ q. list_any (is_open m) q.regions) threads
 
