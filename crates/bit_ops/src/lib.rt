@@ -1,14 +1,14 @@
 //! The circuit of each operator of `int`: from words of 32 literals, the lowest bit first, to one of the result.
 #![tactic(auto)]
 
-ghost use Rattle.std.specs.Prelude.{◌≡◌, ◌<◌, ◌≤◌, ◌+◌, ◌*◌, ◌∷◌, IfOk, OnOk, length, take, ℤ, List};
+ghost use Rattle.std.specs.Prelude.{◌≡◌, ◌<◌, ◌≤◌, ◌*◌, ◌∷◌, IfOk, OnOk, length, take};
 ghost use Rattle.cnf_core.specs.Clauses.{var_of};
 ghost use Rattle.bit_gates.specs.Folded.{HasRoom, IsLarger, kept};
 ghost use Rattle.bit_words.specs.Words.{AreWithin, gated_words};
 ghost use Rattle.bit_arith.specs.Sums.{minus_word, zeros};
 ghost use Rattle.bit_shift.specs.Shifts.{shifted};
 ghost use Rattle.bit_ops.specs.Laws.{OpsMean};
-ghost use Rattle.bit_ops.specs.Ops.{some_of, differ, kept_where, where_some, where_near, unary_word, binary_word};
+ghost use Rattle.bit_ops.specs.Ops.{differ, kept_where, where_some, where_near, unary_word, binary_word};
 ghost use Rattle.bit_ops.specs.Sizes.{unary_size, binary_size};
 
 use bit_arith::{minus, plus, times};

@@ -3,7 +3,7 @@
 //! Each function's clause is a law, and its body does nothing.
 #![tactic(auto)]
 
-ghost use Rattle.std.specs.Prelude.{◌≤◌, ℕ, Bool, List, [], length};
+ghost use Rattle.std.specs.Prelude.{◌≤◌, Bool, List, [], length};
 ghost use Rattle.run_log.specs.Logs.{Log};
 ghost use Rattle.tc_limits.specs.declared.limits.TheConstants.{EVENTS};
 ghost use Rattle.tc_code.specs.Code.{Code};
