@@ -1,4 +1,4 @@
-//! Expressions as instructions and an expression over slots.
+//! Expressions lowered to instructions, and to an expression over slots.
 ghost use Rattle.std.specs.Prelude.{◌≡◌, ◌+◌, ◌<◌, ◌≤◌, ◌^◌, [], ◌∷◌, ◌++◌, length, Ok, OnOk, IfOk, Some, None, slice_set};
 ghost use Rattle.tc_limits.specs.declared.limits.TheConstants.{PROGRAM_BYTES};
 ghost use Rattle.tc_code.specs.Expr as plain;
