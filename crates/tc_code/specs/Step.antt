@@ -151,7 +151,7 @@ instr_of code t = if t.has_exited then None else instr_at code t.function t.inst
 abbrev pub with_thread : {B : Type 0} → State B → Name → Thread B → State B
 with_thread s n t = record s { threads = fin.insert s.threads n t }
 
--- a set of threads
+-- a set of names of threads
 abbrev pub NameSet : Type 0
 NameSet = set.FinSet (slice_cmp nat_cmp)
 

@@ -41,7 +41,7 @@ pub record ShelfTells : Type 0 where
   -- the bytes that the open reading has left, if known
   pub reading : Option (List ℕ)
 
--- the same with no open reading
+-- the same report with no open reading
 abbrev pub closed : ShelfTells → ShelfTells
 closed shelf = record shelf { open_name = None; reading = None }
 
@@ -70,7 +70,7 @@ FailedToGive old new name limit = (count : ℕ) × MayTake old.held name limit c
 abbrev pub Gave : ShelfTells → ShelfTells → List ℕ → ℕ → List ℕ → Type 0
 Gave old new name limit bytes = (length bytes ≤ limit) × Took old new (length bytes) × IfSome old.held (λ files. bytes ≡ bytes_at files name)
 
--- a fetch took one byte past the limit: the name has more bytes than that limit, if they are known
+-- a fetch took one byte past the limit: the name has more bytes than the limit, if known
 abbrev pub WasTooLong : ShelfTells → ShelfTells → List ℕ → ℕ → Type 0
 WasTooLong old new name limit = Took old new (limit + 1) × IfSome old.held (λ files. limit < length (bytes_at files name))
 
