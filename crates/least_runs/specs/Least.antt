@@ -30,7 +30,7 @@ pub record Begins (code : Code) (h : List Deed) (n : Name) (p : Path) : Type 0 w
 abbrev pub IsPart : Code → List Deed → List Deed → Type 0
 IsPart code g h = (n : Name) (p : Path) → path_told code g n ≡ Some p → Begins code h n p
 
--- some run fails in the same thread, is part of this one, and has no step that can be left out
+-- a run is part of h, fails in the same thread, and no step of another thread can be left out of it
 pub record HasLeast (buffered : Bool) (bound : Binding) (code : Code) (h : List Deed) (f : Name) : Type 0 where
   pub deeds : List Deed
   pub run : AllFollow buffered bound code deeds

@@ -14,8 +14,8 @@ abbrev pub is_await_of : Name → Deed → Bool
 is_await_of n (Did q k (Await j) took other) = same n (child q j)
 is_await_of n _ = false
 
--- whether no later deed needs a thread's last step: other threads can't see it, or it is an exit
--- and nobody joins the thread, or it creates a thread that does no step
+-- whether no later deed needs a thread's last step: no other thread can tell whether it was done,
+-- or it is an exit and nobody joins the thread, or it creates a thread that does no step
 abbrev pub is_unused : Request → Name → Option Name → List Deed → Bool
 is_unused Silent n other newer = true
 is_unused (Read c) n other newer = true

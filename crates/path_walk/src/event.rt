@@ -54,8 +54,8 @@ pub struct Region {
     pub mutex: u32,
     /// The step that acquires it: a lock, or the second half of a wait.
     pub from: usize,
-    /// The step that releases it: an unlock, or the first half of a wait. None if the region is
-    /// open at the end of the path.
+    /// The first later step that releases it: an unlock, or the first half of a wait. None if the
+    /// region is open at the end of the path.
     pub to: Option<usize>,
 }
 

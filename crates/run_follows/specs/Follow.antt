@@ -57,7 +57,7 @@ OtherIs h n (Start f) other = other ≡ Some (child n (children_in h n + 1))
 OtherIs h n (WakeOne c) other = Unit {0}
 OtherIs h n _ other = other ≡ None
 
--- the thread's next step: it has the next request, may be done, and reads what it has to
+-- a step is the next of its thread: it may be done, and its request, number and value are right
 pub record IsNextStep (buffered : Bool) (code : Code) (h : List Deed) (n : Name) (k : ℕ) (r : Request) (took : ℤ) (other : Option Name) : Type 0 where
   pub asks : asks_next code h n ≡ Some r
   pub number : k ≡ steps_in h n

@@ -1,5 +1,4 @@
-//! The history alone determines whether a move is enabled; and which lists of deeds are histories
-//! of runs.
+//! How the history alone determines which moves are enabled; which lists of deeds are histories.
 //!
 //! So facts of runs can be proved of lists of deeds. Each function states a law, and its body does
 //! nothing.

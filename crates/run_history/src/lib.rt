@@ -86,14 +86,14 @@ pub fn exits_are_told<B>()
         → option_map_or (λ t. t.local.has_exited) (fin.get s.threads n) false ≡ has_exited_in (history ops code moves) n }
 {}
 
-/// A thread has done as many steps as the history has deeds of it that are steps.
+/// The history has as many steps of a thread as the thread has done.
 pub fn steps_are_told<B>()
     ensures { (ops : BufferOps B) (code : Code) (moves : List Move) (s : State B) (n : Name)
         → run ops code moves ≡ Some s
         → option_map_or (λ t. t.local.steps) (fin.get s.threads n) 0 ≡ steps_in (history ops code moves) n }
 {}
 
-/// A thread has created as many children as the history has creates by it.
+/// The history has as many creates of a thread as the thread has created children.
 pub fn children_are_told<B>()
     ensures { (ops : BufferOps B) (code : Code) (moves : List Move) (s : State B) (n : Name)
         → run ops code moves ≡ Some s

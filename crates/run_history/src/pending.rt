@@ -1,5 +1,5 @@
-//! The history determines the contents of the store buffers; and the names of deeds. Each function
-//! states a law, and its body does nothing.
+//! How the history determines the contents of the store buffers, and the names of deeds. Each
+//! function states a law, and its body does nothing.
 ghost use Rattle.std.specs.Prelude.{◌≡◌, ◌↔◌, ℕ, ℤ, Bool, true, false, List, [], Some, None};
 ghost use Rattle.std.specs.List.{filter_map};
 ghost use Rattle.std.specs.FinMap as fin;

@@ -24,7 +24,7 @@ module _ {B : Type 0} (ops : BufferOps B) where
     Barred : (b : B) → HoldsInts b → HoldsInts (ops.bar b)
     Drained : (b : B) (form : Option ℕ) → IsTrue (ops.may_drain b form) → HoldsInts b → HoldsInts (ops.drain b form).rest
 
-  -- every value that comes out of such a buffer is an int
+  -- every value that comes out of a buffer of ints is an int
   pub record PassesInts : Type 0 where
     pub forwards : (b : B) (c : ℕ) (v : ℤ) → HoldsInts b → ops.forward b c ≡ Some v → IsInt v
     pub drains : (b : B) (form : Option ℕ) → HoldsInts b → IsTrue (ops.may_drain b form) → IsInt (ops.drain b form).entry.value

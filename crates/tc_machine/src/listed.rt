@@ -18,9 +18,8 @@ use tc_base::{Move, ThreadName};
 use tc_code::{Code, Instr};
 use tc_threads::Thread;
 
-/// The enabled moves, in order of the names of their threads: for each thread to run or, at a
-/// signal with waiters, to wake one of these, in order of names; then its drains, in order of
-/// cells.
+/// The enabled moves, in order of thread names: for each thread its run or, at a signal with
+/// waiters, its wakes in order of names; then its drains in order of cells.
 pub fn moves<M: MemoryModel>(
     alloc: Global,
     code: &Code,

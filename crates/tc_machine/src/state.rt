@@ -103,7 +103,7 @@ impl<M: MemoryModel> State<M> {
         self.threads.names()
     }
 
-    /// The number of steps of a thread, with one that failed.
+    /// The number of steps of a thread, a failing one included.
     pub fn steps_of(&self, name: &ThreadName) -> Option<u32>
         ensures { result ≡ option_map (λ t. t.local.steps) (map.get self.now.threads name.now) }
     {
@@ -166,7 +166,7 @@ impl<M: MemoryModel> State<M> {
         &self.waiters[condition as usize]
     }
 
-    /// Whether mutexes, waiters and children allow a request, and why not.
+    /// Whether mutexes, waiters and children allow a request, or why not.
     pub(crate) fn lets(&self, name: &ThreadName, request: Request) -> Result<(), Why>
         requires { AsksIn self.now request }
         ensures { MatchResult result
@@ -199,7 +199,7 @@ impl<M: MemoryModel> State<M> {
         }
     }
 
-    /// Whether a mutex is free, and why not.
+    /// Whether a mutex is free, or why not.
     fn check_free(&self, mutex: u32) -> Result<(), Why>
         requires { mutex < length self.now.owners }
         ensures { MatchResult result
@@ -212,7 +212,7 @@ impl<M: MemoryModel> State<M> {
         }
     }
 
-    /// Does an instruction of a thread whose request may be met.
+    /// Does a thread's instruction, whose request may be met.
     pub(crate) fn perform(
         &mut self,
         alloc: Global,

@@ -79,7 +79,7 @@ impl<M: MemoryModel> Threads<M> {
         self.by_name.iter()
     }
 
-    /// Does an instruction of a thread that doesn't fail, with this effect.
+    /// Does a thread's instruction, which doesn't fail, with this effect.
     pub fn advance(
         &mut self,
         name: &ThreadName,

@@ -41,7 +41,7 @@ pub record IsBlockedNext (code : Code) (h : List Deed) (n : Name) : Type 0 where
 abbrev pub AllAreBlocked : Code → List Deed → Type 0
 AllAreBlocked code h = (n : Name) → IsLeftIn h n → IsBlockedNext code h n
 
--- a deadlock: no failure, no pending store, some thread has not exited, and each such is blocked
+-- a deadlock: no failure, no pending store, some thread not exited, and all such threads blocked
 pub record IsDeadlockIn (buffered : Bool) (code : Code) (h : List Deed) : Type 0 where
   pub unfailed : failed_in h ≡ None
   pub drained : AllDrained buffered h

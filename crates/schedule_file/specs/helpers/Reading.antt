@@ -51,7 +51,7 @@ cell_at Pso bytes = do
   cell ← number_at 0 (CELLS - 1) number
   Some (Some cell.0, cell.1)
 
--- the end of a move's line
+-- a move at the end of its line, and the rest of the text
 abbrev pub ended : Move → List ℕ → Option (Move × List ℕ)
 ended move bytes = behind (codes "\n") bytes >>= λ after. Some (move, after)
 
@@ -76,7 +76,7 @@ drain_at model bytes = do
   cell ← cell_at model n.1
   ended (Drain n.0 cell.0) cell.1
 
--- the move whose line is at the front
+-- the move whose line is at the front, and the rest of the text
 unfoldable pub move_at : Model → List ℕ → Option (Move × List ℕ)
 move_at model bytes = or_else (run_at bytes) (or_else (wake_at bytes) (drain_at model bytes))
 
@@ -90,6 +90,6 @@ model_at bytes =
     (or_else (behind (codes "tso\n") bytes >>= named Tso)
     (behind (codes "pso\n") bytes >>= named Pso))
 
--- the model of the header at the front
+-- the model of the header at the front, and the rest of the text
 unfoldable pub header_at : List ℕ → Option (Model × List ℕ)
 header_at bytes = behind (codes "clap-schedule 1 ") bytes >>= model_at
