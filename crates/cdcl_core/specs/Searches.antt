@@ -43,7 +43,7 @@ Spares n (Delete numbers) = All (λ k. n < k) numbers
 abbrev pub IsRoomy : ℕ → List Line → Type 0
 IsRoomy vars lines = count_by adds lines ≤ deleted_in lines + vars + 4000 + (count_by adds lines + 1) / 2
 
--- no clause of the formula is deleted; after each line at most half of the added clauses are deleted;
+-- no clause of the formula is deleted; at most half of the added clauses are deleted at each line;
 -- and not too many are kept just before each line that adds one
 pub record DeletesFew (f : Formula) (lines : List Line) : Type 0 where
   pub spares : All (Spares (length f.clauses)) lines

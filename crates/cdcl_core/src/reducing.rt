@@ -21,8 +21,8 @@ const MANY: u32 = 4000;
 impl State {
     ghost use Rattle.cdcl_core.specs.helpers.States.{IsLive, IsFurther, MayGo, MayAllGo};
 
-    /// Where many clauses may be deleted, half of those that were learnt and are no reason go: those that were used longest ago first, those of
-    /// two literals or one last.
+    /// Where many clauses may be deleted, half of those that were learnt and are no reason go:
+    /// those that were used longest ago first, those of two literals or one last.
     pub(crate) fn reduce(&mut self, alloc: Global) -> Result<(), AllocError>
         requires { IsLive self.old }
         ensures live { IsLive self.new }

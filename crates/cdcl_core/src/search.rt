@@ -36,8 +36,9 @@ impl Search {
 
     /// A search over the clauses. It keeps a copy of them.
     ///
-    /// The value that is tried first for the variable `v` is `first[v - 1]`, and false where there is none. Where these values satisfy
-    /// the clauses, or nearly so, the search is short; whatever they are, its answers are right.
+    /// The value that is tried first for the variable `v` is `first[v - 1]`, and false where there
+    /// is none. Where these values satisfy the clauses, or nearly so, the search is short; whatever
+    /// they are, its answers are right.
     pub fn new(alloc: Global, cnf: &Cnf, first: &[bool]) -> Result<Search, AllocError>
         ensures formula { IfOk result (λ s. s.formula ≡ cnf.now) }
         ensures none { IfOk result (λ s. added_in s.lines ≡ 0) }
@@ -47,8 +48,9 @@ impl Search {
         Ok(Search { staged })
     }
 
-    /// Goes on until there is an answer, or so many clauses more are learnt: then it is paused. Once there is an answer, it answers the same.
-    /// Where there is no memory, it may be called again.
+    /// Goes on until there is an answer, or so many clauses more are learnt: then it is paused.
+    /// Once there is an answer, it answers the same. Where there is no memory, it may be called
+    /// again.
     pub fn run(&mut self, alloc: Global, conflicts: u32) -> Result<Progress, AllocError>
         requires some { 1 ≤ conflicts }
         requires room { added_in self.old.lines + conflicts ≤ BUDGET }

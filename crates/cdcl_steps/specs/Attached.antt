@@ -17,8 +17,8 @@ pub record WasAttached (cs : List Clause) (ws : List (List Watch)) (ds : List Cl
   pub clauses : ds ≡ cs ++ kept_clause literals first second ∷ []
   pub lists : vs ≡ both_listed ws (length cs) first second
 
--- all is propagated; all literals are false except `asserted`, which is open; `beside` is false on no
--- lower level; and a unit clause is asserted before the first level
+-- all is propagated; all literals except `asserted`, which is open, are false; `beside` is false on
+-- no lower level; and a unit clause is asserted before the first level
 pub record CanAssert (t : Trail) (literals : List ℕ) (asserted beside : ℕ) : Type 0 where
   pub propagated : t.propagated ≡ length t.literals
   pub within : All (λ l. l < 2 * t.variables) literals

@@ -18,8 +18,8 @@ pub enum Loaded {
     Refuted,
 }
 
-/// One more clause, before anything is propagated. The literal of a clause that has but one comes true if it is open. Where there is no
-/// memory, all is as it was.
+/// One more clause, before anything is propagated. The literal of a clause that has but one comes
+/// true if it is open. Where there is no memory, all is as it was.
 pub fn load_clause(
     trail: &mut Trail,
     clauses: &mut Clauses,
