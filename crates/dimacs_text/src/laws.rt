@@ -3,7 +3,7 @@ ghost use Rattle.std.specs.Prelude.{◌≡◌, ◌⊎◌, ℕ, ℤ, List};
 ghost use Rattle.dimacs_text.specs.Answers.{IsAnswerWith};
 ghost use Rattle.dimacs_text.specs.Faults.{BreaksAt};
 
-/// A text either is an answer with one list of literals, or has one first line that breaks the form.
+/// A text either is an answer with one list of literals, or has a first line that breaks the form.
 pub fn texts_have_one_reading()
     ensures some { (text : List ℕ) → ((literals : List ℤ) × IsAnswerWith text literals) ⊎ ((number : ℕ) × BreaksAt text number) }
     ensures one { (text : List ℕ) (these those : List ℤ) → IsAnswerWith text these → IsAnswerWith text those → these ≡ those }
