@@ -1,9 +1,9 @@
-//! What a search for a schedule with the fewest context switches comes to.
+//! The results of a search for a schedule with the fewest context switches.
 
 use refute_check::Derivation;
 use schedule_file::Schedule;
 
-/// What a search for a schedule of a log with the fewest context switches comes to.
+/// The result of a search for a schedule of a log with the fewest context switches.
 #[derive(Debug, Drop)]
 pub enum Least {
     /// This schedule reproduces the log with so many switches, and none does so with fewer: where
