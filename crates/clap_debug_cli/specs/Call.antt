@@ -373,7 +373,7 @@ pub record WhyAnswers (program log refutation : List ℕ) (status : ℕ) (before
   pub log_refused : status ≡ 4 → (r : LogRefusal) × IsWhyAnswer program log refutation (LogRefused r) × Puts before after (LogRefused r)
   pub refutation_refused : status ≡ 5 → (line : ℕ) × IsWhyAnswer program log refutation (RefutationRefused line)
       × Puts before after (RefutationRefused line)
-  -- if `check` accepts a closed refutation of all schedules, and no input is too long, reasons exist
+  -- if `check` accepts a closed refutation of all schedules and no input is too long, reasons exist
   pub complete : IsCheckAnswer program log refutation (Accepted Impossible) → length program ≤ limit_of input.Program → length log ≤ limit_of input.Log
       → IsStatus status 0
   -- no others, except those of every command
