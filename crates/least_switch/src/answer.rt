@@ -6,7 +6,7 @@ use schedule_file::Schedule;
 /// The result of a search for a schedule of a log with the fewest context switches.
 #[derive(Debug, Drop)]
 pub enum Least {
-    /// This schedule reproduces the log with this many switches, and none does so with fewer: if it has
+    /// This schedule reproduces the log with this many switches, and none has fewer: if it has
     /// any, the derivation is closed on the log's clauses with one switch fewer.
     Found(Schedule, u32, Option<Derivation>),
     /// No schedule reproduces the log: the derivation is closed on its clauses.
