@@ -17,17 +17,18 @@ from typing import Iterable, List, NamedTuple, Optional, Tuple
 TOP = os.path.dirname(os.path.dirname(os.path.realpath(__file__)))
 sys.path.insert(0, f"{TOP}/bench")
 import machine  # noqa: E402
+from built import build  # noqa: E402
 
 PAGE = f"{TOP}/examples/c/README.md"
 MODELS = ("sc", "tso", "pso")
 # The memory model under which each is recorded, and the first seed that fails, found by --search.
 RECORDED = {
-    "barrier": ("sc", 0), "bounded": ("sc", 0), "chase_lev": ("tso", 295), "dekker": ("tso", 170), "hazard": ("tso", 69), "mcs": ("pso", None),
+    "barrier": ("sc", 0), "bounded": ("sc", 0), "chase_lev": ("tso", 295), "dekker": ("tso", 170), "hazard": ("tso", 69), "mcs": ("pso", 83563),
     "message": ("pso", 47), "ms_queue": ("pso", 6284), "once": ("pso", 11193), "peterson": ("tso", 290), "philosophers": ("sc", 1),
     "refcount": ("sc", 0), "ring": ("pso", 1500), "rwlock": ("sc", 10), "seqlock": ("pso", 642), "sleeper": ("tso", 5),
     "spinlock": ("pso", 510), "store_buffer": ("tso", 24), "ticket": ("pso", 398), "treiber": ("sc", 1), "wakeup": ("sc", 0),
 }
-SEARCHED = 20000
+SEARCHED = 100000
 STEPS = "20000"
 HEAD = ["| program | recorded | ends | `sc` | `tso` | `pso` | mended |", "|---|---|---|---|---|---|---|"]
 
@@ -41,8 +42,7 @@ class Found(NamedTuple):
 
 
 def clap_debug(*words: str) -> Tuple[int, str]:
-    program = os.environ.get("CLAP_DEBUG", f"{TOP}/clap_debug")
-    done = subprocess.run([program, *words], stdout=subprocess.PIPE, stderr=subprocess.DEVNULL, text=True, check=False)
+    done = subprocess.run([build("clap_debug"), *words], stdout=subprocess.PIPE, stderr=subprocess.DEVNULL, text=True, check=False)
     return done.returncode, done.stdout.strip()
 
 
