@@ -13,13 +13,12 @@ LAST = 2**64 - 1
 
 @dataclasses.dataclass
 class Option:
-    """An option takes one of some names, a number of a range, or the name of a file. It may want another option with it."""
+    """An option takes one of some names, a number of a range, or the name of a file."""
 
     what: str
     names: tuple = ()
     range: tuple = ()
     default: str = ""
-    wants: str = ""
 
     def value(self):
         return "|".join(self.names) if self.names else "N" if self.range else "FILE"
@@ -83,8 +82,8 @@ PROGRAMS = {
     "clap_debug_show": {
         "": Command("shows what a schedule or a log did, as text or as a page", ("PROGRAM", "SCHEDULE or LOG"), (),
                     {"html": Option("writes a page into FILE"),
-                     "source": Option("shows the lines of this C file, as text", wants="map"),
-                     "map": Option("the map of lines that tools/fromc --map kept with the program", wants="source")}, writes=("html",)),
+                     "source": Option("shows the lines of this C file, as text; with --map"),
+                     "map": Option("the map that tools/fromc --map kept with the program; with --source")}, writes=("html",)),
     },
 }
 KINDS = {b"CLPL": "a log", b"clap-schedule ": "a schedule", b"clap-refutation ": "a refutation", b"p cnf ": "a list of clauses"}
@@ -157,9 +156,6 @@ def wrong_words(program, words):
         wanted = command.options[option].refuses(value)
         if wanted:
             return f"--{option} takes {wanted}, and not {value}"
-        other = command.options[option].wants
-        if other and other not in [it for it, _ in options]:
-            return f"--{option} is given with --{other}"
     twice = [it for it, _ in options if [one for one, _ in options].count(it) > 1]
     if twice:
         return f"--{twice[0]} was given twice"
@@ -212,8 +208,7 @@ def show_help(program):
         for option, it in command.options.items():
             low_high = f", {it.range[0]} to {it.range[1]}" if it.range else ""
             default = f"; {it.default} if left out" if it.default else ""
-            other = f"; with --{it.wants}" if it.wants else ""
-            print(f"    --{option}: {it.what}{low_high}{default}{other}")
+            print(f"    --{option}: {it.what}{low_high}{default}")
     print("--version says whether the program is proved, and with which kit; README.md and docs/MESSAGES.md say more")
 
 
