@@ -12,6 +12,9 @@
                                    by a search over all states on the logged paths: `possible` with a schedule, or `impossible`
   machine.py fewest PROGRAM LOG [--model M]
                                    by such a search, the fewest context switches of moves that reproduce the log, or `impossible`
+  machine.py explore PROGRAM [--model M] [--log LOG] [--schedule OUT]
+                                   by a search over all states of a program that has finitely many: how a run fails or comes to a
+                                   deadlock, with its log and its moves, or `no run fails`
 
 What it asks of a program is docs/LANGUAGE.md's, without the faults: a text that is none ends it with an error.
 """
@@ -29,6 +32,8 @@ LEVELS = [["||"], ["&&"], ["|"], ["^"], ["&"], ["==", "!="], ["<", "<=", ">", ">
 DRAINED = {"swap", "cas", "lock", "unlock", "sleep", "wake", "signal", "broadcast", "create", "join", "fence", "exit"}
 SITES = {"inside", "nonzero", "inrange", "holds", "ready", "assert"}
 EVENTS = DRAINED | {"load", "loadat", "store", "storeat"}
+# What reads and writes nothing that another thread can change.
+OWN = SITES | {"set", "branch", "goto"}
 
 
 def int32(n):
@@ -728,6 +733,51 @@ def fewest(code, log, model):
     return None
 
 
+def settled(state, name):
+    """Makes the next steps of a thread as long as no other thread can change what they do, and gives the moves. Forgets what the
+    thread did before, so that runs which meet in a state go on as one."""
+    moves, places = [], set()
+    while True:
+        thread = state.threads[name]
+        thread.steps, thread.outcomes = 0, ()
+        if state.failed is not None or thread.exited or state.instr(name)[0] not in OWN:
+            return moves
+        if (thread.at, thread.slots) in places:
+            raise SystemExit(f"{spelled(name)} goes round for ever without an access of shared memory")
+        places.add((thread.at, thread.slots))
+        moves.append(("r", name))
+        state.make(moves[-1])
+
+
+def explore(code, model):
+    """How some run ends that fails or comes to a deadlock, its last state and its moves, or None where no run does; and how many
+    states there are."""
+    start = State(code, model)
+    stack, seen = [(start, (None, settled(start, ())))], set()
+    while stack:
+        state, made = stack.pop()
+        moves = state.moves()
+        if not moves and not all(it.exited for it in state.threads.values()):
+            parts, last = [], State(code, model)
+            while made:
+                made, part = made
+                parts.append(part)
+            moves = sum(parts[::-1], [])
+            for move in moves:
+                last.make(move)
+            return ("failed" if last.failed is not None else "deadlock"), last, moves, len(seen)
+        for move in moves:
+            later = state.copy()
+            later.make(move)
+            part = [move]
+            for name in sorted({move[1], *(later.threads.keys() - state.threads.keys())}):
+                part += settled(later, name)
+            if later.key() not in seen:
+                seen.add(later.key())
+                stack.append((later, (made, part)))
+    return None, start, [], len(seen)
+
+
 def walked(code, log):
     """Of each thread of a log its name, its function, and the instructions of its path, each as a word with its line."""
     functions = {(): len(code.functions) - 1}
@@ -762,7 +812,7 @@ def shown(code, log):
 
 def main():
     parser = argparse.ArgumentParser(usage=__doc__)
-    parser.add_argument("command", choices=["record", "seeds", "log", "show", "search", "fewest"])
+    parser.add_argument("command", choices=["record", "seeds", "log", "show", "search", "fewest", "explore"])
     parser.add_argument("program")
     parser.add_argument("words", nargs="*")
     parser.add_argument("--model", choices=MODELS)
@@ -795,6 +845,12 @@ def main():
     elif given.command == "seeds":
         for seed in range(int(given.words[0])):
             print(seed, end_of(code, *run(code, model, seed, given.steps)))
+    elif given.command == "explore":
+        end, state, made, states = explore(code, model)
+        print(end_of(code, end, state, made) if end else "no run fails", f"({states} states)")
+        if end:
+            keep(log_of(model, state))
+            keep_moves(model, made)
     elif given.command == "log":
         model, failing, *threads = given.words
         parts = [it.split(":") for it in threads]

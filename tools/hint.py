@@ -81,7 +81,9 @@ PROGRAMS = {
     # it has no command: its words come at once
     "clap_debug_show": {
         "": Command("shows what a schedule or a log did, as text or as a page", ("PROGRAM", "SCHEDULE or LOG"), (),
-                    {"html": Option("writes a page into FILE")}, writes=("html",)),
+                    {"html": Option("writes a page into FILE"),
+                     "source": Option("shows the lines of this C file, as text; with --map"),
+                     "map": Option("the map that tools/fromc --map kept with the program; with --source")}, writes=("html",)),
     },
 }
 KINDS = {b"CLPL": "a log", b"clap-schedule ": "a schedule", b"clap-refutation ": "a refutation", b"p cnf ": "a list of clauses"}
