@@ -57,7 +57,8 @@ class Pages(unittest.TestCase):
     def tried(self, text, *words):
         """The status of the script on a page, and what it prints."""
         self.page.write_text(text)
-        ran = subprocess.run([self.top / "tools" / "pages", "--program", "/bin/true", "--show", "/bin/true", *words, self.page], stdout=subprocess.PIPE, text=True, check=False)
+        script = [self.top / "tools" / "pages", "--program", "/bin/true", "--show", "/bin/true"]
+        ran = subprocess.run([*script, *words, self.page], stdout=subprocess.PIPE, text=True, check=False)
         return ran.returncode, ran.stdout
 
     def spoilt(self, before, after, said):
@@ -68,7 +69,8 @@ class Pages(unittest.TestCase):
         self.assertIn(said, text)
 
     def test_right(self):
-        self.assertEqual(self.tried(RIGHT), (0, "1 pages: 3 links, 0 wrong; 3 commands, 0 print something else; 1 blocks with commands aren't run\n"))
+        counts = "1 pages: 3 links, 0 wrong; 3 commands, 0 print something else; 1 blocks with commands aren't run\n"
+        self.assertEqual(self.tried(RIGHT), (0, counts))
 
     def test_links_alone(self):
         self.assertEqual(self.tried(RIGHT.replace("three", "four"), "--links"), (0, "1 pages: 3 links, 0 wrong\n"))
