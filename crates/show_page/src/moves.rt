@@ -5,10 +5,10 @@ use crate::lanes::Lanes;
 use crate::marks::{Synchronization, access_of, asks_of, int_set, is_failure, other_of};
 use crate::sources::Sources;
 use crate::tags::{push_access, push_mark, push_number, push_synchronization};
+use memory_models::Model;
 use show_rows::Row;
 use show_words::{Program, Words, is_event};
 use std::alloc::{AllocError, Global};
-use tc_base::Model;
 
 /// What a row says.
 #[derive(Clone, Copy)]

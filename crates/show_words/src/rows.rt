@@ -3,10 +3,11 @@
 use crate::deeds::deed_words;
 use crate::program::Program;
 use crate::wakes::{Wakes, Woken};
+use memory_models::Model;
 use show_deeds::{Deed, Seen, Stored};
 use show_rows::Row;
 use std::alloc::{AllocError, Global};
-use tc_base::{Model, Request, ThreadName};
+use tc_base::{Request, ThreadName};
 
 /// A row in words.
 #[derive(Drop)]
