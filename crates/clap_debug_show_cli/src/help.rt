@@ -1,6 +1,6 @@
 //! Help with the text of a program: why it is none, or what the program has.
 ghost use Rattle.std.specs.Prelude.{◌≤◌, length, IfErr, IfOk};
-ghost use Rattle.tc_base.specs.declared.limits.TheConstants.{PROGRAM_BYTES};
+ghost use Rattle.tc_limits.specs.declared.limits.TheConstants.{PROGRAM_BYTES};
 ghost use Rattle.tc_compile.specs.Programs.{IsCodeOf, IsRefusal, IsWhyNoCode};
 ghost use Rattle.clap_debug_show_cli.specs.Causes.{IsHelpTo};
 ghost use Rattle.clap_debug_show_cli.specs.helpers.Refused.{IsHelpOrNone};

@@ -1,6 +1,6 @@
 -- What a search of a text with a syntax fault finds.
 use Rattle.std.proofs.Common.{◌≡◌, ◌∙◌, ap, sym, subst, ℕ, List, Option, Some, None, Result, Ok, Err, IfOk, MatchOption}
-use Rattle.tc_base.specs.declared.place.Place.{Place}
+use Rattle.tc_lexer.specs.declared.place.Place.{Place}
 use Rattle.tc_lexer.specs.declared.token.Token.{Token}
 use Rattle.tc_lexer.specs.Text.{AreTokens}
 use Rattle.tc_lexer.proofs.OneReading.{one_tokens}

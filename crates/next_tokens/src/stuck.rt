@@ -6,8 +6,7 @@ ghost use Rattle.next_tokens.specs.helpers.Searched.{IsLeft};
 
 use crate::kinds::ALL_KINDS;
 use std::alloc::{AllocError, Global};
-use tc_base::Place;
-use tc_lexer::{Token, TokenKind};
+use tc_lexer::{Place, Token, TokenKind};
 use tc_syntax::{Stop, read_program};
 use tc_tree::Word;
 

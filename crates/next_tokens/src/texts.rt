@@ -1,6 +1,6 @@
 //! What could stand where a text stops being a program.
 ghost use Rattle.std.specs.Prelude.{◌≡◌, ◌≤◌, length, IfOk};
-ghost use Rattle.tc_base.specs.declared.limits.TheConstants.{PROGRAM_BYTES};
+ghost use Rattle.tc_limits.specs.declared.limits.TheConstants.{PROGRAM_BYTES};
 ghost use Rattle.tc_lexer.specs.Text.{AreTokens};
 ghost use Rattle.tc_tree.specs.Words.{words_of};
 ghost use Rattle.tc_parser.specs.Programs.{IsTextFault};

@@ -1,8 +1,8 @@
 //! What there is too much of.
 
 use crate::source::Source;
-use tc_base::limits::{BRACKETS, STRETCH};
 use tc_lexer::{Sign, Token, TokenKind};
+use tc_limits::limits::{BRACKETS, STRETCH};
 use tc_parser::What;
 
 /// Why there is too much of this.

@@ -6,7 +6,7 @@ use crate::scopes::{Known, Scope, known_names, scope_at};
 use crate::source::{Source, word_of};
 use std::alloc::{AllocError, Global};
 use strsim::levenshtein;
-use tc_base::Place;
+use tc_lexer::Place;
 use tc_names::Meaning;
 use tc_tree::{Name, Program};
 

@@ -1,15 +1,15 @@
 //! What a program has, and how near it is to its limits.
 ghost use Rattle.std.specs.Prelude.{◌≤◌, length};
-ghost use Rattle.tc_base.specs.declared.limits.TheConstants.{PROGRAM_BYTES};
+ghost use Rattle.tc_limits.specs.declared.limits.TheConstants.{PROGRAM_BYTES};
 
 use crate::counts::{longest_stretch, most_open};
 use crate::source::{Source, word_of};
 use std::alloc::{AllocError, Global as Heap};
-use tc_base::limits::{
-    BRACKETS, CELLS, CONDITIONS, DEPTH, EVENTS, MUTEXES, OPERATORS, PROGRAM_BYTES, STRETCH, THREADS,
-};
 use tc_code::{Code, Func, Instr};
 use tc_lexer::{Keyword, TokenKind, lex};
+use tc_limits::limits::{
+    BRACKETS, CELLS, CONDITIONS, DEPTH, EVENTS, MUTEXES, OPERATORS, PROGRAM_BYTES, STRETCH, THREADS,
+};
 use tc_tree::{Global, Initial, Name, Program};
 
 /// What is said of a program: its globals, its threads, and its limits.

@@ -1,7 +1,7 @@
 //! A line of a text with a caret.
 
 use std::alloc::{AllocError, Global};
-use tc_base::Place;
+use tc_lexer::Place;
 
 /// How many characters of a line are shown before the caret at most.
 const BEFORE: usize = 60;

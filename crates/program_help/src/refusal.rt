@@ -1,6 +1,6 @@
 //! Why a text is no program.
 ghost use Rattle.std.specs.Prelude.{◌≤◌, length};
-ghost use Rattle.tc_base.specs.declared.limits.TheConstants.{PROGRAM_BYTES};
+ghost use Rattle.tc_limits.specs.declared.limits.TheConstants.{PROGRAM_BYTES};
 
 use crate::bytes::{bytes_hint, kind_of_file};
 use crate::counts::{count_hint, count_token};
@@ -11,8 +11,7 @@ use crate::quote::{legible, push_quote, rest_at};
 use crate::source::Source;
 use next_tokens::Stuck;
 use std::alloc::{AllocError, Global};
-use tc_base::Place;
-use tc_lexer::{LexFault, Token, TokenKind, lex};
+use tc_lexer::{LexFault, Place, Token, TokenKind, lex};
 use tc_parser::{ParseFault, TextFault, What};
 use tc_syntax::read_program;
 use tc_tree::{Program, Word};

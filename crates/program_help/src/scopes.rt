@@ -1,7 +1,7 @@
 //! The names of a program, each with the scope in which it is known.
 
 use std::alloc::{AllocError, Global as Heap};
-use tc_base::Place;
+use tc_lexer::Place;
 use tc_names::Meaning;
 use tc_tree::{Body, Global, Local, Name, Program};
 

@@ -1,8 +1,7 @@
 //! A text with its tokens.
 
 use std::str;
-use tc_base::Place;
-use tc_lexer::{Token, TokenKind};
+use tc_lexer::{Place, Token, TokenKind};
 use tc_tree::Name;
 
 /// A text with its tokens.

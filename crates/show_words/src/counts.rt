@@ -1,9 +1,10 @@
 //! How much a schedule does.
 
 use crate::rows::is_buffered;
+use memory_models::Model;
 use show_deeds::Deed;
 use show_rows::Row;
-use tc_base::{Model, Request};
+use tc_base::Request;
 
 /// How much a schedule does.
 #[derive(Clone, Copy, Debug, PartialEq, Eq)]

@@ -1,9 +1,9 @@
 //! The program that rows are of.
 
+use int_ops::BinOp;
 use show_names::Names;
 use show_rows::Row;
 use std::alloc::{AllocError, Global};
-use tc_base::BinOp;
 use tc_code::{Code, Expr, Instr, Node};
 
 /// A program's code, and what its text calls the parts of that.

@@ -3,9 +3,9 @@ ghost use Rattle.std.specs.Prelude.{◌≡◌};
 ghost use Rattle.tc_code.specs.Expr.{value_of};
 
 use crate::program::Program;
+use int_ops::{BinOp, UnOp, arith};
 use show_rows::Row;
 use std::alloc::{AllocError, Global};
-use tc_base::{BinOp, UnOp, arith};
 use tc_code::{Expr, Instr, Node};
 
 /// How a name is written.
