@@ -190,7 +190,7 @@ IfTold words held P = IfSome (call_of words) (λ call. IfSome held (λ files. P 
 abbrev pub IsStatus : ℕ → ℕ → Type 0
 IsStatus status wanted = (status ≡ wanted) ⊎ (status ≡ 7) ⊎ (status ≡ 8) ⊎ (status ≡ 9)
 
--- the inputs decide the answer; they don't decide which schedule or refutation a search finds
+-- the inputs decide the answer: it has no schedule or refutation that a search or solver found
 abbrev pub IsDecided : Answer → Type 0
 IsDecided (Solved _) = ⊥
 IsDecided (Minimized _) = ⊥
@@ -255,7 +255,7 @@ pub record SolveAnswers (files : Files) (program log out : List ℕ) (model : Op
   -- OUT holds a schedule that reproduces the log under the model that is meant
   pub found : status ≡ 0 → (m : Model) × (schedule : Schedule) × IsSolution program log model budget (solution m budget (search.Found schedule))
       × HasFound files out (solution m budget (search.Found schedule)) held before after
-  -- OUT holds a refutation closed on the log's clauses, and no moves reproduce the log there
+  -- OUT holds a refutation closed on the log's clauses; no moves reproduce the log under the model
   pub impossible : status ≡ 1 → (m : Model) × (lines : List Line) × IsSolution program log model budget (solution m budget (search.Impossible lines))
       × HasFound files out (solution m budget (search.Impossible lines)) held before after
   -- OUT holds an open refutation, with as many added lines as there were conflicts
@@ -373,7 +373,7 @@ pub record WhyAnswers (program log refutation : List ℕ) (status : ℕ) (before
   pub log_refused : status ≡ 4 → (r : LogRefusal) × IsWhyAnswer program log refutation (LogRefused r) × Puts before after (LogRefused r)
   pub refutation_refused : status ≡ 5 → (line : ℕ) × IsWhyAnswer program log refutation (RefutationRefused line)
       × Puts before after (RefutationRefused line)
-  -- if `check` accepts a closed refutation of all schedules, and no input is too long, reasons exist
+  -- if `check` accepts a closed refutation of all schedules and no input is too long, reasons exist
   pub complete : IsCheckAnswer program log refutation (Accepted Impossible) → length program ≤ limit_of input.Program → length log ≤ limit_of input.Log
       → IsStatus status 0
   -- no others, except those of every command

@@ -101,7 +101,7 @@ pub record IsReplayed (program log schedule : List ℕ) (v : Verdict) : Type 0 w
   pub recorded : IsOfOther program run → ⊥
   pub verdict : IsVerdict (buffer_of plan.model) code run.log plan.moves v
 
--- the log breaks its form but the program doesn't; or no file does, and the log is another program's
+-- the program has its form and the log breaks its; or all have theirs, and the log is another's
 abbrev pub IsLogRefused : (program log schedule : List ℕ) → LogRefusal → Type 0
 IsLogRefused program log schedule (Form offset) = (code : Code) × IsCodeOf program code × LogBreaksAt log offset
 IsLogRefused program log schedule OtherProgram =

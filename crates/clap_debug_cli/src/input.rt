@@ -1,4 +1,4 @@
-//! The files that come in, and what they say.
+//! The input files, and their contents.
 ghost use Rattle.std.specs.Prelude.{◌≡◌, ◌≤◌, length, IfOk, IfErr, OnOk};
 ghost use Rattle.tc_limits.specs.declared.limits.TheConstants.{PROGRAM_BYTES};
 ghost use Rattle.tc_compile.specs.Programs.{IsCodeOf};
@@ -18,7 +18,7 @@ use tc_limits::limits::{LOG_BYTES, PROGRAM_BYTES, SCHEDULE_BYTES};
 /// The most bytes of a solver's answer.
 const ANSWER_BYTES: u64 = 67_108_864;
 
-/// One of the files.
+/// An input file.
 #[derive(Clone, Copy, Debug, PartialEq, Eq)]
 pub(crate) enum Input {
     Program,
@@ -29,7 +29,7 @@ pub(crate) enum Input {
 }
 
 impl Input {
-    /// The most bytes that it may have.
+    /// The limit on the input's bytes.
     pub(crate) fn limit(self) -> u64
         ensures { result ≡ limit_of self }
     {
@@ -77,7 +77,7 @@ pub(crate) fn fetch_whole<'a, H: Shelf>(
     }
 }
 
-/// The code of a program, and a log. Of the files that aren't of their forms the first is told.
+/// The code of a program, and a log; or the first of the two that breaks its form.
 pub(crate) fn read_both<'a>(
     alloc: Global,
     program: &[u8],

@@ -1,4 +1,4 @@
-//! Logs brought to format 2.
+//! Logs migrated to format 2.
 ghost use Rattle.std.specs.Prelude.{◌≡◌, ◌≤◌, length, None, IfOk, IfErr, OnOk};
 ghost use Rattle.path_walk.specs.Fits.{Fits};
 ghost use Rattle.tc_limits.specs.declared.limits.TheConstants.{PROGRAM_BYTES};
@@ -42,7 +42,7 @@ fn fit<'a>(alloc: Global, code: &Code, log: &Log) -> Result<(), Answer<'a>>
     Ok(())
 }
 
-/// What a log has more of than it may have.
+/// The limit that a log exceeds, if any.
 fn excess_of(log: &Log) -> Option<Excess>
     ensures { result ≡ excess_of log.now.log }
 {
@@ -60,7 +60,7 @@ fn excess_of(log: &Log) -> Option<Excess>
     })
 }
 
-/// The depth of the first name that is deeper than a name may be.
+/// The depth of the first thread name that is too deep.
 fn too_deep(threads: &[ThreadPath]) -> Option<usize>
     ensures { result ≡ too_deep threads.now }
 {

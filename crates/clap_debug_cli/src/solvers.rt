@@ -1,4 +1,4 @@
-//! The clauses of a log for other solvers, and what becomes of their answers.
+//! The clauses of a log for other solvers, and their answers.
 ghost use Rattle.std.specs.Prelude.{◌≡◌, ◌≤◌, length, IfOk, IfErr, OnOk};
 ghost use Rattle.store_buffers.specs.Buffers.{buffer_of};
 ghost use Rattle.tc_limits.specs.declared.limits.TheConstants.{PROGRAM_BYTES};
@@ -26,7 +26,7 @@ use std::mem::drop;
 use store_buffers::{PsoModel, Sc, TsoModel};
 use tc_code::Code;
 
-/// The clauses of a log under a memory model, where none is named under the log's, and their text.
+/// The clauses of a log under a memory model (by default the log's), and their text.
 pub(crate) fn exported<'a>(
     alloc: Global,
     program: &[u8],
@@ -59,7 +59,7 @@ fn clauses_under(alloc: Global, code: &Code, log: &Log, model: Model) -> Result<
     }
 }
 
-/// A schedule of what another solver answers to the clauses of a log, and its text.
+/// A schedule from another solver's answer to the clauses of a log, and its text.
 pub(crate) fn imported<'a>(
     alloc: Global,
     program: &[u8],
@@ -87,7 +87,7 @@ pub(crate) fn imported<'a>(
     }
 }
 
-/// What literals come to that a solver makes true.
+/// The result of the literals that a solver makes true.
 fn taken_under(
     alloc: Global,
     code: &Code,
