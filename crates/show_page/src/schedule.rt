@@ -59,9 +59,12 @@ fn moves_of<'a>(
     let folded = folded_words(alloc, program, rows, words.as_slice())?;
     let mut left = folded.as_slice();
     let mut moves = Moves::new(alloc, program, schedule.model)?;
-    for (i, (row, words)) in rows.iter().zip(words.as_slice()).enumerate() {
+    for (i, row) in rows.iter().enumerate() {
+        let Some(shown) = words.get(i) else {
+            break;
+        };
         let mut said = Said {
-            words,
+            words: shown,
             folded: None,
         };
         if let [first, rest @ ..] = left
