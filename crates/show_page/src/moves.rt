@@ -10,14 +10,6 @@ use show_rows::Row;
 use show_words::{Program, Words, is_event};
 use std::alloc::{AllocError, Global};
 
-/// What a row says.
-#[derive(Clone, Copy)]
-pub(crate) struct Said<'a> {
-    pub(crate) words: &'a Words<'a>,
-    /// What it says where silent steps are folded, if it is shown there.
-    pub(crate) folded: Option<&'a str>,
-}
-
 /// The rows so far.
 #[derive(Drop)]
 pub(crate) struct Moves<'a> {
@@ -50,17 +42,19 @@ impl<'a> Moves<'a> {
         self.out.as_str()
     }
 
-    /// Adds a row, which comes after these.
+    /// Adds a row, which comes after these, with its words, and with those that it has where silent steps are folded, if it is
+    /// shown there.
     pub(crate) fn push(
         &mut self,
         lanes: &Lanes,
         before: &[Row],
         row: &Row,
-        said: Said<'_>,
+        words: &Words<'_>,
+        brief: Option<&str>,
     ) -> Result<(), AllocError> {
         let number = before.len().saturating_add(1);
         let lane = lanes.lane(row.deed.thread());
-        let source = self.sources.source(before, row, said.words.own);
+        let source = self.sources.source(before, row, words.own);
         let fails = if is_failure(row) { " fail" } else { "" };
         let alloc = *self.out.allocator();
         let head = format!(in alloc; "<li class=\"row{fails}\" id=\"m{number}\"")?;
@@ -74,11 +68,11 @@ impl<'a> Moves<'a> {
             let event = self.event(lane);
             push_mark(&mut self.out, "event", event)?;
         }
-        if said.folded.is_none() {
+        if brief.is_none() {
             push_mark(&mut self.out, "fold", "")?;
         }
         self.push_place(number, lane)?;
-        push_words(&mut self.out, said)?;
+        push_words(&mut self.out, words, brief)?;
         self.sources.take(row, before.len(), source, self.buffered);
         Ok(())
     }
@@ -122,9 +116,8 @@ impl<'a> Moves<'a> {
 }
 
 /// Adds the words of a row, to its end.
-fn push_words(out: &mut String, said: Said<'_>) -> Result<(), AllocError> {
+fn push_words(out: &mut String, words: &Words<'_>, brief: Option<&str>) -> Result<(), AllocError> {
     let alloc = *out.allocator();
-    let words = said.words;
     let line = words.line;
     out.push_str("<span class=\"who\">")?;
     push_text(out, words.thread.as_str())?;
@@ -133,6 +126,6 @@ fn push_words(out: &mut String, said: Said<'_>) -> Result<(), AllocError> {
     out.push_str("</code><span class=\"each\">")?;
     push_text(out, words.deed.as_str())?;
     out.push_str("</span><span class=\"brief\">")?;
-    push_text(out, said.folded.unwrap_or(""))?;
+    push_text(out, brief.unwrap_or(""))?;
     out.push_str("</span></div></li>\n")
 }

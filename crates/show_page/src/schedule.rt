@@ -3,7 +3,7 @@
 use crate::fixed::{KEYS, TOOLS};
 use crate::frame::{push_bottom, push_end, push_top};
 use crate::lanes::Lanes;
-use crate::moves::{Moves, Said};
+use crate::moves::Moves;
 use crate::panels::{push_program, push_run, push_state};
 use crate::script::push_script;
 use schedule_file::Schedule;
@@ -63,17 +63,14 @@ fn moves_of<'a>(
         let Some(shown) = words.get(i) else {
             break;
         };
-        let mut said = Said {
-            words: shown,
-            folded: None,
-        };
+        let mut brief = None;
         if let [first, rest @ ..] = left
             && first.place == i
         {
-            said.folded = Some(first.deed.as_str());
+            brief = Some(first.deed.as_str());
             left = rest;
         }
-        moves.push(lanes, &rows[..i], row, said)?;
+        moves.push(lanes, &rows[..i], row, shown, brief)?;
     }
     Ok(moves)
 }
