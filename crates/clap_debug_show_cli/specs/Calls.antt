@@ -26,6 +26,14 @@ pub data Asked : Type 0 where
 abbrev pub positional : Text → Rule
 positional name = record (new_rule name) { required = true }
 
+-- an option with a value
+abbrev pub option : Text → Rule
+option name = record (new_rule name) { long = Some name }
+
+-- an option without one
+abbrev pub flag : Text → Rule
+flag name = record (option name) { action = Some SetTrue }
+
 -- `PROGRAM [FILE] [--html OUT] [--moves]`
 abbrev pub command_line : App
 command_line = record (new_app (codes "clap_debug_show")) {
@@ -33,8 +41,8 @@ command_line = record (new_app (codes "clap_debug_show")) {
     disable_help_flag = true;
     rules = positional (codes "program")
         ∷ new_rule (codes "file")
-        ∷ record (new_rule (codes "html")) { long = Some (codes "html") }
-        ∷ record (new_rule (codes "moves")) { long = Some (codes "moves"); action = Some SetTrue }
+        ∷ option (codes "html")
+        ∷ flag (codes "moves")
         ∷ [];
   };
 }

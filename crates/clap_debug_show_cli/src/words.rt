@@ -1,8 +1,9 @@
 //! The words of a command line, read by `clap`.
 ghost use Rattle.std.specs.Prelude.{◌≡◌, false, map, IfOk, option_map, string_bytes};
-ghost use Rattle.clap.specs.Words.{app_of, found_of, rows_of, rule_of};
+ghost use Rattle.clap.specs.Words.{app_of, found_of, new_rule, rows_of, rule_of};
 ghost use Rattle.clap_debug_show_cli.specs.Calls as spec;
 ghost use Rattle.clap_debug_show_cli.specs.Calls.{call_in, call_of, plain_call, plain_text};
+ghost use Rattle.clap_debug_show_cli.specs.helpers.Lines.{names_line};
 
 use clap::error::ErrorKind;
 use clap::{Arg, ArgAction, ArgMatches, Command};
@@ -61,7 +62,7 @@ fn asked<'a>(
     page: Option<&'a str>,
     moves: bool,
 ) -> Option<Call<'a>>
-    ensures { option_map plain_call result ≡ spec.asked program.now (plain_text file) (plain_text page) moves }
+    ensures { option_map plain_call result ≡ spec.asked program.now (plain_text file.entry) (plain_text page.entry) moves }
 {
     match (file, page, moves) {
         (Some(file), _, _) => Some(Call::Show(Showing {
@@ -84,7 +85,7 @@ fn is_given(matches: &ArgMatches<'_>, id: &str) -> bool
 
 /// Whether a flag's value is that of one that is given.
 fn is_true(word: Option<&str>) -> bool
-    ensures { result ≡ spec.is_true (plain_text word) }
+    ensures { result ≡ spec.is_true (plain_text word.entry) }
 {
     match word {
         Some(word) => word == "true",
@@ -103,16 +104,19 @@ fn text<'a>(matches: &ArgMatches<'a>, id: &str) -> &'a str
 fn command_line<'a>(alloc: Global) -> Result<Command<'a>, AllocError>
     ensures { IfOk result (λ command. app_of command ≡ spec.command_line) }
 {
-    let page = Arg::new(alloc, "html").long("html");
-    let moves = Arg::new(alloc, "moves")
-        .long("moves")
-        .action(ArgAction::SetTrue);
+    let page = option(alloc, "html");
+    let moves = flag(alloc, "moves");
+    names_line(alloc)?.arg(page)?.arg(moves)
+}
+
+/// `PROGRAM [FILE]`.
+fn names_line<'a>(alloc: Global) -> Result<Command<'a>, AllocError>
+    ensures { IfOk result (λ command. app_of command ≡ names_line) }
+{
     Command::new(alloc, "clap_debug_show")
         .disable_help_flag(true)
         .arg(positional(alloc, "program"))?
-        .arg(Arg::new(alloc, "file"))?
-        .arg(page)?
-        .arg(moves)
+        .arg(optional(alloc, "file"))
 }
 
 /// A required positional.
@@ -121,4 +125,28 @@ fn positional<'a>(alloc: Global, name: &'a str) -> Arg<'a>
     ensures local { result.global ≡ false }
 {
     Arg::new(alloc, name).required(true)
+}
+
+/// A positional that may be left out.
+fn optional<'a>(alloc: Global, name: &'a str) -> Arg<'a>
+    ensures rule { rule_of result ≡ new_rule name.entry.now }
+    ensures local { result.global ≡ false }
+{
+    Arg::new(alloc, name)
+}
+
+/// An option with a value.
+fn option<'a>(alloc: Global, name: &'a str) -> Arg<'a>
+    ensures rule { rule_of result ≡ spec.option name.entry.now }
+    ensures local { result.global ≡ false }
+{
+    Arg::new(alloc, name).long(name)
+}
+
+/// An option without one.
+fn flag<'a>(alloc: Global, name: &'a str) -> Arg<'a>
+    ensures rule { rule_of result ≡ spec.flag name.entry.now }
+    ensures local { result.global ≡ false }
+{
+    Arg::new(alloc, name).long(name).action(ArgAction::SetTrue)
 }
