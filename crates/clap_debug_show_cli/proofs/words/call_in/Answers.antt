@@ -10,6 +10,6 @@ asked_is p q f g h k m n a b c d = cc
 pub returns : goal.returns
 returns c =
     let found = found_of c.args.matches.now in
-    let file_is : plain_text c.get_str.result ≡ first_of (codes "file") (rows_of found) = c.get_str.ensures ∙ first_value-rows found (codes "file") in
-    let page_is : plain_text c.get_str-2.result ≡ first_of (codes "html") (rows_of found) = c.get_str-2.ensures ∙ first_value-rows found (codes "html") in
-    c.asked.ensures ∙ asked_is _ _ _ _ _ _ _ _ c.text.ensures file_is page_is c.is_given.ensures
+    let file_is : plain_text c.get_str-file.result ≡ first_of (codes "file") (rows_of found) = c.get_str-file.ensures ∙ first_value-rows found (codes "file") in
+    let page_is : plain_text c.get_str-page.result ≡ first_of (codes "html") (rows_of found) = c.get_str-page.ensures ∙ first_value-rows found (codes "html") in
+    c.asked.ensures ∙ asked_is _ _ _ _ _ _ _ _ c.text-program.ensures file_is page_is c.is_given.ensures
