@@ -66,8 +66,12 @@ UNARY = {"-": lambda a: int32(-a), "!": lambda a: int(a == 0), "~": lambda a: ~a
 
 
 class Function:
+    """`origins` has, by slot, what the text has in the place of a slot of the code's own: the name of a cell, (array, index), or
+    (sign, left, right) of `&&` and `||`; `statements` the number of each instruction's statement."""
+
     def __init__(self, name):
         self.name, self.params, self.ints, self.tids, self.instrs, self.lines = name, 0, 0, 0, [], []
+        self.origins, self.statements, self.statement = {}, [], 0
 
 
 class Code:
@@ -85,7 +89,7 @@ class Code:
             at = found.end()
             if not found[1]:
                 break
-        self.at = 0
+        self.at, self.numbers = 0, 0
         self.memory, self.mutexes, self.conditions, self.functions, self.arity, self.globals = [], 0, 0, [], {}, {}
         self.program()
 
@@ -155,6 +159,7 @@ class Code:
     def emit(self, line, *instr):
         self.function.instrs.append(list(instr))
         self.function.lines.append(line)
+        self.function.statements.append(self.function.statement)
         return self.function.instrs[-1]
 
     def body(self):
@@ -201,6 +206,13 @@ class Code:
         return numbers
 
     def statement(self):
+        """One statement; what it emits has a number of its own, also behind the statements inside it."""
+        self.numbers += 1
+        outer, self.function.statement = self.function.statement, self.numbers
+        self.one_statement()
+        self.function.statement = outer
+
+    def one_statement(self):
         line, word = self.tokens[self.at][1], self.next()
         if word == "join":
             tid, = self.in_brackets("tid")
@@ -299,8 +311,10 @@ class Code:
                 taken = self.slot()
                 self.emit(line, "set", taken, int(sign == "||"))
                 branch = self.emit(line, "branch", left if sign == "&&" else ("!", left), None)
-                self.emit(line, "set", taken, ("!=", self.expression(line, level + 1), 0))
+                right = self.expression(line, level + 1)
+                self.emit(line, "set", taken, ("!=", right, 0))
                 branch[2] = self.here()
+                self.function.origins[taken] = (sign, left, right)
                 left = ("slot", taken)
                 continue
             right = self.expression(line, level + 1)
@@ -326,6 +340,7 @@ class Code:
             return ("slot", number)
         if kind == "cell":
             taken = self.slot()
+            self.function.origins[taken] = word
             self.emit(line, "load", taken, number)
             return ("slot", taken)
         if kind != "array":
@@ -335,6 +350,7 @@ class Code:
         self.take("]")
         self.emit(line, "inside", length[0], index)
         taken = self.slot()
+        self.function.origins[taken] = (word, index)
         self.emit(line, "loadat", taken, number, length[0], index)
         return ("slot", taken)
 

@@ -4,7 +4,7 @@ use Rattle.tc_tree.specs.Seen.{program_of}
 use Rattle.tc_parser.proofs.Programs.{few_words}
 use Rattle.tc_parser.proofs.Words.{has_ints}
 use Rattle.tc_compile.specs.Programs.{language}
-use Rattle.clap_debug_show_cli.proofs.shown.compile_named.Goals as goal
+use Rattle.clap_debug_show_cli.proofs.help.read_code.Goals as goal
 
 pub lower-requires-clause-few : goal.lower-requires-clause-few
 lower-requires-clause-few c =

@@ -1,13 +1,13 @@
 use Rattle.std.proofs.Common.{◌≡◌, ap, rules, Some, option_map}
-use Rattle.clap_debug_show_cli.specs.Calls.{plain_call}
+use Rattle.clap_debug_show_cli.specs.Calls.{plain_showing}
 use Rattle.clap_debug_show_cli.specs.Causes.{GaveBoth}
 use Rattle.clap_debug_show_cli.proofs.Causes.{kept, unkept, unshown}
-use Rattle.clap_debug_show_cli.proofs.answer_to.Goals as goal
+use Rattle.clap_debug_show_cli.proofs.answer_show.Goals as goal
 
 pub returns-in_err-shown : goal.returns-in_err-shown
 returns-in_err-shown g c =
     let tells = g.H.Shelf.tells in
-    let call = plain_call c.args.call in
+    let call = plain_showing c.args.call in
     let gave : GaveBoth call (tells c.args.shelf.now) (tells c.fetch-2.new.shelf) c.in_ok-program.program.items c.in_ok-file.file.items =
     (tells c.fetch.new.shelf, c.in_ok-program.ensures.gave, c.in_ok-file.ensures.gave) in
     let why = unshown call (tells c.args.shelf.now) (tells c.fetch-2.new.shelf) c.in_ok-program.program.items c.in_ok-file.file.items _ gave
@@ -17,7 +17,7 @@ returns-in_err-shown g c =
 pub returns-in_err-keep : goal.returns-in_err-keep
 returns-in_err-keep g c =
     let tells = g.H.Shelf.tells in
-    let call = plain_call c.args.call in
+    let call = plain_showing c.args.call in
     let gave : GaveBoth call (tells c.args.shelf.now) (tells c.fetch-2.new.shelf) c.in_ok-program.program.items c.in_ok-file.file.items =
     (tells c.fetch.new.shelf, c.in_ok-program.ensures.gave, c.in_ok-file.ensures.gave) in
     let at : call.page ≡ Some c.in-Some.name.now = ap (option_map (λ s. s.now)) c.in-Some.is in
@@ -29,7 +29,7 @@ returns-in_err-keep g c =
 pub returns : goal.returns
 returns g c =
     let tells = g.H.Shelf.tells in
-    let call = plain_call c.args.call in
+    let call = plain_showing c.args.call in
     let gave : GaveBoth call (tells c.args.shelf.now) (tells c.fetch-2.new.shelf) c.in_ok-program.program.items c.in_ok-file.file.items =
     (tells c.fetch.new.shelf, c.in_ok-program.ensures.gave, c.in_ok-file.ensures.gave) in
     let at : call.page ≡ Some c.in-Some.name.now = ap (option_map (λ s. s.now)) c.in-Some.is in
