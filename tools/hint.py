@@ -4,7 +4,7 @@ answer rests on it.
 
   hint.py help PROGRAM               the commands and options of a program
   hint.py clash PROGRAM WORD..       ends with 1, and says which, where an output is one of the inputs
-  hint.py refusal PROGRAM STATUS WORD..      a line on what was wrong, where it can be told"""
+  hint.py refusal PROGRAM STATUS WORD..      a line on what was wrong, where it can be told, or on where to look"""
 import dataclasses, difflib, os, signal, sys
 
 MODELS = ("sc", "tso", "pso")
@@ -87,6 +87,7 @@ PROGRAMS = {
     },
 }
 KINDS = {b"CLPL": "a log", b"clap-schedule ": "a schedule", b"clap-refutation ": "a refutation", b"p cnf ": "a list of clauses"}
+NO_PROGRAM = "docs/LANGUAGE.md says what each kind means (#faults), and what to write instead of habits of C (#coming-from-c)"
 WANTED = {"PROGRAM": "a program", "LOG": "a log", "SCHEDULE": "a schedule", "REFUTATION": "a refutation", "ANSWER": "a solver's answer"}
 
 
@@ -199,7 +200,8 @@ def missing(program, words):
 
 def refusal(program, status, words):
     by_status = {2: wrong_words, 3: wrong_file, 4: wrong_file, 5: wrong_file, 7: missing}
-    return by_status[status](program, words) if status in by_status else None
+    said = by_status[status](program, words) if status in by_status else None
+    return said or (NO_PROGRAM if status == 3 else None)
 
 
 def show_help(program):
