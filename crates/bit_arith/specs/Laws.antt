@@ -2,7 +2,7 @@
 use Rattle.std.specs.Prelude.{◌≡◌, ℕ, ◌<◌, ◌+◌, ◌-◌, ◌*◌, ◌^◌, ◌%◌, List, ℤ, length}
 use Rattle.std.specs.Int.{w32, cast_signed}
 use Rattle.std.specs.List.{All}
-use Rattle.tc_base.specs.Arith.{plus, minus, times}
+use Rattle.int_ops.specs.Arith.{plus, minus, times}
 use Rattle.cnf_core.specs.Clauses.{Formula, Valuation}
 use Rattle.bit_gates.specs.Laws.{IsModel, IsOf}
 use Rattle.bit_words.specs.Words.{Walked}

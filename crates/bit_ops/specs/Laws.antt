@@ -1,9 +1,9 @@
 -- What the circuits of operators mean.
 use Rattle.std.specs.Prelude.{◌≡◌, ◌<◌, List, ℤ, length}
 use Rattle.std.specs.List.{All}
-use Rattle.tc_base.specs.Arith.{unary, binary}
-use Rattle.tc_base.specs.declared.arith.UnOp.{UnOp}
-use Rattle.tc_base.specs.declared.arith.BinOp.{BinOp}
+use Rattle.int_ops.specs.Arith.{unary, binary}
+use Rattle.int_ops.specs.declared.arith.UnOp.{UnOp}
+use Rattle.int_ops.specs.declared.arith.BinOp.{BinOp}
 use Rattle.cnf_core.specs.Clauses.{Formula, Valuation}
 use Rattle.bit_gates.specs.Laws.{IsGrown, IsModel, IsOf}
 use Rattle.bit_words.specs.Words.{Walked}

@@ -17,8 +17,8 @@ use bit_shift::{Direction, shift};
 use bit_signed::{compare_signed, quotient, remainder, sign};
 use bit_words::{any, gate_by, gate_words, invert};
 use cnf_core::{Cnf, Gate, Lit};
+use int_ops::{BinOp, UnOp};
 use std::alloc::AllocError;
-use tc_base::{BinOp, UnOp};
 
 /// A word, the lowest bit first.
 pub type Word = [Lit; 32];

@@ -1,7 +1,7 @@
 -- Worlds and values of the variables tell each other.
 use Rattle.std.specs.Prelude.{◌≡◌, ℕ, ◌<◌, pos, None, Some, get_or, length, IsTrue}
 use Rattle.std.specs.List.{All, Contains, list_any}
-use Rattle.tc_base.specs.Arith.{IsInt}
+use Rattle.int_ops.specs.Arith.{IsInt}
 use Rattle.cnf_core.specs.Clauses.{Valuation, literal_true}
 use Rattle.bit_gates.specs.Laws.{IsModel, IsOf}
 use Rattle.bit_arith.specs.Laws.{int_value}

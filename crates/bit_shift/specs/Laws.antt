@@ -1,7 +1,7 @@
 -- What shifts mean.
 use Rattle.std.specs.Prelude.{◌≡◌, ℕ, ◌<◌, ◌≤◌, ◌*◌, ◌/◌, ◌%◌, ◌^◌, Bool, true, false, not, List, ℤ, pos, map, length}
 use Rattle.std.specs.List.{All}
-use Rattle.tc_base.specs.Arith.{shifted_left, shifted_right}
+use Rattle.int_ops.specs.Arith.{shifted_left, shifted_right}
 use Rattle.cnf_core.specs.Clauses.{Formula, Valuation, literal_true}
 use Rattle.bit_gates.specs.Folded.{constant}
 use Rattle.bit_gates.specs.Laws.{IsModel, IsOf}

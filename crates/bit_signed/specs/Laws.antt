@@ -1,7 +1,7 @@
 -- What quotients, remainders and order of words with a sign mean.
 use Rattle.std.specs.Prelude.{◌≡◌, ◌<◌, ◌-◌, ◌%◌, ◌^◌, if◌then◌else◌, int_lt, int_le, List, ℤ, length}
 use Rattle.std.specs.List.{All}
-use Rattle.tc_base.specs.Arith.{quotient, remainder}
+use Rattle.int_ops.specs.Arith.{quotient, remainder}
 use Rattle.cnf_core.specs.Clauses.{Formula, Valuation, literal_true}
 use Rattle.bit_gates.specs.Laws.{IsModel, IsOf, IsBit}
 use Rattle.bit_words.specs.Words.{Walked}

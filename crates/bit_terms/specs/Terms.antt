@@ -1,7 +1,7 @@
 -- The circuits of terms: a word for each.
 use Rattle.std.specs.Prelude.{ℕ, ◌==◌, List, [], ◌∷◌, ◌++◌, ℤ, map, fold, get_or}
 use Rattle.std.specs.List.{range_with_len}
-use Rattle.tc_base.specs.Arith.{bit}
+use Rattle.int_ops.specs.Arith.{bit}
 use Rattle.sym_terms.specs.declared.node.Node.{Node}
 use Rattle.sym_terms.specs.declared.node.Node.TheVariants.{Constant, Symbol, Unary, Binary}
 use Rattle.cnf_core.specs.Clauses.{Formula}

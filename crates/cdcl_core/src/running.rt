@@ -1,7 +1,7 @@
 //! How a search comes to its answer.
 ghost use Rattle.std.specs.Prelude.{◌≡◌, ◌≢◌, ◌+◌, ◌<◌, ◌≤◌, Some, None, IfOk, OnErr};
 ghost use Rattle.cdcl_core.specs.Searches.{added_in, GoesOn, Answers};
-ghost use Rattle.tc_base.specs.declared.limits.TheConstants.{BUDGET};
+ghost use Rattle.tc_limits.specs.declared.limits.TheConstants.{BUDGET};
 
 use crate::loading::Begun;
 use crate::progress::Progress;

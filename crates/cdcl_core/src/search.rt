@@ -1,7 +1,7 @@
 //! A search that can be paused.
 ghost use Rattle.std.specs.Prelude.{◌≡◌, ◌+◌, ◌<◌, ◌≤◌, Some, None, IfOk, OnErr};
 ghost use Rattle.cdcl_core.specs.Searches.{added_in, IsSearched};
-ghost use Rattle.tc_base.specs.declared.limits.TheConstants.{BUDGET};
+ghost use Rattle.tc_limits.specs.declared.limits.TheConstants.{BUDGET};
 
 use crate::progress::Progress;
 use crate::stages::StagedSearch;

@@ -1,6 +1,6 @@
 //! A search that isn't to go on.
 ghost use Rattle.std.specs.Prelude.{◌≡◌, ◌≤◌, IfOk, IsTrue};
-ghost use Rattle.tc_base.specs.declared.limits.TheConstants.{BUDGET};
+ghost use Rattle.tc_limits.specs.declared.limits.TheConstants.{BUDGET};
 ghost use Rattle.cdcl_core.specs.Solving.{Solves};
 
 use crate::{Progress, Search, Solved};

@@ -10,7 +10,7 @@ ghost use Rattle.cdcl_steps.specs.Attached.{CanAssert};
 ghost use Rattle.cdcl_lines.specs.Literals.{Rise};
 ghost use Rattle.cdcl_lines.specs.Lines.{added};
 ghost use Rattle.cdcl_core.specs.Searches.{IsSolution};
-ghost use Rattle.tc_base.specs.declared.limits.TheConstants.{BUDGET};
+ghost use Rattle.tc_limits.specs.declared.limits.TheConstants.{BUDGET};
 ghost use Rattle.cdcl_core.specs.helpers.States.{HasBound};
 
 use crate::reducing::touch_all;

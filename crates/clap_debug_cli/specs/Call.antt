@@ -1,9 +1,10 @@
 -- What a call of the program answers, over what the shelf and the sink tell before and after it.
 use Rattle.std.specs.Prelude.{◌≡◌, ◌≢◌, ℕ, ◌≤◌, ◌⊎◌, true, false, List, length, Option, Some, None, IfSome, ⊤}
 use Rattle.tc_code.specs.Code.{Code}
-use Rattle.tc_base.specs.declared.model.Model.{Model}
+use Rattle.memory_models.specs.declared.model.Model.{Model}
 use Rattle.tc_io.specs.Outside.{Files, ShelfTells, SinkTells, Writing, Wrote, WrotePart, KeptPart, bytes_at, put_under}
-use Rattle.path_log.specs.Texts.{StoredLog, IsLog, IsOfOther}
+use Rattle.run_log.specs.Logs.{StoredLog}
+use Rattle.path_log.specs.Texts.{IsLog, IsOfOther}
 use Rattle.refute_check.specs.declared.line.Line.{Line}
 use Rattle.refute_check.specs.declared.verdict.Checked.TheVariants.{Closed}
 use Rattle.schedule_file.specs.Schedules.{schedule_text}

@@ -1,13 +1,14 @@
 -- Why an answer is given: what the words are, what the shelf did, and what the bytes that it gave say.
 use Rattle.std.specs.Prelude.{◌≡◌, ◌⊎◌, ℕ, ℤ, ◌≤◌, ◌-◌, List, [], ◌∷◌, length, Option, Some, None, Ok, Err, IsSomeAnd}
-use Rattle.tc_base.specs.declared.limits.TheConstants.{SCHEDULE_BYTES}
-use Rattle.tc_base.specs.declared.model.Model.{Model}
-use Rattle.tc_base.specs.Buffers.{buffer_of}
-use Rattle.tc_base.specs.Logs.{Log}
+use Rattle.tc_limits.specs.declared.limits.TheConstants.{SCHEDULE_BYTES}
+use Rattle.memory_models.specs.declared.model.Model.{Model}
+use Rattle.store_buffers.specs.Buffers.{buffer_of}
+use Rattle.run_log.specs.Logs.{Log}
 use Rattle.tc_code.specs.Code.{Code}
 use Rattle.tc_io.specs.Outside.{ShelfTells, Kept, KeptPart}
 use Rattle.path_log.specs.Faults.{BreaksAt as LogBreaksAt}
-use Rattle.path_log.specs.Texts.{StoredLog, IsLog, IsOfOther}
+use Rattle.run_log.specs.Logs.{StoredLog}
+use Rattle.path_log.specs.Texts.{IsLog, IsOfOther}
 use Rattle.schedule_file.specs.Faults.{BreaksAt as ScheduleBreaksAt}
 use Rattle.schedule_file.specs.Schedules.{schedule_text}
 use Rattle.schedule_replay.specs.Verdicts.{IsVerdict}

@@ -1,9 +1,10 @@
 -- What `why` tells.
 use Rattle.std.specs.Prelude.{ℕ, List}
-use Rattle.tc_base.specs.Buffers.{buffer_of}
-use Rattle.tc_base.specs.declared.model.Model.{Model}
+use Rattle.store_buffers.specs.Buffers.{buffer_of}
+use Rattle.memory_models.specs.declared.model.Model.{Model}
 use Rattle.tc_code.specs.Code.{Code}
-use Rattle.path_log.specs.Texts.{StoredLog, IsLog, IsOfOther}
+use Rattle.run_log.specs.Logs.{StoredLog}
+use Rattle.path_log.specs.Texts.{IsLog, IsOfOther}
 use Rattle.refute_check.specs.declared.line.Line.{Line}
 use Rattle.clap_solve.specs.Clauses.{bound_of}
 use Rattle.clap_solve.specs.Solved.{IsWithin}

@@ -1,6 +1,6 @@
 -- Schedules and refutations as the bytes of files, and what is said of bytes that are none.
 use Rattle.std.specs.Prelude.{◌≡◌, ℕ, List, ◌∷◌, Option, Some, None, is_some, if◌then◌else◌}
-use Rattle.tc_base.specs.declared.model.Model.{Model}
+use Rattle.memory_models.specs.declared.model.Model.{Model}
 use Rattle.tc_base.specs.declared.moves.Move.{Move}
 use Rattle.schedule_file.specs.Schedules.{HaveText, schedule_text}
 use Rattle.refute_check.specs.Laws.{IsWhole}

@@ -1,6 +1,6 @@
 -- The files that a command reads, and what becomes of reading them.
 use Rattle.std.specs.Prelude.{◌≡◌, ◌⊎◌, ℕ, ◌<◌, ◌≤◌, List, [], ◌∷◌, length, map, codes}
-use Rattle.tc_base.specs.declared.limits.TheConstants.{PROGRAM_BYTES, LOG_BYTES, SCHEDULE_BYTES}
+use Rattle.tc_limits.specs.declared.limits.TheConstants.{PROGRAM_BYTES, LOG_BYTES, SCHEDULE_BYTES}
 use Rattle.tc_io.specs.Outside.{Files, ShelfTells, Gave, FailedToGive, WasTooLong, GaveReading, FailedReading, bytes_at}
 use Rattle.clap_debug_words.specs.Calls.{Called, Lists, Replays, Records, Migrates, Solves, Minimizes, Checks, Workloads, Exports, Imports, Explains}
 use Rattle.clap_debug_cli.specs.declared.input.Input.{Input}

@@ -1,9 +1,11 @@
 -- Logs brought to format 2: which are, and the text of each.
 use Rattle.std.specs.Prelude.{◌≡◌, ℕ, List, length, map, nat_lt, Option, Some, None, option_map, if◌then◌else◌}
 use Rattle.std.specs.List.{find}
-use Rattle.tc_base.specs.Logs.{Log, ThreadPath}
+use Rattle.run_log.specs.Logs.{Log}
+use Rattle.tc_base.specs.Paths.{ThreadPath}
 use Rattle.tc_code.specs.Code.{Code}
-use Rattle.path_log.specs.Texts.{StoredLog, IsLog, IsOfOther, log_text}
+use Rattle.run_log.specs.Logs.{StoredLog}
+use Rattle.path_log.specs.Texts.{IsLog, IsOfOther, log_text}
 use Rattle.path_walk.specs.Fits.{Fits}
 use Rattle.clap_system.specs.Faults.{limit_of}
 use Rattle.clap_system.specs.declared.fault.Which.{Which}

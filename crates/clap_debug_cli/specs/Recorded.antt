@@ -1,12 +1,13 @@
 -- Recorded runs of a program: how one ended, and the text of its log where it failed or came to a deadlock.
 use Rattle.std.specs.Prelude.{◌≡◌, ℕ, ◌≤◌, List, length, Some, None}
 use Rattle.sha2.specs.Sha256.{sha256}
-use Rattle.tc_base.specs.Buffers.{BufferOf, buffer_of}
-use Rattle.tc_base.specs.Logs.{Log}
-use Rattle.tc_base.specs.declared.model.Model.{Model}
+use Rattle.store_buffers.specs.Buffers.{BufferOf, buffer_of}
+use Rattle.run_log.specs.Logs.{Log}
+use Rattle.memory_models.specs.declared.model.Model.{Model}
 use Rattle.tc_code.specs.Code.{Code}
 use Rattle.tc_code.specs.Run.{Reproduces}
-use Rattle.path_log.specs.Texts.{StoredLog, IsLog, log_text}
+use Rattle.run_log.specs.Logs.{StoredLog}
+use Rattle.path_log.specs.Texts.{IsLog, log_text}
 use Rattle.tc_record.specs.Ends.{told_end}
 use Rattle.tc_record.specs.Failing.{failing_line}
 use Rattle.tc_record.specs.Logged.{IsLogOf, most_log_bytes}

@@ -1,13 +1,14 @@
 -- What `solve` comes to: a schedule or a refutation, and the text of each.
 use Rattle.std.specs.Prelude.{◌≡◌, ℕ, Bool, true, false, List, Option, unwrap_or}
-use Rattle.tc_base.specs.Buffers.{buffer_of}
-use Rattle.tc_base.specs.Logs.{Log}
-use Rattle.tc_base.specs.declared.model.Model.{Model}
-use Rattle.tc_base.specs.declared.model.Model.TheVariants.{Sc, Tso, Pso}
+use Rattle.store_buffers.specs.Buffers.{buffer_of}
+use Rattle.run_log.specs.Logs.{Log}
+use Rattle.memory_models.specs.declared.model.Model.{Model}
+use Rattle.memory_models.specs.declared.model.Model.TheVariants.{Sc, Tso, Pso}
 use Rattle.tc_base.specs.declared.moves.Move.{Move}
 use Rattle.tc_code.specs.Code.{Code}
 use Rattle.tc_code.specs.Run.{Reproduces}
-use Rattle.path_log.specs.Texts.{StoredLog, IsLog, IsOfOther}
+use Rattle.run_log.specs.Logs.{StoredLog}
+use Rattle.path_log.specs.Texts.{IsLog, IsOfOther}
 use Rattle.schedule_file.specs.Schedules.{HaveText, schedule_text}
 use Rattle.refute_check.specs.Laws.{IsWhole}
 use Rattle.refute_check.specs.Texts.{refutation_text}

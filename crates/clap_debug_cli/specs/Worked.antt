@@ -1,9 +1,9 @@
 -- What `workload` comes to: a generated program, how a run of it ended, and what was found of its log.
 use Rattle.std.specs.Prelude.{◌≡◌, ℕ, Bool, true, false, ◌||◌, List}
-use Rattle.tc_base.specs.Buffers.{buffer_of}
-use Rattle.tc_base.specs.declared.limits.TheConstants.{MOVES}
-use Rattle.tc_base.specs.declared.model.Model.{Model}
-use Rattle.tc_base.specs.declared.model.Model.TheVariants.{Sc, Tso}
+use Rattle.store_buffers.specs.Buffers.{buffer_of}
+use Rattle.tc_limits.specs.declared.limits.TheConstants.{MOVES}
+use Rattle.memory_models.specs.declared.model.Model.{Model}
+use Rattle.memory_models.specs.declared.model.Model.TheVariants.{Sc, Tso}
 use Rattle.tc_code.specs.Code.{Code}
 use Rattle.tc_record.specs.Seeded.{seed_words}
 use Rattle.tc_record.specs.declared.end.End.{End}

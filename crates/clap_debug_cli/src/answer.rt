@@ -109,7 +109,7 @@ pub(crate) struct Excess {
 #[derive(Debug, Drop)]
 pub(crate) struct Solution {
     /// The memory model under which it searched.
-    pub(crate) model: tc_base::Model,
+    pub(crate) model: memory_models::Model,
     /// How many conflicts it might have.
     pub(crate) budget: u32,
     pub(crate) answer: Found,
@@ -119,7 +119,7 @@ pub(crate) struct Solution {
 #[derive(Debug, Drop)]
 pub(crate) struct Minimum {
     /// The memory model under which it searched.
-    pub(crate) model: tc_base::Model,
+    pub(crate) model: memory_models::Model,
     /// How many conflicts each of its searches might have.
     pub(crate) budget: u32,
     pub(crate) least: Least,

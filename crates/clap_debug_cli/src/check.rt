@@ -1,9 +1,10 @@
 //! Checking a refutation, of which no more is kept than the line that isn't ended and the clauses that may still be named.
 ghost use Rattle.std.specs.Prelude.{◌≡◌, ◌<◌, ◌≤◌, ◌++◌, ℕ, List, length, take, None, Ok, IfOk, IfErr, OnOk, IfSome, IsSome};
-ghost use Rattle.tc_base.specs.declared.limits.TheConstants.{PROGRAM_BYTES};
+ghost use Rattle.tc_limits.specs.declared.limits.TheConstants.{PROGRAM_BYTES};
 ghost use Rattle.tc_code.specs.Code.{Code};
 ghost use Rattle.tc_io.specs.Outside.{Opened, GaveReading};
-ghost use Rattle.path_log.specs.Texts.{StoredLog, IsOfOther};
+ghost use Rattle.run_log.specs.Logs.{StoredLog};
+ghost use Rattle.path_log.specs.Texts.{IsOfOther};
 ghost use Rattle.refute_check.specs.Reading.{beginning, first_breach};
 ghost use Rattle.refute_check.specs.Refutations.{start};
 ghost use Rattle.clap_solve.specs.Clauses.{bound_of, model_clauses};
@@ -11,7 +12,7 @@ ghost use Rattle.clap_solve.specs.Solved.{IsWithin};
 ghost use Rattle.clap_system.specs.Faults.{IsBuildFault};
 ghost use Rattle.clap_debug_cli.specs.Causes.{IsCheckAnswer, IsClausesAnswer, IsRefutationAnswer};
 ghost use Rattle.switch_clauses.specs.Clauses.{switch_clauses};
-ghost use Rattle.tc_base.specs.Buffers.{buffer_of};
+ghost use Rattle.store_buffers.specs.Buffers.{buffer_of};
 ghost use Rattle.clap_debug_cli.specs.Checked.{head_clauses, shown};
 ghost use Rattle.clap_debug_cli.specs.Inputs.{InPieces};
 ghost use Rattle.clap_debug_cli.specs.declared.answer.Answer.TheVariants.{Accepted, RefutationRefused};
@@ -24,11 +25,11 @@ use crate::input::{of_program, read_both};
 use clap_solve::check_start;
 use clap_system::BuildFault;
 use least_switch::check_least_start;
-use path_log::Log;
+use memory_models::Model;
 use refute_check::{CheckFault, Checked, Checker, Head, Line, RefutationText, Taken};
+use run_log::Log;
 use std::alloc::{AllocError, Global};
 use store_buffers::{PsoModel, Sc, TsoModel};
-use tc_base::Model;
 use tc_code::Code;
 use tc_io::{OpenFault, PieceFault, Shelf};
 

@@ -18,8 +18,8 @@ use crate::solvers::{exported, imported};
 use crate::why::explain;
 use crate::workload::worked;
 use clap_debug_words::{Budget, Workers};
+use memory_models::Model;
 use std::alloc::Global;
-use tc_base::Model;
 use tc_compile::compile;
 use tc_io::{KeepFault, Shelf};
 

@@ -1,18 +1,19 @@
 //! The files that come in, and what they say.
 ghost use Rattle.std.specs.Prelude.{◌≡◌, ◌≤◌, length, IfOk, IfErr, OnOk};
-ghost use Rattle.tc_base.specs.declared.limits.TheConstants.{PROGRAM_BYTES};
+ghost use Rattle.tc_limits.specs.declared.limits.TheConstants.{PROGRAM_BYTES};
 ghost use Rattle.tc_compile.specs.Programs.{IsCodeOf};
 ghost use Rattle.path_log.specs.Texts.{IsLog, IsOfOther};
 ghost use Rattle.clap_debug_cli.specs.Inputs.{limit_of, Entire, Whole, GaveInput};
 ghost use Rattle.clap_debug_cli.specs.helpers.Refused.{IsWhyMissing, IsWhyUnread, IsWhyOther};
 
 use crate::answer::{Answer, FileName, LogRefusal};
-use path_log::{Log, read_log};
+use path_log::{is_of_other, read_log};
+use run_log::Log;
 use std::alloc::Global;
-use tc_base::limits::{LOG_BYTES, PROGRAM_BYTES, SCHEDULE_BYTES};
 use tc_code::Code;
 use tc_compile::compile;
 use tc_io::{FetchFault, Shelf};
+use tc_limits::limits::{LOG_BYTES, PROGRAM_BYTES, SCHEDULE_BYTES};
 
 /// The most bytes of a solver's answer.
 const ANSWER_BYTES: u64 = 67_108_864;
@@ -97,7 +98,7 @@ pub(crate) fn of_program<'a>(program: &[u8], log: &Log) -> Result<(), Answer<'a>
     ensures same { OnOk result (IsOfOther program.now log.now → ⊥) }
     ensures other { IfErr result (IsWhyOther program.now log.now) }
 {
-    if log.is_of_other(program) {
+    if is_of_other(log, program) {
         Err(Answer::LogRefused(LogRefusal::OtherProgram))
     } else {
         Ok(())

@@ -1,7 +1,7 @@
 //! Searching for a schedule of a log with the fewest context switches.
 ghost use Rattle.std.specs.Prelude.{◌≡◌, ◌≤◌, length, IfOk, IfErr, option_map};
-ghost use Rattle.tc_base.specs.Buffers.{buffer_of};
-ghost use Rattle.tc_base.specs.declared.limits.TheConstants.{PROGRAM_BYTES};
+ghost use Rattle.store_buffers.specs.Buffers.{buffer_of};
+ghost use Rattle.tc_limits.specs.declared.limits.TheConstants.{PROGRAM_BYTES};
 ghost use Rattle.clap_solve.specs.Clauses.{bound_of};
 ghost use Rattle.refute_check.specs.Laws.{IsWhole};
 ghost use Rattle.refute_check.specs.Texts.{refutation_text};
@@ -18,12 +18,12 @@ use crate::input::{of_program, read_both};
 use clap_debug_words::Budget;
 use clap_system::BuildFault;
 use least_switch::{Least, least};
-use path_log::Log;
+use memory_models::Model;
 use refute_check::{Derivation, Head, write_refutation};
+use run_log::Log;
 use schedule_file::write_schedule;
 use std::alloc::{AllocError, Global};
 use store_buffers::{PsoModel, Sc, TsoModel};
-use tc_base::Model;
 use tc_code::Code;
 
 /// What is kept of what searches found.

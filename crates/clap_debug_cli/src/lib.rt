@@ -3,8 +3,9 @@
 
 ghost use Rattle.std.specs.Prelude.{◌≡◌, ◌≤◌, ℕ, List, Option, Some, true, length, map, string_bytes, unwrap_or};
 ghost use Rattle.sha2.specs.Sha256.{sha256};
-ghost use Rattle.tc_base.specs.declared.model.Model.{Model};
-ghost use Rattle.path_log.specs.Texts.{StoredLog, IsLog};
+ghost use Rattle.memory_models.specs.declared.model.Model.{Model};
+ghost use Rattle.run_log.specs.Logs.{StoredLog};
+ghost use Rattle.path_log.specs.Texts.{IsLog};
 ghost use Rattle.tc_record.specs.Logged.{most_log_bytes};
 ghost use Rattle.schedule_file.specs.Schedules.{schedule_text};
 ghost use Rattle.schedule_file.specs.declared.schedule.Schedule.{Schedule};

@@ -1,7 +1,7 @@
 //! Logs brought to format 2.
 ghost use Rattle.std.specs.Prelude.{◌≡◌, ◌≤◌, length, None, IfOk, IfErr, OnOk};
 ghost use Rattle.path_walk.specs.Fits.{Fits};
-ghost use Rattle.tc_base.specs.declared.limits.TheConstants.{PROGRAM_BYTES};
+ghost use Rattle.tc_limits.specs.declared.limits.TheConstants.{PROGRAM_BYTES};
 ghost use Rattle.clap_debug_cli.specs.Causes.{IsFitAnswer, IsMigrateAnswer};
 ghost use Rattle.clap_debug_cli.specs.Migrated.{IsMigrated, excess_of, too_deep};
 ghost use Rattle.clap_debug_cli.specs.helpers.Refused.{Refuses};
@@ -10,11 +10,11 @@ use crate::answer::{Answer, Excess};
 use crate::input::{of_program, read_both};
 use crate::output::text_with_digest;
 use clap_system::Which;
-use path_log::{Log, ThreadPath};
 use path_walk::walk;
+use run_log::{Log, ThreadPath};
 use std::alloc::Global;
-use tc_base::limits::{DEPTH, THREADS};
 use tc_code::Code;
+use tc_limits::limits::{DEPTH, THREADS};
 
 /// The text of the log in format 2 with the digest of the program.
 pub(crate) fn migrated<'a>(alloc: Global, program: &[u8], log: &[u8]) -> Result<Vec<u8>, Answer<'a>>

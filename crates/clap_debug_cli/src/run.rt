@@ -1,6 +1,6 @@
 //! Recorded runs of a program.
 ghost use Rattle.std.specs.Prelude.{◌≤◌, length, IfOk, IfErr};
-ghost use Rattle.tc_base.specs.declared.limits.TheConstants.{PROGRAM_BYTES};
+ghost use Rattle.tc_limits.specs.declared.limits.TheConstants.{PROGRAM_BYTES};
 ghost use Rattle.tc_record.specs.Seeded.{seeded_run};
 ghost use Rattle.clap_debug_cli.specs.Causes.{IsRecordAnswer};
 ghost use Rattle.clap_debug_cli.specs.Recorded.{HasOutcome, IsLogText, ComesTo, IsRecorded};
@@ -8,9 +8,9 @@ ghost use Rattle.clap_debug_cli.specs.helpers.Refused.{IsEndOf, Refuses};
 
 use crate::answer::{Answer, Ending, Failure, Outcome};
 use crate::output::text_with_digest;
+use memory_models::Model;
 use std::alloc::Global;
 use store_buffers::{MemoryModel, PsoModel, Sc, TsoModel};
-use tc_base::Model;
 use tc_code::Code;
 use tc_compile::compile;
 use tc_record::{Recorded, record_run};

@@ -1,7 +1,7 @@
 //! The clauses of a log for other solvers, and what becomes of their answers.
 ghost use Rattle.std.specs.Prelude.{◌≡◌, ◌≤◌, length, IfOk, IfErr, OnOk};
-ghost use Rattle.tc_base.specs.Buffers.{buffer_of};
-ghost use Rattle.tc_base.specs.declared.limits.TheConstants.{PROGRAM_BYTES};
+ghost use Rattle.store_buffers.specs.Buffers.{buffer_of};
+ghost use Rattle.tc_limits.specs.declared.limits.TheConstants.{PROGRAM_BYTES};
 ghost use Rattle.schedule_file.specs.Schedules.{schedule_text};
 ghost use Rattle.dimacs_text.specs.Texts.{cnf_text};
 ghost use Rattle.clap_solve.specs.Clauses.{bound_of, model_clauses};
@@ -18,12 +18,12 @@ use clap_solve::{Imported, clauses, take_answer};
 use clap_system::BuildFault;
 use cnf_core::Cnf;
 use dimacs_text::{Literals, read_answer, write_cnf};
-use path_log::Log;
+use memory_models::Model;
+use run_log::Log;
 use schedule_file::{Schedule, write_schedule};
 use std::alloc::Global;
 use std::mem::drop;
 use store_buffers::{PsoModel, Sc, TsoModel};
-use tc_base::Model;
 use tc_code::Code;
 
 /// The clauses of a log under a memory model, where none is named under the log's, and their text.

@@ -1,7 +1,7 @@
 //! The reasons of an impossibility.
 ghost use Rattle.std.specs.Prelude.{◌≡◌, ◌≤◌, length, IfOk, IfErr, OnOk};
-ghost use Rattle.tc_base.specs.Buffers.{buffer_of};
-ghost use Rattle.tc_base.specs.declared.limits.TheConstants.{PROGRAM_BYTES};
+ghost use Rattle.store_buffers.specs.Buffers.{buffer_of};
+ghost use Rattle.tc_limits.specs.declared.limits.TheConstants.{PROGRAM_BYTES};
 ghost use Rattle.refute_check.specs.Broken.{BreaksAt};
 ghost use Rattle.refute_check.specs.Laws.{IsWhole};
 ghost use Rattle.refute_check.specs.Texts.{refutation_text};
@@ -18,12 +18,12 @@ ghost use Rattle.clap_debug_cli.specs.helpers.Refused.{IsWhyUnrefuted, Refuses};
 use crate::answer::{Answer, Shown};
 use crate::input::{of_program, read_both};
 use clap_solve::CheckImpossibleFault;
-use path_log::Log;
+use memory_models::Model;
 use refute_check::{Derivation, Head, RefutationFault, RefutationText, Taken, read_refutation};
+use run_log::Log;
 use std::alloc::{AllocError, Global};
 use std::mem::drop;
 use store_buffers::{PsoModel, Sc, TsoModel};
-use tc_base::Model;
 use tc_code::Code;
 use why_impossible::{Explained, Reasons, why};
 

@@ -1,7 +1,7 @@
 //! Generated programs: a run of one, and searches for a schedule of its log.
 ghost use Rattle.std.specs.Prelude.{◌≡◌, IfOk, IfErr, OnOk};
-ghost use Rattle.tc_base.specs.declared.limits.TheConstants.{MOVES};
-ghost use Rattle.tc_base.specs.declared.model.Model.TheVariants.{Tso};
+ghost use Rattle.tc_limits.specs.declared.limits.TheConstants.{MOVES};
+ghost use Rattle.memory_models.specs.declared.model.Model.TheVariants.{Tso};
 ghost use Rattle.tc_workload.specs.Workload.{workload_log};
 ghost use Rattle.clap_solve.specs.Solved.{IsWithin};
 ghost use Rattle.clap_system.specs.Faults.{IsBuildFault};
@@ -15,13 +15,13 @@ use crate::answer::{Answer, RunEnd, Work};
 use crate::solve::solve_under;
 use clap_debug_words::{Budget, USUAL_BUDGET, Workers};
 use clap_system::BuildFault;
-use path_log::Log;
+use memory_models::Model;
+use run_log::Log;
 use std::alloc::{AllocError, Global};
 use store_buffers::TsoModel;
-use tc_base::Model;
-use tc_base::limits::MOVES;
 use tc_code::Code;
 use tc_compile::compile;
+use tc_limits::limits::MOVES;
 use tc_record::{Seeded, SeededFault, run_seeded, seed_words};
 use tc_workload::{workload_log, workload_text};
 

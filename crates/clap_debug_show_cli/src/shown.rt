@@ -1,6 +1,6 @@
 //! What a file shows: the moves of a schedule, or the ways of a log's threads.
 ghost use Rattle.std.specs.Prelude.{◌≡◌, ◌<◌, ◌≤◌, ℕ, List, true, false, length, IfErr, IfOk, OnOk};
-ghost use Rattle.tc_base.specs.declared.limits.TheConstants.{PROGRAM_BYTES};
+ghost use Rattle.tc_limits.specs.declared.limits.TheConstants.{PROGRAM_BYTES};
 ghost use Rattle.path_log.specs.Texts.{IsOfOther};
 ghost use Rattle.tc_compile.specs.Programs.{IsCodeOf, IsWhyNoCode};
 ghost use Rattle.clap_debug_show_cli.specs.Limits.{limit_of};
@@ -10,8 +10,10 @@ ghost use Rattle.clap_debug_show_cli.specs.helpers.Refused.{IsWhyNoStory, IsWhyN
 
 use crate::answer::Answer;
 use crate::limits::What;
-use path_log::{Log, read_log};
+use memory_models::Model;
+use path_log::{is_of_other, read_log};
 use path_walk::{Paths, walk};
+use run_log::Log;
 use schedule_file::{Schedule, read_schedule};
 use show_names::Names;
 use show_page::{log_page, schedule_page};
@@ -20,7 +22,6 @@ use show_text::{log_text, schedule_text};
 use show_words::Program;
 use std::alloc::{AllocError, Global};
 use store_buffers::{PsoModel, Sc, TsoModel};
-use tc_base::Model;
 use tc_code::Code;
 use tc_compile::CompileFault;
 use tc_lower::lower;
@@ -131,7 +132,7 @@ fn check_program<'a>(program: &[u8], log: &Log) -> Result<(), Answer<'a>>
     ensures same { OnOk result (IsOfOther program.now log.now → ⊥) }
     ensures other { IfErr result (λ a. (a ≡ OtherProgram) × IsOfOther program.now log.now) }
 {
-    if log.is_of_other(program) {
+    if is_of_other(log, program) {
         Err(Answer::OtherProgram)
     } else {
         Ok(())

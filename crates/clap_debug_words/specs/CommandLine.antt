@@ -5,9 +5,9 @@ use Rattle.clap.specs.Words.{App, Rule, Shape, Text, new_app, new_rule, takes}
 use Rattle.clap.specs.Simple.{new_shape}
 use Rattle.clap.specs.declared.builder.value_parser.ValueParser.{ValueParser}
 use Rattle.clap.specs.declared.builder.value_parser.ValueParser.TheVariants as parser
-use Rattle.tc_base.specs.Models.{model_name}
-use Rattle.tc_base.specs.declared.limits.TheConstants.{BUDGET, MOVES}
-use Rattle.tc_base.specs.declared.model.Model.TheVariants.{Sc, Tso, Pso}
+use Rattle.memory_models.specs.Models.{model_name}
+use Rattle.tc_limits.specs.declared.limits.TheConstants.{BUDGET, MOVES}
+use Rattle.memory_models.specs.declared.model.Model.TheVariants.{Sc, Tso, Pso}
 use Rattle.clap_debug_words.specs.declared.workers.TheConstants.{WORKERS}
 
 -- a required positional

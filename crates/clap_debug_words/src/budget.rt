@@ -1,6 +1,6 @@
 //! The budget of a search.
 ghost use Rattle.std.specs.Prelude.{◌≤◌};
-ghost use Rattle.tc_base.specs.declared.limits.TheConstants.{BUDGET};
+ghost use Rattle.tc_limits.specs.declared.limits.TheConstants.{BUDGET};
 
 /// The conflicts of a search where no number is written.
 pub const USUAL_BUDGET: u32 = 1_000_000;

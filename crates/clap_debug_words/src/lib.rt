@@ -16,10 +16,10 @@ pub use budget::{Budget, USUAL_BUDGET};
 use clap::builder::ValueParser;
 use clap::error::ErrorKind;
 use clap::{Arg, ArgMatches, Command};
+use memory_models::Model;
 use std::alloc::{AllocError, Global};
 use std::mem::drop;
-use tc_base::Model;
-use tc_base::limits::{BUDGET, MOVES};
+use tc_limits::limits::{BUDGET, MOVES};
 pub use workers::{WORKERS, Workers};
 
 static MODEL_NAMES: [&str; 3] = ["sc", "tso", "pso"];

@@ -1,9 +1,9 @@
 -- The clauses of a log: one list for each code, log and memory model, in which `solve` searches and which `check` holds derivations against.
 use Rattle.std.specs.Prelude.{Bool, if◌then◌else◌}
-use Rattle.tc_base.specs.Buffers.{buffer_of}
-use Rattle.tc_base.specs.Logs.{Log}
-use Rattle.tc_base.specs.declared.model.Model.{Model}
-use Rattle.tc_base.specs.declared.model.Model.TheVariants.{Sc, Tso, Pso}
+use Rattle.store_buffers.specs.Buffers.{buffer_of}
+use Rattle.run_log.specs.Logs.{Log}
+use Rattle.memory_models.specs.declared.model.Model.{Model}
+use Rattle.memory_models.specs.declared.model.Model.TheVariants.{Sc, Tso, Pso}
 use Rattle.tc_code.specs.Code.{Code}
 use Rattle.store_buffers.specs.Pending.{Binding, binds_all, binds_cells}
 use Rattle.path_walk.specs.Paths.{paths_of}

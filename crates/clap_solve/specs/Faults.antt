@@ -1,6 +1,6 @@
 -- Why a derivation says nothing of a log.
 use Rattle.std.specs.Prelude.{◌≡◌, ◌≢◌, Bool, List, Err}
-use Rattle.tc_base.specs.Logs.{Log}
+use Rattle.run_log.specs.Logs.{Log}
 use Rattle.tc_code.specs.Code.{Code}
 use Rattle.store_buffers.specs.Pending.{Binding}
 use Rattle.refute_check.specs.Refutations.{check}

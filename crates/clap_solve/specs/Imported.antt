@@ -1,8 +1,8 @@
 -- What another solver's answer comes to.
 use Rattle.std.specs.Prelude.{◌≡◌, ℕ, suc, List, ℤ, IsTrue}
 use Rattle.tc_base.specs.Buffers.{BufferOps}
-use Rattle.tc_base.specs.Logs.{Log}
-use Rattle.tc_base.specs.declared.model.Model.{Model}
+use Rattle.run_log.specs.Logs.{Log}
+use Rattle.memory_models.specs.declared.model.Model.{Model}
 use Rattle.tc_code.specs.Code.{Code}
 use Rattle.tc_code.specs.Run.{Reproduces}
 use Rattle.store_buffers.specs.Pending.{Binding}

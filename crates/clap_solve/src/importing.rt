@@ -12,7 +12,7 @@ use crate::solving::schedule;
 use clap_system::BuildFault;
 use cnf_core::Assignment;
 use dimacs_text::{Literals, assignment, first_false};
-use path_log::Log;
+use run_log::Log;
 use std::alloc::{AllocError, Global};
 use std::mem::drop;
 use store_buffers::MemoryModel;

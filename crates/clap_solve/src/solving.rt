@@ -1,6 +1,6 @@
 //! The search for a schedule.
 ghost use Rattle.std.specs.Prelude.{◌≡◌, ◌≤◌, length, IfOk, IfErr};
-ghost use Rattle.tc_base.specs.declared.limits.TheConstants.{BUDGET, EVENTS};
+ghost use Rattle.tc_limits.specs.declared.limits.TheConstants.{BUDGET, EVENTS};
 ghost use Rattle.lawful_order.specs.Events.{all_events};
 ghost use Rattle.clap_system.specs.Faults.{IsBuildFault};
 ghost use Rattle.clap_solve.specs.Solved.{IsSolved};
@@ -12,7 +12,7 @@ use cdcl_core::{Solved, solve_cnf};
 use clap_system::BuildFault;
 use cnf_core::Assignment;
 use first_run::first_world;
-use path_log::Log;
+use run_log::Log;
 use schedule_decode::decode;
 use schedule_file::Schedule;
 use std::alloc::{AllocError, Global};

@@ -1,8 +1,9 @@
 -- Why a log has no system.
 use Rattle.std.specs.Prelude.{◌≡◌, ℕ, ◌<◌, ◌≤◌, List, length, map, nat_lt, Option, Some, None}
 use Rattle.std.specs.List.{find}
-use Rattle.tc_base.specs.Logs.{Log, ThreadPath}
-use Rattle.tc_base.specs.declared.limits.TheConstants.{THREADS, DEPTH, EVENTS, OPERATORS}
+use Rattle.run_log.specs.Logs.{Log}
+use Rattle.tc_base.specs.Paths.{ThreadPath}
+use Rattle.tc_limits.specs.declared.limits.TheConstants.{THREADS, DEPTH, EVENTS, OPERATORS}
 use Rattle.tc_code.specs.Code.{Code}
 use Rattle.path_walk.specs.Fits.{Fits, IsFirst}
 use Rattle.path_walk.specs.Paths.{paths_of}

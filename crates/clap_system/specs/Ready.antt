@@ -1,7 +1,7 @@
 -- What whoever turns a system into clauses builds on.
 use Rattle.std.specs.Prelude.{◌≡◌, ◌≤◌, ◌==◌, ◌∷◌, length, map}
 use Rattle.std.specs.List.{All, Contains, IsDistinct}
-use Rattle.tc_base.specs.declared.limits.TheConstants.{EVENTS}
+use Rattle.tc_limits.specs.declared.limits.TheConstants.{EVENTS}
 use Rattle.sym_exec.specs.Ints.{HasInt}
 use Rattle.order_formula.specs.Formulas.{IsOf}
 use Rattle.order_formula.specs.Orders.{ConjunctIsIn, IsAsked}

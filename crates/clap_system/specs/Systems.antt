@@ -1,6 +1,6 @@
 -- The system of a log: what its paths, their execution and a memory model ask of the order of events.
 use Rattle.std.specs.Prelude.{List, [], ◌++◌, length, fold, Bool}
-use Rattle.tc_base.specs.Logs.{Log}
+use Rattle.run_log.specs.Logs.{Log}
 use Rattle.tc_code.specs.Code.{Code}
 use Rattle.path_walk.specs.Paths.{Paths, paths_of}
 use Rattle.store_buffers.specs.Pending.{Binding}

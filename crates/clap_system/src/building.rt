@@ -2,7 +2,7 @@
 ghost use Rattle.std.specs.Prelude.{◌≡◌, ◌≤◌, length, IfOk, IfErr, OnOk};
 ghost use Rattle.std.specs.List.{All};
 ghost use Rattle.std.specs.Option.{MatchOption};
-ghost use Rattle.tc_base.specs.declared.limits.TheConstants.{EVENTS, OPERATORS, STEPS};
+ghost use Rattle.tc_limits.specs.declared.limits.TheConstants.{EVENTS, OPERATORS, STEPS};
 ghost use Rattle.path_walk.specs.Fits.{Fits};
 ghost use Rattle.path_walk.specs.Paths.{ArePaths};
 ghost use Rattle.tc_code.specs.Code as spec;
@@ -19,16 +19,16 @@ use crate::{BuildFault, System, Which};
 use memory_order::order_constraints;
 use order_events::{Sleeps, formula_of};
 use order_formula::{Formula, Order};
-use path_log::{Log, ThreadPath};
 use path_walk::{Paths, walk};
 use read_write::read_constraints;
+use run_log::{Log, ThreadPath};
 use std::alloc::{AllocError, Global};
 use store_buffers::MemoryModel;
 use sym_exec::{Symbolic, execute};
 use sym_terms::Terms;
 use sync_order::sync_constraints;
-use tc_base::limits::{DEPTH, EVENTS, OPERATORS, THREADS};
 use tc_code::Code;
+use tc_limits::limits::{DEPTH, EVENTS, OPERATORS, THREADS};
 
 /// The system of a log, under a memory model.
 ///

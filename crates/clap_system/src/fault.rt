@@ -6,7 +6,7 @@ ghost use Rattle.clap_system.specs.declared.fault.BuildFault.TheVariants.{Memory
 
 use path_walk::WalkFault;
 use std::alloc::{AllocError, AllocFailed};
-use tc_base::limits::{DEPTH, EVENTS, OPERATORS, THREADS};
+use tc_limits::limits::{DEPTH, EVENTS, OPERATORS, THREADS};
 
 /// What the paths of a log may have too much of.
 #[derive(Clone, Copy, Debug, PartialEq, Eq)]

@@ -2,7 +2,8 @@
 use Rattle.std.specs.Prelude.{ℕ, ◌-◌, List, [], ◌∷◌, length, Bool, Option, Some, None, option_map, option_and_then, unwrap_or, slice_get}
 use Rattle.std.specs.List.{find}
 use Rattle.std.specs.Option.{option_map_or}
-use Rattle.tc_base.specs.Logs.{Log, ThreadPath}
+use Rattle.run_log.specs.Logs.{Log}
+use Rattle.tc_base.specs.Paths.{ThreadPath}
 use Rattle.tc_base.specs.Names.{Name, main}
 use Rattle.tc_code.specs.Code.{Code, line_at}
 use Rattle.path_walk.specs.Events.{is_impossible}

@@ -6,8 +6,8 @@ ghost use Rattle.path_walk.specs.Steps.{steps_at};
 ghost use Rattle.dead_paths.specs.Causes.{cause_of, exit_line, first_cause, line_in};
 
 use crate::own::Own;
-use path_log::Log;
 use path_walk::Paths;
+use run_log::Log;
 use std::alloc::{AllocError, Global};
 use std::marker::Model;
 use tc_base::ThreadName;

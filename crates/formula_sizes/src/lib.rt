@@ -4,8 +4,8 @@
 #![tactic(auto)]
 
 ghost use Rattle.std.specs.Prelude.{◌≤◌, ℕ, Bool, List, [], length};
-ghost use Rattle.tc_base.specs.Logs.{Log};
-ghost use Rattle.tc_base.specs.declared.limits.TheConstants.{EVENTS};
+ghost use Rattle.run_log.specs.Logs.{Log};
+ghost use Rattle.tc_limits.specs.declared.limits.TheConstants.{EVENTS};
 ghost use Rattle.tc_code.specs.Code.{Code};
 ghost use Rattle.path_walk.specs.Paths.{paths_of};
 ghost use Rattle.store_buffers.specs.Pending.{Binding};

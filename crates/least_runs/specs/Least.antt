@@ -1,6 +1,6 @@
 -- Runs that fail with as few steps as possible.
 use Rattle.std.specs.Prelude.{◌≡◌, Bool, false, List, ◌∷◌, ◌++◌, Some}
-use Rattle.tc_base.specs.Logs.{Path}
+use Rattle.tc_base.specs.Paths.{Path}
 use Rattle.tc_base.specs.Names.{Name}
 use Rattle.tc_code.specs.Code.{Code}
 use Rattle.store_buffers.specs.Pending.{Binding}

@@ -8,7 +8,7 @@ ghost use Rattle.std.specs.FinMap as fin;
 ghost use Rattle.tc_base.specs.Buffers.{BufferOps};
 ghost use Rattle.tc_base.specs.Names.{Name, child};
 ghost use Rattle.tc_base.specs.States.{Local};
-ghost use Rattle.tc_base.specs.declared.model.Model.{Model};
+ghost use Rattle.memory_models.specs.declared.model.Model.{Model};
 ghost use Rattle.tc_base.specs.declared.request.Request.{Request};
 ghost use Rattle.tc_base.specs.declared.request.Request.TheVariants.{Await};
 ghost use Rattle.tc_code.specs.Code.{Code};

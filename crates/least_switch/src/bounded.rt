@@ -1,7 +1,7 @@
 //! The clauses of a log with at most so many context switches.
 ghost use Rattle.std.specs.Prelude.{◌≡◌, ◌≤◌, ◌<◌, false, length, IfOk, IfErr, OnOk};
 ghost use Rattle.std.specs.List.{All};
-ghost use Rattle.tc_base.specs.declared.limits.TheConstants.{EVENTS};
+ghost use Rattle.tc_limits.specs.declared.limits.TheConstants.{EVENTS};
 ghost use Rattle.order_formula.specs.Formulas.{IsOf};
 ghost use Rattle.order_formula.specs.Orders.{ConjunctIsIn};
 ghost use Rattle.lawful_order.specs.Events.{all_events};
@@ -15,8 +15,8 @@ use bit_order::Layout;
 use clap_system::{BuildFault, build};
 use cnf_core::Cnf;
 use order_formula::{Formula, Order, World};
-use path_log::Log;
 use path_walk::Paths;
+use run_log::Log;
 use std::alloc::{AllocError, Global};
 use store_buffers::MemoryModel;
 use sym_exec::Symbolic;

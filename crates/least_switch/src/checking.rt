@@ -7,8 +7,8 @@ ghost use Rattle.switch_clauses.specs.Clauses.{switch_clauses};
 
 use crate::bounded::pose_bounded;
 use clap_system::BuildFault;
-use path_log::Log;
 use refute_check::Checker;
+use run_log::Log;
 use std::alloc::Global;
 use store_buffers::MemoryModel;
 use tc_code::Code;

@@ -1,7 +1,7 @@
 //! What switches are counted by: the thread of each event, and the event that fails.
 ghost use Rattle.std.specs.Prelude.{◌≡◌, ◌==◌, ◌&&◌, ◌<◌, ◌≤◌, All, IfOk, length, option_map};
 ghost use Rattle.std.specs.List.{find, position_or_len};
-ghost use Rattle.tc_base.specs.declared.limits.TheConstants.{EVENTS};
+ghost use Rattle.tc_limits.specs.declared.limits.TheConstants.{EVENTS};
 ghost use Rattle.lawful_order.specs.Events.{all_events};
 ghost use Rattle.world_plan.specs.Plan.{is_failure};
 ghost use Rattle.switch_runs.specs.Worlds.{failing_of, threads_of, world_switches};

@@ -1,6 +1,6 @@
 //! Searches one after another, each for fewer context switches.
 ghost use Rattle.std.specs.Prelude.{◌≡◌, ◌≤◌, IfOk, IfErr};
-ghost use Rattle.tc_base.specs.declared.limits.TheConstants.{BUDGET};
+ghost use Rattle.tc_limits.specs.declared.limits.TheConstants.{BUDGET};
 ghost use Rattle.clap_system.specs.Faults.{IsBuildFault};
 ghost use Rattle.clap_solve.specs.Posed.{IsGiven};
 ghost use Rattle.least_switch.specs.Least.{IsLeast};
@@ -10,7 +10,7 @@ use crate::Least;
 use crate::best::Best;
 use crate::stages::{Found, fewer, first};
 use clap_system::BuildFault;
-use path_log::Log;
+use run_log::Log;
 use std::alloc::Global;
 use store_buffers::MemoryModel;
 use tc_code::Code;

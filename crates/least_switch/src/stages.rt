@@ -1,6 +1,6 @@
 //! One search: for any schedule of a log, or for one with at most so many context switches.
 ghost use Rattle.std.specs.Prelude.{◌≤◌, IfOk, IfErr, length};
-ghost use Rattle.tc_base.specs.declared.limits.TheConstants.{BUDGET, EVENTS};
+ghost use Rattle.tc_limits.specs.declared.limits.TheConstants.{BUDGET, EVENTS};
 ghost use Rattle.lawful_order.specs.Events.{all_events};
 ghost use Rattle.cdcl_core.specs.Solving.{Solves};
 ghost use Rattle.clap_system.specs.Faults.{IsBuildFault};
@@ -17,8 +17,8 @@ use clap_system::BuildFault;
 use cnf_core::Assignment;
 use first_run::first_world;
 use order_formula::World;
-use path_log::Log;
 use refute_check::Derivation;
+use run_log::Log;
 use std::alloc::{AllocError, Global};
 use std::mem::drop;
 use store_buffers::MemoryModel;

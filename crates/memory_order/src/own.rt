@@ -1,7 +1,7 @@
 //! The conjuncts of threads' own events.
 ghost use Rattle.std.specs.Prelude.{◌≡◌, ◌≤◌, ◌++◌, ◌∷◌, List, [], length, fold, map, filter, IfOk, OnOk};
 ghost use Rattle.std.specs.List.{flat_map};
-ghost use Rattle.tc_base.specs.declared.limits.TheConstants.{EVENTS};
+ghost use Rattle.tc_limits.specs.declared.limits.TheConstants.{EVENTS};
 ghost use Rattle.sym_terms.specs.Terms.{with_node};
 ghost use Rattle.sym_terms.specs.declared.node.Node.{Node};
 ghost use Rattle.sym_exec.specs.Making.{Grows};

@@ -2,11 +2,11 @@
 -- More could be left out: paths that decide a test of constants the wrong way, and rounds of a
 -- loop that change nothing.
 use Rattle.std.specs.Prelude.{◌≡◌, ◌⊎◌, ℕ, true, false, [], Some, IsSome}
-use Rattle.tc_base.specs.Logs.{Log, failing_of}
+use Rattle.run_log.specs.Logs.{Log, failing_of}
 use Rattle.tc_base.specs.Names.{child}
 use Rattle.tc_base.specs.declared.failing.Failing.TheVariants.{Deadlock}
 use Rattle.tc_code.specs.Code.{Code}
-use Rattle.path_log.specs.Texts.{is_log}
+use Rattle.run_log.specs.Logs.{is_log}
 use Rattle.path_walk.specs.Fits.{fails_in, Fits}
 use Rattle.path_walk.specs.Paths.{Walk, paths_of}
 use Rattle.path_walk.specs.declared.event.Blocked.{Blocked}

@@ -6,7 +6,7 @@
 
 ghost use Rattle.std.specs.Prelude.{◌↔◌, ℕ, IsSome};
 ghost use Rattle.tc_base.specs.Buffers.{BufferOps};
-ghost use Rattle.tc_base.specs.declared.model.Model.{Model};
+ghost use Rattle.memory_models.specs.declared.model.Model.{Model};
 ghost use Rattle.tc_code.specs.Code.{Code};
 ghost use Rattle.tc_code.specs.Lawful.{IsLawful};
 ghost use Rattle.tc_code.specs.Run.{IsStuck};

@@ -1,7 +1,7 @@
 -- Whether two accesses are to one cell, as far as names and constants tell it in every world, and the test that tells the rest.
 use Rattle.std.specs.Prelude.{ℕ, ℤ, List, Option, Some, None, Bool, true, false, ◌==◌, is_none, option_map, option_and_then, slice_get, if◌then◌else◌}
 use Rattle.std.specs.Ordering.{int_eq}
-use Rattle.tc_base.specs.declared.arith.BinOp.TheVariants.{Eq}
+use Rattle.int_ops.specs.declared.arith.BinOp.TheVariants.{Eq}
 use Rattle.sym_terms.specs.declared.node.Node.{Node}
 use Rattle.sym_terms.specs.declared.node.Node.TheVariants.{Constant, Binary}
 use Rattle.sym_exec.specs.declared.symbolic.Cell.{Cell}

@@ -6,10 +6,10 @@ ghost use Rattle.sym_exec.specs.declared.symbolic.Cell.TheVariants.{Element};
 ghost use Rattle.order_cells.specs.Same as spec;
 ghost use Rattle.order_cells.specs.Terms.{CellIsOf};
 
+use int_ops::BinOp;
 use std::alloc::AllocError;
 use sym_exec::Cell;
 use sym_terms::{Id, Node, Terms};
-use tc_base::BinOp;
 
 /// Whether two cells are one, where names and constants tell it. None where both are elements of one array, and the values of
 /// their indexes decide.

@@ -1,6 +1,6 @@
 -- When a formula says that a log is possible.
 use Rattle.std.specs.Prelude.{◌≡◌, Bool, false, true}
-use Rattle.tc_base.specs.Logs.{Log}
+use Rattle.run_log.specs.Logs.{Log}
 use Rattle.tc_code.specs.Code.{Code}
 use Rattle.store_buffers.specs.Pending.{Binding}
 use Rattle.path_walk.specs.Paths.{paths_of}

@@ -2,7 +2,8 @@
 use Rattle.std.specs.Prelude.{◌≡◌, ◌≤◌, ◌==◌, Bool, false, ◌&&◌, List, ◌++◌, Option, Some, bytes_eq}
 use Rattle.std.specs.FinMap as fin
 use Rattle.std.specs.Option.{option_map_or}
-use Rattle.tc_base.specs.Logs.{Log, Path, path_under}
+use Rattle.run_log.specs.Logs.{Log}
+use Rattle.tc_base.specs.Paths.{Path, path_under}
 use Rattle.tc_base.specs.Names.{Name}
 use Rattle.tc_base.specs.States.{Local, Thread, State}
 use Rattle.path_walk.specs.Fits.{fails_in}

@@ -2,10 +2,10 @@
 //! clause is a law, and its body does nothing.
 ghost use Rattle.std.specs.Prelude.{◌≡◌, ◌≤◌, ◌<◌, ℕ, ℤ, true, false, Option, Some, None, List, [], ◌∷◌, ◌++◌, length};
 ghost use Rattle.tc_base.specs.Buffers.{BufferOps};
-ghost use Rattle.tc_base.specs.Logs.{Log};
+ghost use Rattle.run_log.specs.Logs.{Log};
 ghost use Rattle.tc_base.specs.Names.{Name};
 ghost use Rattle.tc_base.specs.States.{State};
-ghost use Rattle.tc_base.specs.declared.model.Model.{Model};
+ghost use Rattle.memory_models.specs.declared.model.Model.{Model};
 ghost use Rattle.tc_base.specs.declared.moves.Move.{Move};
 ghost use Rattle.tc_base.specs.declared.request.Request.{Request};
 ghost use Rattle.tc_code.specs.Code.{Code};
@@ -17,7 +17,7 @@ ghost use Rattle.run_history.specs.History.{Deed, Did, Drained, history};
 ghost use Rattle.run_history.specs.Told.{is_thread_in, steps_in, failed_in, fails};
 ghost use Rattle.run_follows.specs.Follow.{MayFollow, moves_for};
 ghost use Rattle.run_follows.specs.Logged.{EndsAsIn, GoesAsLogged};
-ghost use Rattle.path_log.specs.Texts.{is_log};
+ghost use Rattle.run_log.specs.Logs.{is_log};
 ghost use Rattle.path_walk.specs.Fits.{Fits};
 ghost use Rattle.path_walk.specs.Paths.{Walk, paths_of};
 ghost use Rattle.path_laws.specs.Prefixes.{AreOnPaths};

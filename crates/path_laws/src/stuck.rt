@@ -2,9 +2,9 @@
 //! a law, and its body does nothing.
 ghost use Rattle.std.specs.Prelude.{◌≡◌, ◌↔◌, ℕ, true, false, Some, IsSome, List, option_map};
 ghost use Rattle.tc_base.specs.Buffers.{BufferOps};
-ghost use Rattle.tc_base.specs.Logs.{Log};
+ghost use Rattle.run_log.specs.Logs.{Log};
 ghost use Rattle.tc_base.specs.declared.failing.Failing.TheVariants.{Deadlock};
-ghost use Rattle.tc_base.specs.declared.model.Model.{Model};
+ghost use Rattle.memory_models.specs.declared.model.Model.{Model};
 ghost use Rattle.tc_base.specs.declared.moves.Move.{Move};
 ghost use Rattle.tc_code.specs.Code.{Code};
 ghost use Rattle.tc_code.specs.Lawful.{IsLawful};
@@ -16,7 +16,7 @@ ghost use Rattle.run_history.specs.Locals.{asks_next};
 ghost use Rattle.run_history.specs.Told.{is_thread_in, has_exited_in};
 ghost use Rattle.run_follows.specs.Follow.{IsLeftIn};
 ghost use Rattle.run_follows.specs.blocked.Stuck.{IsBlockedIn};
-ghost use Rattle.path_log.specs.Texts.{is_log};
+ghost use Rattle.run_log.specs.Logs.{is_log};
 ghost use Rattle.path_walk.specs.Fits.{Fits};
 ghost use Rattle.path_walk.specs.Paths.{Walk};
 ghost use Rattle.path_walk.specs.declared.event.Blocked.{Blocked};

@@ -4,12 +4,13 @@ use Rattle.std.specs.Prelude.{List, [], ◌∷◌, ◌++◌, length, take, drop,
 use Rattle.std.specs.List.{flat_map, list_all}
 use Rattle.byteorder.specs.Endian.{big_number}
 use Rattle.tc_base.specs.Names.{Name}
-use Rattle.tc_base.specs.Logs.{ThreadPath}
+use Rattle.tc_base.specs.Paths.{ThreadPath}
 use Rattle.tc_base.specs.declared.failing.Failing.{Failing}
 use Rattle.tc_base.specs.declared.failing.Failing.TheVariants.{Thread, Deadlock}
-use Rattle.tc_base.specs.declared.model.Model.{Model}
-use Rattle.tc_base.specs.declared.model.Model.TheVariants.{Sc, Tso, Pso}
-use Rattle.path_log.specs.Texts.{StoredLog, is_above, is_within, is_there, has_ending, bytes_for}
+use Rattle.memory_models.specs.declared.model.Model.{Model}
+use Rattle.memory_models.specs.declared.model.Model.TheVariants.{Sc, Tso, Pso}
+use Rattle.run_log.specs.Logs.{StoredLog, is_above, is_there}
+use Rattle.path_log.specs.Texts.{is_within, has_ending, bytes_for}
 
 -- an offset, and the bytes from there on
 abbrev pub Place : Type 0

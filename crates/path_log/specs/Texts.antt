@@ -1,4 +1,4 @@
--- Logs as files hold them, and the text of each.
+-- The text of a log.
 use Rattle.std.specs.Prelude.{◌≡◌, ◌≢◌, ℕ, zero, suc, ◌+◌, ◌/◌, ◌^◌, ◌<◌, Bool, true, false, ◌&&◌, nat_le, nat_lt, ◌==◌, if◌then◌else◌, IsTrue, IfSome}
 use Rattle.std.specs.Prelude.{List, [], ◌∷◌, ◌++◌, length, drop, slice_index, Option, Some, None, is_some, codes, IsSomeAnd}
 use Rattle.std.specs.List.{flat_map, list_all}
@@ -8,35 +8,13 @@ use Rattle.std.specs.Cmp.Lexicographic.{slice_cmp}
 use Rattle.byteorder.specs.Endian.{big_bytes}
 use Rattle.sha2.specs.Sha256.{sha256}
 use Rattle.tc_base.specs.Names.{Name}
-use Rattle.tc_base.specs.Logs.{Log, ThreadPath}
+use Rattle.run_log.specs.Logs.{Log}
+use Rattle.tc_base.specs.Paths.{ThreadPath}
+use Rattle.run_log.specs.Logs.{StoredLog, is_log, is_digest}
 use Rattle.tc_base.specs.declared.failing.Failing.{Failing}
 use Rattle.tc_base.specs.declared.failing.Failing.TheVariants.{Thread, Deadlock}
-use Rattle.tc_base.specs.declared.model.Model.{Model}
-use Rattle.tc_base.specs.declared.model.Model.TheVariants.{Sc, Tso, Pso}
-
--- a log, and the digest of the program that it was recorded of, where that is known
-pub record StoredLog : Type 0 where
-  pub digest : Option (List ℕ)
-  pub log : Log
-
--- the name is above this one, if there is one
-abbrev pub is_above : Option Name → Name → Bool
-is_above None name = true
-is_above (Some last) name = is_lt (slice_cmp nat_cmp last name)
-
--- each name is above the one before it
-abbrev pub rises_from : Option Name → List ThreadPath → Bool
-rises_from last [] = true
-rises_from last (t ∷ ts) = is_above last t.name && rises_from (Some t.name) ts
-
--- of so many threads, the one that failed is there; in a deadlock some thread is
-abbrev pub is_there : Failing → ℕ → Bool
-is_there (Thread k) count = nat_lt k count
-is_there Deadlock count = nat_lt 0 count
-
--- the paths have different names, in order, and that of the thread that failed is there, if one did
-abbrev pub is_log : Log → Bool
-is_log log = rises_from None log.threads && is_there log.failing (length log.threads)
+use Rattle.memory_models.specs.declared.model.Model.{Model}
+use Rattle.memory_models.specs.declared.model.Model.TheVariants.{Sc, Tso, Pso}
 
 -- Bits of a byte, the highest first.
 
@@ -123,10 +101,6 @@ abbrev pub has_ending : Bool → Failing → Bool
 has_ending true failing = true
 has_ending false (Thread k) = true
 has_ending false Deadlock = false
-
--- a digest has 32 bytes
-abbrev pub is_digest : List ℕ → Bool
-is_digest digest = length digest == 32 && list_all (λ byte. nat_lt byte 256) digest
 
 -- numbers that bytes have
 abbrev pub AreBytes : List ℕ → Type 0

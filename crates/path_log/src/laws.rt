@@ -1,6 +1,7 @@
 //! Laws of the texts of logs. They do nothing when they run.
 ghost use Rattle.std.specs.Prelude.{◌≡◌, ◌++◌, ℕ, List, []};
-ghost use Rattle.path_log.specs.Texts.{StoredLog, HasText, IsLog, AreBytes, log_text};
+ghost use Rattle.run_log.specs.Logs.{StoredLog};
+ghost use Rattle.path_log.specs.Texts.{HasText, IsLog, AreBytes, log_text};
 ghost use Rattle.path_log.specs.Faults.{BreaksAt};
 
 /// A text is that of one log at most, and no log's text begins another's.

@@ -1,6 +1,7 @@
 //! From a text to its log.
 ghost use Rattle.std.specs.Prelude.{◌≡◌, ◌<◌, IfOk, IfErr, MatchResult};
-ghost use Rattle.path_log.specs.Texts.{StoredLog, IsLog};
+ghost use Rattle.run_log.specs.Logs.{StoredLog};
+ghost use Rattle.path_log.specs.Texts.{IsLog};
 ghost use Rattle.path_log.specs.Faults.{IsFault};
 ghost use Rattle.path_log.specs.Fields as fields;
 ghost use Rattle.path_log.specs.helpers.Reading.{Gives, place, seen};
@@ -8,10 +9,11 @@ ghost use Rattle.path_log.specs.helpers.Reading.{Gives, place, seen};
 use crate::cursor::Cursor;
 use crate::fault::LogFault;
 use crate::field::{byte, byte_within, field, two_within};
-use crate::log::Log;
 use crate::threads::threads;
+use memory_models::Model;
+use run_log::Log;
 use std::alloc::Global;
-use tc_base::{Failing, Model};
+use tc_base::Failing;
 
 /// The log that this text is.
 ///

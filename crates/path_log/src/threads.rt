@@ -1,6 +1,7 @@
 //! The paths of threads.
 ghost use Rattle.std.specs.Prelude.{◌≡◌, None, option_map};
-ghost use Rattle.path_log.specs.Texts.{is_above, is_within};
+ghost use Rattle.run_log.specs.Logs.{is_above};
+ghost use Rattle.path_log.specs.Texts.{is_within};
 ghost use Rattle.path_log.specs.Fields as fields;
 ghost use Rattle.path_log.specs.Fields.{◌such◌};
 ghost use Rattle.path_log.specs.helpers.Reading.{Gives, place, seen, last_name};
@@ -8,8 +9,8 @@ ghost use Rattle.path_log.specs.helpers.Reading.{Gives, place, seen, last_name};
 use crate::cursor::Cursor;
 use crate::fault::LogFault;
 use crate::field::{byte, byte_within, two};
-use crate::log::ThreadPath;
 use crate::outcomes::outcomes;
+use run_log::ThreadPath;
 use std::alloc::Global;
 use tc_base::ThreadName;
 

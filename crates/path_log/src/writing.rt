@@ -5,9 +5,10 @@ ghost use Rattle.byteorder.specs.Endian.{big_bytes};
 ghost use Rattle.path_log.specs.Texts as texts;
 ghost use Rattle.path_log.specs.Texts.{is_of_format, has_ending, is_thread, is_within, bytes_for};
 
-use crate::log::{Log, ThreadPath};
+use memory_models::Model;
+use run_log::{Log, ThreadPath};
 use std::alloc::{AllocError, Global};
-use tc_base::{Failing, Model, ThreadName};
+use tc_base::{Failing, ThreadName};
 
 /// The text of a log, in format 2 where it has a digest, and else in format 1.
 pub fn write_log(alloc: Global, log: &Log) -> Result<Vec<u8>, AllocError>

@@ -6,7 +6,8 @@ use Rattle.std.specs.Option.{option_map_or}
 use Rattle.std.specs.Result.{result_err, result_unwrap_or}
 use Rattle.std.specs.Ordering.{is_lt}
 use Rattle.tc_base.specs.Names.{Name, main, child, by_name}
-use Rattle.tc_base.specs.Logs.{Log, failing_of, path_under}
+use Rattle.run_log.specs.Logs.{Log, failing_of}
+use Rattle.tc_base.specs.Paths.{path_under}
 use Rattle.tc_code.specs.Code.{Code}
 use Rattle.tc_code.specs.declared.instr.Instr.{Instr}
 use Rattle.tc_code.specs.declared.instr.Instr.TheVariants.{Create}

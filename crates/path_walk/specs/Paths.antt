@@ -2,7 +2,8 @@
 use Rattle.std.specs.Prelude.{◌≡◌, ℕ, ◌-◌, ◌^◌, List, map, length, Bool, false, ◌||◌, sum, min, Option, None, is_none, unwrap_or, option_and_then}
 use Rattle.std.specs.List.{list_all, list_any}
 use Rattle.tc_base.specs.Names.{Name}
-use Rattle.tc_base.specs.Logs.{ThreadPath, Log}
+use Rattle.tc_base.specs.Paths.{ThreadPath}
+use Rattle.run_log.specs.Logs.{Log}
 use Rattle.tc_base.specs.declared.failing.Failing.{Failing}
 use Rattle.tc_base.specs.declared.failing.Failing.TheVariants.{Thread, Deadlock}
 use Rattle.tc_code.specs.Code.{Code}

@@ -13,7 +13,7 @@ use crate::operators::operators;
 use crate::parts::{Parts, parts_of};
 use crate::tell::{Told, tell};
 use crate::{Blocked, Sleep, Walk};
-use path_log::ThreadPath;
+use run_log::ThreadPath;
 use std::alloc::{AllocError, Global};
 use std::marker::Model;
 use tc_code::{Code, Instr};

@@ -8,7 +8,7 @@ ghost use Rattle.path_walk.specs.declared.follow.FollowFault.TheVariants.{Memory
 
 use crate::Misfit;
 use crate::ending::Ending;
-use path_log::ThreadPath;
+use run_log::ThreadPath;
 use std::alloc::{AllocError, AllocFailed, Global};
 use tc_code::{Code, Instr};
 

@@ -7,7 +7,7 @@ ghost use Rattle.path_walk.specs.Events.{takes, leaves, left_at, region_of, regi
 ghost use Rattle.path_walk.specs.Events.{create_by, join_by, creates_of, joins_of};
 
 use crate::{Event, EventKind, Link, Region, Sleep};
-use path_log::ThreadPath;
+use run_log::ThreadPath;
 use std::alloc::{AllocError, Global};
 use std::collections::BTreeMap;
 use tc_base::ThreadName;

@@ -1,12 +1,12 @@
 //! The ways of all threads of a log.
 ghost use Rattle.std.specs.Prelude.{◌≡◌, ◌≤◌, length, IfOk, OnOk, IfErr};
-ghost use Rattle.tc_base.specs.declared.limits.TheConstants.{THREADS};
+ghost use Rattle.tc_limits.specs.declared.limits.TheConstants.{THREADS};
 ghost use Rattle.path_walk.specs.Fits.{Fits, IsFault};
 ghost use Rattle.path_walk.specs.Paths.{paths_of};
 
 use crate::draft::Draft;
 use crate::{Misfit, Paths, WalkFault};
-use path_log::Log;
+use run_log::Log;
 use std::alloc::Global;
 use tc_base::ThreadName;
 use tc_code::Code;

@@ -3,9 +3,9 @@
 ghost use Rattle.std.specs.Prelude.{◌≡◌, ◌<◌, ℕ, ℤ, pos, true, false, Option, Some, None, List, [], ◌∷◌, ◌++◌, suc, slice_get, slice_index_or};
 ghost use Rattle.std.specs.List.{Contains};
 ghost use Rattle.tc_base.specs.Buffers.{BufferOps};
-ghost use Rattle.tc_base.specs.Logs.{Log};
+ghost use Rattle.run_log.specs.Logs.{Log};
 ghost use Rattle.tc_base.specs.Names.{Name};
-ghost use Rattle.tc_base.specs.declared.model.Model.{Model};
+ghost use Rattle.memory_models.specs.declared.model.Model.{Model};
 ghost use Rattle.tc_base.specs.declared.request.Request.{Request};
 ghost use Rattle.tc_code.specs.Code.{Code};
 ghost use Rattle.store_buffers.specs.Pending.{Binding};

@@ -1,7 +1,7 @@
 -- What it means that a derivation reaches groups.
 use Rattle.std.specs.Prelude.{◌≡◌, ℕ, List, Some, None, get_or, length}
 use Rattle.std.specs.List.{All, Contains}
-use Rattle.tc_base.specs.Arith.{IsInt}
+use Rattle.int_ops.specs.Arith.{IsInt}
 use Rattle.sym_terms.specs.declared.node.Node.{Node}
 use Rattle.order_formula.specs.declared.formula.Conjunct.{Conjunct}
 use Rattle.order_formula.specs.declared.group.Group.{Group}

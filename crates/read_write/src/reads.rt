@@ -2,7 +2,7 @@
 ghost use Rattle.std.specs.Prelude.{◌≡◌, ◌≤◌, [], List, fold, length, IfOk, OnOk, option_map, slice_get};
 ghost use Rattle.std.specs.List.{All, filter_map, flat_map};
 ghost use Rattle.std.specs.Option.{option_map_or, option_to_list};
-ghost use Rattle.tc_base.specs.declared.limits.TheConstants.{EVENTS};
+ghost use Rattle.tc_limits.specs.declared.limits.TheConstants.{EVENTS};
 ghost use Rattle.sym_terms.specs.Terms.{with_node};
 ghost use Rattle.sym_terms.specs.declared.node.Node.{Node};
 ghost use Rattle.sym_exec.specs.Making.{Grows};

@@ -1,6 +1,6 @@
 //! The first line of a refutation.
 
-use tc_base::Model;
+use memory_models::Model;
 
 /// What a refutation's first line says: the memory model, and the number of context switches if the formula bounds them.
 #[derive(Clone, Copy, Debug, PartialEq, Eq)]

@@ -4,7 +4,7 @@ ghost use Rattle.refute_check.specs.helpers.Guess.{small_number, switches_in, he
 ghost use Rattle.refute_check.specs.Texts.{is_head};
 
 use crate::Head;
-use tc_base::Model;
+use memory_models::Model;
 
 /// The bytes without the first ones.
 fn after(bytes: &[u8], count: usize) -> &[u8]

@@ -1,7 +1,8 @@
 -- Histories that go as a log says.
 use Rattle.std.specs.Prelude.{◌≡◌, Bool, List, Option, Some, option_map, slice_get, IsSomeAnd}
 use Rattle.std.specs.FinMap as fin
-use Rattle.tc_base.specs.Logs.{Path, ThreadPath, Log, path_under}
+use Rattle.tc_base.specs.Paths.{Path, ThreadPath, path_under}
+use Rattle.run_log.specs.Logs.{Log}
 use Rattle.tc_base.specs.Names.{Name}
 use Rattle.tc_base.specs.States.{Local}
 use Rattle.tc_base.specs.declared.failing.Failing.{Failing}

@@ -3,7 +3,7 @@ use Rattle.std.specs.Prelude.{ℕ, ◌+◌, ◌-◌, ℤ, List, [], Option, opti
 use Rattle.std.specs.Option.{option_map_or}
 use Rattle.std.specs.FinMap as fin
 use Rattle.tc_base.specs.Names.{Name, ByName, main, child}
-use Rattle.tc_base.specs.Buffers.{no_buffer}
+use Rattle.store_buffers.specs.Buffers.{no_buffer}
 use Rattle.tc_base.specs.States.{Local}
 use Rattle.tc_base.specs.declared.request.Request.{Request}
 use Rattle.tc_base.specs.declared.request.Request.TheVariants.{Start, Fail}

@@ -4,7 +4,8 @@ use Rattle.std.specs.Prelude.{List, fold, slice_index_or, if◌then◌else◌}
 use Rattle.std.specs.List.{filter_map, list_any, last_or, count_by}
 use Rattle.std.specs.FinSet as set
 use Rattle.tc_base.specs.Names.{Name, main}
-use Rattle.tc_base.specs.Buffers.{Entry, newest}
+use Rattle.tc_base.specs.Buffers.{Entry}
+use Rattle.store_buffers.specs.Buffers.{newest}
 use Rattle.tc_base.specs.declared.request.Request.TheVariants.{Write, Exchange, CompareExchange, Acquire, Release, BeginWait, EndWait}
 use Rattle.tc_base.specs.declared.request.Request.TheVariants.{WakeOne, WakeAll, Start, Finish, Fail}
 use Rattle.tc_code.specs.Code.{Code}

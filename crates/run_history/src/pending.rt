@@ -3,10 +3,12 @@
 ghost use Rattle.std.specs.Prelude.{◌≡◌, ◌↔◌, ℕ, ℤ, Bool, true, false, List, [], Some, None};
 ghost use Rattle.std.specs.List.{filter_map};
 ghost use Rattle.std.specs.FinMap as fin;
-ghost use Rattle.tc_base.specs.Buffers.{BufferOps, newest, is_nil};
+ghost use Rattle.tc_base.specs.Buffers.{BufferOps};
+ghost use Rattle.store_buffers.specs.Buffers.{newest};
+ghost use Rattle.list_laws.specs.Lists.{is_nil};
 ghost use Rattle.tc_base.specs.Names.{Name};
 ghost use Rattle.tc_base.specs.States.{State, Thread};
-ghost use Rattle.tc_base.specs.declared.model.Model.{Model};
+ghost use Rattle.memory_models.specs.declared.model.Model.{Model};
 ghost use Rattle.tc_base.specs.declared.moves.Move.{Move};
 ghost use Rattle.tc_code.specs.Code.{Code};
 ghost use Rattle.tc_code.specs.Run.{run, IsReached, IsStuck};

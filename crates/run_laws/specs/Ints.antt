@@ -2,7 +2,7 @@
 use Rattle.std.specs.Prelude.{◌≡◌, ℕ, ℤ, true, IsTrue, Option, Some}
 use Rattle.std.specs.List.{All}
 use Rattle.std.specs.FinMap as fin
-use Rattle.tc_base.specs.Arith.{IsInt}
+use Rattle.int_ops.specs.Arith.{IsInt}
 use Rattle.tc_base.specs.Names.{Name}
 use Rattle.tc_base.specs.Buffers.{BufferOps}
 use Rattle.tc_base.specs.States.{Thread, State}

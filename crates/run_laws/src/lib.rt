@@ -5,7 +5,7 @@
 ghost use Rattle.std.specs.Prelude.{◌≡◌, ◌≤◌, ◌+◌, ℕ, ℤ, List, length, Option, Some, None, IsSome, IsTrue};
 ghost use Rattle.std.specs.FinMap as fin;
 ghost use Rattle.std.specs.List.{All};
-ghost use Rattle.tc_base.specs.Arith.{IsInt};
+ghost use Rattle.int_ops.specs.Arith.{IsInt};
 ghost use Rattle.tc_base.specs.Buffers.{BufferOps};
 ghost use Rattle.tc_base.specs.Names.{Name, main, child};
 ghost use Rattle.tc_base.specs.States.{State, Thread};

@@ -2,7 +2,8 @@
 use Rattle.std.specs.Prelude.{◌≡◌, Bool, true, List, [], ◌∷◌, ◌++◌, None, option_map, if◌then◌else◌}
 use Rattle.std.specs.Option.{option_map_or}
 use Rattle.std.specs.FinMap as fin
-use Rattle.tc_base.specs.Buffers.{BufferOps, no_buffer, fifo_buffer}
+use Rattle.tc_base.specs.Buffers.{BufferOps}
+use Rattle.store_buffers.specs.Buffers.{no_buffer, fifo_buffer}
 use Rattle.tc_base.specs.Names.{Name}
 use Rattle.tc_base.specs.States.{Local, Thread, State}
 use Rattle.tc_base.specs.declared.moves.Move.{Move}

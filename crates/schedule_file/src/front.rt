@@ -1,12 +1,12 @@
 //! What stands at the front of a text: signs and names.
 ghost use Rattle.std.specs.Prelude.{◌≡◌, option_map, IfOk};
-ghost use Rattle.tc_base.specs.declared.limits.TheConstants.{DEPTH as depth};
+ghost use Rattle.tc_limits.specs.declared.limits.TheConstants.{DEPTH as depth};
 ghost use Rattle.schedule_file.specs.helpers.Reading as reading;
 
 use std::alloc::{AllocError, Global};
 use tc_base::ThreadName;
-use tc_base::limits::DEPTH;
 use tc_decimal::number_at;
+use tc_limits::limits::DEPTH;
 
 /// What stands behind this front, if the text begins with it.
 pub(crate) fn behind<'a>(front: &[u8], text: &'a [u8]) -> Option<&'a [u8]>

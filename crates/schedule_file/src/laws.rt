@@ -1,6 +1,6 @@
 //! Laws of the texts of schedules. They do nothing when they run.
 ghost use Rattle.std.specs.Prelude.{◌≡◌, ℕ, List};
-ghost use Rattle.tc_base.specs.declared.model.Model.{Model as OneModel};
+ghost use Rattle.memory_models.specs.declared.model.Model.{Model as OneModel};
 ghost use Rattle.tc_base.specs.declared.moves.Move.{Move as OneMove};
 ghost use Rattle.schedule_file.specs.Schedules.{HaveText, schedule_text};
 ghost use Rattle.schedule_file.specs.Faults.{BreaksAt};

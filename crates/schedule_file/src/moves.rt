@@ -3,10 +3,11 @@ ghost use Rattle.std.specs.Prelude.{◌≡◌, option_map, IfOk};
 ghost use Rattle.schedule_file.specs.helpers.Reading as reading;
 
 use crate::front::{behind, name_at};
+use memory_models::Model;
 use std::alloc::{AllocError, Global};
-use tc_base::limits::CELLS;
-use tc_base::{Model, Move};
+use tc_base::Move;
 use tc_decimal::number_at;
+use tc_limits::limits::CELLS;
 
 /// The model that the header at the front names, and what stands behind the header.
 #[tactic(auto, unfolding(crate::specs::helpers::Reading::header_at, crate::specs::helpers::Reading::model_at))]

@@ -8,7 +8,7 @@ use crate::moves::{header_at, move_at};
 use crate::schedule::Schedule;
 use std::alloc::Global;
 use tc_base::Move;
-use tc_base::limits::SCHEDULE_BYTES;
+use tc_limits::limits::SCHEDULE_BYTES;
 
 /// A schedule's lines, the header among them, are at most so many: as many as its bytes may be.
 const MOST_LINES: usize = SCHEDULE_BYTES as usize;

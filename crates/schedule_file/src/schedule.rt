@@ -1,7 +1,8 @@
 //! A schedule.
 ghost use Rattle.schedule_file.specs.Schedules.{HaveText};
 
-use tc_base::{Model, Move};
+use memory_models::Model;
+use tc_base::Move;
 
 /// The moves of a run, and the model under which they are made.
 ///

@@ -1,10 +1,10 @@
 -- How long the text of a schedule may be that reproduces a log.
 use Rattle.std.specs.Prelude.{◌≡◌, ℕ, ◌+◌, ◌*◌, ◌≤◌, true, length}
 use Rattle.std.specs.List.{All}
-use Rattle.tc_base.specs.Logs.{Log}
-use Rattle.tc_base.specs.declared.limits.TheConstants.{THREADS, DEPTH, STEPS, EVENTS}
+use Rattle.run_log.specs.Logs.{Log}
+use Rattle.tc_limits.specs.declared.limits.TheConstants.{THREADS, DEPTH, STEPS, EVENTS}
 use Rattle.tc_code.specs.Code.{Code}
-use Rattle.path_log.specs.Texts.{is_log}
+use Rattle.run_log.specs.Logs.{is_log}
 use Rattle.path_walk.specs.Paths.{paths_of}
 
 -- the first line: `clap-schedule 1`, a space, at most three letters of the model, and the end of the line

@@ -4,7 +4,8 @@ use Rattle.std.specs.declared.cmp.Ordering.TheVariants.{Less}
 use Rattle.tc_base.specs.Names.{Name, by_name}
 use Rattle.tc_base.specs.Buffers.{BufferOps}
 use Rattle.tc_base.specs.States.{State}
-use Rattle.tc_base.specs.Logs.{Log, place_in, failing_of, path_under}
+use Rattle.run_log.specs.Logs.{Log, failing_of}
+use Rattle.tc_base.specs.Paths.{place_in, path_under}
 use Rattle.tc_base.specs.declared.failing.Failing.TheVariants.{Deadlock}
 use Rattle.tc_base.specs.declared.moves.Move.{Move}
 use Rattle.tc_code.specs.Code.{Code}

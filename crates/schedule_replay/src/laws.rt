@@ -1,7 +1,7 @@
 //! A law of verdicts. It does nothing when it runs.
 ghost use Rattle.std.specs.Prelude.{◌≡◌, List};
 ghost use Rattle.tc_base.specs.Buffers.{BufferOps};
-ghost use Rattle.tc_base.specs.Logs.{Log};
+ghost use Rattle.run_log.specs.Logs.{Log};
 ghost use Rattle.tc_base.specs.declared.moves.Move.{Move};
 ghost use Rattle.tc_code.specs.Code.{Code};
 ghost use Rattle.schedule_replay.specs.Verdicts.{IsVerdict};

@@ -6,7 +6,7 @@ ghost use Rattle.schedule_replay.specs.Verdicts.{GoesOn, IsVerdict};
 ghost use Rattle.schedule_replay.specs.helpers.Judged.{IsJudged, IsOtherEnd, IsFirstOther, is_path, other_at};
 
 use crate::verdict::Verdict;
-use path_log::{Log, ThreadPath};
+use run_log::{Log, ThreadPath};
 use schedule_file::Schedule;
 use std::alloc::{AllocError, Global};
 use std::cmp::Ordering;

@@ -4,10 +4,10 @@ use crate::escape::push_text;
 use crate::lanes::Lanes;
 use crate::marks::{Access, access_of, is_event, is_failure};
 use crate::sources::Sources;
+use memory_models::Model;
 use show_rows::Row;
 use show_words::{Program, Words};
 use std::alloc::{AllocError, Global};
-use tc_base::Model;
 
 /// The rows so far.
 #[derive(Drop)]

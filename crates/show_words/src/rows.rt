@@ -2,10 +2,11 @@
 
 use crate::deeds::deed_words;
 use crate::program::Program;
+use memory_models::Model;
 use show_deeds::{Deed, Seen, Stored};
 use show_rows::Row;
 use std::alloc::{AllocError, Global};
-use tc_base::{Model, Request};
+use tc_base::Request;
 
 /// A row in words.
 #[derive(Drop)]

@@ -4,9 +4,11 @@ use Rattle.std.specs.Option.{option_cmp, option_eq}
 use Rattle.std.specs.List.{list_any}
 use Rattle.std.specs.Ordering.{nat_cmp}
 use Rattle.std.specs.List.Sorted.{IsStrictlySortedBy}
-use Rattle.tc_base.specs.Buffers.{Entry, BufferOps, newest, is_nil}
-use Rattle.tc_base.specs.declared.model.Model.{Model}
-use Rattle.tc_base.specs.declared.model.Model.TheVariants.{Sc, Tso, Pso}
+use Rattle.tc_base.specs.Buffers.{Entry, BufferOps}
+use Rattle.store_buffers.specs.Buffers.{newest}
+use Rattle.list_laws.specs.Lists.{is_nil}
+use Rattle.memory_models.specs.declared.model.Model.{Model}
+use Rattle.memory_models.specs.declared.model.Model.TheVariants.{Sc, Tso, Pso}
 use Rattle.store_buffers.specs.Pending.{Pending, stores, Binding, Drains, Stands}
 
 -- a model is told by what it buffers and binds

@@ -1,9 +1,10 @@
 //! What holds of every buffer, and which definition each model's buffer has. Each function's clause is a law, and its
 //! body does nothing.
 ghost use Rattle.std.specs.Prelude.{◌≡◌, ℕ, ℤ, true, Option, List, [], ◌∷◌, ◌++◌};
-ghost use Rattle.tc_base.specs.Buffers.{BufferOps, Entry, buffer_of};
-ghost use Rattle.tc_base.specs.declared.model.Model.{Model};
-ghost use Rattle.tc_base.specs.declared.model.Model.TheVariants as model;
+ghost use Rattle.tc_base.specs.Buffers.{BufferOps, Entry};
+ghost use Rattle.store_buffers.specs.Buffers.{buffer_of};
+ghost use Rattle.memory_models.specs.declared.model.Model.{Model};
+ghost use Rattle.memory_models.specs.declared.model.Model.TheVariants as model;
 ghost use Rattle.store_buffers.specs.Pending.{Pending, Store, Bar, Binding, Drains, Stands, stores_by};
 ghost use Rattle.store_buffers.specs.Laws.{Laws};
 

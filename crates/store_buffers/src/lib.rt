@@ -6,7 +6,7 @@
 
 ghost use Rattle.std.specs.Prelude.{◌≡◌, ℕ, Bool, is_some, IfSome, IfNone, IfOk, OnOk, OnErr};
 ghost use Rattle.tc_base.specs.Buffers.{BufferOps};
-ghost use Rattle.tc_base.specs.declared.model.Model.{Model as SpecModel};
+ghost use Rattle.memory_models.specs.declared.model.Model.{Model as SpecModel};
 ghost use Rattle.store_buffers.specs.Pending.{Binding};
 ghost use Rattle.store_buffers.specs.Laws.{Laws, AreForms};
 
@@ -19,13 +19,13 @@ mod segments;
 mod tso;
 mod values;
 
+use memory_models::Model;
 pub use pso::PsoModel;
 pub use queue::Queue;
 pub use sc::Sc;
 pub use segments::Segments;
 use std::alloc::{AllocError, Global};
 use std::fmt::Debug;
-use tc_base::Model;
 pub use tso::TsoModel;
 
 /// How a thread's stores reach memory.

@@ -1,6 +1,7 @@
 //! One queue of stores.
 ghost use Rattle.std.specs.Prelude.{◌≡◌, ◌∷◌, [], ◌++◌, drop, slice_index_or, OnOk, OnErr, IfOk, IfSome, IfNone, is_some, not, option_map};
-ghost use Rattle.tc_base.specs.Buffers.{newest, no_entry, is_nil};
+ghost use Rattle.store_buffers.specs.Buffers.{newest, no_entry};
+ghost use Rattle.list_laws.specs.Lists.{is_nil};
 
 use crate::segment::Segment;
 use std::alloc::{AllocError, Global};

@@ -2,7 +2,8 @@
 ghost use Rattle.std.specs.Prelude.{◌≡◌, ◌∷◌, [], ◌++◌, drop, slice_get, not, IfOk, OnOk, OnErr, None, true, false};
 ghost use Rattle.std.specs.FinMap as fin;
 ghost use Rattle.std.specs.List.{last_or};
-ghost use Rattle.tc_base.specs.Buffers.{is_nil, values_to, with_values, has_no_store, cell_buffer};
+ghost use Rattle.list_laws.specs.Lists.{is_nil};
+ghost use Rattle.store_buffers.specs.Buffers.{values_to, with_values, has_no_store, cell_buffer};
 ghost use Rattle.store_buffers.specs.Laws.{AreForms};
 
 use crate::values::Values;

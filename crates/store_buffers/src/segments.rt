@@ -3,7 +3,8 @@ ghost use Rattle.std.specs.Prelude.{◌≡◌, ℕ, ◌∷◌, [], ◌++◌, ◌
 ghost use Rattle.std.specs.VecDeque.{deque_len};
 ghost use Rattle.std.specs.FinMap as fin;
 ghost use Rattle.std.specs.List.{list_all};
-ghost use Rattle.tc_base.specs.Buffers.{is_nil, has_no_store, issue_last, last_value, first_values, values_to, drop_first, cell_buffer};
+ghost use Rattle.list_laws.specs.Lists.{is_nil};
+ghost use Rattle.store_buffers.specs.Buffers.{has_no_store, issue_last, last_value, first_values, values_to, drop_first, cell_buffer};
 ghost use Rattle.store_buffers.specs.Laws.{AreForms};
 ghost use Rattle.store_buffers.specs.helpers.Seen.{begins_empty, after_empty, values_in_first, drop_in_first};
 

@@ -1,7 +1,7 @@
 //! The values of one cell on their way to memory.
 ghost use Rattle.std.specs.Prelude.{◌≡◌, ◌∷◌, [], ◌++◌, drop, slice_get, IfOk, OnOk, OnErr, None, not};
 ghost use Rattle.std.specs.List.{last_or};
-ghost use Rattle.tc_base.specs.Buffers.{is_nil};
+ghost use Rattle.list_laws.specs.Lists.{is_nil};
 
 use std::alloc::{AllocError, Global};
 use std::collections::VecDeque;

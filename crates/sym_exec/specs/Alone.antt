@@ -3,7 +3,7 @@ use Rattle.std.specs.Prelude.{◌≡◌, ℕ, zero, suc, ◌+◌, ◌<◌, ◌�
 use Rattle.std.specs.Prelude.{option_and_then, slice_index_or}
 use Rattle.std.specs.List.{All, cons_option}
 use Rattle.std.specs.Option.{option_map_or}
-use Rattle.tc_base.specs.Arith.{IsInt, is_distance}
+use Rattle.int_ops.specs.Arith.{IsInt, is_distance}
 use Rattle.tc_base.specs.declared.request.Request.{Request}
 use Rattle.tc_base.specs.declared.request.Request.TheVariants.{Read, Write, Exchange, CompareExchange}
 use Rattle.tc_base.specs.States.{Local}

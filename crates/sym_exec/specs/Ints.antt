@@ -1,7 +1,7 @@
 -- Numbers in the range of `int`, in terms.
 use Rattle.std.specs.Prelude.{ℤ, List}
 use Rattle.std.specs.List.{All}
-use Rattle.tc_base.specs.Arith.{IsInt, bits_xor, bits_and, negated, equal}
+use Rattle.int_ops.specs.Arith.{IsInt, bits_xor, bits_and, negated, equal}
 use Rattle.sym_terms.specs.declared.node.Node.{Node}
 use Rattle.sym_terms.specs.declared.node.Node.TheVariants.{Constant}
 

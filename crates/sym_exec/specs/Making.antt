@@ -1,7 +1,7 @@
 -- Terms that are made from others, and of expressions.
 use Rattle.std.specs.Prelude.{◌≡◌, ℕ, ◌-◌, ◌^◌, ℤ, pos, ◌-ℤ◌, nat_lt, List, [], ◌∷◌, ◌++◌, fold, slice_index_or, if◌then◌else◌}
-use Rattle.tc_base.specs.declared.arith.UnOp.TheVariants.{Neg}
-use Rattle.tc_base.specs.declared.arith.BinOp.TheVariants.{Xor, Eq, And, Le}
+use Rattle.int_ops.specs.declared.arith.UnOp.TheVariants.{Neg}
+use Rattle.int_ops.specs.declared.arith.BinOp.TheVariants.{Xor, Eq, And, Le}
 use Rattle.tc_code.specs.Expr as expr
 use Rattle.tc_code.specs.Expr.{Expr}
 use Rattle.sym_terms.specs.Terms.{with_node, id_of}

@@ -7,9 +7,9 @@ ghost use Rattle.sym_exec.specs.Thread.{AreOf};
 ghost use Rattle.sym_exec.specs.Making as spec;
 ghost use Rattle.sym_exec.specs.Making.{Grows};
 
+use int_ops::{BinOp, UnOp};
 use std::alloc::{AllocError, Global};
 use sym_terms::{Id, Terms};
-use tc_base::{BinOp, UnOp};
 use tc_code::{Expr, Node};
 
 /// The term of a number.

@@ -5,7 +5,7 @@
 
 ghost use Rattle.std.specs.Prelude.{◌≡◌, ℤ, List, Some, true, length};
 ghost use Rattle.tc_base.specs.Buffers.{BufferOps};
-ghost use Rattle.tc_base.specs.Logs.{Log};
+ghost use Rattle.run_log.specs.Logs.{Log};
 ghost use Rattle.tc_base.specs.States.{State};
 ghost use Rattle.tc_base.specs.declared.moves.Move.{Move};
 ghost use Rattle.tc_code.specs.Code.{Code};
@@ -13,7 +13,7 @@ ghost use Rattle.tc_code.specs.Lawful.{IsLawful};
 ghost use Rattle.tc_code.specs.Run.{run, Reproduces};
 ghost use Rattle.run_laws.specs.Ints.{PassesInts};
 ghost use Rattle.run_history.specs.History.{history};
-ghost use Rattle.path_log.specs.Texts.{is_log};
+ghost use Rattle.run_log.specs.Logs.{is_log};
 ghost use Rattle.path_walk.specs.Fits.{Fits};
 ghost use Rattle.sym_terms.specs.Terms.{AreTerms};
 ghost use Rattle.sym_terms.specs.declared.node.Node.{Node};

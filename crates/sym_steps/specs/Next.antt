@@ -1,7 +1,7 @@
 -- What the next step of a thread asks, as the terms of its path tell it.
 use Rattle.std.specs.Prelude.{◌≡◌, ℕ, ◌==◌, ℤ, List, map, Option, Some, option_map}
 use Rattle.std.specs.List.{Contains, filter, find}
-use Rattle.tc_base.specs.Logs.{Log}
+use Rattle.run_log.specs.Logs.{Log}
 use Rattle.tc_base.specs.Names.{Name}
 use Rattle.tc_base.specs.declared.request.Request.{Request}
 use Rattle.tc_code.specs.Code.{Code}

@@ -1,6 +1,6 @@
 -- What terms come to under the values that the loads took.
 use Rattle.std.specs.Prelude.{◌≡◌, ℕ, List, [], ◌∷◌, ◌++◌, ℤ, pos, fold, get_or, length, take}
-use Rattle.tc_base.specs.Arith.{unary, binary}
+use Rattle.int_ops.specs.Arith.{unary, binary}
 use Rattle.sym_terms.specs.declared.node.Node.{Node}
 use Rattle.sym_terms.specs.declared.node.Node.TheVariants.{Constant, Symbol, Unary, Binary}
 

@@ -1,8 +1,8 @@
 //! Nodes, and their names.
 ghost use Rattle.std.specs.Prelude.{◌≡◌};
 
+use int_ops::{BinOp, UnOp};
 use std::marker::Model;
-use tc_base::{BinOp, UnOp};
 
 /// The name of a term: the place of its node.
 #[derive(Clone, Copy, Debug, PartialEq, Eq, Hash)]

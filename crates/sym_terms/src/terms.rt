@@ -5,9 +5,9 @@ ghost use Rattle.sym_terms.specs.declared.node.Node.TheVariants.{Constant, Symbo
 
 use crate::{Id, Node};
 use indexmap::IndexSet;
+use int_ops::{BinOp, UnOp};
 use std::alloc::{AllocError, Global};
 use std::marker::Model;
-use tc_base::{BinOp, UnOp};
 
 /// Distinct nodes, each of which names earlier ones. A name stays valid, and means the same, while terms are added.
 ///

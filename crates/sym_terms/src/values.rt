@@ -4,9 +4,9 @@ ghost use Rattle.sym_terms.specs.Terms.{NamesBelow};
 ghost use Rattle.sym_terms.specs.Values.{AreKnown, node_value, value_of};
 
 use crate::{Id, Node, Terms};
+use int_ops::arith;
 use std::alloc::{AllocError, Global};
 use std::marker::Model;
-use tc_base::arith;
 
 /// The values of terms under the values that the loads took. A value is computed when it, or that of a later term, is
 /// first asked for.

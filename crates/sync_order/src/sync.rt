@@ -1,6 +1,6 @@
 //! All constraints of synchronisation.
 ghost use Rattle.std.specs.Prelude.{◌≡◌, ◌≤◌, ◌<◌, ◌^◌, length, IfOk, OnOk};
-ghost use Rattle.tc_base.specs.declared.limits.TheConstants.{EVENTS};
+ghost use Rattle.tc_limits.specs.declared.limits.TheConstants.{EVENTS};
 ghost use Rattle.order_formula.specs.Orders.{Grows, with_formula};
 ghost use Rattle.lawful_order.specs.Events.{all_events, all_sleeps};
 ghost use Rattle.lawful_order.specs.Whole.{AreWhole};

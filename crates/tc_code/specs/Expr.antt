@@ -1,8 +1,8 @@
 -- Expressions over the int slots of a thread.
 use Rattle.std.specs.Prelude.{ℕ, ◌+◌, ℤ, pos, List, slice_index_or, nat_lt, ◌==◌, Bool, true, false, ◌&&◌, ◌||◌}
-use Rattle.tc_base.specs.Arith.{IsInt, unary, binary}
-use Rattle.tc_base.specs.declared.arith.UnOp.{UnOp}
-use Rattle.tc_base.specs.declared.arith.BinOp.{BinOp}
+use Rattle.int_ops.specs.Arith.{IsInt, unary, binary}
+use Rattle.int_ops.specs.declared.arith.UnOp.{UnOp}
+use Rattle.int_ops.specs.declared.arith.BinOp.{BinOp}
 
 pub data Expr : Type 0 where
   Number : (value : ℤ) → Expr

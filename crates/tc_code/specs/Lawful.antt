@@ -3,8 +3,8 @@ use Rattle.std.specs.Prelude.{◌≡◌, ℕ, zero, suc, ◌+◌, ◌-◌, ◌<�
 use Rattle.std.specs.Prelude.{Bool, true, false, not, ◌&&◌, ◌||◌, pos, IsTrue, Option, Some, None, slice_get}
 use Rattle.std.specs.List.{All, list_all, list_any}
 use Rattle.std.specs.Option.{option_map_or}
-use Rattle.tc_base.specs.Arith.{IsInt}
-use Rattle.tc_base.specs.declared.limits.TheConstants.{CELLS}
+use Rattle.int_ops.specs.Arith.{IsInt}
+use Rattle.tc_limits.specs.declared.limits.TheConstants.{CELLS}
 use Rattle.tc_code.specs.Expr.{Expr, HasInts, names_slots, names_slot}
 use Rattle.tc_code.specs.declared.instr.Instr.{Instr}
 use Rattle.tc_code.specs.declared.instr.Instr.TheVariants.{Set, Load, LoadAt, Store, StoreAt, Inside, Branch, Goto, Holds, Lock, Unlock, Sleep, Wake}

@@ -4,7 +4,8 @@ use Rattle.std.specs.FinMap as map
 use Rattle.tc_base.specs.Names.{Name}
 use Rattle.tc_base.specs.Buffers.{BufferOps}
 use Rattle.tc_base.specs.States.{Thread, State}
-use Rattle.tc_base.specs.Logs.{Path, ThreadPath, Log, path_under}
+use Rattle.tc_base.specs.Paths.{Path, ThreadPath, path_under}
+use Rattle.run_log.specs.Logs.{Log}
 use Rattle.tc_base.specs.declared.failing.Failing.{Failing}
 use Rattle.tc_base.specs.declared.failing.Failing.TheVariants as failing
 use Rattle.tc_base.specs.declared.moves.Move.{Move}

@@ -7,7 +7,7 @@ use Rattle.std.specs.Ordering.{nat_cmp, int_eq}
 use Rattle.std.specs.Cmp.Lexicographic.{slice_cmp}
 use Rattle.std.specs.FinMap as fin
 use Rattle.std.specs.FinSet as set
-use Rattle.tc_base.specs.Arith.{is_distance}
+use Rattle.int_ops.specs.Arith.{is_distance}
 use Rattle.tc_base.specs.Names.{Name, main, child}
 use Rattle.tc_base.specs.Buffers.{BufferOps}
 use Rattle.tc_base.specs.States.{Local, Thread, State}

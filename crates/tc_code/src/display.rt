@@ -3,8 +3,8 @@ ghost use Rattle.std.specs.Prelude.{◌≡◌};
 ghost use Rattle.tc_code.specs.Listing.{unary_text, binary_text};
 
 use crate::{Expr, Exprs, Instr, Node};
+use int_ops::{BinOp, UnOp};
 use std::fmt;
-use tc_base::{BinOp, UnOp};
 
 fn unary_text(op: UnOp) -> &'static str
     ensures { result.now ≡ unary_text op }

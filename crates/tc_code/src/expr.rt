@@ -3,9 +3,9 @@ ghost use Rattle.std.specs.Prelude.{◌≡◌, length, IsTrue, IfOk};
 ghost use Rattle.tc_code.specs.Expr.{value_of, names_slots};
 ghost use Rattle.tc_code.specs.Expr as plain;
 
+use int_ops::{BinOp, UnOp, arith};
 use std::alloc::{AllocError, Global};
 use std::marker::Model;
-use tc_base::{BinOp, UnOp, arith};
 
 /// An expression over the int slots of a thread.
 #[cycle(expr)]

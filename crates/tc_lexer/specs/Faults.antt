@@ -1,7 +1,7 @@
 -- What is said of a text that has no tokens.
 use Rattle.std.specs.Prelude.{List, ℕ, ◌++◌, codes}
 use Rattle.std.specs.Fmt.{decimal}
-use Rattle.tc_base.specs.declared.place.Place.{Place}
+use Rattle.tc_lexer.specs.declared.place.Place.{Place}
 use Rattle.tc_lexer.specs.declared.fault.LexFault.{LexFault}
 use Rattle.tc_lexer.specs.declared.fault.LexFault.TheVariants.{BadByte, Number, OpenComment, Memory}
 

@@ -1,7 +1,7 @@
 -- The tokens of a text, and the fault of a text that has none.
 use Rattle.std.specs.Prelude.{◌≡◌, ℕ, ◌+◌, ◌<◌, ◌≤◌, Bool, false, if◌then◌else◌, nat_eq, List, [], ◌∷◌, ◌++◌, length, take, slice_range, codes}
 use Rattle.std.specs.List.{starts_with}
-use Rattle.tc_base.specs.declared.place.Place.{Place}
+use Rattle.tc_lexer.specs.declared.place.Place.{Place}
 use Rattle.tc_lexer.specs.declared.token.TokenKind.{TokenKind}
 use Rattle.tc_lexer.specs.declared.token.TokenKind.TheVariants as kind
 use Rattle.tc_lexer.specs.declared.token.Token.{Token as SpannedToken}

@@ -1,8 +1,8 @@
 //! Why a text has no tokens.
 
+use crate::Place;
 use std::error::Error;
 use std::fmt;
-use tc_base::Place;
 
 /// Why a text has no tokens: the first byte at which no token and no blank begins.
 #[derive(Clone, Copy, Debug, PartialEq, Eq)]

@@ -1,16 +1,16 @@
 //! From a text to its tokens.
 ghost use Rattle.std.specs.Prelude.{◌≡◌, ◌≢◌, ◌<◌, ◌≤◌, ◌^◌, length, IfOk, IfErr};
 ghost use Rattle.tc_lexer.specs.declared.fault.LexFault.TheVariants as lex_fault;
-ghost use Rattle.tc_base.specs.declared.limits.TheConstants.{PROGRAM_BYTES};
+ghost use Rattle.tc_limits.specs.declared.limits.TheConstants.{PROGRAM_BYTES};
 ghost use Rattle.tc_lexer.specs.Text.{AreTokens, IsFault, fault_at, begins_with_digit};
 
+use crate::Place;
 use crate::fault::LexFault;
 use crate::piece::piece_at;
 use crate::place::place_from;
 use crate::token::Token;
 use crate::tokens::Tokens;
 use std::alloc::Global;
-use tc_base::Place;
 
 /// The tokens of a program's text, in language 3, which has all keywords and signs.
 ///

@@ -3,7 +3,14 @@ ghost use Rattle.std.specs.Prelude.{◌≡◌, ◌+◌, ◌<◌, ◌^◌, length
 ghost use Rattle.tc_lexer.specs.Places.{place_after};
 ghost use Rattle.tc_lexer.specs.helpers.Reading.{place_from, next_place};
 
-use tc_base::Place;
+/// A place in a text: a line and a column, both from 1, the column in bytes.
+#[derive(Clone, Copy, Debug, PartialEq, Eq, PartialOrd, Ord)]
+pub struct Place {
+    /// The line, from 1.
+    pub line: u32,
+    /// The column in bytes, from 1.
+    pub col: u32,
+}
 
 /// The place right after these bytes, which begin a text.
 pub fn place_after(bytes: &[u8]) -> Place

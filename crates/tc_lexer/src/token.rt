@@ -2,7 +2,7 @@
 ghost use Rattle.std.specs.Prelude.{◌≡◌, ◌≤◌, length, slice_range};
 ghost use Rattle.tc_lexer.specs.Tokens.{keyword_text, sign_text};
 
-use tc_base::Place;
+use crate::Place;
 
 /// The words that are no names.
 #[derive(Clone, Copy, Debug, PartialEq, Eq)]

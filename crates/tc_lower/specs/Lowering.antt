@@ -1,6 +1,6 @@
 -- The code of a program.
 use Rattle.std.specs.Prelude.{ℕ, ◌+◌, ℤ, pos, List, [], ◌∷◌, ◌++◌, length, map, replicate, codes}
-use Rattle.tc_base.specs.Arith.{negated}
+use Rattle.int_ops.specs.Arith.{negated}
 use Rattle.tc_code.specs.declared.instr.Instr.TheVariants.{Exit}
 use Rattle.tc_code.specs.Code.{Code}
 use Rattle.tc_code.specs.declared.code.Func.{Func}

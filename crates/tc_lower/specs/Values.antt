@@ -1,8 +1,8 @@
 -- Expressions as instructions and an expression over slots.
 use Rattle.std.specs.Prelude.{ℕ, ◌+◌, ℤ, pos, List, [], ◌∷◌, ◌++◌, length, Option, Some, None}
-use Rattle.tc_base.specs.declared.arith.BinOp.{BinOp}
-use Rattle.tc_base.specs.declared.arith.BinOp.TheVariants as binary
-use Rattle.tc_base.specs.declared.arith.UnOp.TheVariants.{Not}
+use Rattle.int_ops.specs.declared.arith.BinOp.{BinOp}
+use Rattle.int_ops.specs.declared.arith.BinOp.TheVariants as binary
+use Rattle.int_ops.specs.declared.arith.UnOp.TheVariants.{Not}
 use Rattle.tc_code.specs.Expr as code
 use Rattle.tc_code.specs.Expr.{Expr}
 use Rattle.tc_code.specs.declared.instr.Instr.{Instr}

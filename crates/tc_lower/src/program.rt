@@ -1,6 +1,6 @@
 //! Programs as code.
 ghost use Rattle.std.specs.Prelude.{◌≡◌, ℤ, pos, ◌+◌, ◌<◌, ◌≤◌, ◌^◌, ◌++◌, ◌∷◌, [], length, map, codes, OnOk, IfOk};
-ghost use Rattle.tc_base.specs.declared.limits.TheConstants.{CELLS, PROGRAM_BYTES};
+ghost use Rattle.tc_limits.specs.declared.limits.TheConstants.{CELLS, PROGRAM_BYTES};
 ghost use Rattle.tc_tree.specs.Counts as count;
 ghost use Rattle.tc_tree.specs.Numbers.{HasInts};
 ghost use Rattle.tc_tree.specs.Grammar.{program_words};
@@ -13,8 +13,8 @@ use crate::statement::Body as Code;
 use crate::tables::{ProgramThings, elements, own_things, program_things};
 use crate::things::{Named, Scope};
 use crate::value::Writer;
+use int_ops::{UnOp, arith};
 use std::alloc::{AllocError, Global as Heap};
-use tc_base::{UnOp, arith};
 use tc_code::{Func, FuncName, Instr, Lines};
 use tc_tree::{Body, Global, Initial, Name, Program, Thread, Tree};
 

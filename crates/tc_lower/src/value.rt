@@ -1,6 +1,6 @@
 //! Expressions as instructions and an expression over slots.
 ghost use Rattle.std.specs.Prelude.{◌≡◌, ◌+◌, ◌<◌, ◌≤◌, ◌^◌, [], ◌∷◌, ◌++◌, length, Ok, OnOk, IfOk, Some, None, slice_set};
-ghost use Rattle.tc_base.specs.declared.limits.TheConstants.{PROGRAM_BYTES};
+ghost use Rattle.tc_limits.specs.declared.limits.TheConstants.{PROGRAM_BYTES};
 ghost use Rattle.tc_code.specs.Expr as plain;
 ghost use Rattle.tc_code.specs.declared.instr.Instr.TheVariants as flat;
 ghost use Rattle.tc_lower.specs.Values as spec;
@@ -8,8 +8,8 @@ ghost use Rattle.tc_lower.specs.helpers.Seen.{evaluated_by};
 
 use crate::draft::Draft;
 use crate::things::{Scope, Thing, thing_of};
+use int_ops::{BinOp, UnOp};
 use std::alloc::{AllocError, Global};
-use tc_base::{BinOp, UnOp};
 use tc_code::{Expr, Instr, Node as Part};
 use tc_tree::{Expression, Node, Operator};
 

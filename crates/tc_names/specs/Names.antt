@@ -1,6 +1,6 @@
 -- The rules on names: the first token of a program, in the order of its text, that breaks one.
 use Rattle.std.specs.Prelude.{ℕ, ℤ, pos, nat_eq, Bool, true, false, List, [], ◌∷◌, ◌++◌, length, map, Option, Some, None, bytes_eq, slice_range, if◌then◌else◌}
-use Rattle.tc_base.specs.declared.place.Place.{Place}
+use Rattle.tc_lexer.specs.declared.place.Place.{Place}
 use Rattle.tc_tree.specs.declared.statement.Action.{Action}
 use Rattle.tc_tree.specs.declared.statement.Action.TheVariants.{Join, Lock, Unlock, Signal, Broadcast}
 use Rattle.tc_names.specs.declared.fault.NameFault.{NameFault}

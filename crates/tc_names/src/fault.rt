@@ -1,7 +1,7 @@
 //! What is wrong with a name.
 
 use std::alloc::{AllocError, AllocFailed};
-use tc_base::Place;
+use tc_lexer::Place;
 
 /// What is wrong with a name, and where it stands.
 #[derive(Clone, Copy, Debug, PartialEq, Eq)]

@@ -1,7 +1,7 @@
 -- What a program may have only so many of, and what is said of a text that is no program.
 use Rattle.std.specs.Prelude.{ℕ, List, ◌++◌, codes}
 use Rattle.std.specs.Fmt.{decimal}
-use Rattle.tc_base.specs.declared.limits.TheConstants.{BRACKETS, STRETCH, CELLS, MUTEXES, CONDITIONS}
+use Rattle.tc_limits.specs.declared.limits.TheConstants.{BRACKETS, STRETCH, CELLS, MUTEXES, CONDITIONS}
 use Rattle.tc_lexer.specs.Faults.{at_place, lex_fault_text}
 use Rattle.tc_parser.specs.declared.fault.ParseFault.{ParseFault}
 use Rattle.tc_parser.specs.declared.fault.ParseFault.TheVariants.{Count, Syntax, Unknown, Twice, Kind, Arguments, Memory}

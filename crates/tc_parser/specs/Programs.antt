@@ -1,7 +1,7 @@
 -- Texts of programs, and the one fault of a text that is none. The language is told by its number.
 use Rattle.std.specs.Prelude.{◌≡◌, ℕ, zero, suc, ◌+◌, ◌-◌, ◌<◌, ◌≤◌, Bool, true, false, nat_lt, List, [], ◌∷◌, length, map, take, fold, Option, Some, None}
 use Rattle.std.specs.List.{slice_split, find}
-use Rattle.tc_base.specs.declared.place.Place.{Place}
+use Rattle.tc_lexer.specs.declared.place.Place.{Place}
 use Rattle.tc_lexer.specs.declared.token.Sign.{Sign}
 use Rattle.tc_lexer.specs.declared.token.Sign.TheVariants.{OpenParen, CloseParen, OpenBracket, CloseBracket, OpenBrace, CloseBrace, Semicolon}
 use Rattle.tc_lexer.specs.declared.token.Token.{Token}

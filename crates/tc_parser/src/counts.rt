@@ -1,6 +1,6 @@
 //! What a program may have only so many of.
 ghost use Rattle.std.specs.Prelude.{◌≡◌, ◌≤◌, ◌<◌, List, length, MatchResult, ℕ, None};
-ghost use Rattle.tc_base.specs.declared.limits.TheConstants.{PROGRAM_BYTES};
+ghost use Rattle.tc_limits.specs.declared.limits.TheConstants.{PROGRAM_BYTES};
 ghost use Rattle.tc_tree.specs.Counts as count;
 ghost use Rattle.tc_parser.specs.declared.fault.ParseFault.TheVariants.{Count};
 ghost use Rattle.tc_parser.specs.Faults.{limit_of};
@@ -10,8 +10,8 @@ ghost use Rattle.tc_parser.specs.helpers.Parts.{HaveRoom, IsCountFault};
 use crate::brackets::is_too_deep;
 use crate::fault::{ParseFault, What};
 use crate::stretches::long_stretch;
-use tc_base::limits::BRACKETS;
 use tc_lexer::Token;
+use tc_limits::limits::BRACKETS;
 use tc_tree::Global;
 
 /// Refuses tokens with too many brackets open at once, or in too long a stretch.

@@ -5,9 +5,8 @@ ghost use Rattle.tc_parser.specs.Faults.{limit_of, name_of};
 use std::alloc::AllocError;
 use std::error::Error;
 use std::fmt;
-use tc_base::Place;
-use tc_base::limits::{BRACKETS, CELLS, CONDITIONS, MUTEXES, STRETCH};
-use tc_lexer::LexFault;
+use tc_lexer::{LexFault, Place};
+use tc_limits::limits::{BRACKETS, CELLS, CONDITIONS, MUTEXES, STRETCH};
 use tc_names::NameFault;
 
 /// What a program may have only so many of.

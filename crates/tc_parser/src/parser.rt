@@ -1,6 +1,6 @@
 //! From a text to its tree.
 ghost use Rattle.std.specs.Prelude.{◌≡◌, ◌≢◌, ◌≤◌, length, IfOk, IfErr, MatchResult};
-ghost use Rattle.tc_base.specs.declared.limits.TheConstants.{PROGRAM_BYTES};
+ghost use Rattle.tc_limits.specs.declared.limits.TheConstants.{PROGRAM_BYTES};
 ghost use Rattle.tc_lexer.specs.Text.{AreTokens};
 ghost use Rattle.tc_lexer.specs.declared.fault.LexFault.TheVariants as lex_fault;
 ghost use Rattle.tc_tree.specs.Grammar.{IsSpelled};
@@ -14,8 +14,7 @@ ghost use Rattle.tc_parser.specs.helpers.Parts.{IsReadFault};
 use crate::counts::{check_globals, check_tokens};
 use crate::fault::{ParseFault, TextFault};
 use std::alloc::{AllocError, Global};
-use tc_base::Place;
-use tc_lexer::{Token, Tokens, lex, place_after};
+use tc_lexer::{Place, Token, Tokens, lex, place_after};
 use tc_names::check_names;
 use tc_syntax::{Stop, read_program};
 use tc_tree::{Program, Tree, Word};

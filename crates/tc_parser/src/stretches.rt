@@ -2,8 +2,8 @@
 ghost use Rattle.std.specs.Prelude.{◌≡◌};
 ghost use Rattle.tc_parser.specs.Programs.{ends_stretch, long_stretch};
 
-use tc_base::limits::STRETCH;
 use tc_lexer::{Sign, Token, TokenKind};
+use tc_limits::limits::STRETCH;
 
 /// How many tokens the first stretch has that is too long.
 pub(crate) fn long_stretch(tokens: &[Token]) -> Option<usize>

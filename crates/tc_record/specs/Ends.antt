@@ -3,7 +3,7 @@ use Rattle.std.specs.Prelude.{ℕ, Bool, false, nat_lt, is_some, length, Option,
 use Rattle.std.specs.List.{list_any}
 use Rattle.std.specs.Option.{option_map_or}
 use Rattle.std.specs.FinMap as fin
-use Rattle.tc_base.specs.declared.limits.TheConstants.{THREADS, DEPTH, STEPS}
+use Rattle.tc_limits.specs.declared.limits.TheConstants.{THREADS, DEPTH, STEPS}
 use Rattle.tc_base.specs.Names.{Name}
 use Rattle.tc_base.specs.States.{State}
 use Rattle.tc_base.specs.declared.failing.Failing.{Failing}

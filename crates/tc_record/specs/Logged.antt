@@ -1,13 +1,14 @@
 -- Logs of states.
 use Rattle.std.specs.Prelude.{◌≡◌, ℕ, None, Bool, ◌&&◌, nat_le, length, IsTrue}
 use Rattle.std.specs.List.{list_all}
-use Rattle.tc_base.specs.declared.limits.TheConstants.{THREADS, DEPTH}
+use Rattle.tc_limits.specs.declared.limits.TheConstants.{THREADS, DEPTH}
 use Rattle.tc_base.specs.Names.{Name}
 use Rattle.tc_base.specs.States.{State}
-use Rattle.tc_base.specs.Logs.{Log, failing_of, path_under}
-use Rattle.tc_base.specs.declared.model.Model.{Model}
+use Rattle.run_log.specs.Logs.{Log, failing_of}
+use Rattle.tc_base.specs.Paths.{path_under}
+use Rattle.memory_models.specs.declared.model.Model.{Model}
 use Rattle.tc_code.specs.Run.{path_in}
-use Rattle.path_log.specs.Texts.{StoredLog, is_log}
+use Rattle.run_log.specs.Logs.{StoredLog, is_log}
 
 -- the log of a state: the thread that failed, if one did, and each thread's path, ordered by name
 pub record IsLogOf {B : Type 0} (under : Model) (s : State B) (stored : StoredLog) : Type 0 where

@@ -5,11 +5,11 @@ use Rattle.rand_core.specs.Steps.{first_words}
 use Rattle.rand_xoshiro.specs.SplitMix64.{mix_u64}
 use Rattle.tc_base.specs.Buffers.{BufferOps}
 use Rattle.tc_base.specs.States.{State}
-use Rattle.tc_base.specs.declared.model.Model.{Model}
+use Rattle.memory_models.specs.declared.model.Model.{Model}
 use Rattle.tc_base.specs.declared.moves.Move.{Move}
 use Rattle.tc_code.specs.Code.{Code}
 use Rattle.tc_code.specs.Step.{step, opening}
-use Rattle.path_log.specs.Texts.{StoredLog}
+use Rattle.run_log.specs.Logs.{StoredLog}
 use Rattle.tc_machine.specs.Moves.{enabled_moves}
 use Rattle.tc_record.specs.declared.end.End.{End}
 use Rattle.tc_record.specs.declared.end.End.TheVariants as end

@@ -4,7 +4,7 @@ ghost use Rattle.tc_record.specs.Ends as ends;
 ghost use Rattle.tc_record.specs.Ends.{limit_of};
 
 use store_buffers::MemoryModel;
-use tc_base::limits::{DEPTH, STEPS, THREADS};
+use tc_limits::limits::{DEPTH, STEPS, THREADS};
 use tc_machine::State;
 
 /// A limit of recorded runs.

@@ -1,15 +1,16 @@
 //! Laws of the logs of recorded runs. Each function's clause is a law, and its body does nothing.
 ghost use Rattle.std.specs.Prelude.{◌≡◌, ◌≤◌, List, Some, ℕ, length, IsTrue};
 ghost use Rattle.tc_base.specs.Buffers.{BufferOps};
-ghost use Rattle.tc_base.specs.Logs.{Log};
+ghost use Rattle.run_log.specs.Logs.{Log};
 ghost use Rattle.tc_base.specs.States.{State};
-ghost use Rattle.tc_base.specs.declared.model.Model.{Model};
+ghost use Rattle.memory_models.specs.declared.model.Model.{Model};
 ghost use Rattle.store_buffers.specs.Laws.{Laws};
 ghost use Rattle.store_buffers.specs.Pending.{Binding};
 ghost use Rattle.tc_code.specs.Code.{Code};
 ghost use Rattle.tc_code.specs.Lawful.{IsLawful};
 ghost use Rattle.tc_code.specs.Run.{Reproduces};
-ghost use Rattle.path_log.specs.Texts.{StoredLog, HasText, is_of_format, is_digest, log_text};
+ghost use Rattle.run_log.specs.Logs.{StoredLog, is_digest};
+ghost use Rattle.path_log.specs.Texts.{HasText, is_of_format, log_text};
 ghost use Rattle.tc_record.specs.Ends.{told_end};
 ghost use Rattle.tc_record.specs.Logged.{IsLogOf, is_small, most_log_bytes};
 ghost use Rattle.tc_record.specs.Seeded.{HasLog, seeded_run};

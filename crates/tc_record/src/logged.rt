@@ -5,7 +5,7 @@ ghost use Rattle.tc_record.specs.Ends.{has_many_steps};
 ghost use Rattle.tc_record.specs.Logged.{IsLogOf};
 ghost use Rattle.tc_record.specs.helpers.Paths.{named_path, EndsBy, HasThreads, IsWithin};
 
-use path_log::{Log, ThreadPath};
+use run_log::{Log, ThreadPath};
 use std::alloc::{AllocError, Global};
 use store_buffers::MemoryModel;
 use tc_base::{Failing, ThreadName};

@@ -3,7 +3,7 @@ ghost use Rattle.std.specs.Prelude.{◌≡◌};
 ghost use Rattle.tc_record.specs.declared.seeded.SeededFault.TheVariants.{Memory};
 
 use crate::end::Which;
-use path_log::Log;
+use run_log::Log;
 use std::alloc::{AllocError, AllocFailed};
 use tc_base::Move;
 

@@ -9,8 +9,8 @@ ghost use Rattle.tc_syntax.specs.helpers.Reading as reading;
 ghost use Rattle.tc_syntax.specs.helpers.Read.{Stops, IsRead, IsTight, IsOperand};
 
 use crate::reader::{Read, Stop, past};
+use int_ops::UnOp;
 use std::alloc::Global;
-use tc_base::UnOp;
 use tc_lexer::Sign;
 use tc_tree::{Expression, Name, Operator, Word};
 

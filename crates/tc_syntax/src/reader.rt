@@ -1,6 +1,6 @@
 //! One word at a time.
 ghost use Rattle.std.specs.Prelude.{◌≡◌, List, ◌∷◌, [], MatchOption, MatchResult};
-ghost use Rattle.tc_base.specs.declared.place.Place.{Place as PlainPlace};
+ghost use Rattle.tc_lexer.specs.declared.place.Place.{Place as PlainPlace};
 ghost use Rattle.tc_lexer.specs.declared.token.Keyword.TheVariants as keyword;
 ghost use Rattle.tc_tree.specs.declared.word.Word.TheVariants.{Sign as ASign, Name as AName, Number as ANumber, If as AnIf, Keyword as AKeyword, End as AnEnd};
 ghost use Rattle.tc_tree.specs.declared.word.Word.{Word as GrammarWord};
@@ -8,8 +8,7 @@ ghost use Rattle.tc_syntax.specs.helpers.Reading.{Just, AnyName, AnyNumber, AnIn
 ghost use Rattle.tc_syntax.specs.helpers.Read.{Stops, Moves};
 
 use std::alloc::{AllocError, AllocFailed};
-use tc_base::Place;
-use tc_lexer::{Keyword, Sign};
+use tc_lexer::{Keyword, Place, Sign};
 use tc_tree::{Name, Number, Word};
 
 /// Why a reader stopped.

@@ -23,8 +23,7 @@ ghost use Rattle.tc_syntax.specs.helpers.Read as reads;
 use crate::expressions::{read_arguments, read_expression};
 use crate::reader::{Read, Stop, past, past_end, past_if, past_keyword, past_name};
 use std::alloc::Global;
-use tc_base::Place;
-use tc_lexer::{Keyword, Sign};
+use tc_lexer::{Keyword, Place, Sign};
 use tc_tree::{Action, Barrier, Block, Branch, Name, Statement, Word};
 
 /// What stands after the first branch of an `if`.

@@ -5,7 +5,7 @@ use Rattle.tc_base.specs.Names.{Name, ByName}
 use Rattle.tc_base.specs.States.{Local, Thread}
 use Rattle.tc_code.specs.declared.instr.Instr.{Instr}
 use Rattle.tc_code.specs.declared.instr.Instr.TheVariants.{Branch}
-use Rattle.tc_base.specs.declared.limits.TheConstants.{CELLS}
+use Rattle.tc_limits.specs.declared.limits.TheConstants.{CELLS}
 use Rattle.tc_code.specs.Code.{Code}
 use Rattle.tc_code.specs.Lawful.{names_what_is}
 use Rattle.tc_code.specs.declared.code.Func.{Func}

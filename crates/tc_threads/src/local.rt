@@ -1,7 +1,7 @@
 //! What a thread has to itself, but for its store buffer, and what an instruction asks and does there.
 ghost use Rattle.std.specs.Prelude.{◌≡◌, ℕ, ◌+◌, ◌<◌, ◌≤◌, ◌^◌, length, slice_set, map, true, IsTrue, IfOk, OnOk, OnErr, OnSome, option_map};
 ghost use Rattle.std.specs.List.{list_all};
-ghost use Rattle.tc_base.specs.Buffers.{no_buffer};
+ghost use Rattle.store_buffers.specs.Buffers.{no_buffer};
 ghost use Rattle.tc_base.specs.declared.handle.Handle.{Handle};
 ghost use Rattle.tc_code.specs.Code as flat;
 ghost use Rattle.tc_code.specs.Lawful.{IsLawful};

@@ -1,6 +1,6 @@
 -- What trees are, without where they lie in memory.
 use Rattle.std.specs.Prelude.{List, [], ◌∷◌, map, Option, Some, None}
-use Rattle.tc_base.specs.declared.place.Place.{Place}
+use Rattle.tc_lexer.specs.declared.place.Place.{Place}
 use Rattle.tc_tree.specs.declared.statement.Statement.{Statement as TreeStatement, fold-Statement}
 use Rattle.tc_tree.specs.declared.statement.Statement.TheOpen.{Statement-F, Block-F, Branch-F}
 use Rattle.tc_tree.specs.declared.statement.Block.{Block, fold-Block}

@@ -1,6 +1,6 @@
 -- Tokens as the grammar sees them.
 use Rattle.std.specs.Prelude.{ℕ, List, map}
-use Rattle.tc_base.specs.declared.place.Place.{Place}
+use Rattle.tc_lexer.specs.declared.place.Place.{Place}
 use Rattle.tc_lexer.specs.declared.token.Keyword.{Keyword as AnyKeyword}
 use Rattle.tc_lexer.specs.declared.token.Keyword.TheVariants as keyword
 use Rattle.tc_lexer.specs.declared.token.Sign.{Sign as AnySign}

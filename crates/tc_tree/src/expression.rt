@@ -2,9 +2,10 @@
 ghost use Rattle.std.specs.Prelude.{◌≡◌, slice_range, IfOk};
 ghost use Rattle.tc_tree.specs.Grammar as plain;
 
+use int_ops::UnOp;
 use std::alloc::{AllocError, Global};
 use std::marker::Model;
-use tc_base::{Place, UnOp};
+use tc_lexer::Place;
 
 /// A name, told by where it stands in its text.
 #[derive(Clone, Copy, Debug, PartialEq, Eq)]

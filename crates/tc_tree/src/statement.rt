@@ -1,7 +1,7 @@
 //! Statements.
 
 use crate::expression::{Expression, Name};
-use tc_base::Place;
+use tc_lexer::Place;
 
 /// What a statement of one name does.
 #[derive(Clone, Copy, Debug, PartialEq, Eq)]

@@ -5,8 +5,7 @@ ghost use Rattle.tc_tree.specs.Words as words;
 
 use crate::expression::{Name, Number};
 use crate::statement::{Action, Barrier};
-use tc_base::Place;
-use tc_lexer::{Keyword, Sign, Token, TokenKind};
+use tc_lexer::{Keyword, Place, Sign, Token, TokenKind};
 
 /// A token as the grammar sees it, with its place where a tree keeps it.
 #[derive(Clone, Copy, Debug, PartialEq, Eq)]

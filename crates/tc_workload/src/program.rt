@@ -1,6 +1,6 @@
 //! The texts of the programs.
 ghost use Rattle.std.specs.Prelude.{◌≡◌, ◌≤◌, ◌<◌, ◌+◌, length, IfOk, string_bytes};
-ghost use Rattle.tc_base.specs.declared.limits.TheConstants.{PROGRAM_BYTES};
+ghost use Rattle.tc_limits.specs.declared.limits.TheConstants.{PROGRAM_BYTES};
 ghost use Rattle.tc_workload.specs.Workload as spec;
 ghost use Rattle.tc_workload.specs.Workload.{cell_read, each, whole_text, worker_lines, worker_line};
 ghost use Rattle.tc_workload.specs.declared.program.TheConstants.{WORKERS};

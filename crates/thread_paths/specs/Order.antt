@@ -1,6 +1,6 @@
 -- The order in which the paths of a thread are gone through.
 use Rattle.std.specs.Prelude.{ℕ, Bool, true, false, nat_le, List, [], ◌∷◌}
-use Rattle.tc_base.specs.Logs.{Path}
+use Rattle.tc_base.specs.Paths.{Path}
 
 -- whether outcomes and steps are those of a position or come after it: a false comes before a true,
 -- fewer outcomes before more of them, and with the same outcomes fewer steps before more

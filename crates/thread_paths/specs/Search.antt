@@ -1,7 +1,7 @@
 -- What a search for a path gives.
 use Rattle.std.specs.Prelude.{◌≡◌, ℕ, ◌<◌, ◌⊎◌, length, Bool, true, Option, Some, None, IfSome}
-use Rattle.tc_base.specs.Logs.{Path}
-use Rattle.tc_base.specs.declared.limits.TheConstants.{STEPS}
+use Rattle.tc_base.specs.Paths.{Path}
+use Rattle.tc_limits.specs.declared.limits.TheConstants.{STEPS}
 use Rattle.tc_code.specs.Code.{Code}
 use Rattle.thread_paths.specs.Ends.{MayTake}
 use Rattle.thread_paths.specs.Order.{comes_from}

@@ -1,6 +1,6 @@
 //! One way down from outcomes: they are followed, and behind them each branch is false, until a path may end or none goes on.
 ghost use Rattle.std.specs.Prelude.{◌≡◌, ℕ, List, Bool, true, false, ◌&&◌, ◌≤◌, ◌<◌, ◌+◌, ◌^◌, length, IfOk, []};
-ghost use Rattle.tc_base.specs.declared.limits.TheConstants.{STEPS};
+ghost use Rattle.tc_limits.specs.declared.limits.TheConstants.{STEPS};
 ghost use Rattle.path_walk.specs.Marks.{Marks};
 ghost use Rattle.thread_marks.specs.Own.{own_of};
 ghost use Rattle.thread_paths.specs.Order.{is_from};

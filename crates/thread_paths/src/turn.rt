@@ -1,8 +1,6 @@
 //! From outcomes to the next ones.
-ghost use Rattle.std.specs.Prelude.{◌≡◌, ℕ, List, Bool, true, false, ◌<◌, ◌≤◌, length, IfOk};
-ghost use Rattle.path_log.specs.Texts.{bits_value};
-ghost use Rattle.thread_paths.specs.Order.{is_from};
-ghost use Rattle.thread_paths.specs.helpers.Descents.{leaves_behind, IsTurned};
+ghost use Rattle.std.specs.Prelude.{IfOk};
+ghost use Rattle.thread_paths.specs.helpers.Descents.{IsTurned};
 
 use std::alloc::AllocError;
 

@@ -3,7 +3,7 @@ use Rattle.std.specs.Prelude.{ℕ, zero, suc, ◌+◌, ◌-◌, ◌==◌, max, B
 use Rattle.std.specs.Prelude.{slice_index_or, Option, if◌then◌else◌}
 use Rattle.std.specs.List.{enumerate_from, find, range_with_len}
 use Rattle.std.specs.Option.{option_map_or}
-use Rattle.tc_base.specs.Logs.{place_in}
+use Rattle.tc_base.specs.Paths.{place_in}
 use Rattle.tc_base.specs.Names.{Name}
 use Rattle.tc_base.specs.declared.moves.Move.{Move}
 use Rattle.tc_base.specs.declared.moves.Move.TheVariants as move

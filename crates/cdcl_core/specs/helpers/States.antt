@@ -17,7 +17,7 @@ use Rattle.cdcl_steps.specs.declared.loading.Loaded.TheVariants.{Taken, Refuted}
 use Rattle.cdcl_lines.specs.Keeping.{Represents, KeepsAll}
 use Rattle.cdcl_lines.specs.Fresh.{AreFresh}
 use Rattle.cdcl_core.specs.Searches.{checked, adds, added_in, deleted_in, DeletesFew, IsSolution}
-use Rattle.tc_base.specs.declared.limits.TheConstants.{BUDGET}
+use Rattle.tc_limits.specs.declared.limits.TheConstants.{BUDGET}
 use Rattle.cdcl_core.specs.declared.state.State.{State}
 use Rattle.cdcl_core.specs.declared.turns.Step.{Step}
 use Rattle.cdcl_core.specs.declared.turns.Step.TheVariants as steps

@@ -1,7 +1,8 @@
 -- A refutation that is read: what its lines so far were taken as, and what is made of them.
 use Rattle.std.specs.Prelude.{◌≡◌, ℕ, ◌≤◌, Bool, false, List, [], Option, Some, None, is_some, fold, Ok, Err, ⊤}
 use Rattle.tc_code.specs.Code.{Code}
-use Rattle.path_log.specs.Texts.{StoredLog, IsOfOther}
+use Rattle.run_log.specs.Logs.{StoredLog}
+use Rattle.path_log.specs.Texts.{IsOfOther}
 use Rattle.tc_io.specs.Outside.{ShelfTells, GaveReading, FailedReading}
 use Rattle.refute_check.specs.Laws.{whole_lines}
 use Rattle.refute_check.specs.Reading.{Reading, Reads, beginning, first_breach}

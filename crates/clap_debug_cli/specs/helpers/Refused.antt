@@ -1,12 +1,13 @@
 -- Answers in place of a result: why a file can't be had, why there is nothing to keep, and why it isn't kept.
 use Rattle.std.specs.Prelude.{◌≡◌, ℕ, List, Result, MatchResult}
 use Rattle.path_log.specs.Faults.{BreaksAt}
-use Rattle.path_log.specs.Texts.{StoredLog, IsOfOther}
+use Rattle.run_log.specs.Logs.{StoredLog}
+use Rattle.path_log.specs.Texts.{IsOfOther}
 use Rattle.tc_code.specs.Code.{Code}
 use Rattle.tc_compile.specs.Programs.{IsCodeOf, IsRefusal}
 use Rattle.tc_io.specs.Outside.{ShelfTells, KeptPart, closed}
 use Rattle.tc_record.specs.Seeded.{Ended}
-use Rattle.tc_base.specs.Logs.{Log}
+use Rattle.run_log.specs.Logs.{Log}
 use Rattle.path_walk.specs.declared.fault.WalkFault.TheVariants as walk
 use Rattle.clap_system.specs.Faults.{IsBuildFault, limit_of}
 use Rattle.clap_system.specs.declared.fault.BuildFault.TheVariants as build

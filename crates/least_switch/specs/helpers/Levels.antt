@@ -1,7 +1,7 @@
 -- Clauses of a formula with at most so many switches.
 use Rattle.std.specs.Prelude.{◌≡◌, ℕ, ◌+◌, ◌<◌, ◌≤◌, true, false, List, length}
 use Rattle.std.specs.List.{All}
-use Rattle.tc_base.specs.declared.limits.TheConstants.{EVENTS}
+use Rattle.tc_limits.specs.declared.limits.TheConstants.{EVENTS}
 use Rattle.path_walk.specs.Paths.{Paths}
 use Rattle.sym_terms.specs.declared.node.Node.{Node}
 use Rattle.order_formula.specs.Formulas.{IsOf}

@@ -1,7 +1,7 @@
 -- Histories along the paths of a log.
 use Rattle.std.specs.Prelude.{◌≡◌, ℕ, Bool, true, Some, List, length, slice_get}
 use Rattle.std.specs.FinMap as fin
-use Rattle.tc_base.specs.Logs.{Log}
+use Rattle.run_log.specs.Logs.{Log}
 use Rattle.tc_base.specs.Names.{Name}
 use Rattle.tc_base.specs.States.{Local}
 use Rattle.tc_code.specs.Code.{Code}

@@ -1,7 +1,7 @@
 -- How a reader's answer is held against the fields that it reads.
 use Rattle.std.specs.Prelude.{◌≡◌, ℕ, ◌-◌, List, length, slice_get, Option, option_map, Result, Ok, Err}
 use Rattle.tc_base.specs.Names.{Name}
-use Rattle.tc_base.specs.Logs.{ThreadPath}
+use Rattle.tc_base.specs.Paths.{ThreadPath}
 use Rattle.path_log.specs.declared.cursor.Cursor.{Cursor}
 use Rattle.path_log.specs.declared.fault.LogFault.{LogFault}
 use Rattle.path_log.specs.declared.fault.LogFault.TheVariants.{Form, Memory}

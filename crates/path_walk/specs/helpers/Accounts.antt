@@ -1,7 +1,7 @@
 -- What is told of one thread.
 use Rattle.std.specs.Prelude.{◌≡◌, ℕ, List, ◌++◌, drop, map, sum, Bool, Result, Ok, Err}
 use Rattle.std.specs.List.{list_any}
-use Rattle.tc_base.specs.Logs.{ThreadPath}
+use Rattle.tc_base.specs.Paths.{ThreadPath}
 use Rattle.tc_code.specs.Code.{Code}
 use Rattle.path_walk.specs.Steps.{Onward, is_failing, steps_at}
 use Rattle.path_walk.specs.Fits.{started}

@@ -4,10 +4,11 @@ use Rattle.std.specs.Prelude.{Bool, true, false, ◌||◌, if◌then◌else◌, 
 use Rattle.std.specs.List.{list_any}
 use Rattle.std.specs.Ordering.{is_lt}
 use Rattle.tc_base.specs.Names.{Name, child, by_name}
-use Rattle.tc_base.specs.Logs.{Log, ThreadPath, path_under}
+use Rattle.run_log.specs.Logs.{Log}
+use Rattle.tc_base.specs.Paths.{ThreadPath, path_under}
 use Rattle.tc_base.specs.declared.failing.Failing.{Failing}
 use Rattle.tc_code.specs.Code.{Code}
-use Rattle.path_log.specs.Texts.{rises_from}
+use Rattle.run_log.specs.Logs.{rises_from}
 use Rattle.path_walk.specs.Fits.{started, function_of, misfit_of}
 use Rattle.path_walk.specs.Paths.{Walk, Paths, counted, have_exited, walk_of, steps_in, operators_in, is_dead}
 use Rattle.path_walk.specs.declared.fault.Misfit.{Misfit}

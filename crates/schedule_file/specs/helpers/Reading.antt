@@ -1,9 +1,9 @@
 -- How a reader takes the front of a text: a value and what stands behind it.
 use Rattle.std.specs.Prelude.{ℕ, zero, suc, ◌-◌, ◌==◌, if◌then◌else◌, List, [], ◌∷◌, Option, Some, None, codes}
 use Rattle.tc_base.specs.Names.{Name}
-use Rattle.tc_base.specs.declared.limits.TheConstants.{CELLS, DEPTH}
-use Rattle.tc_base.specs.declared.model.Model.{Model}
-use Rattle.tc_base.specs.declared.model.Model.TheVariants.{Sc, Tso, Pso}
+use Rattle.tc_limits.specs.declared.limits.TheConstants.{CELLS, DEPTH}
+use Rattle.memory_models.specs.declared.model.Model.{Model}
+use Rattle.memory_models.specs.declared.model.Model.TheVariants.{Sc, Tso, Pso}
 use Rattle.tc_base.specs.declared.moves.Move.{Move}
 use Rattle.tc_base.specs.declared.moves.Move.TheVariants.{Run, Wake, Drain}
 use Rattle.tc_decimal.specs.Decimals.{number_at}

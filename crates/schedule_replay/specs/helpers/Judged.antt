@@ -6,7 +6,8 @@ use Rattle.std.specs.declared.cmp.Ordering.{Ordering}
 use Rattle.std.specs.declared.cmp.Ordering.TheVariants.{Less, Equal, Greater}
 use Rattle.tc_base.specs.Names.{Name, by_name}
 use Rattle.tc_base.specs.States.{State}
-use Rattle.tc_base.specs.Logs.{Path, ThreadPath, Log}
+use Rattle.tc_base.specs.Paths.{Path, ThreadPath}
+use Rattle.run_log.specs.Logs.{Log}
 use Rattle.tc_base.specs.Buffers.{BufferOps}
 use Rattle.tc_code.specs.Code.{Code}
 use Rattle.tc_code.specs.Run.{path_in, EndsAs}

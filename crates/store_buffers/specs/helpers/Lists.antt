@@ -3,11 +3,13 @@ use Rattle.std.proofs.Common.{◌≡◌, ◌⊎◌, inl, inr, ℕ, ℤ, ◌==◌
 use Rattle.std.proofs.Common.{refl, sym, ap, ◌∙◌}
 use Rattle.std.specs.Option.{option_or}
 use Rattle.std.proofs.lemmas.Bool.{false≢true}
-use Rattle.tc_base.specs.Buffers.{Entry, BufferOps, newest, is_nil}
+use Rattle.tc_base.specs.Buffers.{Entry, BufferOps}
+use Rattle.store_buffers.specs.Buffers.{newest}
+use Rattle.list_laws.specs.Lists.{is_nil}
 use Rattle.store_buffers.specs.Pending.{Pending, Store, Bar, stores, Binding, waits, Stands, put}
 use Rattle.std.proofs.lemmas.List.Sums.{fold-append}
 use Rattle.std.specs.Cmp.{nat_eq_equiv}
-use Rattle.tc_base.proofs.Options.{or_none}
+use Rattle.list_laws.proofs.Options.{or_none}
 
 pub stores-append : (ps qs : List Pending) → stores (ps ++ qs) ≡ stores ps ++ stores qs
 stores-append [] qs = refl

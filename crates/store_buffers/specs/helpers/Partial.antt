@@ -35,25 +35,13 @@ use Rattle.std.specs.Option.{option_or}
 use Rattle.std.specs.FinMap as fin
 use Rattle.std.proofs.lemmas.Bool.{false≢true, not-true, or_parts, eqb-true}
 use Rattle.std.specs.Cmp.{nat_eq_equiv}
-use Rattle.tc_base.specs.Buffers.{
-  Entry,
-  Segment,
-  values_to,
-  with_values,
-  has_no_store,
-  issue_last,
-  last_value,
-  first_values,
-  drop_first,
-  may_drain_cell,
-  cell_buffer,
-  newest,
-  is_nil,
-}
-use Rattle.tc_base.specs.declared.model.Model.TheVariants.{Pso}
+use Rattle.tc_base.specs.Buffers.{Entry}
+use Rattle.store_buffers.specs.Buffers.{Segment, values_to, with_values, has_no_store, issue_last, last_value, first_values, drop_first, may_drain_cell, cell_buffer, newest}
+use Rattle.list_laws.specs.Lists.{is_nil}
+use Rattle.memory_models.specs.declared.model.Model.TheVariants.{Pso}
 use Rattle.store_buffers.specs.Pending.{Pending, Store, Bar, stores, has_bar, binds_cells, waits, Stands, put}
 use Rattle.store_buffers.specs.Laws.{Laws, SomeDrains, TakesOut}
-use Rattle.tc_base.proofs.Options.{or_none}
+use Rattle.list_laws.proofs.Options.{or_none}
 use Rattle.store_buffers.specs.helpers.Lists.{or_assoc}
 use Rattle.store_buffers.specs.helpers.Segments.{
   IsTidy,

@@ -2,7 +2,8 @@
 use Rattle.std.specs.Prelude.{◌≡◌, ℕ, ℤ, Bool, false, List, [], ◌++◌, ◌∷◌, drop, replicate, refl}
 use Rattle.std.specs.Coded.{Coded, code_by, coded×, coded_ℕ, coded_ℤ, coded_list}
 use Rattle.std.specs.FinMap as fin
-use Rattle.tc_base.specs.Buffers.{Entry, Segment, values_to, with_values, has_no_store}
+use Rattle.tc_base.specs.Buffers.{Entry}
+use Rattle.store_buffers.specs.Buffers.{Segment, values_to, with_values, has_no_store}
 use Rattle.store_buffers.specs.declared.queue.Store.{Store}
 
 abbrev pub entry_of : Store → Entry

@@ -28,7 +28,8 @@ use Rattle.std.specs.FinMap.{get-empty, get-insert, get-remove, len-empty, empty
 use Rattle.std.specs.Ordering.{nat_cmp}
 use Rattle.std.specs.Cmp.{nat_cmp_total, unsigned_tied, nat_eq_equiv}
 use Rattle.std.proofs.lemmas.Bool.{false≢true, eqb-true}
-use Rattle.tc_base.specs.Buffers.{Segment, values_to, with_values, has_no_store, first_values, drop_first, is_nil}
+use Rattle.store_buffers.specs.Buffers.{Segment, values_to, with_values, has_no_store, first_values, drop_first}
+use Rattle.list_laws.specs.Lists.{is_nil}
 
 -- a map has a queue only where it has values
 abbrev pub some_values : List ℤ → Option (List ℤ)

@@ -26,8 +26,10 @@ use Rattle.std.proofs.Common.{
   append-nil,
 }
 use Rattle.std.proofs.lemmas.Bool.{false≢true}
-use Rattle.tc_base.specs.Buffers.{Entry, fifo_buffer, newest, no_entry, is_nil}
-use Rattle.tc_base.specs.declared.model.Model.TheVariants.{Tso}
+use Rattle.tc_base.specs.Buffers.{Entry}
+use Rattle.store_buffers.specs.Buffers.{fifo_buffer, newest, no_entry}
+use Rattle.list_laws.specs.Lists.{is_nil}
+use Rattle.memory_models.specs.declared.model.Model.TheVariants.{Tso}
 use Rattle.store_buffers.specs.Pending.{Pending, Store, Bar, stores, binds_all, waits, Stands, put}
 use Rattle.store_buffers.specs.Laws.{Laws, SomeDrains, TakesOut}
 use Rattle.store_buffers.specs.helpers.Lists.{stores-append}

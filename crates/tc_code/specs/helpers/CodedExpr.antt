@@ -2,10 +2,10 @@
 use Rattle.std.specs.Prelude.{◌≡◌, ℕ, ℤ, List, [], ◌∷◌, ◌++◌, refl, ◌⊎◌}
 use Rattle.std.proofs.Common.{ap, ◌∙◌, inl, inr}
 use Rattle.std.specs.Coded.{Coded, code_by, coded_ℕ, coded_ℤ, coded_list, coded⊎}
-use Rattle.tc_base.specs.declared.arith.BinOp.{BinOp}
-use Rattle.tc_base.specs.declared.arith.UnOp.{UnOp}
-use Rattle.tc_base.specs.contracts.arith.BinOp as binary
-use Rattle.tc_base.specs.contracts.arith.UnOp as unary
+use Rattle.int_ops.specs.declared.arith.BinOp.{BinOp}
+use Rattle.int_ops.specs.declared.arith.UnOp.{UnOp}
+use Rattle.int_ops.specs.contracts.arith.BinOp as binary
+use Rattle.int_ops.specs.contracts.arith.UnOp as unary
 use Rattle.tc_code.specs.Expr.{Expr, Number, Slot, Unary, Binary}
 
 -- a number, a slot, an operator over the one value that stands before, or one over the two

@@ -3,7 +3,7 @@ use Rattle.std.specs.Prelude.{ℕ, ℤ, pos, ◌+◌, ◌&&◌, not, nat_le, nat
 use Rattle.std.specs.Prelude.{Some, option_map, bytes_eq, codes, drop}
 use Rattle.std.specs.List.{find, starts_with, take_while}
 use Rattle.tc_decimal.specs.Decimals.{number_of}
-use Rattle.tc_base.specs.declared.place.Place.{Place}
+use Rattle.tc_lexer.specs.declared.place.Place.{Place}
 use Rattle.tc_lexer.specs.declared.token.Keyword.{Keyword}
 use Rattle.tc_lexer.specs.declared.token.Keyword.TheVariants.{Int, Mutex, Cond, Thread, Main, Tid, If, Else, While, Create, Join, Lock, Unlock, Wait, Signal}
 use Rattle.tc_lexer.specs.declared.token.Keyword.TheVariants.{Broadcast, Fence, Assert, Swap, Cas, Stbar}

@@ -1,6 +1,6 @@
 -- Helpers: bodies that are being written.
 use Rattle.std.specs.Prelude.{◌≡◌, ℕ, ◌+◌, ◌<◌, ◌≤◌, ◌^◌, Bool, true, false, [], ◌∷◌, ◌++◌, List, length, set, replicate}
-use Rattle.tc_base.specs.declared.limits.TheConstants.{PROGRAM_BYTES}
+use Rattle.tc_limits.specs.declared.limits.TheConstants.{PROGRAM_BYTES}
 use Rattle.tc_code.specs.declared.instr.Instr.{Instr}
 use Rattle.tc_code.specs.declared.instr.Instr.TheVariants.{Branch, Goto}
 use Rattle.tc_tree.specs.Grammar as grammar

@@ -1,6 +1,6 @@
 -- Helpers: what leaves room for the code of a program.
 use Rattle.std.specs.Prelude.{ℕ, ◌+◌, ◌<◌, ◌≤◌, ◌^◌, List, [], ◌∷◌, length}
-use Rattle.tc_base.specs.declared.limits.TheConstants.{PROGRAM_BYTES}
+use Rattle.tc_limits.specs.declared.limits.TheConstants.{PROGRAM_BYTES}
 use Rattle.tc_tree.specs.declared.expression.Name.{Name}
 use Rattle.tc_tree.specs.Grammar.{Body, Thread}
 use Rattle.tc_lower.specs.declared.things.Named.{Named}

@@ -4,7 +4,7 @@ use Rattle.std.specs.Option.{option_map_or}
 use Rattle.std.specs.FinMap as fin
 use Rattle.tc_base.specs.Names.{Name}
 use Rattle.tc_base.specs.States.{State}
-use Rattle.tc_base.specs.Logs.{Path, ThreadPath}
+use Rattle.tc_base.specs.Paths.{Path, ThreadPath}
 use Rattle.tc_base.specs.declared.failing.Failing.{Failing}
 use Rattle.tc_base.specs.declared.failing.Failing.TheVariants.{Thread, Deadlock}
 use Rattle.tc_code.specs.Run.{path_of}

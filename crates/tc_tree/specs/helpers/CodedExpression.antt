@@ -2,8 +2,8 @@
 use Rattle.std.specs.Prelude.{◌≡◌, pos, Option, Some, None, List, [], ◌∷◌, ◌++◌, refl, ◌⊎◌}
 use Rattle.std.proofs.Common.{ap, ◌∙◌, inl, inr}
 use Rattle.std.specs.Coded.{Coded, code_by, coded_list, coded⊎, coded_option}
-use Rattle.tc_base.specs.declared.arith.UnOp.{UnOp}
-use Rattle.tc_base.specs.contracts.arith.UnOp as unary
+use Rattle.int_ops.specs.declared.arith.UnOp.{UnOp}
+use Rattle.int_ops.specs.contracts.arith.UnOp as unary
 use Rattle.tc_tree.specs.declared.expression.Name.{Name}
 use Rattle.tc_tree.specs.declared.expression.Number.{Number as AnyNumber}
 use Rattle.tc_tree.specs.declared.expression.Operator.{Operator}

@@ -1,12 +1,12 @@
 -- One way down from outcomes, step by step.
-use Rattle.std.specs.Prelude.{◌≡◌, ℕ, zero, suc, ◌+◌, ◌<◌, ◌≤◌, ◌⊎◌, ◌==◌, List, [], ◌∷◌, ◌++◌, length, Bool, true, false, not, ◌&&◌, nat_le, if◌then◌else◌}
+use Rattle.std.specs.Prelude.{◌≡◌, ℕ, zero, suc, ◌+◌, ◌^◌, ◌<◌, ◌≤◌, ◌⊎◌, ◌==◌, List, [], ◌∷◌, ◌++◌, length, Bool, true, false, not, ◌&&◌, nat_le, if◌then◌else◌}
 use Rattle.std.specs.Prelude.{slice_index_or, Option, Some, None}
 use Rattle.std.specs.Option.{option_map_or}
-use Rattle.tc_base.specs.declared.limits.TheConstants.{STEPS}
+use Rattle.tc_limits.specs.declared.limits.TheConstants.{STEPS}
 use Rattle.tc_code.specs.Code.{Code, instr_at}
 use Rattle.tc_code.specs.declared.instr.Instr.{Instr}
 use Rattle.tc_code.specs.declared.instr.Instr.TheVariants.{Branch, Goto}
-use Rattle.path_log.specs.Texts.{bits_value}
+use Rattle.list_laws.specs.Lists.{is_nil}
 use Rattle.path_walk.specs.Events.{excludes}
 use Rattle.path_walk.specs.Marks.{Marks, unmarked, marked}
 use Rattle.path_walk.specs.Steps.{Onward, onward, is_site, can_block}
@@ -23,9 +23,11 @@ use Rattle.thread_paths.specs.declared.descent.At.{At}
 use Rattle.thread_paths.specs.declared.descent.Descent.{Descent}
 use Rattle.thread_paths.specs.declared.descent.Descent.TheVariants as down
 
-abbrev pub is_nil : List Bool → Bool
-is_nil [] = true
-is_nil (_ ∷ _) = false
+-- what the first so many outcomes are worth together as a number of bits, the highest first
+abbrev pub worth : ℕ → List Bool → ℕ
+worth zero o = 0
+worth (suc n) [] = 0
+worth (suc n) (b ∷ o) = (if b then 2 ^ n else 0) + worth n o
 
 -- whether a thread goes two ways from an instruction
 abbrev pub is_branch : Instr → Bool
@@ -83,7 +85,7 @@ leaves_behind (_ ∷ o) (_ ∷ outcomes) = leaves_behind o outcomes
 pub record TurnsTo (before after : List Bool) : Type 0 where
   pub same : (q : List Bool) (s : ℕ) → leaves_behind before q ≡ is_from after 0 q s
   pub few : length after ≤ length before
-  pub worth : (m : ℕ) → length before ≤ m → bits_value m before < bits_value m after
+  pub value : (m : ℕ) → length before ≤ m → worth m before < worth m after
 
 abbrev pub IsTurned : List Bool → List Bool → Bool → Type 0
 IsTurned before after true = TurnsTo before after
@@ -134,7 +136,7 @@ module _ (code : Code) (scope : Scope) (start : List Bool) (first : ℕ) where
     pub whole : o ≡ done ++ rest
     pub count : at.used ≡ length done
     pub few : length o ≤ scope.most
-    pub worth : bits_value scope.most o ≡ bits_value scope.most start
+    pub value : worth scope.most o ≡ worth scope.most start
     pub same : (m : ℕ) (r : List Bool)
         → goes code scope.function scope.aim (n + m) (unmarked code scope.function) 0 (done ++ r)
         ≡ goes code scope.function scope.aim m marks at.place r
@@ -154,7 +156,7 @@ module _ (code : Code) (scope : Scope) (start : List Bool) (first : ℕ) where
   -- none was found among those that begin so, but for those that have an excuse
   pub record IsSpent (o : List Bool) (Excused : List Bool → ℕ → Type 0) : Type 0 where
     pub few : length o ≤ scope.most
-    pub worth : bits_value scope.most o ≡ bits_value scope.most start
+    pub value : worth scope.most o ≡ worth scope.most start
     pub behind : (q : List Bool) (s : ℕ) → leaves_behind o q ≡ true → is_from start first q s ≡ true
     pub others : (q : List Bool) (s : ℕ) → takes code scope q s ≡ true → is_from start first q s ≡ true
         → (leaves_behind o q ≡ true) ⊎ Excused q s

@@ -1,7 +1,7 @@
 -- What a derivation shows over clauses that are posed.
 use Rattle.std.specs.Prelude.{List}
 use Rattle.std.specs.List.{All}
-use Rattle.tc_base.specs.Logs.{Log}
+use Rattle.run_log.specs.Logs.{Log}
 use Rattle.tc_code.specs.Code.{Code}
 use Rattle.refute_check.specs.Refutations.{IsClosed, IsOpen}
 use Rattle.refute_check.specs.declared.line.Line.{Line}

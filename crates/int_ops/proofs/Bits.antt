@@ -17,7 +17,7 @@ use Rattle.std.proofs.lemmas.Nat.Bits.{
   bit_at_cat_low,
   bit_at_cat_high,
 }
-use Rattle.tc_base.specs.Arith.{bit, number, bits_and, bits_or, bits_xor, bits_inverted}
+use Rattle.int_ops.specs.Arith.{bit, number, bits_and, bits_or, bits_xor, bits_inverted}
 
 one_more : (f p n : ℕ) → f < 2 → n < p → f * p + n < p * 2
 one_more zero p n two below = omega arith

@@ -31,10 +31,10 @@ use Rattle.std.specs.Prelude.{
 }
 use Rattle.std.specs.Int.{w32, int_wrap, int_div_euclid, is_negative, bit_at, cast_unsigned, cast_signed}
 use Rattle.std.specs.Ordering.{int_eq}
-use Rattle.tc_base.specs.declared.arith.UnOp.{UnOp}
-use Rattle.tc_base.specs.declared.arith.UnOp.TheVariants.{Neg, Not, Inv}
-use Rattle.tc_base.specs.declared.arith.BinOp.{BinOp}
-use Rattle.tc_base.specs.declared.arith.BinOp.TheVariants.{Add, Sub, Mul, And, Or, Xor, Eq, Ne, Lt, Le, Gt, Ge, Div, Rem, Shl, Shr}
+use Rattle.int_ops.specs.declared.arith.UnOp.{UnOp}
+use Rattle.int_ops.specs.declared.arith.UnOp.TheVariants.{Neg, Not, Inv}
+use Rattle.int_ops.specs.declared.arith.BinOp.{BinOp}
+use Rattle.int_ops.specs.declared.arith.BinOp.TheVariants.{Add, Sub, Mul, And, Or, Xor, Eq, Ne, Lt, Le, Gt, Ge, Div, Rem, Shl, Shr}
 
 -- a whole number in the range of `int`
 abbrev pub IsInt : ℤ → Type 0

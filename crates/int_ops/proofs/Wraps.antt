@@ -32,8 +32,8 @@ pub use Rattle.std.proofs.lemmas.Int.{to_z-of_z}
 use Rattle.std.proofs.lemmas.Int.{wrapping_mul-bits, int_wrap-mul_right}
 use Rattle.std.proofs.lemmas.Bool.{false≢true}
 use Rattle.std.proofs.Math.Nat.{div-le_self, lt_of_le_of_lt}
-use Rattle.tc_base.proofs.Bits.{unsigned-below}
-use Rattle.tc_base.specs.Arith.{wrapped, with_sign, signs_differ, is_distance, shifted_left}
+use Rattle.int_ops.proofs.Bits.{unsigned-below}
+use Rattle.int_ops.specs.Arith.{wrapped, with_sign, signs_differ, is_distance, shifted_left}
 
 -- a number whose magnitude is below 2 ^ 32 is wrapped by taking its 32 bits
 bits_of : (z : ℤ) → unsigned_abs z < 2 ^ 32 → to_z w32 (of_z w32 z) ≡ wrapped z

@@ -2,7 +2,7 @@
 //!
 //! Tests give 1 where they hold and 0 where they don't, as in C.
 ghost use Rattle.std.specs.Prelude.{◌≡◌};
-ghost use Rattle.tc_base.specs.Arith.{
+ghost use Rattle.int_ops.specs.Arith.{
   plus,
   minus,
   times,
@@ -21,7 +21,7 @@ ghost use Rattle.tc_base.specs.Arith.{
   less,
   less_or_equal,
 };
-ghost use Rattle.tc_base.specs.Arith as arithmetic;
+ghost use Rattle.int_ops.specs.Arith as arithmetic;
 
 /// An operator over one value.
 #[derive(Clone, Copy, Debug, PartialEq, Eq, Hash)]

@@ -10,12 +10,12 @@ use Rattle.std.proofs.lemmas.Int.{to_z-of_z, of_z-to_z, SFits-int_wrap}
 use Rattle.std.proofs.lemmas.Nat.{xor_lt, or_lt, and_mask}
 use Rattle.std.proofs.lemmas.List.Elements.{All-head, All-tail}
 use Rattle.std.proofs.Math.Nat.{mod-eq_of_lt, mod-le, div-le_self}
-use Rattle.tc_base.specs.Arith.{IsInt, bits_and, bits_or, bits_xor, bits_inverted, negated, truth, wrapped, times, with_sign, signs_differ, is_distance, unary, binary}
-use Rattle.tc_base.specs.declared.arith.UnOp.{UnOp}
-use Rattle.tc_base.specs.declared.arith.UnOp.TheVariants.{Neg, Not, Inv}
-use Rattle.tc_base.specs.declared.arith.BinOp.{BinOp}
-use Rattle.tc_base.specs.declared.arith.BinOp.TheVariants.{Add, Sub, Mul, And, Or, Xor, Eq, Ne, Lt, Le, Gt, Ge, Div, Rem, Shl, Shr}
-use Rattle.tc_base.proofs.Bits.{int_bit_and-is, int_bit_or-is, int_bit_xor-is, int_bit_not-is, unsigned-below}
+use Rattle.int_ops.specs.Arith.{IsInt, bits_and, bits_or, bits_xor, bits_inverted, negated, truth, wrapped, times, with_sign, signs_differ, is_distance, unary, binary}
+use Rattle.int_ops.specs.declared.arith.UnOp.{UnOp}
+use Rattle.int_ops.specs.declared.arith.UnOp.TheVariants.{Neg, Not, Inv}
+use Rattle.int_ops.specs.declared.arith.BinOp.{BinOp}
+use Rattle.int_ops.specs.declared.arith.BinOp.TheVariants.{Add, Sub, Mul, And, Or, Xor, Eq, Ne, Lt, Le, Gt, Ge, Div, Rem, Shl, Shr}
+use Rattle.int_ops.proofs.Bits.{int_bit_and-is, int_bit_or-is, int_bit_xor-is, int_bit_not-is, unsigned-below}
 
 -- 32 bits are an int
 of_bits : (n : ℕ) → n < 2 ^ 32 → IsInt (cast_signed w32 n)

@@ -1,6 +1,6 @@
 //! The memory models.
 ghost use Rattle.std.specs.Prelude.{◌≡◌};
-ghost use Rattle.tc_base.specs.Models.{model_name};
+ghost use Rattle.memory_models.specs.Models.{model_name};
 
 use std::fmt;
 
@@ -31,7 +31,7 @@ impl Model {
 /// Its name, as words and files have it.
 impl fmt::Display for Model {
     ghost use Rattle.std.specs.Prelude.{Some};
-    ghost use Rattle.tc_base.specs.Models.{model_name};
+    ghost use Rattle.memory_models.specs.Models.{model_name};
 
     ghost output = { λ m. Some (model_name m) };
 

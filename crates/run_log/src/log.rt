@@ -1,10 +1,8 @@
 //! Logs.
-ghost use Rattle.std.specs.Prelude.{◌≡◌, ◌^◌, ◌&&◌, true, false, nat_le, nat_lt, length, is_some, IsTrue, Some, option_map};
-ghost use Rattle.std.specs.List.{list_all};
-ghost use Rattle.tc_base.specs.Logs.{failing_of};
-ghost use Rattle.path_log.specs.Texts.{IsOfOther, is_digest, is_log, is_of_format, has_ending, is_thread, is_within};
+ghost use Rattle.std.specs.Prelude.{◌≡◌, IsTrue, Some, option_map};
+ghost use Rattle.run_log.specs.Logs.{failing_of, is_digest, is_log};
 
-use crate::digest::program_digest;
+use memory_models::Model as MemoryModel;
 use std::marker::Model;
 use tc_base::{Failing, ThreadName};
 
@@ -17,7 +15,7 @@ pub struct ThreadPath {
 }
 
 impl Model for ThreadPath {
-    ghost use Rattle.tc_base.specs.Logs.{ThreadPath as PlainPath};
+    ghost use Rattle.tc_base.specs.Paths.{ThreadPath as PlainPath};
 
     ghost Value = { PlainPath };
 
@@ -50,47 +48,12 @@ impl ThreadPath {
         self.steps
     }
 
-    /// Whether a text has room for it.
-    fn has_room(&self) -> bool
-        ensures { result ≡ is_thread self.now }
-    {
-        name_has_room(self.name.children())
-            && counts_have_room(self.steps, self.outcomes.as_slice())
-    }
-
     /// The outcomes of its branches, in order.
     pub fn outcomes(&self) -> &[bool]
         ensures { result.now ≡ self.now.path.outcomes }
     {
         self.outcomes.as_slice()
     }
-}
-
-/// Whether a text has room for a name: at most 255 creates, each of a number up to 255.
-fn name_has_room(children: &[u32]) -> bool
-    ensures { result ≡ (nat_le (length children.now) 255 && list_all (is_within 1 255) children.now) }
-{
-    children.len() <= 255 && are_children(children)
-}
-
-fn are_children(children: &[u32]) -> bool
-    ensures { result ≡ list_all (is_within 1 255) children.now }
-{
-    children.iter().all(|child| 1 <= *child && *child <= 255)
-}
-
-/// Whether two bytes count the steps, which they do, and the outcomes.
-fn counts_have_room(steps: u16, outcomes: &[bool]) -> bool
-    ensures { result ≡ (nat_lt steps (2 ^ 16) && nat_lt (length outcomes.now) (2 ^ 16)) }
-{
-    outcomes.len() < 65_536
-}
-
-/// Whether a text has room for each of these paths.
-fn have_room(threads: &[ThreadPath]) -> bool
-    ensures { result ≡ list_all is_thread threads.now }
-{
-    threads.iter().all(|thread| thread.has_room())
 }
 
 /// The path of each thread of a run, in the order of their names, and how the run ended: a thread failed, or nothing
@@ -101,14 +64,14 @@ fn have_room(threads: &[ThreadPath]) -> bool
 #[derive(Debug, Drop)]
 pub struct Log {
     digest: Option<[u8; 32]>,
-    model: tc_base::Model,
+    model: MemoryModel,
     failing: Failing,
     threads: Vec<ThreadPath>,
 }
 
 impl Model for Log {
     ghost use Rattle.std.specs.Prelude.{IsTrue};
-    ghost use Rattle.path_log.specs.Texts.{StoredLog, is_log};
+    ghost use Rattle.run_log.specs.Logs.{StoredLog, is_log};
 
     ghost Value = { StoredLog };
 
@@ -121,7 +84,7 @@ impl Log {
     /// The log of these paths, of a run that ended so.
     pub fn new(
         digest: Option<[u8; 32]>,
-        model: tc_base::Model,
+        model: MemoryModel,
         failing: Failing,
         threads: Vec<ThreadPath>,
     ) -> Log
@@ -152,19 +115,8 @@ impl Log {
         self.digest.as_ref()
     }
 
-    /// Whether it was recorded of another program. A log of format 1, which has no digest, may be of any.
-    pub fn is_of_other(&self, program: &[u8]) -> bool
-        ensures other { result ≡ true → IsOfOther program.now self.now }
-        ensures same { result ≡ false → IsOfOther program.now self.now → ⊥ }
-    {
-        match self.digest() {
-            Some(digest) => *digest != program_digest(program),
-            None => false,
-        }
-    }
-
     /// The memory model under which the log was recorded.
-    pub fn model(&self) -> tc_base::Model
+    pub fn model(&self) -> MemoryModel
         ensures { result ≡ self.now.log.model }
     {
         self.model
@@ -184,16 +136,6 @@ impl Log {
         ensures is_log { IsTrue (is_log self.now.log) }
     {
         self.threads.as_slice()
-    }
-
-    /// Whether the log has a text: at most 255 threads, each of a name and a number of outcomes that a text has room for,
-    /// and a digest where no thread failed.
-    pub fn has_text(&self) -> bool
-        ensures { result ≡ (is_of_format self.now.log && has_ending (is_some self.now.digest) self.now.log.failing) }
-    {
-        self.threads.len() <= 255
-            && have_room(self.threads.as_slice())
-            && (self.digest.is_some() || self.failing != Failing::Deadlock)
     }
 
     /// The thread that failed, if one did.

@@ -9,9 +9,9 @@ use Rattle.std.proofs.lemmas.Bool.{and_parts}
 use Rattle.std.proofs.lemmas.Cmp.{nat_list_cmp_total}
 use Rattle.std.proofs.lemmas.Option.{none-some, same_Some}
 use Rattle.tc_base.specs.Names.{Name, by_name}
-use Rattle.tc_base.specs.Logs.{ThreadPath, path_under}
+use Rattle.tc_base.specs.Paths.{ThreadPath, path_under}
 use Rattle.tc_base.proofs.Names.{same_name, between, turned, less_true, same_refl, apart_less, apart_above}
-use Rattle.path_log.specs.Texts.{is_above, rises_from}
+use Rattle.run_log.specs.Logs.{is_above, rises_from}
 
 -- the first of them is above the last one, and the others rise from it
 pub rising : (last : Option Name) (t : ThreadPath) (ts : List ThreadPath) → rises_from last (t ∷ ts) ≡ true

@@ -1,7 +1,7 @@
 -- The names of the memory models.
 use Rattle.std.specs.Prelude.{ℕ, List, codes}
-use Rattle.tc_base.specs.declared.model.Model.{Model}
-use Rattle.tc_base.specs.declared.model.Model.TheVariants.{Sc, Tso, Pso}
+use Rattle.memory_models.specs.declared.model.Model.{Model}
+use Rattle.memory_models.specs.declared.model.Model.TheVariants.{Sc, Tso, Pso}
 
 -- as words and files have them
 abbrev pub model_name : Model → List ℕ
