@@ -9,7 +9,7 @@ ghost use Rattle.thread_paths.specs.helpers.Descents.{is_branch, takes, at_after
 use crate::aim::Scope;
 use crate::leads::{is_branch, is_last, place_after};
 use std::alloc::{AllocError, Global};
-use tc_base::STEPS;
+use tc_limits::STEPS;
 use tc_code::{Code, Instr};
 use thread_marks::Own;
 
