@@ -9,21 +9,28 @@ ghost use Rattle.thread_paths.specs.helpers.Descents.{is_branch, takes, at_after
 use crate::aim::Scope;
 use crate::leads::{is_branch, is_last, place_after};
 use std::alloc::{AllocError, Global};
-use tc_limits::STEPS;
+use tc_limits::limits::STEPS;
 use tc_code::{Code, Instr};
 use thread_marks::Own;
+
+/// Why a way down leads to no path.
+#[derive(Clone, Copy, Debug)]
+pub enum Reason {
+    /// No path goes on.
+    Dead,
+    /// A branch comes after as many outcomes as there may be.
+    TooMany,
+    /// There are as many steps as a log holds.
+    TooLong,
+}
 
 /// How a way down ends.
 #[derive(Clone, Copy, Debug)]
 pub enum Descent {
     /// With a path of so many steps.
     Found(u16),
-    /// No path goes on.
-    Dead,
-    /// At a branch, after as many outcomes as there may be.
-    TooMany,
-    /// After as many steps as a log holds.
-    TooLong,
+    /// With none.
+    Spent(Reason),
 }
 
 /// Where a thread is on its way down.
@@ -113,17 +120,17 @@ fn advance(
         → IfOk result (IsAdvance code.now scope start first steps outcomes.new.items own.new) }
 {
     let Some(instr) = code.instr(scope.function, at.place) else {
-        return Ok(Advance::Ends(Descent::Dead));
+        return Ok(Advance::Ends(Descent::Spent(Reason::Dead)));
     };
     let Some(at) = with_outcome(scope.most, instr, at, outcomes)? else {
-        return Ok(Advance::Ends(Descent::TooMany));
+        return Ok(Advance::Ends(Descent::Spent(Reason::TooMany)));
     };
     let to = after(instr, at, outcomes);
     if is_end(code, scope, steps + 1, own, instr, to, outcomes) {
         return Ok(Advance::Ends(Descent::Found(steps as u16 + 1)));
     }
     if own.excludes(instr, false) {
-        return Ok(Advance::Ends(Descent::Dead));
+        return Ok(Advance::Ends(Descent::Spent(Reason::Dead)));
     }
     own.apply(instr);
     Ok(Advance::On(to))
@@ -154,5 +161,5 @@ pub fn descend(
             Advance::Ends(descent) => return Ok(descent),
         }
     }
-    Ok(Descent::TooLong)
+    Ok(Descent::Spent(Reason::TooLong))
 }

@@ -2,10 +2,10 @@
 ghost use Rattle.std.specs.Prelude.{◌≡◌, ◌+◌, ◌≤◌, ◌&&◌, [], length, false, IfOk};
 ghost use Rattle.thread_paths.specs.Order.{is_from};
 ghost use Rattle.thread_paths.specs.Search.{IsFirst};
-ghost use Rattle.thread_paths.specs.helpers.Descents.{stays, takes};
+ghost use Rattle.thread_paths.specs.helpers.Descents.{cut_by, stays, takes};
 
 use crate::aim::{End, Scope};
-use crate::descent::{Descent, descend};
+use crate::descent::{Descent, Reason, descend};
 use crate::found::{Cut, Found, Path};
 use crate::leads::can_rest;
 use crate::turn::turn;
@@ -23,15 +23,17 @@ fn stays(code: &Code, function: usize, end: End) -> bool
     }
 }
 
-/// What was left out, with the end of one more way down.
-fn with_cut(cut: Cut, descent: Descent) -> Cut {
-    match descent {
-        Descent::TooMany => Cut {
+/// What was left out, with one more reason.
+fn cut_by(cut: Cut, why: Reason) -> Cut
+    ensures { result ≡ cut_by cut why }
+{
+    match why {
+        Reason::Dead => cut,
+        Reason::TooMany => Cut {
             outcomes: true,
             ..cut
         },
-        Descent::TooLong => Cut { steps: true, ..cut },
-        _ => cut,
+        Reason::TooLong => Cut { steps: true, ..cut },
     }
 }
 
@@ -40,25 +42,27 @@ fn search(
     alloc: Global,
     code: &Code,
     scope: Scope,
-    mut outcomes: Vec<bool>,
+    outcomes: Vec<bool>,
     least: usize,
 ) -> Result<Found, AllocError>
     requires few { length outcomes.items ≤ scope.most }
     requires steps { (takes code.now scope [] 0 && is_from outcomes.items least [] 0) ≡ false }
     ensures { IfOk result (IsFirst code.now scope (record { outcomes = outcomes.items; steps = least })) }
 {
+    let mut outcomes = outcomes;
+    let mut least = least;
     let mut cut = Cut {
         outcomes: false,
         steps: false,
     };
-    let mut least = least;
-    loop {
-        let descent = descend(alloc, code, scope, &mut outcomes, least)?;
-        if let Descent::Found(steps) = descent {
-            let path = Some(Path { outcomes, steps });
-            return Ok(Found { path, cut });
+    'ways: loop {
+        match descend(alloc, code, scope, &mut outcomes, least)? {
+            Descent::Found(steps) => {
+                let path = Some(Path { outcomes, steps });
+                return Ok(Found { path, cut });
+            }
+            Descent::Spent(why) => cut = cut_by(cut, why),
         }
-        cut = with_cut(cut, descent);
         if !turn(&mut outcomes)? {
             return Ok(Found { path: None, cut });
         }

@@ -21,7 +21,10 @@ use Rattle.thread_paths.specs.declared.descent.Advance.{Advance}
 use Rattle.thread_paths.specs.declared.descent.Advance.TheVariants.{On, Ends}
 use Rattle.thread_paths.specs.declared.descent.At.{At}
 use Rattle.thread_paths.specs.declared.descent.Descent.{Descent}
-use Rattle.thread_paths.specs.declared.descent.Descent.TheVariants as down
+use Rattle.thread_paths.specs.declared.descent.Descent.TheVariants.{Found, Spent}
+use Rattle.thread_paths.specs.declared.descent.Reason.{Reason}
+use Rattle.thread_paths.specs.declared.descent.Reason.TheVariants.{Dead, TooMany, TooLong}
+use Rattle.thread_paths.specs.declared.found.Cut.{Cut}
 
 -- what the first so many outcomes are worth together as a number of bits, the highest first
 abbrev pub worth : ℕ → List Bool → ℕ
@@ -118,6 +121,18 @@ abbrev pub is_end : Code → Scope → ℕ → Marks → Instr → At → List B
 is_end code scope steps t i to outcomes =
     to.used == length outcomes && nat_le to.least steps && is_last code scope.function scope.aim t i to.place
 
+-- the paths that a way down leaves out
+abbrev pub IsExcused : Scope → Reason → List Bool → ℕ → Type 0
+IsExcused scope Dead q s = ⊥
+IsExcused scope TooMany q s = scope.most < length q
+IsExcused scope TooLong q s = STEPS < s
+
+-- what was left out, with one more reason
+abbrev pub cut_by : Cut → Reason → Cut
+cut_by cut Dead = cut
+cut_by cut TooMany = record cut { outcomes = true }
+cut_by cut TooLong = record cut { steps = true }
+
 -- a path goes on from a node of so many steps
 pub record Passes (n : ℕ) (done rest : List Bool) (least : ℕ) (q : List Bool) (s : ℕ) : Type 0 where
   pub later : List Bool
@@ -163,10 +178,8 @@ module _ (code : Code) (scope : Scope) (start : List Bool) (first : ℕ) where
 
   -- how a way down ended
   abbrev pub IsDescent : List Bool → Descent → Type 0
-  IsDescent o (down.Found n) = IsLowest o n
-  IsDescent o down.Dead = IsSpent o (λ q s. ⊥)
-  IsDescent o down.TooMany = IsSpent o (λ q s. scope.most < length q)
-  IsDescent o down.TooLong = IsSpent o (λ q s. STEPS < s)
+  IsDescent o (Found n) = IsLowest o n
+  IsDescent o (Spent why) = IsSpent o (IsExcused scope why)
 
   -- a step further, or an end
   abbrev pub IsAdvance : ℕ → List Bool → Own → Advance → Type 0

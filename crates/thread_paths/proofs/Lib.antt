@@ -1,0 +1,4 @@
+pub mod Outcomes
+pub mod Nodes
+pub mod Searches
+pub mod Taken
