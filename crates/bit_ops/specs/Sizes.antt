@@ -1,4 +1,4 @@
--- How many variables, and how many clauses, the circuit of an operator adds at most.
+-- Upper bounds on the variables, and on the clauses, that the circuit of an operator adds.
 use Rattle.std.specs.Prelude.{ℕ}
 use Rattle.int_ops.specs.declared.arith.UnOp.{UnOp}
 use Rattle.int_ops.specs.declared.arith.UnOp.TheVariants as un

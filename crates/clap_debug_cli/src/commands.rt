@@ -53,8 +53,8 @@ pub(crate) fn replay_schedule<'a, H: Shelf>(
     Ok(Answer::Replayed(verdict))
 }
 
-/// `record PROGRAM LOG`: how a run of the program by moves that a seed chooses ends. The log of one that fails or comes
-/// to a deadlock is kept.
+/// `record PROGRAM LOG`: how a run of the program by moves that a seed chooses ends. The log of one
+/// that fails or comes to a deadlock is kept.
 pub(crate) fn record_run<'a, H: Shelf>(
     alloc: Global,
     shelf: &mut H,
@@ -89,8 +89,8 @@ pub(crate) fn migrate_log<'a, H: Shelf>(
     Ok(Answer::Migrated)
 }
 
-/// `solve PROGRAM LOG OUT`: keeps a schedule that leads to the failure or the deadlock of the log, or a refutation that shows
-/// that there is none, or how far the search came.
+/// `solve PROGRAM LOG OUT`: keeps a schedule that leads to the failure or the deadlock of the log,
+/// or a refutation that shows that there is none, or how far the search came.
 pub(crate) fn solve_log<'a, H: Shelf>(
     alloc: Global,
     shelf: &mut H,
@@ -109,8 +109,9 @@ pub(crate) fn solve_log<'a, H: Shelf>(
     Ok(Answer::Solved(solution))
 }
 
-/// `solve PROGRAM LOG OUT --least REFUTATION`: keeps a schedule that leads to the failure or the deadlock of the log with the fewest
-/// context switches, and a refutation that shows that nothing with fewer does.
+/// `solve PROGRAM LOG OUT --least REFUTATION`: keeps a schedule that leads to the failure or the
+/// deadlock of the log with the fewest context switches, and a refutation that shows that nothing
+/// with fewer does.
 pub(crate) fn minimize_switches<'a, H: Shelf>(
     alloc: Global,
     shelf: &mut H,
@@ -131,8 +132,8 @@ pub(crate) fn minimize_switches<'a, H: Shelf>(
     Ok(Answer::Minimized(minimum))
 }
 
-/// `check PROGRAM LOG REFUTATION`: whether the refutation shows that nothing leads to the failure or the deadlock of the log, or
-/// nothing that has so few context switches.
+/// `check PROGRAM LOG REFUTATION`: whether the refutation shows that nothing leads to the failure
+/// or the deadlock of the log, or nothing that has so few context switches.
 pub(crate) fn check_refutation<'a, H: Shelf>(
     alloc: Global,
     shelf: &mut H,
@@ -178,8 +179,8 @@ pub(crate) fn export_clauses<'a, H: Shelf>(
     Ok(Answer::Exported(clauses))
 }
 
-/// `import PROGRAM LOG ANSWER OUT`: keeps a schedule of what another solver answers, or says the first clause that it leaves
-/// false.
+/// `import PROGRAM LOG ANSWER OUT`: keeps a schedule of what another solver answers, or says the
+/// first clause that it leaves false.
 pub(crate) fn import_answer<'a, H: Shelf>(
     alloc: Global,
     shelf: &mut H,

@@ -35,8 +35,8 @@ pub(crate) struct Results {
     pub(crate) refutation: Option<Vec<u8>>,
 }
 
-/// What searches for a schedule of a log with the fewest context switches find under a memory model, where none is named under the
-/// log's, and its texts.
+/// What searches for a schedule of a log with the fewest context switches find under a memory
+/// model, where none is named under the log's, and its texts.
 pub(crate) fn minimized<'a>(
     alloc: Global,
     program: &[u8],

@@ -48,8 +48,8 @@ use commands::{
 use std::alloc::Global;
 use tc_io::{PutFault, Shelf, Sink};
 
-/// Does what the words say over the files of the shelf, puts one line or a listing into the sink, and gives the
-/// status that the program ends with.
+/// Does what the words say over the files of the shelf, puts one line or a listing into the sink,
+/// and gives the status that the program ends with.
 ///
 /// The first of the words is the program's own name.
 pub fn clap_debug<H: Shelf, K: Sink>(
@@ -80,30 +80,31 @@ pub fn migrating_keeps_the_log()
     ensures short { (program log text : List ℕ) → IsMigrated program log text → length text ≤ most_log_bytes }
 {}
 
-/// The log of a run that failed or came to a deadlock is reproduced by the moves of that run, and its text, which `record` keeps, is
-/// read back as that log.
+/// The log of a run that failed or came to a deadlock is reproduced by the moves of that run, and
+/// its text, which `record` keeps, is read back as that log.
 pub fn recorded_logs_are_reproduced()
     ensures { (program log : List ℕ) (made : Model) (seed steps : ℕ) → IsRecorded program made seed steps log → IsReproduced program made seed steps log }
 {}
 
-/// Some moves reproduce a log that `record` wrote, under its memory model and under each that allows more. So `solve` never
-/// calls it impossible there.
+/// Some moves reproduce a log that `record` wrote, under its memory model and under each that
+/// allows more. So `solve` never calls it impossible there.
 pub fn recorded_logs_are_possible()
     ensures { (program log : List ℕ) (made : Model) (seed steps : ℕ) (model : Option Model) → IsRecorded program made seed steps log
         → allows made (unwrap_or model made) ≡ true → IsPossible program log model }
 {}
 
-/// What `solve` keeps is accepted: its schedule isn't too long for `replay`, which answers with the same program and log that it
-/// reproduces the log, and `check` answers that its refutation shows the log to be impossible, or that it is open. So by
-/// `told.exactly` of [`clap_debug`] the status is 0, and 10 where it is open, but for devices and memory.
+/// What `solve` keeps is accepted: its schedule isn't too long for `replay`, which answers with the
+/// same program and log that it reproduces the log, and `check` answers that its refutation shows
+/// the log to be impossible, or that it is open. So by `told.exactly` of [`clap_debug`] the status
+/// is 0, and 10 where it is open, but for devices and memory.
 pub fn solutions_are_accepted()
     ensures { (program log : List ℕ) (model : Option Model) (budget : ℕ) (x : Solution) → IsSolution program log model budget x
         → IsAcceptedAs program log (solution_text x) x.answer }
 {}
 
-/// What `solve --least` keeps is accepted: its schedule isn't too long for `replay`, which answers with the same program and log that
-/// it reproduces the log, and `check` answers that its refutation shows that there are more switches than its first line says, or
-/// that it is open.
+/// What `solve --least` keeps is accepted: its schedule isn't too long for `replay`, which answers
+/// with the same program and log that it reproduces the log, and `check` answers that its
+/// refutation shows that there are more switches than its first line says, or that it is open.
 pub fn minima_are_accepted()
     ensures first { (program log : List ℕ) (model : Option Model) (budget : ℕ) (x : Minimum) → IsMinimum program log model budget x
         → IsAcceptedAs program log (first_text x) (found_in x.least) }
@@ -111,8 +112,8 @@ pub fn minima_are_accepted()
         → IsAcceptedBelow program log x.model x.least }
 {}
 
-/// What `import` keeps is accepted too: the schedule isn't too long for `replay`, which answers with the same program and log that it
-/// reproduces the log.
+/// What `import` keeps is accepted too: the schedule isn't too long for `replay`, which answers
+/// with the same program and log that it reproduces the log.
 pub fn imports_are_accepted()
     ensures { (program log answer : List ℕ) (model : Option Model) (s : Schedule) → IsAnswered program log answer (IsTaken model (taken.Found s))
         → IsAcceptedAs program log (schedule_text s.model s.moves.items) (search.Found s) }

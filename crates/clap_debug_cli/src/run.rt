@@ -15,8 +15,8 @@ use tc_code::Code;
 use tc_compile::compile;
 use tc_record::{Recorded, record_run};
 
-/// The failure or deadlock of the run of a program by moves that a seed chooses under a memory model, at most so many,
-/// and the text of its log.
+/// The failure or deadlock of the run of a program by moves that a seed chooses under a memory
+/// model, at most so many, and the text of its log.
 pub(crate) fn recorded<'a>(
     alloc: Global,
     program: &[u8],

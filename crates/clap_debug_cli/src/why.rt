@@ -76,8 +76,8 @@ fn read_any<'a>(alloc: Global, bytes: &[u8]) -> Result<(Head, Derivation), Answe
     }
 }
 
-/// The first line that breaks the form, where that of this number is the first to do so but for a first line that names a number of
-/// switches.
+/// The first line that breaks the form, where that of this number is the first to do so but for a
+/// first line that names a number of switches.
 fn first_broken(alloc: Global, bytes: &[u8], line: u32) -> Result<u32, AllocError>
     requires { BreaksAt bytes.now line }
     ensures { IfOk result (λ first. IsBrokenAt bytes.now first) }

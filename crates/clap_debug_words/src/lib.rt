@@ -63,8 +63,8 @@ pub enum Call<'a> {
         log: &'a str,
         out: &'a str,
     },
-    /// Look for a schedule that leads to the failure of the log, or for a refutation that shows that none does. Without a
-    /// model the log's is meant.
+    /// Look for a schedule that leads to the failure of the log, or for a refutation that shows
+    /// that none does. Without a model the log's is meant.
     Solve {
         program: &'a str,
         log: &'a str,
@@ -72,8 +72,8 @@ pub enum Call<'a> {
         model: Option<Model>,
         budget: Budget,
     },
-    /// Look for the schedule with the fewest context switches, and for a refutation that shows that none has fewer. Without a
-    /// model the log's is meant.
+    /// Look for the schedule with the fewest context switches, and for a refutation that shows that
+    /// none has fewer. Without a model the log's is meant.
     Least {
         program: &'a str,
         log: &'a str,
@@ -88,8 +88,9 @@ pub enum Call<'a> {
         log: &'a str,
         refutation: &'a str,
     },
-    /// Make a program of so many workers, which read one another's cells as a seed chooses; run it by moves that the seed
-    /// chooses, and solve the log in which each worker reads before any writes.
+    /// Make a program of so many workers, which read one another's cells as a seed chooses; run it
+    /// by moves that the seed chooses, and solve the log in which each worker reads before any
+    /// writes.
     Workload {
         workers: Workers,
         seed: u64,

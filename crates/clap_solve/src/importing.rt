@@ -18,8 +18,9 @@ use std::mem::drop;
 use store_buffers::MemoryModel;
 use tc_code::Code;
 
-/// What the literals come to that another solver makes true: where they satisfy the clauses of a log, a schedule that reproduces it,
-/// and else the first clause that they leave false. Whoever made them need not be trusted.
+/// What the literals come to that another solver makes true: where they satisfy the clauses of a
+/// log, a schedule that reproduces it, and else the first clause that they leave false. Whoever
+/// made them need not be trusted.
 ///
 /// A variable that isn't named is false, and one that the clauses don't have says nothing. Refused is what [`pose`] refuses.
 pub fn take_answer<M: MemoryModel>(

@@ -24,8 +24,8 @@ use sym_exec::Symbolic;
 use sym_terms::Terms;
 use tc_code::Code;
 
-/// The clauses of a log, with all that they are made of: by it values that satisfy them are read as a schedule, and a clause as a
-/// rule of the program. Contracts see a record of the parts.
+/// The clauses of a log, with all that they are made of: by it values that satisfy them are read as
+/// a schedule, and a clause as a rule of the program. Contracts see a record of the parts.
 #[derive(Debug, Drop)]
 pub struct Posed {
     paths: Paths,
@@ -96,8 +96,8 @@ impl Posed {
 
 /// The clauses of a log, under a memory model, with all that they are made of.
 ///
-/// Refused is what has no clauses; which log that is, [`build`](clap_system::build) says. Where the paths are dead, the clauses are
-/// those of what is impossible, and the formula has none.
+/// Refused is what has no clauses; which log that is, [`build`](clap_system::build) says. Where the
+/// paths are dead, the clauses are those of what is impossible, and the formula has none.
 pub fn pose<M: MemoryModel>(alloc: Global, code: &Code, log: &Log) -> Result<Posed, BuildFault>
     ensures posed { IfOk result (λ posed. posed ≡ posed_of M.BUFFERED M.bound code.now log.now.log) }
     ensures variables { IfOk result (λ posed. posed.paths.dead ≡ false → 0 < posed.blasted.clauses.vars) }
@@ -121,8 +121,9 @@ pub fn pose<M: MemoryModel>(alloc: Global, code: &Code, log: &Log) -> Result<Pos
 
 /// The clauses of a log, under a memory model: those in which [`solve`](crate::solve) searches.
 ///
-/// Something satisfies them exactly where some moves reproduce the log: [`clauses_are_runs`](crate::laws::clauses_are_runs). So any
-/// solver may search in their place. Refused is what [`pose`] refuses.
+/// Something satisfies them exactly where some moves reproduce the log:
+/// [`clauses_are_runs`](crate::laws::clauses_are_runs). So any solver may search in their place.
+/// Refused is what [`pose`] refuses.
 pub fn clauses<M: MemoryModel>(alloc: Global, code: &Code, log: &Log) -> Result<Cnf, BuildFault>
     ensures ok { IfOk result (λ clauses. clauses ≡ clauses_of M.BUFFERED M.bound code.now log.now.log) }
     ensures within { OnOk result (IsWithin code.now log.now.log) }

@@ -20,8 +20,9 @@ use std::mem::drop;
 use store_buffers::MemoryModel;
 use tc_code::Code;
 
-/// Searches for a schedule that leads the machine of a memory model to the end that a log tells of, each thread along its path,
-/// until there is one, or a derivation that there is none, or so many clauses are learnt.
+/// Searches for a schedule that leads the machine of a memory model to the end that a log tells of,
+/// each thread along its path, until there is one, or a derivation that there is none, or so many
+/// clauses are learnt.
 ///
 /// Refused is what has no clauses; which log that is, [`build`](clap_system::build) says.
 pub fn solve<M: MemoryModel>(

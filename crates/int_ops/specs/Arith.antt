@@ -40,7 +40,7 @@ use Rattle.int_ops.specs.declared.arith.BinOp.TheVariants.{Add, Sub, Mul, And, O
 abbrev pub IsInt : ℤ → Type 0
 IsInt z = FitsSigned w32 z
 
--- a whole number, brought into the range of `int` modulo 2 ^ 32
+-- a whole number, wrapped modulo 2 ^ 32 into the range of `int`
 abbrev pub wrapped : ℤ → ℤ
 wrapped z = int_wrap w32 z
 
@@ -56,11 +56,11 @@ minus a b = wrapped (a -ℤ b)
 abbrev pub times : ℤ → ℤ → ℤ
 times a b = wrapped (a *ℤ b)
 
--- the number with its sign changed, wrapped
+-- the negated number, wrapped
 abbrev pub negated : ℤ → ℤ
 negated a = wrapped (neg_ℤ a)
 
--- the whole number of a magnitude, negative where the flag is set
+-- the whole number of this magnitude, negative if the flag is set
 abbrev pub with_sign : Bool → ℕ → ℤ
 with_sign false n = pos n
 with_sign true n = neg_ℤ (pos n)
@@ -71,58 +71,58 @@ signs_differ (pos _) (negsuc _) = true
 signs_differ (negsuc _) (pos _) = true
 signs_differ _ _ = false
 
--- the quotient of the magnitudes, negative where the signs differ, wrapped; 0 where the divisor is 0
+-- the quotient, rounded toward zero and wrapped; 0 if the divisor is 0
 abbrev pub quotient : ℤ → ℤ → ℤ
 quotient a b =
     if int_eq b (pos 0) then pos 0 else wrapped (with_sign (signs_differ a b) (unsigned_abs a / unsigned_abs b))
 
--- the remainder of the magnitudes, negative where the dividend is; 0 where the divisor is 0
+-- the remainder, with the sign of the dividend; 0 if the divisor is 0
 abbrev pub remainder : ℤ → ℤ → ℤ
 remainder a b =
     if int_eq b (pos 0) then pos 0 else with_sign (is_negative a) (unsigned_abs a % unsigned_abs b)
 
--- whether a shift has this distance: from 0 to 31
+-- whether a shift distance is valid: 0 to 31
 abbrev pub is_distance : ℤ → Bool
 is_distance k = int_le (pos 0) k && int_le k (pos 31)
 
--- the product with 2 ^ k, wrapped; 0 where k is no distance
+-- the number times 2 ^ k, wrapped; 0 if k isn't a valid distance
 abbrev pub shifted_left : ℤ → ℤ → ℤ
 shifted_left a k = if is_distance k then times a (pos (2 ^ unsigned_abs k)) else pos 0
 
--- the quotient by 2 ^ k rounded down, so that what remains isn't negative; 0 where k is no distance
+-- the number divided by 2 ^ k, rounded down; 0 if k isn't a valid distance
 abbrev pub shifted_right : ℤ → ℤ → ℤ
 shifted_right a k = if is_distance k then int_div_euclid a (pos (2 ^ unsigned_abs k)) else pos 0
 
--- the bit at a place of a number's 32 bits in two's complement
+-- the bit at this place of the number in 32-bit two's complement
 abbrev pub bit : ℤ → ℕ → ℕ
 bit a place = bit_at (cast_unsigned w32 a) place
 
--- the natural number whose bits below place n are these: the bit at place k counts 2 ^ k
+-- the natural number made of the first n of these bits; bit k is worth 2 ^ k
 unfoldable pub number : (ℕ → ℕ) → ℕ → ℕ
 number bits zero = 0
 number bits (suc n) = bits n * 2 ^ n + number bits n
 
--- the `int` whose 32 bits are these
+-- the `int` with these 32 bits
 abbrev pub with_bits : (ℕ → ℕ) → ℤ
 with_bits bits = cast_signed w32 (number bits 32)
 
--- at each place the lesser bit: 1 where both are 1
+-- bitwise and: a bit is 1 if both are 1
 abbrev pub bits_and : ℤ → ℤ → ℤ
 bits_and a b = with_bits (λ place. min (bit a place) (bit b place))
 
--- at each place the greater bit: 1 where one at least is 1
+-- bitwise or: a bit is 1 if at least one is 1
 abbrev pub bits_or : ℤ → ℤ → ℤ
 bits_or a b = with_bits (λ place. max (bit a place) (bit b place))
 
--- at each place the sum of the bits modulo 2: 1 where they differ
+-- bitwise exclusive or: a bit is 1 if the two differ
 abbrev pub bits_xor : ℤ → ℤ → ℤ
 bits_xor a b = with_bits (λ place. (bit a place + bit b place) % 2)
 
--- at each place the other bit
+-- bitwise complement: each bit is flipped
 abbrev pub bits_inverted : ℤ → ℤ
 bits_inverted a = with_bits (λ place. 1 - bit a place)
 
--- a test gives 1 where it holds, and else 0
+-- the value of a test: 1 if it holds, otherwise 0
 abbrev pub truth : Bool → ℤ
 truth true = pos 1
 truth false = pos 0
@@ -143,17 +143,17 @@ unequal a b = truth (not (int_eq a b))
 abbrev pub less : ℤ → ℤ → ℤ
 less a b = truth (int_lt a b)
 
--- whether the first is not above the second
+-- whether the first is at most the second
 abbrev pub less_or_equal : ℤ → ℤ → ℤ
 less_or_equal a b = truth (int_le a b)
 
--- what an operator gives of a value
+-- the result of an operator on one value
 abbrev pub unary : UnOp → ℤ → ℤ
 unary Neg a = negated a
 unary Not a = is_zero a
 unary Inv a = bits_inverted a
 
--- what an operator gives of two values
+-- the result of an operator on two values
 abbrev pub binary : BinOp → ℤ → ℤ → ℤ
 binary Add a b = plus a b
 binary Sub a b = minus a b

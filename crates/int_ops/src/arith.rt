@@ -1,6 +1,6 @@
 //! Arithmetic of `int`: 32 bits, two's complement, as in C with wrapping overflow.
 //!
-//! Tests give 1 where they hold and 0 where they don't, as in C.
+//! A test gives 1 if it holds and 0 if it doesn't, as in C.
 ghost use Rattle.std.specs.Prelude.{◌≡◌};
 ghost use Rattle.int_ops.specs.Arith.{
   plus,
@@ -57,9 +57,9 @@ pub enum BinOp {
     Lt,
     /// `<=`
     Le,
-    /// `>`, which is `<` with the sides changed
+    /// `>`, which is `<` with its sides swapped
     Gt,
-    /// `>=`, which is `<=` with the sides changed
+    /// `>=`, which is `<=` with its sides swapped
     Ge,
     /// `/`
     Div,
@@ -169,9 +169,9 @@ pub fn le(a: i32, b: i32) -> i32
     i32::from(a <= b)
 }
 
-/// `a / b`, truncated towards zero, as in C; the least `int` by -1, which C leaves open, is the least `int`.
+/// `a / b`, truncated toward zero as in C. The least `int` by -1, undefined in C, is that `int`.
 ///
-/// A divisor of 0 gives 0, so that the function is total. Code tests the divisor before.
+/// A divisor of 0 gives 0, so that the function is total. Code tests the divisor first.
 #[tactic(auto, using(crate::proofs::Wraps::wraps))]
 pub fn div(a: i32, b: i32) -> i32
     ensures { result ≡ quotient a b }
@@ -179,18 +179,18 @@ pub fn div(a: i32, b: i32) -> i32
     if b == 0 { 0 } else { a.wrapping_div(b) }
 }
 
-/// `a % b`, with the sign of `a`, as in C; the least `int` by -1 leaves 0.
+/// `a % b`, with the sign of `a` as in C. The least `int` modulo -1 is 0.
 ///
-/// A divisor of 0 gives 0, so that the function is total. Code tests the divisor before.
+/// A divisor of 0 gives 0, so that the function is total. Code tests the divisor first.
 pub fn rem(a: i32, b: i32) -> i32
     ensures { result ≡ remainder a b }
 {
     if b == 0 { 0 } else { a.wrapping_rem(b) }
 }
 
-/// `<<`, whose bits past the 32nd are lost.
+/// `<<`; bits that are shifted past the 32nd are lost.
 ///
-/// A distance outside 0 to 31 gives 0, so that the function is total. Code tests the distance before.
+/// A distance outside 0 to 31 gives 0, so that the function is total. Code tests it first.
 #[tactic(auto, using(crate::proofs::Wraps::wraps))]
 pub fn shl(a: i32, distance: i32) -> i32
     ensures { result ≡ shifted_left a distance }
@@ -201,9 +201,9 @@ pub fn shl(a: i32, distance: i32) -> i32
     }
 }
 
-/// `>>`, which copies the sign's bit into the places that are left.
+/// `>>`, which fills the vacated places with the sign bit.
 ///
-/// A distance outside 0 to 31 gives 0, so that the function is total. Code tests the distance before.
+/// A distance outside 0 to 31 gives 0, so that the function is total. Code tests it first.
 pub fn shr(a: i32, distance: i32) -> i32
     ensures { result ≡ shifted_right a distance }
 {
@@ -213,7 +213,7 @@ pub fn shr(a: i32, distance: i32) -> i32
     }
 }
 
-/// What the operator gives of a value.
+/// The result of the operator on one value.
 pub fn unary(op: UnOp, a: i32) -> i32
     ensures { result ≡ arithmetic.unary op a }
 {
@@ -224,7 +224,7 @@ pub fn unary(op: UnOp, a: i32) -> i32
     }
 }
 
-/// What the operator gives of two values.
+/// The result of the operator on two values.
 pub fn binary(op: BinOp, a: i32, b: i32) -> i32
     ensures { result ≡ arithmetic.binary op a b }
 {

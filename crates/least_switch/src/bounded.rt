@@ -23,8 +23,8 @@ use sym_exec::Symbolic;
 use sym_terms::Terms;
 use tc_code::Code;
 
-/// The clauses of a log with at most so many context switches, and what a schedule is made of: the layout, by which values that
-/// satisfy them are read as a world, the paths, and their execution.
+/// The clauses of a log with at most so many context switches, and what a schedule is made of: the
+/// layout, by which values that satisfy them are read as a world, the paths, and their execution.
 #[derive(Debug, Drop)]
 pub(crate) struct Bounded {
     pub(crate) paths: Paths,

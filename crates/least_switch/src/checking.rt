@@ -13,8 +13,8 @@ use std::alloc::Global;
 use store_buffers::MemoryModel;
 use tc_code::Code;
 
-/// A checker over the clauses of a log with at most so many context switches, before any line: the clauses in which
-/// [`least`](crate::least) searches for a schedule that has fewer.
+/// A checker over the clauses of a log with at most so many context switches, before any line: the
+/// clauses in which [`least`](crate::least) searches for a schedule that has fewer.
 ///
 /// Where it comes to a closed derivation, all moves that reproduce the log have more switches:
 /// [`closed_is_more_switches`](switch_clauses::closed_is_more_switches).

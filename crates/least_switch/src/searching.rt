@@ -15,9 +15,10 @@ use std::alloc::Global;
 use store_buffers::MemoryModel;
 use tc_code::Code;
 
-/// Searches for a schedule of a log with the fewest context switches: first for any, as [`solve`](clap_solve::solve) does, and then
-/// each time for one with fewer than the last, until there is a derivation that there is none. Each search may learn as many clauses
-/// as the budget says.
+/// Searches for a schedule of a log with the fewest context switches: first for any, as
+/// [`solve`](clap_solve::solve) does, and then each time for one with fewer than the last, until
+/// there is a derivation that there is none. Each search may learn as many clauses as the budget
+/// says.
 ///
 /// Refused is what has no clauses; which log that is, [`build`](clap_system::build) says.
 pub fn least<M: MemoryModel>(

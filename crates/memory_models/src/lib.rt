@@ -1,4 +1,4 @@
-//! The names of the memory models, as words and files have them.
+//! The names of the memory models, as commands and files write them.
 #![tactic(auto)]
 
 mod model;

@@ -7,7 +7,7 @@ use std::fmt;
 /// How a thread's stores reach memory.
 #[derive(Clone, Copy, Debug, PartialEq, Eq)]
 pub enum Model {
-    /// Sequential consistency: a store is in memory at once.
+    /// Sequential consistency: a store reaches memory at once.
     Sc,
     /// Total store order: each thread has one first-in first-out store buffer.
     Tso,
@@ -16,7 +16,7 @@ pub enum Model {
 }
 
 impl Model {
-    /// Its name, as words and files have it.
+    /// The name of the model, as commands and files write it.
     pub fn name(self) -> &'static str
         ensures { result.now ≡ model_name self }
     {
@@ -28,7 +28,7 @@ impl Model {
     }
 }
 
-/// Its name, as words and files have it.
+/// The name of the model, as commands and files write it.
 impl fmt::Display for Model {
     ghost use Rattle.std.specs.Prelude.{Some};
     ghost use Rattle.memory_models.specs.Models.{model_name};

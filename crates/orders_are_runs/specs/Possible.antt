@@ -9,7 +9,7 @@ use Rattle.order_formula.specs.Worlds.{World, IsWorld}
 use Rattle.lawful_order.specs.Lawful.{IsWorldOf}
 use Rattle.clap_system.specs.Systems.{system_of}
 
--- the paths of the log aren't dead, and its formula is true in some world of them
+-- the log's paths aren't dead, and its formula is true in some world of these paths
 pub record IsPossible (buffered : Bool) (bound : Binding) (code : Code) (log : Log) : Type 0 where
   pub lives : (paths_of code log).dead ≡ false
   pub world : World

@@ -1,4 +1,5 @@
-//! Each run that reproduces a log has a lawful order. The function's clauses are a theorem, and its body does nothing.
+//! Each run that reproduces a log has a lawful order. The theorem is the contract of a function
+//! with an empty body.
 #![tactic(auto)]
 
 ghost use Rattle.std.specs.Prelude.{◌≡◌, true, List};
@@ -26,8 +27,8 @@ pub mod reads;
 pub mod waits;
 pub mod world;
 
-/// Where moves reproduce a log, under any memory model that keeps its laws, the world of their history is lawful, and has the
-/// events in the order in which they take place.
+/// If moves reproduce a log, under any memory model that obeys its laws, the world of their history
+/// is lawful, and has the events in the order in which they take place.
 pub fn runs_have_lawful_worlds<B>()
     ensures lawful { (ops : BufferOps B) (model : Model) (bound : Binding) (code : Code) (log : Log) (nodes : List Node) (moves : List Move)
         → Laws ops model bound → IsLawful code → is_log log ≡ true → AreTerms nodes → Reproduces ops code log moves

@@ -1,7 +1,7 @@
-//! In the world of a run each thread's events keep the order that the memory model wants, and all branches and sites come out
-//! as the paths have them.
+//! In the world of a run, each thread's events are in the order that the memory model requires, and
+//! all branches and sites have the outcomes of the paths.
 //!
-//! Each function's clause is a law, and its body does nothing.
+//! Each law is the contract of a function with an empty body.
 ghost use Rattle.std.specs.Prelude.{◌≡◌, ℕ, true, List};
 ghost use Rattle.tc_base.specs.Buffers.{BufferOps};
 ghost use Rattle.run_log.specs.Logs.{Log};
@@ -22,8 +22,9 @@ ghost use Rattle.lawful_order.specs.Memory.{OwnRule};
 ghost use Rattle.lawful_order.specs.Tests.{TestRule};
 ghost use Rattle.run_lawful.specs.world.WorldOf.{world_in};
 
-/// A thread's events keep the order of its path where the model wants it: a step that needs an empty buffer finds one, and a
-/// store that is bound behind another drains after it. After the failing step nothing comes.
+/// A thread's events stay in program order where the model requires it: a step that needs an empty
+/// buffer finds one, and a store that is bound after another drains after it. No step comes after
+/// the failing step.
 pub fn own_orders_are_kept<B>()
     ensures { (ops : BufferOps B) (model : Model) (bound : Binding) (code : Code) (log : Log) (nodes : List Node) (moves : List Move) (t : ℕ)
         → Laws ops model bound → IsLawful code → is_log log ≡ true → AreTerms nodes → Reproduces ops code log moves
@@ -31,7 +32,7 @@ pub fn own_orders_are_kept<B>()
         (world_in ops.buffered (paths_of code log) (found code log nodes).symbolic (history ops code moves)) t }
 {}
 
-/// Each test of a path comes out as the path wants it, by what the loads took.
+/// Each test of a path has its wanted outcome, given the values that the loads took.
 pub fn tests_are_met<B>()
     ensures { (ops : BufferOps B) (model : Model) (bound : Binding) (code : Code) (log : Log) (nodes : List Node) (moves : List Move) (t line : ℕ)
         → Laws ops model bound → IsLawful code → is_log log ≡ true → AreTerms nodes → Reproduces ops code log moves

@@ -1,4 +1,5 @@
-//! What loads take in the world of a run. The function's clause is a law, and its body does nothing.
+//! The values of loads in the world of a run. The law is the contract of a function with an empty
+//! body.
 ghost use Rattle.std.specs.Prelude.{◌≡◌, ℕ, true, List};
 ghost use Rattle.tc_base.specs.Buffers.{BufferOps};
 ghost use Rattle.run_log.specs.Logs.{Log};
@@ -18,8 +19,8 @@ ghost use Rattle.sym_laws.specs.Valued.{found};
 ghost use Rattle.lawful_order.specs.Reads.{ReadRule};
 ghost use Rattle.run_lawful.specs.world.WorldOf.{world_in};
 
-/// Each load and exchange takes the value of the last store that it sees: where stores of its own thread to the cell wait in the
-/// buffer, that of the newest of them, and else that of the last one which reached memory.
+/// Each load and exchange takes the value of the last store that it sees: the newest store to the
+/// cell in its own thread's buffer, or else the last one that reached memory.
 pub fn loads_take_the_last<B>()
     ensures { (ops : BufferOps B) (model : Model) (bound : Binding) (code : Code) (log : Log) (nodes : List Node) (moves : List Move) (t line : ℕ)
         → Laws ops model bound → IsLawful code → is_log log ≡ true → AreTerms nodes → Reproduces ops code log moves

@@ -9,7 +9,7 @@ use Rattle.tc_base.specs.Paths.{ThreadPath, place_in}
 use Rattle.tc_base.specs.declared.failing.Failing.{Failing}
 use Rattle.tc_base.specs.declared.failing.Failing.TheVariants.{Thread, Deadlock}
 
--- the path of each thread of a run that failed or came to a deadlock, and which of the two
+-- a run that failed or deadlocked: its model, which of the two, and the path of each thread
 pub record Log : Type 0 where
   pub model : Model
   pub failing : Failing
@@ -19,30 +19,30 @@ pub record Log : Type 0 where
 abbrev pub failing_of : Log → Option Name
 failing_of log = option_and_then (λ k. option_map (λ t. t.name) (slice_get log.threads k)) (place_in log.failing)
 
--- a log, and the digest of the program that it was recorded of, where that is known
+-- a log, and the digest of the recorded program, if it is known
 pub record StoredLog : Type 0 where
   pub digest : Option (List ℕ)
   pub log : Log
 
--- the name is above this one, if there is one
+-- whether the name is greater than the last one, if there is one
 abbrev pub is_above : Option Name → Name → Bool
 is_above None name = true
 is_above (Some last) name = is_lt (slice_cmp nat_cmp last name)
 
--- each name is above the one before it
+-- whether the names strictly increase, from above the last one
 abbrev pub rises_from : Option Name → List ThreadPath → Bool
 rises_from last [] = true
 rises_from last (t ∷ ts) = is_above last t.name && rises_from (Some t.name) ts
 
--- of n threads, the one that failed is there; in a deadlock some thread is
+-- whether the failed thread is one of n; in a deadlock, whether n isn't 0
 abbrev pub is_there : Failing → ℕ → Bool
 is_there (Thread k) n = nat_lt k n
 is_there Deadlock n = nat_lt 0 n
 
--- the paths have different names, in order, and that of the thread that failed is there, if one did
+-- whether the names strictly increase, and the failed thread (in a deadlock: any) is listed
 abbrev pub is_log : Log → Bool
 is_log log = rises_from None log.threads && is_there log.failing (length log.threads)
 
--- a digest has 32 bytes
+-- whether these are the 32 bytes of a digest
 abbrev pub is_digest : List ℕ → Bool
 is_digest digest = length digest == 32 && list_all (λ byte. nat_lt byte 256) digest

@@ -1,4 +1,4 @@
-//! The log of a run that failed or came to a deadlock, as a value: the path of each thread, and how the run ended.
+//! The log of a run that failed or deadlocked: the path of each thread, and how the run ended.
 #![tactic(auto)]
 
 mod log;

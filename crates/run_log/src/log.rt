@@ -6,7 +6,7 @@ use memory_models::Model as MemoryModel;
 use std::marker::Model;
 use tc_base::{Failing, ThreadName};
 
-/// The way that a thread went: the outcomes of its branches, and how many instructions it did.
+/// The path of a thread: the outcomes of its branches, and how many instructions it executed.
 #[derive(Debug, Drop)]
 pub struct ThreadPath {
     name: ThreadName,
@@ -23,7 +23,7 @@ impl Model for ThreadPath {
 }
 
 impl ThreadPath {
-    /// The path of the thread of this name.
+    /// The path of the thread with this name.
     pub fn new(name: ThreadName, steps: u16, outcomes: Vec<bool>) -> ThreadPath
         ensures { result ≡ record { name = name; path = record { outcomes = outcomes.items; steps = steps } } }
     {
@@ -41,7 +41,7 @@ impl ThreadPath {
         &self.name
     }
 
-    /// How many instructions it did, one that failed included.
+    /// How many instructions the thread executed, counting one that failed.
     pub fn steps(&self) -> u16
         ensures { result ≡ self.now.path.steps }
     {
@@ -56,10 +56,10 @@ impl ThreadPath {
     }
 }
 
-/// The path of each thread of a run, in the order of their names, and how the run ended: a thread failed, or nothing
-/// could go on.
+/// The path of each thread of a run, ordered by name, and how the run ended: a thread failed, or
+/// there was a deadlock.
 ///
-/// The paths have different names, and there is at least one, that of the thread that failed where one did. A log of
+/// The names are distinct. There is at least one path, and a thread that failed has one. A log of
 /// format 2 has the digest of the program that ran.
 #[derive(Debug, Drop)]
 pub struct Log {
@@ -81,7 +81,7 @@ impl Model for Log {
 }
 
 impl Log {
-    /// The log of these paths, of a run that ended so.
+    /// The log of a run with these paths and this end.
     pub fn new(
         digest: Option<[u8; 32]>,
         model: MemoryModel,
@@ -99,7 +99,7 @@ impl Log {
         }
     }
 
-    /// The same log, of the program that has this digest.
+    /// The same log with the digest of its program.
     pub fn with_digest(self, digest: &[u8; 32]) -> Log
         ensures log { result ≡ record { digest = Some digest.now; log = self.log } }
         ensures is_log { IsTrue (is_log self.log) }
@@ -108,7 +108,7 @@ impl Log {
         Log::new(Some(*digest), self.model, self.failing, self.threads)
     }
 
-    /// The digest of the program, where the log has it.
+    /// The digest of the program, if the log has it.
     pub fn digest(&self) -> Option<&[u8; 32]>
         ensures { option_map (λ d. d.now) result ≡ self.now.digest }
     {

@@ -19,10 +19,10 @@ use sym_terms::Terms;
 use tc_code::Code;
 use world_moves::moves_of;
 
-/// The schedule of a lawful world of paths under a memory model: by it each event of the world comes in its turn, up to the one
-/// that fails if one does, and then each thread goes to the end of its path.
+/// The schedule of a lawful world of paths under a memory model: each event of the world takes its
+/// turn, up to the failing one if there is one, and then each thread goes to the end of its path.
 ///
-/// Refused for want of memory alone.
+/// Fails only if out of memory.
 pub fn decode<M: MemoryModel>(
     alloc: Global,
     code: &Code,

@@ -1,5 +1,5 @@
-//! How long the text of a schedule may be that reproduces a log. The function's clause is a law of every memory model, and its
-//! body does nothing.
+//! A bound on the text of a schedule that reproduces a log. The function states a law for every
+//! memory model, and its body does nothing.
 #![tactic(auto)]
 
 ghost use Rattle.std.specs.Prelude.{◌≤◌, List, length};
@@ -16,7 +16,8 @@ ghost use Rattle.store_buffers.specs.Pending.{Binding};
 ghost use Rattle.schedule_file.specs.Schedules.{HaveText, schedule_text};
 ghost use Rattle.schedule_length.specs.Lengths.{IsSmall, most_bytes};
 
-/// A schedule whose moves reproduce a log within the limits has at most `most_bytes` bytes, which a schedule may have.
+/// The text of a schedule that reproduces a log within the limits has at most `most_bytes` bytes,
+/// and a schedule may have that many.
 pub fn reproducing_schedules_are_short<B>()
     ensures short { (ops : BufferOps B) (model : Model) (bound : Binding) (code : Code) (log : Log) (form : Model) (moves : List Move)
         → Laws ops model bound → IsLawful code → IsSmall code log → HaveText form moves → Reproduces ops code log moves

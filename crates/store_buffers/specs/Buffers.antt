@@ -10,7 +10,7 @@ use Rattle.memory_models.specs.declared.model.Model.{Model}
 use Rattle.memory_models.specs.declared.model.Model.TheVariants.{Sc, Tso, Pso}
 use Rattle.tc_base.specs.Buffers.{Entry, Drained, BufferOps}
 
--- a buffer that holds nothing
+-- the buffer of a model that buffers nothing
 abbrev pub NoBuffer : Type 0
 NoBuffer = Unit {0}
 
@@ -27,7 +27,7 @@ no_buffer = record {
   bar = λ b. b;
 }
 
--- where nothing may drain, a drain takes this
+-- the placeholder that a drain takes if nothing may drain
 abbrev pub no_entry : Entry
 no_entry = record { cell = 0; value = pos 0 }
 
@@ -49,14 +49,14 @@ fifo_buffer = record {
   bar = λ b. b;
 }
 
--- stores with no bar between them: of each cell that has any, their values, the oldest first
+-- stores with no bar between them: for each cell that has any, their values, oldest first
 abbrev pub Segment : Type 0
 Segment = fin.FinMap nat_cmp (List ℤ)
 
 abbrev pub values_to : Segment → ℕ → List ℤ
 values_to s c = unwrap_or (fin.get s c) []
 
--- the segment with other values to a cell
+-- the segment with these values to a cell instead
 abbrev pub with_values : Segment → ℕ → List ℤ → Segment
 with_values s c [] = fin.remove s c
 with_values s c (v ∷ vs) = fin.insert s c (v ∷ vs)
@@ -64,7 +64,7 @@ with_values s c (v ∷ vs) = fin.insert s c (v ∷ vs)
 abbrev pub has_no_store : Segment → Bool
 has_no_store s = fin.len s == 0
 
--- a store goes into the last segment
+-- the segments with one more store in the last
 abbrev pub issue_last : List Segment → ℕ → ℤ → List Segment
 issue_last [] c v = []
 issue_last (s ∷ []) c v = with_values s c (values_to s c ++ v ∷ []) ∷ []
@@ -80,7 +80,7 @@ abbrev pub first_values : List Segment → ℕ → List ℤ
 first_values [] c = []
 first_values (s ∷ ss) c = if has_no_store s then first_values ss c else values_to s c
 
--- the segments after the first of these values has drained
+-- the segments after the first of those values has drained
 abbrev pub drop_first : List Segment → ℕ → List Segment
 drop_first [] c = []
 drop_first (s ∷ ss) c = if has_no_store s then s ∷ drop_first ss c else with_values s c (drop 1 (values_to s c)) ∷ ss
@@ -93,7 +93,7 @@ abbrev pub drain_cell : List Segment → Option ℕ → Drained (List Segment)
 drain_cell ss None = record { entry = no_entry; rest = ss }
 drain_cell ss (Some c) = record { entry = record { cell = c; value = slice_index_or (first_values ss c) 0 (pos 0) }; rest = drop_first ss c }
 
--- partial store order: segments with a bar between each two, the oldest first, and a queue for each cell
+-- partial store order: segments separated by bars, oldest first, each with a queue for each cell
 abbrev pub cell_buffer : BufferOps (List Segment)
 cell_buffer = record {
   buffered = true;
@@ -106,13 +106,13 @@ cell_buffer = record {
   bar = λ ss. ss ++ fin.empty ∷ [];
 }
 
--- what the buffer of a memory model is
+-- the buffer type of a memory model
 abbrev pub BufferOf : Model → Type 0
 BufferOf Sc = NoBuffer
 BufferOf Tso = List Entry
 BufferOf Pso = List Segment
 
--- and its operations
+-- the buffer operations of a memory model
 abbrev pub buffer_of : (m : Model) → BufferOps (BufferOf m)
 buffer_of Sc = no_buffer
 buffer_of Tso = fifo_buffer

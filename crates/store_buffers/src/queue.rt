@@ -15,9 +15,9 @@ pub(crate) struct Store {
     pub(crate) value: i32,
 }
 
-/// The stores of a thread on their way to memory, the oldest first.
+/// The stores of a thread on their way to memory, oldest first.
 ///
-/// They are kept by their cells too, so that the newest to a cell is found without a look at the others.
+/// They are also grouped by cell, so that the newest to a cell is found without a search.
 #[derive(Debug, Drop)]
 pub struct Queue {
     stores: VecDeque<Store>,
@@ -49,7 +49,7 @@ impl Queue {
         }
     }
 
-    /// A store goes to the end.
+    /// Adds a store at the end.
     pub(crate) fn push(&mut self, cell: u32, value: i32) -> Result<(), AllocError>
         ensures ok { OnOk result (self.new ≡ self.old ++ record { cell = cell; value = value } ∷ []) }
         ensures err { OnErr result (self.new ≡ self.old) }

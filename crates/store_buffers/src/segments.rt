@@ -1,4 +1,4 @@
-//! Segments with a bar between each two.
+//! Segments, separated by bars.
 ghost use Rattle.std.specs.Prelude.{◌≡◌, ℕ, ◌∷◌, [], ◌++◌, ◌+◌, ◌<◌, ◌^◌, length, slice_get, not, false, OnOk, OnErr, IfOk};
 ghost use Rattle.std.specs.VecDeque.{deque_len};
 ghost use Rattle.std.specs.FinMap as fin;
@@ -52,7 +52,7 @@ impl Segments {
         }
     }
 
-    /// A store goes into the last segment.
+    /// Adds a store to the last segment.
     pub(crate) fn issue(&mut self, cell: u32, value: i32) -> Result<(), AllocError>
         ensures ok { OnOk result (self.new ≡ issue_last self.old cell value) }
         ensures err { OnErr result (self.new ≡ self.old) }
@@ -61,7 +61,7 @@ impl Segments {
         self.last.push(alloc, cell, value)
     }
 
-    /// A bar goes behind what is there.
+    /// Adds a bar at the end.
     pub(crate) fn bar(&mut self) -> Result<(), AllocError>
         ensures ok { OnOk result (self.new ≡ self.old ++ fin.empty ∷ []) }
         ensures err { OnErr result (self.new ≡ self.old) }
@@ -76,7 +76,7 @@ impl Segments {
         self.begin_segment()
     }
 
-    /// The last segment gets one behind it.
+    /// Adds an empty segment at the end.
     fn begin_segment(&mut self) -> Result<(), AllocError>
         requires some { list_all has_no_store self.old ≡ false }
         requires room { length self.old < 2 ^ 64 }
@@ -107,7 +107,7 @@ impl Segments {
         self.older.is_empty() && self.last.is_empty()
     }
 
-    /// The first segment that isn't empty, and the last where each is.
+    /// The first segment that isn't empty, or the last one if all are.
     fn front(&self) -> &Segment
         ensures { (c : ℕ) → first_values self.now c ≡ values_to result.now c }
     {
@@ -124,7 +124,7 @@ impl Segments {
         self.front().has(cell)
     }
 
-    /// The cells of that segment, in order, as the forms of their drains.
+    /// The cells of the first segment that isn't empty, in order, as the forms of their drains.
     pub(crate) fn forms(&self, alloc: Global) -> Result<Vec<Option<u32>>, AllocError>
         ensures { IfOk result (λ forms. AreForms cell_buffer self.now forms.items) }
     {

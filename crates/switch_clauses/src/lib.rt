@@ -1,5 +1,5 @@
-//! The clauses of a log with at most so many context switches, and what they mean. Each function's clause is a law of every memory
-//! model, and its body does nothing.
+//! The clauses of a log with at most so many context switches, and what they mean. Each function's
+//! clause is a law of every memory model, and its body does nothing.
 #![tactic(auto)]
 
 ghost use Rattle.std.specs.Prelude.{◌≡◌, ◌≤◌, ◌<◌, ◌↔◌, ℕ, true, List, IsTrue};
@@ -20,8 +20,8 @@ ghost use Rattle.switch_runs.specs.Switches.{switches};
 ghost use Rattle.clap_solve.specs.Solved.{IsWithin};
 ghost use Rattle.switch_clauses.specs.Clauses.{switch_clauses};
 
-/// Something satisfies the clauses of a log with at most so many switches exactly where some moves with at most so many reproduce
-/// the log, a failure or a deadlock.
+/// Something satisfies the clauses of a log with at most so many switches exactly where some moves
+/// with at most so many reproduce the log, a failure or a deadlock.
 pub fn switch_clauses_are_runs<B>()
     ensures { (ops : BufferOps B) (model : Model) (bound : Binding) (code : Code) (log : Log) (most : ℕ)
         → Laws ops model bound → IsLawful code → is_log log ≡ true → IsWithin code log

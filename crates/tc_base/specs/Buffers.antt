@@ -1,4 +1,4 @@
--- Store buffers, as the operations that the machine asks of them.
+-- The operations that the machine needs of a store buffer.
 use Rattle.std.specs.Prelude.{ℕ, ℤ, Bool, Option}
 
 -- a store on its way to memory
@@ -6,23 +6,23 @@ pub record Entry : Type 0 where
   pub cell : ℕ
   pub value : ℤ
 
--- what a drain takes, and what it leaves
+-- the store that a drain takes out, and the buffer that is left
 pub record Drained (B : Type 0) : Type 0 where
   pub entry : Entry
   pub rest : B
 
--- the operations of a memory model, over the meaning of its buffer
+-- the operations of a memory model on buffers of type B
 pub record BufferOps (B : Type 0) : Type 0 where
-  -- whether a store goes into the buffer, and not to memory at once
+  -- whether stores go into the buffer instead of straight to memory
   pub buffered : Bool
   pub empty : B
   pub is_empty : B → Bool
-  -- puts a store at the end
+  -- adds a store at the end
   pub issue : B → ℕ → ℤ → B
-  -- the newest store to a cell
+  -- the value of the newest buffered store to a cell, if there is one
   pub forward : B → ℕ → Option ℤ
-  -- whether there is a store to drain by this form: none, or a cell
+  -- whether a store may drain in this form: None, or Some cell
   pub may_drain : B → Option ℕ → Bool
   pub drain : B → Option ℕ → Drained B
-  -- no store after it reaches memory before one that is there
+  -- adds a bar: no later store reaches memory before a store that is already buffered
   pub bar : B → B

@@ -1,4 +1,4 @@
-//! Threads and what they do: their names and paths, the moves of a run, what instructions ask, and states.
+//! Threads: their names, paths and states, the moves of a run, and the requests of instructions.
 #![tactic(auto)]
 
 mod failing;

@@ -20,7 +20,7 @@ pub fn place_after(bytes: &[u8]) -> Place
     place_from(Place { line: 1, col: 1 }, bytes)
 }
 
-/// The place right after these bytes, from the place before them.
+/// The place right after these bytes, given the place before them.
 pub(crate) fn place_from(place: Place, bytes: &[u8]) -> Place
     requires line { place.line + length bytes.now < 2 ^ 32 }
     requires col { place.col + length bytes.now < 2 ^ 32 }
@@ -33,7 +33,7 @@ pub(crate) fn place_from(place: Place, bytes: &[u8]) -> Place
     place
 }
 
-/// The place right after a byte, from the byte's own.
+/// The place right after a byte, given the byte's own place.
 fn next_place(place: Place, byte: u8) -> Place
     requires line { place.line + 1 < 2 ^ 32 }
     requires col { place.col + 1 < 2 ^ 32 }

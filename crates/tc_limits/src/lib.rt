@@ -1,4 +1,4 @@
-//! What a debugging session may hold at most.
+//! The limits of a debugging session.
 #![tactic(auto)]
 
 pub mod limits;

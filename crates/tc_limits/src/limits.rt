@@ -1,4 +1,4 @@
-//! What a debugging session may hold at most. A file or a run past its limit is refused.
+//! The limits of a debugging session. A file or a run past its limit is refused.
 
 /// Bytes of a program's text.
 pub const PROGRAM_BYTES: u64 = 65_536;
@@ -6,7 +6,7 @@ pub const PROGRAM_BYTES: u64 = 65_536;
 pub const LOG_BYTES: u64 = 4_194_304;
 /// Bytes of a schedule.
 pub const SCHEDULE_BYTES: u64 = 67_108_864;
-/// Brackets of a program that are open at once.
+/// Brackets of a program that are open at the same time.
 pub const BRACKETS: usize = 64;
 /// Tokens of a program in a row without `;`, `{` or `}`.
 pub const STRETCH: usize = 512;
@@ -18,7 +18,7 @@ pub const MUTEXES: usize = 64;
 pub const CONDITIONS: usize = 64;
 /// Threads of a run, main included.
 pub const THREADS: usize = 16;
-/// Creates that lead from main to a thread.
+/// Creates on the way from main to a thread.
 pub const DEPTH: usize = 8;
 /// Steps of a thread.
 pub const STEPS: u32 = 65_535;

@@ -18,10 +18,10 @@ pub record IsLogOf {B : Type 0} (under : Model) (s : State B) (stored : StoredLo
   pub failing : failing_of stored.log ≡ s.failed
   pub paths : (n : Name) → path_in s n ≡ path_under n stored.log.threads
 
--- the log has at most so many threads as a run may have, to none of which more creates lead than may
+-- whether a log is within the limits on threads and depth
 abbrev pub is_small : Log → Bool
 is_small log = nat_le (length log.threads) THREADS && list_all (λ t. nat_le (length t.name) DEPTH) log.threads
 
--- the most bytes that the text of such a log has: 39 of the head, two counts, and 131,084 of each thread
+-- the most bytes that such a log's text has: 39 for the head, 2 for counts, 131,084 for each thread
 abbrev pub most_log_bytes : ℕ
 most_log_bytes = 2097385

@@ -7,7 +7,7 @@ use crate::expression::{Name, Number};
 use crate::statement::{Action, Barrier};
 use tc_lexer::{Keyword, Place, Sign, Token, TokenKind};
 
-/// A token as the grammar sees it, with its place where a tree keeps it.
+/// A token as the grammar sees it, with its place if a tree keeps that.
 #[derive(Clone, Copy, Debug, PartialEq, Eq)]
 pub enum Word {
     /// A name.
@@ -28,7 +28,7 @@ pub enum Word {
     Assert(Place),
     /// Another keyword.
     Keyword(Keyword),
-    /// Another sign than `}`.
+    /// A sign other than `}`.
     Sign(Sign),
     /// `}`
     End(Place),
@@ -54,7 +54,7 @@ impl Word {
     }
 }
 
-/// A keyword at a place.
+/// The word of a keyword at a place.
 fn keyword_word(keyword: Keyword, place: Place) -> Word
     ensures { result ≡ words.keyword_word keyword place }
 {

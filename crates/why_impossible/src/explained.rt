@@ -25,15 +25,15 @@ use tc_code::Code;
 /// What a derivation shows over the clauses of a log.
 #[derive(Debug, Drop)]
 pub enum Explained {
-    /// It is closed, and these are its reasons: the groups of rules that it reaches, each once and in order, or, where the paths alone
-    /// tell that no run goes so, the first cause of that.
+    /// It is closed, and these are its reasons: the groups of rules that it reaches, each once and
+    /// in order, or, where the paths alone tell that no run goes so, the first cause of that.
     Closed(Reasons),
     /// It is open.
     Open,
 }
 
-/// What a derivation shows over the clauses of a log, whoever made it, and on which rules that rests. Another derivation may rest on
-/// others.
+/// What a derivation shows over the clauses of a log, whoever made it, and on which rules that
+/// rests. Another derivation may rest on others.
 ///
 /// It takes what [`check_impossible`](clap_solve::check_impossible) takes.
 pub fn why<M: MemoryModel>(

@@ -1,4 +1,4 @@
--- The clauses of a log with at most so many switches, and what a schedule is made of.
+-- The clauses of a log with at most `most` switches, and what a schedule is made from.
 use Rattle.std.specs.Prelude.{◌≡◌, ℕ, ◌≤◌, Bool, false}
 use Rattle.run_log.specs.Logs.{Log}
 use Rattle.tc_code.specs.Code.{Code}

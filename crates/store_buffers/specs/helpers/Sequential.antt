@@ -1,4 +1,4 @@
--- Sequential consistency meets the laws.
+-- Sequential consistency obeys the laws.
 use Rattle.std.proofs.Common.{refl, sym, ap, ◌∙◌}
 use Rattle.std.proofs.lemmas.Bool.{false≢true}
 use Rattle.store_buffers.specs.Buffers.{no_buffer, newest}
