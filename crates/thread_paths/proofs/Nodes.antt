@@ -30,18 +30,18 @@ to k outcomes = record { place = k; outcomes = outcomes }
 
 -- one that isn't a branch leads on with the same outcomes
 plainly : (k : ℕ) (i : Instr) (b : Bool) (r : List Bool) → is_branch i ≡ false → onward k i r ≡ Some (to (place_after k i b) r)
-plainly k (Branch e at) b r is = cc
+plainly k (Branch e at) b r is = absurd cc
 plainly k (Goto at) b r is = refl
 plainly k _ b r is = refl
 
 by_branch : (k : ℕ) (i : Instr) (b : Bool) (r : List Bool) → is_branch i ≡ true → onward k i (b ∷ r) ≡ Some (to (place_after k i b) r)
 by_branch k (Branch e at) true r is = refl
 by_branch k (Branch e at) false r is = refl
-by_branch k _ b r is = cc
+by_branch k _ b r is = absurd cc
 
 no_outcome : (k : ℕ) (i : Instr) → is_branch i ≡ true → onward k i [] ≡ None
 no_outcome k (Branch e at) is = refl
-no_outcome k _ is = cc
+no_outcome k _ is = absurd cc
 
 module _ (code : Code) (f : ℕ) (aim : Aim) where
   abbrev last_by : Marks → Instr → Onward → Bool
@@ -107,7 +107,7 @@ one_others k i b rest is least [] s from = inl (no_outcome k i is)
 one_others k i true rest is least (true ∷ later) s from = inr (inr (record { then_ = later; is = refl; within = from }))
 one_others k i false rest is least (false ∷ later) s from = inr (inr (record { then_ = later; is = refl; within = from }))
 one_others k i false rest is least (true ∷ later) s from = inr (inl refl)
-one_others k i true rest is least (false ∷ later) s from = cc
+one_others k i true rest is least (false ∷ later) s from = absurd cc
 
 one_back : (b : Bool) (rest : List Bool) (least : ℕ) (r : List Bool) (s : ℕ) → is_from rest least r s ≡ true → is_from (b ∷ rest) least (b ∷ r) s ≡ true
 one_back true rest least r s from = from
@@ -164,7 +164,7 @@ module _ (code : Code) (scope : Scope) where
           let nowhere : ways (n + more) (node.done ++ []) ≡ false =
           node.same more [] ∙ goes_short code scope.function scope.aim node.marks at.place [] i there more (no_outcome at.place i pushed.branch) in
           let somewhere : ways (n + more) (node.done ++ []) ≡ true = sym (of_parts q (node.done ++ []) s (n + more) outcomes steps) ∙ may in
-          cc
+          absurd cc
       left_later q s (true ∷ later) more may outcomes steps =
           inl (ap (λ x. leaves_behind x q) is_more ∙ ap (leaves_behind (node.done ++ false ∷ [])) outcomes
           ∙ behind_after node.done (false ∷ []) (true ∷ later) refl)
@@ -177,7 +177,7 @@ module _ (code : Code) (scope : Scope) where
       left_more q s may (inr p) = left_later q s p.later p.more may p.outcomes p.steps
 
       back_more : (r : List Bool) (s : ℕ) → is_from (false ∷ []) 0 r s ≡ true → is_from start first (node.done ++ r) s ≡ true
-      back_more [] s from = cc
+      back_more [] s from = absurd cc
       back_more (b ∷ r) s from = node.back (b ∷ r) s (ap (λ x. is_from x at.least (b ∷ r) s) (no_rest node.rest node.whole))
 
       behind_more : (q : List Bool) (s : ℕ) → (leaves_behind o q ≡ true) ⊎ GoesOn o q → is_from start first q s ≡ true
@@ -286,7 +286,7 @@ module _ (code : Code) (scope : Scope) where
         leads r = piece_is.leads r ∙ ap (λ k. Some (to k r)) place_is
 
         -- a path that passes leaves the way, ends here or goes further
-        pub record Further (q : List Bool) (s : ℕ) : Type 0 where
+        record Further (q : List Bool) (s : ℕ) : Type 0 where
           pub can : excludes node.marks i false ≡ false
           pub passes : Passes (n + 1) done piece_is.after at.least q s
 
@@ -304,8 +304,10 @@ module _ (code : Code) (scope : Scope) where
             let none = no_after piece_is.after s from in
             let all : (next.used == length o) ≡ true = eq-eqb next.used (length o)
             (count ∙ sym (ap length whole ∙ ap (λ r. length (done ++ r)) none.0 ∙ ap length (append-nil done))) in
-            let enough : nat_le at.least (n + 1) ≡ true = ap (nat_le at.least) (omega (arith, steps)) ∙ none.1 in
-            rw (all, enough) is
+            let same : n + 1 ≡ s = omega (arith, steps) in
+            let enough : nat_le at.least (n + 1) ≡ true = ap (nat_le at.least) same ∙ none.1 in
+            let last : Bool = is_last code scope.function scope.aim node.marks i next.place in
+            ap (λ v. (v && nat_le at.least (n + 1)) && last) all ∙ ap (λ v. (true && v) && last) enough ∙ is
         ended q s (b ∷ last) steps from is = absurd (cc)
 
         gone : (q : List Bool) (s : ℕ) (last : List Bool) (more : ℕ) → q ≡ node.done ++ (piece_is.piece ++ last) → s ≡ suc (n + more)
@@ -457,7 +459,7 @@ module _ (code : Code) (scope : Scope) where
 
           pub found : IsLowest code scope start first o (n + 1)
           found = record {
-            takes = may_take;
+            may = may_take;
             few = node.few;
             short = omega (arith, room);
             within = within;
@@ -470,8 +472,8 @@ module _ (code : Code) (scope : Scope) where
     no_steps : (q : List Bool) → takes code scope q 0 ≡ true → is_from o least q 0 ≡ true → ⊥
     no_steps [] may from =
         let both : (takes code scope [] 0 && is_from o least [] 0) ≡ true = ap (λ v. v && is_from o least [] 0) may ∙ from in
-        cc
-    no_steps (b ∷ q) may from = cc
+        absurd cc
+    no_steps (b ∷ q) may from = absurd cc
 
     first_left : (q : List Bool) (s : ℕ) → takes code scope q s ≡ true → is_from o least q s ≡ true
         → (leaves_behind o q ≡ true) ⊎ Passes 0 [] o least q s

@@ -61,7 +61,7 @@ module _ (code : Code) (scope : Scope) (start : List Bool) (first : ℕ) where
 
       pub is_found : IsFirst code scope (path start first) (found (Some (path o' n)) cut)
       is_found = record {
-        takes = may_take code scope o' n lowest.takes;
+        takes = may_take code scope o' n lowest.may;
         within = left.back o' n lowest.within;
         few = (lowest.few, lowest.short);
         others = λ q may from. found_others q.outcomes q.steps (is_taken code scope q.outcomes q.steps may)

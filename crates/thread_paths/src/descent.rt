@@ -9,8 +9,8 @@ ghost use Rattle.thread_paths.specs.helpers.Descents.{is_branch, takes, at_after
 use crate::aim::Scope;
 use crate::leads::{is_branch, is_last, place_after};
 use std::alloc::{AllocError, Global};
-use tc_limits::limits::STEPS;
 use tc_code::{Code, Instr};
+use tc_limits::limits::STEPS;
 use thread_marks::Own;
 
 /// Why a way down leads to no path.
@@ -59,7 +59,10 @@ fn with_outcome(
 ) -> Result<Option<At>, AllocError>
     ensures { IfOk result (IsOpened most instr.now at outcomes.old.items outcomes.new.items) }
 {
-    if !is_branch(instr) || at.used < outcomes.len() {
+    if !is_branch(instr) {
+        return Ok(Some(at));
+    }
+    if at.used < outcomes.len() {
         return Ok(Some(at));
     }
     if outcomes.len() >= usize::from(most) {
@@ -107,7 +110,7 @@ fn is_end(
 }
 
 /// One step further, after so many.
-fn advance(
+fn go_on(
     code: &Code,
     scope: Scope,
     steps: usize,
@@ -156,7 +159,7 @@ pub fn descend(
         least,
     };
     for steps in 0..STEPS as usize {
-        match advance(code, scope, steps, at, &mut own, outcomes)? {
+        match go_on(code, scope, steps, at, &mut own, outcomes)? {
             Advance::On(to) => at = to,
             Advance::Ends(descent) => return Ok(descent),
         }

@@ -25,13 +25,7 @@ pub fn place_after(instr: &Instr, place: usize, outcome: bool) -> usize
     ensures { result ≡ place_after place instr.now outcome }
 {
     match instr {
-        Instr::Branch { target, .. } => {
-            if outcome {
-                place + 1
-            } else {
-                *target as usize
-            }
-        }
+        Instr::Branch { target, .. } => { if outcome { place + 1 } else { *target as usize } }
         Instr::Goto { target } => *target as usize,
         _ => place + 1,
     }
@@ -102,17 +96,11 @@ fn ends_with(code: &Code, function: usize, end: End, instr: &Instr, to: usize) -
 }
 
 /// Whether a path may end with an instruction that leads to a place.
-pub fn is_last(
-    code: &Code,
-    function: usize,
-    aim: Aim,
-    own: &Own,
-    instr: &Instr,
-    to: usize,
-) -> bool
+pub fn is_last(code: &Code, function: usize, aim: Aim, own: &Own, instr: &Instr, to: usize) -> bool
     ensures { (t : Marks) → own.now ≡ own_of t → result ≡ is_last code.now function aim t instr.now to }
 {
-    if aim.may_fail && is_site(instr) {
+    let fails = aim.may_fail && is_site(instr);
+    if fails {
         !own.excludes(instr, true)
     } else {
         !own.excludes(instr, false) && ends_with(code, function, aim.end, instr, to)

@@ -162,7 +162,7 @@ module _ (code : Code) (scope : Scope) (start : List Bool) (first : ℕ) where
 
   -- a path was found, and it is the first
   pub record IsLowest (o : List Bool) (n : ℕ) : Type 0 where
-    pub takes : takes code scope o n ≡ true
+    pub may : takes code scope o n ≡ true
     pub few : length o ≤ scope.most
     pub short : n ≤ STEPS
     pub within : is_from start first o n ≡ true
