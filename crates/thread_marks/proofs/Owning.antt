@@ -1,5 +1,5 @@
 -- What is a thread's own, by its marks.
-use Rattle.std.proofs.Common.{◌≡◌, ◌∙◌, ℕ, zero, suc, Bool, true, false, List, ◌∷◌, map, replicate, ap, refl, sym}
+use Rattle.std.proofs.Common.{◌≡◌, ◌∙◌, ℕ, zero, suc, Bool, false, List, ◌∷◌, map, replicate, ap, refl, sym}
 use Rattle.std.specs.Prelude.{slice_set}
 use Rattle.std.proofs.lemmas.List.{map-set}
 use Rattle.tc_base.specs.declared.handle.Handle.{Handle}
@@ -7,17 +7,15 @@ use Rattle.tc_base.specs.declared.handle.Handle.TheVariants.{Unset}
 use Rattle.tc_code.specs.Code.{Code}
 use Rattle.tc_code.specs.Step.{can_be_joined, handles_of}
 use Rattle.path_walk.specs.Marks.{Marks, unmarked}
-use Rattle.thread_marks.specs.Own.{Own, own_of}
+use Rattle.thread_marks.specs.Own.{Own, nothing_own, own_of}
 
 none_joined : (n : ℕ) → map can_be_joined (replicate n Unset) ≡ replicate n false
 none_joined zero = refl
 none_joined (suc n) = ap (λ bs. false ∷ bs) (none_joined n)
 
 -- at the start
-pub at_start : (code : Code) (f : ℕ)
-    → (let own : Own = record { held = replicate code.mutexes false; joinable = replicate (handles_of code f) false } in own)
-    ≡ own_of (unmarked code f)
-at_start code f =
+pub none_marked : (code : Code) (f : ℕ) → nothing_own code f ≡ own_of (unmarked code f)
+none_marked code f =
     ap (λ (joinable : List Bool). let new : Own = record { held = replicate code.mutexes false; joinable = joinable } in new)
     (sym (none_joined (handles_of code f)))
 

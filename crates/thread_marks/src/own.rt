@@ -1,8 +1,8 @@
 //! What a thread's own steps make of its mutexes and thread variables.
 ghost use Rattle.std.specs.Prelude.{◌≡◌, IfOk, slice_set, slice_index_or, false};
 ghost use Rattle.path_walk.specs.Events.{excludes};
-ghost use Rattle.path_walk.specs.Marks.{Marks, marked, unmarked};
-ghost use Rattle.thread_marks.specs.Own.{own_of};
+ghost use Rattle.path_walk.specs.Marks.{Marks, marked};
+ghost use Rattle.thread_marks.specs.Own.{nothing_own, own_of};
 
 use std::alloc::{AllocError, Global};
 use std::marker::Model;
@@ -25,9 +25,8 @@ impl Model for Own {
 
 impl Own {
     /// At the start of a function.
-    #[tactic(auto, using(crate::proofs::Owning::at_start))]
     pub fn at_start(alloc: Global, code: &Code, function: usize) -> Result<Own, AllocError>
-        ensures { IfOk result (λ own. own ≡ own_of (unmarked code.now function)) }
+        ensures { IfOk result (λ own. own ≡ nothing_own code.now function) }
     {
         let handles = match code.functions().get(function) {
             Some(func) => func.handles,
