@@ -55,18 +55,18 @@ module _ (code : Code) (f : ℕ) (aim : Aim) where
   goes_nowhere (suc m) t k o at = ap (λ x. option_map_or (λ i. option_map_or (on_by m t i) (onward k i o) false) x false) at
 
   module _ (t : Marks) (k : ℕ) (o : List Bool) (i : Instr) (at : instr_at code f k ≡ Some i) where
-    goes_short : (m : ℕ) → onward k i o ≡ None → goes code f aim m t k o ≡ false
+    pub goes_short : (m : ℕ) → onward k i o ≡ None → goes code f aim m t k o ≡ false
     goes_short zero on =
         ap (λ x. option_map_or (λ j. option_map_or (last_by t j) (onward k j o) false) x false) at ∙ ap (λ x. option_map_or (last_by t i) x false) on
     goes_short (suc m) on =
         ap (λ x. option_map_or (λ j. option_map_or (on_by m t j) (onward k j o) false) x false) at ∙ ap (λ x. option_map_or (on_by m t i) x false) on
 
     module _ (on : Onward) (leads : onward k i o ≡ Some on) where
-      goes_last : goes code f aim 0 t k o ≡ last_by t i on
+      pub goes_last : goes code f aim 0 t k o ≡ last_by t i on
       goes_last =
           ap (λ x. option_map_or (λ j. option_map_or (last_by t j) (onward k j o) false) x false) at ∙ ap (λ x. option_map_or (last_by t i) x false) leads
 
-      goes_more : (m : ℕ) → goes code f aim (suc m) t k o ≡ on_by m t i on
+      pub goes_more : (m : ℕ) → goes code f aim (suc m) t k o ≡ on_by m t i on
       goes_more m =
           ap (λ x. option_map_or (λ j. option_map_or (on_by m t j) (onward k j o) false) x false) at
           ∙ ap (λ x. option_map_or (on_by m t i) x false) leads
@@ -358,25 +358,25 @@ module _ (code : Code) (scope : Scope) where
 
         -- no path ends here or goes further
         dead_by : EndsHere false → excludes node.marks i false ≡ true → (q : List Bool) (s : ℕ) → Fate q s → (leaves_behind o q ≡ true) ⊎ ⊥
-        dead_by no cannot q s (inl is) = inl is
-        dead_by no cannot q s (inr (inl yes)) = absurd (cc)
-        dead_by no cannot q s (inr (inr further)) = absurd (let can = further.can in cc)
+        dead_by never cannot q s (inl is) = inl is
+        dead_by never cannot q s (inr (inl here)) = absurd (cc)
+        dead_by never cannot q s (inr (inr further)) = absurd (let can = further.can in cc)
 
         pub dead : EndsHere false → excludes node.marks i false ≡ true → IsSpent code scope start first o (λ q s. ⊥)
-        dead no cannot = record {
+        dead never cannot = record {
           few = node.few;
           value = node.value;
           behind = node.behind;
-          others = λ q s may from. dead_by no cannot q s (fate q s may from);
+          others = λ q s may from. dead_by never cannot q s (fate q s may from);
         }
 
         -- the next node
         on_by_fate : EndsHere false → (q : List Bool) (s : ℕ) → Fate q s → (leaves_behind o q ≡ true) ⊎ Passes (n + 1) done piece_is.after at.least q s
-        on_by_fate no q s (inl is) = inl is
-        on_by_fate no q s (inr (inl yes)) = absurd (cc)
-        on_by_fate no q s (inr (inr further)) = inr further.passes
+        on_by_fate never q s (inl is) = inl is
+        on_by_fate never q s (inr (inl here)) = absurd (cc)
+        on_by_fate never q s (inr (inr further)) = inr further.passes
 
-        module _ (no : EndsHere false) (can : excludes node.marks i false ≡ false) where
+        module _ (never : EndsHere false) (can : excludes node.marks i false ≡ false) where
           same_on : (m : ℕ) (r : List Bool) → ways ((n + 1) + m) (done ++ r) ≡ goes code scope.function scope.aim m (marked node.marks i) next.place r
           same_on m r =
               let steps : (n + 1) + m ≡ n + suc m = omega arith in
@@ -400,17 +400,17 @@ module _ (code : Code) (scope : Scope) where
             back = λ r s from. ap (λ x. is_from start first x s) (append_assoc node.done piece_is.piece r)
                 ∙ node.back (piece_is.piece ++ r) s (piece_is.back at.least r s from);
             behind = node.behind;
-            left = λ q s may from. on_by_fate no q s (fate q s may from);
+            left = λ q s may from. on_by_fate never q s (fate q s may from);
           }
 
         -- a path ends here
-        module _ (yes : EndsHere true) (room : n < STEPS) where
+        module _ (here : EndsHere true) (room : n < STEPS) where
           abbrev Parts : Type 0
           Parts = ((next.used == length o) ≡ true) × (nat_le at.least (n + 1) ≡ true) × (is_last code scope.function scope.aim node.marks i next.place ≡ true)
 
           parts : Parts
           parts =
-              let outer = and_parts (next.used == length o && nat_le at.least (n + 1)) (is_last code scope.function scope.aim node.marks i next.place) yes in
+              let outer = and_parts (next.used == length o && nat_le at.least (n + 1)) (is_last code scope.function scope.aim node.marks i next.place) here in
               let inner = and_parts (next.used == length o) (nat_le at.least (n + 1)) outer.0 in
               (inner.0, inner.1, outer.1)
 

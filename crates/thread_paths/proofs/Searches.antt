@@ -1,6 +1,7 @@
 -- A search, from one way down to the next.
 use Rattle.std.proofs.Common.{◌≡◌, ◌∙◌, ℕ, ◌+◌, ◌-◌, ◌^◌, ◌<◌, ◌≤◌, inl, inr, Bool, true, false, ◌&&◌, List, [], ◌∷◌, length, Option, Some, None, refl, ap, sym, arith}
 use Rattle.std.specs.Prelude.{◌⊎◌}
+use Rattle.std.proofs.lemmas.Bool.{lt-leb}
 use Rattle.tc_limits.specs.declared.limits.TheConstants.{STEPS}
 use Rattle.tc_base.specs.Paths.{Path}
 use Rattle.tc_code.specs.Code.{Code}
@@ -15,10 +16,10 @@ use Rattle.thread_paths.specs.helpers.Descents.{leaves_behind, takes, worth, cut
 use Rattle.thread_paths.proofs.Outcomes.{worth_below}
 use Rattle.thread_paths.proofs.Taken.{and_none, may_take, is_taken}
 
-abbrev path : List Bool → ℕ → Path
+abbrev pub path : List Bool → ℕ → Path
 path o s = record { outcomes = o; steps = s }
 
-abbrev found : Option Path → Cut → Found
+abbrev pub found : Option Path → Cut → Found
 found p cut = record { path = p; cut = cut }
 
 -- what was left out is left out with a reason more
@@ -31,13 +32,18 @@ kept_out scope cut TooLong q (inr out) = inr (out.0, refl)
 
 -- and what has an excuse
 excused_out : (scope : Scope) (cut : Cut) (why : Reason) (q : Path) → IsExcused scope why q.outcomes q.steps → IsLeftOut scope (cut_by cut why) q
-excused_out scope cut Dead q no = absurd no
+excused_out scope cut Dead q never = absurd never
 excused_out scope cut TooMany q more = inl (more, refl)
 excused_out scope cut TooLong q more = inr (more, refl)
 
-none_behind : (o : List Bool) → leaves_behind o [] ≡ false
+pub none_behind : (o : List Bool) → leaves_behind o [] ≡ false
 none_behind [] = refl
 none_behind (b ∷ o) = refl
+
+-- behind a path a path of no steps doesn't come
+pub none_later : (stays : Bool) (o : List Bool) (n : ℕ) → (stays && is_from o (n + 1) [] 0) ≡ false
+none_later stays [] n = ap (λ v. stays && v) (lt-leb (n + 1) 0 (omega arith)) ∙ and_none stays
+none_later stays (b ∷ o) n = and_none stays
 
 module _ (code : Code) (scope : Scope) (start : List Bool) (first : ℕ) where
   -- what is still to be looked at
@@ -87,7 +93,7 @@ module _ (code : Code) (scope : Scope) (start : List Bool) (first : ℕ) where
       -- and none can be
       none_by : (all : (q : List Bool) → leaves_behind o' q ≡ false) (q : List Bool) (s : ℕ)
           → (leaves_behind o' q ≡ true) ⊎ IsLeftOut scope (cut_by cut why) (path q s) → IsNotAfter None (path q s) ⊎ IsLeftOut scope (cut_by cut why) (path q s)
-      none_by all q s (inl is) = absurd (let no = all q in cc)
+      none_by all q s (inl is) = absurd (let never = all q in cc)
       none_by all q s (inr out) = inr out
 
       pub is_none : ((q : List Bool) → leaves_behind o' q ≡ false) → IsFirst code scope (path start first) (found None (cut_by cut why))

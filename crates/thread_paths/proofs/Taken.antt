@@ -199,8 +199,8 @@ module _ (code : Code) (scope : Scope) where
     judged_by r is = told code f aim n (unmarked code f) 0 o 0 ∙ ap (judged code f aim (unmarked code f) 0 (end_from code f (suc n) 0 o)) is
 
     to_places : (r : Result (List ℕ) Misfit) → there r → takes code scope o (suc n) ≡ true → MayTake code f aim (path o (suc n))
-    to_places (Err e) is may = absurd (let no = judged_by (Err e) is in cc)
-    to_places (Ok []) is may = absurd (let no = judged_by (Ok []) is in cc)
+    to_places (Err e) is may = absurd (let never = judged_by (Err e) is in cc)
+    to_places (Ok []) is may = absurd (let never = judged_by (Ok []) is in cc)
     to_places (Ok (k ∷ ps)) is may =
         let parts = and_parts
         (not (list_any is_impossible (marked_from (fails_by code f aim k ps) 0 (unmarked code f) (steps_at code f (k ∷ ps)))))

@@ -76,7 +76,6 @@ fn with_outcome(
 fn after(instr: &Instr, at: At, outcomes: &[bool]) -> At
     requires place { at.place + 1 < 2 ^ 64 }
     requires outcome { is_branch instr.now ≡ true → at.used < length outcomes.now }
-    requires used { at.used ≤ length outcomes.now }
     ensures { result ≡ at_after at instr.now outcomes.now }
 {
     let outcome = outcomes.get(at.used).copied().unwrap_or(false);
@@ -118,7 +117,8 @@ fn go_on(
     own: &mut Own,
     outcomes: &mut Vec<bool>,
 ) -> Result<Advance, AllocError>
-    requires { steps < STEPS }
+    requires steps { steps < STEPS }
+    requires used { at.used ≤ length outcomes.old.items }
     ensures { (start : List Bool) (first : ℕ) → IsNode code.now scope start first steps at outcomes.old.items own.old
         → IfOk result (IsAdvance code.now scope start first steps outcomes.new.items own.new) }
 {

@@ -1,5 +1,5 @@
 //! What a thread does at an instruction.
-ghost use Rattle.std.specs.Prelude.{◌≡◌, ◌+◌, ◌<◌, ◌^◌};
+ghost use Rattle.std.specs.Prelude.{◌≡◌, ◌+◌, ◌<◌, ◌^◌, true};
 ghost use Rattle.std.specs.Option.{option_map_or};
 ghost use Rattle.tc_code.specs.Code.{instr_at};
 ghost use Rattle.path_walk.specs.Marks.{Marks};
