@@ -1,6 +1,6 @@
 -- One way down, node by node.
-use Rattle.std.proofs.Common.{◌≡◌, ◌∙◌, ℕ, zero, suc, ◌+◌, ◌<◌, ◌≤◌, inl, inr, Bool, true, false, not, ◌&&◌, leb, List, [], ◌∷◌, ◌++◌, length, get_or}
-use Rattle.std.proofs.Common.{Option, Some, None, refl, ap, sym, subst, arith, append_assoc, append-nil, add-zero, zero-add, eq-eqb}
+use Rattle.std.proofs.Common.{◌≡◌, ◌∙◌, ℕ, zero, suc, ◌+◌, ◌<◌, ◌≤◌, inl, inr, Bool, true, false, not, ◌&&◌, List, [], ◌∷◌, ◌++◌, length, get_or}
+use Rattle.std.proofs.Common.{Some, None, refl, ap, sym, subst, arith, append_assoc, append-nil, add-zero, zero-add, eq-eqb}
 use Rattle.std.specs.Prelude.{◌⊎◌, ◌==◌, nat_le, if◌then◌else◌}
 use Rattle.std.specs.Option.{option_map_or}
 use Rattle.std.proofs.lemmas.Bool.{and_parts, eqb-true, not-true}
@@ -8,7 +8,6 @@ use Rattle.std.proofs.lemmas.List.{length-append}
 use Rattle.list_laws.specs.Lists.{is_nil}
 use Rattle.tc_limits.specs.declared.limits.TheConstants.{STEPS}
 use Rattle.tc_code.specs.Code.{Code, instr_at}
-use Rattle.tc_code.specs.Expr.{Expr}
 use Rattle.tc_code.specs.declared.instr.Instr.{Instr}
 use Rattle.tc_code.specs.declared.instr.Instr.TheVariants.{Branch, Goto}
 use Rattle.path_walk.specs.Events.{excludes}

@@ -1,6 +1,6 @@
 -- The paths that a thread may take, told by their places and told step by step.
-use Rattle.std.proofs.Common.{◌≡◌, ◌∙◌, ℕ, zero, suc, ◌+◌, ◌-◌, ◌==◌, Bool, true, false, not, ◌&&◌, ◌||◌, List, [], ◌∷◌, length, map}
-use Rattle.std.proofs.Common.{Option, Some, None, Result, Ok, Err, refl, ap, sym, subst, arith, unwrap_or}
+use Rattle.std.proofs.Common.{◌≡◌, ◌∙◌, ℕ, zero, suc, ◌+◌, ◌-◌, ◌==◌, Bool, true, false, not, ◌&&◌, ◌||◌, List, [], ◌∷◌, length}
+use Rattle.std.proofs.Common.{Option, Some, None, Result, Ok, Err, refl, ap, sym, arith, unwrap_or}
 use Rattle.std.specs.Prelude.{slice_get, if◌then◌else◌}
 use Rattle.std.specs.List.{list_any}
 use Rattle.std.specs.Option.{option_map_or}
@@ -11,10 +11,9 @@ use Rattle.tc_code.specs.Code.{Code, instr_at}
 use Rattle.tc_code.specs.declared.instr.Instr.{Instr}
 use Rattle.tc_code.specs.declared.instr.Instr.TheVariants as instr
 use Rattle.path_walk.specs.Events.{excludes, is_impossible}
-use Rattle.path_walk.specs.Marks.{Marks, Marked, unmarked, marked, marked_from, marked_steps}
-use Rattle.path_walk.specs.Steps.{Onward, onward, before, places_from, end_from, Step, step_at, steps_at, is_site, ends_at_site, can_block}
+use Rattle.path_walk.specs.Marks.{Marks, unmarked, marked, marked_from, marked_steps}
+use Rattle.path_walk.specs.Steps.{Onward, onward, before, places_from, end_from, step_at, steps_at, is_site}
 use Rattle.path_walk.specs.declared.fault.Misfit.{Misfit}
-use Rattle.path_walk.specs.declared.fault.Misfit.TheVariants.{OutcomesShort, OutcomesLeft, PastExit}
 use Rattle.path_walk.proofs.Places.{past_exit, short, step_more, end_more, count}
 use Rattle.thread_paths.specs.Ends.{is_exit, is_used, last_is, has_end, fails_at_end, MayTake}
 use Rattle.thread_paths.specs.declared.aim.Aim.{Aim}

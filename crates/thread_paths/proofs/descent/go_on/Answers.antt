@@ -15,8 +15,12 @@ returns-in_default-2 c start first node =
 
 pub after-to-requires-clause-outcome : goal.after-to-requires-clause-outcome
 after-to-requires-clause-outcome c branch =
-    omega (arith, ap length c.deref.ensures.value, has_outcome c.args.scope.most c.in-Some.instr.now c.args.at c.in-Some-2.at c.args.outcomes.now.items
-    c.with_outcome.new.outcomes.items c.in_ok-at.field-0 c.in-Some-2.is c.in_ok-at.ensures c.requires.used branch)
+    omega (
+      arith,
+      ap length c.deref.ensures.value,
+      has_outcome c.args.scope.most c.in-Some.instr.now c.args.at c.in-Some-2.at c.args.outcomes.now.items
+          c.with_outcome.new.outcomes.items c.in_ok-at.field-0 c.in-Some-2.is c.in_ok-at.ensures c.requires.used branch,
+    )
 
 pub returns-then-is_end : goal.returns-then-is_end
 returns-then-is_end c start first node =

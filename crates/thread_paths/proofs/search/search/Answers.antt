@@ -1,4 +1,4 @@
-use Rattle.std.proofs.Common.{subst, sym, false, true, Bool, None}
+use Rattle.std.proofs.Common.{subst, sym, Bool, None}
 use Rattle.thread_paths.specs.Search.{IsFirst}
 use Rattle.thread_paths.specs.helpers.Descents.{IsDescent, IsTurned}
 use Rattle.thread_paths.specs.declared.descent.Descent.{Descent}
