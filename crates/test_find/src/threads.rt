@@ -6,6 +6,7 @@ use std::alloc::Global;
 use std::fmt::Write;
 use tc_code::Code;
 use tc_compile::compile;
+use tc_limits::limits::PROGRAM_BYTES;
 use thread_paths::{Aim, Cut, End, Found, Path, Scope, first_path, next_path};
 
 /// How many paths a row may have.
@@ -67,6 +68,14 @@ fn push_end(text: &mut String, cut: Cut) -> Result<()> {
     Ok(())
 }
 
+/// The code of a program.
+fn code_of(alloc: Global, text: &[u8]) -> Result<Code> {
+    if text.len() as u64 > PROGRAM_BYTES {
+        bail!("a program that is too long");
+    }
+    Ok(compile(alloc, text)?)
+}
+
 /// The first path, or the one after a path.
 fn following(alloc: Global, code: &Code, scope: Scope, last: Option<Path>) -> Result<Found>
     requires { IfSome last (λ p. length p.outcomes ≤ scope.most) }
@@ -82,7 +91,7 @@ fn following(alloc: Global, code: &Code, scope: Scope, last: Option<Path>) -> Re
 pub(crate) fn paths(alloc: Global, given: &str) -> Result<String> {
     let (words, program) = given.split_once(" : ").context("no program")?;
     let scope = scope_of(words)?;
-    let code = compile(alloc, program.as_bytes())?;
+    let code = code_of(alloc, program.as_bytes())?;
     let mut text = String::new(alloc);
     let mut cut = Cut {
         outcomes: false,
