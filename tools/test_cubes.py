@@ -38,7 +38,7 @@ class Cubes(unittest.TestCase):
 
     def words(self, example: str, model: str, *more: str) -> List[str]:
         log = f"{TOP}/examples/{example}"
-        return [f"{TOP}/tools/cubes", f"{log}.tc", f"{log}.log", self.out, "--model", model, "--seconds", "20", "--jobs", "2",
+        return [f"{TOP}/tools/cubes", f"{log}.tc", f"{log}.log", self.out, "--model", model, "--seconds", "600", "--jobs", "2",
                 "--clap-debug", os.environ.get("CLAP_DEBUG", f"{TOP}/clap_debug"), *more]
 
     def cubes(self, example: str = "peterson/mended", model: str = "sc", *more: str) -> Tuple[int, str]:
@@ -187,7 +187,7 @@ class Cubes(unittest.TestCase):
         while not glob.glob(f"{self.room}/call.*"):
             time.sleep(0.1)
         run.send_signal(signal.SIGINT)
-        self.assertIn("stopped; what is done stays", run.communicate(timeout=120)[1])
+        self.assertIn("stopped; what is done stays", run.communicate(timeout=600)[1])
         self.assertEqual(run.returncode, 2)
         self.stand_in_again()
         self.is_refuted()
