@@ -61,9 +61,10 @@ class Cubes(unittest.TestCase):
         os.chmod(f"{self.room}/bin/cadical", 0o755)
         self.path = f"{self.room}/bin:{os.environ['PATH']}"
 
-    def said_by_workers(self) -> str:
-        with open(f"{self.out}.cubes/round-1.said", encoding="utf-8") as file:
-            return file.read()
+    def is_tried_again(self) -> None:
+        """The stand-in was called more often than there are cubes."""
+        self.assertIn("4 cubes refuted", self.is_refuted())
+        self.assertGreater(len(glob.glob(f"{self.room}/call.*")), 4)
 
     def results(self) -> List[str]:
         return sorted(glob.glob(f"{self.out}.cubes/clap-cubes-*/*.result"))
@@ -138,13 +139,11 @@ class Cubes(unittest.TestCase):
 
     def test_a_truncated_proof(self) -> None:
         self.stand_in(2, '{ %s "$@"; truncate -s 1000 "$proof"; exit 20; }' % shutil.which("cadical"))
-        self.assertIn("4 cubes refuted", self.is_refuted())
-        self.assertRegex(self.said_by_workers(), "the proof of r1-[0-9] can't be used")
+        self.is_tried_again()
 
     def test_no_room_for_a_proof(self) -> None:
         self.stand_in(2, "trap '' XFSZ; ulimit -f 1")
-        self.assertIn("4 cubes refuted", self.is_refuted())
-        self.assertRegex(self.said_by_workers(), "the proof of r1-[0-9] can't be used")
+        self.is_tried_again()
 
     def test_no_room_for_what_is_joined(self) -> None:
         os.symlink("/dev/full", f"{self.out}.part")
