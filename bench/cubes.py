@@ -1,11 +1,12 @@
 #!/usr/bin/env python3
-"""Decides logs by cubes, beside cadical alone on the same list: a row of docs/PERFORMANCE.md for each.
+"""Decides logs by cubes, beside cadical alone on the same list: a row of bench/results/cubes.md for each.
 
   cubes.py [--alone N] [--seconds N] [--cube N] [--depth N] [--clap-debug PROGRAM] FOLDER NAME..
 
-NAME is that of a log and its program in the folder, as logs.py writes them. cadical alone gets N processor seconds, 60 where no
-number is given; tools/cubes gets N seconds by the clock for all and for each cube, 600 and 120 where none are given. What is kept of
-the cubes stays in the current folder until the row is written. Ends with 1 where an answer isn't taken by `check` or `replay`.
+NAME is that of a log and its program in the folder, as logs.py writes them. cadical alone has the settings that tools/refute/worker
+gives it, and N processor seconds, 60 if no number is given. tools/cubes gets N seconds by the clock for all and for each cube, 600 and
+120 if none are given. What it keeps stays in the current folder until the row is written. Ends with 1 if `check` or `replay` doesn't
+take an answer.
 """
 import argparse
 import os
@@ -44,7 +45,7 @@ def row(given, name, folder):
     log = [os.path.join(os.path.abspath(given.folder), f"{name}.{kind}") for kind in ("tc", "log")]
     listed = os.path.join(folder, "list.cnf")
     clauses = Ran([given.clap_debug, "cnf", *log, listed]).out.split()[-2]
-    alone = Ran(["cadical", "-q", listed], processor=given.alone)
+    alone = Ran(["cadical", "-q", "--unsat", "--plain", listed], processor=given.alone)
     alone_said = f"{alone.processor:.0f}" if alone.status in (10, 20) else f"{given.alone} and more"
     cubes = Ran([f"{TOP}/tools/cubes", *log, "out", "--seconds", str(given.cube), "--depth", str(given.depth), "--clap-debug",
                  given.clap_debug], clock=given.seconds, folder=folder)

@@ -38,7 +38,7 @@ class Cubes(unittest.TestCase):
 
     def words(self, example: str, model: str, *more: str) -> List[str]:
         log = f"{TOP}/examples/{example}"
-        return [f"{TOP}/tools/cubes", f"{log}.tc", f"{log}.log", self.out, "--model", model, "--seconds", "20", "--jobs", "2",
+        return [f"{TOP}/tools/cubes", f"{log}.tc", f"{log}.log", self.out, "--model", model, "--seconds", "600", "--jobs", "2",
                 "--clap-debug", os.environ.get("CLAP_DEBUG", f"{TOP}/clap_debug"), *more]
 
     def cubes(self, example: str = "peterson/mended", model: str = "sc", *more: str) -> Tuple[int, str]:
@@ -60,6 +60,11 @@ class Cubes(unittest.TestCase):
             file.write(STANDS_IN.format(room=self.room, times=times, does=does, cadical=shutil.which("cadical")))
         os.chmod(f"{self.room}/bin/cadical", 0o755)
         self.path = f"{self.room}/bin:{os.environ['PATH']}"
+
+    def is_tried_again(self) -> None:
+        """The stand-in was called more often than there are cubes."""
+        self.assertIn("4 cubes refuted", self.is_refuted())
+        self.assertGreater(len(glob.glob(f"{self.room}/call.*")), 4)
 
     def results(self) -> List[str]:
         return sorted(glob.glob(f"{self.out}.cubes/clap-cubes-*/*.result"))
@@ -134,11 +139,11 @@ class Cubes(unittest.TestCase):
 
     def test_a_truncated_proof(self) -> None:
         self.stand_in(2, '{ %s "$@"; truncate -s 1000 "$proof"; exit 20; }' % shutil.which("cadical"))
-        self.assertIn("4 cubes refuted", self.is_refuted())
+        self.is_tried_again()
 
     def test_no_room_for_a_proof(self) -> None:
-        self.stand_in(2, 'ln -sf /dev/full "$proof"')
-        self.assertIn("4 cubes refuted", self.is_refuted())
+        self.stand_in(2, "trap '' XFSZ; ulimit -f 1")
+        self.is_tried_again()
 
     def test_no_room_for_what_is_joined(self) -> None:
         os.symlink("/dev/full", f"{self.out}.part")
@@ -181,7 +186,7 @@ class Cubes(unittest.TestCase):
         while not glob.glob(f"{self.room}/call.*"):
             time.sleep(0.1)
         run.send_signal(signal.SIGINT)
-        self.assertIn("stopped; what is done stays", run.communicate(timeout=120)[1])
+        self.assertIn("stopped; what is done stays", run.communicate(timeout=600)[1])
         self.assertEqual(run.returncode, 2)
         self.stand_in_again()
         self.is_refuted()
@@ -198,4 +203,4 @@ class Cubes(unittest.TestCase):
 
 
 if __name__ == "__main__":
-    unittest.main()
+    unittest.main(verbosity=2)

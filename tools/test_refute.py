@@ -144,6 +144,12 @@ class Refute(unittest.TestCase):
         self.assertEqual(self.both("drat", self.variables, self.clauses, self.path("nothing")), 2)
         self.assertFalse(os.path.exists(self.path("ours")))
 
+    def test_a_device_that_never_ends(self) -> None:
+        listed, proof = self.write_list(self.variables, self.clauses), self.write("proof", self.drat())
+        for words in [listed, "/dev/zero"], ["/dev/zero", proof]:
+            status, said = self.call("drat", *words, "sc", self.path("ours"))
+            self.assertEqual((status, said), (2, "can't be used: /dev/zero: not a regular file\n"))
+
     def test_a_full_disk(self) -> None:
         listed, proof = self.write_list(self.variables, self.clauses), self.write("proof", self.drat())
         os.symlink("/dev/full", self.path("full.part"))
@@ -263,4 +269,4 @@ class Refute(unittest.TestCase):
 
 
 if __name__ == "__main__":
-    unittest.main()
+    unittest.main(verbosity=2)

@@ -37,6 +37,13 @@ class Handle {
 
     [[noreturn]] void fail() const { throw Unusable(path + ": " + std::strerror(errno)); }
 
+    // Fails unless this is a regular file: a device may never end, and a pipe can't be read from its end.
+    void must_be_regular() const {
+        struct stat about;
+        if (::fstat(number, &about) != 0) fail();
+        if (!S_ISREG(about.st_mode)) throw Unusable(path + ": not a regular file");
+    }
+
     size_t read(char* to, size_t most, uint64_t from) const {
         size_t done = 0;
         while (done < most) {
@@ -68,7 +75,7 @@ class Handle {
 // The lines of a file from the first on.
 class Lines {
    public:
-    explicit Lines(const std::string& path) : file(path, O_RDONLY) {}
+    explicit Lines(const std::string& path) : file(path, O_RDONLY) { file.must_be_regular(); }
 
     // The next line without its line feed; false at the end.
     bool next(std::string_view& line) {
