@@ -1,10 +1,10 @@
 #!/usr/bin/env python3
-"""The table of docs/CLAP.md: what each log of examples/clap comes to, measured in one run.
+"""What each log of examples/clap comes to, measured in one run: the tables of bench/results/clap.md, and that of docs/CLAP.md.
 
   clap.py [--rewrite] [--program P]
 
 P is the built program clap_debug, out/clap_debug where none is given. Seconds are of the processor, the user's and the system's, and
-memory is the most that the program had. Prints the tables, and with --rewrite puts them into docs/CLAP.md, each between a line
+memory is the most that the program had. Prints the tables, and with --rewrite puts them into these pages, each between a line
 `<!-- NAME -->` and the next `<!-- end -->`. Ends with 1 where an answer isn't the one that the pages of the examples want.
 """
 import argparse
@@ -20,10 +20,11 @@ import machine
 import solve
 
 TOP = Path(__file__).resolve().parent.parent
-PAGE = TOP / "docs" / "CLAP.md"
+PAGES = [TOP / "docs" / "CLAP.md", TOP / "bench" / "results" / "clap.md"]
 SHARED = {"load", "loadat", "store", "storeat", "swap", "cas"}
 SECONDS = 120
 SIZES = ["bug", "threads", "shared accesses", "events", "bytes, format 1", "bytes, format 2", "variables", "clauses"]
+BUGS = ["bug", "threads", "shared accesses", "events", "log, bytes", "clauses", "model", "seconds", "fewest switches", "mended: lines"]
 TIMES = ["bug", "model", "first: seconds", "MB", "switches", "least: seconds", "switches", "mended: lines", "seconds", "`check`: seconds"]
 
 
@@ -99,6 +100,20 @@ def table(heads, rows):
     return [f"| {' | '.join(heads)} |", "|---" * len(heads) + "|", *(f"| {' | '.join(map(str, row))} |" for row in rows)]
 
 
+def both(size, time):
+    """The row of a bug on the page: its log, and its search under the strictest model."""
+    return [*(size[k] for k in (0, 1, 2, 3, 5, 7)), *(time[k] for k in (1, 2, 6, 7))]
+
+
+def rewritten(lines, made):
+    """The lines of a page with the tables that it has."""
+    for name, rows in made.items():
+        if f"<!-- {name} -->" in lines:
+            at = lines.index(f"<!-- {name} -->")
+            lines[at + 1 : lines.index(examples.LAST, at)] = ["", *rows, ""]
+    return lines
+
+
 def main():
     parser = argparse.ArgumentParser(usage=__doc__)
     parser.add_argument("--rewrite", action="store_true")
@@ -108,17 +123,18 @@ def main():
     firsts = {bug.name: bug for bug in reversed(found)}
     with tempfile.TemporaryDirectory() as room:
         runner = Runner(os.path.abspath(given.program), room)
-        made = {
-            "sizes": table(SIZES, [sizes(runner, firsts[name]) for name in sorted(firsts)]),
-            "times": table(TIMES, [times(runner, bug) for bug in found]),
-        }
-    lines = PAGE.read_text().split("\n")
-    for name, rows in made.items():
+        size = {name: sizes(runner, firsts[name]) for name in sorted(firsts)}
+        time = [times(runner, bug) for bug in found]
+    made = {
+        "bugs": table(BUGS, [both(size[name], next(it for it in time if it[0] == name)) for name in size]),
+        "sizes": table(SIZES, size.values()),
+        "times": table(TIMES, time),
+    }
+    for rows in made.values():
         print(*rows, "", sep="\n")
-        at = lines.index(f"<!-- {name} -->")
-        lines[at + 1 : lines.index(examples.LAST, at)] = ["", *rows, ""]
     if given.rewrite:
-        PAGE.write_text("\n".join(lines))
+        for page in PAGES:
+            page.write_text("\n".join(rewritten(page.read_text().split("\n"), made)))
 
 
 if __name__ == "__main__":

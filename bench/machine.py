@@ -12,6 +12,9 @@
                                    by a search over all states on the logged paths: `possible` with a schedule, or `impossible`
   machine.py fewest PROGRAM LOG [--model M]
                                    by such a search, the fewest context switches of moves that reproduce the log, or `impossible`
+  machine.py explore PROGRAM [--model M] [--log LOG] [--schedule OUT]
+                                   by a search over all states of a program that has finitely many: how a run fails or comes to a
+                                   deadlock, with its log and its moves, or `no run fails`
 
 What it asks of a program is docs/LANGUAGE.md's, without the faults: a text that is none ends it with an error.
 """
@@ -29,6 +32,8 @@ LEVELS = [["||"], ["&&"], ["|"], ["^"], ["&"], ["==", "!="], ["<", "<=", ">", ">
 DRAINED = {"swap", "cas", "lock", "unlock", "sleep", "wake", "signal", "broadcast", "create", "join", "fence", "exit"}
 SITES = {"inside", "nonzero", "inrange", "holds", "ready", "assert"}
 EVENTS = DRAINED | {"load", "loadat", "store", "storeat"}
+# What reads and writes nothing that another thread can change.
+OWN = SITES | {"set", "branch", "goto"}
 
 
 def int32(n):
@@ -61,8 +66,12 @@ UNARY = {"-": lambda a: int32(-a), "!": lambda a: int(a == 0), "~": lambda a: ~a
 
 
 class Function:
+    """`origins` has, by slot, what the text has in the place of a slot of the code's own: the name of a cell, (array, index), or
+    (sign, left, right) of `&&` and `||`; `statements` the number of each instruction's statement."""
+
     def __init__(self, name):
         self.name, self.params, self.ints, self.tids, self.instrs, self.lines = name, 0, 0, 0, [], []
+        self.origins, self.statements, self.statement = {}, [], 0
 
 
 class Code:
@@ -80,7 +89,7 @@ class Code:
             at = found.end()
             if not found[1]:
                 break
-        self.at = 0
+        self.at, self.numbers = 0, 0
         self.memory, self.mutexes, self.conditions, self.functions, self.arity, self.globals = [], 0, 0, [], {}, {}
         self.program()
 
@@ -150,6 +159,7 @@ class Code:
     def emit(self, line, *instr):
         self.function.instrs.append(list(instr))
         self.function.lines.append(line)
+        self.function.statements.append(self.function.statement)
         return self.function.instrs[-1]
 
     def body(self):
@@ -196,6 +206,13 @@ class Code:
         return numbers
 
     def statement(self):
+        """One statement; what it emits has a number of its own, also behind the statements inside it."""
+        self.numbers += 1
+        outer, self.function.statement = self.function.statement, self.numbers
+        self.one_statement()
+        self.function.statement = outer
+
+    def one_statement(self):
         line, word = self.tokens[self.at][1], self.next()
         if word == "join":
             tid, = self.in_brackets("tid")
@@ -294,8 +311,10 @@ class Code:
                 taken = self.slot()
                 self.emit(line, "set", taken, int(sign == "||"))
                 branch = self.emit(line, "branch", left if sign == "&&" else ("!", left), None)
-                self.emit(line, "set", taken, ("!=", self.expression(line, level + 1), 0))
+                right = self.expression(line, level + 1)
+                self.emit(line, "set", taken, ("!=", right, 0))
                 branch[2] = self.here()
+                self.function.origins[taken] = (sign, left, right)
                 left = ("slot", taken)
                 continue
             right = self.expression(line, level + 1)
@@ -321,6 +340,7 @@ class Code:
             return ("slot", number)
         if kind == "cell":
             taken = self.slot()
+            self.function.origins[taken] = word
             self.emit(line, "load", taken, number)
             return ("slot", taken)
         if kind != "array":
@@ -330,6 +350,7 @@ class Code:
         self.take("]")
         self.emit(line, "inside", length[0], index)
         taken = self.slot()
+        self.function.origins[taken] = (word, index)
         self.emit(line, "loadat", taken, number, length[0], index)
         return ("slot", taken)
 
@@ -728,6 +749,51 @@ def fewest(code, log, model):
     return None
 
 
+def settled(state, name):
+    """Makes the next steps of a thread as long as no other thread can change what they do, and gives the moves. Forgets what the
+    thread did before, so that runs which meet in a state go on as one."""
+    moves, places = [], set()
+    while True:
+        thread = state.threads[name]
+        thread.steps, thread.outcomes = 0, ()
+        if state.failed is not None or thread.exited or state.instr(name)[0] not in OWN:
+            return moves
+        if (thread.at, thread.slots) in places:
+            raise SystemExit(f"{spelled(name)} goes round for ever without an access of shared memory")
+        places.add((thread.at, thread.slots))
+        moves.append(("r", name))
+        state.make(moves[-1])
+
+
+def explore(code, model):
+    """How some run ends that fails or comes to a deadlock, its last state and its moves, or None where no run does; and how many
+    states there are."""
+    start = State(code, model)
+    stack, seen = [(start, (None, settled(start, ())))], set()
+    while stack:
+        state, made = stack.pop()
+        moves = state.moves()
+        if not moves and not all(it.exited for it in state.threads.values()):
+            parts, last = [], State(code, model)
+            while made:
+                made, part = made
+                parts.append(part)
+            moves = sum(parts[::-1], [])
+            for move in moves:
+                last.make(move)
+            return ("failed" if last.failed is not None else "deadlock"), last, moves, len(seen)
+        for move in moves:
+            later = state.copy()
+            later.make(move)
+            part = [move]
+            for name in sorted({move[1], *(later.threads.keys() - state.threads.keys())}):
+                part += settled(later, name)
+            if later.key() not in seen:
+                seen.add(later.key())
+                stack.append((later, (made, part)))
+    return None, start, [], len(seen)
+
+
 def walked(code, log):
     """Of each thread of a log its name, its function, and the instructions of its path, each as a word with its line."""
     functions = {(): len(code.functions) - 1}
@@ -762,7 +828,7 @@ def shown(code, log):
 
 def main():
     parser = argparse.ArgumentParser(usage=__doc__)
-    parser.add_argument("command", choices=["record", "seeds", "log", "show", "search", "fewest"])
+    parser.add_argument("command", choices=["record", "seeds", "log", "show", "search", "fewest", "explore"])
     parser.add_argument("program")
     parser.add_argument("words", nargs="*")
     parser.add_argument("--model", choices=MODELS)
@@ -795,6 +861,12 @@ def main():
     elif given.command == "seeds":
         for seed in range(int(given.words[0])):
             print(seed, end_of(code, *run(code, model, seed, given.steps)))
+    elif given.command == "explore":
+        end, state, made, states = explore(code, model)
+        print(end_of(code, end, state, made) if end else "no run fails", f"({states} states)")
+        if end:
+            keep(log_of(model, state))
+            keep_moves(model, made)
     elif given.command == "log":
         model, failing, *threads = given.words
         parts = [it.split(":") for it in threads]

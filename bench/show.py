@@ -1,11 +1,13 @@
 #!/usr/bin/env python3
 """What `clap_debug_show` is to put, made anew by the machine of machine.py.
 
-  show.py text PROGRAM FILE      the text of a schedule or a log
-  show.py examples [SHOW]        compares what SHOW, or ./clap_debug_show, puts for each schedule and log of the examples
-  show.py random COUNT [SHOW]    the same for schedules of random small programs, some of them cut short or with a move changed
+  show.py text PROGRAM FILE [--moves]   the text of a schedule or a log
+  show.py examples [SHOW]               compares what SHOW, or ./clap_debug_show, puts for each schedule and log of the examples
+  show.py random COUNT [SHOW]           the same for schedules of random small programs, some of them cut short or with a move changed
 """
+import hashlib
 import os
+import re
 import random
 import subprocess
 import sys
@@ -29,7 +31,7 @@ class Code(machine.Code):
 
     def program(self):
         super().program()
-        self.source = [it.strip(" \t\r") for it in self.text.split("\n")]
+        self.source = [shown_line(it) for it in without_comments(self.text).split("\n")]
         self.cells, self.by_kind = {}, {}
         for name, (kind, first, *length) in self.globals.items():
             if kind == "cell":
@@ -40,19 +42,99 @@ class Code(machine.Code):
                 self.by_kind[kind, first] = name
 
 
-class Row:
-    """A move that was made: its thread with its function, the line of its statement, its words, and the state after it."""
+def without_comments(text):
+    """The text with a blank in the place of each comment; a comment's line feeds stay."""
+    blank = lambda it: " " + "\n" * it[0].count("\n") if it[0].startswith("/*") else ""
+    return re.sub(r"//[^\n]*|/\*.*?\*/", blank, text, flags=re.S)
 
-    def __init__(self, thread, line, words, state, took):
-        self.thread, self.line, self.words, self.state, self.took = thread, line, words, state, took
+
+def shown_line(line):
+    line = line.strip(" \t\r")
+    return line if len(line) <= 60 else line[:57] + "..."
+
+
+class Row:
+    """A move that was made: its thread with its function, the line of its statement, its words, and the state after it. Brief are
+    the words that stand where a row is a statement, or None; the step is its function's number and its place there, or None of a
+    drain; saw are the names with the values that it looked at."""
+
+    def __init__(self, thread, line, words, state, saw=(), step=None, brief=None, is_event=True):
+        self.thread, self.line, self.words, self.state, self.saw, self.step, self.brief = thread, line, words, state, saw, step, brief
+        self.is_event = is_event
 
 
 def thread_of(code, state, name):
     return f"{machine.spelled(name)} {code.functions[state.threads[name].function].name}"
 
 
-def words_of(code, before, after, move):
-    """What a move did, and the cell with the value that it took, if it loads."""
+# How tightly a sign binds, that of || least.
+BINDS = {sign: level for level, signs in enumerate(machine.LEVELS) for sign in signs}
+
+
+def written(function, e, slots=None, level=0):
+    """An expression by its names or, with slots, by the values of these, in as few parentheses as it needs. Of a side of && or ||
+    that isn't looked at there stands `..`."""
+    if isinstance(e, int):
+        return str(e)
+    if e[0] == "slot":
+        origin = function.origins.get(e[1])
+        if isinstance(origin, tuple) and origin[0] in ("&&", "||"):
+            sign, left, right = origin
+            decides = slots is not None and (machine.value(left, slots) != 0) == (sign == "||")
+            own = BINDS[sign]
+            sides = f"{written(function, left, slots, own)} {sign} " + (".." if decides else written(function, right, slots, own + 1))
+            return f"({sides})" if own < level else sides
+        if slots is not None:
+            value = slots[e[1]]
+            return f"({value})" if value < 0 and level >= len(machine.LEVELS) else str(value)
+        if origin is None:
+            return function.names["slot"][e[1]]
+        return origin if isinstance(origin, str) else f"{origin[0]}[{written(function, origin[1])}]"
+    if len(e) == 2:
+        return e[0] + written(function, e[1], slots, len(machine.LEVELS))
+    own = BINDS[e[0]]
+    both = f"{written(function, e[1], slots, own)} {e[0]} {written(function, e[2], slots, own + 1)}"
+    return f"({both})" if own < level else both
+
+
+def condition(function, e, slots):
+    return f"{written(function, e)}: {written(function, e, slots)}, {'true' if machine.value(e, slots) else 'false'}"
+
+
+def choice_at(function, at):
+    """The sign and the sides of the && or || for whose left side the instruction at that place, or the branch behind it, stands."""
+    for place in (at, at - 1):
+        word, *args = function.instrs[place] if place >= 0 else ("",)
+        after = function.instrs[place + 1][0] if place + 1 < len(function.instrs) else ""
+        origin = function.origins.get(args[0]) if word == "set" else None
+        if isinstance(origin, tuple) and origin[0] in ("&&", "||") and isinstance(args[1], int) and after == "branch":
+            return origin
+    return None
+
+
+def ints_in(function, e):
+    """The ints of the body that an expression names, in order."""
+    if isinstance(e, int):
+        return []
+    if e[0] == "slot":
+        return [e[1]] if e[1] in function.names["slot"] else []
+    return [it for part in e[1:] for it in ints_in(function, part)]
+
+
+LOOKS = {"set": [1], "branch": [0], "inside": [1], "loadat": [3], "assert": [0], "nonzero": [0], "inrange": [0]}
+
+
+def looked_at(function, word, args, slots):
+    """The ints of the body at which an instruction looks to find a value, with what they have."""
+    return [(function.names["slot"][k], slots[k], True) for place in LOOKS.get(word, []) for k in ints_in(function, args[place])]
+
+
+def listed(names):
+    return "wakes " + ", ".join(map(machine.spelled, sorted(names))) if names else "nobody waits"
+
+
+def words_of(code, before, after, move, wakers):
+    """What a move did, what of that stands where a row is a statement, and the cell with the value that it took, if it loads."""
     name, thread = move[1], before.threads[move[1]]
     function = code.functions[thread.function]
     word, *args = function.instrs[thread.at]
@@ -63,38 +145,64 @@ def words_of(code, before, after, move):
         cell = args[1] + (of(args[3]) if word == "loadat" else 0)
         took = before.load(thread, cell)
         own = ", from its own buffer" if any(it and it[0] == cell for it in thread.buffer) else ""
-        return f"{code.cells[cell]}: took {took}{own}", (code.cells[cell], took)
+        return f"{code.cells[cell]}: took {took}{own}", None, (code.cells[cell], took, False)
     if word in ("store", "storeat"):
         cell = args[0] + (of(args[2]) if word == "storeat" else 0)
         put = f"{code.cells[cell]} = {of(args[-1])}"
-        return (put if before.model == "sc" else f"store {put}, waits in its buffer"), None
+        return (put if before.model == "sc" else f"store {put}, waits in its buffer"), None, None
     if word in ("swap", "cas"):
         took = before.memory[args[1]]
         does = f"put {of(args[-1])}" if word == "swap" or took == of(args[2]) else "put nothing"
-        return f"{word} {code.cells[args[1]]}: took {took}, {does}", None
+        return f"{word} {code.cells[args[1]]}: took {took}, {does}", None, None
+    choice = choice_at(function, thread.at)
+    values = lambda: written(function, args[0], thread.slots)
+
+    def set_words():
+        if args[0] in function.names["slot"]:
+            return f"{function.names['slot'][args[0]]} = {of(args[1])}"
+        sign, left, right = function.origins[args[0]]
+        side = "left" if choice else "right"
+        return f"{side} of {sign}: {condition(function, left if choice else right, thread.slots)}"
+
+    def branch_words():
+        if choice:
+            return f"left of {choice[0]} is {'true' if of(choice[1]) else 'false'}"
+        return condition(function, args[0], thread.slots)
+
+    def wake_words():
+        waker = f" by {machine.spelled(wakers[name])}" if name in wakers else ""
+        return f"is awake from {cond(args[0])}{waker}, lock {mutex(args[1])}"
+
+    def create_words():
+        child = code.functions[args[1]]
+        given = ", ".join(f"{child.names['slot'][k]} = {of(e)}" for k, e in enumerate(args[2:]))
+        return f"creates {machine.spelled(name + (thread.children + 1,))} {child.name}({given})"
+
     said = {
-        "set": lambda: f"sets {function.names['slot'][args[0]]}" if args[0] in function.names["slot"] else "weighs && or ||",
-        "branch": lambda: f"condition is {'true' if of(args[0]) else 'false'}",
+        "set": set_words,
+        "branch": branch_words,
         "goto": lambda: f"goes on at line {function.lines[args[0]]}",
-        "inside": lambda: "fails: index is outside" if fails else "index is inside",
+        "inside": lambda: f"fails: index {of(args[1])} is outside, length {args[0]}" if fails else f"index {of(args[1])} is inside, length {args[0]}",
         "holds": lambda: f"fails: doesn't hold {mutex(args[0])}" if fails else f"holds {mutex(args[0])}",
         "ready": lambda: f"fails: {function.names['tid'][args[0]]} can't be joined" if fails else f"{function.names['tid'][args[0]]} can be joined",
-        "assert": lambda: "assertion fails" if fails else "assertion holds",
-        "nonzero": lambda: "fails: divisor is 0" if fails else "divisor isn't 0",
-        "inrange": lambda: "fails: distance isn't 0 to 31" if fails else "distance is 0 to 31",
+        "assert": lambda: f"assertion {'fails' if fails else 'holds'}: {values()}",
+        "nonzero": lambda: "fails: divisor is 0" if fails else f"divisor is {of(args[0])}",
+        "inrange": lambda: f"fails: distance {of(args[0])} isn't 0 to 31" if fails else f"distance is {of(args[0])}",
         "stbar": lambda: "stbar",
         "fence": lambda: "fence",
         "exit": lambda: "exits",
         "lock": lambda: f"lock {mutex(args[0])}",
         "unlock": lambda: f"unlock {mutex(args[0])}",
         "sleep": lambda: f"sleeps on {cond(args[0])}, unlock {mutex(args[1])}",
-        "wake": lambda: f"is awake from {cond(args[0])}, lock {mutex(args[1])}",
-        "broadcast": lambda: f"broadcast {cond(args[0])}",
-        "signal": lambda: f"signal {cond(args[0])}: " + (f"wakes {machine.spelled(move[2])}" if move[0] == "w" else "nobody waits"),
-        "create": lambda: f"creates {machine.spelled(name + (thread.children + 1,))} {code.functions[args[1]].name}",
+        "wake": wake_words,
+        "broadcast": lambda: f"broadcast {cond(args[0])}: {listed(before.waiting[args[0]])}",
+        "signal": lambda: f"signal {cond(args[0])}: {listed([move[2]] if move[0] == 'w' else [])}",
+        "create": create_words,
         "join": lambda: f"joins {machine.spelled(thread.tids[args[0]])}",
     }
-    return said[word](), None
+    words = said[word]()
+    is_read = word == "assert" or (word == "set" and args[0] in function.names["slot"]) or (word == "branch" and not choice)
+    return words, words if is_read else None, None
 
 
 def moves_of(text):
@@ -131,7 +239,7 @@ def why_not(state, move):
 
 def told(code, model, moves):
     """The rows of the moves that can be made, the state after them, and why the next one can't."""
-    state, rows, issued = machine.State(code, model), [], {}
+    state, rows, issued, wakers = machine.State(code, model), [], {}, {}
     for move in moves:
         if model == "tso" and move[0] == "d" and move[1] in state.threads and state.threads[move[1]].buffer:
             move = (*move, state.threads[move[1]].buffer[0][0])
@@ -147,34 +255,87 @@ def told(code, model, moves):
             cell = move[2]
             line = issued[name].pop(next(k for k, it in enumerate(issued[name]) if it[0] == cell))[1]
             value = next(it[1] for it in thread.buffer if it and it[0] == cell)
-            words, took = f"{code.cells[cell]} = {value} reaches memory", None
-        else:
-            words, took = words_of(code, before, state, move)
-            new = state.threads[name].buffer[len(thread.buffer):]
-            issued.setdefault(name, []).extend((it[0], line) for it in new if it)
-        rows.append(Row(thread_of(code, before, name), line, words, state, took))
+            rows.append(Row(thread_of(code, before, name), line, f"{code.cells[cell]} = {value} reaches memory", state))
+            continue
+        word, *args = function.instrs[thread.at]
+        words, brief, took = words_of(code, before, state, move, wakers)
+        woken = before.waiting[args[0]] if word == "broadcast" else [move[2]] if move[0] == "w" else []
+        wakers.update({it: name for it in woken})
+        new = state.threads[name].buffer[len(thread.buffer):]
+        issued.setdefault(name, []).extend((it[0], line) for it in new if it)
+        is_silent = word in ("set", "branch", "goto") or (word in machine.SITES and state.failed is None)
+        saw = looked_at(function, word, args, thread.slots) + ([took] if took else [])
+        rows.append(Row(thread_of(code, before, name), line, words, state, saw, (function, thread.at), brief, not is_silent))
     return rows, state, None
+
+
+def continues(row, before):
+    """Whether a row is a step of the same statement as the row before it, and directly behind that."""
+    if before is None or not row.step or not before.step or row.thread != before.thread:
+        return False
+    (function, at), (other, last) = row.step, before.step
+    return function is other and function.statements[at] == function.statements[last] and last < at
+
+
+def folded(rows):
+    """The rows of which each is a statement or an event: its number and its words."""
+    groups, before = [], None
+    for number, row in enumerate(rows, 1):
+        if not continues(row, before) or (row.is_event and any(it.is_event for _, it in groups[-1])):
+            groups.append([])
+        groups[-1].append((number, row))
+        before = row
+    for group in groups:
+        said = [(number, row.words if row.is_event else row.brief) for number, row in group]
+        said = [it for it in said if it[1] is not None]
+        if said:
+            number = next((number for number, row in group if row.is_event), said[0][0])
+            yield number, "; ".join(words for _, words in said)
+
+
+def is_step_of(row, last):
+    return row.step and row.thread == last.thread
+
+
+def seen_at_end(rows):
+    """What the failing statement looked at: each load, and each int of the body once."""
+    steps = [row for row in rows if is_step_of(row, rows[-1])]
+    first = len(steps) - 1
+    while first and continues(steps[first], steps[first - 1]):
+        first -= 1
+    found = []
+    for row in steps[first:]:
+        for it in row.saw:
+            if not it[2] or it not in found:
+                found.append(it)
+    return [f"  {name} = {value}" for name, value, _ in found]
+
+
+def waits_for(code, state, name):
+    """What a thread waits for, and who has it, behind two blanks; nothing where it can go on."""
+    thread, (word, *args) = state.threads[name], state.instr(name)
+    if word == "join" and not state.threads[thread.tids[args[0]]].exited:
+        return f"  waits for the end of {machine.spelled(thread.tids[args[0]])}"
+    if word == "wake" and name in state.waiting[args[0]]:
+        return f"  waits for a signal on {code.by_kind['cond', args[0]]}"
+    owner = state.owners[args[-1]] if word in ("lock", "wake") else None
+    if owner is None:
+        return ""
+    has = "it has itself" if owner == name else f"{machine.spelled(owner)} has" + (", though it has exited" if state.threads[owner].exited else "")
+    return f"  waits for {code.by_kind['mutex', args[-1]]}, which {has}"
 
 
 def end_of(code, rows, state, why):
     """How it ended, in lines."""
     if state.failed is not None and not why:
-        last, values = rows[-1], []
-        for row in reversed(rows):
-            if row.thread != last.thread or row.words.endswith(" reaches memory"):
-                continue
-            if row.line != last.line:
-                break
-            if row.took:
-                values.append(row.took)
-        name = machine.spelled(state.failed)
-        return [f"{name} fails at line {last.line}: {code.source[last.line - 1]}"] + [f"  {c} = {v}" for c, v in reversed(values)]
+        last = rows[-1]
+        return [f"{machine.spelled(state.failed)} fails at line {last.line}: {code.source[last.line - 1]}"] + seen_at_end(rows)
     standing = []
     for name, thread in sorted(state.threads.items()):
         if not thread.exited:
             function = code.functions[thread.function]
             line = function.lines[thread.at]
-            standing.append(f"  {thread_of(code, state, name)} is at line {line}: {code.source[line - 1]}")
+            standing.append(f"  {thread_of(code, state, name)} is at line {line}: {code.source[line - 1]}{waits_for(code, state, name)}")
     if why:
         return [f"stops at move {len(rows) + 1}: {why}"] + standing
     if not standing:
@@ -184,15 +345,29 @@ def end_of(code, rows, state, why):
     return ["the schedule ends here, other moves are enabled"] + standing
 
 
-def schedule_text(code, text):
-    rows, state, why = told(code, *moves_of(text))
-    thread = max([6] + [len(it.thread) for it in rows])
-    source = max([4] + [len(code.source[it.line - 1]) for it in rows])
-    lines = []
-    for k, row in enumerate(rows):
-        if k and rows[k - 1].thread != row.thread:
+def head(code, name, model, rows):
+    """The lines above the table."""
+    events = [row for row in rows if row.step and row.is_event and row.words != "stbar"]
+    in_order = [row for row in rows if row.is_event and row.words != "stbar" and not row.words.endswith(", waits in its buffer")]
+    switches = sum(row.thread != before.thread for before, row in zip(in_order, in_order[1:]))
+    digest = hashlib.sha256(code.text.encode()).hexdigest()
+    return [f"{name} under {model}: moves {len(rows)}, switches {switches}, events {len(events)} of 256", f"sha256 {digest}", ""]
+
+
+def schedule_text(code, name, text, by_moves):
+    model, moves = moves_of(text)
+    rows, state, why = told(code, model, moves)
+    lines = head(code, name, model, rows)
+    said = [(k, row.words) for k, row in enumerate(rows, 1)] if by_moves else list(folded(rows))
+    shown = [(number, rows[number - 1], words) for number, words in said]
+    thread = max([6] + [len(row.thread) for _, row, _ in shown])
+    source = max([4] + [len(code.source[row.line - 1]) for _, row, _ in shown])
+    before = None
+    for number, row, words in shown:
+        if before and before.thread != row.thread:
             lines.append("-" * (thread + source + 40))
-        lines.append(f"{k + 1:4}  {row.thread:{thread}}  {row.line:4}  {code.source[row.line - 1]:{source}}  {row.words}")
+        lines.append(f"{number:4}  {row.thread:{thread}}  {row.line:4}  {code.source[row.line - 1]:{source}}  {words}")
+        before = row
     return "\n".join([*lines, "", *end_of(code, rows, state, why)]) + "\n"
 
 
@@ -213,7 +388,8 @@ def ways(code, log):
                 at = args[0]
             elif word == "branch":
                 taken = left.pop(0)
-                places[-1] = (at - 1, taken)
+                choice = choice_at(function, at - 1)
+                places[-1] = (at - 1, 1 - taken if choice and choice[0] == "||" else taken)
                 at = at if taken else args[1]
         yield name, function, places, at
 
@@ -249,21 +425,25 @@ def child_of(function, places, tid):
     return max(k + 1 for k, it in enumerate(made) if it[1] == tid)
 
 
-def text_of(program, file):
+def text_of(program, file, by_moves):
     with open(program, newline="") as source, open(file, "rb") as given:
         code, given = Code(source.read()), given.read()
     if given.startswith(b"CLPL"):
         return log_text(code, machine.Log.read(given))
-    return schedule_text(code, given.decode())
+    return schedule_text(code, program, given.decode(), by_moves)
 
 
 def agrees(show, program, file):
-    """Whether the program puts the same, with status 0."""
-    came = subprocess.run([show, program, file], capture_output=True, text=True)
-    wanted = text_of(program, file)
+    """Whether the program puts the same, with status 0, by statements and by moves."""
+    return all([agree_on(show, program, file, words) for words in ([], ["--moves"])])
+
+
+def agree_on(show, program, file, words):
+    came = subprocess.run([show, program, file, *words], capture_output=True, text=True)
+    wanted = text_of(program, file, bool(words))
     if came.returncode == 0 and came.stdout == wanted:
         return True
-    print(f"{program} {file}\nput, with status {came.returncode}\n{came.stdout}\nand is to put\n{wanted}")
+    print(f"{program} {file} {' '.join(words)}\nput, with status {came.returncode}\n{came.stdout}\nand is to put\n{wanted}")
     return False
 
 
@@ -299,8 +479,8 @@ def tries(count, folder):
 
 def main():
     match sys.argv[1:]:
-        case ["text", program, file]:
-            print(text_of(program, file), end="")
+        case ["text", program, file, *words] if words in ([], ["--moves"]):
+            print(text_of(program, file, bool(words)), end="")
             return 0
         case ["examples", *show]:
             pairs = list(examples())

@@ -1,8 +1,8 @@
 #!/usr/bin/env python3
 """What clap_debug says of the C programs in examples/c: records each by a seed with which it fails, and solves its log under each
-memory model.
+memory model. Of each mended program it tries all runs under PSO, by bench/machine.py.
 
-    c_examples.py [--check | --rewrite] [--search] [--mended N] [NAME..]
+    c_examples.py [--check | --rewrite] [--search] [NAME..]
 
 Prints the table of examples/c/README.md; --rewrite puts it there, --check compares it with what is there. NOT PROVED; it wants what
 tools/fromc wants, and a clap_debug, which CLAP_DEBUG may name."""
@@ -15,18 +15,22 @@ import tempfile
 from typing import Iterable, List, NamedTuple, Optional, Tuple
 
 TOP = os.path.dirname(os.path.dirname(os.path.realpath(__file__)))
+sys.path.insert(0, f"{TOP}/bench")
+import machine  # noqa: E402
+from built import build  # noqa: E402
+
 PAGE = f"{TOP}/examples/c/README.md"
 MODELS = ("sc", "tso", "pso")
-# The memory model under which each is recorded, and a seed that fails, found by --search, where one is known.
+# The memory model under which each is recorded, and the first seed that fails, found by --search.
 RECORDED = {
-    "barrier": ("sc", 0), "bounded": ("sc", 0), "chase_lev": ("tso", 295), "dekker": ("tso", 170), "hazard": ("tso", 69), "mcs": ("pso", None),
-    "message": ("pso", 47), "ms_queue": ("pso", None), "once": ("pso", None), "peterson": ("tso", 290), "philosophers": ("sc", 1),
+    "barrier": ("sc", 0), "bounded": ("sc", 0), "chase_lev": ("tso", 295), "dekker": ("tso", 170), "hazard": ("tso", 69), "mcs": ("pso", 83563),
+    "message": ("pso", 47), "ms_queue": ("pso", 6284), "once": ("pso", 11193), "peterson": ("tso", 290), "philosophers": ("sc", 1),
     "refcount": ("sc", 0), "ring": ("pso", 1500), "rwlock": ("sc", 10), "seqlock": ("pso", 642), "sleeper": ("tso", 5),
     "spinlock": ("pso", 510), "store_buffer": ("tso", 24), "ticket": ("pso", 398), "treiber": ("sc", 1), "wakeup": ("sc", 0),
 }
-SEARCHED = 20000
+SEARCHED = 100000
 STEPS = "20000"
-HEAD = ["| program | recorded | ends | `sc` | `tso` | `pso` |", "|---|---|---|---|---|---|"]
+HEAD = ["| program | recorded | ends | `sc` | `tso` | `pso` | mended |", "|---|---|---|---|---|---|---|"]
 
 
 class Found(NamedTuple):
@@ -38,8 +42,7 @@ class Found(NamedTuple):
 
 
 def clap_debug(*words: str) -> Tuple[int, str]:
-    program = os.environ.get("CLAP_DEBUG", f"{TOP}/clap_debug")
-    done = subprocess.run([program, *words], stdout=subprocess.PIPE, stderr=subprocess.DEVNULL, text=True, check=False)
+    done = subprocess.run([build("clap_debug"), *words], stdout=subprocess.PIPE, stderr=subprocess.DEVNULL, text=True, check=False)
     return done.returncode, done.stdout.strip()
 
 
@@ -74,18 +77,21 @@ def row(name: str, folder: str, is_search: bool) -> str:
     """The row of the table of an example."""
     program, log = translate(name, folder), f"{folder}/log"
     model, known = RECORDED[name]
-    found = recorded(program, log, model, range(SEARCHED) if is_search else [] if known is None else [known])
+    found = recorded(program, log, model, range(SEARCHED) if is_search else [known])
     if found is None:
-        return f"| [{name}]({name}.c) | `{model}`, no seed known | | | | |"
+        return f"| [{name}]({name}.c) | `{model}`, no seed | | | | | {mended(name, folder)} |"
     says = [clap_debug("solve", program, log, f"{folder}/answer", "--model", it)[1] for it in MODELS]
     ends = line_in_c(found.line, f"{folder}/{name}.map")
-    return f"| [{name}]({name}.c) | `{found.model}`, seed {found.seed} | {ends} | {' | '.join(says)} |"
+    return f"| [{name}]({name}.c) | `{found.model}`, seed {found.seed} | {ends} | {' | '.join(says)} | {mended(name, folder)} |"
 
 
-def mended(name: str, folder: str, seeds: int) -> str:
-    """Whether the mended program fails by one of so many seeds, under PSO."""
-    found = recorded(translate(name, folder, "-DMENDED"), f"{folder}/log", "pso", range(seeds))
-    return f"{name}, mended: {found.line} with seed {found.seed}" if found else f"{name}, mended: no failure with {seeds} seeds"
+def mended(name: str, folder: str) -> str:
+    """How some run of the mended program fails under PSO, by a search over all its states."""
+    program = translate(name, folder, "-DMENDED")
+    with open(program, encoding="utf-8") as file:
+        code = machine.Code(file.read())
+    end, state, made, _ = machine.explore(code, "pso")
+    return line_in_c(machine.end_of(code, end, state, made), f"{folder}/{name}.map") if end else "no run fails"
 
 
 def main(arguments: List[str]) -> int:
@@ -94,7 +100,6 @@ def main(arguments: List[str]) -> int:
     parser.add_argument("--check", action="store_true", help="compare with the table of examples/c/README.md")
     parser.add_argument("--rewrite", action="store_true", help="put the table into examples/c/README.md")
     parser.add_argument("--search", action="store_true", help="record by one seed after another, and not by the one that is known")
-    parser.add_argument("--mended", type=int, default=0, metavar="N", help="record the mended programs by N seeds, too")
     given = parser.parse_args(arguments)
     names = given.names or sorted(RECORDED)
     with tempfile.TemporaryDirectory() as folder:
@@ -102,8 +107,6 @@ def main(arguments: List[str]) -> int:
         for name in names:
             rows.append(row(name, folder, given.search))
             print(rows[-1], flush=True)
-            if given.mended:
-                print(mended(name, folder, given.mended), flush=True)
     if not given.check and not given.rewrite:
         return 0
     with open(PAGE, encoding="utf-8") as file:

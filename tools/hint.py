@@ -5,7 +5,7 @@ answer rests on it.
   hint.py help PROGRAM               the commands and options of a program
   hint.py clash PROGRAM WORD..       ends with 1, and says which, where an output is one of the inputs
   hint.py refusal PROGRAM STATUS WORD..      a line on what was wrong, where it can be told"""
-import dataclasses, difflib, os, signal, sys
+import dataclasses, difflib, os, shlex, signal, sys
 
 MODELS = ("sc", "tso", "pso")
 LAST = 2**64 - 1
@@ -13,15 +13,19 @@ LAST = 2**64 - 1
 
 @dataclasses.dataclass
 class Option:
-    """An option takes one of some names, a number of a range, or the name of a file."""
+    """An option takes one of some names, a number of a range, or the name of a file; a flag takes nothing."""
 
     what: str
     names: tuple = ()
     range: tuple = ()
     default: str = ""
+    is_flag: bool = False
 
     def value(self):
         return "|".join(self.names) if self.names else "N" if self.range else "FILE"
+
+    def usage(self, name):
+        return f"--{name}" if self.is_flag else f"--{name} {self.value()}"
 
     def refuses(self, word):
         """What it takes, where it doesn't take this word."""
@@ -35,7 +39,8 @@ class Option:
 
 @dataclasses.dataclass
 class Command:
-    """The words that a command takes: inputs, then outputs; and options by name, of which those of `writes` name outputs."""
+    """The words that a command takes: inputs, then one that may be left out, then outputs; and options by name, of which those
+    of `writes` name outputs. Where the word is left out, no option goes with the others."""
 
     what: str
     inputs: tuple
@@ -43,12 +48,14 @@ class Command:
     options: dict = dataclasses.field(default_factory=dict)
     numbers: dict = dataclasses.field(default_factory=dict)
     writes: tuple = ()
+    optional: tuple = ()
 
     def words(self):
-        return (*self.inputs, *self.numbers, *self.outputs)
+        return (*self.inputs, *self.optional, *self.numbers, *self.outputs)
 
     def usage(self):
-        return " ".join([*self.words(), *(f"[--{name} {it.value()}]" for name, it in self.options.items())])
+        words = (f"[{word}]" if word in self.optional else word for word in self.words())
+        return " ".join([*words, *(f"[{it.usage(name)}]" for name, it in self.options.items())])
 
 
 def model(default):
@@ -80,12 +87,17 @@ PROGRAMS = {
     },
     # it has no command: its words come at once
     "clap_debug_show": {
-        "": Command("shows what a schedule or a log did, as text or as a page", ("PROGRAM", "SCHEDULE or LOG"), (),
-                    {"html": Option("writes a page into FILE")}, writes=("html",)),
+        "": Command("shows what a schedule or a log did, as text or as a page; of a program alone it says what is wrong with it, "
+                    "or what it has", ("PROGRAM",), (),
+                    {"moves": Option("gives each move of a schedule a row", is_flag=True), "html": Option("writes a page into FILE"),
+                     "source": Option("shows the lines of this C file, as text; with --map"),
+                     "map": Option("the map that tools/fromc --map kept with the program; with --source")},
+                    writes=("html",), optional=("SCHEDULE or LOG",)),
     },
 }
 KINDS = {b"CLPL": "a log", b"clap-schedule ": "a schedule", b"clap-refutation ": "a refutation", b"p cnf ": "a list of clauses"}
-WANTED = {"PROGRAM": "a program", "LOG": "a log", "SCHEDULE": "a schedule", "REFUTATION": "a refutation", "ANSWER": "a solver's answer"}
+WANTED = {"PROGRAM": "a program", "LOG": "a log", "SCHEDULE": "a schedule", "REFUTATION": "a refutation", "ANSWER": "a solver's answer",
+          "SCHEDULE or LOG": "a schedule or a log"}
 
 
 def split(program, words):
@@ -104,7 +116,8 @@ def split(program, words):
             return command, plain + rest, options
         if word.startswith("--"):
             name, found, value = word[2:].partition("=")
-            options.append((name, value if found else rest.pop(0) if rest else None))
+            is_flag = name in command.options and command.options[name].is_flag
+            options.append((name, value if found else rest.pop(0) if rest and not is_flag else None))
         elif word.startswith("-") and word != "-":
             options.append((word[1:], None))
         else:
@@ -149,6 +162,10 @@ def wrong_words(program, words):
     for option, value in options:
         if option not in command.options:
             return f"{name} has no option --{option}{nearest(option, command.options, '--')}"
+        if command.options[option].is_flag:
+            if value is not None:
+                return f"--{option} takes no value"
+            continue
         if value is None:
             return f"--{option} takes a value: {command.options[option].value()}"
         wanted = command.options[option].refuses(value)
@@ -157,8 +174,13 @@ def wrong_words(program, words):
     twice = [it for it, _ in options if [one for one, _ in options].count(it) > 1]
     if twice:
         return f"--{twice[0]} was given twice"
-    if len(plain) != len(command.words()):
-        return f"{name} takes {' '.join(command.words())}, and {len(plain)} of these {len(command.words())} were given"
+    most = len(command.words())
+    if not most - len(command.optional) <= len(plain) <= most:
+        words = " ".join(f"[{word}]" if word in command.optional else word for word in command.words())
+        given = f"{len(plain)} of these {most}" if len(plain) < most else str(len(plain))
+        return f"{name} takes {words}, and {given} were given"
+    if len(plain) < most and options:
+        return f"--{options[0][0]} goes with a {command.optional[0]}, and none was given"
     for (word, number), given in zip(command.numbers.items(), plain):
         if number.refuses(given):
             return f"{word} is {number.refuses(given)}, and not {given}"
@@ -181,7 +203,7 @@ def wrong_file(program, words):
     for kind, name, is_output in files(command, plain, options) if command else ():
         wanted = WANTED.get(kind)
         found = kind_of(name)
-        if wanted and not is_output and found and found != wanted:
+        if wanted and not is_output and found and found not in wanted.split(" or "):
             return f"{name} is {found}, and {kind} is to be {wanted}"
     return None
 
@@ -195,9 +217,33 @@ def missing(program, words):
     return None
 
 
+def script(name):
+    """A file of the checkout, as it is named from the caller's folder."""
+    file = os.path.relpath(os.path.join(os.path.dirname(os.path.dirname(os.path.realpath(__file__))), name))
+    return shlex.quote(file if os.sep in file else os.path.join(".", file))
+
+
+def explains(program, words):
+    """The command that says why the file is no program, unless it was this one."""
+    command, plain, options = split(program, words)
+    for kind, name, _ in files(command, plain, options) if command else ():
+        if kind == "PROGRAM" and (program != "clap_debug_show" or len(plain) > 1):
+            return f"{script('clap_debug_show')} {shlex.quote(name)} explains it"
+    return None
+
+
+def meaning(program, words):
+    """The page that says what a refusal means."""
+    return f"{script('docs/MESSAGES.md')} says what this means, and what to do"
+
+
+# What is tried for a status, in this order.
+BY_STATUS = {2: [wrong_words], 3: [wrong_file, explains], 4: [wrong_file, meaning], 5: [wrong_file, meaning], 6: [meaning], 7: [missing]}
+
+
 def refusal(program, status, words):
-    by_status = {2: wrong_words, 3: wrong_file, 4: wrong_file, 5: wrong_file, 7: missing}
-    return by_status[status](program, words) if status in by_status else None
+    found = (tried(program, words) for tried in BY_STATUS.get(status, ()))
+    return next(filter(None, found), None)
 
 
 def show_help(program):

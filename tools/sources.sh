@@ -46,3 +46,8 @@ proved() {
         return 1
     fi
 }
+
+# The program of this name that is built from the sources as they are, proved if it can be.
+built() {
+    proved "$1" || { is_current "$top/out/$1.unproved" "$1" && echo "$top/out/$1.unproved"; }
+}

@@ -4,7 +4,8 @@
     test_fromc.py [NAME..]      all tests, or those of these names, as unittest has them
 
 Translated programs are run by the clap_debug that CLAP_DEBUG names, or by the one that this checkout has built, or else by
-bench/machine.py. It wants gcc, and pycparser for some Python here; without these it says so, and ends with 0."""
+bench/machine.py. FROMC_PROGRAMS and FROMC_MUTEXES say how many programs are generated. The tests want gcc, and pycparser for some
+Python here; without these each is skipped by name."""
 import os
 import re
 import shutil
@@ -17,20 +18,18 @@ from typing import Dict, List, Optional, Tuple
 TOP = os.path.dirname(os.path.dirname(os.path.abspath(__file__)))
 sys.path.insert(0, f"{TOP}/tools")
 SYSTEM = "/usr/bin/python3"
+LACKS = None if shutil.which("gcc") else "there is no gcc"
 try:
     import pycparser  # noqa: F401
 except ImportError:
+    # Debian's package is for the system's own Python, which may not be the first one.
     if os.path.realpath(SYSTEM) != os.path.realpath(sys.executable) and not os.environ.get("FROMC_SECOND"):
         os.environ["FROMC_SECOND"] = "1"
         os.execv(SYSTEM, [SYSTEM, *sys.argv])
-    print("test_fromc.py: skipped, since no Python here has pycparser (apt-get install python3-pycparser)")
-    sys.exit(0)
-
-if not shutil.which("gcc"):
-    print("test_fromc.py: skipped, since there is no gcc")
-    sys.exit(0)
+    LACKS = "no Python here has pycparser (apt-get install python3-pycparser)"
 
 import c_programs  # noqa: E402
+from built import built  # noqa: E402
 from from_c.main import translation  # noqa: E402
 from from_c.refusal import Refusal  # noqa: E402
 from from_c.unit import Options  # noqa: E402
@@ -38,14 +37,9 @@ from from_c.unit import Options  # noqa: E402
 NATIVE = ["-std=gnu11", "-w", "-fwrapv", "-O0", "-pthread"]
 OBSERVE = re.compile(r"^(\s*)OBSERVE\((.*)\);$", re.M)
 MODELS = ("sc", "tso", "pso")
+PROGRAM = built("clap_debug")
 PROGRAMS = int(os.environ.get("FROMC_PROGRAMS", "200"))
 MUTEXES = int(os.environ.get("FROMC_MUTEXES", "50"))
-
-
-def program() -> Optional[List[str]]:
-    """What runs a translated program."""
-    named = [os.environ.get("CLAP_DEBUG", ""), f"{TOP}/crates/clap_debug/out/clap_debug", f"{TOP}/out/clap_debug", f"{TOP}/out/clap_debug.unproved"]
-    return next(([it] for it in named if it and os.access(it, os.X_OK)), None)
 
 
 def recorded(text: str, model: str = "sc", seed: int = 0) -> Tuple[str, int]:
@@ -54,8 +48,7 @@ def recorded(text: str, model: str = "sc", seed: int = 0) -> Tuple[str, int]:
         file = f"{folder}/p.tc"
         with open(file, "w", encoding="utf-8") as out:
             out.write(text)
-        known = program()
-        words = [*known, "record", file, f"{folder}/log"] if known else [sys.executable, f"{TOP}/bench/machine.py", "record", file]
+        words = [PROGRAM, "record", file, f"{folder}/log"] if PROGRAM else [sys.executable, f"{TOP}/bench/machine.py", "record", file]
         done = subprocess.run([*words, "--model", model, "--seed", str(seed)], capture_output=True, text=True, check=False)
     found = re.match(r"failed \S+ line (\d+) |(finished|deadlock)", done.stdout)
     if not found:
@@ -133,7 +126,15 @@ def asserting(source: str, observed: List[int], wrong: Optional[int] = None) -> 
     return made
 
 
-class Generated(unittest.TestCase):
+class Tests(unittest.TestCase):
+    """Tests that want gcc and pycparser. (A skipped class has run no test, which Python 3.12 takes for a fault.)"""
+
+    def setUp(self) -> None:
+        if LACKS:
+            self.skipTest(LACKS)
+
+
+class Generated(Tests):
     """Random programs: each assertion comes out natively as it does translated."""
 
     def compare(self, before: str, source: str, end: Tuple[str, int], models: Tuple[str, ...], seed: int) -> None:
@@ -200,7 +201,7 @@ def whole(globals_: str, *lines: str) -> str:
     return f"{c_programs.HEAD}#include <stdio.h>\n#include <stdlib.h>\n{globals_}\nint main(void)\n{{\n{body}    return 0;\n}}\n"
 
 
-class Constructs(unittest.TestCase):
+class Constructs(Tests):
     def test_each_construct(self) -> None:
         """What is observed is as it is natively; and where the last thing is to be another one, it fails there."""
         for name, globals_, body in sections("test_fromc_constructs.txt"):
@@ -239,7 +240,7 @@ class Constructs(unittest.TestCase):
                 self.assertTrue(line == 0 or access in source.splitlines()[lines[line] - 1], text)
 
 
-class Refused(unittest.TestCase):
+class Refused(Tests):
     def test_each_refusal(self) -> None:
         for found, globals_, body in sections("test_fromc_refusals.txt"):
             with self.subTest(globals_ + body):
@@ -271,7 +272,7 @@ class Refused(unittest.TestCase):
         self.assertIn("1025 cells, of 1024", str(caught.exception))
 
 
-class Accesses(unittest.TestCase):
+class Accesses(Tests):
     def test_what_each_access_becomes(self) -> None:
         """All accesses are lines of one program; what each has become is found by the map."""
         rows = [(access.format(order), wanted) for access, orders, wanted in ACCESSES for order in orders]
@@ -286,7 +287,7 @@ class Accesses(unittest.TestCase):
                 self.assertEqual(said, wanted[number].replace(" }", ""), f"{access} {model}")
 
 
-class Warned(unittest.TestCase):
+class Warned(Tests):
     THREADS = "pthread_t s; void *f(void *u) {{ {} return u; }} "
     BOTH = "pthread_create(&s, 0, f, 0); {} pthread_join(s, 0);"
 
@@ -323,8 +324,7 @@ class Warned(unittest.TestCase):
         self.assertEqual(recorded(text), ("finished", 0), text)
 
 
-
 if __name__ == "__main__":
-    known = program()
-    print(f"test_fromc.py: translated programs are run by {known[0] if known else 'bench/machine.py'}", file=sys.stderr)
-    unittest.main()
+    if not LACKS:
+        print(f"test_fromc.py: translated programs are run by {PROGRAM or 'bench/machine.py'}", file=sys.stderr)
+    unittest.main(verbosity=2 if LACKS else 1)

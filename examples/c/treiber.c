@@ -1,4 +1,5 @@
-/* Treiber's stack by indexes, 0 for none. Its pop was written for one consumer, by a load and a store; with two, both get one node. */
+/* Treiber's stack by indexes, 0 for none. Its pop was written for one consumer, by a load and a store; with two, both get one node.
+ * This isn't the ABA problem, which a pop by compare-exchange has: here no node is pushed again. */
 #include <assert.h>
 #include <pthread.h>
 #include <stdatomic.h>

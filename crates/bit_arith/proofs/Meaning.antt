@@ -7,7 +7,7 @@ use Rattle.std.proofs.Math.Nat.{mul-zero}
 use Rattle.std.proofs.lemmas.Int.{wrapping_add-bits, wrapping_sub-bits, wrapping_mul-bits}
 use Rattle.std.proofs.lemmas.List.{length-replicate, length-map, length-take, length-drop, length-append}
 use Rattle.std.proofs.lemmas.List.Elements.{All-replicate, All-append, All-take, All-drop, All-head, All-tail, All-map, All-weaker}
-use Rattle.tc_base.specs.Arith.{plus, minus, times}
+use Rattle.int_ops.specs.Arith.{plus, minus, times}
 use Rattle.cnf_core.specs.Clauses.{Formula, Valuation, literal_true}
 use Rattle.cnf_core.specs.declared.gates.Gate.TheVariants.{And}
 use Rattle.bit_gates.specs.Folded.{Made, constant}

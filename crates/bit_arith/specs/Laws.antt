@@ -1,8 +1,8 @@
--- What sums, differences and products of words mean: at any width a number, and at 32 bits that of `int`.
+-- What sums, differences and products of words mean: at any width, and at 32 bits as an `int`.
 use Rattle.std.specs.Prelude.{◌≡◌, ℕ, ◌<◌, ◌+◌, ◌-◌, ◌*◌, ◌^◌, ◌%◌, List, ℤ, length}
 use Rattle.std.specs.Int.{w32, cast_signed}
 use Rattle.std.specs.List.{All}
-use Rattle.tc_base.specs.Arith.{plus, minus, times}
+use Rattle.int_ops.specs.Arith.{plus, minus, times}
 use Rattle.cnf_core.specs.Clauses.{Formula, Valuation}
 use Rattle.bit_gates.specs.Laws.{IsModel, IsOf}
 use Rattle.bit_words.specs.Words.{Walked}
@@ -13,12 +13,12 @@ use Rattle.bit_arith.specs.Sums.{plus_word, minus_word, times_word}
 abbrev pub int_value : Valuation → List ℤ → ℤ
 int_value w ls = cast_signed w32 (value w ls)
 
--- a word that has this number
+-- a word whose number is `meaning`
 pub record IsNumber (f : Formula) (xs : List ℤ) (m : Walked Formula) (meaning : Valuation → ℕ) : Type 0 where
   pub word : IsWord f m.state xs m.word
   pub number : (w : Valuation) → IsModel w m.state → value w m.word ≡ meaning w
 
--- the numbers of two words, of one length, of a formula's literals
+-- two operands: words of equal length over a formula's literals
 pub record AreOperands (f : Formula) (xs ys : List ℤ) : Type 0 where
   pub one : 0 < f.vars
   pub first : All (IsOf f.vars) xs
@@ -32,7 +32,7 @@ pub record ArithMean : Type 0 where
       → IsNumber f xs (minus_word f xs ys) (λ w. (value w xs + (2 ^ length xs - value w ys)) % 2 ^ length xs)
   pub product : (f : Formula) (xs ys : List ℤ) → AreOperands f xs ys
       → IsNumber f xs (times_word f xs ys) (λ w. (value w xs * value w ys) % 2 ^ length xs)
-  -- 32 bits
+  -- at 32 bits
   pub plus : (f : Formula) (xs ys : List ℤ) → AreOperands f xs ys → length xs ≡ 32 → (w : Valuation) → IsModel w (plus_word f xs ys).state
       → int_value w (plus_word f xs ys).word ≡ plus (int_value w xs) (int_value w ys)
   pub minus : (f : Formula) (xs ys : List ℤ) → AreOperands f xs ys → length xs ≡ 32 → (w : Valuation) → IsModel w (minus_word f xs ys).state

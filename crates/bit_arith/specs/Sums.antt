@@ -5,7 +5,7 @@ use Rattle.cnf_core.specs.declared.gates.Gate.TheVariants.{And}
 use Rattle.bit_gates.specs.Folded.{Made, constant}
 use Rattle.bit_words.specs.Words.{Walked, gated_words, added, inverted}
 
--- without the carry
+-- a sum without its carry out
 abbrev pub without_carry : Walked Made → Walked Formula
 without_carry m = record { state = m.state.formula; word = m.word }
 
@@ -13,21 +13,21 @@ without_carry m = record { state = m.state.formula; word = m.word }
 abbrev pub plus_word : Formula → List ℤ → List ℤ → Walked Formula
 plus_word f xs ys = without_carry (added f xs ys (constant false))
 
--- the difference of two words: the sum of the first, the second's opposite and 1
+-- the difference of two words: the first plus the second's complement plus 1
 abbrev pub minus_word : Formula → List ℤ → List ℤ → Walked Formula
 minus_word f xs ys = without_carry (added f xs (inverted ys) (constant true))
 
--- the constant 0
+-- the word 0 of `n` bits
 abbrev pub zeros : ℕ → List ℤ
 zeros n = replicate n (constant false)
 
--- a word with one row of a product more: the factor, as far as the word goes, where a bit of the other factor is true
+-- a word plus one row of a product: the factor, cut to the word's length, if `bit` is true
 abbrev pub with_row : Formula → List ℤ → List ℤ → ℤ → Walked Formula
 with_row f word xs bit =
     let row : Walked Formula = gated_words And f (take (length word) xs) (replicate (length word) bit) in
     plus_word row.state word row.word
 
--- a word and a product: row after row, each one place above the one before it
+-- a word plus a product, row by row, each row one place above the one before it
 abbrev pub with_product : Formula → List ℤ → List ℤ → List ℤ → Walked Formula
 with_product f word xs [] = record { state = f; word = word }
 with_product f word xs (b ∷ bs) =

@@ -13,12 +13,12 @@ use bit_words::{add_words, gate_by, invert};
 use cnf_core::{Cnf, Gate, Lit};
 use std::alloc::AllocError;
 
-/// Sums, differences and products have their numbers, modulo the power of 2 that their width says, and at 32 bits those of `int`.
+/// Sums, differences and products are right modulo 2 to the width, and at 32 bits as for `int`.
 pub fn arith_means()
     ensures { ArithMean }
 {}
 
-/// The sum.
+/// The sum of two words.
 pub fn plus<const W: usize>(
     cnf: &mut Cnf,
     a: &[Lit; W],
@@ -38,7 +38,7 @@ pub fn plus<const W: usize>(
     Ok(sum)
 }
 
-/// The difference.
+/// The difference of two words.
 pub fn minus<const W: usize>(
     cnf: &mut Cnf,
     a: &[Lit; W],
@@ -60,7 +60,7 @@ pub fn minus<const W: usize>(
     Ok(difference)
 }
 
-/// One row of a product more.
+/// Adds one row of a product.
 fn add_row<const W: usize>(
     cnf: &mut Cnf,
     word: &mut [Lit],
@@ -86,7 +86,7 @@ fn add_row<const W: usize>(
     Ok(())
 }
 
-/// A product more: row after row, each one place above the one before it.
+/// Adds a product, row by row, each row one place above the one before it.
 fn add_product<const W: usize>(
     cnf: &mut Cnf,
     word: &mut [Lit],
@@ -112,7 +112,7 @@ fn add_product<const W: usize>(
     Ok(())
 }
 
-/// The product.
+/// The product of two words.
 pub fn times<const W: usize>(
     cnf: &mut Cnf,
     a: &[Lit; W],

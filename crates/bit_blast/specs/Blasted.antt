@@ -1,4 +1,4 @@
--- A formula as clauses: with the layout by which values are read as a world, and the number of each conjunct's clause.
+-- A formula as clauses, with the layout that reads models as worlds, and each conjunct's clause.
 use Rattle.std.specs.Prelude.{◌≡◌, ℕ, ◌+◌, ◌-◌, ◌==◌, ◌<◌, ◌≤◌, true, false, List, [], ◌∷◌, ℤ, Some, length, map, take, get_or, slice_get, IsTrue}
 use Rattle.std.specs.List.{All, Contains, IsDistinct}
 use Rattle.sym_terms.specs.declared.node.Node.{Node}
@@ -20,14 +20,14 @@ use Rattle.bit_blast.specs.Whole.{whole}
 pub record Blasted : Type 0 where
   pub layout : Layout
   pub clauses : Formula
-  -- how many conjuncts there are: the last clauses say that they are true, in order
+  -- the number of conjuncts; the last clauses assert them, in order
   pub conjuncts : ℕ
 
--- the number of the clause, from 0, by which a conjunct is true
+-- the index, from 0, of the clause that asserts a conjunct
 abbrev pub root_of : Blasted → ℕ → ℕ
 root_of b conjunct = length b.clauses.clauses - b.conjuncts + conjunct
 
--- the order, asked of every two contended events too, and so many loads
+-- the layout of an order with all pairs of contended events added, and of `loads` loads
 abbrev pub layout_of : Order → ℕ → List Conjunct → Layout
 layout_of order loads formula = record { order = completed order (contended formula); loads = loads }
 
@@ -35,11 +35,11 @@ layout_of order loads formula = record { order = completed order (contended form
 abbrev pub blast_over : List Node → List Conjunct → Layout → Blasted
 blast_over nodes formula y = record { layout = y; clauses = whole y nodes formula; conjuncts = length formula }
 
--- over an order and so many loads
+-- the clauses of a formula over an order, with `loads` loads
 abbrev pub blast : List Node → List Conjunct → Order → ℕ → Blasted
 blast nodes formula order loads = blast_over nodes formula (layout_of order loads formula)
 
--- of what is impossible: the empty clause alone, over no variables
+-- the clauses of an impossible formula: only the empty clause, over no variables
 abbrev pub impossible : Blasted
 impossible = record {
   layout = record { order = unasked 0 0; loads = 0 };
@@ -47,12 +47,12 @@ impossible = record {
   conjuncts = 0;
 }
 
--- no write that a load may take is the load, and no two are one
+-- the events of a read and of its candidates are all different
 abbrev pub IsApart : Body → Type 0
 IsApart (body.Any _) = Unit {0}
 IsApart (body.Read r) = IsDistinct (λ e d. e == d) (r.event ∷ map (λ c. c.event) r.candidates)
 
--- a formula over the events of an order that was asked all that it asks, and over terms whose numbers are ints
+-- a valid input: the order asks about all that the formula compares, and numbers in terms are ints
 pub record IsPosed (nodes : List Node) (formula : List Conjunct) (order : Order) : Type 0 where
   pub events : order.events ≤ 256
   pub ints : All IsIntNode nodes
@@ -60,7 +60,7 @@ pub record IsPosed (nodes : List Node) (formula : List Conjunct) (order : Order)
   pub within : All (ConjunctIsIn order) formula
   pub apart : All (λ c. IsApart c.body) formula
 
--- the values that satisfy the clauses say the worlds of the order and the loads in which the formula is true
+-- the models of the clauses correspond to the worlds in which the formula is true
 pub record BlastMeans (nodes : List Node) (formula : List Conjunct) (order : Order) (loads : ℕ) : Type 0 where
   pub to : (v : Valuation) → IsTrue (satisfies v (blast nodes formula order loads).clauses.clauses)
       → IsWorldFor (record { order = order; loads = loads }) (world_of (layout_of order loads formula) v)
@@ -69,26 +69,26 @@ pub record BlastMeans (nodes : List Node) (formula : List Conjunct) (order : Ord
       → (v : Valuation) × IsTrue (satisfies v (blast nodes formula order loads).clauses.clauses)
       × SaysSame (record { order = order; loads = loads }) w (world_of (layout_of order loads formula) v)
 
--- the clause of a number, from 0
+-- the clause at an index, from 0
 abbrev pub clause_at : Blasted → ℕ → List ℤ
 clause_at b number = get_or b.clauses.clauses number []
 
--- the clauses that are no roots: all before that of the first conjunct
+-- the clauses before the roots
 abbrev pub background : Blasted → List (List ℤ)
 background b = take (root_of b 0) b.clauses.clauses
 
--- the root of each conjunct of a formula tells whether it is true, in all worlds of an order and loads
+-- in all worlds of a layout, the root of each conjunct tells whether the conjunct is true
 pub record RootsTell (nodes : List Node) (formula : List Conjunct) (y : Layout) (b : Blasted) : Type 0 where
   -- a root is a clause of one literal
   pub unit : (k : ℕ) → k < length formula → (l : ℤ) × (slice_get b.clauses.clauses (root_of b k) ≡ Some (l ∷ []))
-  -- values that satisfy all clauses that are no roots say a world; a root that they satisfy has a conjunct that is true there
+  -- a model of the background has a world; each root it satisfies belongs to a conjunct true there
   pub to : (v : Valuation) → IsTrue (satisfies v (background b)) → IsWorldFor y (world_of b.layout v)
       × ((k : ℕ) (c : Conjunct) → slice_get formula k ≡ Some c → clause_true v (clause_at b (root_of b k)) ≡ true
       → body_at nodes (world_of b.layout v) c.body ≡ true)
-  -- each world is said by such values; they satisfy exactly the roots of the conjuncts that are true there
+  -- each world has such a model, which satisfies exactly the roots of the conjuncts true there
   pub back : (w : World) → IsWorldFor y w → (v : Valuation) × IsTrue (satisfies v (background b)) × SaysSame y w (world_of b.layout v)
       × ((k : ℕ) (c : Conjunct) → slice_get formula k ≡ Some c → clause_true v (clause_at b (root_of b k)) ≡ body_at nodes w c.body)
-  -- so where nothing satisfies the clauses of some numbers, in each world a conjunct is false whose root is among them
+  -- if some clauses are unsatisfiable, each world falsifies a conjunct whose root is among them
   pub core : (numbers : List ℕ) → All (λ n. n < length b.clauses.clauses) numbers → IsUnsatisfiable (map (clause_at b) numbers)
       → (w : World) → IsWorldFor y w
       → (k : ℕ) × (c : Conjunct) × Contains numbers (root_of b k) × (slice_get formula k ≡ Some c) × (body_at nodes w c.body ≡ false)

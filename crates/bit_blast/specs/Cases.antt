@@ -1,4 +1,4 @@
--- The literals of conjuncts that have cases: gates, from left to right.
+-- The circuits of conjuncts that have cases: gates, from left to right.
 use Rattle.std.specs.Prelude.{ℕ, true, false, if◌then◌else◌, List, ℤ, fold}
 use Rattle.order_formula.specs.declared.literal.Atom.{Atom}
 use Rattle.order_formula.specs.declared.literal.Atom.TheVariants.{Before, Ends, Test}
@@ -8,7 +8,7 @@ use Rattle.bit_gates.specs.Folded.{Made, constant, kept, opposite, both, either}
 use Rattle.bit_ops.specs.Ops.{some_of}
 use Rattle.bit_terms.specs.Terms.{word_at}
 
--- what the literals are made of: the literal that an event comes before another, the literal that a sleep is ended by an event, the word of each term
+-- the parts of literals: the literals of "before" and of "ends", and the word of each term
 pub record Parts : Type 0 where
   pub before : ℕ → ℕ → ℤ
   pub ends : ℕ → ℕ → ℤ
@@ -23,14 +23,14 @@ module _ (parts : Parts) where
   abbrev pub literal_made : Formula → Literal → Made
   literal_made f l = let m : Made = atom_made f l.atom in if l.wanted then m else opposite m
 
-  -- a case: all its literals are true
+  -- a case: the conjunction of its literals
   abbrev pub with_literal : Made → Literal → Made
   with_literal m l = let x : Made = literal_made m.formula l in both x.formula m.literal x.literal
 
   abbrev pub case_made : Formula → List Literal → Made
   case_made f literals = fold with_literal (kept f (constant true)) literals
 
-  -- a conjunct: some case is true
+  -- a conjunct: the disjunction of its cases
   abbrev pub with_case : Made → List Literal → Made
   with_case m literals = let x : Made = case_made m.formula literals in either x.formula m.literal x.literal
 

@@ -1,5 +1,5 @@
--- The events of which it is asked of each two which comes first: those of loads and of the writes that they may take, and those of
--- conjuncts that leave an order open.
+-- The contended events, whose pairs are all asked about: loads and the writes that they may take,
+-- and the events of conjuncts that leave an order open.
 use Rattle.std.specs.Prelude.{ℕ, ◌&&◌, ◌==◌, Bool, if◌then◌else◌, nat_eq, List, [], fold, length}
 use Rattle.std.specs.List.{list_all}
 use Rattle.indexmap.specs.IndexSet.{insert_key}
@@ -11,15 +11,15 @@ use Rattle.order_formula.specs.declared.literal.Atom.TheVariants.{Before, Ends, 
 use Rattle.order_formula.specs.declared.literal.Literal.{Literal}
 use Rattle.order_formula.specs.declared.read.Candidate.{Candidate}
 
--- a conjunct of one literal alone leaves no order open
+-- a conjunct of a single literal, which leaves no order open
 abbrev pub is_literal : List (List Literal) → Bool
 is_literal cases = length cases == 1 && list_all (λ literals. length literals == 1) cases
 
--- the events, each once, with one more
+-- adds an event, unless it is there already
 abbrev pub with_event : List ℕ → ℕ → List ℕ
 with_event events event = insert_key nat_eq events event
 
--- with those of an atom, of all literals of a case, and so on
+-- adds the events of an atom; further below, of a case, a candidate and a conjunct
 abbrev pub with_atom : List ℕ → Atom → List ℕ
 with_atom events (Before first second) = with_event (with_event events first) second
 with_atom events (Ends _ _) = events

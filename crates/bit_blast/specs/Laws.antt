@@ -23,7 +23,7 @@ use Rattle.bit_blast.specs.Cases.{Parts, cases_made}
 use Rattle.bit_blast.specs.Reads.{read_made}
 use Rattle.bit_blast.specs.Roots.{roots, blasted}
 
--- values that satisfy a formula tell a world, in which what the order was asked and the terms are as the literals say
+-- each valuation has a world, and in each model of `f` the parts say what is true in that world
 pub record Tells (o : Order) (nodes : List Node) (world : Valuation → World) (parts : Parts) (f : Formula) : Type 0 where
   pub one : 0 < f.vars
   pub worlds : (v : Valuation) → IsWorld (world v)
@@ -36,41 +36,41 @@ pub record Tells (o : Order) (nodes : List Node) (world : Valuation → World) (
   pub words : All (IsOperand f) parts.words
   pub value : (v : Valuation) → IsModel v f → (term : ℕ) → int_value v (word_at parts.words term) ≡ value_at nodes (world v) term
 
--- a formula has grown, and has a literal of a conjunct: of what the conjunct means
+-- a formula has grown and has the root of a conjunct whose truth is `meaning`
 pub record IsRoot (f : Formula) (m : Made) (meaning : Valuation → Bool) : Type 0 where
   pub more : f.vars ≤ m.formula.vars
   pub over : IsOver f → IsOver m.formula
   pub literal : IsOf m.formula.vars m.literal
   pub before : (w : Valuation) → IsModel w m.formula → IsModel w f
-  -- where it is true in values that satisfy the formula, the conjunct is true
+  -- if the root is true in a model, so is the conjunct
   pub holds : (w : Valuation) → IsModel w m.formula → literal_true w m.literal ≡ true → meaning w ≡ true
-  -- what satisfied the formula before satisfies it with some values of the new variables, where the literal is true if the conjunct is
+  -- each old model extends to a new one in which the root is true exactly if the conjunct is
   pub extends : (v : Valuation) → IsOver f → IsModel v f
       → (w : Valuation) × IsModel w m.formula × Agree f.vars v w × (literal_true w m.literal ≡ meaning v)
 
--- the events that a read names are different, and it was asked of each two which comes first
+-- the events of a read are different, and the order asks about every two of them
 pub record ReadIsAsked (o : Order) (r : Read) : Type 0 where
   pub distinct : IsDistinct (λ e d. e == d) (r.event ∷ map (λ c. c.event) r.candidates)
   pub within : All (λ e. e < o.events) (r.event ∷ map (λ c. c.event) r.candidates)
   pub asked : (first second : ℕ) → Contains (r.event ∷ map (λ c. c.event) r.candidates) first → Contains (r.event ∷ map (λ c. c.event) r.candidates) second
       → first ≢ second → IsTrue (list_any (same_pair (pair_of first second)) o.pairs)
 
--- each pair and choice of a conjunct was asked
+-- the order asks about each pair and choice of a conjunct
 abbrev pub BodyIsTold : Order → Body → Type 0
 BodyIsTold o (body.Any cases) = All (All (LiteralIsAsked o)) cases
 BodyIsTold o (body.Read r) = ReadIsAsked o r
 
--- a formula has grown, and has the roots of some conjuncts
+-- a formula has grown and has the roots of some conjuncts
 pub record AreRoots (nodes : List Node) (world : Valuation → World) (f : Formula) (m : Walked Formula) (formula : List Conjunct) : Type 0 where
   pub more : f.vars ≤ m.state.vars
   pub over : IsOver f → IsOver m.state
   pub count : length m.word ≡ length formula
   pub literals : All (IsOf m.state.vars) m.word
   pub before : (w : Valuation) → IsModel w m.state → IsModel w f
-  -- where a root is true in values that satisfy the formula, its conjunct is true
+  -- if a root is true in a model, so is its conjunct
   pub holds : (w : Valuation) → IsModel w m.state → (k : ℕ) → get_or (values w m.word) k false ≡ true
       → get_or (map (λ c. body_at nodes (world w) c.body) formula) k false ≡ true
-  -- what satisfied the formula before satisfies it with some values of the new variables, where the roots are true if their conjuncts are
+  -- each old model extends to a new one in which the roots are true exactly if their conjuncts are
   pub extends : (v : Valuation) → IsOver f → IsModel v f
       → (w : Valuation) × IsModel w m.state × Agree f.vars v w × (values w m.word ≡ map (λ c. body_at nodes (world v) c.body) formula)
 
@@ -84,7 +84,7 @@ ReadsMean = (o : Order) (nodes : List Node) (world : Valuation → World) (parts
     → Tells o nodes world parts f → ReadIsAsked o r
     → IsRoot f (read_made parts f r) (λ v. read_at nodes (world v) r)
 
--- the roots of a formula's conjuncts; with their clauses it is satisfied by the values that tell a world in which the formula is true
+-- the roots are right, and the models of their clauses are those whose worlds make the formula true
 pub record RootsMean : Type 0 where
   pub each : (o : Order) (nodes : List Node) (world : Valuation → World) (parts : Parts) (f : Formula) (formula : List Conjunct)
       → Tells o nodes world parts f → All (λ c. BodyIsTold o c.body) formula → AreRoots nodes world f (roots parts f formula) formula

@@ -1,4 +1,4 @@
--- The literals of all conjuncts of a formula, their roots, which are to be true.
+-- The roots of a formula: for each conjunct a literal, which a clause asserts.
 use Rattle.std.specs.Prelude.{List, [], ◌∷◌, ◌++◌, fold, map}
 use Rattle.order_formula.specs.declared.formula.Body.{Body}
 use Rattle.order_formula.specs.declared.formula.Body.TheVariants as body
@@ -14,7 +14,7 @@ module _ (parts : Parts) where
   body_made f (body.Any cases) = cases_made parts f cases
   body_made f (body.Read r) = read_made parts f r
 
-  -- with the root of the next conjunct
+  -- appends the root of the next conjunct
   abbrev pub with_root : Walked Formula → Conjunct → Walked Formula
   with_root m c = let here : Made = body_made m.state c.body in record { state = here.formula; word = m.word ++ here.literal ∷ [] }
 
@@ -22,7 +22,7 @@ module _ (parts : Parts) where
   abbrev pub roots : Formula → List Conjunct → Walked Formula
   roots f formula = fold with_root (record { state = f; word = [] }) formula
 
-  -- a clause for each root: the last of the clauses, in order
+  -- adds a clause for each root at the end, in order
   abbrev pub blasted : Formula → List Conjunct → Formula
   blasted f formula =
       let m : Walked Formula = roots f formula in record { vars = m.state.vars; clauses = m.state.clauses ++ map (λ l. l ∷ []) m.word }

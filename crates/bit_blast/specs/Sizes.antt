@@ -1,4 +1,4 @@
--- How many variables, and how many clauses, the clauses of a formula take at most.
+-- Upper bounds on the variables, and on the clauses, of a formula.
 use Rattle.std.specs.Prelude.{ℕ, ◌+◌, ◌*◌, ◌≤◌, List, length, sum_by}
 use Rattle.order_formula.specs.declared.formula.Body.{Body}
 use Rattle.order_formula.specs.declared.formula.Body.TheVariants as body
@@ -12,20 +12,20 @@ use Rattle.bit_order.specs.Comparators as order
 use Rattle.bit_order.specs.Layouts.{Layout}
 use Rattle.bit_terms.specs.Sizes.{terms_size}
 
--- that a word isn't 0 takes gates; the literals of an order are there
+-- testing that a word isn't 0 takes gates; the literals of an order exist already
 abbrev pub atom_size : Atom → ℕ
 atom_size (Before _ _) = 0
 atom_size (Ends _ _) = 0
 atom_size (Test _) = 96
 
--- a gate more for each literal of a case, and for each case
+-- one more gate for each literal of a case, and for each case
 abbrev pub literal_size : Literal → ℕ
 literal_size l = atom_size l.atom + 3
 
 abbrev pub case_size : List Literal → ℕ
 case_size literals = sum_by literal_size literals + 3
 
--- a read of so many candidates: a clause for every two, and 64 for the value of each
+-- a read: a clause for every two candidates, and 64 for the value of each
 abbrev pub read_size : ℕ → ℕ
 read_size candidates = (candidates + 1) * (candidates + 170)
 
@@ -36,14 +36,14 @@ body_size (body.Read r) = read_size (length r.candidates)
 abbrev pub bodies_size : List Conjunct → ℕ
 bodies_size formula = sum_by (λ c. body_size c.body) formula
 
--- with the clause of each root
+-- including the clause of each root
 abbrev pub size_of : List Conjunct → ℕ
 size_of formula = sum_by (λ c. body_size c.body + 1) formula
 
--- those of an order, of terms and of a formula together; what the order is asked more changes nothing
+-- the sum for an order, terms and a formula; completing the order doesn't change it
 abbrev pub whole_size : Layout → List Node → List Conjunct → ℕ
 whole_size y nodes formula = order.size_of y + terms_size nodes + size_of formula
 
--- a formula has at most this many variables, and this many clauses
+-- a formula has at most `most` variables and at most `most` clauses
 abbrev pub IsUpTo : ℕ → Formula → Type 0
 IsUpTo most f = (f.vars ≤ most) × (length f.clauses ≤ most)

@@ -28,15 +28,15 @@ load_words y = map (load_word y) (range_with_len 0 y.loads)
 abbrev pub termed : Layout → List Node → Words
 termed y nodes = term_words nodes (load_words y) (ordered y)
 
--- and the roots of a formula
+-- the same, with the roots of a formula
 abbrev pub rooted : Layout → List Node → List Conjunct → Walked Formula
 rooted y nodes formula = let m : Words = termed y nodes in roots (parts_of y m.words) m.formula formula
 
--- all clauses
+-- all clauses, including those that assert the roots
 abbrev pub whole : Layout → List Node → List Conjunct → Formula
 whole y nodes formula = let m : Words = termed y nodes in blasted (parts_of y m.words) m.formula formula
 
--- a formula of an order's events, whose pairs and choices were asked, over terms whose numbers are ints
+-- a valid input: the order asks about all that the formula compares, and numbers in terms are ints
 pub record IsReady (y : Layout) (nodes : List Node) (formula : List Conjunct) : Type 0 where
   pub order : IsOrder y.order
   pub events : y.order.events ≤ 256
@@ -44,12 +44,12 @@ pub record IsReady (y : Layout) (nodes : List Node) (formula : List Conjunct) : 
   pub told : All (λ c. BodyIsTold y.order c.body) formula
   pub within : All (ConjunctIsIn y.order) formula
 
--- the values that satisfy the clauses tell the worlds in which the formula is true
+-- the models of the clauses correspond to the worlds in which the formula is true
 pub record WholeMeans (y : Layout) (nodes : List Node) (formula : List Conjunct) : Type 0 where
   pub to : (v : Valuation) → IsModel v (whole y nodes formula) → IsWorldFor y (world_of y v) × (holds_at nodes (world_of y v) formula ≡ true)
   pub back : (w : World) → IsWorldFor y w → holds_at nodes w formula ≡ true
       → (v : Valuation) × IsModel v (whole y nodes formula) × SaysSame y w (world_of y v)
-  -- in every world all clauses but for those of roots can be satisfied, with the roots of the conjuncts that are true there
+  -- each world has a model of all other clauses, whose roots tell which conjuncts are true
   pub each : (w : World) → IsWorldFor y w
       → (v : Valuation) × IsModel v (rooted y nodes formula).state × SaysSame y w (world_of y v)
       × (values v (rooted y nodes formula).word ≡ map (λ c. body_at nodes (world_of y v) c.body) formula)

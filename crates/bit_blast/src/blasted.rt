@@ -1,4 +1,4 @@
-//! A formula as clauses, and what its answers mean.
+//! A formula as clauses, and what answers about them mean.
 ghost use Rattle.std.specs.Prelude.{◌≡◌, ◌<◌, ◌≤◌, length, IfOk};
 ghost use Rattle.std.specs.List.{All};
 ghost use Rattle.cnf_core.specs.Clauses.{value_in};
@@ -21,8 +21,8 @@ use std::alloc::{AllocError, Global};
 use std::marker::Model;
 use sym_terms::Terms;
 
-/// The clauses of a formula over an order of events. What satisfies them says a world in which the formula is true, and each such
-/// world is said by something that satisfies them.
+/// The clauses of a formula over an order of events. Each model has a world in which the formula is
+/// true, and each such world has a model.
 ///
 /// Contracts see the layout, the clauses and the number of the formula's conjuncts.
 #[derive(Debug, Drop)]
@@ -44,9 +44,9 @@ impl Model for Blasted {
     ghost invariant = { IsHeld };
 }
 
-/// The clauses of a formula over terms, an order that was asked all that the formula asks, and loads of this number.
+/// The clauses of a formula over terms, `loads` loads and an order that asks about all it uses.
 ///
-/// Fails for want of memory alone. That there is room for the clauses of a log within the limits is a law of `formula_sizes`.
+/// Fails only if there is no memory. A law of `formula_sizes` says that logs within the limits fit.
 pub fn blast(
     alloc: Global,
     terms: &Terms,
@@ -67,7 +67,7 @@ pub fn blast(
     blast_completed(alloc, terms, formula, order, loads)
 }
 
-/// The clauses, where the order was asked of the contended events too.
+/// The clauses over an order that asks about the contended events too.
 fn blast_completed(
     alloc: Global,
     terms: &Terms,
@@ -91,7 +91,7 @@ fn blast_completed(
     })
 }
 
-/// The order, asked of every two contended events too.
+/// The order, with all pairs of contended events added.
 #[tactic(auto, using(crate::proofs::Completed::completed_events, crate::proofs::Completed::completed_sleeps))]
 fn complete_order(alloc: Global, order: Order, formula: &Formula) -> Result<Order, AllocError>
     requires events { order.events ≤ 256 }
@@ -107,7 +107,7 @@ fn complete_order(alloc: Global, order: Order, formula: &Formula) -> Result<Orde
 }
 
 impl Blasted {
-    /// The clauses of what is impossible: the empty one alone, over no variables.
+    /// The clauses of an impossible formula: only the empty clause, over no variables.
     pub fn impossible(alloc: Global) -> Result<Blasted, AllocError>
         ensures { IfOk result (λ blasted. blasted ≡ impossible) }
     {
@@ -135,14 +135,14 @@ impl Blasted {
         &self.clauses
     }
 
-    /// The clauses, without taking memory.
+    /// The clauses, without an allocation.
     pub fn into_clauses(self) -> Cnf
         ensures { result ≡ self.clauses }
     {
         self.clauses
     }
 
-    /// The layout and the clauses, without taking memory: for clauses more, over the same variables and others.
+    /// The layout and the clauses, without an allocation, so that a caller can add more clauses.
     pub fn into_parts(self) -> (Layout, Cnf)
         ensures layout { result.0 ≡ self.layout }
         ensures clauses { result.1 ≡ self.clauses }
@@ -152,7 +152,7 @@ impl Blasted {
         (self.layout, self.clauses)
     }
 
-    /// The number of the clause, from 0, by which a conjunct of that number is true.
+    /// The index, from 0, of the clause that asserts a conjunct.
     pub fn root(&self, conjunct: usize) -> usize
         requires { conjunct < self.now.conjuncts }
         ensures root { result ≡ root_of self.now conjunct }
@@ -161,7 +161,7 @@ impl Blasted {
         self.clauses.len() - self.conjuncts + conjunct
     }
 
-    /// The world that values of the variables say. What is impossible has no variables.
+    /// The world of an assignment. An impossible formula has no variables.
     pub fn world(&self, alloc: Global, assignment: &Assignment) -> Result<World, AllocError>
         requires variables { 0 < self.now.clauses.vars }
         requires values { self.now.clauses.vars ≤ length assignment.now }

@@ -1,4 +1,4 @@
-//! The literals of conjuncts that have cases.
+//! The circuits of conjuncts that have cases.
 ghost use Rattle.std.specs.Prelude.{◌≡◌, ◌<◌, ◌≤◌, length, sum_by, IfOk, OnOk};
 ghost use Rattle.std.specs.List.{All};
 ghost use Rattle.cnf_core.specs.Clauses.{var_of};
@@ -17,7 +17,7 @@ use cnf_core::{Cnf, Lit};
 use order_formula::{Atom, Case, Literal};
 use std::alloc::AllocError;
 
-/// That some case is true.
+/// The disjunction of the cases.
 pub(crate) fn some_case(
     cnf: &mut Cnf,
     layout: &Layout,
@@ -41,7 +41,7 @@ pub(crate) fn some_case(
     Ok(some)
 }
 
-/// That all literals of a case are true.
+/// The conjunction of the literals of a case.
 fn whole_case(
     cnf: &mut Cnf,
     layout: &Layout,

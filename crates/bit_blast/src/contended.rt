@@ -6,7 +6,7 @@ use indexmap::IndexSet;
 use order_formula::{Atom, Body, Case, Formula, Literal, Read};
 use std::alloc::{AllocError, Global};
 
-/// The events of loads and of the writes that they may take, and those of conjuncts of more than one literal.
+/// The events of loads, of the writes that they may take, and of conjuncts of several literals.
 pub(crate) fn contended(alloc: Global, formula: &Formula) -> Result<IndexSet<u32>, AllocError>
     ensures { IfOk result (λ events. events.keys ≡ contended formula.now) }
 {
@@ -17,7 +17,7 @@ pub(crate) fn contended(alloc: Global, formula: &Formula) -> Result<IndexSet<u32
     Ok(events)
 }
 
-/// Those of a conjunct.
+/// Adds the events of a conjunct.
 fn add_body(events: &mut IndexSet<u32>, body: &Body) -> Result<(), AllocError>
     ensures { OnOk result (events.new.keys ≡ with_body events.old.keys body.now) }
 {
@@ -27,7 +27,7 @@ fn add_body(events: &mut IndexSet<u32>, body: &Body) -> Result<(), AllocError>
     }
 }
 
-/// Those of a conjunct with cases, if it isn't one literal alone.
+/// Adds the events of a conjunct with cases, unless it is a single literal.
 fn add_cases(events: &mut IndexSet<u32>, cases: &[Case]) -> Result<(), AllocError>
     ensures { OnOk result (events.new.keys ≡ (if is_literal cases.now then events.old.keys else fold with_case events.old.keys cases.now)) }
 {
@@ -40,14 +40,14 @@ fn add_cases(events: &mut IndexSet<u32>, cases: &[Case]) -> Result<(), AllocErro
     Ok(())
 }
 
-/// Whether it is one literal alone.
+/// Whether the cases are a single literal.
 fn is_literal(cases: &[Case]) -> bool
     ensures { result ≡ is_literal cases.now }
 {
     cases.len() == 1 && cases.iter().all(|case| case.literals().len() == 1)
 }
 
-/// Those of a case.
+/// Adds the events of a case.
 fn add_case(events: &mut IndexSet<u32>, literals: &[Literal]) -> Result<(), AllocError>
     ensures { OnOk result (events.new.keys ≡ with_case events.old.keys literals.now) }
 {
@@ -57,7 +57,7 @@ fn add_case(events: &mut IndexSet<u32>, literals: &[Literal]) -> Result<(), Allo
     Ok(())
 }
 
-/// Those of an atom.
+/// Adds the events of an atom.
 fn add_atom(events: &mut IndexSet<u32>, atom: Atom) -> Result<(), AllocError>
     ensures { OnOk result (events.new.keys ≡ with_atom events.old.keys atom) }
 {
@@ -68,7 +68,7 @@ fn add_atom(events: &mut IndexSet<u32>, atom: Atom) -> Result<(), AllocError>
     Ok(())
 }
 
-/// The load, and the writes that it may take.
+/// Adds the events of a load and of the writes that it may take.
 fn add_read(events: &mut IndexSet<u32>, read: &Read) -> Result<(), AllocError>
     ensures { OnOk result (events.new.keys ≡ fold with_candidate (with_event events.old.keys read.now.event) read.now.candidates) }
 {

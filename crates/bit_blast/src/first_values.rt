@@ -1,4 +1,4 @@
-//! Values of the variables for a search to begin with.
+//! Values of the variables that a search tries first.
 
 use crate::Blasted;
 use cnf_core::{Cnf, Lit};
@@ -6,8 +6,9 @@ use order_formula::World;
 use std::alloc::{AllocError, Global};
 
 impl Blasted {
-    /// Values of the variables that say a world, for a search to try first. They are meant to satisfy the clauses where the formula is
-    /// true in the world, so that the search ends at once; but nothing rests on that, and any world is taken.
+    /// Values of the variables for a world, which a search tries first. They should satisfy the
+    /// clauses if the formula is true in the world, so that the search ends at once; correctness
+    /// doesn't need that.
     pub fn first_values(&self, alloc: Global, world: &World) -> Result<Vec<bool>, AllocError> {
         let mut values = self.layout().write_world(alloc, world)?;
         extend_values(self.clauses(), &mut values)?;
@@ -15,11 +16,12 @@ impl Blasted {
     }
 }
 
-/// Adds values for more variables, clause by clause: where the others' values make all literals but the last false, it is made true. A
-/// variable before it that has no value yet is true.
+/// Adds values for more variables, clause by clause: if all literals but the last are false, the
+/// last is made true. A variable before it that has no value yet becomes true.
 ///
-/// Where a gate's variable follows those of its operands, and its clauses those of theirs, it gets the gate's value. Of what no
-/// gate says, that a read holds, and which write it takes, only what isn't so is told by the values before; so the rest is true.
+/// A gate gets its value if its variable follows those of its operands, and its clauses follow
+/// theirs. Others (a read's truth, and which write it takes) are false only if earlier values say
+/// so.
 pub fn extend_values(cnf: &Cnf, values: &mut Vec<bool>) -> Result<(), AllocError> {
     for place in 0..cnf.len() {
         if let Some((last, others)) = cnf.clause(place).split_last() {
@@ -30,7 +32,7 @@ pub fn extend_values(cnf: &Cnf, values: &mut Vec<bool>) -> Result<(), AllocError
     Ok(())
 }
 
-/// Adds values up to that of a literal's variable, where it has none yet and the other literals of its clause are false.
+/// Adds values up to a literal's variable, if it has none and the clause's others are false.
 fn extend_to(values: &mut Vec<bool>, last: Lit, others: &[Lit]) -> Result<(), AllocError> {
     let place = last.var() as usize - 1;
     if values.len() <= place && are_false(values, others) {

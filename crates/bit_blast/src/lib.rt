@@ -1,5 +1,5 @@
-//! A formula over the order of events as clauses: a literal for each conjunct, from those of the order and the words of terms, and
-//! a clause that it is true.
+//! A formula over the order of events as clauses: each conjunct gets a literal, built from literals
+//! of the order and words of terms, and a clause that asserts it.
 #![tactic(auto)]
 
 mod blasted;

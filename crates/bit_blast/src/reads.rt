@@ -1,4 +1,4 @@
-//! The literals of what loads take.
+//! The circuits of conjuncts that say which value a load takes.
 ghost use Rattle.std.specs.Prelude.{◌≡◌, ℕ, ◌<◌, ◌≤◌, ◌+◌, ◌*◌, [], ◌∷◌, ◌++◌, length, map, IfOk, OnOk};
 ghost use Rattle.std.specs.List.{All, flat_map};
 ghost use Rattle.cnf_core.specs.Clauses.{var_of};
@@ -21,8 +21,8 @@ use order_formula::{Candidate, Read};
 use std::alloc::{AllocError, Global};
 use std::marker::Model;
 
-/// A write that a load may take: its event, the literals that the load sees it at its cell and that it takes it, and the word of
-/// the value that was written.
+/// A write that a load may take: its event, the literals that the load sees it at its cell and
+/// takes it, and the word of the value written.
 #[derive(Drop)]
 struct Source {
     event: u32,
@@ -39,7 +39,7 @@ impl Model for Source {
     ghost view = { λ s. record { event = s.event; seen = s.seen; taken = s.taken; value = s.value } };
 }
 
-/// That a load takes what it is to take.
+/// The literal of "the load takes the value that it must".
 pub(crate) fn read_literal(
     alloc: Global,
     cnf: &mut Cnf,
@@ -125,7 +125,7 @@ fn is_seen(
     and(cnf, order, cell)
 }
 
-/// The candidates with those literals, and with a new variable each.
+/// The candidates with these literals, and a new variable for each.
 fn sources_of(
     alloc: Global,
     cnf: &mut Cnf,
@@ -157,7 +157,7 @@ fn sources_of(
     Ok(sources)
 }
 
-/// One of the variables is true: the load takes the value at the start, or of some write.
+/// Adds the clause: the load takes the value at the start, or that of some write.
 fn add_some(alloc: Global, cnf: &mut Cnf, start: Lit, sources: &[Source]) -> Result<(), AllocError>
     requires start { var_of start ≤ cnf.old.vars }
     requires sources { AreSourcesWithin cnf.old.vars sources.now }
@@ -174,7 +174,7 @@ fn add_some(alloc: Global, cnf: &mut Cnf, start: Lit, sources: &[Source]) -> Res
     add_clause(alloc, cnf, clause.as_slice())
 }
 
-/// Where the load takes the value at the start, it sees no write.
+/// Adds clauses: if the load takes the value at the start, it sees no write.
 fn add_none(alloc: Global, cnf: &mut Cnf, start: Lit, sources: &[Source]) -> Result<(), AllocError>
     requires start { var_of start ≤ cnf.old.vars }
     requires sources { AreSourcesWithin cnf.old.vars sources.now }
@@ -189,7 +189,7 @@ fn add_none(alloc: Global, cnf: &mut Cnf, start: Lit, sources: &[Source]) -> Res
     Ok(())
 }
 
-/// Where the conjunct is true and the load takes a value, its own is that, bit by bit.
+/// Adds clauses: if the conjunct is true and the load takes a value, its word equals that.
 fn add_value(
     alloc: Global,
     cnf: &mut Cnf,
@@ -216,7 +216,7 @@ fn add_value(
     Ok(())
 }
 
-/// Where the load takes a write, it sees it, and no other that it sees comes after it.
+/// Adds clauses: if the load takes a write, it sees it, and sees no later one.
 fn add_last(
     alloc: Global,
     cnf: &mut Cnf,
@@ -239,7 +239,7 @@ fn add_last(
     Ok(())
 }
 
-/// Where the load takes a write and sees another, that comes before it.
+/// Adds the clause: if the load takes a write and sees another, the other comes before it.
 fn add_later(
     alloc: Global,
     cnf: &mut Cnf,
@@ -266,7 +266,7 @@ fn add_later(
     )
 }
 
-/// Both of each write.
+/// Adds both kinds of clauses for each write.
 fn add_sources(
     alloc: Global,
     cnf: &mut Cnf,

@@ -1,4 +1,4 @@
-//! The literals of all conjuncts, and the clauses that they are true.
+//! The roots: the literals of all conjuncts, and the clauses that assert them.
 ghost use Rattle.std.specs.Prelude.{◌≡◌, ◌<◌, ◌≤◌, ◌+◌, ◌++◌, [], ◌∷◌, map, length, IfOk, OnOk};
 ghost use Rattle.cnf_core.specs.Clauses.{var_of};
 ghost use Rattle.cnf_core.specs.declared.cnf.TheConstants.{LIMIT};
@@ -18,8 +18,8 @@ use cnf_core::{Cnf, Lit};
 use order_formula::{Body, Formula};
 use std::alloc::{AllocError, Global};
 
-/// The clauses of a formula, over those of its order and its terms: at the end stands one for each conjunct, in order, that its
-/// literal is true.
+/// The clauses of a formula, over those of its order and its terms. The last ones assert the
+/// literal of each conjunct, in order.
 pub(crate) fn add_formula(
     alloc: Global,
     cnf: &mut Cnf,
@@ -88,7 +88,7 @@ fn body_literal(
     }
 }
 
-/// A clause for each literal, that it is true.
+/// Adds a clause for each literal that asserts it.
 fn add_units(cnf: &mut Cnf, literals: &[Lit]) -> Result<(), AllocError>
     requires literals { AreWithin cnf.old.vars literals.now }
     requires room { length cnf.old.clauses + length literals.now < LIMIT }

@@ -19,8 +19,8 @@ use order_formula::{Formula, Order};
 use std::alloc::{AllocError, Global};
 use sym_terms::Terms;
 
-/// The clauses of an order with what was asked of it, of so many loads, of terms and of a formula; and the layout, by which values
-/// that satisfy the clauses are read as a world. At the end stands a clause for each conjunct, in order.
+/// The layout, and all clauses of an order, of `loads` loads, of terms and of a formula. The last
+/// ones assert the conjuncts, in order.
 pub(crate) fn clauses(
     alloc: Global,
     order: Order,
@@ -42,7 +42,7 @@ pub(crate) fn clauses(
     Ok((layout, cnf))
 }
 
-/// Those of the terms and of the formula, over those of the order.
+/// Adds the clauses of the terms and of the formula to those of the order.
 fn add_system(
     alloc: Global,
     cnf: &mut Cnf,
@@ -65,7 +65,7 @@ fn add_system(
     Ok(())
 }
 
-/// The words of the values that the loads take.
+/// The words of the loads' values.
 fn load_words(alloc: Global, layout: &Layout) -> Result<Vec<Word>, AllocError>
     ensures { IfOk result (λ words. words.items ≡ load_words layout.now) }
 {

@@ -6,7 +6,7 @@ use Rattle.bit_gates.specs.Laws.{IsGrown, IsModel, IsOf}
 use Rattle.bit_words.specs.Laws.{value}
 use Rattle.bit_divide.specs.Quotients.{Divided, division}
 
--- the quotient and the remainder of two words' numbers, where the divisor is neither 0 nor above half of what its width holds
+-- quotient and remainder, for a divisor above 0 and at most half of 2 to the power of its width
 pub record IsDivision (f : Formula) (xs ds : List ℤ) (m : Divided) : Type 0 where
   pub grown : IsGrown f m.formula
   pub quotient : All (IsOf m.formula.vars) m.quotient

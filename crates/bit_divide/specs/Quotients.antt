@@ -6,13 +6,13 @@ use Rattle.bit_words.specs.Words.{Walked, added, chosen_words, inverted}
 use Rattle.bit_arith.specs.Sums.{zeros}
 use Rattle.bit_shift.specs.Shifts.{shifted_in}
 
--- what a division has: what remains, and the quotient
+-- the result of a division: the formula, the remainder and the quotient
 pub record Divided : Type 0 where
   pub formula : Formula
   pub remainder : List ℤ
   pub quotient : List ℤ
 
--- one place: the remainder takes the dividend's bit, and the divisor, whose opposite this is, is taken off where it goes in
+-- one step: shifts in a bit of the dividend, and subtracts the divisor (given inverted) if it fits
 abbrev pub divided_place : Formula → List ℤ → ℤ → List ℤ → Walked Made
 divided_place f rest bit opposite =
     let next : List ℤ = shifted_in bit rest in
@@ -20,7 +20,7 @@ divided_place f rest bit opposite =
     let kept : Walked Formula = chosen_words less.state.literal less.state.formula less.word next in
     record { state = record { formula = kept.state; literal = less.state.literal }; word = kept.word }
 
--- the places of the dividend from the highest on, over what remained before them
+-- the steps for all bits of the dividend, from the highest down
 abbrev pub divided : Formula → List ℤ → List ℤ → List ℤ → Divided
 divided f rest opposite [] = record { formula = f; remainder = rest; quotient = [] }
 divided f rest opposite (x ∷ xs) =

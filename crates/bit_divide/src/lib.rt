@@ -14,12 +14,12 @@ use bit_words::{add_words, choose_words, invert};
 use cnf_core::{Cnf, Lit};
 use std::alloc::AllocError;
 
-/// The quotient and the remainder have the numbers of a division, where the divisor is neither 0 nor above half of what its width holds.
+/// The division is right for a divisor above 0 and at most half of 2 to the power of its width.
 pub fn division_means()
     ensures { DivisionMeans }
 {}
 
-/// One place: the remainder takes a bit of the dividend, and the divisor is taken off where it goes in. The quotient's bit.
+/// One step: shifts in a bit, subtracts the divisor if it fits, and returns the quotient's bit.
 fn divide_place<const W: usize>(
     cnf: &mut Cnf,
     remainder: &mut [Lit; W],
@@ -46,7 +46,7 @@ fn divide_place<const W: usize>(
     Ok(enough)
 }
 
-/// The places of the dividend from the highest on: each takes the quotient's bit.
+/// The steps from the highest bit of the dividend down; each bit is replaced by the quotient's.
 fn divide_places<const W: usize>(
     cnf: &mut Cnf,
     word: &mut [Lit],
@@ -72,7 +72,7 @@ fn divide_places<const W: usize>(
     Ok(())
 }
 
-/// The quotient and the remainder. Where the divisor is 0 neither says anything.
+/// The quotient and the remainder, which are unspecified if the divisor is 0.
 pub fn divide<const W: usize>(
     cnf: &mut Cnf,
     a: &[Lit; W],

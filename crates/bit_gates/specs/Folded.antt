@@ -1,4 +1,4 @@
--- Gates of literals, each made only where its value isn't known beforehand: variable 1 is the one that is true.
+-- Gates over literals, added only if their value isn't known; variable 1 is the constant true.
 use Rattle.std.specs.Prelude.{ℕ, suc, ◌+◌, ◌≤◌, ◌<◌, Bool, true, false, ◌||◌, if◌then◌else◌, ℤ, pos, negsuc, neg_ℤ, length}
 use Rattle.std.specs.Ordering.{int_eq}
 use Rattle.cnf_core.specs.Clauses.{Formula}
@@ -7,25 +7,25 @@ use Rattle.cnf_core.specs.Gates.{after_gate}
 use Rattle.cnf_core.specs.declared.gates.Gate.{Gate}
 use Rattle.cnf_core.specs.declared.gates.Gate.TheVariants.{And, Or, Xor}
 
--- a formula that has grown, and a literal of it
+-- a grown formula, with the literal of the result
 pub record Made : Type 0 where
   pub formula : Formula
   pub literal : ℤ
 
--- the literal that is true, and the one that is false
+-- the literals of the constants: variable 1, and its negation
 abbrev pub constant : Bool → ℤ
 constant true = pos 1
 constant false = negsuc 0
 
--- no gate: the formula as it is
+-- no new gate: the formula unchanged, with a literal
 abbrev pub kept : Formula → ℤ → Made
 kept f l = record { formula = f; literal = l }
 
--- one gate more: the literal of its variable
+-- a new gate, with the literal of its variable
 abbrev pub gated : Formula → Gate → ℤ → ℤ → Made
 gated f g a b = record { formula = after_gate f (record { gate = g; first = a; second = b }); literal = pos (suc f.vars) }
 
--- true where both literals are
+-- the conjunction of two literals
 abbrev pub both : Formula → ℤ → ℤ → Made
 both f a b =
     if int_eq a (constant false) || int_eq b (constant false) || int_eq a (neg_ℤ b) then kept f (constant false)
@@ -33,11 +33,11 @@ both f a b =
     else if int_eq b (constant true) then kept f a
     else gated f And a b
 
--- true where the literal that was made is false
+-- the negation of a result
 abbrev pub opposite : Made → Made
 opposite m = kept m.formula (neg_ℤ m.literal)
 
--- true where one of the literals is
+-- the disjunction of two literals
 abbrev pub either : Formula → ℤ → ℤ → Made
 either f a b = opposite (both f (neg_ℤ a) (neg_ℤ b))
 
@@ -52,22 +52,22 @@ differing f a b =
     else if int_eq b (constant true) then kept f (neg_ℤ a)
     else gated f Xor a b
 
--- a gate's literal
+-- a gate over two literals, with known values folded
 abbrev pub folded : Gate → Formula → ℤ → ℤ → Made
 folded And f a b = both f a b
 folded Or f a b = either f a b
 folded Xor f a b = differing f a b
 
--- the value of the second literal where the first is true, and else of the third
+-- the value of `a` if `c` is true, else of `b`
 abbrev pub chosen : Formula → ℤ → ℤ → ℤ → Made
 chosen f c a b =
     if int_eq a b then kept f a
     else let x : Made = both f c a in let y : Made = both x.formula (neg_ℤ c) b in either y.formula x.literal y.literal
 
--- there is room for so many variables and clauses more
+-- a formula has room for `most` more variables and `most` more clauses
 abbrev pub HasRoom : ℕ → Formula → Type 0
 HasRoom most f = (f.vars + most < LIMIT) × (length f.clauses + most < LIMIT)
 
--- the formula has grown by at most so many variables and clauses
+-- `g` has at most `most` more variables and at most `most` more clauses than `f`
 abbrev pub IsLarger : ℕ → Formula → Formula → Type 0
 IsLarger most f g = (f.vars ≤ g.vars) × (g.vars ≤ f.vars + most) × (length g.clauses ≤ length f.clauses + most)

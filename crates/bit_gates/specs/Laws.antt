@@ -5,13 +5,13 @@ use Rattle.cnf_core.specs.Gates.{gate_value, Wired, is_block, after_gates}
 use Rattle.cnf_core.specs.declared.gates.Gate.{Gate}
 use Rattle.bit_gates.specs.Folded.{Made, folded, chosen}
 
--- a formula with a block of gates more
+-- `g` is `f` with a block of gates added
 pub record IsGrown (f g : Formula) : Type 0 where
   pub gates : List Wired
   pub block : IsTrue (is_block f.vars gates)
   pub formula : g ≡ after_gates f gates
 
--- values that satisfy a formula, variable 1 being true
+-- a model: a valuation that satisfies a formula and makes variable 1 true
 pub record IsModel (w : Valuation) (f : Formula) : Type 0 where
   pub one : w 1 ≡ true
   pub all : IsTrue (satisfies w f.clauses)
@@ -20,13 +20,13 @@ pub record IsModel (w : Valuation) (f : Formula) : Type 0 where
 abbrev pub IsOf : ℕ → ℤ → Type 0
 IsOf n l = (0 < var_of l) × (var_of l ≤ n)
 
--- what was made is a literal of the formula with a block of gates more; all values that satisfy it give the literal this value
+-- a result: a literal of the formula grown by gates, which has this value in all models
 pub record IsBit (f : Formula) (m : Made) (meaning : Valuation → Bool) : Type 0 where
   pub grown : IsGrown f m.formula
   pub literal : IsOf m.formula.vars m.literal
   pub value : (w : Valuation) → IsModel w m.formula → literal_true w m.literal ≡ meaning w
 
--- each gate has its value
+-- each gate, and each choice, has the right value
 pub record GatesMean : Type 0 where
   pub gate : (g : Gate) (f : Formula) (a b : ℤ) → 0 < f.vars → IsOf f.vars a → IsOf f.vars b
       → IsBit f (folded g f a b) (λ w. gate_value g (literal_true w a) (literal_true w b))

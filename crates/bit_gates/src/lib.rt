@@ -1,7 +1,7 @@
-//! Gates over the literals of a list of clauses. A gate whose operands are constant, equal or opposite isn't made: its value is
-//! known, or is that of an operand.
+//! Gates over the literals of a list of clauses. No gate is added if its operands are constant,
+//! equal or opposite: its value is then known, or is that of an operand.
 //!
-//! The variable 1 is the one that is true: a caller gives it a clause of its own.
+//! Variable 1 is the constant true: a caller adds a clause for it.
 #![tactic(auto)]
 
 ghost use Rattle.std.specs.Prelude.{◌≡◌, ◌<◌, ◌≤◌, IfOk, OnOk, Bool, true, false};
@@ -13,24 +13,24 @@ ghost use Rattle.bit_gates.specs.Extended.{GatesExtend};
 use cnf_core::{Cnf, Gate, Lit};
 use std::alloc::AllocError;
 
-/// What a gate makes is a literal that has the gate's value wherever the clauses are satisfied.
+/// The literal of a gate has the gate's value in every model of the clauses.
 pub fn gates_mean()
     ensures { GatesMean }
 {}
 
-/// Gates add definitions alone: what satisfied the clauses before satisfies them with some values of the new variables.
+/// Gates add only definitions: every model of the earlier clauses extends to one of all clauses.
 pub fn gates_extend()
     ensures { GatesExtend }
 {}
 
-/// The literal that is always true, or always false.
+/// The literal of a constant.
 pub fn constant(value: bool) -> Lit
     ensures { result ≡ constant value }
 {
     Lit::new(1, !value)
 }
 
-/// A literal that is true where both are.
+/// The conjunction of two literals.
 pub fn and(cnf: &mut Cnf, a: Lit, b: Lit) -> Result<Lit, AllocError>
     requires one { 0 < cnf.old.vars }
     requires first { var_of a ≤ cnf.old.vars }
@@ -52,7 +52,7 @@ pub fn and(cnf: &mut Cnf, a: Lit, b: Lit) -> Result<Lit, AllocError>
     }
 }
 
-/// A literal that is true where one of them is, or both.
+/// The disjunction of two literals.
 pub fn or(cnf: &mut Cnf, a: Lit, b: Lit) -> Result<Lit, AllocError>
     requires one { 0 < cnf.old.vars }
     requires first { var_of a ≤ cnf.old.vars }
@@ -66,7 +66,7 @@ pub fn or(cnf: &mut Cnf, a: Lit, b: Lit) -> Result<Lit, AllocError>
     Ok(and(cnf, a.opposite(), b.opposite())?.opposite())
 }
 
-/// A literal that is true where one of them is and the other isn't.
+/// The exclusive or of two literals.
 pub fn xor(cnf: &mut Cnf, a: Lit, b: Lit) -> Result<Lit, AllocError>
     requires one { 0 < cnf.old.vars }
     requires first { var_of a ≤ cnf.old.vars }
@@ -94,7 +94,7 @@ pub fn xor(cnf: &mut Cnf, a: Lit, b: Lit) -> Result<Lit, AllocError>
     }
 }
 
-/// A literal that has the gate's value.
+/// The literal of a gate over two literals.
 pub fn gate(cnf: &mut Cnf, gate: Gate, a: Lit, b: Lit) -> Result<Lit, AllocError>
     requires one { 0 < cnf.old.vars }
     requires first { var_of a ≤ cnf.old.vars }
@@ -112,7 +112,7 @@ pub fn gate(cnf: &mut Cnf, gate: Gate, a: Lit, b: Lit) -> Result<Lit, AllocError
     }
 }
 
-/// A literal that has the value of `a` where `condition` is true, and else of `b`.
+/// A literal with the value of `a` if `condition` is true, else of `b`.
 pub fn choose(cnf: &mut Cnf, condition: Lit, a: Lit, b: Lit) -> Result<Lit, AllocError>
     requires one { 0 < cnf.old.vars }
     requires condition { var_of condition ≤ cnf.old.vars }

@@ -9,12 +9,12 @@ use Rattle.std.proofs.lemmas.Int.{of_z-to_z, to_z_pos, wrapping_neg_is}
 use Rattle.std.proofs.lemmas.Bool.Decides.{same_from_decides, Decides-like, Decides-eqb, Decides-int_eq, nat_tests}
 use Rattle.std.proofs.lemmas.List.{length-map, length-take, length-replicate}
 use Rattle.std.proofs.lemmas.List.Elements.{All-cons, All-replicate, All-take, All-drop}
-use Rattle.tc_base.specs.Arith.{negated, truth, is_distance, shifted_left, shifted_right, quotient, remainder, bits_and, bits_or, bits_xor, bits_inverted, unary, binary}
-use Rattle.tc_base.specs.declared.arith.UnOp.{UnOp}
-use Rattle.tc_base.specs.declared.arith.UnOp.TheVariants as un
-use Rattle.tc_base.specs.declared.arith.BinOp.{BinOp}
-use Rattle.tc_base.specs.declared.arith.BinOp.TheVariants as bin
-use Rattle.tc_base.proofs.Bits.{int_bit_and-is, int_bit_or-is, int_bit_xor-is, int_bit_not-is}
+use Rattle.int_ops.specs.Arith.{negated, truth, is_distance, shifted_left, shifted_right, quotient, remainder, bits_and, bits_or, bits_xor, bits_inverted, unary, binary}
+use Rattle.int_ops.specs.declared.arith.UnOp.{UnOp}
+use Rattle.int_ops.specs.declared.arith.UnOp.TheVariants as un
+use Rattle.int_ops.specs.declared.arith.BinOp.{BinOp}
+use Rattle.int_ops.specs.declared.arith.BinOp.TheVariants as bin
+use Rattle.int_ops.proofs.Bits.{int_bit_and-is, int_bit_or-is, int_bit_xor-is, int_bit_not-is}
 use Rattle.cnf_core.specs.Clauses.{Formula, Valuation, literal_true}
 use Rattle.cnf_core.specs.declared.gates.Gate.{Gate}
 use Rattle.cnf_core.specs.declared.gates.Gate.TheVariants.{And, Or, Xor}

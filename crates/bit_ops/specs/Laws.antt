@@ -1,9 +1,9 @@
 -- What the circuits of operators mean.
 use Rattle.std.specs.Prelude.{◌≡◌, ◌<◌, List, ℤ, length}
 use Rattle.std.specs.List.{All}
-use Rattle.tc_base.specs.Arith.{unary, binary}
-use Rattle.tc_base.specs.declared.arith.UnOp.{UnOp}
-use Rattle.tc_base.specs.declared.arith.BinOp.{BinOp}
+use Rattle.int_ops.specs.Arith.{unary, binary}
+use Rattle.int_ops.specs.declared.arith.UnOp.{UnOp}
+use Rattle.int_ops.specs.declared.arith.BinOp.{BinOp}
 use Rattle.cnf_core.specs.Clauses.{Formula, Valuation}
 use Rattle.bit_gates.specs.Laws.{IsGrown, IsModel, IsOf}
 use Rattle.bit_words.specs.Words.{Walked}
@@ -15,14 +15,14 @@ pub record IsOperand (f : Formula) (xs : List ℤ) : Type 0 where
   pub literals : All (IsOf f.vars) xs
   pub width : length xs ≡ 32
 
--- a formula has grown by gates, and has a word with this int
+-- a formula has grown by gates and has a word whose int is `meaning`
 pub record HasInt (f : Formula) (m : Walked Formula) (meaning : Valuation → ℤ) : Type 0 where
   pub grown : IsGrown f m.state
   pub word : IsOperand m.state m.word
-  -- all values that satisfy the formula give the word this int
+  -- in all models of the formula the word has this int
   pub int : (w : Valuation) → IsModel w m.state → int_value w m.word ≡ meaning w
 
--- each operator over all values of its operands, a divisor of 0 and every distance too
+-- each operator is right for all operands, including a divisor of 0 and any shift distance
 pub record OpsMean : Type 0 where
   pub unary : (op : UnOp) (f : Formula) (xs : List ℤ) → 0 < f.vars → IsOperand f xs → HasInt f (unary_word op f xs) (λ w. unary op (int_value w xs))
   pub binary : (op : BinOp) (f : Formula) (xs ys : List ℤ) → 0 < f.vars → IsOperand f xs → IsOperand f ys

@@ -1,9 +1,9 @@
 -- The circuits of operators.
 use Rattle.std.specs.Prelude.{true, false, List, ◌∷◌, ℤ, length, take, drop, replicate}
-use Rattle.tc_base.specs.declared.arith.UnOp.{UnOp}
-use Rattle.tc_base.specs.declared.arith.UnOp.TheVariants as un
-use Rattle.tc_base.specs.declared.arith.BinOp.{BinOp}
-use Rattle.tc_base.specs.declared.arith.BinOp.TheVariants as bin
+use Rattle.int_ops.specs.declared.arith.UnOp.{UnOp}
+use Rattle.int_ops.specs.declared.arith.UnOp.TheVariants as un
+use Rattle.int_ops.specs.declared.arith.BinOp.{BinOp}
+use Rattle.int_ops.specs.declared.arith.BinOp.TheVariants as bin
 use Rattle.cnf_core.specs.Clauses.{Formula}
 use Rattle.cnf_core.specs.declared.gates.Gate.TheVariants.{And, Or, Xor}
 use Rattle.bit_gates.specs.Folded.{Made, constant, kept, opposite}
@@ -13,37 +13,37 @@ use Rattle.bit_shift.specs.Shifts.{top, shifted}
 use Rattle.bit_shift.specs.declared.Direction.TheVariants.{Up, Down}
 use Rattle.bit_signed.specs.Signed.{quotient_word, remainder_word, compared_signed}
 
--- whether a literal of a word is true
+-- whether some literal of a word is true
 abbrev pub some_of : Formula → List ℤ → Made
 some_of f xs = any_of (kept f (constant false)) xs
 
--- whether two words differ at a place
+-- whether two words differ at some place
 abbrev pub differ : Formula → List ℤ → List ℤ → Made
 differ f xs ys = let apart : Walked Formula = gated_words Xor f xs ys in some_of apart.state apart.word
 
--- a word that is 1 where a literal is true, and else 0
+-- the word 1 if a literal is true, else 0
 abbrev pub truth_word : Made → Walked Formula
 truth_word m = record { state = m.formula; word = m.literal ∷ zeros 31 }
 
--- a word where a literal is true, and else 0
+-- a word if a literal is true, else 0
 abbrev pub kept_where : List ℤ → Made → Walked Formula
 kept_where xs m = gated_words And m.formula xs (replicate (length xs) m.literal)
 
--- a word, and 0 where the divisor is
+-- a word, or 0 if the divisor is 0
 abbrev pub where_some : Walked Formula → List ℤ → Walked Formula
 where_some m ys = kept_where m.word (some_of m.state ys)
 
--- a word whose places move by the lowest five bits of a distance, and 0 where one of the others is true
+-- a shifted word, or 0 if the distance has a bit set above the lowest five
 abbrev pub where_near : Walked Formula → List ℤ → Walked Formula
 where_near m ys = kept_where m.word (opposite (some_of m.state (drop 5 ys)))
 
--- what an operator gives of a word
+-- the circuit of a unary operator
 abbrev pub unary_word : UnOp → Formula → List ℤ → Walked Formula
 unary_word un.Neg f xs = minus_word f (zeros 32) xs
 unary_word un.Not f xs = truth_word (opposite (some_of f xs))
 unary_word un.Inv f xs = record { state = f; word = inverted xs }
 
--- what an operator gives of two words
+-- the circuit of a binary operator
 abbrev pub binary_word : BinOp → Formula → List ℤ → List ℤ → Walked Formula
 binary_word bin.Add f xs ys = plus_word f xs ys
 binary_word bin.Sub f xs ys = minus_word f xs ys

@@ -1,9 +1,9 @@
--- How many variables, and how many clauses, the circuit of an operator adds at most.
+-- Upper bounds on the variables, and on the clauses, that the circuit of an operator adds.
 use Rattle.std.specs.Prelude.{ℕ}
-use Rattle.tc_base.specs.declared.arith.UnOp.{UnOp}
-use Rattle.tc_base.specs.declared.arith.UnOp.TheVariants as un
-use Rattle.tc_base.specs.declared.arith.BinOp.{BinOp}
-use Rattle.tc_base.specs.declared.arith.BinOp.TheVariants as bin
+use Rattle.int_ops.specs.declared.arith.UnOp.{UnOp}
+use Rattle.int_ops.specs.declared.arith.UnOp.TheVariants as un
+use Rattle.int_ops.specs.declared.arith.BinOp.{BinOp}
+use Rattle.int_ops.specs.declared.arith.BinOp.TheVariants as bin
 
 abbrev pub unary_size : UnOp → ℕ
 unary_size un.Neg = 544

@@ -1,14 +1,14 @@
-//! The circuit of each operator of `int`: from words of 32 literals, the lowest bit first, to one of the result.
+//! The circuits of the operators of `int`, over words of 32 literals, the lowest bit first.
 #![tactic(auto)]
 
-ghost use Rattle.std.specs.Prelude.{◌≡◌, ◌<◌, ◌≤◌, ◌+◌, ◌*◌, ◌∷◌, IfOk, OnOk, length, take, ℤ, List};
+ghost use Rattle.std.specs.Prelude.{◌≡◌, ◌<◌, ◌≤◌, ◌*◌, ◌∷◌, IfOk, OnOk, length, take};
 ghost use Rattle.cnf_core.specs.Clauses.{var_of};
 ghost use Rattle.bit_gates.specs.Folded.{HasRoom, IsLarger, kept};
 ghost use Rattle.bit_words.specs.Words.{AreWithin, gated_words};
 ghost use Rattle.bit_arith.specs.Sums.{minus_word, zeros};
 ghost use Rattle.bit_shift.specs.Shifts.{shifted};
 ghost use Rattle.bit_ops.specs.Laws.{OpsMean};
-ghost use Rattle.bit_ops.specs.Ops.{some_of, differ, kept_where, where_some, where_near, unary_word, binary_word};
+ghost use Rattle.bit_ops.specs.Ops.{differ, kept_where, where_some, where_near, unary_word, binary_word};
 ghost use Rattle.bit_ops.specs.Sizes.{unary_size, binary_size};
 
 use bit_arith::{minus, plus, times};
@@ -17,18 +17,18 @@ use bit_shift::{Direction, shift};
 use bit_signed::{compare_signed, quotient, remainder, sign};
 use bit_words::{any, gate_by, gate_words, invert};
 use cnf_core::{Cnf, Gate, Lit};
+use int_ops::{BinOp, UnOp};
 use std::alloc::AllocError;
-use tc_base::{BinOp, UnOp};
 
 /// A word, the lowest bit first.
 pub type Word = [Lit; 32];
 
-/// Wherever the clauses are satisfied, what an operator's circuit makes has the operator's value; and it adds gates alone.
+/// The result of a circuit has the operator's value in every model, and circuits add only gates.
 pub fn ops_mean()
     ensures { OpsMean }
 {}
 
-/// 1 where the literal of the list is true, and else 0.
+/// The word 1 if the literal is true, else 0.
 fn truth(cnf: &Cnf, lit: Lit) -> Word
     requires one { 0 < cnf.now.vars }
     requires lit { var_of lit ≤ cnf.now.vars }
@@ -40,7 +40,7 @@ fn truth(cnf: &Cnf, lit: Lit) -> Word
     word
 }
 
-/// The word where the literal is true, and else 0.
+/// Keeps the word if the literal is true, else makes it 0.
 fn keep_where(cnf: &mut Cnf, word: &mut Word, lit: Lit) -> Result<(), AllocError>
     requires one { 0 < cnf.old.vars }
     requires word { AreWithin cnf.old.vars word.old }
@@ -70,7 +70,7 @@ fn differ(cnf: &mut Cnf, a: &Word, b: &Word) -> Result<Lit, AllocError>
     any(cnf, constant(false), &apart)
 }
 
-/// The gate at each place.
+/// Applies a gate at each place.
 fn gates(cnf: &mut Cnf, gate: Gate, a: &Word, b: &Word) -> Result<Word, AllocError>
     requires one { 0 < cnf.old.vars }
     requires first { AreWithin cnf.old.vars a.now }
@@ -86,7 +86,7 @@ fn gates(cnf: &mut Cnf, gate: Gate, a: &Word, b: &Word) -> Result<Word, AllocErr
     Ok(word)
 }
 
-/// The word, but 0 where the divisor is.
+/// The word, or 0 if the divisor is 0.
 fn where_some(cnf: &mut Cnf, word: Word, divisor: &Word) -> Result<Word, AllocError>
     requires one { 0 < cnf.old.vars }
     requires word { AreWithin cnf.old.vars word }
@@ -103,7 +103,7 @@ fn where_some(cnf: &mut Cnf, word: Word, divisor: &Word) -> Result<Word, AllocEr
     Ok(word)
 }
 
-/// The word whose places move, and 0 where the distance isn't below 32.
+/// The shifted word, or 0 if the distance is 32 or more.
 fn shift_near(
     cnf: &mut Cnf,
     to: Direction,
@@ -128,7 +128,7 @@ fn shift_near(
     Ok(word)
 }
 
-/// The opposite number.
+/// The negated number.
 fn negate<const W: usize>(cnf: &mut Cnf, a: &[Lit; W]) -> Result<[Lit; W], AllocError>
     requires one { 0 < cnf.old.vars }
     requires operand { AreWithin cnf.old.vars a.now }
@@ -141,7 +141,7 @@ fn negate<const W: usize>(cnf: &mut Cnf, a: &[Lit; W]) -> Result<[Lit; W], Alloc
     minus(cnf, &[constant(false); W], a)
 }
 
-/// The circuit of an operator over one word.
+/// The circuit of a unary operator.
 pub fn unary(cnf: &mut Cnf, op: UnOp, a: &Word) -> Result<Word, AllocError>
     requires one { 0 < cnf.old.vars }
     requires operand { AreWithin cnf.old.vars a.now }
@@ -165,7 +165,7 @@ pub fn unary(cnf: &mut Cnf, op: UnOp, a: &Word) -> Result<Word, AllocError>
     }
 }
 
-/// The circuit of an operator over two words.
+/// The circuit of a binary operator.
 pub fn binary(cnf: &mut Cnf, op: BinOp, a: &Word, b: &Word) -> Result<Word, AllocError>
     requires one { 0 < cnf.old.vars }
     requires first { AreWithin cnf.old.vars a.now }

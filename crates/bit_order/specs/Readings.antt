@@ -1,5 +1,5 @@
--- How values of the variables are read as a world: positions are the ranks of their bits, loads have the ints of their words, and a
--- sleep is ended by the first choice of it that is made.
+-- How a valuation is read as a world: positions are the ranks of their bits, loads are the ints of
+-- their words, and the first choice made for a sleep says what ends it.
 use Rattle.std.specs.Prelude.{ℕ, ◌&&◌, ◌==◌, Bool, List, Option, map, length}
 use Rattle.std.specs.List.{find, range_with_len}
 use Rattle.std.specs.Option.{option_map}
@@ -10,11 +10,11 @@ use Rattle.bit_ranks.specs.Ranks.{ranks_of}
 use Rattle.order_formula.specs.Worlds.{World}
 use Rattle.bit_order.specs.Layouts.{Layout, position_word, load_word, choice_literal, choice_at}
 
--- the numbers of the positions' bits, of which some may be equal
+-- the numbers of the position words, some of which may be equal
 abbrev pub bits_in : Layout → Valuation → List ℕ
 bits_in y v = map (λ event. value v (position_word event)) (range_with_len 0 y.order.events)
 
--- whether a choice is made, and is of a sleep
+-- whether a choice is made and is for this sleep
 abbrev pub is_made : Layout → Valuation → (sleep number : ℕ) → Bool
 is_made y v sleep number = (choice_at y.order.choices number).sleep == sleep && literal_true v (choice_literal y number)
 

@@ -1,4 +1,4 @@
-//! What holds of the choices.
+//! The clauses about choices.
 ghost use Rattle.std.specs.Prelude.{◌≡◌, ◌<◌, ◌≤◌, ◌+◌, ◌*◌, ◌++◌, length, OnOk};
 ghost use Rattle.std.specs.List.{flat_map, range_with_len};
 ghost use Rattle.cnf_core.specs.declared.cnf.TheConstants.{LIMIT};
@@ -9,8 +9,9 @@ use cnf_core::{Cnf, Lit};
 use order_formula::{Choice, Order};
 use std::alloc::AllocError;
 
-/// Every two choices of one sleep exclude each other. The variables of the choices begin at a number. No event is asked twice of one
-/// sleep, so that a choice excludes at most one for each event.
+/// Adds clauses by which every two choices of a sleep exclude each other. No event is asked about
+/// twice for a sleep, so a choice excludes at most one other for each event. `start` is the first
+/// variable.
 pub(crate) fn exclude(cnf: &mut Cnf, start: u32, order: &Order) -> Result<(), AllocError>
     requires lawful { IsOrder order.now }
     requires positive { 0 < start }
@@ -28,7 +29,7 @@ pub(crate) fn exclude(cnf: &mut Cnf, start: u32, order: &Order) -> Result<(), Al
     Ok(())
 }
 
-/// A choice excludes each earlier one of its sleep.
+/// Adds clauses by which a choice excludes each earlier one of its sleep.
 fn exclude_earlier(
     cnf: &mut Cnf,
     start: u32,

@@ -1,4 +1,4 @@
-//! Laws of orders as clauses. Each is a clause of a function that does nothing.
+//! Laws of orders as clauses: each is the clause of a function that does nothing.
 ghost use Rattle.std.specs.Prelude.{◌≡◌, ◌≢◌, ◌≤◌, ℕ, ℤ, List, IsTrue, true};
 ghost use Rattle.std.specs.List.{All, Contains, list_any};
 ghost use Rattle.cnf_core.specs.Clauses.{Valuation, clause_true, satisfies};
@@ -13,39 +13,39 @@ ghost use Rattle.bit_order.specs.Comparators.{completed, ordered};
 ghost use Rattle.bit_order.specs.Readings.{world_of};
 ghost use Rattle.bit_order.specs.Laws.{IsWorldFor, SaysSame, LiteralsMean};
 
-/// A clause of any literals is true exactly where one of them is, the variable 1 being true.
+/// If variable 1 is true, a clause of any literals is true exactly if one of them is.
 pub fn clauses_mean()
     ensures { (v : Valuation) (n : ℕ) (ls : List ℤ) → v 1 ≡ true → All (IsOf n) ls → satisfies v (folded_clause ls) ≡ clause_true v ls }
 {}
 
-/// All values of the variables say a world, where there are at most 256 events.
+/// Every valuation of the variables has a world, if there are at most 256 events.
 pub fn values_say_worlds()
     ensures { (y : Layout) (v : Valuation) → y.order.events ≤ 256 → IsWorldFor y (world_of y v) }
 {}
 
-/// Each world has values of all variables that satisfy the clauses and say it, but for what positions its events have.
+/// Each world has a model that is read as this world, up to the positions of its events.
 pub fn worlds_have_values()
     ensures { (y : Layout) (w : World) → IsOrder y.order → IsWorldFor y w
         → (v : Valuation) × IsModel v (ordered y) × SaysSame y w (world_of y v) }
 {}
 
-/// The literals say what the world says that the values do.
+/// In each model, the literals agree with the model's world.
 pub fn literals_mean()
     ensures { (y : Layout) → IsOrder y.order → LiteralsMean y }
 {}
 
-/// Comparators and transitivity bind no position, no load and no choice.
+/// Comparators and transitivity restrict no position, no load and no choice.
 pub fn orders_extend()
     ensures over { (y : Layout) → IsOver (base y) }
     ensures extended { (y : Layout) → IsOrder y.order → IsExtended (base y) (ordered y) }
 {}
 
-/// The world is said by the variables before any gate alone.
+/// The world depends only on the variables before any gate.
 pub fn first_variables_say_the_world()
     ensures { (y : Layout) (v w : Valuation) → Agree (base y).vars v w → world_of y v ≡ world_of y w }
 {}
 
-/// A completed order keeps what was asked, with its number, and was asked of every two of the events.
+/// A completed order keeps its pairs, with their numbers, and asks about all pairs of the events.
 pub fn completed_orders_ask_all()
     ensures grows { (o : Order) (events : List ℕ) → Grows o (completed o events) }
     ensures asked { (o : Order) (events : List ℕ) (first second : ℕ) → Contains events first → Contains events second → first ≢ second

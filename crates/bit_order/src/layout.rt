@@ -1,4 +1,4 @@
-//! How an order lies in variables.
+//! How an order is laid out in variables.
 ghost use Rattle.std.specs.Prelude.{◌≡◌, ◌<◌, ◌≤◌, ◌+◌, ◌-◌, ◌*◌, ◌++◌, length, IfOk, OnOk, IfSome};
 ghost use Rattle.std.specs.List.{flat_map, range_with_len};
 ghost use Rattle.cnf_core.specs.Clauses.{var_of};
@@ -19,7 +19,7 @@ use order_formula::{Order, Pair};
 use std::alloc::{AllocError, Global};
 use std::marker::Model;
 
-/// The variables of an order, with what was asked of it, and of the loads. Contracts see the order and the number of loads.
+/// The variables of an order, its pairs and choices, and its loads. Contracts see order and loads.
 #[derive(Debug, Drop)]
 pub struct Layout {
     order: Order,
@@ -39,7 +39,7 @@ impl Model for Layout {
     ghost invariant = { IsHeld };
 }
 
-/// The variables before any gate, and what holds of them.
+/// The formula before any gate: its variables, variable 1 is true, and the exclusions.
 fn base(alloc: Global, order: &Order, loads: u32) -> Result<Cnf, AllocError>
     requires lawful { IsOrder order.now }
     requires small { asked_size (record { order = order.now; loads = loads }) < LIMIT }
@@ -58,7 +58,7 @@ impl Layout {
     ghost use Rattle.bit_order.specs.Layouts.{load_start, load_word, choice_start, choice_literal, ends_literal};
     ghost use Rattle.bit_order.specs.Comparators.{comparators, comparator, before_literal, transitive, transitivity, ordered};
 
-    /// The clauses of an order, with what was asked of it, and of so many loads; and its layout, which has the literals.
+    /// The clauses of an order with its pairs and choices, and of `loads` loads; and its layout.
     pub fn clauses(alloc: Global, order: Order, loads: u32) -> Result<(Layout, Cnf), AllocError>
         requires { size_of (record { order = order; loads = loads }) < LIMIT }
         ensures layout { IfOk result (λ made. made.0 ≡ record { order = order; loads = loads }) }
@@ -71,7 +71,7 @@ impl Layout {
         Layout::add_clauses(alloc, order, loads)
     }
 
-    /// The same, where the questions take no more than there may be of them.
+    /// The same, for an order whose pairs and choices are within the limit.
     fn add_clauses(alloc: Global, order: Order, loads: u32) -> Result<(Layout, Cnf), AllocError>
         requires small { size_of (record { order = order; loads = loads }) < LIMIT }
         requires asked { asked_size (record { order = order; loads = loads }) ≤ size_of (record { order = order; loads = loads }) }
@@ -101,14 +101,14 @@ impl Layout {
         &self.order
     }
 
-    /// How many loads there are.
+    /// The number of loads.
     pub fn loads(&self) -> u32
         ensures { result ≡ self.now.loads }
     {
         self.loads
     }
 
-    /// That the first event comes before the second, where that was asked.
+    /// The literal of "the first event comes before the second", if the order asks about the two.
     pub fn before(&self, first: u32, second: u32) -> Lit
         ensures { result ≡ before_literal self.now first second }
     {
@@ -119,7 +119,7 @@ impl Layout {
         }
     }
 
-    /// That the event ends the sleep; it doesn't where that wasn't asked.
+    /// The literal of "this event ends this sleep", or false if it isn't among the choices.
     pub fn ends(&self, sleep: u32, by: u32) -> Lit
         ensures { result ≡ ends_literal self.now sleep by }
     {
@@ -129,7 +129,7 @@ impl Layout {
         }
     }
 
-    /// The bits of the value that a load takes, the lowest first.
+    /// The bits of a load's value, the lowest first.
     pub fn load(&self, load: u32) -> [Lit; 32]
         requires { load < self.now.loads }
         ensures { result ≡ load_word self.now load }
@@ -137,7 +137,7 @@ impl Layout {
         word_from(self.load_start(load))
     }
 
-    /// The first variable of the value that a load takes.
+    /// The first variable of a load's value.
     pub(crate) fn load_start(&self, load: u32) -> u32
         requires { load < self.now.loads }
         ensures start { result ≡ load_start self.now load }
@@ -154,7 +154,7 @@ impl Layout {
         2 + 8 * self.order.events() + 32 * self.loads
     }
 
-    /// That the choice of a number is made.
+    /// The literal of "the choice at this index is made".
     pub(crate) fn choice(&self, number: usize) -> Lit
         requires { number < length self.now.order.choices }
         ensures { result ≡ choice_literal self.now number }
@@ -162,7 +162,7 @@ impl Layout {
         Lit::new(self.choice_start() + number as u32, false)
     }
 
-    /// The literal of a pair, if it was asked.
+    /// The literal of a pair, if the order asks about it.
     fn comparator(&self, first: u32, second: u32) -> Option<Lit>
         ensures { result ≡ comparator self.now first second }
     {
@@ -170,7 +170,7 @@ impl Layout {
         Some(self.comparators[number])
     }
 
-    /// The clauses of transitivity.
+    /// Adds the clauses of transitivity.
     fn add_transitivity(&self, alloc: Global, cnf: &mut Cnf) -> Result<(), AllocError>
         requires one { 0 < cnf.old.vars }
         requires literals { AreWithin cnf.old.vars (comparators self.now).word }
@@ -185,7 +185,7 @@ impl Layout {
         Ok(())
     }
 
-    /// Those for a pair and each event after it.
+    /// Adds those for a pair and each event after both.
     fn add_thirds(&self, alloc: Global, cnf: &mut Cnf, pair: Pair) -> Result<(), AllocError>
         requires one { 0 < cnf.old.vars }
         requires literals { AreWithin cnf.old.vars (comparators self.now).word }
@@ -206,7 +206,7 @@ impl Layout {
     }
 }
 
-/// The clauses of transitivity, where all three literals are there.
+/// Adds the clauses of transitivity for three literals, if all three exist.
 fn add_where_asked(
     alloc: Global,
     cnf: &mut Cnf,
@@ -228,8 +228,8 @@ fn add_where_asked(
     }
 }
 
-/// The clauses of transitivity, for the literals of the first event and the second, of the second and the third, and of the first
-/// and the third.
+/// Adds the clauses of transitivity for three literals: of the first event and the second, of the
+/// second and the third, and of the first and the third.
 fn add_three(alloc: Global, cnf: &mut Cnf, a: Lit, b: Lit, c: Lit) -> Result<(), AllocError>
     requires first { var_of a ≤ cnf.old.vars }
     requires second { var_of b ≤ cnf.old.vars }

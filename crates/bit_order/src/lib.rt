@@ -1,6 +1,6 @@
-//! The order of events as clauses. Each event has a position of 8 bits, each load the 32 bits of its value, and each choice of an
-//! event that ends a sleep a variable. A literal says of two events which comes first; values of all variables are read as a world,
-//! and each world has such values.
+//! The order of events as clauses. Each event has a position of 8 bits, each load 32 bits of value,
+//! and each choice of what ends a sleep a variable. A literal tells which of two events comes
+//! first. A valuation is read as a world, and each world has such a valuation.
 #![tactic(auto)]
 
 mod choices;

@@ -15,10 +15,10 @@ use cnf_core::{Cnf, Lit};
 use order_formula::{Order, Pair};
 use std::alloc::{AllocError, Global};
 
-/// Asks of every two of these events which comes first. What was asked keeps its number.
+/// Makes the order ask about every two of these events. Earlier pairs keep their numbers.
 ///
-/// With the events of all atoms that aren't conjuncts by themselves, and of what loads take, contended logs need far fewer conflicts:
-/// transitivity then speaks of every three of them.
+/// Used for the events of loads and of conjuncts with several literals: transitivity then covers
+/// every three of them, and contended logs need far fewer conflicts.
 pub fn complete(order: &mut Order, events: &[u32]) -> Result<(), AllocError>
     requires few { order.old.events ≤ 256 }
     requires events { All (λ event. event < order.old.events) events.now }
@@ -30,7 +30,7 @@ pub fn complete(order: &mut Order, events: &[u32]) -> Result<(), AllocError>
     Ok(())
 }
 
-/// Asks of an event and each of some others which comes first.
+/// Makes the order ask about an event and each of some others.
 fn ask_pairs(order: &mut Order, event: u32, others: &[u32]) -> Result<(), AllocError>
     requires few { order.old.events ≤ 256 }
     requires event { event < order.old.events }
@@ -44,7 +44,7 @@ fn ask_pairs(order: &mut Order, event: u32, others: &[u32]) -> Result<(), AllocE
     Ok(())
 }
 
-/// Asks which of two events comes first. No pair is asked twice, so that each has a number.
+/// Makes the order ask about two events. No pair is asked twice, so each has a number.
 #[tactic(auto, using(crate::proofs::Counts::few_pairs))]
 fn ask_pair(order: &mut Order, first: u32, second: u32) -> Result<(), AllocError>
     requires few { order.old.events ≤ 256 }
@@ -57,7 +57,7 @@ fn ask_pair(order: &mut Order, first: u32, second: u32) -> Result<(), AllocError
     Ok(())
 }
 
-/// The literals of the pairs, in order.
+/// The literals of all pairs, in order.
 pub(crate) fn compare_pairs(
     alloc: Global,
     cnf: &mut Cnf,
@@ -78,7 +78,7 @@ pub(crate) fn compare_pairs(
     Ok(literals)
 }
 
-/// Whether the first event of a pair comes before the second: where the positions are equal, by their numbers.
+/// Whether the first event of a pair comes before the second; equal positions compare by number.
 #[tactic(auto, using(crate::proofs::Compared::position_are_within, crate::proofs::WordLaws::length_word), unfolding(crate::specs::Comparators::compared_pair))]
 fn compare_pair(cnf: &mut Cnf, pair: Pair) -> Result<Lit, AllocError>
     requires one { 0 < cnf.old.vars }

@@ -1,4 +1,4 @@
-//! How values of the variables are read as a world.
+//! How a valuation is read as a world.
 ghost use Rattle.std.specs.Prelude.{◌≡◌, ◌<◌, ◌≤◌, ◌+◌, ◌^◌, length, map, IfOk};
 ghost use Rattle.std.specs.List.{range_with_len};
 ghost use Rattle.cnf_core.specs.Clauses.{value_in};
@@ -15,7 +15,7 @@ use cnf_core::Assignment;
 use order_formula::World;
 use std::alloc::{AllocError, Global};
 
-/// The number of a word of variables from one on.
+/// The number of the word that begins at a variable.
 fn number(assignment: &Assignment, first: u32, width: u32) -> u32
     requires positive { 0 < first }
     requires narrow { width ≤ 32 }
@@ -32,8 +32,8 @@ fn number(assignment: &Assignment, first: u32, width: u32) -> u32
 }
 
 impl Layout {
-    /// The world that the values of the variables say. There are more values than variables of the order, where other circuits stand on
-    /// it.
+    /// The world of an assignment, which may have more variables than the order if other circuits
+    /// were added.
     pub fn read_world(&self, alloc: Global, assignment: &Assignment) -> Result<World, AllocError>
         requires few { self.now.order.events ≤ 256 }
         requires values { (base self.now).vars ≤ length assignment.now }
@@ -99,7 +99,7 @@ impl Layout {
             .collect(alloc)
     }
 
-    /// What ends a sleep: the event of the first choice of it that is made.
+    /// What ends a sleep: the event of the first choice that is made for it.
     fn read_ender(&self, assignment: &Assignment, sleep: u32) -> Option<u32>
         requires { (base self.now).vars ≤ length assignment.now }
         ensures { result ≡ ender_in self.now (value_in assignment.now) sleep }

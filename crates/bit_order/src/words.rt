@@ -4,7 +4,7 @@ ghost use Rattle.bit_order.specs.Layouts.{word_from, position_word};
 
 use cnf_core::Lit;
 
-/// The word of so many variables from one on, the lowest bit first: it has the last of them.
+/// The word of the `W` variables from `first` on, the lowest bit first; that is the last variable.
 pub(crate) fn word_from<const W: usize>(first: u32) -> [Lit; W]
     requires positive { 0 < first }
     requires small { first + W < 2 ^ 31 }

@@ -1,4 +1,4 @@
-//! Values of the variables that say a world.
+//! Valuations for worlds.
 ghost use Rattle.std.specs.Prelude.{◌≤◌};
 
 use crate::Layout;
@@ -6,8 +6,8 @@ use order_formula::World;
 use std::alloc::{AllocError, Global};
 
 impl Layout {
-    /// Values of the variables before any gate, by which [`read_world`](Layout::read_world) reads a world, its positions' ranks aside.
-    /// A position or a value of a load that it lacks is 0.
+    /// Values of the variables before any gate that [`read_world`](Layout::read_world) reads as
+    /// `world`, up to the ranks of its positions. A missing position or load value is 0.
     pub fn write_world(&self, alloc: Global, world: &World) -> Result<Vec<bool>, AllocError> {
         let mut values = Vec::new(alloc);
         values.push(true)?;
@@ -34,7 +34,7 @@ impl Layout {
         Ok(())
     }
 
-    /// Which choices are made.
+    /// Whether each choice is made.
     fn write_choices(&self, world: &World, values: &mut Vec<bool>) -> Result<(), AllocError> {
         for choice in self.order().choices() {
             values.push(world.is_ended(choice.sleep, choice.by))?;
@@ -43,7 +43,7 @@ impl Layout {
     }
 }
 
-/// The lowest bits of a number, the highest of them first.
+/// The lowest `width` bits of a number, the highest of them first.
 fn write_bits(values: &mut Vec<bool>, number: u32, width: u32) -> Result<(), AllocError>
     requires { width ≤ 32 }
 {

@@ -1,7 +1,7 @@
 -- What shifts mean.
 use Rattle.std.specs.Prelude.{◌≡◌, ℕ, ◌<◌, ◌≤◌, ◌*◌, ◌/◌, ◌%◌, ◌^◌, Bool, true, false, not, List, ℤ, pos, map, length}
 use Rattle.std.specs.List.{All}
-use Rattle.tc_base.specs.Arith.{shifted_left, shifted_right}
+use Rattle.int_ops.specs.Arith.{shifted_left, shifted_right}
 use Rattle.cnf_core.specs.Clauses.{Formula, Valuation, literal_true}
 use Rattle.bit_gates.specs.Folded.{constant}
 use Rattle.bit_gates.specs.Laws.{IsModel, IsOf}
@@ -12,12 +12,12 @@ use Rattle.bit_shift.specs.declared.Direction.{Direction}
 use Rattle.bit_shift.specs.declared.Direction.TheVariants.{Up, Down}
 use Rattle.bit_shift.specs.Shifts.{top, shifted}
 
--- the number of values, or of the opposite ones
+-- the number of the bits, or of their complements if the flag is true
 abbrev pub number_from : Bool → List Bool → ℕ
 number_from false ps = number_of ps
 number_from true ps = number_of (map not ps)
 
--- a word, a bit and a distance, of a formula's literals
+-- the operands of a shift over a formula's literals: the bit that comes in, a word and a distance
 pub record AreShifted (f : Formula) (bit : ℤ) (xs ds : List ℤ) : Type 0 where
   pub one : 0 < f.vars
   pub comes_in : IsOf f.vars bit
@@ -27,14 +27,14 @@ pub record AreShifted (f : Formula) (bit : ℤ) (xs ds : List ℤ) : Type 0 wher
 pub record ShiftsMean : Type 0 where
   pub word : (to : Direction) (bit : ℤ) (f : Formula) (xs ds : List ℤ) → AreShifted f bit xs ds
       → IsWord f (shifted to bit 1 f xs ds).state xs (shifted to bit 1 f xs ds).word
-  -- where 0 comes in
+  -- shifting up with 0 coming in multiplies by a power of 2
   pub up : (f : Formula) (xs ds : List ℤ) → AreShifted f (constant false) xs ds
       → (w : Valuation) → IsModel w (shifted Up (constant false) 1 f xs ds).state
       → value w (shifted Up (constant false) 1 f xs ds).word ≡ (value w xs * 2 ^ value w ds) % 2 ^ length xs
-  -- where a bit comes in: seen from it, that is 0
+  -- shifting down divides by a power of 2; if the bit that comes in is 1, complements are divided
   pub down : (bit : ℤ) (f : Formula) (xs ds : List ℤ) → AreShifted f bit xs ds → (w : Valuation) → IsModel w (shifted Down bit 1 f xs ds).state
       → number_from (literal_true w bit) (values w (shifted Down bit 1 f xs ds).word) ≡ number_from (literal_true w bit) (values w xs) / 2 ^ value w ds
-  -- 32 bits
+  -- at 32 bits
   pub left : (f : Formula) (xs ds : List ℤ) → AreShifted f (constant false) xs ds → length xs ≡ 32
       → (w : Valuation) → IsModel w (shifted Up (constant false) 1 f xs ds).state → value w ds ≤ 31
       → int_value w (shifted Up (constant false) 1 f xs ds).word ≡ shifted_left (int_value w xs) (pos (value w ds))

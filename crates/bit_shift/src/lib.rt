@@ -1,4 +1,4 @@
-//! Words of literals whose places move: by one place, or by a barrel shifter as far as another word says.
+//! Shifts of words of literals: by one place, or by the number in another word (a barrel shifter).
 #![tactic(auto)]
 
 ghost use Rattle.std.specs.Prelude.{◌≡◌, ◌<◌, ◌≤◌, ◌+◌, ◌*◌, IfOk, OnOk, length, ℤ, List};
@@ -13,21 +13,21 @@ use bit_words::choose_words;
 use cnf_core::{Cnf, Lit};
 use std::alloc::AllocError;
 
-/// Where the places of a word move.
+/// The direction of a shift.
 #[derive(Clone, Copy, Debug, PartialEq, Eq)]
 pub enum Direction {
-    /// To the higher ones, as `<<` moves them.
+    /// To the higher places, as `<<` shifts.
     Up,
-    /// To the lower ones, as `>>` moves them.
+    /// To the lower places, as `>>` shifts.
     Down,
 }
 
-/// A word that is moved up has the product with a power of 2, and one that is moved down the quotient: at 32 bits those of `int`.
+/// Shifting up multiplies and shifting down divides by a power of 2; at 32 bits, as for `int`.
 pub fn shifts_mean()
     ensures { ShiftsMean }
 {}
 
-/// A bit below the lowest: the highest goes.
+/// Shifts up by one place: the bit comes in at the bottom, and the highest is dropped.
 pub fn shift_in(word: &mut [Lit], bit: Lit)
     ensures { word.new ≡ shifted_in bit word.old }
 {
@@ -39,7 +39,7 @@ pub fn shift_in(word: &mut [Lit], bit: Lit)
     }
 }
 
-/// A bit above the highest: the lowest goes.
+/// Shifts down by one place: the bit comes in at the top, and the lowest is dropped.
 pub fn shift_out(word: &mut [Lit], bit: Lit)
     ensures { word.new ≡ shifted_out bit word.old }
 {
@@ -49,7 +49,7 @@ pub fn shift_out(word: &mut [Lit], bit: Lit)
     }
 }
 
-/// The places move by one: the bit takes the one that is left.
+/// Shifts by one place, with the bit coming in.
 fn move_place(word: &mut [Lit], to: Direction, bit: Lit)
     ensures { word.new ≡ moved to bit word.old }
 {
@@ -59,7 +59,7 @@ fn move_place(word: &mut [Lit], to: Direction, bit: Lit)
     }
 }
 
-/// The places move so far: the bit takes each that is left.
+/// Shifts by `by` places, with the bit coming in each time.
 fn move_places(word: &mut [Lit], to: Direction, bit: Lit, by: usize)
     ensures { word.new ≡ iterate (moved to bit) by word.old }
 {
@@ -68,7 +68,7 @@ fn move_places(word: &mut [Lit], to: Direction, bit: Lit, by: usize)
     }
 }
 
-/// One stage: where the condition is true, the places move so far.
+/// One stage of a barrel shifter: shifts by a fixed distance if the condition is true.
 fn shift_stage<const W: usize>(
     cnf: &mut Cnf,
     word: &mut [Lit; W],
@@ -94,7 +94,7 @@ fn shift_stage<const W: usize>(
     Ok(())
 }
 
-/// The word whose places move so far as the distance says, which is a word of up to 16 literals: the bit takes each place that is left.
+/// Shifts by the distance, a word of up to 16 literals, with the bit coming in at each place.
 pub fn shift<const W: usize>(
     cnf: &mut Cnf,
     to: Direction,

@@ -11,7 +11,7 @@ use mir.ValLaws.{to_z-neg}
 use Rattle.std.proofs.lemmas.Bool.Decides.{nat_tests, Decides-int_eq}
 use Rattle.std.proofs.lemmas.List.{length-map, length-take, length-replicate}
 use Rattle.std.proofs.lemmas.List.Elements.{All-replicate, All-get_or}
-use Rattle.tc_base.specs.Arith.{wrapped, with_sign, signs_differ, quotient, remainder}
+use Rattle.int_ops.specs.Arith.{wrapped, with_sign, signs_differ, quotient, remainder}
 use Rattle.cnf_core.specs.Clauses.{var_of, Formula, Valuation, literal_true}
 use Rattle.cnf_core.specs.Gates.{gate_value}
 use Rattle.cnf_core.specs.declared.gates.Gate.TheVariants.{Xor}

@@ -1,7 +1,7 @@
--- What quotients, remainders and order of words with a sign mean.
+-- What quotients, remainders and comparisons of signed words mean.
 use Rattle.std.specs.Prelude.{◌≡◌, ◌<◌, ◌-◌, ◌%◌, ◌^◌, if◌then◌else◌, int_lt, int_le, List, ℤ, length}
 use Rattle.std.specs.List.{All}
-use Rattle.tc_base.specs.Arith.{quotient, remainder}
+use Rattle.int_ops.specs.Arith.{quotient, remainder}
 use Rattle.cnf_core.specs.Clauses.{Formula, Valuation, literal_true}
 use Rattle.bit_gates.specs.Laws.{IsModel, IsOf, IsBit}
 use Rattle.bit_words.specs.Words.{Walked}
@@ -12,7 +12,7 @@ use Rattle.bit_signed.specs.Signed.{negated_where, quotient_word, remainder_word
 pub record SignedMean : Type 0 where
   pub negate : (f : Formula) (xs : List ℤ) (sign : ℤ) → 0 < f.vars → All (IsOf f.vars) xs → IsOf f.vars sign
       → IsNumber f xs (negated_where f xs sign) (λ w. if literal_true w sign then (2 ^ length xs - value w xs) % 2 ^ length xs else value w xs)
-  -- 32 bits
+  -- at 32 bits
   pub divided : (f : Formula) (xs ys : List ℤ) → AreOperands f xs ys → length xs ≡ 32 → IsWord f (quotient_word f xs ys).state xs (quotient_word f xs ys).word
   pub quotient : (f : Formula) (xs ys : List ℤ) → AreOperands f xs ys → length xs ≡ 32 → (w : Valuation) → IsModel w (quotient_word f xs ys).state
       → 0 < value w ys → int_value w (quotient_word f xs ys).word ≡ quotient (int_value w xs) (int_value w ys)

@@ -1,4 +1,4 @@
--- Words as numbers with a sign.
+-- Words as signed numbers.
 use Rattle.std.specs.Prelude.{◌-◌, List, [], ◌∷◌, ◌++◌, ℤ, neg_ℤ, length, take, replicate}
 use Rattle.cnf_core.specs.Clauses.{Formula}
 use Rattle.cnf_core.specs.declared.gates.Gate.TheVariants.{Xor}
@@ -8,20 +8,20 @@ use Rattle.bit_arith.specs.Sums.{without_carry, zeros}
 use Rattle.bit_shift.specs.Shifts.{top}
 use Rattle.bit_divide.specs.Quotients.{Divided, division}
 
--- a word where a literal is false, and else that of the opposite number: each place's opposite, and 1
+-- a word, negated (inverted, plus 1) if the literal `sign` is true
 abbrev pub negated_where : Formula → List ℤ → ℤ → Walked Formula
 negated_where f xs sign =
     let flipped : Walked Formula = gated_words Xor f xs (replicate (length xs) sign) in
     without_carry (added flipped.state flipped.word (zeros (length xs)) sign)
 
--- the division of a magnitude by another
+-- the division of one word's magnitude by another's
 abbrev pub magnitudes_divided : Formula → List ℤ → List ℤ → Divided
 magnitudes_divided f xs ys =
     let above : Walked Formula = negated_where f xs (top xs) in
     let below : Walked Formula = negated_where above.state ys (top ys) in
     division below.state above.word below.word
 
--- the quotient of the magnitudes, with a sign where one of the signs is set and the other isn't
+-- the quotient of the magnitudes, negated if the signs differ
 abbrev pub quotient_word : Formula → List ℤ → List ℤ → Walked Formula
 quotient_word f xs ys =
     let m : Divided = magnitudes_divided f xs ys in
@@ -32,10 +32,10 @@ quotient_word f xs ys =
 abbrev pub remainder_word : Formula → List ℤ → List ℤ → Walked Formula
 remainder_word f xs ys = let m : Divided = magnitudes_divided f xs ys in negated_where m.formula m.remainder (top xs)
 
--- a word with its highest literal's opposite in its place
+-- a word with its sign bit inverted
 abbrev pub biased : List ℤ → List ℤ
 biased ls = take (length ls - 1) ls ++ neg_ℤ (top ls) ∷ []
 
--- whether the first number is below the second; `low` where they are equal
+-- whether the first signed number is smaller; `low` if they are equal
 abbrev pub compared_signed : Formula → ℤ → List ℤ → List ℤ → Made
 compared_signed f low xs ys = compared (kept f low) (biased xs) (biased ys)

@@ -1,4 +1,4 @@
-//! Words of literals as numbers with a sign, in two's complement: quotients, remainders and order.
+//! Signed words of literals, in two's complement: quotients, remainders and comparisons.
 #![tactic(auto)]
 
 ghost use Rattle.std.specs.Prelude.{◌≡◌, ◌<◌, ◌≤◌, ◌+◌, ◌*◌, IfOk, OnOk, length, ℤ, List};
@@ -15,7 +15,7 @@ use bit_words::{add_words, compare, gate_by};
 use cnf_core::{Cnf, Gate, Lit};
 use std::alloc::AllocError;
 
-/// At 32 bits quotients, remainders and order are those of `int`.
+/// At 32 bits, quotients, remainders and comparisons are those of `int`.
 pub fn signed_means()
     ensures { SignedMean }
 {}
@@ -28,7 +28,7 @@ pub fn sign<const W: usize>(a: &[Lit; W]) -> Lit
     a[W - 1]
 }
 
-/// The opposite number where the literal is true, and else the number, in the word's place.
+/// Negates the number in place if the literal is true.
 fn negate_where<const W: usize>(
     cnf: &mut Cnf,
     word: &mut [Lit; W],
@@ -73,7 +73,7 @@ fn divide_magnitudes<const W: usize>(
     divide(cnf, &above, &below)
 }
 
-/// The quotient, rounded towards zero. Where the divisor is 0 it says nothing.
+/// The quotient, rounded towards zero; unspecified if the divisor is 0.
 pub fn quotient<const W: usize>(
     cnf: &mut Cnf,
     a: &[Lit; W],
@@ -95,7 +95,7 @@ pub fn quotient<const W: usize>(
     Ok(quotient)
 }
 
-/// The remainder, with the dividend's sign. Where the divisor is 0 it says nothing.
+/// The remainder, with the dividend's sign; unspecified if the divisor is 0.
 pub fn remainder<const W: usize>(
     cnf: &mut Cnf,
     a: &[Lit; W],
@@ -116,7 +116,7 @@ pub fn remainder<const W: usize>(
     Ok(remainder)
 }
 
-/// The highest literal's opposite in its place: words in this form have the order of their numbers.
+/// Inverts the sign bit: words in this form compare, unsigned, like their signed numbers.
 fn bias<const W: usize>(word: &mut [Lit; W])
     requires { 0 < W }
     ensures { word.new ≡ biased word.old }
@@ -124,7 +124,7 @@ fn bias<const W: usize>(word: &mut [Lit; W])
     word[W - 1] = word[W - 1].opposite();
 }
 
-/// Whether the first number is below the second; where they are equal, `low`.
+/// Whether the first number is smaller; `low` if they are equal.
 #[tactic(auto, using(crate::proofs::Moves::biased_within, crate::proofs::Moves::biased_length))]
 pub fn compare_signed<const W: usize>(
     cnf: &mut Cnf,

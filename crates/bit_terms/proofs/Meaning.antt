@@ -12,8 +12,8 @@ use Rattle.std.proofs.lemmas.Nat.Bits.{bit_at-lt}
 use Rattle.std.proofs.lemmas.List.{length-replicate, length_push, map-append}
 use Rattle.std.proofs.lemmas.List.Elements.{All-nil, All-cons, All-head, All-tail, All-map, All-push, All-replicate, All-weaker}
 use Rattle.std.proofs.lemmas.List.FromFn.{length-map-range_with_len}
-use Rattle.tc_base.specs.Arith.{IsInt, bit, unary, binary}
-use Rattle.tc_base.proofs.Bits.{unsigned-below}
+use Rattle.int_ops.specs.Arith.{IsInt, bit, unary, binary}
+use Rattle.int_ops.proofs.Bits.{unsigned-below}
 use Rattle.sym_terms.specs.declared.node.Node.{Node}
 use Rattle.sym_terms.specs.declared.node.Node.TheVariants.{Constant, Symbol, Unary, Binary}
 use Rattle.sym_terms.specs.Values.{node_value}

@@ -1,10 +1,10 @@
--- How many variables, and how many clauses, the circuits of terms add at most.
+-- Upper bounds on the variables, and on the clauses, that the circuits of terms add.
 use Rattle.std.specs.Prelude.{ℕ, List, sum_by}
 use Rattle.sym_terms.specs.declared.node.Node.{Node}
 use Rattle.sym_terms.specs.declared.node.Node.TheVariants.{Constant, Symbol, Unary, Binary}
 use Rattle.bit_ops.specs.Sizes.{unary_size, binary_size}
 
--- a number and the value of a load have no circuit
+-- constants and loads need no circuit
 abbrev pub node_size : Node → ℕ
 node_size (Constant _) = 0
 node_size (Symbol _) = 0

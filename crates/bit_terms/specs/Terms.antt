@@ -1,7 +1,7 @@
--- The circuits of terms: a word for each.
+-- The circuits of terms: one word for each term.
 use Rattle.std.specs.Prelude.{ℕ, ◌==◌, List, [], ◌∷◌, ◌++◌, ℤ, map, fold, get_or}
 use Rattle.std.specs.List.{range_with_len}
-use Rattle.tc_base.specs.Arith.{bit}
+use Rattle.int_ops.specs.Arith.{bit}
 use Rattle.sym_terms.specs.declared.node.Node.{Node}
 use Rattle.sym_terms.specs.declared.node.Node.TheVariants.{Constant, Symbol, Unary, Binary}
 use Rattle.cnf_core.specs.Clauses.{Formula}
@@ -14,11 +14,11 @@ use Rattle.bit_ops.specs.Ops.{unary_word, binary_word}
 unfoldable pub constant_word : ℤ → List ℤ
 constant_word z = map (λ place. constant (bit z place == 1)) (range_with_len 0 32)
 
--- the word at a place; past the last, that of 0
+-- the word at an index, or the word 0 past the end
 abbrev pub word_at : List (List ℤ) → ℕ → List ℤ
 word_at words place = get_or words place (zeros 32)
 
--- what a node's circuit makes, from the words of what the loads take and of the nodes before it
+-- the word of a node, from the words of the loads' values and of the nodes before it
 abbrev pub node_word : (symbols known : List (List ℤ)) → Formula → Node → Walked Formula
 node_word symbols known f (Constant n) = record { state = f; word = constant_word n }
 node_word symbols known f (Symbol load) = record { state = f; word = word_at symbols load }
@@ -30,11 +30,11 @@ pub record Words : Type 0 where
   pub formula : Formula
   pub words : List (List ℤ)
 
--- with the word of the next node
+-- appends the word of the next node
 abbrev pub with_word : (symbols : List (List ℤ)) → Words → Node → Words
 with_word symbols m node =
     let here : Walked Formula = node_word symbols m.words m.formula node in record { formula = here.state; words = m.words ++ here.word ∷ [] }
 
--- the words of all nodes in order, each from those before it
+-- the words of all nodes, in order
 abbrev pub term_words : List Node → (symbols : List (List ℤ)) → Formula → Words
 term_words nodes symbols f = fold (with_word symbols) (record { formula = f; words = [] }) nodes

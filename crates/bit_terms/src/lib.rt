@@ -1,4 +1,4 @@
-//! Circuits of terms: a word of 32 literals for each, made once, from the words of the values that the loads take.
+//! Circuits of terms: one word of 32 literals for each, from the words of the loads' values.
 #![tactic(auto)]
 
 ghost use Rattle.std.specs.Prelude.{◌≡◌, ◌<◌, ◌≤◌, length, IfOk, OnOk};
@@ -19,19 +19,19 @@ use cnf_core::{Cnf, Lit};
 use std::alloc::{AllocError, Global};
 use sym_terms::{Node, Terms};
 
-/// Wherever the clauses are satisfied, the word of a term has the term's value; and the circuits add gates alone.
+/// The word of a term has the term's value in every model, and circuits add only gates.
 pub fn terms_mean()
     ensures { TermsMean }
 {}
 
-/// Wherever the clauses are satisfied, the literal that a word isn't 0 tells whether it is; and it adds gates alone.
+/// The literal of [`nonzero`] is right in every model of the clauses, and only gates are added.
 pub fn nonzero_means()
     ensures { NonzeroMeans }
 {}
 
-/// A word for each term, in the order of the names, from the words of the values that the loads take. A load past them takes 0.
+/// A word for each term, in order, from the words of the loads' values; a load past them has 0.
 ///
-/// Refused for want of memory, with the circuits of some terms made.
+/// Fails if there is no memory; the circuits of some terms may exist then.
 pub fn term_words(
     alloc: Global,
     cnf: &mut Cnf,
@@ -54,7 +54,7 @@ pub fn term_words(
     Ok(words)
 }
 
-/// A literal that is true where the word isn't 0.
+/// A literal that is true exactly if the word isn't 0.
 pub fn nonzero(cnf: &mut Cnf, word: &Word) -> Result<Lit, AllocError>
     requires one { 0 < cnf.old.vars }
     requires word { AreWithin cnf.old.vars word.now }
@@ -67,7 +67,7 @@ pub fn nonzero(cnf: &mut Cnf, word: &Word) -> Result<Lit, AllocError>
     any(cnf, constant(false), word)
 }
 
-/// The word of a node, from those of the nodes before it.
+/// The word of a node, from the words of the nodes before it.
 fn node_word(
     cnf: &mut Cnf,
     node: Node,
@@ -92,7 +92,7 @@ fn node_word(
     }
 }
 
-/// The word of the value that a load takes.
+/// The word of a load's value.
 fn word_at(symbols: &[Word], load: u32) -> Word
     ensures { result ≡ word_at symbols.now load }
 {

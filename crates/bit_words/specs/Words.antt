@@ -5,21 +5,21 @@ use Rattle.cnf_core.specs.Clauses.{var_of, Formula}
 use Rattle.cnf_core.specs.declared.gates.Gate.{Gate}
 use Rattle.bit_gates.specs.Folded.{Made, kept, both, either, differing, folded, chosen}
 
--- each literal is of one of the first `n` variables
+-- the variable of each literal is at most `n`
 abbrev pub AreWithin : ℕ → List ℤ → Type 0
 AreWithin n ls = All (λ l. var_of l ≤ n) ls
 
--- what one place of a word gives: what goes on to the next place, and a literal
+-- the result at one place of a word: the state for the next place, and a literal
 pub record Placed (S : Type 0) : Type 0 where
   pub state : S
   pub literal : ℤ
 
--- what all places give: what goes on from the last, and a word
+-- the result at all places: the last state, and a word
 pub record Walked (S : Type 0) : Type 0 where
   pub state : S
   pub word : List ℤ
 
--- a circuit that goes over two words of one length from the lowest place on
+-- a circuit that walks two words of equal length, from the lowest place up
 abbrev pub along : {S : Type 0} → (S → ℤ → ℤ → Placed S) → S → List ℤ → List ℤ → Walked S
 along step s [] ys = record { state = s; word = [] }
 along step s (a ∷ xs) [] = record { state = s; word = [] }
@@ -28,19 +28,19 @@ along step s (a ∷ xs) (b ∷ ys) =
     let rest : Walked _ = along step here.state xs ys in
     record { state = rest.state; word = here.literal ∷ rest.word }
 
--- a gate at a place
+-- the result of a gate at one place
 abbrev pub made_place : Made → Placed Formula
 made_place m = record { state = m.formula; literal = m.literal }
 
--- the gate at each place
+-- two words combined by a gate at each place
 abbrev pub gated_words : Gate → Formula → List ℤ → List ℤ → Walked Formula
 gated_words g f xs ys = along (λ h a b. made_place (folded g h a b)) f xs ys
 
--- the first word where the condition is true, and else the second
+-- the first word if the condition is true, else the second
 abbrev pub chosen_words : ℤ → Formula → List ℤ → List ℤ → Walked Formula
 chosen_words c f xs ys = along (λ h a b. made_place (chosen h c a b)) f xs ys
 
--- the carry of a ripple-carry adder: what goes on from place to place is a formula with a literal of it
+-- one place of a ripple-carry adder; the state is the carry with its formula
 abbrev pub added_place : Made → ℤ → ℤ → Placed Made
 added_place carry a b =
     let half : Made = differing carry.formula a b in
@@ -49,15 +49,15 @@ added_place carry a b =
     let one : Made = both two.formula half.literal carry.literal in
     record { state = either one.formula two.literal one.literal; literal = sum.literal }
 
--- the sum of two words and a carry, with the carry out of the top place
+-- the sum of two words and a carry in, with the carry out of the top place
 abbrev pub added : Formula → List ℤ → List ℤ → ℤ → Walked Made
 added f xs ys carry = along added_place (kept f carry) xs ys
 
--- each literal's opposite
+-- each literal negated
 abbrev pub inverted : List ℤ → List ℤ
 inverted ls = map neg_ℤ ls
 
--- whether the first number is the smaller one, where only the places so far count: from whether it was, at the places below
+-- whether the first number is smaller up to this place, given the answer `low` for the places below
 abbrev pub compared_place : Made → ℤ → ℤ → Made
 compared_place low a b =
     let above : Made = both low.formula (neg_ℤ a) b in
@@ -65,13 +65,13 @@ compared_place low a b =
     let kept : Made = both not_below.formula low.literal not_below.literal in
     either kept.formula above.literal kept.literal
 
--- whether the first of two words of one length is below the second; `low` where they are equal
+-- whether the first of two words of equal length is smaller; `low` if they are equal
 abbrev pub compared : Made → List ℤ → List ℤ → Made
 compared low [] ys = low
 compared low (a ∷ xs) [] = low
 compared low (a ∷ xs) (b ∷ ys) = compared (compared_place low a b) xs ys
 
--- whether a literal is true, one that is known or one of a list
+-- whether `known` or some literal of a list is true
 abbrev pub any_of : Made → List ℤ → Made
 any_of known [] = known
 any_of known (l ∷ ls) = any_of (either known.formula known.literal l) ls

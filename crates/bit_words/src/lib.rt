@@ -1,4 +1,4 @@
-//! Circuits over words of literals: a word is a list of them, the lowest bit first.
+//! Circuits over words: lists of literals, the lowest bit first.
 #![tactic(auto)]
 
 ghost use Rattle.std.specs.Prelude.{◌≡◌, ◌<◌, ◌≤◌, ◌+◌, ◌*◌, IfOk, OnOk, length, replicate, ℤ};
@@ -21,12 +21,12 @@ use bit_gates::{and, choose, gate, or, xor};
 use cnf_core::{Cnf, Gate, Lit};
 use std::alloc::AllocError;
 
-/// What each circuit makes has the value that the words' numbers say, wherever the clauses are satisfied.
+/// The result of each circuit has the right value in every model of the clauses.
 pub fn words_mean()
     ensures { WordsMean }
 {}
 
-/// The gate at each place of the word and of another.
+/// Applies a gate at each place to the word and another.
 pub fn gate_words(
     cnf: &mut Cnf,
     gate_of: Gate,
@@ -50,7 +50,7 @@ pub fn gate_words(
     Ok(())
 }
 
-/// The gate at each place of the word and of one literal.
+/// Applies a gate at each place to the word and one literal.
 pub fn gate_by(cnf: &mut Cnf, gate_of: Gate, word: &mut [Lit], by: Lit) -> Result<(), AllocError>
     requires one { 0 < cnf.old.vars }
     requires by { var_of by ≤ cnf.old.vars }
@@ -68,7 +68,7 @@ pub fn gate_by(cnf: &mut Cnf, gate_of: Gate, word: &mut [Lit], by: Lit) -> Resul
     Ok(())
 }
 
-/// The word where the condition is true, and else the other: in the word's place.
+/// Keeps the word if the condition is true, and else replaces it by the other.
 pub fn choose_words(
     cnf: &mut Cnf,
     condition: Lit,
@@ -93,7 +93,7 @@ pub fn choose_words(
     Ok(())
 }
 
-/// One place of an adder: the sum's literal, and the carry's.
+/// One place of an adder: returns the literals of the sum and of the carry.
 fn add_place(cnf: &mut Cnf, a: Lit, b: Lit, carry: Lit) -> Result<(Lit, Lit), AllocError>
     requires one { 0 < cnf.old.vars }
     requires first { var_of a ≤ cnf.old.vars }
@@ -114,7 +114,7 @@ fn add_place(cnf: &mut Cnf, a: Lit, b: Lit, carry: Lit) -> Result<(Lit, Lit), Al
     Ok((sum, or(cnf, two, one)?))
 }
 
-/// The sum of the word, another and a carry, in the word's place: the carry out of the top place.
+/// Adds another word and a carry to the word, and returns the carry out of the top place.
 pub fn add_words(
     cnf: &mut Cnf,
     word: &mut [Lit],
@@ -144,7 +144,7 @@ pub fn add_words(
     Ok(carry)
 }
 
-/// Whether one of the literals is true, or `known`.
+/// Whether one of the literals, or `known`, is true.
 pub fn any(cnf: &mut Cnf, known: Lit, word: &[Lit]) -> Result<Lit, AllocError>
     requires one { 0 < cnf.old.vars }
     requires known { var_of known ≤ cnf.old.vars }
@@ -162,7 +162,7 @@ pub fn any(cnf: &mut Cnf, known: Lit, word: &[Lit]) -> Result<Lit, AllocError>
     Ok(known)
 }
 
-/// Each literal's opposite, in the word's place.
+/// Negates each literal of the word.
 pub fn invert(word: &mut [Lit])
     ensures { word.new ≡ inverted word.old }
 {
@@ -171,7 +171,7 @@ pub fn invert(word: &mut [Lit])
     }
 }
 
-/// Whether the first number is the smaller one, from whether it was at the places below.
+/// Whether the first number is smaller up to this place, given the answer for the places below.
 fn compare_place(cnf: &mut Cnf, low: Lit, a: Lit, b: Lit) -> Result<Lit, AllocError>
     requires one { 0 < cnf.old.vars }
     requires low { var_of low ≤ cnf.old.vars }
@@ -189,7 +189,7 @@ fn compare_place(cnf: &mut Cnf, low: Lit, a: Lit, b: Lit) -> Result<Lit, AllocEr
     or(cnf, above, kept)
 }
 
-/// Whether the first number is below the second; where they are equal, `low`.
+/// Whether the first number is smaller; `low` if they are equal.
 pub fn compare(cnf: &mut Cnf, low: Lit, a: &[Lit], b: &[Lit]) -> Result<Lit, AllocError>
     requires one { 0 < cnf.old.vars }
     requires lengths { length b.now ≡ length a.now }

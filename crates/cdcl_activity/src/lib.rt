@@ -1,4 +1,4 @@
-//! Which variable a search decides: the most active one first, with the value that it had last; and when it starts again.
+//! Which variable a search decides (the most active, with its last value), and when it restarts.
 #![tactic(auto)]
 
 mod activity;

@@ -1,4 +1,4 @@
-//! When to start again.
+//! When to restart.
 
 /// The sequence 1, 1, 2, 1, 1, 2, 4, 1, .. of Luby, Sinclair and Zuckerman.
 #[derive(Debug, Drop)]
@@ -13,12 +13,12 @@ impl Luby {
         Luby { round: 1, term: 1 }
     }
 
-    /// The term where the sequence stands.
+    /// The current term.
     pub fn term(&self) -> u64 {
         self.term
     }
 
-    /// The next term: twice this one, until the greatest power of two in the round is met.
+    /// Advances to the next term: twice this one, up to the greatest power of two of the round.
     pub fn advance(&mut self) {
         if self.term >= 1 << self.round.trailing_zeros().min(63) {
             self.round = self.round.wrapping_add(1);

@@ -4,7 +4,7 @@ ghost use Rattle.std.specs.Prelude.{◌≡◌, ◌+◌, ◌-◌, ◌<◌, ◌≤
 use std::alloc::{AllocError, Global};
 use std::marker::Model;
 
-/// Where the literals of a clause lie, the two that it watches, and when it was used last.
+/// The range of a clause's literals, the two literals it watches, and when it was last used.
 #[derive(Debug, Clone, Copy)]
 struct Entry {
     start: usize,
@@ -15,7 +15,7 @@ struct Entry {
     kept: bool,
 }
 
-/// Clauses by number, from 0 on. Their literals never change, and lie one after another. A clause that isn't kept any more keeps its number.
+/// Clauses by number, from 0; their literals never change. A dropped clause keeps its number.
 #[derive(Debug, Drop)]
 pub struct Clauses {
     literals: Vec<u32>,
@@ -38,7 +38,7 @@ impl Model for Clauses {
 impl Clauses {
     ghost use Rattle.cdcl_clauses.specs.Clauses.{at, kept_clause, dropped, watches, beside};
 
-    /// No clause.
+    /// An empty list of clauses.
     pub fn new(alloc: Global) -> Clauses
         ensures { result ≡ [] }
     {
@@ -48,7 +48,7 @@ impl Clauses {
         }
     }
 
-    /// How many clauses there are, kept or not.
+    /// The number of clauses, kept or not.
     pub fn len(&self) -> usize
         ensures { result ≡ length self.now }
     {
@@ -81,7 +81,7 @@ impl Clauses {
         entry.kept && (entry.first == literal || entry.second == literal)
     }
 
-    /// What a clause watches beside a literal that it watches.
+    /// The other literal that a clause watches.
     pub fn beside(&self, clause: u32, literal: u32) -> u32
         requires { clause < length self.now }
         ensures { result ≡ beside (at self.now clause) literal }
@@ -94,7 +94,7 @@ impl Clauses {
         }
     }
 
-    /// A clause watches these from now on.
+    /// Makes a clause watch these two literals.
     pub fn watch(&mut self, clause: u32, first: u32, second: u32)
         requires { clause < length self.old }
         ensures { self.new ≡ slice_set self.old clause (record (at self.old clause) { first = first; second = second }) }
@@ -104,7 +104,7 @@ impl Clauses {
         entry.second = second;
     }
 
-    /// One more clause, and the two literals that it watches.
+    /// Appends a clause that watches these two literals.
     pub fn push(&mut self, literals: &[u32], first: u32, second: u32) -> Result<(), AllocError>
         ensures ok { OnOk result (self.new ≡ self.old ++ kept_clause literals.now first second ∷ []) }
         ensures err { OnErr result (self.new ≡ self.old) }
@@ -123,14 +123,14 @@ impl Clauses {
         Ok(())
     }
 
-    /// The last clause is there no more.
+    /// Removes the last clause.
     pub fn pop(&mut self)
         ensures { self.new ≡ take (length self.old - 1) self.old }
     {
         let _ = self.entries.pop();
     }
 
-    /// A clause isn't kept any more.
+    /// Drops a clause: it isn't kept any more.
     pub fn remove(&mut self, clause: u32)
         requires { clause < length self.old }
         ensures { self.new ≡ dropped self.old clause }
@@ -138,14 +138,14 @@ impl Clauses {
         self.entries[clause as usize].kept = false;
     }
 
-    /// When a clause was used last, as `touch` was told.
+    /// When a clause was last used, by the time given to `touch`.
     pub fn used(&self, clause: u32) -> u32
         requires { clause < length self.now }
     {
         self.entries[clause as usize].used
     }
 
-    /// A clause is used.
+    /// Records that a clause is used.
     pub fn touch(&mut self, clause: u32, now: u32)
         requires { clause < length self.old }
         ensures { self.new ≡ self.old }

@@ -1,4 +1,4 @@
-//! The clauses of a search, the two literals that each watches, and what units give.
+//! The clauses of a search, the two literals that each watches, and the invariants of propagation.
 #![tactic(auto)]
 
 mod clauses;

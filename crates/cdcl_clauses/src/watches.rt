@@ -1,17 +1,17 @@
-//! Who watches a literal.
+//! The watch lists of literals.
 ghost use Rattle.std.specs.Prelude.{◌≡◌, ◌-◌, ◌<◌, [], ◌∷◌, ◌++◌, IfOk, OnOk, OnErr, length, take, slice_set, slice_index_or, replicate};
 
 use std::alloc::{AllocError, Global};
 use std::marker::Model;
 
-/// A clause that watches a literal, and another of its literals: while that is true, the clause needs no look.
+/// A clause that watches a literal, and another of its literals: if it is true, skip the clause.
 #[derive(Debug, Clone, Copy)]
 pub struct Watch {
     pub clause: u32,
     pub blocker: u32,
 }
 
-/// For each literal the clauses that watch it, in no order. Some that watch it no more may stand there too. Contracts see the lists.
+/// For each literal the clauses that watch it, unordered, maybe with stale ones; seen as lists.
 #[derive(Debug, Drop)]
 pub struct Watches {
     lists: Vec<Vec<Watch>>,
@@ -29,7 +29,7 @@ impl Model for Watches {
 impl Watches {
     ghost use Rattle.cdcl_clauses.specs.Clauses.{listed, without_place};
 
-    /// Nobody watches any of so many literals.
+    /// Empty watch lists for `literals` literals.
     pub fn new(alloc: Global, literals: usize) -> Result<Watches, AllocError>
         ensures { IfOk result (λ ws. ws ≡ replicate literals []) }
     {
@@ -40,7 +40,7 @@ impl Watches {
         Ok(Watches { lists })
     }
 
-    /// How many stand at a literal.
+    /// The length of a literal's list.
     pub fn count(&self, literal: u32) -> usize
         requires { literal < length self.now }
         ensures { result ≡ length (listed self.now literal) }
@@ -48,7 +48,7 @@ impl Watches {
         self.lists[literal as usize].len()
     }
 
-    /// The one at a place of a literal.
+    /// The watch at a place of a literal's list.
     pub fn get(&self, literal: u32, place: usize) -> Watch
         requires literal { literal < length self.now }
         requires place { place < length (listed self.now literal) }
@@ -57,7 +57,7 @@ impl Watches {
         self.lists[literal as usize][place]
     }
 
-    /// One more at a literal.
+    /// Appends a watch to a literal's list.
     pub fn push(&mut self, literal: u32, watch: Watch) -> Result<(), AllocError>
         requires { literal < length self.old }
         ensures ok { OnOk result (self.new ≡ slice_set self.old literal (listed self.old literal ++ watch ∷ [])) }
@@ -67,7 +67,7 @@ impl Watches {
         Ok(())
     }
 
-    /// The last at a literal goes.
+    /// Removes the last watch of a literal's list.
     pub fn pop(&mut self, literal: u32)
         requires { literal < length self.old }
         ensures { self.new ≡ slice_set self.old literal (take (length (listed self.old literal) - 1) (listed self.old literal)) }
@@ -75,7 +75,7 @@ impl Watches {
         let _ = self.lists[literal as usize].pop();
     }
 
-    /// The one at a place goes, and the last takes its place.
+    /// Removes the watch at a place of a literal's list; the last one takes its place.
     pub fn remove(&mut self, literal: u32, place: usize)
         requires literal { literal < length self.old }
         requires place { place < length (listed self.old literal) }

@@ -4,7 +4,7 @@ use Rattle.std.specs.Prelude.{Contains, All, ◌||◌}
 use Rattle.std.proofs.lemmas.List.{length_push}
 use Rattle.cnf_core.specs.Clauses.{Formula}
 use Rattle.refute_check.specs.Refutations.{Checking, passed}
-use Rattle.tc_base.specs.Buffers.{is_nil}
+use Rattle.list_laws.specs.Lists.{is_nil}
 use Rattle.refute_check.specs.declared.line.Line.{Line}
 use Rattle.cdcl_clauses.specs.Clauses.{Clause}
 use Rattle.cdcl_clauses.specs.Invariants.{AreSame}
@@ -18,7 +18,7 @@ use Rattle.cdcl_lines.proofs.Representing.{same-represented, shown-passes}
 use Rattle.cdcl_lines.proofs.Formulas.{keeps-on}
 use Rattle.cdcl_lines.proofs.Freshness.{fresh-goes_on}
 use Rattle.cdcl_core.specs.Searches.{IsRoomy, checked, teaches}
-use Rattle.tc_base.specs.declared.limits.TheConstants.{BUDGET}
+use Rattle.tc_limits.specs.declared.limits.TheConstants.{BUDGET}
 use Rattle.cdcl_core.specs.helpers.States.{BelongTogether, Ended, HasBound}
 use Rattle.cdcl_core.proofs.Tallying.{kept-same, kept-push}
 use Rattle.cdcl_core.proofs.Counts.{checked-push, added-push, added-same, adds-push, deleted-added, few-added}

@@ -34,39 +34,39 @@ deletes (Delete numbers) = length numbers
 abbrev pub deleted_in : List Line → ℕ
 deleted_in lines = sum_by deletes lines
 
--- a line deletes none of the first so many clauses
+-- a line deletes none of the first `n` clauses
 abbrev pub Spares : ℕ → Line → Type 0
 Spares n (Add literals hints) = ⊤
 Spares n (Delete numbers) = All (λ k. n < k) numbers
 
--- of the clauses that lines added, no more are kept than the variables, 4,000, and half of the lines that add
+-- of the clauses that lines added, at most half, the variables' number and 4,000 more are kept
 abbrev pub IsRoomy : ℕ → List Line → Type 0
 IsRoomy vars lines = count_by adds lines ≤ deleted_in lines + vars + 4000 + (count_by adds lines + 1) / 2
 
--- no clause of the formula is deleted; after each line at most half as many clauses were deleted as were added; and just before each line
--- that adds one not too many are kept
+-- no clause of the formula is deleted; at most half of the added clauses are deleted at each line;
+-- and not too many are kept just before each line that adds one
 pub record DeletesFew (f : Formula) (lines : List Line) : Type 0 where
   pub spares : All (Spares (length f.clauses)) lines
   pub few : (k : ℕ) → 2 * deleted_in (take k lines) ≤ count_by adds (take k lines)
   pub roomy : (k : ℕ) → IfSome (slice_get lines k) (λ l. adds l ≡ true → IsRoomy f.vars (take k lines))
 
--- there is a value for each variable, and by them each clause is true
+-- each variable has a value, and the values satisfy the clauses
 pub record IsSolution (f : Formula) (values : List Bool) : Type 0 where
   pub all : length values ≡ f.vars
   pub satisfies : IsTrue (satisfies (value_in values) f.clauses)
 
--- the clauses that a search began with, its lines so far, and its answer once it has one
+-- the clauses that a search began with, its lines so far, and its answer, if there is one
 pub record Searched : Type 0 where
   pub formula : Formula
   pub lines : List Line
   pub answer : Option Progress
 
--- what a checker knows after lines
+-- the state of a checker after these lines
 abbrev pub checked : Formula → List Line → Checking
 checked f lines = fold after (start f) lines
 
--- each line passes and is fresh, and few clauses are deleted; the answer is that the search is closed exactly where the derivation is,
--- and until then no line is empty; and values are the answer only if there is one for each variable, and they satisfy the clauses
+-- each line passes and is fresh, and few clauses are deleted; the answer is `Closed` exactly if the
+-- derivation is closed; until then no added clause is empty; values as answer satisfy the clauses
 pub record IsSearched (s : Searched) : Type 0 where
   pub passes : (checked s.formula s.lines).fault ≡ None
   pub fresh : AreFresh s.formula s.lines
@@ -75,12 +75,12 @@ pub record IsSearched (s : Searched) : Type 0 where
   pub not_empty : (s.answer ≡ Some Closed → ⊥) → count_by adds s.lines ≡ added_in s.lines
   pub satisfied : (values : List Bool) → s.answer ≡ Some (Sat values) → IsSolution s.formula values
 
--- the same clauses, and maybe more lines
+-- the same formula, and maybe more lines
 pub record GoesOn (s t : Searched) : Type 0 where
   pub formula : t.formula ≡ s.formula
   pub lines : take (length s.lines) t.lines ≡ s.lines
 
--- what a search answers is its answer from now on, or as many clauses were learnt as were asked for, and not so many before
+-- a search answers for good before it learns as many clauses as asked for, or pauses at that number
 abbrev pub Answers : Searched → Searched → ℕ → Progress → Type 0
 Answers s t conflicts (Sat values) = (t.answer ≡ Some (Sat values)) × (added_in t.lines < added_in s.lines + conflicts)
 Answers s t conflicts Closed = (t.answer ≡ Some Closed) × (added_in t.lines < added_in s.lines + conflicts)

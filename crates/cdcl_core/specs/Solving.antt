@@ -1,4 +1,4 @@
--- What a search comes to that isn't to go on.
+-- What a finished search returns.
 use Rattle.std.specs.Prelude.{◌≡◌, ℕ, count_by}
 use Rattle.cnf_core.specs.Clauses.{Formula}
 use Rattle.refute_check.specs.Refutations.{IsClosed, IsOpen}
@@ -7,8 +7,8 @@ use Rattle.cdcl_core.specs.Searches.{adds, added_in, DeletesFew, IsSolution}
 use Rattle.cdcl_core.specs.declared.progress.Solved.{Solved}
 use Rattle.cdcl_core.specs.declared.progress.Solved.TheVariants.{Sat, Unsat, Spent}
 
--- an assignment has a value for each variable and satisfies the clauses; a derivation is closed, fresh and deletes few clauses; or it is
--- open, fresh and deletes few, and has as many added lines as the budget says, none of them empty
+-- values satisfy the clauses; a derivation is closed, fresh and deletes few clauses; or it is open,
+-- fresh and deletes few, and adds as many clauses as the budget says, none of them empty
 abbrev pub Solves : Formula → ℕ → Solved → Type 0
 Solves f budget (Sat values) = IsSolution f values
 Solves f budget (Unsat lines) = IsClosed f lines × AreFresh f lines × DeletesFew f lines

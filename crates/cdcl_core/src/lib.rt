@@ -1,4 +1,4 @@
-//! A search for an assignment that satisfies clauses, which learns from its conflicts, and can be paused.
+//! A search for a satisfying assignment, which learns from conflicts and can be paused.
 #![tactic(auto)]
 
 mod loading;

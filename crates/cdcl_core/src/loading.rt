@@ -1,4 +1,4 @@
-//! The clauses that a search begins with.
+//! Loading the clauses that a search begins with.
 ghost use Rattle.std.specs.Prelude.{◌≡◌, ℕ, ◌+◌, ◌<◌, ◌≤◌, [], List, IfOk, OnOk, OnErr, IfSome, MatchOption, length, slice_get, slice_index_or, Some, Contains};
 ghost use Rattle.cnf_core.specs.declared.cnf.TheConstants.{LIMIT};
 ghost use Rattle.cdcl_clauses.specs.Invariants.{AreRooted};
@@ -26,7 +26,7 @@ pub(crate) struct Begun {
 impl State {
     ghost use Rattle.cdcl_core.specs.helpers.States.{IsLoaded, HaveLiterals, IsEmptyAt, IsBegun, LoadsOne};
 
-    /// A search over the clauses, which tries these values of the variables first.
+    /// A search over the clauses that tries these values first.
     pub(crate) fn begin(alloc: Global, cnf: &Cnf, first: &[bool]) -> Result<Begun, AllocError>
         ensures begun { IfOk result (λ b. IsBegun b.is_closed b.state) }
         ensures formula { IfOk result (λ b. b.state.formula ≡ cnf.now) }
@@ -55,7 +55,7 @@ impl State {
         }
     }
 
-    /// One of the clauses is empty.
+    /// Closes the derivation because a clause is empty.
     fn close_by_empty(&mut self, alloc: Global, place: usize) -> Result<(), AllocError>
         requires loaded { IsLoaded self.old 0 }
         requires empty { IsEmptyAt self.old.formula.clauses place }
@@ -67,7 +67,7 @@ impl State {
         self.conclude(alloc, &[place as u32])
     }
 
-    /// The only literal of a clause is false.
+    /// Closes the derivation because the only literal of a clause is false.
     fn close_by_unit(&mut self, alloc: Global, conflict: u32) -> Result<(), AllocError>
         requires loaded { IsLoaded self.old (length self.old.formula.clauses) }
         requires refutes { Refutes self.old.clauses self.old.trail.literals conflict }
@@ -85,7 +85,7 @@ impl State {
         self.conclude(alloc, lesson.hints.as_slice())
     }
 
-    /// A search over the variables, which tries these values of them first, before any clause.
+    /// A search before any clause that tries these values first.
     fn before_clauses(alloc: Global, formula: Cnf, first: &[bool]) -> Result<State, AllocError>
         ensures loaded { IfOk result (λ s. IsLoaded s 0) }
         ensures formula { IfOk result (λ s. s.formula ≡ formula) }
@@ -109,7 +109,7 @@ impl State {
         })
     }
 
-    /// Takes all clauses; one whose only literal is false, if there is one.
+    /// Loads all clauses, or returns one whose only literal is false.
     fn load_all(&mut self, alloc: Global) -> Result<Option<u32>, AllocError>
         requires loaded { IsLoaded self.old 0 }
         requires rooted { AreRooted self.old.trail self.old.clauses }
@@ -129,7 +129,7 @@ impl State {
         Ok(conflict)
     }
 
-    /// Takes the clause at a place.
+    /// Loads the clause at an index.
     fn load(&mut self, alloc: Global, place: usize) -> Result<Loaded, AllocError>
         requires loaded { IsLoaded self.old place }
         requires place { place < length self.old.formula.clauses }
@@ -148,7 +148,7 @@ impl State {
     }
 }
 
-/// The place of the first clause that is empty.
+/// The index of the first empty clause.
 fn first_empty(cnf: &Cnf) -> Option<usize>
     ensures { MatchOption result (HaveLiterals cnf.now.clauses) (IsEmptyAt cnf.now.clauses) }
 {
@@ -160,7 +160,7 @@ fn first_empty(cnf: &Cnf) -> Option<usize>
     None
 }
 
-/// The same clauses again.
+/// A copy of the clauses.
 fn copy(alloc: Global, cnf: &Cnf) -> Result<Cnf, AllocError>
     ensures { IfOk result (λ c. c ≡ cnf.now) }
 {

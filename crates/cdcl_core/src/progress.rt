@@ -1,26 +1,26 @@
-//! What a search comes to.
+//! The results of a search.
 
 use cnf_core::Assignment;
 use refute_check::Derivation;
 
-/// What a search has come to.
+/// The result of a run of a search.
 #[derive(Debug, Drop)]
 pub enum Progress {
     /// This assignment satisfies every clause.
     Sat(Assignment),
     /// The derivation is closed: no assignment satisfies the clauses.
     Closed,
-    /// As many clauses were learnt as were asked for, without either.
+    /// The search learnt as many clauses as it was allowed, and found neither.
     Paused,
 }
 
-/// What a search comes to that isn't to go on.
+/// The final result of a search with a budget.
 #[derive(Debug, Drop)]
 pub enum Solved {
     /// This assignment satisfies every clause.
     Sat(Assignment),
     /// This derivation is closed: no assignment satisfies the clauses.
     Unsat(Derivation),
-    /// As many clauses were learnt as the budget allows, without either.
+    /// The search learnt as many clauses as its budget allows, and found neither.
     Spent(Derivation),
 }

@@ -1,4 +1,4 @@
-//! Clauses that were learnt go again.
+//! Deleting learnt clauses.
 ghost use Rattle.std.specs.Prelude.{◌≡◌, ◌&&◌, true, false, ℕ, ◌*◌, ◌+◌, ◌<◌, ◌≤◌, List, All, IfOk, IsTrue, OnOk, MatchOption, not, length};
 ghost use Rattle.std.specs.Prelude.{slice_index_or, None, Some, fold};
 ghost use Rattle.cdcl_clauses.specs.Clauses.{at};
@@ -15,14 +15,14 @@ use cdcl_steps::forget;
 use cdcl_trail::Trail;
 use std::alloc::{AllocError, Global};
 
-/// Once so many more clauses may be deleted, half of those that may go are.
+/// Half of the deletable clauses are deleted once this many more may be.
 const MANY: u32 = 4000;
 
 impl State {
     ghost use Rattle.cdcl_core.specs.helpers.States.{IsLive, IsFurther, MayGo, MayAllGo};
 
-    /// Where many clauses may be deleted, half of those that were learnt and are no reason go: those that were used longest ago first, those of
-    /// two literals or one last.
+    /// If many clauses may be deleted, deletes half of the learnt ones that aren't reasons, first
+    /// the least recently used ones, and last those of one or two literals.
     pub(crate) fn reduce(&mut self, alloc: Global) -> Result<(), AllocError>
         requires { IsLive self.old }
         ensures live { IsLive self.new }
@@ -40,7 +40,7 @@ impl State {
         self.drop_all(alloc, chosen.as_slice())
     }
 
-    /// Half of the clauses that may go, and no more than so many.
+    /// Half of the clauses that may be deleted, but at most `most`.
     fn choose(&self, alloc: Global, most: usize) -> Result<Vec<u32>, AllocError>
         requires live { IsLive self.now }
         requires some { 0 < most }
@@ -63,7 +63,7 @@ impl State {
         }
     }
 
-    /// Half of the clauses that may go, and no more than so many.
+    /// Half of the clauses that may be deleted, but at most `most`.
     fn choose_half(
         &self,
         alloc: Global,
@@ -88,7 +88,7 @@ impl State {
         Ok(chosen)
     }
 
-    /// The first clause that may go.
+    /// The first clause that may be deleted.
     fn first_to_go(&self, reasons: &Vec<bool>) -> Option<u32>
         requires live { IsLive self.now }
         requires reasons { MarksReasons self.now.trail (length self.now.clauses) reasons.now.items }
@@ -102,7 +102,7 @@ impl State {
         None
     }
 
-    /// Half of the clauses that may go are worth less than this, but no more than so many.
+    /// The worth below which half of the deletable clauses are, but at most `most`.
     fn threshold(&self, alloc: Global, reasons: &Vec<bool>, most: usize) -> Result<u64, AllocError>
         requires live { IsLive self.now }
         requires reasons { MarksReasons self.now.trail (length self.now.clauses) reasons.now.items }
@@ -118,7 +118,7 @@ impl State {
         Ok(worths.get(half).copied().unwrap_or(u64::MAX))
     }
 
-    /// Whether a learnt clause is kept and is no reason.
+    /// Whether a learnt clause is kept and isn't a reason.
     fn may_go(&self, reasons: &Vec<bool>, clause: u32) -> bool
         requires live { IsLive self.now }
         requires reasons { MarksReasons self.now.trail (length self.now.clauses) reasons.now.items }
@@ -130,7 +130,7 @@ impl State {
         self.clauses.is_kept(clause) && !reasons[clause as usize]
     }
 
-    /// What a clause is worth: when it was used last, and more than any other where it has two literals or one.
+    /// The worth of a clause: when it was last used, and the most with one or two literals.
     fn worth(&self, clause: u32) -> u64
         requires { clause < length self.now.clauses }
     {
@@ -142,7 +142,7 @@ impl State {
         }
     }
 
-    /// These clauses are kept no more, and a line says so.
+    /// Drops these clauses, and writes the line that deletes them.
     fn drop_all(&mut self, alloc: Global, chosen: &[u32]) -> Result<(), AllocError>
         requires live { IsLive self.old }
         requires some { 0 < length chosen.now }
@@ -160,7 +160,7 @@ impl State {
     }
 }
 
-/// For each of so many clauses, whether it is a reason.
+/// For each clause, whether it is a reason.
 fn reasons_of(alloc: Global, trail: &Trail, clauses: usize) -> Result<Vec<bool>, AllocError>
     requires { (p k : ℕ) → p < length trail.now.literals → slice_index_or trail.now.reasons p None ≡ Some k → k < clauses }
     ensures { IfOk result (λ marks. MarksReasons trail.now clauses marks.items) }
@@ -174,7 +174,7 @@ fn reasons_of(alloc: Global, trail: &Trail, clauses: usize) -> Result<Vec<bool>,
     Ok(marks)
 }
 
-/// These clauses are kept no more.
+/// Drops these clauses.
 fn forget_all(trail: &Trail, clauses: &mut Clauses, chosen: &[u32])
     requires there { All (λ k. k < length clauses.old) chosen.now }
     requires no_reasons { All (IsNoReason trail.now) chosen.now }
@@ -187,7 +187,7 @@ fn forget_all(trail: &Trail, clauses: &mut Clauses, chosen: &[u32])
     }
 }
 
-/// These clauses are used.
+/// Records that these clauses are used.
 pub(crate) fn touch_all(clauses: &mut Clauses, used: &[u32], now: u32)
     ensures { clauses.new ≡ clauses.old }
 {

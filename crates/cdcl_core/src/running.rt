@@ -1,7 +1,7 @@
-//! How a search comes to its answer.
+//! Running a search to its answer.
 ghost use Rattle.std.specs.Prelude.{◌≡◌, ◌≢◌, ◌+◌, ◌<◌, ◌≤◌, Some, None, IfOk, OnErr};
 ghost use Rattle.cdcl_core.specs.Searches.{added_in, GoesOn, Answers};
-ghost use Rattle.tc_base.specs.declared.limits.TheConstants.{BUDGET};
+ghost use Rattle.tc_limits.specs.declared.limits.TheConstants.{BUDGET};
 
 use crate::loading::Begun;
 use crate::progress::Progress;
@@ -15,7 +15,7 @@ impl StagedSearch {
     ghost use Rattle.cdcl_core.specs.helpers.States.{IsLive};
     ghost use Rattle.cdcl_core.specs.helpers.Stages.{IsStaged, answer_at, answer_of, searched_of};
 
-    /// A search over the clauses, which tries these values of the variables first.
+    /// A search over the clauses that tries these values first.
     pub(crate) fn begin(
         alloc: Global,
         cnf: &Cnf,
@@ -42,7 +42,7 @@ impl StagedSearch {
         }
     }
 
-    /// Goes on until there is an answer, or so many clauses more are learnt.
+    /// Runs until there is an answer, or `conflicts` more clauses are learnt.
     pub(crate) fn run(&mut self, alloc: Global, conflicts: u32) -> Result<Progress, AllocError>
         requires lawful { IsStaged self.old }
         requires some { 1 ≤ conflicts }
@@ -60,7 +60,7 @@ impl StagedSearch {
         self.go(alloc, conflicts)
     }
 
-    /// The answer, once there is one.
+    /// The answer, if there is one.
     fn answer(&self) -> Result<Option<Progress>, AllocError>
         ensures { IfOk result (λ answer. answer ≡ answer_of self.now) }
     {
@@ -71,7 +71,7 @@ impl StagedSearch {
         }
     }
 
-    /// Goes on where there is no answer yet.
+    /// Runs a search that has no answer yet.
     fn go(&mut self, alloc: Global, conflicts: u32) -> Result<Progress, AllocError>
         requires lawful { IsStaged self.old }
         requires going { answer_of self.old ≡ None }

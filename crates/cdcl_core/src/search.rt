@@ -1,7 +1,7 @@
 //! A search that can be paused.
 ghost use Rattle.std.specs.Prelude.{◌≡◌, ◌+◌, ◌<◌, ◌≤◌, Some, None, IfOk, OnErr};
 ghost use Rattle.cdcl_core.specs.Searches.{added_in, IsSearched};
-ghost use Rattle.tc_base.specs.declared.limits.TheConstants.{BUDGET};
+ghost use Rattle.tc_limits.specs.declared.limits.TheConstants.{BUDGET};
 
 use crate::progress::Progress;
 use crate::stages::StagedSearch;
@@ -11,9 +11,9 @@ use refute_check::Derivation;
 use std::alloc::{AllocError, Global};
 use std::marker::Model;
 
-/// A search for an assignment that satisfies clauses. It goes on until it has its answer, and can be paused before.
+/// A search for a satisfying assignment, which can be paused before its answer.
 ///
-/// Contracts see its clauses, the lines that it has so far, and its answer.
+/// Contracts see its clauses, its lines so far, and its answer.
 #[derive(Debug, Drop)]
 pub struct Search {
     staged: StagedSearch,
@@ -34,10 +34,11 @@ impl Model for Search {
 impl Search {
     ghost use Rattle.cdcl_core.specs.Searches.{GoesOn, Answers};
 
-    /// A search over the clauses. It keeps a copy of them.
+    /// A search over a copy of the clauses.
     ///
-    /// The value that is tried first for the variable `v` is `first[v - 1]`, and false where there is none. Where these values satisfy
-    /// the clauses, or nearly so, the search is short; whatever they are, its answers are right.
+    /// The value tried first for the variable `v` is `first[v - 1]`, or false past its end. If
+    /// these values satisfy the clauses, or nearly do, the search is short; whatever they are, its
+    /// answers are right.
     pub fn new(alloc: Global, cnf: &Cnf, first: &[bool]) -> Result<Search, AllocError>
         ensures formula { IfOk result (λ s. s.formula ≡ cnf.now) }
         ensures none { IfOk result (λ s. added_in s.lines ≡ 0) }
@@ -47,8 +48,8 @@ impl Search {
         Ok(Search { staged })
     }
 
-    /// Goes on until there is an answer, or so many clauses more are learnt: then it is paused. Once there is an answer, it answers the same.
-    /// Where there is no memory, it may be called again.
+    /// Runs until there is an answer, or pauses after `conflicts` more clauses are learnt. Once
+    /// there is an answer, it stays the same. If there is no memory, the search may be run again.
     pub fn run(&mut self, alloc: Global, conflicts: u32) -> Result<Progress, AllocError>
         requires some { 1 ≤ conflicts }
         requires room { added_in self.old.lines + conflicts ≤ BUDGET }
@@ -62,7 +63,7 @@ impl Search {
         self.staged.run(alloc, conflicts)
     }
 
-    /// The lines that it has so far.
+    /// Its lines so far.
     pub fn derivation(&self) -> &Derivation
         ensures lines { result.now ≡ self.now.lines }
         ensures lawful { IsSearched self.now }
@@ -70,7 +71,7 @@ impl Search {
         &self.staged.state.derivation
     }
 
-    /// The lines that it has so far.
+    /// Its lines so far.
     pub fn into_derivation(self) -> Derivation
         ensures lines { result ≡ self.lines }
         ensures lawful { IsSearched self }
@@ -81,7 +82,7 @@ impl Search {
         derivation
     }
 
-    /// How many of its lines add a clause that isn't empty.
+    /// The number of its lines that add a nonempty clause.
     pub fn added(&self) -> u32
         ensures added { result ≡ added_in self.now.lines }
         ensures few { result ≤ BUDGET }

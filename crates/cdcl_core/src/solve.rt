@@ -1,13 +1,13 @@
-//! A search that isn't to go on.
+//! A search with a budget.
 ghost use Rattle.std.specs.Prelude.{◌≡◌, ◌≤◌, IfOk, IsTrue};
-ghost use Rattle.tc_base.specs.declared.limits.TheConstants.{BUDGET};
+ghost use Rattle.tc_limits.specs.declared.limits.TheConstants.{BUDGET};
 ghost use Rattle.cdcl_core.specs.Solving.{Solves};
 
 use crate::{Progress, Search, Solved};
 use cnf_core::Cnf;
 use std::alloc::{AllocError, Global};
 
-/// Searches until there is an answer, or so many clauses are learnt, with these values of the variables [first](Search::new).
+/// Searches until `budget` clauses are learnt, and tries [these values](Search::new) first.
 pub fn solve_cnf(
     alloc: Global,
     cnf: &Cnf,

@@ -10,7 +10,7 @@ pub(crate) enum Stage {
     Closed,
 }
 
-/// A search, and its answer once it has one.
+/// A search, and its answer, if there is one.
 #[derive(Debug, Drop)]
 pub(crate) struct StagedSearch {
     pub(crate) state: State,

@@ -1,4 +1,4 @@
-//! A search that goes on.
+//! The state of a running search.
 
 use cdcl_activity::{Activity, Luby};
 use cdcl_clauses::{Clauses, Watches};
@@ -16,22 +16,22 @@ pub(crate) struct State {
     pub(crate) watches: Watches,
     pub(crate) activity: Activity,
     pub(crate) derivation: Derivation,
-    /// How many lines were added.
+    /// The number of lines that added a clause.
     pub(crate) added: u32,
-    /// How many clauses were deleted.
+    /// The number of deleted clauses.
     pub(crate) deleted: u32,
-    /// How often it starts again.
+    /// When the search restarts.
     pub(crate) restarts: Restarts,
 }
 
-/// When a search starts again: after a number of conflicts that follows the sequence of Luby.
+/// The restarts of a search: after numbers of conflicts that follow the Luby sequence.
 #[derive(Debug, Drop)]
 pub(crate) struct Restarts {
     luby: Luby,
     conflicts: u64,
 }
 
-/// A term of the sequence stands for so many conflicts.
+/// The number of conflicts for each unit of the sequence.
 const CONFLICTS: u64 = 100;
 
 impl Restarts {
@@ -42,7 +42,7 @@ impl Restarts {
         }
     }
 
-    /// One conflict more; whether it is time to start again.
+    /// Counts a conflict, and tells whether to restart.
     pub(crate) fn is_due(&mut self) -> bool {
         self.conflicts = self.conflicts.wrapping_add(1);
         if self.conflicts / CONFLICTS < self.luby.term() {

@@ -10,7 +10,7 @@ ghost use Rattle.cdcl_steps.specs.Attached.{CanAssert};
 ghost use Rattle.cdcl_lines.specs.Literals.{Rise};
 ghost use Rattle.cdcl_lines.specs.Lines.{added};
 ghost use Rattle.cdcl_core.specs.Searches.{IsSolution};
-ghost use Rattle.tc_base.specs.declared.limits.TheConstants.{BUDGET};
+ghost use Rattle.tc_limits.specs.declared.limits.TheConstants.{BUDGET};
 ghost use Rattle.cdcl_core.specs.helpers.States.{HasBound};
 
 use crate::reducing::touch_all;
@@ -21,7 +21,7 @@ use cdcl_steps::{attach, detach, go_back, to_conflict};
 use refute_check::Derivation;
 use std::alloc::{AllocError, Global};
 
-/// What a turn comes to.
+/// The result of a turn.
 #[derive(Debug, Drop)]
 pub(crate) enum Step {
     /// A clause was learnt.
@@ -35,7 +35,7 @@ pub(crate) enum Step {
 impl State {
     ghost use Rattle.cdcl_core.specs.helpers.States.{IsLive, IsAsFar, IsFurther, IsShort, IsComplete, ComesTo, CanConclude, HasEnded};
 
-    /// So many turns, unless one is the last.
+    /// Takes `conflicts` turns, or stops at one that ends the search.
     pub(crate) fn go(&mut self, alloc: Global, conflicts: u32) -> Result<Step, AllocError>
         requires live { IsLive self.old }
         requires some { 0 < conflicts }
@@ -55,7 +55,7 @@ impl State {
         Ok(Step::Learnt)
     }
 
-    /// From one conflict to what it teaches, once clauses went where there are many.
+    /// Deletes clauses if there are many, then goes to the next conflict and learns from it.
     fn turn(&mut self, alloc: Global) -> Result<Step, AllocError>
         requires live { IsLive self.old }
         requires room { self.old.added < BUDGET }
@@ -67,7 +67,7 @@ impl State {
         self.step(alloc)
     }
 
-    /// From one conflict to what it teaches.
+    /// Goes to the next conflict and learns from it.
     fn step(&mut self, alloc: Global) -> Result<Step, AllocError>
         requires live { IsLive self.old }
         requires room { self.old.added < BUDGET }
@@ -103,7 +103,7 @@ impl State {
         )
     }
 
-    /// The values of all variables, where none is open: they satisfy every clause.
+    /// The values of all variables if none is open: they satisfy every clause.
     fn values(&self, alloc: Global) -> Result<Vec<bool>, AllocError>
         requires live { IsLive self.now }
         requires complete { IsComplete self.now.trail }
@@ -113,7 +113,7 @@ impl State {
         Ok(assignment.into_values())
     }
 
-    /// What a conflict teaches.
+    /// The lesson of a conflict.
     fn lesson(&mut self, alloc: Global, conflict: u32) -> Result<Lesson, AllocError>
         requires live { IsLive self.old }
         requires conflict { IsConflict self.old.trail self.old.clauses conflict }
@@ -127,7 +127,7 @@ impl State {
         Ok(lesson)
     }
 
-    /// What a conflict teaches, in no order.
+    /// The lesson of a conflict, unsorted.
     fn study(&mut self, alloc: Global, conflict: u32) -> Result<Lesson, AllocError>
         requires live { IsLive self.old }
         requires conflict { IsConflict self.old.trail self.old.clauses conflict }
@@ -153,7 +153,7 @@ impl State {
         }
     }
 
-    /// A lesson becomes a line, and its clause is kept.
+    /// Writes the line of a lesson, and keeps its clause.
     fn take(&mut self, alloc: Global, lesson: Lesson) -> Result<Step, AllocError>
         requires live { IsLive self.old }
         requires room { self.old.added < BUDGET }
@@ -188,7 +188,7 @@ impl State {
         }
     }
 
-    /// The line that closes the derivation.
+    /// Writes the line that closes the derivation.
     pub(crate) fn conclude(&mut self, alloc: Global, hints: &[u32]) -> Result<(), AllocError>
         requires { CanConclude self.old hints.now }
         ensures over { OnOk result (HasEnded self.new) }
@@ -198,7 +198,7 @@ impl State {
         write_line(alloc, &mut self.derivation, &[], hints)
     }
 
-    /// The levels from one on are taken back.
+    /// Undoes the levels from `level` on.
     fn back(&mut self, level: usize)
         requires live { IsLive self.old }
         requires level { level < length self.old.trail.starts }
@@ -210,7 +210,7 @@ impl State {
         go_back(&mut self.trail, &mut self.activity, level);
     }
 
-    /// A clause is learnt, and its one open literal comes true.
+    /// Learns a clause, and makes its one open literal true.
     fn learn(
         &mut self,
         alloc: Global,
@@ -253,7 +253,7 @@ impl State {
         }
     }
 
-    /// Starts again where it is time.
+    /// Restarts if it is time.
     fn restart(&mut self)
         requires { IsLive self.old }
         ensures live { IsLive self.new }
@@ -269,7 +269,7 @@ impl State {
     }
 }
 
-/// One more line.
+/// Appends a line.
 pub(crate) fn write_line(
     alloc: Global,
     derivation: &mut Derivation,

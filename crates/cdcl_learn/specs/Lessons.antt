@@ -8,8 +8,8 @@ use Rattle.cdcl_learn.specs.declared.lesson.Lesson.{Lesson}
 use Rattle.cdcl_learn.specs.declared.lesson.Turn.{Turn}
 use Rattle.cdcl_learn.specs.declared.lesson.Turn.TheVariants.{Closed, Back}
 
--- once the levels from one on are taken back, the asserted literal is open and all others of the clause are false; the one beside it
--- is false on no lower level; a clause of one literal takes back all levels
+-- after backtracking to `level`, `asserted` is open and all other literals of the clause are false;
+-- `beside` isn't false on any lower level; a unit clause backtracks all levels
 pub record TurnsBack (t : Trail) (literals : List ℕ) (level asserted beside : ℕ) : Type 0 where
   pub level_within : level < length t.starts
   pub has : Contains literals asserted
@@ -21,12 +21,12 @@ pub record TurnsBack (t : Trail) (literals : List ℕ) (level asserted beside : 
   pub root : beside ≡ asserted → level ≡ 0
   pub high : (i : ℕ) → i < level → beside ≢ asserted → Contains (take (slice_index t.starts i) t.literals) (opposite_of beside) → ⊥
 
--- what to do fits the clause
+-- the backtracking fits the clause
 abbrev pub TurnFits : Trail → List ℕ → Turn → Type 0
 TurnFits t literals Closed = literals ≡ []
 TurnFits t literals (Back level asserted beside) = TurnsBack t literals level asserted beside
 
--- a clause all of whose literals are false; its hints show it
+-- a clause whose literals are all false, with hints that prove it
 pub record IsLesson (t : Trail) (cs : List Clause) (l : Lesson) : Type 0 where
   pub all_false : All (λ x. Contains t.literals (opposite_of x)) l.literals.items
   pub shown : Shows cs l.literals.items l.hints.items

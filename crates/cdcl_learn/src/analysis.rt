@@ -1,4 +1,4 @@
-//! How far the analysis of a conflict is.
+//! The state of a conflict analysis.
 ghost use Rattle.std.specs.Prelude.{◌≡◌, ℕ, ◌*◌, ◌<◌, ◌≤◌, ◌⊎◌, [], ◌∷◌, ◌++◌, true, None, IsSome, OnOk, IfOk, Contains, All, length, slice_index_or};
 ghost use Rattle.cdcl_trail.specs.Literals.{opposite_of};
 ghost use Rattle.cdcl_trail.specs.Trail.{IsTrail};
@@ -10,8 +10,8 @@ use cdcl_clauses::Clauses;
 use cdcl_trail::{Trail, opposite, variable};
 use std::alloc::AllocError;
 
-/// The places of the trail that were met and not resolved yet, how many of them belong to the last level, the literals that the clause has of
-/// the levels between the first and the last, and the clauses that were used, the conflict first.
+/// The places of the trail that were met and aren't resolved, how many are on the last level, the
+/// clause's literals from the levels between, and the clauses used, starting with the conflict.
 #[derive(Debug, Drop)]
 pub(crate) struct Analysis {
     pub(crate) met: Vec<bool>,
@@ -20,7 +20,7 @@ pub(crate) struct Analysis {
     pub(crate) hints: Vec<u32>,
 }
 
-/// Where the first level ends, and where the last begins.
+/// Where the first level begins, and where the last does.
 #[derive(Debug, Clone, Copy)]
 pub(crate) struct Bounds {
     pub(crate) root: usize,
@@ -30,7 +30,7 @@ pub(crate) struct Bounds {
 impl Analysis {
     ghost use Rattle.cdcl_learn.specs.helpers.Analyses.{IsMet, Tallies, Marks, Meets, Suffices, Resolves, IsLast, IsCleared};
 
-    /// A place is met.
+    /// Marks a place as met.
     fn mark(&mut self, trail: &Trail, place: usize, bounds: Bounds) -> Result<(), AllocError>
         requires place { place < length trail.now.literals }
         requires tallies { Tallies trail.now self.old.met.items self.old.pending bounds.root bounds.base self.old.literals.items }
@@ -50,7 +50,7 @@ impl Analysis {
         Ok(())
     }
 
-    /// A clause is used, all of whose literals are on the trail, or their opposites.
+    /// Uses a clause whose literals, or their opposites, are all on the trail.
     pub(crate) fn meet(
         &mut self,
         trail: &Trail,
@@ -79,7 +79,7 @@ impl Analysis {
         Ok(())
     }
 
-    /// A place that was met gives way to its reason.
+    /// Replaces a met place by its reason.
     pub(crate) fn resolve(
         &mut self,
         trail: &Trail,
@@ -112,7 +112,7 @@ impl Analysis {
         Ok(())
     }
 
-    /// The last level gives way until one of its places is left, which is answered: all of the conflict passes through it.
+    /// Resolves the last level down to its first unique implication point, which is returned.
     pub(crate) fn uip(
         &mut self,
         trail: &Trail,
@@ -144,7 +144,7 @@ impl Analysis {
         unreachable!()
     }
 
-    /// The first level gives way.
+    /// Resolves the places before the first level.
     pub(crate) fn clear_root(
         &mut self,
         trail: &Trail,

@@ -14,7 +14,7 @@ use cdcl_clauses::Clauses;
 use cdcl_trail::{Trail, opposite};
 use std::alloc::{AllocError, Global};
 
-/// The analysis of the conflict of a clause at its beginning.
+/// Begins the analysis of a conflict.
 fn start(
     alloc: Global,
     trail: &Trail,
@@ -41,7 +41,7 @@ fn start(
     Ok(analysis)
 }
 
-/// What a clause teaches all of whose literals are false where no level has begun: that there is no way out.
+/// The lesson of a clause that is false before any level: there is no solution.
 pub fn close(
     alloc: Global,
     trail: &Trail,
@@ -74,8 +74,8 @@ pub fn close(
     })
 }
 
-/// What a conflict teaches on a level: the literal of that level through which all of the conflict passes is false, where what the conflict needs of
-/// the levels below is true. What it needs of what no level began is shown by its reasons.
+/// The lesson of a conflict on a level: its first unique implication point is false if what it
+/// needs of lower levels is true. What it needs from before the first level is proved by the hints.
 pub fn analyze(
     alloc: Global,
     trail: &Trail,
@@ -115,7 +115,7 @@ pub fn analyze(
     })
 }
 
-/// What to do, where these are the other literals of the clause.
+/// Where to backtrack, given the other literals of the clause.
 fn turn(trail: &Trail, literals: &[u32], asserted: u32) -> Turn
     requires lawful { IsTrail trail.now }
     requires levels { 0 < length trail.now.starts }
@@ -136,7 +136,7 @@ fn turn(trail: &Trail, literals: &[u32], asserted: u32) -> Turn
     }
 }
 
-/// The literal of these whose variable stands highest.
+/// The literal whose variable is highest on the trail.
 fn highest(trail: &Trail, literals: &[u32]) -> Option<u32>
     requires lawful { IsTrail trail.now }
     requires levels { 0 < length trail.now.starts }

@@ -1,13 +1,13 @@
 //! What was learnt.
 
-/// A clause that a conflict gives, and how.
+/// A learnt clause, its proof, and what to do next.
 #[derive(Debug, Drop)]
 pub struct Lesson {
-    /// Its literals, which rise.
+    /// The literals of the clause, sorted.
     pub literals: Vec<u32>,
-    /// The clauses by whose units it is shown, in order; all literals of the last are false then.
+    /// The clauses that prove it by unit propagation, in order; the last one becomes false.
     pub hints: Vec<u32>,
-    /// What to do now.
+    /// What to do next.
     pub turn: Turn,
 }
 
@@ -16,7 +16,7 @@ pub struct Lesson {
 pub enum Turn {
     /// Nothing: the clause is empty.
     Closed,
-    /// The levels from this one on are taken back, and the one literal that is open then becomes true. The clause watches it, and the one beside.
+    /// Undo the levels from this one on and assert the literal that is open then, which is watched.
     Back {
         level: usize,
         asserted: u32,

@@ -1,4 +1,4 @@
--- Lines that say more than units give.
+-- Lines that say more than unit propagation finds.
 use Rattle.std.specs.Prelude.{◌≡◌, ◌≢◌, ℕ, not, List, [], ◌∷◌, ◌++◌, map, take, filter, fold, slice_get, Contains, ℤ, neg_ℤ, Some, IfSome, ⊤}
 use Rattle.std.specs.FinMap.{get}
 use Rattle.std.specs.Ordering.{int_eq}
@@ -16,7 +16,7 @@ use Rattle.cdcl_lines.specs.Literals.{clause_of}
 use Rattle.cdcl_lines.specs.Lines.{added}
 use Rattle.cdcl_lines.specs.Keeping.{Represents}
 
--- what is true where all literals of a clause but one are false
+-- the literals that are true if all literals of a clause except one are false
 abbrev pub others_false : List ℤ → ℤ → List ℤ
 others_false literals l = map neg_ℤ (filter (λ m. not (int_eq m l)) literals)
 
@@ -28,7 +28,7 @@ pub record IsUnit (kept : KeptClauses) (trues : List ℤ) (l : ℤ) : Type 0 whe
   pub has : Contains clause l
   pub others : (m : ℤ) → Contains clause m → m ≢ l → Contains trues (neg_ℤ m)
 
--- these literals come true in turn, each as such a literal
+-- unit propagation makes these literals true in turn
 abbrev pub AreUnits : KeptClauses → List ℤ → List ℤ → Type 0
 AreUnits kept trues [] = ⊤
 AreUnits kept trues (l ∷ ls) = IsUnit kept trues l × AreUnits kept (trues ++ l ∷ []) ls
@@ -40,8 +40,8 @@ pub record IsBroken (kept : KeptClauses) (trues : List ℤ) : Type 0 where
   pub there : get kept number ≡ Some clause
   pub all_false : (m : ℤ) → Contains clause m → Contains trues (neg_ℤ m)
 
--- the clause has a literal that units don't give: where its others are false, whatever units then come true in turn, that literal is not
--- among them, and no kept clause has all its literals false
+-- the clause has a literal that unit propagation doesn't find: if the clause's other literals are
+-- false, propagation neither makes this literal true nor falsifies a kept clause
 pub record IsFresh (kept : KeptClauses) (literals : List ℤ) : Type 0 where
   pub literal : ℤ
   pub there : Contains literals literal
@@ -54,11 +54,11 @@ IsFreshLine kept (Add [] hints) = ⊤
 IsFreshLine kept (Add (l ∷ ls) hints) = IsFresh kept (l ∷ ls)
 IsFreshLine kept (Delete ns) = ⊤
 
--- each line is fresh over what is kept just before it
+-- each line is fresh over the clauses kept just before it
 abbrev pub AreFresh : Formula → List Line → Type 0
 AreFresh f lines = (k : ℕ) → IfSome (slice_get lines k) (λ l. IsFreshLine (fold after (start f) (take k lines)).kept l)
 
--- they stay so with one more fresh line
+-- fresh lines with one more fresh line are fresh
 abbrev pub FreshGoesOn : Type 0
 FreshGoesOn =
     (f : Formula) (lines : List Line) (line : Line) → AreFresh f lines → IsFreshLine (fold after (start f) lines).kept line
@@ -70,7 +70,7 @@ AssertedIsFresh =
     (t : Trail) (cs : List Clause) (ws : List (List Watch)) (s : Checking) (literals : List ℕ) (asserted beside : ℕ) → AreConsistent t cs ws → AreRooted t cs
     → Represents cs s → CanAssert t literals asserted beside → IsFresh s.kept (clause_of literals)
 
--- no kept clause has all its literals in a fresh one
+-- no kept clause has all its literals in a fresh clause
 abbrev pub FreshSaysMore : Type 0
 FreshSaysMore =
     (kept : KeptClauses) (literals : List ℤ) → IsFresh kept literals → (number : ℕ) (clause : List ℤ) → get kept number ≡ Some clause

@@ -1,4 +1,4 @@
--- A search and a checker keep the same clauses, and go on so.
+-- A search and a checker keep the same clauses, line after line.
 use Rattle.std.specs.Prelude.{◌≡◌, ◌≢◌, ℕ, suc, ◌+◌, ◌*◌, ◌<◌, ◌≤◌, true, if◌then◌else◌, List, [], ◌∷◌, ◌++◌, length, slice_get, All, AllPairs, ℤ, Option, Some, None, IfSome, fold}
 use Rattle.std.specs.FinMap.{get}
 use Rattle.refute_check.specs.Refutations.{Checking, keep, opening, after, passed, line_fault}
@@ -9,11 +9,11 @@ use Rattle.cdcl_learn.specs.Shown.{Shows}
 use Rattle.cdcl_lines.specs.Literals.{clause_of, Rise}
 use Rattle.cdcl_lines.specs.Lines.{added, deleted}
 
--- a search's clause as a checker has it, where it is kept
+-- a search's clause as a checker stores it, if it is kept
 abbrev pub as_kept : Clause → Option (List ℤ)
 as_kept c = if c.kept then Some (clause_of c.literals) else None
 
--- the checker keeps what the search keeps, the clause of each index under the number after it, and has found no fault
+-- the checker keeps what the search keeps, under numbers one above the indexes, and found no fault
 pub record Represents (cs : List Clause) (s : Checking) : Type 0 where
   pub none : get s.kept 0 ≡ None
   pub same : (k : ℕ) → get s.kept (suc k) ≡ as_kept (at cs k)
@@ -21,26 +21,26 @@ pub record Represents (cs : List Clause) (s : Checking) : Type 0 where
   pub fault : s.fault ≡ None
   pub rise : (k : ℕ) → (at cs k).kept ≡ true → Rise (at cs k).literals
 
--- the line has no fault there
+-- the line passes in this state
 pub record Passes (s : Checking) (l : Line) : Type 0 where
   pub no_fault : line_fault (s.line + 1) s.vars s.kept l ≡ None
   pub leaves : after s l ≡ passed s l
 
--- before any clause, nothing is kept
+-- the opening state represents a search without clauses
 abbrev pub OpeningIsRepresented : Type 0
 OpeningIsRepresented = (vars : ℕ) → Represents [] (opening vars)
 
--- one more clause of a formula
+-- it still does with one more clause of a formula
 abbrev pub KeepIsRepresented : Type 0
 KeepIsRepresented =
     (cs : List Clause) (s : Checking) (literals : List ℕ) (first second : ℕ) → Represents cs s → Rise literals
     → Represents (cs ++ kept_clause literals first second ∷ []) (keep s (clause_of literals))
 
--- what a clause watches doesn't matter
+-- it still does if clauses watch other literals
 abbrev pub SameAreRepresented : Type 0
 SameAreRepresented = (cs ds : List Clause) (s : Checking) → Represents cs s → AreSame cs ds → Represents ds s
 
--- a line passes whose hints show its clause, which is one more
+-- a line whose hints prove its clause passes, and the clause is kept on both sides
 abbrev pub ShownPasses : Type 0
 ShownPasses =
     (cs : List Clause) (s : Checking) (literals hints : List ℕ) → Represents cs s → All (λ l. l < 2 * s.vars) literals → Rise literals
@@ -52,7 +52,7 @@ ShownPasses =
 abbrev pub HintsAreThere : Type 0
 HintsAreThere = (cs : List Clause) (literals hints : List ℕ) → Shows cs literals hints → All (λ k. k < length cs) hints
 
--- a line that adds an empty clause closes
+-- a line that adds an empty clause closes the derivation
 abbrev pub EmptyCloses : Type 0
 EmptyCloses = (s : Checking) (hints : List ℕ) → (passed s (added [] hints)).closed ≡ true
 
@@ -61,23 +61,23 @@ pub record CanDrop (cs : List Clause) (ks : List ℕ) : Type 0 where
   pub kept : All (λ k. (at cs k).kept ≡ true) ks
   pub once : AllPairs (λ i k. i ≢ k) ks
 
--- a line may delete such clauses
+-- a line that deletes such clauses passes, and they are dropped on both sides
 abbrev pub DropPasses : Type 0
 DropPasses =
     (cs : List Clause) (s : Checking) (ks : List ℕ) → Represents cs s → CanDrop cs ks
     → Passes s (deleted ks) × Represents (fold dropped cs ks) (passed s (deleted ks))
 
--- each of a formula's clauses is kept under its place
+-- each clause of a formula is kept at its index
 abbrev pub KeepsAll : List (List ℤ) → List Clause → Type 0
 KeepsAll clauses cs = (k : ℕ) → IfSome (slice_get clauses k) (λ c. as_kept (at cs k) ≡ Some c)
 
--- it is so of a formula with one more clause, once that is kept
+-- the same for a formula with one more clause, once that clause is kept
 abbrev pub KeepsOneMore : Type 0
 KeepsOneMore =
     (clauses : List (List ℤ)) (cs : List Clause) (literals : List ℕ) (first second : ℕ) → KeepsAll clauses cs → length cs ≡ length clauses
     → KeepsAll (clauses ++ clause_of literals ∷ []) (cs ++ kept_clause literals first second ∷ [])
 
--- and stays so as clauses watch other literals, are learnt, or are dropped that aren't among the first
+-- and still if clauses watch other literals, are learnt, or are dropped after the formula's
 abbrev pub KeepsOn : Type 0
 KeepsOn =
     (clauses : List (List ℤ)) (cs : List Clause) → KeepsAll clauses cs

@@ -1,8 +1,8 @@
--- A search's literals and clauses as a checker has them.
+-- A search's literals and clauses in the form that a checker uses.
 use Rattle.std.specs.Prelude.{ℕ, suc, ◌+◌, ◌-◌, ◌*◌, ◌/◌, ◌%◌, ◌==◌, if◌then◌else◌, List, map, ℤ, pos, negsuc, IsTrue}
 use Rattle.cnf_core.specs.Clauses.{is_clause}
 
--- the literal of a number: variables count from 1 there, and the literal of an odd number is negated
+-- the literal of a number: variables count from 1, and odd numbers are negated literals
 abbrev pub literal_of : ℕ → ℤ
 literal_of l = if l % 2 == 0 then pos (suc (l / 2)) else negsuc (l / 2)
 
@@ -11,7 +11,7 @@ abbrev pub code_of : ℤ → ℕ
 code_of (pos n) = 2 * (n - 1)
 code_of (negsuc n) = 2 * n + 1
 
--- the clause of numbers
+-- the clause of a list of numbers
 abbrev pub clause_of : List ℕ → List ℤ
 clause_of ls = map literal_of ls
 

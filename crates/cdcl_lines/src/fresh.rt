@@ -1,17 +1,17 @@
-//! Lines that say more than units give. Each function's clause is a law, and its body does nothing.
+//! Lines that say more than unit propagation finds: laws, as clauses of functions that do nothing.
 ghost use Rattle.cdcl_lines.specs.Fresh.{FreshGoesOn, AssertedIsFresh, FreshSaysMore, AddedIsFresh};
 
-/// Fresh lines stay fresh with one more.
+/// Fresh lines with one more fresh line are fresh.
 pub fn fresh_goes_on()
     ensures { FreshGoesOn }
 {}
 
-/// Where all is propagated without conflict, a clause of which one literal is open and the others are false is fresh.
+/// If all is propagated without conflict, a clause with one open literal, the rest false, is fresh.
 pub fn asserted_is_fresh()
     ensures { AssertedIsFresh }
 {}
 
-/// No kept clause has all its literals in a fresh one.
+/// No kept clause has all its literals in a fresh clause.
 pub fn fresh_says_more()
     ensures { FreshSaysMore }
 {}

@@ -1,4 +1,4 @@
-//! A search and a checker keep the same clauses, and go on so. Each function's clause is a law, and its body does nothing.
+//! A search and a checker keep the same clauses: laws, as clauses of functions that do nothing.
 ghost use Rattle.cdcl_lines.specs.Keeping.{
   OpeningIsRepresented,
   KeepIsRepresented,
@@ -11,7 +11,7 @@ ghost use Rattle.cdcl_lines.specs.Keeping.{
   KeepsOn,
 };
 
-/// Before any clause, the empty list of clauses is represented.
+/// The opening state represents a search without clauses.
 pub fn opening_is_represented()
     ensures { OpeningIsRepresented }
 {}
@@ -21,37 +21,37 @@ pub fn keep_is_represented()
     ensures { KeepIsRepresented }
 {}
 
-/// What the clauses watch doesn't matter.
+/// It doesn't matter which literals clauses watch.
 pub fn same_are_represented()
     ensures { SameAreRepresented }
 {}
 
-/// The line of a clause that its hints show has no fault, and the clause is then one more.
+/// The line of a clause that its hints prove passes, and the clause is kept.
 pub fn shown_passes()
     ensures { ShownPasses }
 {}
 
-/// What shows a clause are clauses of the search.
+/// The hints that prove a clause are clauses of the search.
 pub fn hints_are_there()
     ensures { HintsAreThere }
 {}
 
-/// After a line that adds an empty clause, the checker is closed.
+/// A line that adds an empty clause closes the derivation.
 pub fn empty_closes()
     ensures { EmptyCloses }
 {}
 
-/// A line that deletes clauses that are kept, each once, has no fault, and they aren't kept any more.
+/// A line that deletes kept clauses, each once, passes, and they aren't kept any more.
 pub fn drop_passes()
     ensures { DropPasses }
 {}
 
-/// A formula's clauses are pushed one after the other.
+/// A formula's clauses are all kept after they are added one after the other.
 pub fn keeps_one_more()
     ensures { KeepsOneMore }
 {}
 
-/// They stay, while only later clauses are dropped.
+/// They stay kept as long as only later clauses are dropped.
 pub fn keeps_on()
     ensures { KeepsOn }
 {}

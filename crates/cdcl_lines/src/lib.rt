@@ -1,4 +1,4 @@
-//! What a search learns, as the lines of a derivation: that the lines pass a checker, and say more than units give.
+//! Learnt clauses as lines of a derivation: they pass a checker and say more than propagation.
 #![tactic(auto)]
 
 mod fresh;

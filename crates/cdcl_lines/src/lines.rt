@@ -10,7 +10,7 @@ use cnf_core::{Clause, Lit};
 use refute_check::{Line, Numbers};
 use std::alloc::{AllocError, Global};
 
-/// The line that adds a clause, shown by the clauses of these indexes in order.
+/// The line that adds a clause, proved by the clauses at these indexes in order.
 pub fn add_line(alloc: Global, literals: &[u32], hints: &[u32]) -> Result<Line, AllocError>
     requires rise { Rise literals.now }
     requires within { All (λ l. l < 2 * LIMIT) literals.now }
@@ -23,7 +23,7 @@ pub fn add_line(alloc: Global, literals: &[u32], hints: &[u32]) -> Result<Line, 
     Ok(Line::Add(Clause::new(clause), hints))
 }
 
-/// The line that deletes the clauses of these indexes, of which there is at least one.
+/// The line that deletes the clauses at these indexes, at least one.
 pub fn delete_line(alloc: Global, clauses: &[u32]) -> Result<Line, AllocError>
     requires some { clauses.now ≢ [] }
     requires clauses { All (λ k. k + 1 < 2 ^ 32) clauses.now }
@@ -33,7 +33,7 @@ pub fn delete_line(alloc: Global, clauses: &[u32]) -> Result<Line, AllocError>
     Ok(Line::Delete(numbers(alloc, clauses)?))
 }
 
-/// The literals of numbers.
+/// The literals of these numbers.
 fn lits(alloc: Global, literals: &[u32]) -> Result<Vec<Lit>, AllocError>
     requires { All (λ l. l < 2 * LIMIT) literals.now }
     ensures { IfOk result (λ lits. lits.items ≡ clause_of literals.now) }
@@ -45,7 +45,7 @@ fn lits(alloc: Global, literals: &[u32]) -> Result<Vec<Lit>, AllocError>
     Ok(lits)
 }
 
-/// The numbers of the clauses of these indexes.
+/// The numbers of the clauses at these indexes.
 fn numbers(alloc: Global, clauses: &[u32]) -> Result<Numbers, AllocError>
     requires { All (λ k. k + 1 < 2 ^ 32) clauses.now }
     ensures { IfOk result (λ numbers. numbers ≡ numbers_of clauses.now) }

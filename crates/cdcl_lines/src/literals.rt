@@ -1,4 +1,4 @@
-//! A search's literals, which are numbers, and those of formulas and derivations.
+//! Conversion between a search's literals, which are numbers, and those of formulas.
 ghost use Rattle.std.specs.Prelude.{◌≡◌, ℕ, ◌+◌, ◌*◌, ◌/◌, ◌^◌, ◌<◌, All, IfOk, IsTrue};
 ghost use Rattle.cnf_core.specs.Clauses.{is_clause, is_within, var_of};
 ghost use Rattle.cdcl_lines.specs.Literals.{literal_of, code_of, clause_of, Rise};
@@ -6,7 +6,7 @@ ghost use Rattle.cdcl_lines.specs.Literals.{literal_of, code_of, clause_of, Rise
 use cnf_core::Lit;
 use std::alloc::{AllocError, Global};
 
-/// The number of a literal: twice its variable, counted from 0, and one more where it is negated.
+/// The number of a literal: twice its variable, counted from 0, plus one if it is negated.
 pub fn code(lit: Lit) -> u32
     ensures code { result ≡ code_of lit }
     ensures back { literal_of result ≡ lit }

@@ -1,4 +1,4 @@
-//! The assignment that a full trail is.
+//! The assignment of a full trail.
 ghost use Rattle.std.specs.Prelude.{◌≡◌, ◌<◌, ◌^◌, IfOk};
 ghost use Rattle.cdcl_trail.specs.Trail.{IsTrail};
 ghost use Rattle.cdcl_steps.specs.Descents.{IsFull};
@@ -8,7 +8,7 @@ use cdcl_trail::{Trail, Value};
 use cnf_core::Assignment;
 use std::alloc::{AllocError, Global};
 
-/// The assignment that makes true what is true on a trail. What is open there becomes false.
+/// The assignment that makes the literals of a trail true; open variables become false.
 pub fn assignment_of(alloc: Global, trail: &Trail, variables: u32) -> Result<Assignment, AllocError>
     requires lawful { IsTrail trail.now }
     requires variables { variables ≡ trail.now.variables }
@@ -22,7 +22,7 @@ pub fn assignment_of(alloc: Global, trail: &Trail, variables: u32) -> Result<Ass
     Ok(Assignment::new(values))
 }
 
-/// Where no variable is open and all is propagated without conflict, that assignment satisfies each clause that is kept.
+/// If no variable is open and all is propagated without conflict, it satisfies each clause.
 pub fn full_satisfies()
     ensures { FullSatisfies }
 {}

@@ -1,4 +1,4 @@
-//! A look at a clause that watches a literal which has become false.
+//! A look at a clause that watches a literal that has become false.
 ghost use Rattle.std.specs.Prelude.{◌≡◌, ℕ, ◌*◌, ◌<◌, All, true, MatchOption};
 ghost use Rattle.cdcl_clauses.specs.Clauses.{at};
 ghost use Rattle.cdcl_clauses.specs.Invariants.{IsWatch, IsClause};
@@ -7,22 +7,22 @@ ghost use Rattle.cdcl_propagate.specs.helpers.Looks.{Finds, AllFalseBut, IsFound
 use cdcl_clauses::{Clauses, Watch, Watches};
 use cdcl_trail::{Trail, Value};
 
-/// What a look finds.
+/// The outcome of a look.
 #[derive(Debug, Clone, Copy)]
 pub enum Look {
-    /// One of its literals is true.
+    /// A literal of the clause is true.
     Satisfied,
-    /// It doesn't watch the literal any more, or isn't kept.
+    /// The clause doesn't watch the literal any more, or isn't kept.
     Gone,
-    /// It watches another beside, and can watch one that isn't false.
+    /// The clause also watches `other`, and can watch `next`, which isn't false.
     Moves { clause: u32, other: u32, next: u32 },
-    /// All its literals but one are false, which is open.
+    /// All literals except `other`, which is open, are false.
     Forces { clause: u32, other: u32 },
-    /// All its literals are false.
+    /// All literals are false.
     Conflict(u32),
 }
 
-/// A look at a watch of the literal.
+/// Looks at a watch of a literal that has become false.
 pub fn look_at(trail: &Trail, clauses: &Clauses, watch: Watch, fallen: u32) -> Look
     requires watch { IsWatch trail.now.variables clauses.now watch }
     requires clause { (at clauses.now watch.clause).kept ≡ true → IsClause trail.now.variables (at clauses.now watch.clause) }
@@ -53,7 +53,7 @@ pub fn look_at(trail: &Trail, clauses: &Clauses, watch: Watch, fallen: u32) -> L
     }
 }
 
-/// A literal that isn't false and isn't the one beside.
+/// A literal that isn't false and isn't `beside`.
 fn not_false(trail: &Trail, literals: &[u32], beside: u32) -> Option<u32>
     requires { All (λ l. l < 2 * trail.now.variables) literals.now }
     ensures { MatchOption result (AllFalseBut trail.now literals.now beside) (IsFound trail.now literals.now beside) }

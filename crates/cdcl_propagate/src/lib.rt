@@ -1,4 +1,4 @@
-//! What units give, by two watched literals for each clause.
+//! Unit propagation with two watched literals for each clause.
 #![tactic(auto)]
 
 mod inspect;

@@ -1,4 +1,4 @@
-//! All that units give.
+//! Unit propagation to the end.
 ghost use Rattle.std.specs.Prelude.{◌≡◌, ℕ, ◌<◌, IfOk, IfSome, IsNone, OnErr, OnOk, Contains, true, length, slice_index};
 ghost use Rattle.cdcl_trail.specs.Literals.{opposite_of};
 ghost use Rattle.cdcl_trail.specs.Trail.{IsOpen};
@@ -12,7 +12,7 @@ use cdcl_clauses::{Clauses, Watch, Watches};
 use cdcl_trail::{Trail, opposite};
 use std::alloc::AllocError;
 
-/// All that units give; or the number of a clause whose literals are all false.
+/// Propagates until nothing is pending, or returns a clause whose literals are all false.
 pub fn propagate(
     trail: &mut Trail,
     clauses: &mut Clauses,
@@ -32,7 +32,7 @@ pub fn propagate(
     Ok(None)
 }
 
-/// A look at each clause that watches the literal that the first one which isn't propagated makes false.
+/// Looks at each clause that watches the literal made false by the first pending one.
 fn visit(
     trail: &mut Trail,
     clauses: &mut Clauses,
@@ -70,7 +70,7 @@ fn visit(
     Ok(None)
 }
 
-/// A clause watches the one that it watched beside, and the next.
+/// Makes a clause watch `other` and `next`.
 fn move_watch(
     clauses: &mut Clauses,
     watches: &mut Watches,

@@ -9,7 +9,7 @@ use Rattle.cdcl_clauses.specs.declared.watches.Watch.{Watch}
 abbrev pub IsFull : Trail → Type 0
 IsFull t = (v : ℕ) → v < t.variables → IsOpen t (2 * v) → ⊥
 
--- the trail is longer, the clauses are the same but for what they watch, and all is kept
+-- the trail only grows, the clauses change only in what they watch, and the invariants hold
 pub record Descends (t : Trail) (cs : List Clause) (u : Trail) (ds : List Clause) (vs : List (List Watch)) : Type 0 where
   pub sound : AreConsistent u ds vs
   pub same : AreSame cs ds

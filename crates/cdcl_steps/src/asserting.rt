@@ -1,4 +1,4 @@
-//! What was learnt comes true.
+//! Asserting learnt clauses.
 ghost use Rattle.std.specs.Prelude.{◌≡◌, ◌<◌, ◌^◌, Some, OnOk, OnErr, length};
 ghost use Rattle.cdcl_clauses.specs.Invariants.{AreConsistent, AreRooted};
 ghost use Rattle.cdcl_trail.specs.Trail.{pushed};
@@ -9,7 +9,7 @@ use cdcl_clauses::{Clauses, Watches};
 use cdcl_trail::Trail;
 use std::alloc::AllocError;
 
-/// One more clause, all of whose literals are false but one, which becomes true; or all is as it was.
+/// Adds a clause whose literals are all false except one, and makes this true; or changes nothing.
 pub fn assert_clause(
     trail: &mut Trail,
     clauses: &mut Clauses,

@@ -1,4 +1,4 @@
-//! One more clause.
+//! Attaching one more clause.
 ghost use Rattle.std.specs.Prelude.{◌≡◌, ℕ, ◌<◌, ◌^◌, List, OnOk, OnErr, length};
 ghost use Rattle.cdcl_clauses.specs.Clauses.{Clause};
 ghost use Rattle.cdcl_clauses.specs.declared.watches.Watch.{Watch};
@@ -7,7 +7,7 @@ ghost use Rattle.cdcl_steps.specs.Attached.{WasAttached, both_listed};
 use cdcl_clauses::{Clauses, Watch, Watches};
 use std::alloc::AllocError;
 
-/// One more clause, which stands at the two literals that it watches; or all is as it was.
+/// Adds a clause to the watch lists of the two literals that it watches; or changes nothing.
 pub fn attach(
     clauses: &mut Clauses,
     watches: &mut Watches,
@@ -31,7 +31,7 @@ pub fn attach(
     Ok(())
 }
 
-/// The last clause, which stands last at both literals, is there no more.
+/// Removes the last clause, which is last in both watch lists.
 pub fn detach(clauses: &mut Clauses, watches: &mut Watches, first: u32, second: u32)
     requires first { first < length watches.old }
     requires second { second < length watches.old }
@@ -43,7 +43,7 @@ pub fn detach(clauses: &mut Clauses, watches: &mut Watches, first: u32, second: 
     clauses.pop();
 }
 
-/// The clause stands at both literals; or all is as it was.
+/// Adds a clause to both watch lists; or changes nothing.
 fn stand(watches: &mut Watches, clause: u32, first: u32, second: u32) -> Result<(), AllocError>
     requires first { first < length watches.old }
     requires second { second < length watches.old }

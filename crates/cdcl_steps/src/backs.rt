@@ -1,4 +1,4 @@
-//! Back to a level.
+//! Backtracking.
 ghost use Rattle.std.specs.Prelude.{◌≡◌, ◌<◌, List, length};
 ghost use Rattle.cdcl_clauses.specs.Clauses.{Clause};
 ghost use Rattle.cdcl_clauses.specs.Invariants.{AreConsistent, AreRooted};
@@ -8,7 +8,7 @@ ghost use Rattle.cdcl_trail.specs.Trail.{IsTrail, cut_to};
 use cdcl_activity::Activity;
 use cdcl_trail::Trail;
 
-/// The levels from one on are taken back, and their variables may be decided again.
+/// Undoes the levels from `level` on; their variables may be decided again.
 pub fn go_back(trail: &mut Trail, activity: &mut Activity, level: usize)
     requires lawful { IsTrail trail.old }
     requires level { level < length trail.old.starts }

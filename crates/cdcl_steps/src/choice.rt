@@ -5,7 +5,7 @@ ghost use Rattle.cdcl_steps.specs.Descents.{IsFull, IsChosen};
 use cdcl_activity::Activity;
 use cdcl_trail::{Trail, Value};
 
-/// The most active variable that is open, or one that the heap has lost; none where no variable is open.
+/// The most active open variable, or one that the heap has lost; `None` if no variable is open.
 pub fn next_open(trail: &Trail, activity: &mut Activity, variables: u32) -> Option<u32>
     requires variables { variables ≡ trail.now.variables }
     requires activity { activity.old ≡ variables }

@@ -1,4 +1,4 @@
-//! One clause less.
+//! Dropping a clause.
 ghost use Rattle.std.specs.Prelude.{◌≡◌, ◌≢◌, ℕ, ◌<◌, Some, None, false, List, length, slice_index_or, slice_set};
 ghost use Rattle.cdcl_clauses.specs.Clauses.{dropped};
 ghost use Rattle.cdcl_trail.specs.Trail.{IsNoReason};
@@ -8,7 +8,7 @@ ghost use Rattle.cdcl_clauses.specs.declared.watches.Watch.{Watch};
 use cdcl_clauses::Clauses;
 use cdcl_trail::Trail;
 
-/// A clause that is no reason isn't kept any more. Those who watch for it go as propagation meets them.
+/// Drops a clause that isn't a reason. Propagation removes its watches when it meets them.
 pub fn forget(trail: &Trail, clauses: &mut Clauses, clause: u32)
     requires there { clause < length clauses.old }
     requires no_reason { IsNoReason trail.now clause }

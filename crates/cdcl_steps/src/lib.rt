@@ -1,4 +1,4 @@
-//! How a search goes from one conflict to the next.
+//! The steps of a search from one conflict to the next.
 #![tactic(auto)]
 
 mod asserting;

@@ -1,4 +1,4 @@
-//! The clauses that a search begins with.
+//! Loading the clauses that a search begins with.
 ghost use Rattle.std.specs.Prelude.{◌≡◌, ◌≢◌, ℕ, ◌*◌, ◌<◌, ◌^◌, [], All, IfOk, OnErr, OnOk, length, slice_index, Contains};
 ghost use Rattle.cdcl_clauses.specs.Invariants.{AreConsistent, AreRooted};
 ghost use Rattle.cdcl_steps.specs.Loads.{IsAtStart, WasLoaded, MayBeLoaded, Loads};
@@ -9,17 +9,17 @@ use cdcl_clauses::{Clauses, Watches};
 use cdcl_trail::{Trail, Value};
 use std::alloc::AllocError;
 
-/// What became of a clause that a search begins with.
+/// The outcome of loading a clause.
 #[derive(Debug, Clone, Copy, PartialEq, Eq)]
 pub enum Loaded {
-    /// It was taken, and its literal is true where it has but one.
+    /// The clause was taken; the literal of a unit clause is true.
     Taken,
-    /// It was taken, and its only literal is false.
+    /// The clause was taken, and its only literal is false.
     Refuted,
 }
 
-/// One more clause, before anything is propagated. The literal of a clause that has but one comes true if it is open. Where there is no
-/// memory, all is as it was.
+/// Loads a clause before anything is propagated, and makes the open literal of a unit clause true.
+/// If there is no memory, nothing changes.
 pub fn load_clause(
     trail: &mut Trail,
     clauses: &mut Clauses,
@@ -53,7 +53,7 @@ pub fn load_clause(
     }
 }
 
-/// What a clause watches: its first two literals, or its only one twice.
+/// The literals that a clause watches: its first two, or its only one twice.
 fn watched(literals: &[u32]) -> (u32, u32)
     requires { 0 < length literals.now }
     ensures { AreWatched literals.now result.0 result.1 }

@@ -4,8 +4,8 @@ use Rattle.cdcl_trail.specs.Literals.{opposite_of}
 use Rattle.cdcl_trail.specs.declared.trail.Value.{Value}
 use Rattle.cdcl_trail.specs.declared.trail.Value.TheVariants.{Open, True, False}
 
--- what is true, in the order in which it became so; beside each literal its reason, the number of a clause, or none where it was decided;
--- how long the trail was at each decision; and how far it is propagated
+-- the true literals, in the order in which they became true; for each its reason, a clause, or none
+-- if it was decided; the trail's length at each decision; and how far the trail is propagated
 pub record Trail : Type 0 where
   pub variables : ℕ
   pub literals : List ℕ
@@ -13,7 +13,7 @@ pub record Trail : Type 0 where
   pub starts : List ℕ
   pub propagated : ℕ
 
--- nothing is true yet
+-- the trail on which no literal is true
 abbrev pub empty : ℕ → Trail
 empty n = record { variables = n; literals = []; reasons = []; starts = []; propagated = 0 }
 
@@ -27,17 +27,17 @@ pub record IsHeld (t : Trail) (l : ℕ) : Type 0 where
   pub there : Contains t.literals l
   pub not_false : Contains t.literals (opposite_of l) → ⊥
 
--- what a literal is
+-- the literal has this value
 abbrev pub Is : Trail → ℕ → Value → Type 0
 Is t l Open = IsOpen t l
 Is t l True = IsHeld t l
 Is t l False = Contains t.literals (opposite_of l)
 
--- one more literal is true
+-- the trail with one more true literal
 abbrev pub pushed : Trail → ℕ → Option ℕ → Trail
 pushed t l reason = record t { literals = t.literals ++ l ∷ []; reasons = t.reasons ++ reason ∷ [] }
 
--- a literal is decided, which begins a level
+-- the trail with a decided literal, which begins a level
 abbrev pub decided : Trail → ℕ → Trail
 decided t l = record (pushed t l None) { starts = t.starts ++ length t.literals ∷ [] }
 
@@ -46,11 +46,11 @@ abbrev pub cut_to : Trail → ℕ → Trail
 cut_to t level = let n = slice_index t.starts level in
     record t { literals = take n t.literals; reasons = take n t.reasons; starts = take level t.starts; propagated = n }
 
--- the clause is no reason of a literal that is true
+-- the clause isn't the reason of any true literal
 abbrev pub IsNoReason : Trail → ℕ → Type 0
 IsNoReason t k = (p : ℕ) → p < length t.literals → slice_index_or t.reasons p None ≢ Some k
 
--- what is true of every trail
+-- the invariant of a trail
 pub record IsTrail (t : Trail) : Type 0 where
   pub few : length t.literals ≤ t.variables
   pub reasons_fit : length t.reasons ≡ length t.literals

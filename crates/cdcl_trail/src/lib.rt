@@ -1,4 +1,4 @@
-//! Literals as numbers, and the trail of those that a search holds true.
+//! Literals as numbers, and the trail of the literals that are true in a search.
 #![tactic(auto)]
 
 mod literal;

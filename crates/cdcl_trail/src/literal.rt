@@ -1,4 +1,4 @@
-//! Literals as numbers: twice the variable, and one more where it is negated. Variables count from 0.
+//! Literals as numbers: twice the variable, plus one if it is negated. Variables count from 0.
 ghost use Rattle.std.specs.Prelude.{◌≡◌, ℕ, ◌/◌};
 ghost use Rattle.cdcl_trail.specs.Literals.{opposite_of};
 

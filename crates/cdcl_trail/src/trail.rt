@@ -28,7 +28,7 @@ use crate::{opposite, variable};
 use std::alloc::{AllocError, Global};
 use std::marker::Model;
 
-/// What a literal is on a trail.
+/// The value of a literal on a trail.
 #[derive(Debug, Clone, Copy, PartialEq, Eq)]
 pub enum Value {
     Open,
@@ -36,19 +36,19 @@ pub enum Value {
     False,
 }
 
-/// The literals that a search holds true, in the order in which they became so, and where its levels begin. It takes no memory once it is
-/// made. A reason is the number of a clause whose other literals were all false before.
+/// The true literals of a search, in the order in which they became true, and where levels begin.
+/// Allocates only in `new`. A reason is a clause whose other literals were all false before.
 #[derive(Debug, Drop)]
 pub struct Trail {
-    /// What each literal is.
+    /// The value of each literal.
     values: Vec<Value>,
-    /// Where the variable stands on the trail, if it does.
+    /// Each variable's place on the trail, if it is there.
     places: Vec<u32>,
-    /// The literals that are true; of those past `len` nothing is said.
+    /// The true literals; entries past `len` are unspecified.
     literals: Vec<u32>,
     reasons: Vec<Option<u32>>,
     len: usize,
-    /// How long the trail was when each level began; of those past `levels` nothing is said.
+    /// The length of the trail when each level began; entries past `levels` are unspecified.
     starts: Vec<u32>,
     levels: usize,
     propagated: usize,
@@ -69,7 +69,7 @@ impl Model for Trail {
 impl Trail {
     ghost use Rattle.cdcl_trail.specs.Trail.{empty, pushed, decided, cut_to, Is, IsOpen, IsTrail};
 
-    /// The empty trail over so many variables.
+    /// The empty trail over `variables` variables.
     pub fn new(alloc: Global, variables: u32) -> Result<Trail, AllocError>
         requires { variables < 2 ^ 31 }
         ensures empty { IfOk result (λ t. t ≡ empty variables) }
@@ -93,7 +93,7 @@ impl Trail {
         })
     }
 
-    /// What a literal is.
+    /// The value of a literal.
     pub fn value(&self, literal: u32) -> Value
         requires { literal < 2 * self.now.variables }
         ensures { Is self.now literal result }
@@ -101,7 +101,7 @@ impl Trail {
         self.values[literal as usize]
     }
 
-    /// How many literals are true.
+    /// The number of true literals.
     pub fn len(&self) -> usize
         ensures len { result ≡ length self.now.literals }
         ensures lawful { IsTrail self.now }
@@ -135,7 +135,7 @@ impl Trail {
         self.places[variable(literal) as usize] as usize
     }
 
-    /// How many levels have begun.
+    /// The number of levels that have begun.
     pub fn levels(&self) -> usize
         ensures { result ≡ length self.now.starts }
     {
@@ -150,7 +150,7 @@ impl Trail {
         self.starts[level] as usize
     }
 
-    /// The first literal that isn't propagated yet.
+    /// The first literal that isn't propagated yet, if any.
     pub fn pending(&self) -> Option<u32>
         ensures some { IfSome result (λ l. (self.now.propagated < length self.now.literals) × (l ≡ slice_index self.now.literals self.now.propagated)) }
         ensures none { IsNone result → self.now.propagated ≡ length self.now.literals }
@@ -162,7 +162,7 @@ impl Trail {
         }
     }
 
-    /// The first literal that wasn't propagated is.
+    /// Marks the first pending literal as propagated.
     pub fn advance(&mut self)
         requires { self.old.propagated < length self.old.literals }
         ensures after { self.new ≡ record self.old { propagated = self.old.propagated + 1 } }
@@ -171,7 +171,7 @@ impl Trail {
         self.propagated += 1;
     }
 
-    /// One more literal is true, by its reason.
+    /// Makes a literal true, with its reason.
     pub fn imply(&mut self, literal: u32, reason: u32)
         requires within { literal < 2 * self.old.variables }
         requires open { IsOpen self.old literal }
@@ -181,7 +181,7 @@ impl Trail {
         self.push(literal, Some(reason));
     }
 
-    /// A level begins with this literal, once all is propagated.
+    /// Begins a level with this literal, once all is propagated.
     pub fn decide(&mut self, literal: u32)
         requires within { literal < 2 * self.old.variables }
         requires open { IsOpen self.old literal }
@@ -195,7 +195,7 @@ impl Trail {
         self.levels += 1;
     }
 
-    /// One more literal is true.
+    /// Makes a literal true.
     fn push(&mut self, literal: u32, reason: Option<u32>)
         requires within { literal < 2 * self.old.variables }
         requires open { IsOpen self.old literal }
@@ -210,7 +210,7 @@ impl Trail {
         self.len += 1;
     }
 
-    /// The levels from this one on are taken back.
+    /// Undoes the levels from this one on.
     pub fn cut(&mut self, level: usize)
         requires { level < length self.old.starts }
         ensures after { self.new ≡ cut_to self.old level }

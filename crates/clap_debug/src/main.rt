@@ -7,10 +7,10 @@ use std::io::{self, ErrorKind};
 use std::process::ExitCode;
 use tc_io::files::{FileShelf, StdSink};
 
-/// The status where the words find no memory.
+/// The exit status if there is no memory for the words.
 const NO_MEMORY: u8 = 9;
 
-/// The words. Where one is no text there are none, which is answered by the usage.
+/// The words of the command line, or none if one isn't text; the answer is then the usage.
 fn words_of(rt: &(impl Env + AllocGlobal)) -> io::Result<Vec<String>> {
     match env::args(rt) {
         Ok(words) => Ok(words.collect(rt.alloc())?),

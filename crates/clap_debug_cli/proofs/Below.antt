@@ -1,8 +1,8 @@
 -- The switches that were found, as a refutation names one fewer.
 use Rattle.std.proofs.Common.{◌≤◌, ℕ, zero, suc, arith, Some, None, List}
 use Rattle.tc_base.specs.Buffers.{BufferOps}
-use Rattle.tc_base.specs.Logs.{Log}
-use Rattle.tc_base.specs.declared.model.Model.{Model}
+use Rattle.run_log.specs.Logs.{Log}
+use Rattle.memory_models.specs.declared.model.Model.{Model}
 use Rattle.tc_code.specs.Code.{Code}
 use Rattle.store_buffers.specs.Pending.{Binding}
 use Rattle.refute_check.specs.declared.line.Line.{Line}

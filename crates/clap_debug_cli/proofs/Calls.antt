@@ -9,7 +9,7 @@ use Rattle.dimacs_text.specs.Texts.{cnf_text}
 use Rattle.clap_solve.specs.declared.answer.Answer.{Answer as Found}
 use Rattle.clap_solve.specs.declared.answer.Answer.TheVariants as found
 use Rattle.clap_debug_words.specs.Calls.{Called, Lists, Replays, Records, Migrates, Solves, Minimizes, Checks, Workloads, Exports, Imports, Explains, call_of}
-use Rattle.tc_base.specs.declared.model.Model.{Model}
+use Rattle.memory_models.specs.declared.model.Model.{Model}
 use Rattle.least_switch.specs.declared.answer.Least.{Least as LeastFound}
 use Rattle.least_switch.specs.declared.answer.Least.TheVariants as least
 use Rattle.clap_debug_cli.specs.Answers.{status_of, found_status, least_status}

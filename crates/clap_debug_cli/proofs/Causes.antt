@@ -2,14 +2,15 @@
 use Rattle.std.proofs.Common.{◌≡◌, ◌∙◌, refl, ap, sym, subst, inl, inr, ℕ, List, Option, Some, None, Result, Ok, Err}
 use Rattle.std.specs.Result.{IsErrAnd, MatchResult}
 use Rattle.std.specs.Option.{IsSomeAnd}
-use Rattle.tc_base.specs.Logs.{Log}
-use Rattle.tc_base.specs.declared.model.Model.{Model}
+use Rattle.run_log.specs.Logs.{Log}
+use Rattle.memory_models.specs.declared.model.Model.{Model}
 use Rattle.tc_parser.specs.declared.fault.TextFault.{TextFault}
 use Rattle.path_walk.specs.declared.fault.WalkFault.TheVariants as walk
 use Rattle.clap_system.specs.Faults.{IsBuildFault}
 use Rattle.clap_system.specs.declared.fault.BuildFault.{BuildFault}
 use Rattle.clap_system.specs.declared.fault.BuildFault.TheVariants as build
-use Rattle.path_log.specs.Texts.{StoredLog, IsLog, IsOfOther}
+use Rattle.run_log.specs.Logs.{StoredLog}
+use Rattle.path_log.specs.Texts.{IsLog, IsOfOther}
 use Rattle.tc_code.specs.Code.{Code}
 use Rattle.tc_compile.specs.Programs.{IsCodeOf, IsWhyNoCode}
 use Rattle.tc_compile.specs.declared.fault.CompileFault.{CompileFault}

@@ -2,7 +2,8 @@
 use Rattle.std.proofs.Common.{◌≡◌, ◌∙◌, refl, ap, sym, ℕ, List, [], ◌∷◌, ◌++◌, take, drop, take-add, take_all, append_assoc, length, ◌≤◌, ◌+◌}
 use Rattle.std.specs.Prelude.{is_some, IsSome}
 use Rattle.tc_code.specs.Code.{Code}
-use Rattle.path_log.specs.Texts.{StoredLog, IsLog, IsOfOther}
+use Rattle.run_log.specs.Logs.{StoredLog}
+use Rattle.path_log.specs.Texts.{IsLog, IsOfOther}
 use Rattle.clap_system.specs.Faults.{IsBuildFault}
 use Rattle.clap_system.specs.declared.fault.BuildFault.{BuildFault}
 use Rattle.tc_compile.specs.Programs.{IsCodeOf}

@@ -1,7 +1,7 @@
 -- From an answer with its cause, as it was put, to the answers of a command by status.
 use Rattle.std.proofs.Common.{◌≡◌, ◌≢◌, ◌≤◌, length, ℕ, List, [], ◌∷◌, Option, Some, None, IfSome, ◌⊎◌, inl, inr, refl, sym, ◌∙◌, ap, subst, arith}
 use Rattle.tc_code.specs.Code.{Code}
-use Rattle.tc_base.specs.declared.model.Model.{Model}
+use Rattle.memory_models.specs.declared.model.Model.{Model}
 use Rattle.tc_io.specs.Outside.{Files, ShelfTells, SinkTells, bytes_at, put_under}
 use Rattle.schedule_file.specs.Schedules.{schedule_text}
 use Rattle.dimacs_text.specs.Texts.{cnf_text}

@@ -1,10 +1,11 @@
 -- From what `cnf` and `import` come to to the cause of that answer, and to what it means.
 use Rattle.std.proofs.Common.{◌≡◌, sym, subst, ℕ, ℤ, List, Option}
-use Rattle.tc_base.specs.Buffers.{buffer_of}
-use Rattle.tc_base.specs.declared.model.Model.{Model}
+use Rattle.store_buffers.specs.Buffers.{buffer_of}
+use Rattle.memory_models.specs.declared.model.Model.{Model}
 use Rattle.tc_code.specs.Code.{Code}
 use Rattle.tc_compile.specs.Programs.{IsCodeOf}
-use Rattle.path_log.specs.Texts.{StoredLog, IsLog, IsOfOther}
+use Rattle.run_log.specs.Logs.{StoredLog}
+use Rattle.path_log.specs.Texts.{IsLog, IsOfOther}
 use Rattle.cnf_core.specs.Clauses.{Formula}
 use Rattle.dimacs_text.specs.Answers.{IsAnswerWith}
 use Rattle.dimacs_text.specs.Faults.{IsFault}

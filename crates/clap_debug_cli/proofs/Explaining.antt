@@ -1,10 +1,11 @@
 -- From what is read of a refutation, and what its derivation shows, to the cause of the answer of `why`.
 use Rattle.std.proofs.Common.{◌≡◌, ◌∙◌, refl, ap, sym, subst, ℕ, List, Option, Some, None}
-use Rattle.tc_base.specs.Buffers.{buffer_of}
-use Rattle.tc_base.specs.declared.model.Model.{Model}
+use Rattle.store_buffers.specs.Buffers.{buffer_of}
+use Rattle.memory_models.specs.declared.model.Model.{Model}
 use Rattle.tc_code.specs.Code.{Code}
 use Rattle.tc_compile.specs.Programs.{IsCodeOf}
-use Rattle.path_log.specs.Texts.{StoredLog, IsLog, IsOfOther}
+use Rattle.run_log.specs.Logs.{StoredLog}
+use Rattle.path_log.specs.Texts.{IsLog, IsOfOther}
 use Rattle.refute_check.specs.Refutations.{IsOpen}
 use Rattle.refute_check.specs.declared.head.Head.{Head}
 use Rattle.refute_check.specs.declared.line.Line.{Line}

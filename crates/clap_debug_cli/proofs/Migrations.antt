@@ -9,8 +9,10 @@ use Rattle.std.proofs.lemmas.Bool.{lt-ltb, eq-eqb}
 use Rattle.std.proofs.lemmas.List.Folds.{list_all-append}
 use Rattle.sha2.specs.Sha256.{sha256, digest_bytes}
 use Rattle.sha2.proofs.Facts256.{length-sha256}
-use Rattle.tc_base.specs.Logs.{Log, ThreadPath}
-use Rattle.path_log.specs.Texts.{StoredLog, IsLog, is_digest, log_text}
+use Rattle.run_log.specs.Logs.{Log}
+use Rattle.tc_base.specs.Paths.{ThreadPath}
+use Rattle.run_log.specs.Logs.{StoredLog, is_digest}
+use Rattle.path_log.specs.Texts.{IsLog, log_text}
 use Rattle.path_log.proofs.Logs.{one_log}
 use Rattle.tc_record.specs.Logged.{is_small, most_log_bytes}
 use Rattle.clap_system.specs.declared.fault.Which.TheVariants.{Threads, Depth}

@@ -1,10 +1,11 @@
 -- All answers to what a command's inputs hold that have their cause have one status.
 use Rattle.std.proofs.Common.{◌≡◌, ℕ, List, [], ◌∷◌, refl, ap, subst}
-use Rattle.tc_base.specs.declared.model.Model.{Model}
-use Rattle.tc_base.specs.Buffers.{buffer_of}
+use Rattle.memory_models.specs.declared.model.Model.{Model}
+use Rattle.store_buffers.specs.Buffers.{buffer_of}
 use Rattle.tc_code.specs.Code.{Code}
 use Rattle.tc_parser.specs.declared.fault.TextFault.{TextFault}
-use Rattle.path_log.specs.Texts.{StoredLog, IsOfOther}
+use Rattle.run_log.specs.Logs.{StoredLog}
+use Rattle.path_log.specs.Texts.{IsOfOther}
 use Rattle.path_log.proofs.Logs.{log_or_fault, one_fault, one_log}
 use Rattle.schedule_file.proofs.Schedules as schedules
 use Rattle.schedule_replay.specs.Verdicts.{IsVerdict}

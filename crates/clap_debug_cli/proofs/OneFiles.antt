@@ -2,8 +2,8 @@
 use Rattle.std.proofs.Common.{◌≡◌, ◌∙◌, ◌+◌, ℕ, false, List, [], length, ne_eqb, arith, Some, None, ap, ap₂, sym, subst}
 use Rattle.std.specs.Prelude.{nat_eq, not, ◌||◌, if◌then◌else◌}
 use Rattle.std.proofs.lemmas.Option.{same_Some}
-use Rattle.tc_base.specs.Buffers.{is_nil}
-use Rattle.tc_base.specs.declared.model.Model.{Model}
+use Rattle.list_laws.specs.Lists.{is_nil}
+use Rattle.memory_models.specs.declared.model.Model.{Model}
 use Rattle.refute_check.specs.Broken.{BreaksAt as RefutationBreaksAt}
 use Rattle.refute_check.specs.Laws.{whole_lines}
 use Rattle.refute_check.specs.Reading.{Reading, Reads, beginning, first_breach}

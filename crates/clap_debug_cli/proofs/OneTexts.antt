@@ -2,14 +2,14 @@
 use Rattle.std.proofs.Common.{◌≡◌, ◌∙◌, ℕ, ℤ, suc, List, Option, Some, None, Ok, Err, ap, ap₂, sym, subst, refl, arith}
 use Rattle.std.proofs.lemmas.Option.{same_Some}
 use Rattle.tc_base.specs.Names.{Name}
-use Rattle.tc_base.specs.Logs.{Log}
-use Rattle.tc_base.specs.declared.model.Model.{Model}
+use Rattle.run_log.specs.Logs.{Log}
+use Rattle.memory_models.specs.declared.model.Model.{Model}
 use Rattle.tc_code.specs.Code.{Code}
 use Rattle.path_walk.proofs.Faults.{one_first}
 use Rattle.path_walk.specs.Fits.{IsFirst}
 use Rattle.path_walk.specs.declared.fault.Misfit.{Misfit}
 use Rattle.path_walk.specs.declared.fault.WalkFault.TheVariants as walk
-use Rattle.path_log.specs.Texts.{StoredLog}
+use Rattle.run_log.specs.Logs.{StoredLog}
 use Rattle.path_log.proofs.Logs.{log_or_fault, one_fault, one_log}
 use Rattle.tc_workload.specs.Workload.{workload_log}
 use Rattle.cnf_core.specs.Clauses.{Formula}

@@ -1,8 +1,9 @@
 -- From a run that has a log to the text of its log, and from one that has none to its ending.
 use Rattle.std.proofs.Common.{◌≡◌, refl, ℕ, List}
-use Rattle.tc_base.specs.declared.model.Model.{Model}
+use Rattle.memory_models.specs.declared.model.Model.{Model}
 use Rattle.tc_code.specs.Code.{Code}
-use Rattle.path_log.specs.Texts.{StoredLog, log_text}
+use Rattle.run_log.specs.Logs.{StoredLog}
+use Rattle.path_log.specs.Texts.{log_text}
 use Rattle.tc_record.specs.Logged.{IsLogOf}
 use Rattle.tc_record.specs.Seeded.{Ended, HasLog}
 use Rattle.tc_compile.specs.Programs.{IsCodeOf}

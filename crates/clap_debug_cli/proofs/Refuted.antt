@@ -1,9 +1,9 @@
 -- What a closed refutation of a log means.
 use Rattle.std.proofs.Common.{◌≡◌, ◌∙◌, refl, sym, ap, subst, arith, ℕ, true, List, Option, Some, None, Ok}
-use Rattle.tc_base.specs.Buffers.{buffer_of}
-use Rattle.tc_base.specs.Logs.{Log}
-use Rattle.tc_base.specs.declared.model.Model.{Model}
-use Rattle.tc_base.specs.declared.model.Model.TheVariants.{Sc, Tso, Pso}
+use Rattle.store_buffers.specs.Buffers.{buffer_of}
+use Rattle.run_log.specs.Logs.{Log}
+use Rattle.memory_models.specs.declared.model.Model.{Model}
+use Rattle.memory_models.specs.declared.model.Model.TheVariants.{Sc, Tso, Pso}
 use Rattle.tc_code.specs.Code.{Code}
 use Rattle.tc_code.specs.Lawful.{IsLawful}
 use Rattle.tc_parser.proofs.Words.{has_ints}
@@ -14,7 +14,7 @@ use Rattle.store_buffers.specs.Laws.{Laws}
 use Rattle.store_buffers.specs.helpers.Partial.{pso_laws}
 use Rattle.store_buffers.specs.helpers.Sequential.{sc_laws}
 use Rattle.store_buffers.specs.helpers.Total.{tso_laws}
-use Rattle.path_log.specs.Texts.{is_log}
+use Rattle.run_log.specs.Logs.{is_log}
 use Rattle.cnf_core.specs.Clauses.{Formula}
 use Rattle.refute_check.specs.Refutations.{IsClosed, check}
 use Rattle.refute_check.specs.declared.line.Line.{Line}

@@ -1,15 +1,16 @@
 -- What a search found, as an answer and as what is kept.
 use Rattle.std.proofs.Common.{◌≡◌, ap, sym, subst, refl, arith, ℕ, List, length, Option, None, true, unwrap_or}
 use Rattle.sha2.specs.Sha256.{sha256}
-use Rattle.tc_base.specs.Buffers.{BufferOps, buffer_of, no_buffer, fifo_buffer, cell_buffer}
-use Rattle.tc_base.specs.Logs.{Log}
-use Rattle.tc_base.specs.declared.model.Model.{Model}
-use Rattle.tc_base.specs.declared.model.Model.TheVariants.{Sc, Tso, Pso}
+use Rattle.tc_base.specs.Buffers.{BufferOps}
+use Rattle.store_buffers.specs.Buffers.{buffer_of, no_buffer, fifo_buffer, cell_buffer}
+use Rattle.run_log.specs.Logs.{Log}
+use Rattle.memory_models.specs.declared.model.Model.{Model}
+use Rattle.memory_models.specs.declared.model.Model.TheVariants.{Sc, Tso, Pso}
 use Rattle.tc_base.specs.declared.moves.Move.{Move}
 use Rattle.refute_check.specs.declared.line.Line.{Line}
 use Rattle.tc_code.specs.Code.{Code}
 use Rattle.tc_code.specs.Run.{Reproduces}
-use Rattle.path_log.specs.Texts.{StoredLog}
+use Rattle.run_log.specs.Logs.{StoredLog}
 use Rattle.path_log.proofs.Logs.{one_log}
 use Rattle.store_buffers.specs.Pending.{Binding, binds_all, binds_cells}
 use Rattle.store_buffers.specs.helpers.Partial.{pso_laws}

@@ -1,6 +1,6 @@
 -- From what `workload` comes to to the cause of that answer.
 use Rattle.std.proofs.Common.{◌≡◌, refl, subst, ℕ, [], Result, Ok, Err}
-use Rattle.tc_base.specs.Logs.{Log}
+use Rattle.run_log.specs.Logs.{Log}
 use Rattle.tc_code.specs.Code.{Code}
 use Rattle.tc_compile.specs.Programs.{IsCodeOf, IsWhyNoCode}
 use Rattle.tc_compile.specs.declared.fault.CompileFault.{CompileFault}

@@ -1,4 +1,4 @@
--- What is answered: the line and the status of each answer.
+-- The line and the status of each answer.
 use Rattle.std.specs.Prelude.{ℕ, ◌+◌, List, ◌++◌, length, codes, if◌then◌else◌}
 use Rattle.std.specs.Fmt.{decimal}
 use Rattle.tc_base.specs.Names.{name_text}
@@ -75,20 +75,20 @@ verdict_line verdict.NotStuck = codes "not stuck\n"
 verdict_line (verdict.OtherFailure n) = codes "other failure " ++ (name_text n ++ codes "\n")
 verdict_line (verdict.OtherPath n) = codes "other path " ++ (name_text n ++ codes "\n")
 
--- what there is a limit of in a run
+-- the word for a limit of a run
 abbrev pub which_text : Which → List ℕ
 which_text Threads = codes "threads"
 which_text Depth = codes "depth"
 which_text Steps = codes "steps"
 
--- what there is a limit of in a log
+-- the word for a limit of a log
 abbrev pub excess_text : WhichInLog → List ℕ
 excess_text in_log.Threads = codes "threads"
 excess_text in_log.Depth = codes "depth"
 excess_text in_log.Events = codes "events"
 excess_text in_log.Operators = codes "operators"
 
--- there are so many of these, which are too many
+-- the line that says that a count is above its limit
 abbrev pub over_line : (what : List ℕ) → (number most : ℕ) → List ℕ
 over_line what number most = codes "limit " ++ (what ++ (codes " " ++ (decimal number ++ (codes " of " ++ (decimal most ++ codes "\n")))))
 
@@ -110,28 +110,28 @@ schedule_line schedule = codes "schedule " ++ (decimal (length schedule.moves.it
 abbrev pub impossible_line : List Line → List ℕ
 impossible_line lines = codes "impossible, " ++ (decimal (length lines) ++ codes " lines\n")
 
--- a search was given up after so many conflicts
+-- the line for a search that was given up after this many conflicts
 abbrev pub spent_line : (conflicts : ℕ) → List ℕ
 spent_line conflicts = codes "spent after " ++ (decimal conflicts ++ codes " conflicts\n")
 
--- what a search found, with so many conflicts at most
+-- the line for the result of a search with a budget of conflicts
 abbrev pub found_line : (budget : ℕ) → Found → List ℕ
 found_line budget (found.Found schedule) = schedule_line schedule
 found_line budget (found.Impossible lines) = impossible_line lines
 found_line budget (found.Spent lines) = spent_line budget
 
--- how many variables and clauses there are
+-- the line with the number of variables and clauses
 abbrev pub clauses_line : Formula → List ℕ
 clauses_line f = codes "cnf " ++ (decimal f.vars ++ (codes " variables, " ++ (decimal (length f.clauses) ++ codes " clauses\n")))
 
 abbrev pub solution_line : Solution → List ℕ
 solution_line x = found_line x.budget x.answer
 
--- one for fewer switches was given up after so many conflicts
+-- the line for a search for fewer switches that was given up after this many conflicts
 abbrev pub spent_at_line : (conflicts count : ℕ) → List ℕ
 spent_at_line conflicts count = codes "spent after " ++ (decimal conflicts ++ (codes " conflicts, " ++ (decimal count ++ codes " switches\n")))
 
--- what searches for the fewest switches found, each with so many conflicts at most
+-- the line for searches for the fewest switches, each with a budget of conflicts
 abbrev pub least_line : (budget : ℕ) → Least → List ℕ
 least_line budget (least.Found schedule count _) =
     codes "schedule " ++ (decimal (length schedule.moves.items) ++ (codes " moves, " ++ (decimal count ++ codes " switches\n")))
@@ -154,19 +154,19 @@ end_word ran.Deadlock = codes "deadlock"
 end_word ran.Limit = codes "limit"
 end_word ran.StepLimit = codes "step-limit"
 
--- what a search found, in short
+-- the short form of a search's result
 abbrev pub found_words : Found → List ℕ
 found_words (found.Found schedule) = decimal (length schedule.moves.items) ++ codes " moves"
 found_words (found.Impossible lines) = codes "impossible"
 found_words (found.Spent lines) = codes "spent"
 
--- how the run ended, and what was found under each memory model
+-- the line with the end of the run, and the result under each memory model
 abbrev pub work_line : Work → List ℕ
 work_line x =
     codes "workload " ++ (decimal x.workers ++ (codes " " ++ (decimal x.seed ++ (codes ": record " ++ (end_word x.end
     ++ (codes ", tso " ++ (found_words x.tso ++ (codes ", sc " ++ (found_words x.sc ++ codes "\n")))))))))
 
--- where the log's form breaks, or that it is another program's, or what is wrong with one of its threads
+-- why a log is refused: where its form breaks, that it is another program's, or a thread's misfit
 abbrev pub log_refusal_text : LogRefusal → List ℕ
 log_refusal_text (Form offset) = codes "form at " ++ decimal offset
 log_refusal_text OtherProgram = codes "other program"
@@ -185,7 +185,7 @@ usage_text =
     ++ codes "usage: clap_debug import PROGRAM LOG ANSWER OUT [--model sc|tso|pso]\n"
     ++ codes "usage: clap_debug why PROGRAM LOG REFUTATION\n"
 
--- what is written
+-- the text of an answer
 abbrev pub line_of : Answer → List ℕ
 line_of Usage = usage_text
 line_of (ReadFault name) = codes "read fault: " ++ (name ++ codes "\n")
@@ -247,7 +247,7 @@ shown_status _ = 0
 abbrev pub work_status : Work → ℕ
 work_status x = if has_spent x then 10 else 0
 
--- the status that the call ends with
+-- the exit status of an answer
 abbrev pub status_of : Answer → ℕ
 status_of (Listed _) = 0
 status_of (Replayed v) = verdict_status v

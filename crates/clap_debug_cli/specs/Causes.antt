@@ -1,13 +1,14 @@
--- Why an answer is given: what the words are, what the shelf did, and what the bytes that it gave say.
+-- Why an answer is given: the words, what the shelf did, and what the bytes that it gave say.
 use Rattle.std.specs.Prelude.{◌≡◌, ◌⊎◌, ℕ, ℤ, ◌≤◌, ◌-◌, List, [], ◌∷◌, length, Option, Some, None, Ok, Err, IsSomeAnd}
-use Rattle.tc_base.specs.declared.limits.TheConstants.{SCHEDULE_BYTES}
-use Rattle.tc_base.specs.declared.model.Model.{Model}
-use Rattle.tc_base.specs.Buffers.{buffer_of}
-use Rattle.tc_base.specs.Logs.{Log}
+use Rattle.tc_limits.specs.declared.limits.TheConstants.{SCHEDULE_BYTES}
+use Rattle.memory_models.specs.declared.model.Model.{Model}
+use Rattle.store_buffers.specs.Buffers.{buffer_of}
+use Rattle.run_log.specs.Logs.{Log}
 use Rattle.tc_code.specs.Code.{Code}
 use Rattle.tc_io.specs.Outside.{ShelfTells, Kept, KeptPart}
 use Rattle.path_log.specs.Faults.{BreaksAt as LogBreaksAt}
-use Rattle.path_log.specs.Texts.{StoredLog, IsLog, IsOfOther}
+use Rattle.run_log.specs.Logs.{StoredLog}
+use Rattle.path_log.specs.Texts.{IsLog, IsOfOther}
 use Rattle.schedule_file.specs.Faults.{BreaksAt as ScheduleBreaksAt}
 use Rattle.schedule_file.specs.Schedules.{schedule_text}
 use Rattle.schedule_replay.specs.Verdicts.{IsVerdict}
@@ -89,7 +90,7 @@ IsListAnswer program (ProgramRefused r) = IsRefusal program r
 IsListAnswer program (Listed code) = IsCodeOf program code
 IsListAnswer program _ = ⊥
 
--- the three files are of their forms, the log isn't of another program, and this is the verdict on what they say
+-- the files have their forms, the log isn't of another program, and this is their verdict
 pub record IsReplayed (program log schedule : List ℕ) (v : Verdict) : Type 0 where
   pub code : Code
   pub run : StoredLog
@@ -100,14 +101,14 @@ pub record IsReplayed (program log schedule : List ℕ) (v : Verdict) : Type 0 w
   pub recorded : IsOfOther program run → ⊥
   pub verdict : IsVerdict (buffer_of plan.model) code run.log plan.moves v
 
--- the log isn't of its form from this offset on, or it is of another program, and the other files are of their forms
+-- the program has its form and the log breaks its; or all have theirs, and the log is another's
 abbrev pub IsLogRefused : (program log schedule : List ℕ) → LogRefusal → Type 0
 IsLogRefused program log schedule (Form offset) = (code : Code) × IsCodeOf program code × LogBreaksAt log offset
 IsLogRefused program log schedule OtherProgram =
     (code : Code) × IsCodeOf program code × (run : StoredLog) × IsLog log run × (plan : Schedule) × IsSchedule schedule plan × IsOfOther program run
 IsLogRefused program log schedule (Unfit _ _) = ⊥
 
--- program and log are of their forms, and this line of the schedule is the first that isn't
+-- program and log have their forms, and this line of the schedule is the first that breaks its form
 pub record IsScheduleRefused (program log schedule : List ℕ) (line : ℕ) : Type 0 where
   pub code : Code
   pub run : StoredLog
@@ -115,7 +116,7 @@ pub record IsScheduleRefused (program log schedule : List ℕ) (line : ℕ) : Ty
   pub logs : IsLog log run
   pub breaks : ScheduleBreaksAt schedule line
 
--- the answer of `replay` to three files: of those that aren't of their form, the first is told
+-- the answer of `replay` to three files; it names the first file that breaks its form
 abbrev pub IsReplayAnswer : (program log schedule : List ℕ) → Answer → Type 0
 IsReplayAnswer program log schedule (ProgramRefused r) = IsRefusal program r
 IsReplayAnswer program log schedule (LogRefused r) = IsLogRefused program log schedule r
@@ -130,28 +131,28 @@ IsRecordAnswer program model seed steps (Recorded o) = ComesTo program model see
 IsRecordAnswer program model seed steps (RunEnded e) = EndsSo program model seed steps e
 IsRecordAnswer program model seed steps _ = ⊥
 
--- The answer to a program and a log: that of the first test that fails, and else what the command makes of them.
+-- The answer to a program and a log: of the first test that fails, or else of the command's work.
 
--- of the log with its digest
+-- the answer of the test of the log's digest
 abbrev pub IsStoredAnswer : (program : List ℕ) → StoredLog → (Answer → Type 0) → Answer → Type 0
 IsStoredAnswer program run P (LogRefused OtherProgram) = IsOfOther program run
 IsStoredAnswer program run P a = (IsOfOther program run → ⊥) × P a
 
--- of the text of the log
+-- the answer of the test of the log's text
 abbrev pub IsLogAnswer : (log : List ℕ) → (StoredLog → Answer → Type 0) → Answer → Type 0
 IsLogAnswer log P (LogRefused (Form offset)) = LogBreaksAt log offset
 IsLogAnswer log P a = (run : StoredLog) × IsLog log run × P run a
 
--- of the text of the program
+-- the answer of the test of the program's text
 abbrev pub IsProgramAnswer : (program : List ℕ) → (Code → Answer → Type 0) → Answer → Type 0
 IsProgramAnswer program P (ProgramRefused r) = IsRefusal program r
 IsProgramAnswer program P a = (code : Code) × IsCodeOf program code × P code a
 
--- of both texts
+-- the answer of the tests of both texts
 abbrev pub IsTextsAnswer : (program log : List ℕ) → (Code → StoredLog → Answer → Type 0) → Answer → Type 0
 IsTextsAnswer program log P = IsProgramAnswer program (λ code. IsLogAnswer log (P code))
 
--- `migrate` tests the limits of the log, and then that it fits the code
+-- `migrate` tests the log's limits, and then that the log fits the code
 abbrev pub IsFitAnswer : Code → Log → Answer → Type 0
 IsFitAnswer code log (LogOver e) = excess_of log ≡ Some e
 IsFitAnswer code log (LogRefused (Unfit name misfit)) = (excess_of log ≡ None) × IsFirst code log name misfit
@@ -161,7 +162,7 @@ IsFitAnswer code log _ = ⊥
 abbrev pub IsMigrateAnswer : (program log : List ℕ) → Answer → Type 0
 IsMigrateAnswer program log = IsTextsAnswer program log (λ code run. IsStoredAnswer program run (IsFitAnswer code run.log))
 
--- `solve` and `check` test the limits of the log, that it fits the code, and the limits of its paths
+-- `solve` and `check` test the log's limits, its fit to the code, and the limits of its paths
 abbrev pub IsLimitAnswer : Code → Log → (Answer → Type 0) → Answer → Type 0
 IsLimitAnswer code log P (LogOver e) = IsBuildFault code log (build.Limit e.which e.number (limit_of e.which))
 IsLimitAnswer code log P (LogRefused (Unfit name misfit)) = IsBuildFault code log (build.Walk (walk.Unfit name misfit))
@@ -176,7 +177,7 @@ abbrev pub IsSolveAnswer : (program log : List ℕ) → Option Model → (budget
 IsSolveAnswer program log model budget =
     IsTextsAnswer program log (λ code run. IsStoredAnswer program run (IsLimitAnswer code run.log (IsSearchAnswer code run.log model budget)))
 
--- and so does `solve --least`
+-- then `solve --least` searches
 abbrev pub IsMinimizedAnswer : Code → Log → Option Model → (budget : ℕ) → Answer → Type 0
 IsMinimizedAnswer code log model budget (Minimized x) = IsMinimized code log model budget x
 IsMinimizedAnswer code log model budget _ = ⊥
@@ -185,7 +186,7 @@ abbrev pub IsMinimizeAnswer : (program log : List ℕ) → Option Model → (bud
 IsMinimizeAnswer program log model budget =
     IsTextsAnswer program log (λ code run. IsStoredAnswer program run (IsLimitAnswer code run.log (IsMinimizedAnswer code run.log model budget)))
 
--- and `check` tests the form of the refutation before all of these, and its lines after them
+-- `check` tests the form of the refutation before all of these, and its lines after them
 abbrev pub IsRefutationAnswer : (refutation : List ℕ) → (Head → List Line → Answer → Type 0) → Answer → Type 0
 IsRefutationAnswer refutation P (RefutationRefused line) = RefutationBreaksAt refutation line
 IsRefutationAnswer refutation P a = (head : Head) × (lines : List Line) × IsRefutation refutation head lines × P head lines a
@@ -202,8 +203,8 @@ IsClausesAnswer program code run head lines =
 abbrev pub IsCheckAnswer : (program log refutation : List ℕ) → Answer → Type 0
 IsCheckAnswer program log refutation = IsTextsAnswer program log (λ code run. IsRefutationAnswer refutation (IsClausesAnswer program code run))
 
--- `why` answers what `check` does to a refutation that speaks of all schedules, where a first line may name no number of switches, but
--- tells the reasons where that accepts one that is closed
+-- `why` answers like `check` to a refutation of all schedules, whose header may name no number of
+-- switches; but it tells the reasons if `check` accepts a closed one
 abbrev pub IsPlainAnswer : (refutation : List ℕ) → (Head → List Line → Answer → Type 0) → Answer → Type 0
 IsPlainAnswer refutation P (RefutationRefused line) = IsBrokenAt refutation line
 IsPlainAnswer refutation P a = (model : Model) × (lines : List Line) × IsRefutation refutation (head_of model) lines × P (head_of model) lines a
@@ -235,7 +236,7 @@ abbrev pub IsCnfAnswer : (program log : List ℕ) → Option Model → Answer �
 IsCnfAnswer program log model =
     IsTextsAnswer program log (λ code run. IsStoredAnswer program run (IsLimitAnswer code run.log (IsClauseListAnswer model code run.log)))
 
--- and so does `import`, but tests the form of the solver's answer where `check` does that of a refutation
+-- `import` does too, but tests the form of the solver's answer where `check` tests the refutation's
 abbrev pub IsLiteralsAnswer : (answer : List ℕ) → (List ℤ → Answer → Type 0) → Answer → Type 0
 IsLiteralsAnswer answer P (AnswerRefused line) = AnswerBreaksAt answer line
 IsLiteralsAnswer answer P a = (literals : List ℤ) × IsAnswerWith answer literals × P literals a
@@ -249,14 +250,14 @@ abbrev pub IsImportAnswer : (program log answer : List ℕ) → Option Model →
 IsImportAnswer program log answer model = IsTextsAnswer program log (λ code run. IsLiteralsAnswer answer
     (λ literals. IsStoredAnswer program run (IsLimitAnswer code run.log (IsTakenAnswer model code run.log literals))))
 
--- What is answered where `solve` kept this text of what it found: the schedule isn't too long for `replay`, which answers that it
--- reproduces the log, and `check` that it accepts the refutation.
+-- The answers to a text that `solve` kept: `replay`, for which the schedule is short enough, says
+-- that it reproduces the log, and `check` accepts the refutation.
 abbrev pub IsAcceptedAs : (program log text : List ℕ) → Found → Type 0
 IsAcceptedAs program log text (found.Found _) = (length text ≤ SCHEDULE_BYTES) × IsReplayAnswer program log text (Replayed verdict.Reproduces)
 IsAcceptedAs program log text (found.Impossible _) = IsCheckAnswer program log text (Accepted Impossible)
 IsAcceptedAs program log text (found.Spent _) = IsCheckAnswer program log text (Accepted Open)
 
--- and where `solve --least` kept a refutation beside it: `check` that there are more switches than its first line says, or that it is open
+-- for `solve --least`: `check` accepts the refutation as open, or of more switches than it names
 abbrev pub IsAcceptedBelow : (program log : List ℕ) → Model → Least → Type 0
 IsAcceptedBelow program log model (least.Found _ count (Some lines)) =
     IsCheckAnswer program log (refutation_text (head_below model count) lines) (Accepted (MoreSwitches (count - 1)))
@@ -264,7 +265,7 @@ IsAcceptedBelow program log model (least.SpentAt _ count lines) =
     IsCheckAnswer program log (refutation_text (head_below model count) lines) (Accepted Open)
 IsAcceptedBelow program log model _ = Unit {0}
 
--- the answer of a command to what its inputs hold, none of which is too long
+-- the answer of a command to its inputs, none of which is too long
 abbrev pub IsWorkOf : Called → Texts → Answer → Type 0
 IsWorkOf (Lists _) (program ∷ []) a = IsListAnswer program a
 IsWorkOf (Replays _ _ _) (program ∷ log ∷ schedule ∷ []) a = IsReplayAnswer program log schedule a
@@ -279,13 +280,13 @@ IsWorkOf (Imports _ _ _ _ model) (program ∷ log ∷ answer ∷ []) a = IsImpor
 IsWorkOf (Explains _ _ _) (program ∷ log ∷ refutation ∷ []) a = IsWhyAnswer program log refutation a
 IsWorkOf _ _ a = ⊥
 
--- the answer of a command to what its inputs hold
+-- the answer of a command to its inputs
 abbrev pub IsAnswerTo : Called → Texts → Answer → Type 0
 IsAnswerTo call t (TooLong i) = IsTooLong (inputs_of call) t i
 IsAnswerTo call t a = AreWithin (inputs_of call) t × IsWorkOf call t a
 
--- what a command that keeps one result may keep of its inputs: `record` the text of the log of a run that failed or came to a deadlock, `migrate` that of the
--- log in format 2, which isn't long, `solve` that of what it found, `cnf` that of the clauses, and `import` that of the schedule
+-- the result that a command keeps: `record` the log's text of a failed or deadlocked run, `migrate`
+-- the log in format 2 (short), `solve` what it found, `cnf` the clauses, `import` the schedule
 abbrev pub IsResult : Called → Texts → List ℕ → Type 0
 IsResult (Records _ _ model seed steps) (program ∷ []) text = IsRecorded program model seed steps text
 IsResult (Migrates _ _ _) (program ∷ log ∷ []) text = IsMigrated program log text × (length text ≤ most_log_bytes)
@@ -295,7 +296,7 @@ IsResult (Imports _ _ _ _ model) (program ∷ log ∷ answer ∷ []) text =
     (s : MadeSchedule) × IsImportAnswer program log answer model (Imported s) × (text ≡ schedule_text s.model s.moves.items)
 IsResult _ _ text = ⊥
 
--- the name under which a command keeps it, and whether this is that name
+-- whether this is the name under which a command keeps its result
 abbrev pub IsOutput : Called → List ℕ → Type 0
 IsOutput (Records _ log _ _ _) name = name ≡ log
 IsOutput (Migrates _ _ out) name = name ≡ out
@@ -312,29 +313,30 @@ KeepsResult call t old new = (name : List ℕ) × (text : List ℕ) × IsOutput 
 abbrev pub KeepsText : Called → List ℕ → ShelfTells → ShelfTells → Type 0
 KeepsText call text old new = (name : List ℕ) × IsOutput call name × Kept old new name text
 
--- What `solve --least` does to the shelf, which keeps two texts.
+-- What `solve --least`, which keeps two texts, does to the shelf.
 
--- it keeps both
+-- it keeps both texts
 abbrev pub KeepsMinimum : Called → Minimum → ShelfTells → ShelfTells → Type 0
 KeepsMinimum (Minimizes _ _ out _ _ refutation) x old new = KeptBoth out refutation x old new
 KeepsMinimum _ x old new = ⊥
 
--- the first, but there is no memory to keep the second
+-- it keeps the first text, but there is no memory to keep the second
 abbrev pub KeepsFirst : Called → ShelfTells → ShelfTells → Type 0
 KeepsFirst (Minimizes program log out model budget refutation) old new =
     (t : Texts) × (s : ShelfTells) × GaveAll (inputs_of (Minimizes program log out model budget refutation)) old s t
     × (x : Minimum) × IsWorkOf (Minimizes program log out model budget refutation) t (Minimized x) × KeptFirst out refutation x s new
 KeepsFirst _ old new = ⊥
 
--- one of them couldn't be kept under this name
+-- one of the texts couldn't be kept under this name
 abbrev pub LosesMinimum : Called → Texts → ShelfTells → ShelfTells → List ℕ → Type 0
 LosesMinimum (Minimizes program log out model budget refutation) t old new name =
     (x : Minimum) × IsWorkOf (Minimizes program log out model budget refutation) t (Minimized x)
     × (((name ≡ out) × KeptPart old new out (first_text x)) ⊎ ((name ≡ refutation) × LostSecond out refutation x old new))
 LosesMinimum _ t old new name = ⊥
 
--- what a command does to the shelf once it has its inputs: with a run that has a log, a log in format 2, what a search found, the
--- clauses of a log, and a schedule of another solver's answer, it keeps a result, `solve --least` two, and else nothing
+-- what a command with its inputs does to the shelf: it keeps one result for a logged run, a
+-- migrated log, a search's result, clauses or a schedule; `solve --least` keeps two, and others
+-- nothing
 abbrev pub DoesWith : Called → Texts → Answer → ShelfTells → ShelfTells → Type 0
 DoesWith call t (Recorded _) old new = KeepsResult call t old new
 DoesWith call t Migrated old new = KeepsResult call t old new

@@ -1,12 +1,13 @@
--- What `check` accepts.
+-- The refutations that `check` accepts.
 use Rattle.std.specs.Prelude.{◌≡◌, ℕ, ◌<◌, List, Option, Some, None}
-use Rattle.tc_base.specs.Buffers.{buffer_of}
-use Rattle.tc_base.specs.Logs.{Log}
-use Rattle.tc_base.specs.declared.model.Model.{Model}
+use Rattle.store_buffers.specs.Buffers.{buffer_of}
+use Rattle.run_log.specs.Logs.{Log}
+use Rattle.memory_models.specs.declared.model.Model.{Model}
 use Rattle.tc_base.specs.declared.moves.Move.{Move}
 use Rattle.tc_code.specs.Code.{Code}
 use Rattle.tc_code.specs.Run.{Reproduces}
-use Rattle.path_log.specs.Texts.{StoredLog, IsLog, IsOfOther}
+use Rattle.run_log.specs.Logs.{StoredLog}
+use Rattle.path_log.specs.Texts.{IsLog, IsOfOther}
 use Rattle.refute_check.specs.Refutations.{IsClosed}
 use Rattle.refute_check.specs.declared.head.Head.{Head}
 use Rattle.refute_check.specs.declared.line.Line.{Line}
@@ -24,7 +25,7 @@ use Rattle.clap_debug_cli.specs.Files.{IsRefutation}
 use Rattle.clap_debug_cli.specs.declared.answer.Shown.{Shown}
 use Rattle.clap_debug_cli.specs.declared.answer.Shown.TheVariants.{Impossible, MoreSwitches, Open as StillOpen}
 
--- the fault is of the line of this number
+-- the fault is in the line of this number
 abbrev pub IsOfLine : CheckFault → ℕ → Type 0
 IsOfLine (NoVariable line) n = n ≡ line
 IsOfLine (NoClause line) n = n ≡ line
@@ -32,30 +33,31 @@ IsOfLine (Hint line) n = n ≡ line
 IsOfLine (NoConflict line) n = n ≡ line
 IsOfLine Memory n = ⊥
 
--- the clauses of a log under a memory model, those with at most so many switches where a number is named
+-- the clauses of a log under a memory model, with at most this many switches if a number is named
 abbrev pub clauses_up_to : Option ℕ → Model → Code → Log → Formula
 clauses_up_to None model code log = model_clauses model code log
 clauses_up_to (Some most) model code log = switch_clauses (buffer_of model).buffered (bound_of model) code log most
 
--- the clauses of which a refutation with this first line speaks
+-- the clauses that a refutation with this header is about
 abbrev pub head_clauses : Head → Code → Log → Formula
 head_clauses head code log = clauses_up_to head.switches head.model code log
 
--- what is shown by lines that pass, where a first line names so many switches or none
+-- what lines that pass prove, given the number of switches in the header, if any
 abbrev pub shown : Option ℕ → Checked → Shown
 shown None Closed = Impossible
 shown (Some most) Closed = MoreSwitches most
 shown _ Open = StillOpen
 
--- moves that reproduce a log under a memory model have more switches than this; where no number is named, there are none
+-- moves that reproduce the log have more switches than this; without a number, there are none
 abbrev pub AreExcluded : Option ℕ → Model → Code → Log → Type 0
 AreExcluded None model code log = IsImpossible (buffer_of model) code log
 AreExcluded (Some most) model code log =
     (moves : List Move) → Reproduces (buffer_of model) code log moves → most < switches (buffer_of model) code moves
 
--- The three files are of their forms, the log isn't of another program and fits it within the limits. The refutation, whoever made it,
--- names so many switches or none. It is closed on the log's clauses with at most so many, under its memory model, and no moves with at
--- most so many reproduce the log under that model.
+-- The files have their forms, and the log isn't of another program and is within the limits. The
+-- refutation, whoever made it, may name a number of switches. It is closed on the log's clauses
+-- with at most that many, under its memory model, and no moves with at most that many reproduce the
+-- log.
 pub record IsRefuted (program log refutation : List ℕ) (most : Option ℕ) : Type 0 where
   pub code : Code
   pub run : StoredLog

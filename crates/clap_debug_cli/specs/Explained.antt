@@ -1,9 +1,10 @@
--- What `why` tells.
+-- The reasons that `why` gives.
 use Rattle.std.specs.Prelude.{ℕ, List}
-use Rattle.tc_base.specs.Buffers.{buffer_of}
-use Rattle.tc_base.specs.declared.model.Model.{Model}
+use Rattle.store_buffers.specs.Buffers.{buffer_of}
+use Rattle.memory_models.specs.declared.model.Model.{Model}
 use Rattle.tc_code.specs.Code.{Code}
-use Rattle.path_log.specs.Texts.{StoredLog, IsLog, IsOfOther}
+use Rattle.run_log.specs.Logs.{StoredLog}
+use Rattle.path_log.specs.Texts.{IsLog, IsOfOther}
 use Rattle.refute_check.specs.declared.line.Line.{Line}
 use Rattle.clap_solve.specs.Clauses.{bound_of}
 use Rattle.clap_solve.specs.Solved.{IsWithin}
@@ -12,8 +13,8 @@ use Rattle.why_impossible.specs.Explained.{IsClosedFor}
 use Rattle.why_impossible.specs.declared.reason.Reason.{Reason}
 use Rattle.clap_debug_cli.specs.Files.{IsRefutation, head_of}
 
--- The three files are of their forms, the log isn't of another program and fits it within the limits. The refutation is closed on the
--- log's clauses under its memory model, for these reasons.
+-- The files have their forms, and the log isn't of another program and is within the limits. The
+-- refutation is closed on the log's clauses under its memory model, for these reasons.
 pub record AreReasons (program log refutation : List ℕ) (reasons : List Reason) : Type 0 where
   pub code : Code
   pub run : StoredLog

@@ -1,11 +1,12 @@
--- What `solve --least` comes to: a schedule with the fewest context switches, a refutation that none has fewer, and the text of each.
+-- The results of `solve --least`: a schedule with the fewest switches, a refutation, their texts.
 use Rattle.std.specs.Prelude.{◌≡◌, ℕ, ◌-◌, List, Option, Some, None, IsSomeAnd}
-use Rattle.tc_base.specs.Buffers.{buffer_of}
-use Rattle.tc_base.specs.Logs.{Log}
-use Rattle.tc_base.specs.declared.model.Model.{Model}
+use Rattle.store_buffers.specs.Buffers.{buffer_of}
+use Rattle.run_log.specs.Logs.{Log}
+use Rattle.memory_models.specs.declared.model.Model.{Model}
 use Rattle.tc_code.specs.Code.{Code}
 use Rattle.tc_io.specs.Outside.{Files, ShelfTells, Kept, KeptPart, closed, put_under}
-use Rattle.path_log.specs.Texts.{StoredLog, IsLog, IsOfOther}
+use Rattle.run_log.specs.Logs.{StoredLog}
+use Rattle.path_log.specs.Texts.{IsLog, IsOfOther}
 use Rattle.refute_check.specs.Laws.{IsWhole}
 use Rattle.refute_check.specs.Texts.{refutation_text}
 use Rattle.refute_check.specs.declared.head.Head.{Head}
@@ -20,26 +21,26 @@ use Rattle.tc_compile.specs.Programs.{IsCodeOf}
 use Rattle.clap_debug_cli.specs.Solved.{IsOfForm, found_text, model_for}
 use Rattle.clap_debug_cli.specs.declared.answer.Minimum.{Minimum}
 
--- searches under this memory model, each with so many conflicts at most, found this
+-- the result of searches under this memory model, each with this budget of conflicts
 abbrev pub minimum : Model → ℕ → Least → Minimum
 minimum model budget result = record { model = model; budget = budget; least = result }
 
--- what `solve` would have found
+-- the result that `solve` would have had
 abbrev pub found_in : Least → Found
 found_in (least.Found schedule _ _) = found.Found schedule
 found_in (least.Impossible lines) = found.Impossible lines
 found_in (least.Spent lines) = found.Spent lines
 found_in (least.SpentAt schedule _ _) = found.Found schedule
 
--- the text that stands under OUT
+-- the text kept under OUT
 abbrev pub first_text : Minimum → List ℕ
 first_text x = found_text x.model (found_in x.least)
 
--- the first line of a refutation that speaks of schedules with one switch fewer than so many
+-- the header of a refutation of schedules with fewer than `count` switches
 abbrev pub head_below : Model → ℕ → Head
 head_below model count = record { model = model; switches = Some (count - 1) }
 
--- the text that stands under REFUTATION, where one is kept
+-- the text kept under REFUTATION, if there is one
 abbrev pub text_below : Model → Least → Option (List ℕ)
 text_below model (least.Found _ count (Some lines)) = Some (refutation_text (head_below model count) lines)
 text_below model (least.SpentAt _ count lines) = Some (refutation_text (head_below model count) lines)
@@ -48,13 +49,13 @@ text_below model _ = None
 abbrev pub second_text : Minimum → Option (List ℕ)
 second_text x = text_below x.model x.least
 
--- it is of its form
+-- the refutation kept under REFUTATION, if any, has its form
 abbrev pub IsOfFormBelow : Model → Least → Type 0
 IsOfFormBelow model (least.Found _ count (Some lines)) = IsWhole (head_below model count) lines
 IsOfFormBelow model (least.SpentAt _ count lines) = IsWhole (head_below model count) lines
 IsOfFormBelow model _ = Unit {0}
 
--- the log of a code was searched for a schedule with the fewest switches under the model that is meant, and this was found
+-- the log was searched for a schedule with the fewest switches under the model that is meant
 pub record IsMinimized (code : Code) (log : Log) (model : Option Model) (budget : ℕ) (x : Minimum) : Type 0 where
   pub model_is : x.model ≡ model_for model log
   pub budget_is : x.budget ≡ budget
@@ -62,7 +63,7 @@ pub record IsMinimized (code : Code) (log : Log) (model : Option Model) (budget 
   pub form : IsOfForm x.model (found_in x.least)
   pub below : IsOfFormBelow x.model x.least
 
--- a program, and a log that isn't of another program and fits it within the limits; it was searched, and this was found
+-- the log, within the limits and not of another program, was searched so, with this result
 pub record IsMinimum (program log : List ℕ) (model : Option Model) (budget : ℕ) (x : Minimum) : Type 0 where
   pub code : Code
   pub run : StoredLog
@@ -72,12 +73,12 @@ pub record IsMinimum (program log : List ℕ) (model : Option Model) (budget : �
   pub within : IsWithin code run.log
   pub minimized : IsMinimized code run.log model budget x
 
--- a text was kept, where there is one
+-- the text was kept, if there is one
 abbrev pub KeptIfAny : Option (List ℕ) → ShelfTells → ShelfTells → (name : List ℕ) → Type 0
 KeptIfAny None old new name = new ≡ old
 KeptIfAny (Some text) old new name = Kept old new name text
 
--- what is held then
+-- what is held after that
 abbrev pub put_if_any : (name : List ℕ) → Option (List ℕ) → Option Files → Option Files
 put_if_any name None held = held
 put_if_any name (Some text) held = put_under name text held
@@ -87,14 +88,14 @@ module _ (out refutation : List ℕ) (x : Minimum) where
   abbrev pub KeptBoth : ShelfTells → ShelfTells → Type 0
   KeptBoth old new = (s : ShelfTells) × Kept old s out (first_text x) × KeptIfAny (second_text x) s new refutation
 
-  -- and then stand under their names
+  -- what is held after both texts were kept
   abbrev pub put_both : Option Files → Option Files
   put_both held = put_if_any refutation (second_text x) (put_under out (first_text x) held)
 
-  -- the first was, and then there was no memory
+  -- the first text was kept, and then there was no memory
   abbrev pub KeptFirst : ShelfTells → ShelfTells → Type 0
   KeptFirst old new = (s : ShelfTells) × Kept old s out (first_text x) × (new ≡ closed s)
 
-  -- the first was, and then the keep of the second failed
+  -- the first text was kept, and then keeping the second failed
   abbrev pub LostSecond : ShelfTells → ShelfTells → Type 0
   LostSecond old new = (s : ShelfTells) × Kept old s out (first_text x) × IsSomeAnd (second_text x) (KeptPart s new refutation)

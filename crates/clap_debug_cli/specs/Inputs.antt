@@ -1,13 +1,13 @@
--- The files that a command reads, and what becomes of reading them.
+-- The files that a command reads, and the outcome of reading them.
 use Rattle.std.specs.Prelude.{◌≡◌, ◌⊎◌, ℕ, ◌<◌, ◌≤◌, List, [], ◌∷◌, length, map, codes}
-use Rattle.tc_base.specs.declared.limits.TheConstants.{PROGRAM_BYTES, LOG_BYTES, SCHEDULE_BYTES}
+use Rattle.tc_limits.specs.declared.limits.TheConstants.{PROGRAM_BYTES, LOG_BYTES, SCHEDULE_BYTES}
 use Rattle.tc_io.specs.Outside.{Files, ShelfTells, Gave, FailedToGive, WasTooLong, GaveReading, FailedReading, bytes_at}
 use Rattle.clap_debug_words.specs.Calls.{Called, Lists, Replays, Records, Migrates, Solves, Minimizes, Checks, Workloads, Exports, Imports, Explains}
 use Rattle.clap_debug_cli.specs.declared.input.Input.{Input}
 use Rattle.clap_debug_cli.specs.declared.input.Input.TheVariants.{Program, Log, Schedule, Answer}
 use Rattle.clap_debug_cli.specs.declared.input.TheConstants.{ANSWER_BYTES}
 
--- the most bytes of an input
+-- the limit on the bytes of an input
 abbrev pub limit_of : Input → ℕ
 limit_of Program = PROGRAM_BYTES
 limit_of Log = LOG_BYTES
@@ -20,7 +20,7 @@ input_text Log = codes "log"
 input_text Schedule = codes "schedule"
 input_text Answer = codes "answer"
 
--- an input, and the word that names it: a file that is fetched, or one of any length that is read in pieces or fetched
+-- an input and its name: a file with a limit, or one of any length, read in pieces or at once
 pub data Wanted : Type 0 where
   Whole : (input : Input) (name : List ℕ) → Wanted
   InPieces : (name : List ℕ) → Wanted
@@ -31,7 +31,7 @@ name_of (Whole input name) = name
 name_of (InPieces name) = name
 name_of (Entire name) = name
 
--- the greatest number that a limit can be
+-- the greatest limit
 abbrev pub no_limit : ℕ
 no_limit = 18446744073709551615
 
@@ -49,13 +49,13 @@ inputs_of (Exports program log _ _) = Whole Program program ∷ Whole Log log �
 inputs_of (Imports program log answer _ _) = Whole Program program ∷ Whole Log log ∷ Whole Answer answer ∷ []
 inputs_of (Explains program log refutation) = Whole Program program ∷ Whole Log log ∷ Entire refutation ∷ []
 
--- an input of any length is fetched
+-- some input of any length is read at once
 abbrev pub HasEntire : List Wanted → Type 0
 HasEntire [] = ⊥
 HasEntire (Entire name ∷ ws) = Unit {0}
 HasEntire (_ ∷ ws) = HasEntire ws
 
--- what inputs hold, in their order
+-- the texts of inputs, in order
 abbrev pub Texts : Type 0
 Texts = List (List ℕ)
 
@@ -68,7 +68,7 @@ GaveInput (Whole input name) old new bytes = Gave old new name (limit_of input) 
 GaveInput (InPieces name) old new bytes = GaveReading old new name bytes
 GaveInput (Entire name) old new bytes = Gave old new name no_limit bytes
 
--- it failed to give an input, or one of any length had more bytes than can be counted
+-- the shelf failed to give an input, or one of any length had too many bytes to count
 abbrev pub FailedInput : Wanted → ShelfTells → ShelfTells → Type 0
 FailedInput (Whole input name) old new = FailedToGive old new name (limit_of input)
 FailedInput (InPieces name) old new = FailedReading old new name
@@ -98,16 +98,16 @@ GaveAll [] old new [] = new ≡ old
 GaveAll (w ∷ ws) old new (t ∷ ts) = (s : ShelfTells) × GaveInput w old s t × GaveAll ws s new ts
 GaveAll _ old new _ = ⊥
 
--- the shelf gave the first input, and then this holds of it
+-- the shelf gave the first input, and its state then satisfies `P`
 abbrev pub GoesOn : Wanted → ShelfTells → (ShelfTells → Type 0) → Type 0
 GoesOn w old P = (s : ShelfTells) × (bytes : List ℕ) × GaveInput w old s bytes × P s
 
--- the shelf failed at the input of this name, and gave those before it
+-- the shelf gave the inputs before the one of this name, and failed at it
 abbrev pub FailsToRead : List Wanted → ShelfTells → ShelfTells → List ℕ → Type 0
 FailsToRead [] old new name = ⊥
 FailsToRead (w ∷ ws) old new name = ((name ≡ name_of w) × FailedInput w old new) ⊎ GoesOn w old (λ s. FailsToRead ws s new name)
 
--- this input was longer than its limit, and the shelf gave those before it
+-- the shelf gave the inputs before this one, which was longer than its limit
 abbrev pub PassesLimit : List Wanted → ShelfTells → ShelfTells → Input → Type 0
 PassesLimit [] old new i = ⊥
 PassesLimit (w ∷ ws) old new i = PassedLimit w old new i ⊎ GoesOn w old (λ s. PassesLimit ws s new i)

@@ -1,9 +1,11 @@
--- Logs brought to format 2: which are, and the text of each.
+-- Logs migrated to format 2, and their text.
 use Rattle.std.specs.Prelude.{◌≡◌, ℕ, List, length, map, nat_lt, Option, Some, None, option_map, if◌then◌else◌}
 use Rattle.std.specs.List.{find}
-use Rattle.tc_base.specs.Logs.{Log, ThreadPath}
+use Rattle.run_log.specs.Logs.{Log}
+use Rattle.tc_base.specs.Paths.{ThreadPath}
 use Rattle.tc_code.specs.Code.{Code}
-use Rattle.path_log.specs.Texts.{StoredLog, IsLog, IsOfOther, log_text}
+use Rattle.run_log.specs.Logs.{StoredLog}
+use Rattle.path_log.specs.Texts.{IsLog, IsOfOther, log_text}
 use Rattle.path_walk.specs.Fits.{Fits}
 use Rattle.clap_system.specs.Faults.{limit_of}
 use Rattle.clap_system.specs.declared.fault.Which.{Which}
@@ -15,16 +17,16 @@ use Rattle.clap_debug_cli.specs.declared.answer.Excess.{Excess}
 abbrev pub excess : Which → ℕ → Excess
 excess which number = record { which = which; number = number }
 
--- the depth of the first name that is deeper than a name may be
+-- the depth of the first thread name that is too deep
 abbrev pub too_deep : List ThreadPath → Option ℕ
 too_deep threads = find (nat_lt (limit_of Depth)) (map (λ t. length t.name) threads)
 
--- what a log has more of than it may have: threads, or else creates that lead to one of them
+-- the limit that a log exceeds: that on threads, or else that on the depth of names
 abbrev pub excess_of : Log → Option Excess
 excess_of log = if nat_lt (limit_of Threads) (length log.threads) then Some (excess Threads (length log.threads))
     else option_map (excess Depth) (too_deep log.threads)
 
--- a program, and a log that isn't of another program and fits it within the limits; with the program's digest the log has this text
+-- a fitting log within the limits, not of another program, has this text with the program's digest
 pub record IsMigrated (program log text : List ℕ) : Type 0 where
   pub code : Code
   pub run : StoredLog

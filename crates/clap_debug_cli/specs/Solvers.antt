@@ -1,12 +1,13 @@
--- What goes to other solvers and what comes back: the clauses of a log, and values of their variables.
+-- Exchange with other solvers: the clauses of a log, and values of their variables.
 use Rattle.std.specs.Prelude.{◌≡◌, ◌↔◌, ℕ, List, ℤ, Option, IsTrue}
-use Rattle.tc_base.specs.Buffers.{buffer_of}
-use Rattle.tc_base.specs.Logs.{Log}
-use Rattle.tc_base.specs.declared.model.Model.{Model}
+use Rattle.store_buffers.specs.Buffers.{buffer_of}
+use Rattle.run_log.specs.Logs.{Log}
+use Rattle.memory_models.specs.declared.model.Model.{Model}
 use Rattle.tc_base.specs.declared.moves.Move.{Move}
 use Rattle.tc_code.specs.Code.{Code}
 use Rattle.tc_code.specs.Run.{Reproduces}
-use Rattle.path_log.specs.Texts.{StoredLog, IsLog, IsOfOther}
+use Rattle.run_log.specs.Logs.{StoredLog}
+use Rattle.path_log.specs.Texts.{IsLog, IsOfOther}
 use Rattle.cnf_core.specs.Clauses.{Formula, Valuation, satisfies}
 use Rattle.dimacs_text.specs.Answers.{IsAnswerWith}
 use Rattle.clap_solve.specs.Clauses.{bound_of, model_clauses}
@@ -20,12 +21,12 @@ use Rattle.clap_debug_cli.specs.Solved.{model_for}
 abbrev pub clauses_for : Option Model → Code → Log → Formula
 clauses_for model code log = model_clauses (model_for model log) code log
 
--- something satisfies clauses exactly where some moves reproduce the log under that model
+-- the clauses are satisfiable exactly if some moves reproduce the log under that model
 abbrev pub AreRuns : Option Model → Code → Log → Formula → Type 0
 AreRuns model code log f =
     ((v : Valuation) × IsTrue (satisfies v f.clauses)) ↔ ((moves : List Move) × Reproduces (buffer_of (model_for model log)) code log moves)
 
--- a program, and a log that isn't of another program and fits it within the limits, with its clauses, which are its runs
+-- the log, within the limits and not of another program, has these clauses, which are its runs
 pub record IsExported (program log : List ℕ) (model : Option Model) (f : Formula) : Type 0 where
   pub code : Code
   pub run : StoredLog
@@ -36,16 +37,16 @@ pub record IsExported (program log : List ℕ) (model : Option Model) (f : Formu
   pub clauses : f ≡ clauses_for model code run.log
   pub runs : AreRuns model code run.log f
 
--- this is made of an answer's literals: a schedule that reproduces the log, or the first clause that they leave false
+-- the result of an answer's literals: a schedule that reproduces the log, or the first false clause
 abbrev pub IsTaken : Option Model → Imported → Code → Log → List ℤ → Type 0
 IsTaken model x code log literals =
     IsImported (buffer_of (model_for model log)) (model_for model log) (bound_of (model_for model log)) code log literals x
 
--- the values that they give satisfy the log's clauses
+-- the values that the literals give satisfy the log's clauses
 abbrev pub AreSatisfying : Option Model → Code → Log → List ℤ → Type 0
 AreSatisfying model code log literals = IsTrue (satisfies (values_of (clauses_for model code log) literals) (clauses_for model code log).clauses)
 
--- a program, a log that isn't of another program and fits it within the limits, and an answer with literals, of which this holds
+-- a log within the limits, not of another program, and an answer whose literals satisfy `P`
 pub record IsAnswered (program log answer : List ℕ) (P : Code → Log → List ℤ → Type 0) : Type 0 where
   pub code : Code
   pub run : StoredLog

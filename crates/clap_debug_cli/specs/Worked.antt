@@ -1,9 +1,9 @@
--- What `workload` comes to: a generated program, how a run of it ended, and what was found of its log.
+-- The results of `workload`: a generated program, the end of a run, and the searches of its log.
 use Rattle.std.specs.Prelude.{◌≡◌, ℕ, Bool, true, false, ◌||◌, List}
-use Rattle.tc_base.specs.Buffers.{buffer_of}
-use Rattle.tc_base.specs.declared.limits.TheConstants.{MOVES}
-use Rattle.tc_base.specs.declared.model.Model.{Model}
-use Rattle.tc_base.specs.declared.model.Model.TheVariants.{Sc, Tso}
+use Rattle.store_buffers.specs.Buffers.{buffer_of}
+use Rattle.tc_limits.specs.declared.limits.TheConstants.{MOVES}
+use Rattle.memory_models.specs.declared.model.Model.{Model}
+use Rattle.memory_models.specs.declared.model.Model.TheVariants.{Sc, Tso}
 use Rattle.tc_code.specs.Code.{Code}
 use Rattle.tc_record.specs.Seeded.{seed_words}
 use Rattle.tc_record.specs.declared.end.End.{End}
@@ -19,11 +19,11 @@ use Rattle.clap_debug_cli.specs.declared.answer.RunEnd.{RunEnd}
 use Rattle.clap_debug_cli.specs.declared.answer.RunEnd.TheVariants.{Failed, Finished, Deadlock, Limit, StepLimit}
 use Rattle.clap_debug_cli.specs.declared.answer.Work.{Work}
 
--- the program of so many workers that a seed makes
+-- the program for this many workers and this seed
 abbrev pub seeded_text : (workers seed : ℕ) → List ℕ
 seeded_text workers seed = workload_text (seed_words seed workers)
 
--- how a run ended, without the limit that it passed
+-- how a run ended, without naming the limit that it passed
 abbrev pub told : End → RunEnd
 told end.Failed = Failed
 told end.Finished = Finished
@@ -31,11 +31,11 @@ told end.Deadlock = Deadlock
 told (end.Over which) = Limit
 told end.StepLimit = StepLimit
 
--- under this memory model the program's log was searched, and this was found
+-- the result of a search of the program's log under this memory model
 abbrev pub IsFoundUnder : Model → Code → (workers : ℕ) → Found → Type 0
 IsFoundUnder model code workers x = IsAnswer (buffer_of model) model (bound_of model) code (workload_log workers) usual_budget x
 
--- the run of the code by moves that the seed chooses ended so, and this was found of the log
+-- the run of the code with this seed ended so, and the searches of the log had these results
 pub record IsWorked (code : Code) (workers seed : ℕ) (x : Work) : Type 0 where
   pub workers_are : x.workers ≡ workers
   pub seed_is : x.seed ≡ seed
@@ -48,6 +48,6 @@ abbrev pub is_spent : Found → Bool
 is_spent (found.Spent _) = true
 is_spent _ = false
 
--- whether one of the two was
+-- whether one of the two searches was given up
 abbrev pub has_spent : Work → Bool
 has_spent x = is_spent x.tso || is_spent x.sc

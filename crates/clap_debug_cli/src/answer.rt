@@ -1,4 +1,4 @@
-//! Answers: what they are, and the line and the status of each.
+//! Answers, with the line and the exit status of each.
 ghost use Rattle.std.specs.Prelude.{◌≡◌, IfOk, IsOkAnd, string_bytes};
 ghost use Rattle.clap_debug_cli.specs.Inputs.{input_text};
 ghost use Rattle.clap_debug_cli.specs.Answers.{
@@ -55,7 +55,7 @@ use tc_parser::TextFault;
 use tc_record::{SeededFault, Which};
 use why_impossible::Reasons;
 
-/// The name of a file, which contracts see as its bytes.
+/// The name of a file. Contracts see its bytes.
 #[derive(Drop)]
 pub(crate) struct FileName<'a> {
     text: &'a str,
@@ -87,40 +87,40 @@ impl<'a> fmt::Display for FileName<'a> {
     }
 }
 
-/// Why a log isn't taken.
+/// Why a log is refused.
 #[derive(Debug, Drop)]
 pub(crate) enum LogRefusal {
     /// The field at this offset is the first that is cut short or breaks its rule.
     Form(usize),
-    /// It was recorded of another program.
+    /// It was recorded from another program.
     OtherProgram,
     /// The thread of this name doesn't fit the program.
     Unfit(ThreadName, Misfit),
 }
 
-/// More of something than a log may have, and how many.
+/// The limit that a log exceeds, and the number that it has.
 #[derive(Clone, Copy, Debug, PartialEq, Eq)]
 pub(crate) struct Excess {
     pub(crate) which: WhichInLog,
     pub(crate) number: u64,
 }
 
-/// What a search for a schedule found.
+/// The result of a search for a schedule.
 #[derive(Debug, Drop)]
 pub(crate) struct Solution {
     /// The memory model under which it searched.
-    pub(crate) model: tc_base::Model,
-    /// How many conflicts it might have.
+    pub(crate) model: memory_models::Model,
+    /// The budget of conflicts.
     pub(crate) budget: u32,
     pub(crate) answer: Found,
 }
 
-/// What a search for a schedule with the fewest context switches found.
+/// The result of a search for a schedule with the fewest context switches.
 #[derive(Debug, Drop)]
 pub(crate) struct Minimum {
     /// The memory model under which it searched.
-    pub(crate) model: tc_base::Model,
-    /// How many conflicts each of its searches might have.
+    pub(crate) model: memory_models::Model,
+    /// The budget of conflicts of each search.
     pub(crate) budget: u32,
     pub(crate) least: Least,
 }
@@ -132,117 +132,117 @@ pub(crate) struct Failure {
     pub(crate) name: ThreadName,
     /// The line of its failing instruction, from 1.
     pub(crate) line: u32,
-    /// How many moves were made, drains too.
+    /// The number of moves, including drains.
     pub(crate) moves: usize,
 }
 
-/// How a run ended of which the log is kept.
+/// The end of a run whose log is kept.
 #[derive(Debug, Drop)]
 pub(crate) enum Outcome {
     /// A thread failed.
     Failed(Failure),
-    /// After so many moves, drains too, none was enabled, and not every thread had exited.
+    /// After this many moves, including drains, none was enabled, and some thread hadn't exited.
     Deadlock(usize),
 }
 
-/// How a run ended of which there is no log.
+/// The end of a run without a log.
 #[derive(Clone, Copy, Debug, PartialEq, Eq)]
 pub(crate) enum Ending {
     /// Every thread exited.
     Finished,
-    /// It made as many moves as it might.
+    /// The run made as many moves as allowed.
     StepLimit(usize),
-    /// It had one more of these than it might.
+    /// The run exceeded this limit by one.
     Over(Which),
 }
 
-/// How a run of a workload ended.
+/// The end of a run of a workload.
 #[derive(Clone, Copy, Debug, PartialEq, Eq)]
 pub(crate) enum RunEnd {
     /// A thread failed.
     Failed,
     /// Every thread exited.
     Finished,
-    /// No move was enabled, and not every thread had exited.
+    /// No move was enabled, and some thread hadn't exited.
     Deadlock,
-    /// It passed a limit.
+    /// The run exceeded a limit.
     Limit,
-    /// It made as many moves as it might.
+    /// The run made as many moves as allowed.
     StepLimit,
 }
 
-/// What the lines of a refutation show.
+/// What the lines of a refutation prove.
 #[derive(Clone, Copy, Debug, PartialEq, Eq)]
 pub(crate) enum Shown {
     /// No moves reproduce the log.
     Impossible,
     /// Moves that reproduce the log have more context switches than this.
     MoreSwitches(u8),
-    /// Neither, so far.
+    /// Nothing yet: the refutation is open.
     Open,
 }
 
-/// What came of a workload.
+/// The results of a workload.
 #[derive(Debug, Drop)]
 pub(crate) struct Work {
     pub(crate) workers: u32,
     pub(crate) seed: u64,
-    /// How the run that the seed chose ended.
+    /// The end of the run that the seed chose.
     pub(crate) end: RunEnd,
-    /// What was found under total store order.
+    /// The result under total store order.
     pub(crate) tso: Found,
-    /// What was found under sequential consistency.
+    /// The result under sequential consistency.
     pub(crate) sc: Found,
 }
 
-/// What is answered.
+/// The answer to a call.
 #[derive(Drop)]
 pub(crate) enum Answer<'a> {
-    /// The words aren't taken.
+    /// The words aren't accepted.
     Usage,
     /// The file of this name couldn't be read.
     ReadFault(FileName<'a>),
     /// This file has more bytes than its limit.
     TooLong(Input),
-    /// The first file is no program.
+    /// The first file isn't a program.
     ProgramRefused(TextFault),
-    /// The second file isn't taken.
+    /// The log is refused.
     LogRefused(LogRefusal),
-    /// The third file is no schedule, from the line of this number on.
+    /// The third file isn't a schedule, from this line on.
     ScheduleRefused(u32),
     /// The code of the program, to be listed.
     Listed(Code),
     /// The verdict on the schedule.
     Replayed(Verdict),
-    /// The recorded run came to this end, and its log is kept.
+    /// The recorded run ended like this, and its log is kept.
     Recorded(Outcome),
-    /// The recorded run ended otherwise.
+    /// The recorded run ended without a log.
     RunEnded(Ending),
-    /// The log has more of something than it may have.
+    /// The log exceeds a limit.
     LogOver(Excess),
     /// The log is kept in format 2.
     Migrated,
-    /// The third file is no refutation, from the line of this number on.
+    /// The third file isn't a refutation, from this line on.
     RefutationRefused(u32),
-    /// The search found this, and its text is kept.
+    /// The result of the search, whose text is kept.
     Solved(Solution),
-    /// The search for the fewest context switches found this, and its texts are kept.
+    /// The result of the search for the fewest context switches, whose texts are kept.
     Minimized(Minimum),
-    /// The lines of the refutation pass, and show this.
+    /// The lines of the refutation pass, and prove this.
     Accepted(Shown),
-    /// The line of the refutation of this number is the first that doesn't pass.
+    /// This line of the refutation is the first that doesn't pass.
     LineRefused(u32),
-    /// This came of a workload.
+    /// The results of a workload.
     Worked(Work),
-    /// The third file is no answer of a solver, from the line of this number on.
+    /// The third file isn't a solver's answer, from this line on.
     AnswerRefused(usize),
-    /// These are the clauses of the log, and their text is kept.
+    /// The clauses of the log, whose text is kept.
     Exported(Cnf),
-    /// The solver's answer satisfies the clauses of the log, and the text of this schedule is kept.
+    /// The solver's answer satisfies the log's clauses, and the text of this schedule is kept.
     Imported(Schedule),
-    /// The clause of this number is the first that it leaves false.
+    /// The clause of this number is the first that the solver's answer makes false.
     ClauseFalse(u32),
-    /// The refutation is accepted, it shows that the log is impossible, and it rests on these rules.
+    /// The accepted refutation proves that the log is impossible, by these rules.
     Explained(Reasons),
     /// A result couldn't be kept under this name.
     WriteFault(FileName<'a>),
@@ -405,7 +405,7 @@ const USAGE: &str = concat!(
     "usage: clap_debug why PROGRAM LOG REFUTATION\n",
 );
 
-/// What is written.
+/// The text of an answer.
 pub(crate) fn line(alloc: Global, answer: &Answer) -> Result<Vec<u8>, AllocError>
     ensures { IfOk result (λ text. text.items ≡ line_of answer.now) }
 {
@@ -442,7 +442,7 @@ pub(crate) fn line(alloc: Global, answer: &Answer) -> Result<Vec<u8>, AllocError
     }
 }
 
-/// The bytes of a text, where there is one.
+/// The bytes of a text, if there is one.
 fn bytes(text: Result<String, AllocError>) -> Result<Vec<u8>, AllocError>
     ensures { IfOk result (λ bytes. IsOkAnd text (λ text. bytes.items ≡ string_bytes text)) }
 {
@@ -676,7 +676,7 @@ fn which_text(which: Which) -> &'static str
     }
 }
 
-/// The status that the call ends with.
+/// The exit status of an answer.
 pub(crate) fn status(answer: &Answer) -> u8
     ensures { result ≡ status_of answer.now }
 {

@@ -1,9 +1,10 @@
-//! Checking a refutation, of which no more is kept than the line that isn't ended and the clauses that may still be named.
+//! Checking a refutation, which keeps only the unfinished line and the clauses still in use.
 ghost use Rattle.std.specs.Prelude.{◌≡◌, ◌<◌, ◌≤◌, ◌++◌, ℕ, List, length, take, None, Ok, IfOk, IfErr, OnOk, IfSome, IsSome};
-ghost use Rattle.tc_base.specs.declared.limits.TheConstants.{PROGRAM_BYTES};
+ghost use Rattle.tc_limits.specs.declared.limits.TheConstants.{PROGRAM_BYTES};
 ghost use Rattle.tc_code.specs.Code.{Code};
 ghost use Rattle.tc_io.specs.Outside.{Opened, GaveReading};
-ghost use Rattle.path_log.specs.Texts.{StoredLog, IsOfOther};
+ghost use Rattle.run_log.specs.Logs.{StoredLog};
+ghost use Rattle.path_log.specs.Texts.{IsOfOther};
 ghost use Rattle.refute_check.specs.Reading.{beginning, first_breach};
 ghost use Rattle.refute_check.specs.Refutations.{start};
 ghost use Rattle.clap_solve.specs.Clauses.{bound_of, model_clauses};
@@ -11,7 +12,7 @@ ghost use Rattle.clap_solve.specs.Solved.{IsWithin};
 ghost use Rattle.clap_system.specs.Faults.{IsBuildFault};
 ghost use Rattle.clap_debug_cli.specs.Causes.{IsCheckAnswer, IsClausesAnswer, IsRefutationAnswer};
 ghost use Rattle.switch_clauses.specs.Clauses.{switch_clauses};
-ghost use Rattle.tc_base.specs.Buffers.{buffer_of};
+ghost use Rattle.store_buffers.specs.Buffers.{buffer_of};
 ghost use Rattle.clap_debug_cli.specs.Checked.{head_clauses, shown};
 ghost use Rattle.clap_debug_cli.specs.Inputs.{InPieces};
 ghost use Rattle.clap_debug_cli.specs.declared.answer.Answer.TheVariants.{Accepted, RefutationRefused};
@@ -24,18 +25,18 @@ use crate::input::{of_program, read_both};
 use clap_solve::check_start;
 use clap_system::BuildFault;
 use least_switch::check_least_start;
-use path_log::Log;
+use memory_models::Model;
 use refute_check::{CheckFault, Checked, Checker, Head, Line, RefutationText, Taken};
+use run_log::Log;
 use std::alloc::{AllocError, Global};
 use store_buffers::{PsoModel, Sc, TsoModel};
-use tc_base::Model;
 use tc_code::Code;
 use tc_io::{OpenFault, PieceFault, Shelf};
 
-/// The bytes that are read at once, at most.
+/// The most bytes that are read at once.
 const PIECE: usize = 65_536;
 
-/// A program, its code, and a log of which a refutation speaks.
+/// A program, its code, and the log that a refutation is about.
 #[derive(Drop)]
 struct Task<'p> {
     program: &'p [u8],
@@ -43,25 +44,25 @@ struct Task<'p> {
     log: Log,
 }
 
-/// What is made of the lines of a refutation.
+/// The stage of checking a refutation.
 #[derive(Drop)]
 enum Stage<'a> {
-    /// Its first line isn't ended.
+    /// The header isn't complete.
     Begins,
-    /// Its lines aren't checked, since there is this to be answered.
+    /// The lines aren't checked, since this is the answer.
     Refuses(Answer<'a>),
-    /// They are checked over the clauses of the log, those with at most so many context switches where a number is named.
+    /// The lines are checked over the log's clauses, with the header's bound on switches, if any.
     Checks(Option<u8>, Checker),
 }
 
-/// A refutation that is read.
+/// A refutation while it is read.
 #[derive(Drop)]
 struct Incoming<'a> {
     text: RefutationText,
     stage: Stage<'a>,
 }
 
-/// What the refutation of this name shows. It is read to its end, whatever is found before.
+/// What the refutation of this name proves. It is always read to its end.
 pub(crate) fn checked<'a, H: Shelf>(
     alloc: Global,
     shelf: &mut H,
@@ -98,7 +99,7 @@ fn open<'a, H: Shelf>(alloc: Global, shelf: &mut H, name: &'a str) -> Result<(),
     }
 }
 
-/// Reads a refutation to its end, and looks at none of it.
+/// Reads a refutation to its end, and ignores it.
 fn read_over<'a, H: Shelf>(alloc: Global, shelf: &mut H, name: &'a str) -> Result<(), Answer<'a>>
     ensures gave { OnOk result ((bytes : List ℕ) × GaveReading (H.tells shelf.old) (H.tells shelf.new) name.now bytes) }
     ensures missing { IfErr result (IsWhyMissing (InPieces name.now) (H.tells shelf.old) (H.tells shelf.new)) }
@@ -116,7 +117,7 @@ fn read_over<'a, H: Shelf>(alloc: Global, shelf: &mut H, name: &'a str) -> Resul
     Err(Answer::NoMemory)
 }
 
-/// Reads a refutation to its end, and takes its lines.
+/// Reads a refutation to its end, and checks its lines.
 fn read<'a, H: Shelf>(
     alloc: Global,
     shelf: &mut H,
@@ -133,7 +134,7 @@ fn read<'a, H: Shelf>(
 }
 
 impl<'a> Incoming<'a> {
-    /// A refutation of which no byte was taken.
+    /// A refutation before any byte.
     fn new(alloc: Global) -> Incoming<'a>
         ensures text { result.text ≡ beginning }
         ensures stage { result.stage ≡ Begins }
@@ -184,7 +185,7 @@ impl<'a> Incoming<'a> {
         Ok(())
     }
 
-    /// Takes bytes up to the first line's end, and says how many: all where the form is broken.
+    /// Takes bytes up to the first line end and returns their number: all if the form is broken.
     fn take_line(&mut self, alloc: Global, task: &Task, bytes: &[u8]) -> Result<usize, AllocError>
         requires some { 0 < length bytes.now }
         requires read { (front : List ℕ) × IsRead task.now.program.now task.now.code task.now.log self.old front }
@@ -202,7 +203,7 @@ impl<'a> Incoming<'a> {
         Ok(count)
     }
 
-    /// What was shown, where no more bytes come.
+    /// What the whole refutation proves.
     fn verdict(self) -> Result<Shown, Answer<'a>>
         ensures accepted { IfOk result (λ x. (program : List ℕ) (code : Code) (run : StoredLog) (bytes : List ℕ)
             → IsRead program code run self.entry bytes → IsRefutationAnswer bytes (IsClausesAnswer program code run) (Accepted x)) }
@@ -240,7 +241,7 @@ impl<'a> Stage<'a> {
     }
 }
 
-/// What is made of the first line.
+/// The stage after the header.
 fn begun<'a>(alloc: Global, task: &Task, head: Head) -> Stage<'a>
     ensures { IsBegun task.now.program.now task.now.code task.now.log head result }
 {
@@ -250,7 +251,7 @@ fn begun<'a>(alloc: Global, task: &Task, head: Head) -> Stage<'a>
     }
 }
 
-/// A checker over the clauses of the log of which a first line speaks.
+/// A checker over the clauses of the log that the header is about.
 fn start<'a>(alloc: Global, task: &Task, head: Head) -> Result<Checker, Answer<'a>>
     ensures checker { IfOk result (λ checker. checker ≡ start (head_clauses head task.now.code task.now.log.log)) }
     ensures same { OnOk result (IsOfOther task.now.program.now task.now.log → ⊥) }
@@ -286,7 +287,7 @@ fn start_under(alloc: Global, code: &Code, log: &Log, model: Model) -> Result<Ch
     }
 }
 
-/// A checker over those with at most so many context switches.
+/// A checker over the clauses with a bound on context switches.
 fn start_up_to(
     alloc: Global,
     code: &Code,
@@ -307,7 +308,7 @@ fn start_up_to(
     }
 }
 
-/// Tests that the bytes so far are those of a refutation.
+/// Tests that the bytes so far are a refutation.
 fn finish<'a>(text: &RefutationText) -> Result<(), Answer<'a>>
     ensures ok { OnOk result (first_breach text.now ≡ None) }
     ensures answer { IfErr result (λ a. IfSome (first_breach text.now) (λ line. a ≡ RefutationRefused line)) }
@@ -319,7 +320,7 @@ fn finish<'a>(text: &RefutationText) -> Result<(), Answer<'a>>
     }
 }
 
-/// What the lines that a checker took show, over the clauses with at most so many context switches where a number is named.
+/// What a checker's lines prove, over clauses with a bound on switches if there is one.
 fn shown<'a>(most: Option<u8>, checker: &Checker) -> Result<Shown, Answer<'a>>
     ensures shown { IfOk result (IsShown most checker.now) }
     ensures answer { IfErr result (IsWhyUnshown checker.now) }
@@ -336,7 +337,7 @@ fn shown<'a>(most: Option<u8>, checker: &Checker) -> Result<Shown, Answer<'a>>
     }
 }
 
-/// What a verdict shows.
+/// What a verdict proves.
 fn shown_by(most: Option<u8>, checked: Checked) -> Shown
     ensures { result ≡ shown most checked }
 {

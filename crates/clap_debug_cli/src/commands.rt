@@ -1,4 +1,4 @@
-//! The commands: what each reads, what it works out, and what it keeps and says.
+//! The commands: what each reads, computes, keeps and prints.
 ghost use Rattle.std.specs.Prelude.{◌≡◌, IfErr, IsSomeAnd, OnOk, option_map};
 ghost use Rattle.tc_io.specs.Outside.{Kept, ShelfTells};
 ghost use Rattle.clap_debug_words.specs.Calls.{Lists, Replays, Records, Migrates, Solves, Minimizes, Checks, Workloads, Exports, Imports, Explains};
@@ -18,8 +18,8 @@ use crate::solvers::{exported, imported};
 use crate::why::explain;
 use crate::workload::worked;
 use clap_debug_words::{Budget, Workers};
+use memory_models::Model;
 use std::alloc::Global;
-use tc_base::Model;
 use tc_compile::compile;
 use tc_io::{KeepFault, Shelf};
 
@@ -36,7 +36,7 @@ pub(crate) fn list_program<'a, H: Shelf>(
     Ok(Answer::Listed(code))
 }
 
-/// `replay PROGRAM LOG SCHEDULE`: whether the schedule leads to the failure or the deadlock of the log.
+/// `replay PROGRAM LOG SCHEDULE`: whether the schedule leads to the log's failure or deadlock.
 pub(crate) fn replay_schedule<'a, H: Shelf>(
     alloc: Global,
     shelf: &mut H,
@@ -53,8 +53,8 @@ pub(crate) fn replay_schedule<'a, H: Shelf>(
     Ok(Answer::Replayed(verdict))
 }
 
-/// `record PROGRAM LOG`: how a run of the program by moves that a seed chooses ends. The log of one that fails or comes
-/// to a deadlock is kept.
+/// `record PROGRAM LOG`: the end of a run of the program by moves chosen with a seed. Keeps the log
+/// of a run that fails or deadlocks.
 pub(crate) fn record_run<'a, H: Shelf>(
     alloc: Global,
     shelf: &mut H,
@@ -89,8 +89,8 @@ pub(crate) fn migrate_log<'a, H: Shelf>(
     Ok(Answer::Migrated)
 }
 
-/// `solve PROGRAM LOG OUT`: keeps a schedule that leads to the failure or the deadlock of the log, or a refutation that shows
-/// that there is none, or how far the search came.
+/// `solve PROGRAM LOG OUT`: keeps a schedule that leads to the log's failure or deadlock, a
+/// refutation that proves that there is none, or an open one.
 pub(crate) fn solve_log<'a, H: Shelf>(
     alloc: Global,
     shelf: &mut H,
@@ -109,8 +109,8 @@ pub(crate) fn solve_log<'a, H: Shelf>(
     Ok(Answer::Solved(solution))
 }
 
-/// `solve PROGRAM LOG OUT --least REFUTATION`: keeps a schedule that leads to the failure or the deadlock of the log with the fewest
-/// context switches, and a refutation that shows that nothing with fewer does.
+/// `solve PROGRAM LOG OUT --least REFUTATION`: keeps a schedule that leads to the log's failure or
+/// deadlock with the fewest context switches, and a refutation that proves that none has fewer.
 pub(crate) fn minimize_switches<'a, H: Shelf>(
     alloc: Global,
     shelf: &mut H,
@@ -131,8 +131,8 @@ pub(crate) fn minimize_switches<'a, H: Shelf>(
     Ok(Answer::Minimized(minimum))
 }
 
-/// `check PROGRAM LOG REFUTATION`: whether the refutation shows that nothing leads to the failure or the deadlock of the log, or
-/// nothing that has so few context switches.
+/// `check PROGRAM LOG REFUTATION`: whether the refutation proves that no schedule leads to the
+/// log's failure or deadlock, or none with so few context switches.
 pub(crate) fn check_refutation<'a, H: Shelf>(
     alloc: Global,
     shelf: &mut H,
@@ -148,7 +148,7 @@ pub(crate) fn check_refutation<'a, H: Shelf>(
     Ok(Answer::Accepted(shown))
 }
 
-/// `workload N SEED`: how a run of a generated program ends, and what searches for a schedule of its log find.
+/// `workload N SEED`: the end of a run of a generated program, and the searches of its log.
 pub(crate) fn try_workload<'a>(
     alloc: Global,
     workers: Workers,
@@ -178,8 +178,8 @@ pub(crate) fn export_clauses<'a, H: Shelf>(
     Ok(Answer::Exported(clauses))
 }
 
-/// `import PROGRAM LOG ANSWER OUT`: keeps a schedule of what another solver answers, or says the first clause that it leaves
-/// false.
+/// `import PROGRAM LOG ANSWER OUT`: keeps a schedule from another solver's answer, or names the
+/// first clause that the answer makes false.
 pub(crate) fn import_answer<'a, H: Shelf>(
     alloc: Global,
     shelf: &mut H,
@@ -199,7 +199,7 @@ pub(crate) fn import_answer<'a, H: Shelf>(
     Ok(Answer::Imported(schedule))
 }
 
-/// `why PROGRAM LOG REFUTATION`: on which rules the refutation rests.
+/// `why PROGRAM LOG REFUTATION`: the rules that the refutation uses.
 pub(crate) fn explain_refutation<'a, H: Shelf>(
     alloc: Global,
     shelf: &mut H,
@@ -216,7 +216,7 @@ pub(crate) fn explain_refutation<'a, H: Shelf>(
     Ok(Answer::Explained(reasons))
 }
 
-/// Keeps a result, where there is one.
+/// Keeps a result, if there is one.
 fn keep_if_any<'a, H: Shelf>(
     alloc: Global,
     shelf: &mut H,

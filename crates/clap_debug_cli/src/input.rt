@@ -1,23 +1,24 @@
-//! The files that come in, and what they say.
+//! The input files, and their contents.
 ghost use Rattle.std.specs.Prelude.{◌≡◌, ◌≤◌, length, IfOk, IfErr, OnOk};
-ghost use Rattle.tc_base.specs.declared.limits.TheConstants.{PROGRAM_BYTES};
+ghost use Rattle.tc_limits.specs.declared.limits.TheConstants.{PROGRAM_BYTES};
 ghost use Rattle.tc_compile.specs.Programs.{IsCodeOf};
 ghost use Rattle.path_log.specs.Texts.{IsLog, IsOfOther};
 ghost use Rattle.clap_debug_cli.specs.Inputs.{limit_of, Entire, Whole, GaveInput};
 ghost use Rattle.clap_debug_cli.specs.helpers.Refused.{IsWhyMissing, IsWhyUnread, IsWhyOther};
 
 use crate::answer::{Answer, FileName, LogRefusal};
-use path_log::{Log, read_log};
+use path_log::{is_of_other, read_log};
+use run_log::Log;
 use std::alloc::Global;
-use tc_base::limits::{LOG_BYTES, PROGRAM_BYTES, SCHEDULE_BYTES};
 use tc_code::Code;
 use tc_compile::compile;
 use tc_io::{FetchFault, Shelf};
+use tc_limits::limits::{LOG_BYTES, PROGRAM_BYTES, SCHEDULE_BYTES};
 
 /// The most bytes of a solver's answer.
 const ANSWER_BYTES: u64 = 67_108_864;
 
-/// One of the files.
+/// An input file.
 #[derive(Clone, Copy, Debug, PartialEq, Eq)]
 pub(crate) enum Input {
     Program,
@@ -28,7 +29,7 @@ pub(crate) enum Input {
 }
 
 impl Input {
-    /// The most bytes that it may have.
+    /// The limit on the input's bytes.
     pub(crate) fn limit(self) -> u64
         ensures { result ≡ limit_of self }
     {
@@ -76,7 +77,7 @@ pub(crate) fn fetch_whole<'a, H: Shelf>(
     }
 }
 
-/// The code of a program, and a log. Of the files that aren't of their forms the first is told.
+/// The code of a program, and a log; or the first of the two that breaks its form.
 pub(crate) fn read_both<'a>(
     alloc: Global,
     program: &[u8],
@@ -97,7 +98,7 @@ pub(crate) fn of_program<'a>(program: &[u8], log: &Log) -> Result<(), Answer<'a>
     ensures same { OnOk result (IsOfOther program.now log.now → ⊥) }
     ensures other { IfErr result (IsWhyOther program.now log.now) }
 {
-    if log.is_of_other(program) {
+    if is_of_other(log, program) {
         Err(Answer::LogRefused(LogRefusal::OtherProgram))
     } else {
         Ok(())

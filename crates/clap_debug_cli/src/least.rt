@@ -1,7 +1,7 @@
 //! Searching for a schedule of a log with the fewest context switches.
 ghost use Rattle.std.specs.Prelude.{◌≡◌, ◌≤◌, length, IfOk, IfErr, option_map};
-ghost use Rattle.tc_base.specs.Buffers.{buffer_of};
-ghost use Rattle.tc_base.specs.declared.limits.TheConstants.{PROGRAM_BYTES};
+ghost use Rattle.store_buffers.specs.Buffers.{buffer_of};
+ghost use Rattle.tc_limits.specs.declared.limits.TheConstants.{PROGRAM_BYTES};
 ghost use Rattle.clap_solve.specs.Clauses.{bound_of};
 ghost use Rattle.refute_check.specs.Laws.{IsWhole};
 ghost use Rattle.refute_check.specs.Texts.{refutation_text};
@@ -18,25 +18,25 @@ use crate::input::{of_program, read_both};
 use clap_debug_words::Budget;
 use clap_system::BuildFault;
 use least_switch::{Least, least};
-use path_log::Log;
+use memory_models::Model;
 use refute_check::{Derivation, Head, write_refutation};
+use run_log::Log;
 use schedule_file::write_schedule;
 use std::alloc::{AllocError, Global};
 use store_buffers::{PsoModel, Sc, TsoModel};
-use tc_base::Model;
 use tc_code::Code;
 
-/// What is kept of what searches found.
+/// The texts that are kept.
 #[derive(Drop)]
 pub(crate) struct Results {
-    /// A schedule, or why there is none.
+    /// A schedule, or a refutation.
     pub(crate) out: Vec<u8>,
-    /// Why there is none with fewer switches.
+    /// A refutation of schedules with fewer switches, if there is one.
     pub(crate) refutation: Option<Vec<u8>>,
 }
 
-/// What searches for a schedule of a log with the fewest context switches find under a memory model, where none is named under the
-/// log's, and its texts.
+/// The result of searches for a schedule with the fewest context switches under a memory model (by
+/// default the log's), and its texts.
 pub(crate) fn minimized<'a>(
     alloc: Global,
     program: &[u8],
@@ -66,7 +66,7 @@ pub(crate) fn minimized<'a>(
     ))
 }
 
-/// What searches find under a memory model.
+/// The result of searches under a memory model.
 fn least_under(
     alloc: Global,
     code: &Code,
@@ -85,7 +85,7 @@ fn least_under(
     }
 }
 
-/// Writes the texts of what searches found.
+/// Writes the texts of a result.
 fn write_results(alloc: Global, model: Model, least: &Least) -> Result<Results, AllocError>
     requires { HasByteBelow least.now }
     ensures first { IfOk result (λ r. r.out.items ≡ found_text model (found_in least.now)) }
@@ -99,7 +99,7 @@ fn write_results(alloc: Global, model: Model, least: &Least) -> Result<Results, 
     })
 }
 
-/// The text of the schedule, or of why there is none.
+/// The text of the schedule, or of the refutation if there is none.
 fn first_text(alloc: Global, model: Model, least: &Least) -> Result<Vec<u8>, AllocError>
     ensures text { IfOk result (λ text. text.items ≡ found_text model (found_in least.now)) }
     ensures form { IfOk result (λ text. IsOfForm model (found_in least.now)) }
@@ -118,7 +118,7 @@ fn first_text(alloc: Global, model: Model, least: &Least) -> Result<Vec<u8>, All
     }
 }
 
-/// The text of why there is no schedule with fewer switches, where it has any.
+/// The text of the refutation of schedules with fewer switches, if there is one.
 fn second_text(alloc: Global, model: Model, least: &Least) -> Result<Option<Vec<u8>>, AllocError>
     requires { HasByteBelow least.now }
     ensures text { IfOk result (λ made. option_map (λ text. text.items) made ≡ text_below model least.now) }
@@ -133,7 +133,7 @@ fn second_text(alloc: Global, model: Model, least: &Least) -> Result<Option<Vec<
     }
 }
 
-/// The text of a refutation that speaks of schedules with one switch fewer than so many.
+/// The text of a refutation of schedules with fewer than `count` switches.
 fn text_below(
     alloc: Global,
     model: Model,

@@ -1,10 +1,11 @@
-//! The top call: from the words and the files that come in to the line and the status that go out.
+//! The top call: from the words and input files to the line and the exit status.
 #![tactic(auto)]
 
 ghost use Rattle.std.specs.Prelude.{◌≡◌, ◌≤◌, ℕ, List, Option, Some, true, length, map, string_bytes, unwrap_or};
 ghost use Rattle.sha2.specs.Sha256.{sha256};
-ghost use Rattle.tc_base.specs.declared.model.Model.{Model};
-ghost use Rattle.path_log.specs.Texts.{StoredLog, IsLog};
+ghost use Rattle.memory_models.specs.declared.model.Model.{Model};
+ghost use Rattle.run_log.specs.Logs.{StoredLog};
+ghost use Rattle.path_log.specs.Texts.{IsLog};
 ghost use Rattle.tc_record.specs.Logged.{most_log_bytes};
 ghost use Rattle.schedule_file.specs.Schedules.{schedule_text};
 ghost use Rattle.schedule_file.specs.declared.schedule.Schedule.{Schedule};
@@ -47,10 +48,10 @@ use commands::{
 use std::alloc::Global;
 use tc_io::{PutFault, Shelf, Sink};
 
-/// Does what the words say over the files of the shelf, puts one line or a listing into the sink, and gives the
-/// status that the program ends with.
+/// Does what the words ask for with the files of the shelf, puts one line or a listing into the
+/// sink, and returns the exit status.
 ///
-/// The first of the words is the program's own name.
+/// The first word is the program's own name.
 pub fn clap_debug<H: Shelf, K: Sink>(
     alloc: Global,
     words: &[String],
@@ -67,7 +68,7 @@ pub fn clap_debug<H: Shelf, K: Sink>(
     say(alloc, &answer, sink)
 }
 
-/// What `migrate` keeps is the log with the program's digest: the same model, ending and paths are read back from it.
+/// `migrate` keeps the log with the program's digest; its model, ending and paths are read back.
 pub fn migrating_keeps_the_log()
     ensures kept { (program log text : List ℕ) (run : StoredLog) → IsMigrated program log text → IsLog log run → IsLog text (with_digest program run.log) }
     ensures again { (program log text : List ℕ) (run again : StoredLog) → IsMigrated program log text → IsLog log run → IsLog text again
@@ -79,30 +80,31 @@ pub fn migrating_keeps_the_log()
     ensures short { (program log text : List ℕ) → IsMigrated program log text → length text ≤ most_log_bytes }
 {}
 
-/// The log of a run that failed or came to a deadlock is reproduced by the moves of that run, and its text, which `record` keeps, is
-/// read back as that log.
+/// The log of a failed or deadlocked run is reproduced by that run's moves, and its text, which
+/// `record` keeps, is read back as that log.
 pub fn recorded_logs_are_reproduced()
     ensures { (program log : List ℕ) (made : Model) (seed steps : ℕ) → IsRecorded program made seed steps log → IsReproduced program made seed steps log }
 {}
 
-/// Some moves reproduce a log that `record` wrote, under its memory model and under each that allows more. So `solve` never
-/// calls it impossible there.
+/// Some moves reproduce a log that `record` wrote, under its memory model and under each that
+/// allows more, so `solve` never calls it impossible there.
 pub fn recorded_logs_are_possible()
     ensures { (program log : List ℕ) (made : Model) (seed steps : ℕ) (model : Option Model) → IsRecorded program made seed steps log
         → allows made (unwrap_or model made) ≡ true → IsPossible program log model }
 {}
 
-/// What `solve` keeps is accepted: its schedule isn't too long for `replay`, which answers with the same program and log that it
-/// reproduces the log, and `check` answers that its refutation shows the log to be impossible, or that it is open. So by
-/// `told.exactly` of [`clap_debug`] the status is 0, and 10 where it is open, but for devices and memory.
+/// What `solve` keeps is accepted: its schedule isn't too long for `replay`, which answers, for the
+/// same program and log, that it reproduces the log; and `check` answers that its refutation proves
+/// the log impossible, or is open. So by `told.exactly` of [`clap_debug`] the status is 0, or 10 if
+/// it is open, unless a device or memory fails.
 pub fn solutions_are_accepted()
     ensures { (program log : List ℕ) (model : Option Model) (budget : ℕ) (x : Solution) → IsSolution program log model budget x
         → IsAcceptedAs program log (solution_text x) x.answer }
 {}
 
-/// What `solve --least` keeps is accepted: its schedule isn't too long for `replay`, which answers with the same program and log that
-/// it reproduces the log, and `check` answers that its refutation shows that there are more switches than its first line says, or
-/// that it is open.
+/// What `solve --least` keeps is accepted: its schedule isn't too long for `replay`, which answers,
+/// for the same program and log, that it reproduces the log; and `check` answers that its
+/// refutation proves that there are more switches than its header says, or is open.
 pub fn minima_are_accepted()
     ensures first { (program log : List ℕ) (model : Option Model) (budget : ℕ) (x : Minimum) → IsMinimum program log model budget x
         → IsAcceptedAs program log (first_text x) (found_in x.least) }
@@ -110,14 +112,14 @@ pub fn minima_are_accepted()
         → IsAcceptedBelow program log x.model x.least }
 {}
 
-/// What `import` keeps is accepted too: the schedule isn't too long for `replay`, which answers with the same program and log that it
-/// reproduces the log.
+/// What `import` keeps is accepted too: the schedule isn't too long for `replay`, which answers,
+/// for the same program and log, that it reproduces the log.
 pub fn imports_are_accepted()
     ensures { (program log answer : List ℕ) (model : Option Model) (s : Schedule) → IsAnswered program log answer (IsTaken model (taken.Found s))
         → IsAcceptedAs program log (schedule_text s.model s.moves.items) (search.Found s) }
 {}
 
-/// What is answered to the words.
+/// The answer to the words.
 fn answered<'a, H: Shelf>(alloc: Global, words: &'a [String], shelf: &mut H) -> Answer<'a>
     ensures { IsCause (map string_bytes words.now) (H.tells shelf.old) (H.tells shelf.new) result }
 {
@@ -132,7 +134,7 @@ fn answered<'a, H: Shelf>(alloc: Global, words: &'a [String], shelf: &mut H) -> 
     }
 }
 
-/// What is answered to a call.
+/// The answer to a call.
 fn answer_to<'a, H: Shelf>(
     alloc: Global,
     shelf: &mut H,
@@ -197,7 +199,7 @@ fn answer_to<'a, H: Shelf>(
     }
 }
 
-/// Puts the line of an answer, and gives the status.
+/// Puts the line of an answer, and returns the exit status.
 fn say<K: Sink>(alloc: Global, answer: &Answer, sink: &mut K) -> u8
     ensures { Says answer.now result (K.tells sink.old) (K.tells sink.new) }
 {
@@ -211,7 +213,7 @@ fn say<K: Sink>(alloc: Global, answer: &Answer, sink: &mut K) -> u8
     }
 }
 
-/// Puts that there is no memory for the line, but nothing after a failed keep.
+/// Puts that there is no memory for the line; puts nothing after a failed keep.
 fn say_no_more<K: Sink>(answer: &Answer, sink: &mut K) -> u8
     ensures { SaysNoMore answer.now result (K.tells sink.old) (K.tells sink.new) }
 {

@@ -1,7 +1,7 @@
-//! Logs brought to format 2.
+//! Logs migrated to format 2.
 ghost use Rattle.std.specs.Prelude.{◌≡◌, ◌≤◌, length, None, IfOk, IfErr, OnOk};
 ghost use Rattle.path_walk.specs.Fits.{Fits};
-ghost use Rattle.tc_base.specs.declared.limits.TheConstants.{PROGRAM_BYTES};
+ghost use Rattle.tc_limits.specs.declared.limits.TheConstants.{PROGRAM_BYTES};
 ghost use Rattle.clap_debug_cli.specs.Causes.{IsFitAnswer, IsMigrateAnswer};
 ghost use Rattle.clap_debug_cli.specs.Migrated.{IsMigrated, excess_of, too_deep};
 ghost use Rattle.clap_debug_cli.specs.helpers.Refused.{Refuses};
@@ -10,11 +10,11 @@ use crate::answer::{Answer, Excess};
 use crate::input::{of_program, read_both};
 use crate::output::text_with_digest;
 use clap_system::Which;
-use path_log::{Log, ThreadPath};
 use path_walk::walk;
+use run_log::{Log, ThreadPath};
 use std::alloc::Global;
-use tc_base::limits::{DEPTH, THREADS};
 use tc_code::Code;
+use tc_limits::limits::{DEPTH, THREADS};
 
 /// The text of the log in format 2 with the digest of the program.
 pub(crate) fn migrated<'a>(alloc: Global, program: &[u8], log: &[u8]) -> Result<Vec<u8>, Answer<'a>>
@@ -42,7 +42,7 @@ fn fit<'a>(alloc: Global, code: &Code, log: &Log) -> Result<(), Answer<'a>>
     Ok(())
 }
 
-/// What a log has more of than it may have.
+/// The limit that a log exceeds, if any.
 fn excess_of(log: &Log) -> Option<Excess>
     ensures { result ≡ excess_of log.now.log }
 {
@@ -60,7 +60,7 @@ fn excess_of(log: &Log) -> Option<Excess>
     })
 }
 
-/// The depth of the first name that is deeper than a name may be.
+/// The depth of the first thread name that is too deep.
 fn too_deep(threads: &[ThreadPath]) -> Option<usize>
     ensures { result ≡ too_deep threads.now }
 {

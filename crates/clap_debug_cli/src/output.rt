@@ -3,7 +3,8 @@ ghost use Rattle.std.specs.Prelude.{◌≡◌, IfOk, IsTrue};
 ghost use Rattle.path_log.specs.Texts.{HasText, is_of_format, log_text};
 ghost use Rattle.clap_debug_cli.specs.Recorded.{with_digest};
 
-use path_log::{Log, program_digest, write_log};
+use path_log::{program_digest, write_log};
+use run_log::Log;
 use std::alloc::{AllocError, Global};
 
 /// The text of a log in format 2, with the digest of the program.

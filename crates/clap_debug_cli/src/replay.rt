@@ -1,19 +1,19 @@
 //! Replaying a schedule under the memory model that it names.
 ghost use Rattle.std.specs.Prelude.{◌≤◌, length, IfOk, IfErr};
-ghost use Rattle.tc_base.specs.Buffers.{buffer_of};
-ghost use Rattle.tc_base.specs.declared.limits.TheConstants.{PROGRAM_BYTES};
+ghost use Rattle.store_buffers.specs.Buffers.{buffer_of};
+ghost use Rattle.tc_limits.specs.declared.limits.TheConstants.{PROGRAM_BYTES};
 ghost use Rattle.schedule_replay.specs.Verdicts.{IsVerdict};
 ghost use Rattle.clap_debug_cli.specs.Causes.{IsReplayed, IsReplayAnswer};
 ghost use Rattle.clap_debug_cli.specs.helpers.Refused.{Refuses};
 
 use crate::answer::Answer;
 use crate::input::{of_program, read_both};
-use path_log::Log;
+use memory_models::Model;
+use run_log::Log;
 use schedule_file::{Schedule, read_schedule};
 use schedule_replay::{Verdict, replay};
 use std::alloc::{AllocError, Global};
 use store_buffers::{PsoModel, Sc, TsoModel};
-use tc_base::Model;
 use tc_code::Code;
 
 /// The verdict on a schedule.

@@ -1,6 +1,6 @@
 //! Recorded runs of a program.
 ghost use Rattle.std.specs.Prelude.{◌≤◌, length, IfOk, IfErr};
-ghost use Rattle.tc_base.specs.declared.limits.TheConstants.{PROGRAM_BYTES};
+ghost use Rattle.tc_limits.specs.declared.limits.TheConstants.{PROGRAM_BYTES};
 ghost use Rattle.tc_record.specs.Seeded.{seeded_run};
 ghost use Rattle.clap_debug_cli.specs.Causes.{IsRecordAnswer};
 ghost use Rattle.clap_debug_cli.specs.Recorded.{HasOutcome, IsLogText, ComesTo, IsRecorded};
@@ -8,15 +8,15 @@ ghost use Rattle.clap_debug_cli.specs.helpers.Refused.{IsEndOf, Refuses};
 
 use crate::answer::{Answer, Ending, Failure, Outcome};
 use crate::output::text_with_digest;
+use memory_models::Model;
 use std::alloc::Global;
 use store_buffers::{MemoryModel, PsoModel, Sc, TsoModel};
-use tc_base::Model;
 use tc_code::Code;
 use tc_compile::compile;
 use tc_record::{Recorded, record_run};
 
-/// The failure or deadlock of the run of a program by moves that a seed chooses under a memory model, at most so many,
-/// and the text of its log.
+/// The failure or deadlock of a program's run under a memory model, by at most `steps` moves chosen
+/// with a seed, and the text of its log.
 pub(crate) fn recorded<'a>(
     alloc: Global,
     program: &[u8],
@@ -37,7 +37,7 @@ pub(crate) fn recorded<'a>(
     }
 }
 
-/// The failure or deadlock of the run of a code, and the text of its log, with the digest of the program.
+/// The failure or deadlock of a code's run, and the text of its log with the program's digest.
 fn recorded_under<'a, M: MemoryModel>(
     alloc: Global,
     program: &[u8],

@@ -1,7 +1,7 @@
-//! Searching for a schedule of a log, or for a refutation that shows that there is none.
+//! Searching for a schedule of a log, or for a refutation that proves that there is none.
 ghost use Rattle.std.specs.Prelude.{◌≡◌, ◌≤◌, length, IfOk, IfErr};
-ghost use Rattle.tc_base.specs.Buffers.{buffer_of};
-ghost use Rattle.tc_base.specs.declared.limits.TheConstants.{PROGRAM_BYTES};
+ghost use Rattle.store_buffers.specs.Buffers.{buffer_of};
+ghost use Rattle.tc_limits.specs.declared.limits.TheConstants.{PROGRAM_BYTES};
 ghost use Rattle.clap_solve.specs.Clauses.{bound_of};
 ghost use Rattle.clap_solve.specs.Solved.{IsSolved};
 ghost use Rattle.clap_system.specs.Faults.{IsBuildFault};
@@ -14,15 +14,15 @@ use crate::input::{of_program, read_both};
 use clap_debug_words::Budget;
 use clap_solve::{Answer as Found, solve};
 use clap_system::BuildFault;
-use path_log::Log;
+use memory_models::Model;
 use refute_check::{Head, write_refutation};
+use run_log::Log;
 use schedule_file::write_schedule;
 use std::alloc::{AllocError, Global};
 use store_buffers::{PsoModel, Sc, TsoModel};
-use tc_base::Model;
 use tc_code::Code;
 
-/// What a search for a schedule of a log finds under a memory model, where none is named under the log's, and its text.
+/// The result of a search for a schedule under a memory model (by default the log's), and its text.
 pub(crate) fn solved<'a>(
     alloc: Global,
     program: &[u8],
@@ -51,7 +51,7 @@ pub(crate) fn solved<'a>(
     ))
 }
 
-/// What a search finds under a memory model.
+/// The result of a search under a memory model.
 pub(crate) fn solve_under(
     alloc: Global,
     code: &Code,
@@ -70,7 +70,7 @@ pub(crate) fn solve_under(
     }
 }
 
-/// The text of what a search found: a schedule, or a refutation under the memory model.
+/// The text of a result: a schedule, or a refutation under the memory model.
 fn found_text(alloc: Global, model: Model, answer: &Found) -> Result<Vec<u8>, AllocError>
     ensures text { IfOk result (λ text. text.items ≡ found_text model answer.now) }
     ensures form { IfOk result (λ text. IsOfForm model answer.now) }

@@ -1,7 +1,7 @@
-//! The clauses of a log for other solvers, and what becomes of their answers.
+//! The clauses of a log for other solvers, and their answers.
 ghost use Rattle.std.specs.Prelude.{◌≡◌, ◌≤◌, length, IfOk, IfErr, OnOk};
-ghost use Rattle.tc_base.specs.Buffers.{buffer_of};
-ghost use Rattle.tc_base.specs.declared.limits.TheConstants.{PROGRAM_BYTES};
+ghost use Rattle.store_buffers.specs.Buffers.{buffer_of};
+ghost use Rattle.tc_limits.specs.declared.limits.TheConstants.{PROGRAM_BYTES};
 ghost use Rattle.schedule_file.specs.Schedules.{schedule_text};
 ghost use Rattle.dimacs_text.specs.Texts.{cnf_text};
 ghost use Rattle.clap_solve.specs.Clauses.{bound_of, model_clauses};
@@ -18,15 +18,15 @@ use clap_solve::{Imported, clauses, take_answer};
 use clap_system::BuildFault;
 use cnf_core::Cnf;
 use dimacs_text::{Literals, read_answer, write_cnf};
-use path_log::Log;
+use memory_models::Model;
+use run_log::Log;
 use schedule_file::{Schedule, write_schedule};
 use std::alloc::Global;
 use std::mem::drop;
 use store_buffers::{PsoModel, Sc, TsoModel};
-use tc_base::Model;
 use tc_code::Code;
 
-/// The clauses of a log under a memory model, where none is named under the log's, and their text.
+/// The clauses of a log under a memory model (by default the log's), and their text.
 pub(crate) fn exported<'a>(
     alloc: Global,
     program: &[u8],
@@ -59,7 +59,7 @@ fn clauses_under(alloc: Global, code: &Code, log: &Log, model: Model) -> Result<
     }
 }
 
-/// A schedule of what another solver answers to the clauses of a log, and its text.
+/// A schedule from another solver's answer to the clauses of a log, and its text.
 pub(crate) fn imported<'a>(
     alloc: Global,
     program: &[u8],
@@ -87,7 +87,7 @@ pub(crate) fn imported<'a>(
     }
 }
 
-/// What literals come to that a solver makes true.
+/// The result of the literals that a solver makes true.
 fn taken_under(
     alloc: Global,
     code: &Code,

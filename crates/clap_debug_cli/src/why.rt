@@ -1,7 +1,7 @@
 //! The reasons of an impossibility.
 ghost use Rattle.std.specs.Prelude.{◌≡◌, ◌≤◌, length, IfOk, IfErr, OnOk};
-ghost use Rattle.tc_base.specs.Buffers.{buffer_of};
-ghost use Rattle.tc_base.specs.declared.limits.TheConstants.{PROGRAM_BYTES};
+ghost use Rattle.store_buffers.specs.Buffers.{buffer_of};
+ghost use Rattle.tc_limits.specs.declared.limits.TheConstants.{PROGRAM_BYTES};
 ghost use Rattle.refute_check.specs.Broken.{BreaksAt};
 ghost use Rattle.refute_check.specs.Laws.{IsWhole};
 ghost use Rattle.refute_check.specs.Texts.{refutation_text};
@@ -18,16 +18,16 @@ ghost use Rattle.clap_debug_cli.specs.helpers.Refused.{IsWhyUnrefuted, Refuses};
 use crate::answer::{Answer, Shown};
 use crate::input::{of_program, read_both};
 use clap_solve::CheckImpossibleFault;
-use path_log::Log;
+use memory_models::Model;
 use refute_check::{Derivation, Head, RefutationFault, RefutationText, Taken, read_refutation};
+use run_log::Log;
 use std::alloc::{AllocError, Global};
 use std::mem::drop;
 use store_buffers::{PsoModel, Sc, TsoModel};
-use tc_base::Model;
 use tc_code::Code;
 use why_impossible::{Explained, Reasons, why};
 
-/// The reasons of a refutation that is accepted and shows that a log is impossible.
+/// The reasons of an accepted refutation that proves a log impossible.
 pub(crate) fn explain<'a>(
     alloc: Global,
     program: &[u8],
@@ -49,7 +49,7 @@ pub(crate) fn explain<'a>(
     }
 }
 
-/// The memory model of a refutation that speaks of all schedules, and its derivation.
+/// The memory model and the derivation of a refutation of all schedules.
 fn read_derivation<'a>(alloc: Global, bytes: &[u8]) -> Result<(Model, Derivation), Answer<'a>>
     ensures found { IfOk result (λ both. IsRefutation bytes.now (head_of both.0) both.1) }
     ensures refused { IfErr result (IsWhyUnrefuted bytes.now) }
@@ -61,7 +61,7 @@ fn read_derivation<'a>(alloc: Global, bytes: &[u8]) -> Result<(Model, Derivation
     Ok((head.model, derivation))
 }
 
-/// The first line of a refutation, which may name a number of switches, and its derivation.
+/// The header and the derivation of a refutation, which may name a number of switches.
 fn read_any<'a>(alloc: Global, bytes: &[u8]) -> Result<(Head, Derivation), Answer<'a>>
     ensures found { IfOk result (λ both. IsWhole both.0 both.1 × (refutation_text both.0 both.1 ≡ bytes.now)) }
     ensures refused { IfErr result (IsWhyUnrefuted bytes.now) }
@@ -76,8 +76,8 @@ fn read_any<'a>(alloc: Global, bytes: &[u8]) -> Result<(Head, Derivation), Answe
     }
 }
 
-/// The first line that breaks the form, where that of this number is the first to do so but for a first line that names a number of
-/// switches.
+/// The first line that breaks the form of a refutation of all schedules, given the first that
+/// breaks the form of any refutation.
 fn first_broken(alloc: Global, bytes: &[u8], line: u32) -> Result<u32, AllocError>
     requires { BreaksAt bytes.now line }
     ensures { IfOk result (λ first. IsBrokenAt bytes.now first) }
@@ -89,7 +89,7 @@ fn first_broken(alloc: Global, bytes: &[u8], line: u32) -> Result<u32, AllocErro
     Ok(line)
 }
 
-/// Whether this is a first line that names a number of switches.
+/// Whether this is a header that names a number of switches.
 fn counts_switches(taken: &Taken) -> bool
     ensures { result ≡ counts_switches taken.now }
 {
@@ -99,7 +99,7 @@ fn counts_switches(taken: &Taken) -> bool
     }
 }
 
-/// What a derivation shows of a log under a memory model, and on which rules that rests.
+/// What a derivation proves about a log under a memory model, and by which rules.
 fn why_under(
     alloc: Global,
     code: &Code,

@@ -1,7 +1,7 @@
-//! Generated programs: a run of one, and searches for a schedule of its log.
+//! Generated programs: a run of one, and searches of its log.
 ghost use Rattle.std.specs.Prelude.{◌≡◌, IfOk, IfErr, OnOk};
-ghost use Rattle.tc_base.specs.declared.limits.TheConstants.{MOVES};
-ghost use Rattle.tc_base.specs.declared.model.Model.TheVariants.{Tso};
+ghost use Rattle.tc_limits.specs.declared.limits.TheConstants.{MOVES};
+ghost use Rattle.memory_models.specs.declared.model.Model.TheVariants.{Tso};
 ghost use Rattle.tc_workload.specs.Workload.{workload_log};
 ghost use Rattle.clap_solve.specs.Solved.{IsWithin};
 ghost use Rattle.clap_system.specs.Faults.{IsBuildFault};
@@ -15,17 +15,17 @@ use crate::answer::{Answer, RunEnd, Work};
 use crate::solve::solve_under;
 use clap_debug_words::{Budget, USUAL_BUDGET, Workers};
 use clap_system::BuildFault;
-use path_log::Log;
+use memory_models::Model;
+use run_log::Log;
 use std::alloc::{AllocError, Global};
 use store_buffers::TsoModel;
-use tc_base::Model;
-use tc_base::limits::MOVES;
 use tc_code::Code;
 use tc_compile::compile;
+use tc_limits::limits::MOVES;
 use tc_record::{Seeded, SeededFault, run_seeded, seed_words};
 use tc_workload::{workload_log, workload_text};
 
-/// How a run of the program of so many workers that a seed makes ends, and what searches for a schedule of its log find.
+/// The end of a run of the program with these workers and this seed, and the searches of its log.
 pub(crate) fn worked<'a>(alloc: Global, workers: Workers, seed: u64) -> Result<Work, Answer<'a>>
     ensures work { IfOk result (λ x. IsWorkloadAnswer workers.count seed (Worked x)) }
     ensures answer { IfErr result (Refuses (IsWorkloadAnswer workers.count seed)) }
@@ -38,7 +38,7 @@ pub(crate) fn worked<'a>(alloc: Global, workers: Workers, seed: u64) -> Result<W
     Ok(work)
 }
 
-/// What comes of a code of the program, and of its log.
+/// The results of the program's code and its log.
 fn work(alloc: Global, code: &Code, log: &Log, workers: u32, seed: u64) -> Result<Work, BuildFault>
     requires { log.now.log ≡ workload_log workers }
     ensures work { IfOk result (IsWorked code.now workers seed) }
@@ -57,7 +57,7 @@ fn work(alloc: Global, code: &Code, log: &Log, workers: u32, seed: u64) -> Resul
     })
 }
 
-/// How a run of a code under total store order ends, by moves that a seed chooses.
+/// The end of a run of a code under total store order, by moves chosen with a seed.
 fn run_end(alloc: Global, code: &Code, seed: u64) -> Result<RunEnd, AllocError>
     ensures { IfOk result (λ end. end ≡ told (run_of Tso code.now seed MOVES).end) }
 {

@@ -1,19 +1,19 @@
 -- From an answer with its cause, as it was said, to what every call answers.
-use Rattle.std.proofs.Common.{◌≡◌, ◌≢◌, ◌≤◌, ◌<◌, ◌+◌, ◌∙◌, ◌⊎◌, inl, inr, ap, sym, subst, refl, arith, ℕ, List, length, Option, Some, None, IfSome}
+use Rattle.std.proofs.Common.{◌≡◌, ◌≢◌, ◌≤◌, ◌<◌, ◌∙◌, ◌⊎◌, inl, inr, ap, sym, subst, refl, arith, ℕ, List, length, Option, Some, None, IfSome}
 use Rattle.std.specs.Borrow.{Bor}
 use Rattle.std.specs.Option.{IsSome, IsSomeAnd}
 use Rattle.std.proofs.lemmas.Option.{same_Some, none-some}
 use Rattle.tc_io.specs.Outside.{Files, Reading, Writing, ShelfTells, SinkTells, FailedToGive, Kept, WasTooLong, bytes_at, put_under}
 use Rattle.clap_debug_show_cli.specs.Answers.{Says, SaysNoMore, status_of}
-use Rattle.clap_debug_show_cli.specs.Call.{Puts, IsFaultStatus, Holds, Loses, Leaves, CallAnswers, IfTold, ToldAnswers}
-use Rattle.clap_debug_show_cli.specs.Calls.{Shows, call_of}
-use Rattle.clap_debug_show_cli.specs.Causes.{AreWithin, GaveBoth, GaveProgram, HasPage, IsAnswerOf, IsCause, IsCauseOf}
+use Rattle.clap_debug_show_cli.specs.Call.{Puts, PutsAnswer, IsFaultStatus, Holds, Loses, LeavesPage, HasLost, Leaves, CallAnswers, IfTold, ToldAnswers}
+use Rattle.clap_debug_show_cli.specs.Calls.{Asked, Help, Show, Shows, call_of}
+use Rattle.clap_debug_show_cli.specs.Causes.{AreWithin, GaveBoth, GaveProgram, HasPage, IsAnswerOf, IsCause, IsCauseOf, IsHelpCause, IsHelpOf, IsShowCause}
 use Rattle.clap_debug_show_cli.specs.Limits.{limit_of}
 use Rattle.clap_debug_show_cli.specs.declared.limits.What.TheVariants.{ProgramBytes, ScheduleBytes}
 use Rattle.clap_debug_show_cli.proofs.Causes.{still}
-use Rattle.clap_debug_show_cli.proofs.OneAnswer.{one_answer}
+use Rattle.clap_debug_show_cli.proofs.OneAnswer.{Alike, one_answer, one_help}
 use Rattle.clap_debug_show_cli.specs.declared.answer.Answer.{Answer}
-use Rattle.clap_debug_show_cli.specs.declared.answer.Answer.TheVariants.{Usage, ReadFault, Over, Shown, PageKept, WriteFault, NoMemory}
+use Rattle.clap_debug_show_cli.specs.declared.answer.Answer.TheVariants.{Usage, ReadFault, Over, Shown, PageKept, Explained, Described, WriteFault, NoMemory}
 
 -- an answer was put with its status, or the status is that of a put that failed or of want of memory
 no_more_status : (a : Answer) (status : ℕ) (j k : SinkTells) → SaysNoMore a status j k → (status ≡ 8) ⊎ (status ≡ 9)
@@ -39,19 +39,45 @@ lost_status name status j k (inl h) = elim h.2 [
 lost_status name status j k (inr none) = none.0
 
 -- what the words ask for
-uncalled : (P : Shows → Type 0) (o : Option Shows) → o ≡ None → IsSomeAnd o P → ⊥
+uncalled : (P : Asked → Type 0) (o : Option Asked) → o ≡ None → IsSomeAnd o P → ⊥
 uncalled P o none p = subst (λ o. IsSomeAnd o P) none p
 
-called : (P : Shows → Type 0) (o : Option Shows) (call : Shows) → o ≡ Some call → IsSomeAnd o P → P call
+called : (P : Asked → Type 0) (o : Option Asked) (call : Asked) → o ≡ Some call → IsSomeAnd o P → P call
 called P o call taken p = subst (λ o. IsSomeAnd o P) taken p
 
-if_called : (o : Option Shows) (P : Shows → Type 0) → ((call : Shows) → o ≡ Some call → P call) → IfSome o P
+if_called : (o : Option Asked) (P : Asked → Type 0) → ((call : Asked) → o ≡ Some call → P call) → IfSome o P
 if_called None P h = tt
 if_called (Some call) P h = h call refl
 
 if_told : (o : Option Files) (P : Files → Type 0) → ((files : Files) → o ≡ Some files → P files) → IfSome o P
 if_told None P h = tt
 if_told (Some files) P h = h files refl
+
+-- an answer that was said is the one that there is, or the status is that of a fault
+module _ (IsAnswer : Answer → Type 0) (one : (a b : Answer) → IsAnswer a → IsAnswer b → Alike a b) where
+  puts_answer : (a : Answer) (status : ℕ) (j k : SinkTells) → IsAnswer a ⊎ IsFaultStatus (status_of a) → Says a status j k
+      → PutsAnswer IsAnswer status j k
+  puts_answer a status j k cause says = record { answer = answer_at; exactly = exactly_at }
+    where
+      answer_at : (IsFaultStatus status → ⊥) → (b : Answer) × IsAnswer b × Puts b status j k
+      answer_at sound =
+          elim (said a status j k says) [
+            | inl puts ↦ elim cause [
+              | inl is ↦ (a, is, puts)
+              | inr fault ↦ absurd (sound (subst IsFaultStatus (sym puts.2) fault))
+            ]
+            | inr fault ↦ absurd (sound (inr fault))
+          ]
+
+      exactly_at : (b : Answer) → IsAnswer b → Puts b status j k ⊎ IsFaultStatus status
+      exactly_at b is_b =
+          elim (said a status j k says) [
+            | inl puts ↦ elim cause [
+              | inl is ↦ inl (one b a is_b is status j k puts)
+              | inr fault ↦ inr (subst IsFaultStatus (sym puts.2) fault)
+            ]
+            | inr fault ↦ inr (inr fault)
+          ]
 
 -- where the shelf tells what it holds
 
@@ -78,7 +104,7 @@ module _ (call : Shows) (files : Files) (old : ShelfTells) (told : old.held ≡ 
       subst (λ p. P p (bytes_at files call.file)) first.0 (subst (P program) second (h (first.2, g.2.0)))
 
   -- the cause of an answer is that the two files have it, or a fault
-  told_answer : (new : ShelfTells) (a : Answer) → IsCauseOf call old new a
+  told_answer : (new : ShelfTells) (a : Answer) → IsShowCause call old new a
       → IsAnswerOf call (bytes_at files call.program) (bytes_at files call.file) a ⊎ IsFaultStatus (status_of a)
   told_answer new Usage c = absurd c
   told_answer new (ReadFault name) c = inr (inl refl)
@@ -99,35 +125,28 @@ module _ (call : Shows) (files : Files) (old : ShelfTells) (told : old.held ≡ 
       inl (given (λ p f. IsAnswerOf call p f (Shown shown)) new c.1 c.2 c.3 (λ within. (within, c.0, c.4)))
   told_answer new a c = inl (given (λ p f. IsAnswerOf call p f a) new c.0 c.1 c.2 (λ within. (within, c.3)))
 
-  told_answers : (new : ShelfTells) (a : Answer) (status : ℕ) (j k : SinkTells) → IsCauseOf call old new a → Says a status j k
-      → ToldAnswers call (bytes_at files call.program) (bytes_at files call.file) status j k
-  told_answers new a status j k cause says = record { answer = answer_at; exactly = exactly_at }
-    where
-      program : List ℕ
-      program = bytes_at files call.program
+  told_answers : (new : ShelfTells) (a : Answer) (status : ℕ) (j k : SinkTells) → IsShowCause call old new a → Says a status j k
+      → PutsAnswer (IsAnswerOf call (bytes_at files call.program) (bytes_at files call.file)) status j k
+  told_answers new a status j k cause says =
+      puts_answer (IsAnswerOf call (bytes_at files call.program) (bytes_at files call.file))
+      (one_answer call (bytes_at files call.program) (bytes_at files call.file)) a status j k (told_answer new a cause) says
 
-      file : List ℕ
-      file = bytes_at files call.file
+module _ (name : List ℕ) (files : Files) (old : ShelfTells) (told : old.held ≡ Some files) where
+  -- the cause of help is that the program has it, or a fault
+  told_help : (new : ShelfTells) (a : Answer) → IsHelpCause name old new a → IsHelpOf (bytes_at files name) a ⊎ IsFaultStatus (status_of a)
+  told_help new (ReadFault failed) c = inr (inl refl)
+  told_help new NoMemory c = inr (inr (inr refl))
+  told_help new (Over ProgramBytes n) c = inl (c.0, told_limit files old.held name _ told c.1.1)
+  told_help new (Explained why) c =
+      inl (subst (λ p. IsHelpOf p (Explained why)) (told_bytes files old.held name c.0 told c.1.2) (c.1.0, c.2))
+  told_help new (Described has) c =
+      inl (subst (λ p. IsHelpOf p (Described has)) (told_bytes files old.held name c.0 told c.1.2) (c.1.0, c.2))
+  told_help new _ c = absurd c.2
 
-      answer_at : (IsFaultStatus status → ⊥) → (b : Answer) × IsAnswerOf call program file b × Puts b status j k
-      answer_at sound =
-          elim (said a status j k says) [
-            | inl puts ↦ elim (told_answer new a cause) [
-              | inl is ↦ (a, is, puts)
-              | inr fault ↦ absurd (sound (subst IsFaultStatus (sym puts.2) fault))
-            ]
-            | inr fault ↦ absurd (sound (inr fault))
-          ]
-
-      exactly_at : (b : Answer) → IsAnswerOf call program file b → Puts b status j k ⊎ IsFaultStatus status
-      exactly_at b is_b =
-          elim (said a status j k says) [
-            | inl puts ↦ elim (told_answer new a cause) [
-              | inl is ↦ inl (one_answer call program file b a is_b is status j k puts)
-              | inr fault ↦ inr (subst IsFaultStatus (sym puts.2) fault)
-            ]
-            | inr fault ↦ inr (inr fault)
-          ]
+  help_answers : (new : ShelfTells) (a : Answer) (status : ℕ) (j k : SinkTells) → IsHelpCause name old new a → Says a status j k
+      → PutsAnswer (IsHelpOf (bytes_at files name)) status j k
+  help_answers new a status j k cause says =
+      puts_answer (IsHelpOf (bytes_at files name)) (one_help (bytes_at files name)) a status j k (told_help new a cause) says
 
 -- the shelf after the causes of answers
 
@@ -165,7 +184,7 @@ module _ (call : Shows) (old new : ShelfTells) where
   own_page : (n name : List ℕ) → call.page ≡ Some name → Holds call n old new → Holds call name old new
   own_page n name asked h = subst (λ m. Holds call m old new) (same_Some n name (sym h.0 ∙ asked)) h
 
-  what_is_kept : (a : Answer) → IsCauseOf call old new a → IsKept a
+  what_is_kept : (a : Answer) → IsShowCause call old new a → IsKept a
   what_is_kept Usage c = absurd c
   what_is_kept (ReadFault name) c = inr (inr (elim c [
     | inl f ↦ (failed_still call.program (limit_of ProgramBytes) old new f.1).0
@@ -181,7 +200,7 @@ module _ (call : Shows) (old new : ShelfTells) where
   what_is_kept a c = inr (inr (still call old new c.0 c.1 c.2).0)
 
   -- where the shelf counted a fault, and its last is of a keep, the answer is that of a keep that failed
-  keep_failed : (a : Answer) → IsCauseOf call old new a → new.faults ≢ old.faults → (name : List ℕ) → new.last_fault ≡ Some (Writing name)
+  keep_failed : (a : Answer) → IsShowCause call old new a → new.faults ≢ old.faults → (name : List ℕ) → new.last_fault ≡ Some (Writing name)
       → (lost : Bor (List ℕ)) × (a ≡ WriteFault lost) × Loses call name old new
   keep_failed Usage c rose name last = absurd c
   keep_failed (ReadFault n) c rose name last = absurd (elim c [
@@ -202,13 +221,36 @@ module _ (call : Shows) (old new : ShelfTells) where
   keep_failed a c rose name last = absurd (rose (still call old new c.0 c.1 c.2).1)
 
   -- with status 0, where a page is asked for, that was kept
-  page_at : (a : Answer) → IsCauseOf call old new a → (name : List ℕ) → call.page ≡ Some name → status_of a ≡ 0 → Holds call name old new
+  page_at : (a : Answer) → IsShowCause call old new a → (name : List ℕ) → call.page ≡ Some name → status_of a ≡ 0 → Holds call name old new
   page_at PageKept c name asked zero = own_page c.0 name asked (page_stands c.0 c.1)
   page_at (Shown shown) c name asked zero = absurd (none-some name (sym c.0 ∙ asked))
   page_at _ c name asked zero = absurd (omega (arith, zero))
 
+-- help keeps nothing
+module _ (name : List ℕ) (old new : ShelfTells) where
+  help_still : (a : Answer) → IsHelpCause name old new a → new.held ≡ old.held
+  help_still (ReadFault failed) c = (failed_still name (limit_of ProgramBytes) old new c.1).0
+  help_still (Over ProgramBytes n) c = (long_still name _ old new c.1).0
+  help_still NoMemory c = c.0
+  help_still (Explained why) c = ap (λ (x : ShelfTells). x.held) c.1.1
+  help_still (Described has) c = ap (λ (x : ShelfTells). x.held) c.1.1
+  help_still _ c = absurd c.2
+
+  help_lost : (a : Answer) → IsHelpCause name old new a → new.faults ≢ old.faults → (lost : List ℕ) → new.last_fault ≡ Some (Writing lost) → ⊥
+  help_lost (ReadFault failed) c rose lost last = read_not_written name lost (sym (failed_still name (limit_of ProgramBytes) old new c.1).1 ∙ last)
+  help_lost (Over ProgramBytes n) c rose lost last = rose (long_still name _ old new c.1).1
+  help_lost NoMemory c rose lost last = rose c.1
+  help_lost (Explained why) c rose lost last = rose (ap (λ (x : ShelfTells). x.faults) c.1.1)
+  help_lost (Described has) c rose lost last = rose (ap (λ (x : ShelfTells). x.faults) c.1.1)
+  help_lost _ c rose lost last = c.2
+
+any_failed : (call : Asked) (old new : ShelfTells) (a : Answer) → IsCauseOf call old new a → new.faults ≢ old.faults → (name : List ℕ)
+    → new.last_fault ≡ Some (Writing name) → (lost : Bor (List ℕ)) × (a ≡ WriteFault lost) × HasLost call name old new
+any_failed (Help program) old new a c rose name last = absurd (help_lost program old new a c rose name last)
+any_failed (Show call) old new a c rose name last = keep_failed call old new a c rose name last
+
 -- what follows for each call
-for_called : (o : Option Shows) (P Q : Shows → Type 0) (R : Type 0) → ((call : Shows) → P call → R × Q call) → IsSomeAnd o P → R × IsSomeAnd o Q
+for_called : (o : Option Asked) (P Q : Asked → Type 0) (R : Type 0) → ((call : Asked) → P call → R × Q call) → IsSomeAnd o P → R × IsSomeAnd o Q
 for_called None P Q R h c = absurd c
 for_called (Some call) P Q R h c = h call c
 
@@ -222,13 +264,13 @@ module _ (words : List (List ℕ)) (old new : ShelfTells) where
 
   -- the answer is that of a keep that failed, which is what became of the call
   abbrev IsLost : Answer → (name : List ℕ) → Type 0
-  IsLost a name = ((lost : Bor (List ℕ)) × (a ≡ WriteFault lost)) × IsSomeAnd (call_of words) (λ call. Loses call name old new)
+  IsLost a name = ((lost : Bor (List ℕ)) × (a ≡ WriteFault lost)) × IsSomeAnd (call_of words) (λ call. HasLost call name old new)
 
   lost_call : (a : Answer) (name : List ℕ)
-      → ((call : Shows) → IsCauseOf call old new a → (lost : Bor (List ℕ)) × (a ≡ WriteFault lost) × Loses call name old new)
+      → ((call : Asked) → IsCauseOf call old new a → (lost : Bor (List ℕ)) × (a ≡ WriteFault lost) × HasLost call name old new)
       → IsSomeAnd (call_of words) (λ call. IsCauseOf call old new a) → IsLost a name
   lost_call a name h c =
-      for_called (call_of words) (λ call. IsCauseOf call old new a) (λ call. Loses call name old new) ((lost : Bor (List ℕ)) × (a ≡ WriteFault lost))
+      for_called (call_of words) (λ call. IsCauseOf call old new a) (λ call. HasLost call name old new) ((lost : Bor (List ℕ)) × (a ≡ WriteFault lost))
       (λ call d. let l = h call d in ((l.0, l.1), l.2)) c
 
   lost_of : (a : Answer) → IsCause words old new a → new.faults ≢ old.faults → (name : List ℕ) → new.last_fault ≡ Some (Writing name)
@@ -236,24 +278,24 @@ module _ (words : List (List ℕ)) (old new : ShelfTells) where
   lost_of Usage c rose name last = absurd (rose (ap (λ (x : ShelfTells). x.faults) c.1))
   lost_of NoMemory (inl same) rose name last = absurd (rose (ap (λ (x : ShelfTells). x.faults) same))
   lost_of NoMemory (inr c) rose name last =
-      lost_call NoMemory name (λ call d. keep_failed call old new NoMemory d rose name last) c
+      lost_call NoMemory name (λ call d. any_failed call old new NoMemory d rose name last) c
   lost_of a c rose name last =
-      lost_call a name (λ call d. keep_failed call old new a d rose name last) c
+      lost_call a name (λ call d. any_failed call old new a d rose name last) c
 
-  module _ (call : Shows) (taken : call_of words ≡ Some call) where
+  module _ (call : Shows) (taken : call_of words ≡ Some (Show call)) where
     kept_of : (a : Answer) → IsCause words old new a → IsKept call old new a
     kept_of Usage c = inr (inr (ap (λ (x : ShelfTells). x.held) c.1))
     kept_of NoMemory (inl same) = inr (inr (ap (λ (x : ShelfTells). x.held) same))
-    kept_of NoMemory (inr c) = what_is_kept call old new NoMemory (called (λ x. IsCauseOf x old new NoMemory) (call_of words) call taken c)
-    kept_of a c = what_is_kept call old new a (called (λ x. IsCauseOf x old new a) (call_of words) call taken c)
+    kept_of NoMemory (inr c) = what_is_kept call old new NoMemory (called (λ x. IsCauseOf x old new NoMemory) (call_of words) (Show call) taken c)
+    kept_of a c = what_is_kept call old new a (called (λ x. IsCauseOf x old new a) (call_of words) (Show call) taken c)
 
     page_of : (a : Answer) → IsCause words old new a → (name : List ℕ) → call.page ≡ Some name → status_of a ≡ 0 → Holds call name old new
     page_of Usage c name asked zero = absurd (omega (arith, zero))
     page_of NoMemory c name asked zero = absurd (omega (arith, zero))
-    page_of a c name asked zero = page_at call old new a (called (λ x. IsCauseOf x old new a) (call_of words) call taken c) name asked zero
+    page_of a c name asked zero = page_at call old new a (called (λ x. IsCauseOf x old new a) (call_of words) (Show call) taken c) name asked zero
 
-    leaves_of : (a : Answer) (status : ℕ) (j k : SinkTells) → IsCause words old new a → Says a status j k → Leaves call status old new
-    leaves_of a status j k cause says = record { text = text; kept = kept; none = none; whole = whole; part = part }
+    page_left : (a : Answer) (status : ℕ) (j k : SinkTells) → IsCause words old new a → Says a status j k → LeavesPage call status old new
+    page_left a status j k cause says = record { text = text; kept = kept; none = none; whole = whole; part = part }
       where
         is_kept : IsKept call old new a
         is_kept = kept_of a cause
@@ -314,9 +356,28 @@ module _ (words : List (List ℕ)) (old new : ShelfTells) where
               ]
             ]
 
-  unheard : (call : Shows) → call_of words ≡ Some call → IsCause words old new NoMemory → IsCauseOf call old new NoMemory
-  unheard call taken (inl same) = (ap (λ (x : ShelfTells). x.held) same, ap (λ (x : ShelfTells). x.faults) same)
+  help_left : (name : List ℕ) → call_of words ≡ Some (Help name) → (a : Answer) → IsCause words old new a → new.held ≡ old.held
+  help_left name taken Usage c = ap (λ (x : ShelfTells). x.held) c.1
+  help_left name taken NoMemory (inl same) = ap (λ (x : ShelfTells). x.held) same
+  help_left name taken NoMemory (inr c) =
+      help_still name old new NoMemory (called (λ x. IsCauseOf x old new NoMemory) (call_of words) (Help name) taken c)
+  help_left name taken a c = help_still name old new a (called (λ x. IsCauseOf x old new a) (call_of words) (Help name) taken c)
+
+  leaves_of : (call : Asked) → call_of words ≡ Some call → (a : Answer) (status : ℕ) (j k : SinkTells) → IsCause words old new a → Says a status j k
+      → Leaves call status old new
+  leaves_of (Help name) taken a status j k cause says = help_left name taken a cause
+  leaves_of (Show call) taken a status j k cause says = page_left call taken a status j k cause says
+
+  unheard : (call : Asked) → call_of words ≡ Some call → IsCause words old new NoMemory → IsCauseOf call old new NoMemory
+  unheard (Help name) taken (inl same) = (ap (λ (x : ShelfTells). x.held) same, ap (λ (x : ShelfTells). x.faults) same)
+  unheard (Show call) taken (inl same) = (ap (λ (x : ShelfTells). x.held) same, ap (λ (x : ShelfTells). x.faults) same)
   unheard call taken (inr c) = called (λ x. IsCauseOf x old new NoMemory) (call_of words) call taken c
+
+  -- the cause of an answer to a call that was taken, other than the usage
+  caused : (call : Asked) → call_of words ≡ Some call → (a : Answer) → IsCause words old new a → IsCauseOf call old new a
+  caused call taken Usage c = absurd (none-some call (sym c.0 ∙ taken))
+  caused call taken NoMemory c = unheard call taken c
+  caused call taken a c = called (λ x. IsCauseOf x old new a) (call_of words) call taken c
 
   pub call_answers : (a : Answer) (status : ℕ) (j k : SinkTells) → IsCause words old new a → Says a status j k → CallAnswers words old new status j k
   call_answers a status j k cause says = record {
@@ -340,23 +401,20 @@ module _ (words : List (List ℕ)) (old new : ShelfTells) where
           )
 
       failed_keep : new.faults ≢ old.faults → (name : List ℕ) → new.last_fault ≡ Some (Writing name)
-          → (status ≡ 8) × IsSomeAnd (call_of words) (λ call. Loses call name old new)
+          → (status ≡ 8) × IsSomeAnd (call_of words) (λ call. HasLost call name old new)
       failed_keep rose name last =
           let lost = lost_of a cause rose name last in
           (lost_status lost.0.0 status j k (subst (λ b. Says b status j k) lost.0.1 says), lost.1)
 
-  pub told_of : (a : Answer) (status : ℕ) (j k : SinkTells) → IsCause words old new a → Says a status j k
-      → IfTold words old.held (λ call files. ToldAnswers call (bytes_at files call.program) (bytes_at files call.file) status j k)
-  told_of a status j k cause says =
-      if_called (call_of words) (λ call. IfSome old.held (λ files. Told call files))
-      (λ call taken. if_told old.held (λ files. Told call files) (λ files told. by call taken files told a cause says))
-    where
-      Told : Shows → Files → Type 0
-      Told call files = ToldAnswers call (bytes_at files call.program) (bytes_at files call.file) status j k
+  told_by : (call : Asked) → call_of words ≡ Some call → (files : Files) → old.held ≡ Some files → (a : Answer) (status : ℕ) (j k : SinkTells)
+      → IsCause words old new a → Says a status j k → ToldAnswers call files status j k
+  told_by (Help name) taken files told a status j k cause says =
+      help_answers name files old told new a status j k (caused (Help name) taken a cause) says
+  told_by (Show call) taken files told a status j k cause says =
+      told_answers call files old told new a status j k (caused (Show call) taken a cause) says
 
-      by : (call : Shows) → call_of words ≡ Some call → (files : Files) → old.held ≡ Some files → (b : Answer) → IsCause words old new b → Says b status j k
-          → ToldAnswers call (bytes_at files call.program) (bytes_at files call.file) status j k
-      by call taken files told Usage c says = absurd (none-some call (sym c.0 ∙ taken))
-      by call taken files told NoMemory c says = told_answers call files old told new NoMemory status j k (unheard call taken c) says
-      by call taken files told b c says =
-          told_answers call files old told new b status j k (called (λ x. IsCauseOf x old new b) (call_of words) call taken c) says
+  pub told_of : (a : Answer) (status : ℕ) (j k : SinkTells) → IsCause words old new a → Says a status j k
+      → IfTold words old.held (λ call files. ToldAnswers call files status j k)
+  told_of a status j k cause says =
+      if_called (call_of words) (λ call. IfSome old.held (λ files. ToldAnswers call files status j k))
+      (λ call taken. if_told old.held (λ files. ToldAnswers call files status j k) (λ files told. told_by call taken files told a status j k cause says))

@@ -4,13 +4,14 @@ use Rattle.std.specs.Option.{IsSome}
 use Rattle.std.specs.Prelude.{◌++◌}
 use Rattle.std.proofs.lemmas.Option.{none-some}
 use Rattle.tc_base.specs.Names.{Name}
-use Rattle.tc_base.specs.Logs.{Log}
-use Rattle.tc_base.specs.declared.model.Model.{Model}
+use Rattle.run_log.specs.Logs.{Log}
+use Rattle.memory_models.specs.declared.model.Model.{Model}
 use Rattle.tc_base.specs.declared.moves.Move.{Move}
 use Rattle.tc_code.specs.Code.{Code}
 use Rattle.tc_compile.specs.Programs.{IsCodeOf}
 use Rattle.tc_compile.proofs.OnePrograms.{one_code, one_refusal, refused_no_code}
-use Rattle.path_log.specs.Texts.{StoredLog, IsOfOther, head_text, log_text}
+use Rattle.run_log.specs.Logs.{StoredLog}
+use Rattle.path_log.specs.Texts.{IsOfOther, head_text, log_text}
 use Rattle.path_log.proofs.Logs.{log_or_fault, one_fault, one_log}
 use Rattle.path_walk.specs.Fits.{Fits, IsFirst}
 use Rattle.path_walk.proofs.Faults.{one_first}
@@ -18,9 +19,10 @@ use Rattle.path_walk.specs.declared.fault.Misfit.{Misfit}
 use Rattle.schedule_file.specs.Schedules.{schedule_text}
 use Rattle.schedule_file.proofs.Schedules as schedules
 use Rattle.tc_io.specs.Outside.{SinkTells}
+use Rattle.clap_debug_show_cli.specs.Answers.{refused_line}
 use Rattle.clap_debug_show_cli.specs.Call.{Puts}
 use Rattle.clap_debug_show_cli.specs.Calls.{Shows}
-use Rattle.clap_debug_show_cli.specs.Causes.{IsThreadsRefusal, IsStoredRefusal, IsFormRefusal, IsLogRefusal, IsFileRefusal, IsAnswerTo, IsAnswerOf}
+use Rattle.clap_debug_show_cli.specs.Causes.{IsThreadsRefusal, IsStoredRefusal, IsFormRefusal, IsLogRefusal, IsFileRefusal, IsAnswerTo, IsAnswerOf, IsHelpOf, IsHelpTo}
 use Rattle.clap_debug_show_cli.specs.Limits.{limit_of}
 use Rattle.clap_debug_show_cli.specs.Shown.{IsShown, IsStory, begins_as_log}
 use Rattle.clap_debug_show_cli.specs.declared.limits.What.TheVariants.{ProgramBytes, LogBytes, ScheduleBytes, Threads}
@@ -28,7 +30,7 @@ use Rattle.clap_debug_show_cli.specs.declared.shown.Shown.{Shown as AnyShown}
 use Rattle.clap_debug_show_cli.specs.declared.shown.Story.{Story}
 use Rattle.clap_debug_show_cli.specs.declared.shown.Story.TheVariants.{Moves, Ways}
 use Rattle.clap_debug_show_cli.specs.declared.answer.Answer.{Answer}
-use Rattle.clap_debug_show_cli.specs.declared.answer.Answer.TheVariants.{Over, ProgramRefused, LogBroken, OtherProgram, Unfit, ScheduleRefused, Shown, PageKept}
+use Rattle.clap_debug_show_cli.specs.declared.answer.Answer.TheVariants.{Over, ProgramRefused, LogBroken, OtherProgram, Unfit, ScheduleRefused, Shown, PageKept, Explained, Described}
 
 module _ (code : Code) (log : Log) where
   one_unfit : (n q : Name) (m k : Misfit) → IsFirst code log n m → IsFirst code log q k → Unfit n m ≡ Unfit q k
@@ -167,3 +169,24 @@ module _ (call : Shows) (program file : List ℕ) where
   one_answer a (Shown y) f g = absurd (answer_or_shown program file y a tt g.2 f.1)
   one_answer a PageKept f g = absurd (answer_or_shown program file g.2 a tt g.3 f.1)
   one_answer a b f g = alike a b (one_answer_to program file a b tt tt f.1 g.1)
+
+module _ (program : List ℕ) where
+  one_help_to : (a b : Answer) → IsHelpTo program a → IsHelpTo program b → Alike a b
+  one_help_to (Explained why) (Explained other) f g = λ status old new puts. (
+    puts.0,
+    (puts.1.0, puts.1.1 ∙ ap (λ r. refused_line r ++ puts.1.0) (one_refusal program other.fault why.fault g.0 f.0)),
+    puts.2,
+    puts.3,
+  )
+  one_help_to (Described has) (Described other) f g = λ status old new puts. puts
+  one_help_to (Explained why) (Described has) f g = absurd (refused_no_code program why.fault has.code f.0 g)
+  one_help_to (Described has) (Explained why) f g = absurd (refused_no_code program why.fault has.code g.0 f)
+  one_help_to (Explained why) _ f g = absurd g
+  one_help_to (Described has) _ f g = absurd g
+  one_help_to _ b f g = absurd f
+
+  pub one_help : (a b : Answer) → IsHelpOf program a → IsHelpOf program b → Alike a b
+  one_help (Over ProgramBytes n) (Over ProgramBytes m) f g = alike (Over ProgramBytes n) (Over ProgramBytes m) (ap (λ x. Over ProgramBytes x) (f.0 ∙ sym g.0))
+  one_help (Over ProgramBytes n) _ f g = absurd (omega (arith, f.1, g.0))
+  one_help _ (Over ProgramBytes m) f g = absurd (omega (arith, g.1, f.0))
+  one_help a b f g = one_help_to a b f.1 g.1

@@ -1,9 +1,9 @@
 -- What a call of the program answers, over what the shelf and the sink tell before and after it.
 use Rattle.std.specs.Prelude.{◌≡◌, ◌≢◌, ◌⊎◌, ℕ, List, Option, Some, None, IfSome, IsSomeAnd}
-use Rattle.tc_io.specs.Outside.{Files, ShelfTells, SinkTells, Writing, KeptPart, Wrote, put_under}
+use Rattle.tc_io.specs.Outside.{Files, ShelfTells, SinkTells, Writing, KeptPart, Wrote, bytes_at, put_under}
 use Rattle.clap_debug_show_cli.specs.Answers.{IsTextOf, Says, status_of}
-use Rattle.clap_debug_show_cli.specs.Calls.{Shows, call_of}
-use Rattle.clap_debug_show_cli.specs.Causes.{HasPage, IsAnswerOf, IsCause}
+use Rattle.clap_debug_show_cli.specs.Calls.{Asked, Help, Show, Shows, call_of}
+use Rattle.clap_debug_show_cli.specs.Causes.{HasPage, IsAnswerOf, IsCause, IsHelpOf}
 use Rattle.clap_debug_show_cli.specs.declared.answer.Answer.{Answer}
 
 -- the answer's text was put, with its status
@@ -22,8 +22,8 @@ Holds call name old new = HasPage call old name (λ s page. new.held ≡ put_und
 abbrev pub Loses : Shows → (name : List ℕ) → ShelfTells → ShelfTells → Type 0
 Loses call name old new = HasPage call old name (λ s page. KeptPart s new name page)
 
--- what a call leaves on the shelf, by status
-pub record Leaves (call : Shows) (status : ℕ) (old new : ShelfTells) : Type 0 where
+-- what a call that shows a file leaves on the shelf, by status
+pub record LeavesPage (call : Shows) (status : ℕ) (old new : ShelfTells) : Type 0 where
   -- without a page what was there
   pub text : call.page ≡ None → new.held ≡ old.held
   pub kept : (name : List ℕ) → call.page ≡ Some name → status ≡ 0 → Holds call name old new
@@ -31,6 +31,16 @@ pub record Leaves (call : Shows) (status : ℕ) (old new : ShelfTells) : Type 0 
   -- without memory, and after a put that failed, the page stands there whole or nothing was kept
   pub whole : (name : List ℕ) → call.page ≡ Some name → status ≡ 9 → (new.held ≡ old.held) ⊎ Holds call name old new
   pub part : (name : List ℕ) → call.page ≡ Some name → status ≡ 8 → (new.held ≡ old.held) ⊎ Holds call name old new ⊎ Loses call name old new
+
+-- what a call leaves on the shelf, by status; help keeps nothing
+abbrev pub Leaves : Asked → (status : ℕ) → ShelfTells → ShelfTells → Type 0
+Leaves (Help name) status old new = new.held ≡ old.held
+Leaves (Show call) status old new = LeavesPage call status old new
+
+-- the keep of the page under this name failed
+abbrev pub HasLost : Asked → (name : List ℕ) → ShelfTells → ShelfTells → Type 0
+HasLost (Help _) name old new = ⊥
+HasLost (Show call) name old new = Loses call name old new
 
 -- the answers of every call
 pub record CallAnswers (words : List (List ℕ)) (old new : ShelfTells) (status : ℕ) (before after : SinkTells) : Type 0 where
@@ -40,17 +50,23 @@ pub record CallAnswers (words : List (List ℕ)) (old new : ShelfTells) (status 
   pub only_usage : call_of words ≡ None → (new ≡ old) × ((status ≡ 2) ⊎ (status ≡ 8) ⊎ (status ≡ 9))
   -- where a keep failed the status is 8 whatever follows
   pub failed_keep : new.faults ≢ old.faults → (name : List ℕ) → new.last_fault ≡ Some (Writing name)
-      → (status ≡ 8) × IsSomeAnd (call_of words) (λ call. Loses call name old new)
+      → (status ≡ 8) × IsSomeAnd (call_of words) (λ call. HasLost call name old new)
   -- no name of the shelf changes but that of the page
   pub leaves : IfSome (call_of words) (λ call. Leaves call status old new)
 
 -- a fact about a call and the files, where the words are taken and the shelf tells what it holds
-abbrev pub IfTold : List (List ℕ) → Option Files → (Shows → Files → Type 0) → Type 0
+abbrev pub IfTold : List (List ℕ) → Option Files → (Asked → Files → Type 0) → Type 0
 IfTold words held P = IfSome (call_of words) (λ call. IfSome held (λ files. P call files))
 
--- the answers to two files that the shelf tells of
-pub record ToldAnswers (call : Shows) (program file : List ℕ) (status : ℕ) (before after : SinkTells) : Type 0 where
+-- what was put is the answer to what files hold that the shelf tells of
+pub record PutsAnswer (IsAnswer : Answer → Type 0) (status : ℕ) (before after : SinkTells) : Type 0 where
   -- but for devices and memory, what was put is an answer to what they hold
-  pub answer : (IsFaultStatus status → ⊥) → (a : Answer) × IsAnswerOf call program file a × Puts a status before after
+  pub answer : (IsFaultStatus status → ⊥) → (a : Answer) × IsAnswer a × Puts a status before after
   -- and each answer to what they hold is what was put
-  pub exactly : (a : Answer) → IsAnswerOf call program file a → Puts a status before after ⊎ IsFaultStatus status
+  pub exactly : (a : Answer) → IsAnswer a → Puts a status before after ⊎ IsFaultStatus status
+
+-- the answers to the files of a call
+abbrev pub ToldAnswers : Asked → Files → (status : ℕ) → (before after : SinkTells) → Type 0
+ToldAnswers (Help name) files status before after = PutsAnswer (IsHelpOf (bytes_at files name)) status before after
+ToldAnswers (Show call) files status before after =
+    PutsAnswer (IsAnswerOf call (bytes_at files call.program) (bytes_at files call.file)) status before after

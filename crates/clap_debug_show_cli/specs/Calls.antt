@@ -1,28 +1,48 @@
 -- What words ask for.
-use Rattle.std.specs.Prelude.{Bool, true, List, [], ◌∷◌, Option, Some, None, codes, unwrap_or, if◌then◌else◌, option_map}
+use Rattle.std.specs.Prelude.{Bool, true, false, List, [], ◌∷◌, Option, Some, None, codes, bytes_eq, unwrap_or, if◌then◌else◌, option_map}
+use Rattle.std.specs.Option.{option_map_or}
+use Rattle.std.specs.Borrow.{Bor}
 use Rattle.clap.specs.Words.{App, Row, Rule, Text, fault_of, first_of, matches_of, new_app, new_rule}
 use Rattle.clap.specs.Simple.{new_shape}
 use Rattle.clap.specs.Walk.{is_empty}
+use Rattle.clap.specs.declared.builder.action.ArgAction.TheVariants.{SetTrue}
 use Rattle.clap_debug_show_cli.specs.declared.words.Call.{Call}
+use Rattle.clap_debug_show_cli.specs.declared.words.Call.TheVariants as call
+use Rattle.clap_debug_show_cli.specs.declared.words.Showing.{Showing}
 
--- to show this file of a program, as a page that is kept under a name, or as text
+-- to show this file of a program, as a page that is kept under a name, or as text, move by move or statement by statement
 pub record Shows : Type 0 where
   pub program : Text
   pub file : Text
   pub page : Option Text
+  pub moves : Bool
+
+-- what is asked for: to say what is wrong with a program or what it has, or to show a file of it
+pub data Asked : Type 0 where
+  Help : (program : Text) → Asked
+  Show : (call : Shows) → Asked
 
 -- a required positional
 abbrev pub positional : Text → Rule
 positional name = record (new_rule name) { required = true }
 
--- `PROGRAM FILE [--html OUT]`
+-- an option with a value
+abbrev pub option : Text → Rule
+option name = record (new_rule name) { long = Some name }
+
+-- an option without one
+abbrev pub flag : Text → Rule
+flag name = record (option name) { action = Some SetTrue }
+
+-- `PROGRAM [FILE] [--html OUT] [--moves]`
 abbrev pub command_line : App
 command_line = record (new_app (codes "clap_debug_show")) {
   top = record (new_shape (codes "clap_debug_show")) {
     disable_help_flag = true;
     rules = positional (codes "program")
-        ∷ positional (codes "file")
-        ∷ record (new_rule (codes "html")) { long = Some (codes "html") }
+        ∷ new_rule (codes "file")
+        ∷ option (codes "html")
+        ∷ flag (codes "moves")
         ∷ [];
   };
 }
@@ -35,14 +55,36 @@ words_taken words = is_empty (fault_of command_line words)
 abbrev pub text_of : Text → List Row → Text
 text_of id rows = unwrap_or (first_of id rows) []
 
+-- whether a flag's value is that of one that is given
+abbrev pub is_true : Option Text → Bool
+is_true word = option_map_or (λ t. bytes_eq t (codes "true")) word false
+
+-- whether a flag is given
+abbrev pub is_given : Text → List Row → Bool
+is_given id rows = is_true (first_of id rows)
+
+-- with a file that is shown, and else help with the program, which takes no option
+abbrev pub asked : (program : Text) → (file page : Option Text) → (moves : Bool) → Option Asked
+asked program (Some file) page moves = Some (Show (record { program = program; file = file; page = page; moves = moves }))
+asked program None None false = Some (Help program)
+asked program None _ _ = None
+
 -- what matches say
-abbrev pub call_in : List Row → Shows
-call_in rows = record { program = text_of (codes "program") rows; file = text_of (codes "file") rows; page = first_of (codes "html") rows }
+abbrev pub call_in : List Row → Option Asked
+call_in rows = asked (text_of (codes "program") rows) (first_of (codes "file") rows) (first_of (codes "html") rows) (is_given (codes "moves") rows)
 
 -- what the words ask for, where they are taken
-abbrev pub call_of : List Text → Option Shows
-call_of words = if words_taken words then Some (call_in (matches_of command_line words)) else None
+abbrev pub call_of : List Text → Option Asked
+call_of words = if words_taken words then call_in (matches_of command_line words) else None
+
+-- a text, if there is one
+abbrev pub plain_text : Option (Bor Text) → Option Text
+plain_text text = option_map (λ s. s.now) text
+
+abbrev pub plain_showing : Showing → Shows
+plain_showing s = record { program = s.program.now; file = s.file.now; page = plain_text s.page; moves = s.moves }
 
 -- a call as plain data
-abbrev pub plain_call : Call → Shows
-plain_call call = record { program = call.program.now; file = call.file.now; page = option_map (λ s. s.now) call.page }
+abbrev pub plain_call : Call → Asked
+plain_call (call.Help program) = Help program.now
+plain_call (call.Show showing) = Show (plain_showing showing)

@@ -1,16 +1,19 @@
 -- Why an answer is given: what the words are, what the shelf did, and what the bytes that it gave say.
 use Rattle.std.specs.Prelude.{◌≡◌, ◌⊎◌, ℕ, ◌+◌, ◌<◌, ◌≤◌, true, false, List, length, Some, None, IsSome, IsSomeAnd}
-use Rattle.tc_base.specs.Logs.{Log}
+use Rattle.run_log.specs.Logs.{Log}
 use Rattle.tc_code.specs.Code.{Code}
 use Rattle.tc_compile.specs.Programs.{IsCodeOf, IsRefusal}
 use Rattle.tc_io.specs.Outside.{ShelfTells, FailedToGive, Gave, Kept, KeptPart, WasTooLong}
 use Rattle.path_log.specs.Faults.{BreaksAt as LogBreaksAt}
-use Rattle.path_log.specs.Texts.{StoredLog, IsLog, IsOfOther}
+use Rattle.run_log.specs.Logs.{StoredLog}
+use Rattle.path_log.specs.Texts.{IsLog, IsOfOther}
 use Rattle.path_walk.specs.Fits.{IsFirst}
 use Rattle.schedule_file.specs.Faults.{BreaksAt as ScheduleBreaksAt}
-use Rattle.clap_debug_show_cli.specs.Calls.{Shows, call_of}
+use Rattle.next_tokens.specs.Texts.{Tells}
+use Rattle.clap_debug_show_cli.specs.Calls.{Asked, Help, Show, Shows, call_of}
 use Rattle.clap_debug_show_cli.specs.Limits.{limit_of}
 use Rattle.clap_debug_show_cli.specs.Shown.{IsShown, begins_as_log}
+use Rattle.clap_debug_show_cli.specs.declared.help.Explained.{Explained as Why}
 use Rattle.clap_debug_show_cli.specs.declared.shown.Shown.{Shown as AnyShown}
 use Rattle.clap_debug_show_cli.specs.declared.limits.What.TheVariants.{ProgramBytes, LogBytes, ScheduleBytes, Threads}
 use Rattle.clap_debug_show_cli.specs.declared.answer.Answer.{Answer}
@@ -25,6 +28,8 @@ use Rattle.clap_debug_show_cli.specs.declared.answer.Answer.TheVariants.{
   ScheduleRefused,
   Shown,
   PageKept,
+  Explained,
+  Described,
   WriteFault,
   NoMemory,
 }
@@ -89,21 +94,48 @@ abbrev pub HasPage : Shows → ShelfTells → (name : List ℕ) → (ShelfTells 
 HasPage call old name P = (call.page ≡ Some name) × (s : ShelfTells) × (program file : List ℕ) × GaveBoth call old s program file
     × (shown : AnyShown) × IsShown program file shown × (page : List ℕ) × P s page
 
--- why an answer is given to a call
-abbrev pub IsCauseOf : Shows → ShelfTells → ShelfTells → Answer → Type 0
-IsCauseOf call old new (ReadFault name) = ((name.now ≡ call.program) × FailedToGive old new call.program (limit_of ProgramBytes))
+-- why an answer is given to a call that shows a file
+abbrev pub IsShowCause : Shows → ShelfTells → ShelfTells → Answer → Type 0
+IsShowCause call old new (ReadFault name) = ((name.now ≡ call.program) × FailedToGive old new call.program (limit_of ProgramBytes))
     ⊎ GoesOn call old (λ s. (name.now ≡ call.file) × FailedToGive s new call.file (limit_of ScheduleBytes))
-IsCauseOf call old new (Over ProgramBytes number) = (number ≡ limit_of ProgramBytes + 1) × WasTooLong old new call.program (limit_of ProgramBytes)
-IsCauseOf call old new (Over ScheduleBytes number) =
+IsShowCause call old new (Over ProgramBytes number) = (number ≡ limit_of ProgramBytes + 1) × WasTooLong old new call.program (limit_of ProgramBytes)
+IsShowCause call old new (Over ScheduleBytes number) =
     (number ≡ limit_of ScheduleBytes + 1) × GoesOn call old (λ s. WasTooLong s new call.file (limit_of ScheduleBytes))
-IsCauseOf call old new PageKept = (name : List ℕ) × HasPage call old name (λ s page. Kept s new name page)
-IsCauseOf call old new (WriteFault name) = HasPage call old name.now (λ s page. KeptPart s new name.now page)
+IsShowCause call old new PageKept = (name : List ℕ) × HasPage call old name (λ s page. Kept s new name page)
+IsShowCause call old new (WriteFault name) = HasPage call old name.now (λ s page. KeptPart s new name.now page)
 -- nothing was kept, and no fault was counted
-IsCauseOf call old new NoMemory = (new.held ≡ old.held) × (new.faults ≡ old.faults)
-IsCauseOf call old new Usage = ⊥
-IsCauseOf call old new (Shown shown) =
+IsShowCause call old new NoMemory = (new.held ≡ old.held) × (new.faults ≡ old.faults)
+IsShowCause call old new Usage = ⊥
+IsShowCause call old new (Shown shown) =
     (call.page ≡ None) × (program file : List ℕ) × GaveBoth call old new program file × IsAnswerTo program file (Shown shown)
-IsCauseOf call old new a = (program file : List ℕ) × GaveBoth call old new program file × IsAnswerTo program file a
+IsShowCause call old new a = (program file : List ℕ) × GaveBoth call old new program file × IsAnswerTo program file a
+
+-- why a text is no program, and what could stand where it stops being one
+abbrev pub IsExplained : (program : List ℕ) → Why → Type 0
+IsExplained program why = IsRefusal program why.fault × Tells program why.fault why.stuck
+
+-- what is said of a text: why it is no program, or what the program has
+abbrev pub IsHelpTo : (program : List ℕ) → Answer → Type 0
+IsHelpTo program (Explained why) = IsExplained program why
+IsHelpTo program (Described has) = IsCodeOf program has.code
+IsHelpTo program _ = ⊥
+
+-- the answer to a call for help with a file that holds this
+abbrev pub IsHelpOf : (program : List ℕ) → Answer → Type 0
+IsHelpOf program (Over ProgramBytes number) = (number ≡ limit_of ProgramBytes + 1) × (limit_of ProgramBytes < length program)
+IsHelpOf program a = (length program ≤ limit_of ProgramBytes) × IsHelpTo program a
+
+-- why an answer is given to a call for help with the file of this name
+abbrev pub IsHelpCause : (name : List ℕ) → ShelfTells → ShelfTells → Answer → Type 0
+IsHelpCause name old new (ReadFault failed) = (failed.now ≡ name) × FailedToGive old new name (limit_of ProgramBytes)
+IsHelpCause name old new (Over ProgramBytes number) = (number ≡ limit_of ProgramBytes + 1) × WasTooLong old new name (limit_of ProgramBytes)
+IsHelpCause name old new NoMemory = (new.held ≡ old.held) × (new.faults ≡ old.faults)
+IsHelpCause name old new a = (program : List ℕ) × Gave old new name (limit_of ProgramBytes) program × IsHelpTo program a
+
+-- why an answer is given to a call
+abbrev pub IsCauseOf : Asked → ShelfTells → ShelfTells → Answer → Type 0
+IsCauseOf (Help name) old new a = IsHelpCause name old new a
+IsCauseOf (Show call) old new a = IsShowCause call old new a
 
 -- why an answer is given to words
 abbrev pub IsCause : List (List ℕ) → ShelfTells → ShelfTells → Answer → Type 0

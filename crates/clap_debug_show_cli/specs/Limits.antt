@@ -1,6 +1,6 @@
 -- What there may be only so many of.
 use Rattle.std.specs.Prelude.{ℕ}
-use Rattle.tc_base.specs.declared.limits.TheConstants as limits
+use Rattle.tc_limits.specs.declared.limits.TheConstants as limits
 use Rattle.clap_debug_show_cli.specs.declared.limits.What.{What}
 use Rattle.clap_debug_show_cli.specs.declared.limits.What.TheVariants.{ProgramBytes, LogBytes, ScheduleBytes, Threads}
 

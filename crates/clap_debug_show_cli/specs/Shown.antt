@@ -1,10 +1,11 @@
 -- What a file shows of a program.
 use Rattle.std.specs.Prelude.{◌≡◌, ◌≤◌, ℕ, Bool, List, length, codes, nat_eq}
 use Rattle.std.specs.List.{starts_with}
-use Rattle.tc_base.specs.Buffers.{buffer_of}
+use Rattle.store_buffers.specs.Buffers.{buffer_of}
 use Rattle.tc_code.specs.Code.{Code}
 use Rattle.tc_compile.specs.Programs.{IsCodeOf}
-use Rattle.path_log.specs.Texts.{StoredLog, IsLog, IsOfOther}
+use Rattle.run_log.specs.Logs.{StoredLog}
+use Rattle.path_log.specs.Texts.{IsLog, IsOfOther}
 use Rattle.path_walk.specs.Fits.{Fits}
 use Rattle.path_walk.specs.Paths.{paths_of}
 use Rattle.schedule_file.specs.Schedules.{schedule_text}

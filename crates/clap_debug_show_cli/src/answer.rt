@@ -1,7 +1,8 @@
 //! Answers: what they are, and the text and the status of each.
-ghost use Rattle.std.specs.Prelude.{◌≡◌, IfOk, string_bytes};
-ghost use Rattle.clap_debug_show_cli.specs.Answers.{IsTextOf, line_of, over_line, status_of, usage_text};
+ghost use Rattle.std.specs.Prelude.{◌≡◌, ◌++◌, ℕ, List, IfOk, string_bytes};
+ghost use Rattle.clap_debug_show_cli.specs.Answers.{IsTextOf, line_of, over_line, refused_line, status_of, usage_text};
 
+use crate::help::{Described, Explained};
 use crate::limits::What;
 use crate::shown::Shown;
 use path_log::LogFault;
@@ -32,9 +33,13 @@ pub(crate) enum Answer<'a> {
     /// The second file is no schedule, from the line of this number on.
     ScheduleRefused(u32),
     /// This is to be shown as text.
-    Shown(Shown),
+    Shown(Shown<'a>),
     /// The page is kept.
     PageKept,
+    /// Why the text is no program.
+    Explained(Explained),
+    /// What the program has.
+    Described(Described),
     /// The page couldn't be kept under this name.
     WriteFault(&'a str),
     /// There is no memory.
@@ -109,8 +114,9 @@ impl<'a> From<ScheduleFault> for Answer<'a> {
 }
 
 const USAGE: &str = concat!(
-    "usage: clap_debug_show PROGRAM SCHEDULE [--html OUT]\n",
+    "usage: clap_debug_show PROGRAM SCHEDULE [--moves] [--html OUT]\n",
     "usage: clap_debug_show PROGRAM LOG [--html OUT]\n",
+    "usage: clap_debug_show PROGRAM\n",
 );
 
 impl<'a> Answer<'a> {
@@ -120,6 +126,8 @@ impl<'a> Answer<'a> {
     {
         match self {
             Answer::Shown(shown) => Ok(shown.text(alloc)?.into_bytes()),
+            Answer::Described(has) => has.words.as_bytes().to_vec(alloc),
+            Answer::Explained(why) => explained_text(alloc, why),
             _ => Ok(self.line(alloc)?.into_bytes()),
         }
     }
@@ -132,12 +140,13 @@ impl<'a> Answer<'a> {
             Answer::Usage => usage(alloc),
             Answer::ReadFault(name) => format!(in alloc; "read fault: {name}\n"),
             Answer::Over(what, number) => over_line(alloc, *what, *number),
-            Answer::ProgramRefused(fault) => format!(in alloc; "program refused: {fault}\n"),
+            Answer::ProgramRefused(fault) => refused_line(alloc, fault),
+            Answer::Explained(why) => refused_line(alloc, &why.fault),
             Answer::LogBroken(offset) => format!(in alloc; "log refused: form at {offset}\n"),
             Answer::OtherProgram => String::from_str(alloc, "log refused: other program\n"),
             Answer::Unfit(name, misfit) => format!(in alloc; "log refused: {misfit} {name}\n"),
             Answer::ScheduleRefused(line) => format!(in alloc; "schedule refused: line {line}\n"),
-            Answer::Shown(_) => Ok(String::new(alloc)),
+            Answer::Shown(_) | Answer::Described(_) => Ok(String::new(alloc)),
             Answer::PageKept => String::from_str(alloc, "page kept\n"),
             Answer::WriteFault(name) => format!(in alloc; "write fault: {name}\n"),
             Answer::NoMemory => String::from_str(alloc, "no memory\n"),
@@ -149,9 +158,9 @@ impl<'a> Answer<'a> {
         ensures { result ≡ status_of self.now }
     {
         match self {
-            Answer::Shown(_) | Answer::PageKept => 0,
+            Answer::Shown(_) | Answer::PageKept | Answer::Described(_) => 0,
             Answer::Usage => 2,
-            Answer::ProgramRefused(_) => 3,
+            Answer::ProgramRefused(_) | Answer::Explained(_) => 3,
             Answer::LogBroken(_) | Answer::OtherProgram | Answer::Unfit(_, _) => 4,
             Answer::ScheduleRefused(_) => 5,
             Answer::Over(_, _) => 6,
@@ -160,6 +169,21 @@ impl<'a> Answer<'a> {
             Answer::NoMemory => 9,
         }
     }
+}
+
+/// Why a text is no program: the line that says it, and what is said of it.
+fn explained_text(alloc: Global, why: &Explained) -> Result<Vec<u8>, AllocError>
+    ensures { IfOk result (λ text. (more : List ℕ) × (text.items ≡ refused_line why.now.fault ++ more)) }
+{
+    let mut text = refused_line(alloc, &why.fault)?.into_bytes();
+    text.extend_from_slice(why.words.as_bytes())?;
+    Ok(text)
+}
+
+fn refused_line(alloc: Global, fault: &TextFault) -> Result<String, AllocError>
+    ensures { IfOk result (λ text. string_bytes text ≡ refused_line fault.now) }
+{
+    format!(in alloc; "program refused: {fault}\n")
 }
 
 fn usage(alloc: Global) -> Result<String, AllocError>

@@ -3,32 +3,33 @@
 #![tactic(auto)]
 
 ghost use Rattle.std.specs.Prelude.{map, string_bytes};
-ghost use Rattle.tc_io.specs.Outside.{bytes_at};
-ghost use Rattle.clap_debug_show_cli.specs.Calls.{plain_call};
+ghost use Rattle.clap_debug_show_cli.specs.Calls.{plain_call, plain_showing};
 ghost use Rattle.clap_debug_show_cli.specs.Call.{CallAnswers, IfTold, ToldAnswers};
-ghost use Rattle.clap_debug_show_cli.specs.Causes.{IsCause, IsCauseOf};
+ghost use Rattle.clap_debug_show_cli.specs.Causes.{IsCause, IsCauseOf, IsHelpCause, IsShowCause};
 ghost use Rattle.clap_debug_show_cli.specs.Answers.{Says, SaysNoMore};
 ghost use Rattle.clap_debug_show_cli.specs.helpers.Refused.{IsEither};
 
 mod answer;
 mod files;
+mod help;
 mod limits;
 mod shown;
 mod words;
 
 use answer::Answer;
 use files::{fetch, keep};
+use help::help_with;
 use limits::What;
 use shown::read_shown;
 use std::alloc::Global;
 use tc_io::{PutFault, Shelf, Sink};
-use words::{Call, call_of};
+use words::{Call, Showing, call_of};
 
-/// Shows the schedule or the log that the words name, over the files of the shelf: puts a text into the sink, or keeps a page,
-/// and gives the status that the program ends with.
+/// Shows the schedule or the log that the words name, or helps with the program that they name alone, over the files of the
+/// shelf: puts a text into the sink, or keeps a page, and gives the status that the program ends with.
 ///
-/// The first of the words is the program's own name. What is shown is told by [`show_rows::tell`] and [`path_walk::walk`]; how it
-/// is put in words no clause says.
+/// The first of the words is the program's own name. [`show_rows::tell`] and [`path_walk::walk`] say what is shown, and
+/// [`next_tokens::stuck_of`] what could stand where a text stops being a program; no clause says how it is put in words.
 pub fn clap_debug_show<H: Shelf, K: Sink>(
     alloc: Global,
     words: &[String],
@@ -37,7 +38,7 @@ pub fn clap_debug_show<H: Shelf, K: Sink>(
 ) -> u8
     ensures call { CallAnswers (map string_bytes words.now) (H.tells shelf.old) (H.tells shelf.new) result (K.tells sink.old) (K.tells sink.new) }
     ensures told { IfTold (map string_bytes words.now) (H.tells shelf.old).held
-        (λ call files. ToldAnswers call (bytes_at files call.program) (bytes_at files call.file) result (K.tells sink.old) (K.tells sink.new)) }
+        (λ call files. ToldAnswers call files result (K.tells sink.old) (K.tells sink.new)) }
 {
     let answer = answered(alloc, words, shelf);
     say(alloc, &answer, sink)
@@ -58,7 +59,7 @@ fn answered<'a, H: Shelf>(alloc: Global, words: &'a [String], shelf: &mut H) -> 
     }
 }
 
-/// What is answered to a call: what the file shows, or that its page is kept.
+/// What is answered to a call.
 fn answer_to<'a, H: Shelf>(
     alloc: Global,
     shelf: &mut H,
@@ -66,13 +67,39 @@ fn answer_to<'a, H: Shelf>(
 ) -> Result<Answer<'a>, Answer<'a>>
     ensures { IsEither result (IsCauseOf (plain_call call.entry) (H.tells shelf.old) (H.tells shelf.new)) }
 {
+    match call {
+        Call::Help(program) => answer_help(alloc, shelf, program),
+        Call::Show(showing) => answer_show(alloc, shelf, showing),
+    }
+}
+
+/// What is answered to a call for help with the program of this name.
+fn answer_help<'a, H: Shelf>(
+    alloc: Global,
+    shelf: &mut H,
+    name: &'a str,
+) -> Result<Answer<'a>, Answer<'a>>
+    ensures { IsEither result (IsHelpCause name.now (H.tells shelf.old) (H.tells shelf.new)) }
+{
+    let text = fetch(alloc, shelf, What::ProgramBytes, name)?;
+    Ok(help_with(alloc, &text))
+}
+
+/// What is answered to a call that shows a file: what it shows, or that its page is kept.
+fn answer_show<'a, H: Shelf>(
+    alloc: Global,
+    shelf: &mut H,
+    call: Showing<'a>,
+) -> Result<Answer<'a>, Answer<'a>>
+    ensures { IsEither result (IsShowCause (plain_showing call.entry) (H.tells shelf.old) (H.tells shelf.new)) }
+{
     let program = fetch(alloc, shelf, What::ProgramBytes, call.program)?;
     let file = fetch(alloc, shelf, What::ScheduleBytes, call.file)?;
-    let shown = read_shown(alloc, &program, &file)?;
+    let shown = read_shown(alloc, call, &program, &file)?;
     let Some(name) = call.page else {
         return Ok(Answer::Shown(shown));
     };
-    let page = shown.page(alloc, call.program)?;
+    let page = shown.page(alloc)?;
     keep(alloc, shelf, name, page.as_bytes())?;
     Ok(Answer::PageKept)
 }

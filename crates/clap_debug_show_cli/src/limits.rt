@@ -3,7 +3,7 @@ ghost use Rattle.std.specs.Prelude.{◌≡◌};
 ghost use Rattle.clap_debug_show_cli.specs.Answers.{what_text};
 ghost use Rattle.clap_debug_show_cli.specs.Limits.{limit_of};
 
-use tc_base::limits::{LOG_BYTES, PROGRAM_BYTES, SCHEDULE_BYTES, THREADS};
+use tc_limits::limits::{LOG_BYTES, PROGRAM_BYTES, SCHEDULE_BYTES, THREADS};
 
 /// What there may be only so many of.
 #[derive(Clone, Copy)]

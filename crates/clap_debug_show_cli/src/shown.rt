@@ -1,6 +1,6 @@
 //! What a file shows: the moves of a schedule, or the ways of a log's threads.
 ghost use Rattle.std.specs.Prelude.{◌≡◌, ◌<◌, ◌≤◌, ℕ, List, true, false, length, IfErr, IfOk, OnOk};
-ghost use Rattle.tc_base.specs.declared.limits.TheConstants.{PROGRAM_BYTES};
+ghost use Rattle.tc_limits.specs.declared.limits.TheConstants.{PROGRAM_BYTES};
 ghost use Rattle.path_log.specs.Texts.{IsOfOther};
 ghost use Rattle.tc_compile.specs.Programs.{IsCodeOf, IsWhyNoCode};
 ghost use Rattle.clap_debug_show_cli.specs.Limits.{limit_of};
@@ -9,22 +9,23 @@ ghost use Rattle.clap_debug_show_cli.specs.declared.answer.Answer.TheVariants.{O
 ghost use Rattle.clap_debug_show_cli.specs.helpers.Refused.{IsWhyNoStory, IsWhyNotShown};
 
 use crate::answer::Answer;
+use crate::help::read_code;
 use crate::limits::What;
-use path_log::{Log, read_log};
+use crate::words::Showing;
+use memory_models::Model;
+use path_log::{is_of_other, read_log};
 use path_walk::{Paths, walk};
+use run_log::Log;
 use schedule_file::{Schedule, read_schedule};
 use show_names::Names;
 use show_page::{log_page, schedule_page};
 use show_rows::{Told, tell};
-use show_text::{log_text, schedule_text};
+use show_text::{Detail, log_text, schedule_text};
 use show_words::Program;
 use std::alloc::{AllocError, Global};
 use store_buffers::{PsoModel, Sc, TsoModel};
-use tc_base::Model;
 use tc_code::Code;
 use tc_compile::CompileFault;
-use tc_lower::lower;
-use tc_parser::read;
 
 /// What a file tells of the code.
 #[derive(Drop)]
@@ -35,26 +36,40 @@ pub(crate) enum Story {
     Ways(Log, Paths),
 }
 
-/// What a file shows of a program.
+/// What the rows of a call are.
+fn detail_of(call: Showing<'_>) -> Detail {
+    if call.moves {
+        Detail::Moves
+    } else {
+        Detail::Statements
+    }
+}
+
+/// What the file of a call shows of the program.
 #[derive(Drop)]
-pub(crate) struct Shown {
+pub(crate) struct Shown<'a> {
+    call: Showing<'a>,
     code: Code,
     names: Names,
     story: Story,
 }
 
-impl Shown {
+impl Shown<'_> {
     /// As text.
     pub(crate) fn text(&self, alloc: Global) -> Result<String, AllocError> {
         let program = self.program();
         match &self.story {
-            Story::Moves(schedule, told) => schedule_text(alloc, program, schedule, told),
+            Story::Moves(schedule, told) => {
+                let detail = detail_of(self.call);
+                schedule_text(alloc, self.call.program, program, schedule, told, detail)
+            }
             Story::Ways(log, paths) => log_text(alloc, program, log, paths),
         }
     }
 
-    /// As a page for a browser, in whose title the program is named so.
-    pub(crate) fn page(&self, alloc: Global, name: &str) -> Result<String, AllocError> {
+    /// As a page for a browser.
+    pub(crate) fn page(&self, alloc: Global) -> Result<String, AllocError> {
+        let name = self.call.program;
         let program = self.program();
         match &self.story {
             Story::Moves(schedule, told) => schedule_page(alloc, name, program, schedule, told),
@@ -70,12 +85,13 @@ impl Shown {
     }
 }
 
-/// What a file shows of a program. Of the two that isn't of its form the first is told.
+/// What the file of a call shows of the program. Of the two that isn't of its form the first is told.
 pub(crate) fn read_shown<'a>(
     alloc: Global,
+    call: Showing<'a>,
     program: &[u8],
     file: &[u8],
-) -> Result<Shown, Answer<'a>>
+) -> Result<Shown<'a>, Answer<'a>>
     requires { length program.now ≤ PROGRAM_BYTES }
     ensures shown { IfOk result (IsShown program.now file.now) }
     ensures answer { IfErr result (IsWhyNotShown program.now file.now) }
@@ -86,7 +102,12 @@ pub(crate) fn read_shown<'a>(
     } else {
         schedule_story(alloc, &code, file)?
     };
-    Ok(Shown { code, names, story })
+    Ok(Shown {
+        call,
+        code,
+        names,
+        story,
+    })
 }
 
 /// The code of a program, and what its text calls the parts of that.
@@ -95,9 +116,9 @@ fn compile_named(alloc: Global, text: &[u8]) -> Result<(Code, Names), CompileFau
     ensures found { IfOk result (λ both. IsCodeOf text.now both.0) }
     ensures refused { IfErr result (IsWhyNoCode text.now) }
 {
-    let tree = read(alloc, text)?;
-    let code = lower(alloc, &tree)?;
-    Ok((code, Names::of_tree(alloc, &tree)?))
+    let (tree, code) = read_code(alloc, text)?;
+    let names = Names::of_tree(alloc, &tree)?;
+    Ok((code, names))
 }
 
 /// Whether a file is to be a log, by its first bytes.
@@ -131,7 +152,7 @@ fn check_program<'a>(program: &[u8], log: &Log) -> Result<(), Answer<'a>>
     ensures same { OnOk result (IsOfOther program.now log.now → ⊥) }
     ensures other { IfErr result (λ a. (a ≡ OtherProgram) × IsOfOther program.now log.now) }
 {
-    if log.is_of_other(program) {
+    if is_of_other(log, program) {
         Err(Answer::OtherProgram)
     } else {
         Ok(())

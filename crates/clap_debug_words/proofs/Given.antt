@@ -36,7 +36,7 @@ use Rattle.clap.specs.Walk.{answers_to, nothing_held, rows_after, stop_after, wa
 use Rattle.clap.proofs.WalkLemmas.{both}
 use Rattle.clap.specs.ValueTests.{accepts, is_unsigned_in}
 use Rattle.clap.specs.declared.builder.value_parser.ValueParser.TheVariants as parser
-use Rattle.tc_base.specs.declared.limits.TheConstants.{BUDGET, MOVES}
+use Rattle.tc_limits.specs.declared.limits.TheConstants.{BUDGET, MOVES}
 use Rattle.clap_debug_words.specs.declared.workers.TheConstants.{WORKERS}
 use Rattle.clap_debug_words.specs.CommandLine.{command_line, words_taken, last_seed, lent_texts, model_names}
 use Rattle.clap_debug_words.specs.Given.{HasFiles, HasValues}

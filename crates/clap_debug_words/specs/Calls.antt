@@ -1,13 +1,13 @@
--- What words ask for.
+-- The call that words ask for.
 use Rattle.std.specs.Prelude.{ℕ, List, [], Option, Some, None, codes, unwrap_or, if◌then◌else◌, option_map, bytes_eq, nat_le, ◌&&◌}
 use Rattle.std.specs.Option.{option_map_or}
 use Rattle.std.specs.Str.Parse.{digits_value, without_leading_plus}
 use Rattle.clap.specs.Words.{Row, Text, first_of, one_of, subcommand_of}
 use Rattle.clap.specs.ValueTests.{is_unsigned_in}
-use Rattle.tc_base.specs.Models.{model_name}
-use Rattle.tc_base.specs.declared.limits.TheConstants.{BUDGET, MOVES}
-use Rattle.tc_base.specs.declared.model.Model.{Model}
-use Rattle.tc_base.specs.declared.model.Model.TheVariants.{Sc, Tso, Pso}
+use Rattle.memory_models.specs.Models.{model_name}
+use Rattle.tc_limits.specs.declared.limits.TheConstants.{BUDGET, MOVES}
+use Rattle.memory_models.specs.declared.model.Model.{Model}
+use Rattle.memory_models.specs.declared.model.Model.TheVariants.{Sc, Tso, Pso}
 use Rattle.clap_debug_words.specs.CommandLine.{command_line, words_taken, last_seed}
 use Rattle.clap_debug_words.specs.declared.workers.TheConstants.{WORKERS}
 use Rattle.clap_debug_words.specs.declared.Call.{Call}
@@ -19,22 +19,22 @@ pub data Called : Type 0 where
   Replays : (program log schedule : Text) → Called
   Records : (program log : Text) (model : Model) (seed steps : ℕ) → Called
   Migrates : (program log out : Text) → Called
-  -- without a model, the log's is meant
+  -- without a model, the log's model is meant
   Solves : (program log out : Text) (model : Option Model) (budget : ℕ) → Called
-  -- and here a schedule with the fewest context switches is wanted, with a refutation that none has fewer
+  -- asks for a schedule with the fewest context switches, and a refutation that none has fewer
   Minimizes : (program log out : Text) (model : Option Model) (budget : ℕ) (refutation : Text) → Called
   Checks : (program log refutation : Text) → Called
   Workloads : (workers seed : ℕ) → Called
-  -- again without a model, the log's is meant
+  -- without a model, the log's model is meant
   Exports : (program log out : Text) (model : Option Model) → Called
   Imports : (program log answer out : Text) (model : Option Model) → Called
   Explains : (program log refutation : Text) → Called
 
--- the text that stands for a positional
+-- the text of a positional
 abbrev pub text_of : Text → List Row → Text
 text_of id rows = unwrap_or (first_of id rows) []
 
--- the number that a text is, where it is one in the range
+-- the number that a text is, if it is one in the range, else the default
 abbrev pub number_in : (low high default : ℕ) → Text → ℕ
 number_in low high default text = if is_unsigned_in low high text then digits_value 10 (without_leading_plus text) else default
 
@@ -42,19 +42,19 @@ number_in low high default text = if is_unsigned_in low high text then digits_va
 abbrev pub number_of : (low high default : ℕ) → Text → List Row → ℕ
 number_of low high default id rows = option_map_or (number_in low high default) (one_of id rows) default
 
--- a number, where there is one in the range
+-- the number, if there is one in the range, else the default
 abbrev pub within : (low high default : ℕ) → Option ℕ → ℕ
 within low high default None = default
 within low high default (Some n) = if nat_le low n && nat_le n high then n else default
 
--- the memory model of a name
+-- the memory model with this name
 abbrev pub model_in : Text → Model
 model_in name = if bytes_eq name (model_name Tso) then Tso else if bytes_eq name (model_name Pso) then Pso else Sc
 
 abbrev pub model_of : List Row → Model
 model_of rows = model_in (text_of (codes "model") rows)
 
--- the memory model of an option that may be left out
+-- the memory model of an optional option
 abbrev pub written_model : List Row → Option Model
 written_model rows = option_map model_in (first_of (codes "model") rows)
 
@@ -67,14 +67,14 @@ workers_of rows = number_of 1 WORKERS 1 (codes "workers") rows
 abbrev pub steps_of : List Row → ℕ
 steps_of rows = number_of 1 MOVES MOVES (codes "steps") rows
 
--- the conflicts of a search where no number is written
+-- the default number of conflicts of a search
 abbrev pub usual_budget : ℕ
 usual_budget = 1000000
 
 abbrev pub budget_of : List Row → ℕ
 budget_of rows = number_of 1 BUDGET usual_budget (codes "budget") rows
 
--- the call of `solve`, where a name for the refutation may be written
+-- the call of `solve`, with or without a name for the refutation
 abbrev pub searched_as : Option Text → (program log out : Text) → Option Model → ℕ → Called
 searched_as None program log out model budget = Solves program log out model budget
 searched_as (Some refutation) program log out model budget = Minimizes program log out model budget refutation
@@ -98,7 +98,7 @@ called p = if bytes_eq p.0 (codes "list") then Lists (text_of (codes "program") 
     else if bytes_eq p.0 (codes "why") then Explains (text_of (codes "program") p.1) (text_of (codes "log") p.1) (text_of (codes "refutation") p.1)
     else Records (text_of (codes "program") p.1) (text_of (codes "log") p.1) (model_of p.1) (seed_of p.1) (steps_of p.1)
 
--- the call that the words ask for, where they are taken
+-- the call that the words ask for, if they are accepted
 abbrev pub call_of : List Text → Option Called
 call_of words = if words_taken words then option_map called (subcommand_of command_line words) else None
 

@@ -1,36 +1,36 @@
--- The command line, as plain data that clap reads words by.
+-- The command line, as the data by which clap reads words.
 use Rattle.std.specs.Prelude.{◌≡◌, ℕ, Bool, true, false, List, [], ◌∷◌, Some, codes, map}
 use Rattle.std.specs.Borrow.{Bor}
 use Rattle.clap.specs.Words.{App, Rule, Shape, Text, new_app, new_rule, takes}
 use Rattle.clap.specs.Simple.{new_shape}
 use Rattle.clap.specs.declared.builder.value_parser.ValueParser.{ValueParser}
 use Rattle.clap.specs.declared.builder.value_parser.ValueParser.TheVariants as parser
-use Rattle.tc_base.specs.Models.{model_name}
-use Rattle.tc_base.specs.declared.limits.TheConstants.{BUDGET, MOVES}
-use Rattle.tc_base.specs.declared.model.Model.TheVariants.{Sc, Tso, Pso}
+use Rattle.memory_models.specs.Models.{model_name}
+use Rattle.tc_limits.specs.declared.limits.TheConstants.{BUDGET, MOVES}
+use Rattle.memory_models.specs.declared.model.Model.TheVariants.{Sc, Tso, Pso}
 use Rattle.clap_debug_words.specs.declared.workers.TheConstants.{WORKERS}
 
 -- a required positional
 abbrev pub positional : Text → Rule
 positional name = record (new_rule name) { required = true }
 
--- a required positional that takes some values alone
+-- a required positional that takes only some values
 abbrev pub positional_of : Text → ValueParser → Rule
 positional_of name values = record (new_rule name) { required = true; parser = Some values }
 
--- an option that takes one value, and has this one where it isn't written
+-- an option that takes one value and has a default
 abbrev pub option : Text → Text → ValueParser → Rule
 option name default values = record (new_rule name) { long = Some name; defaults = default ∷ []; parser = Some values }
 
--- an option that takes one value where it is written
+-- an option that takes one value and has no default
 abbrev pub option_alone : Text → ValueParser → Rule
 option_alone name values = record (new_rule name) { long = Some name; parser = Some values }
 
--- an option that takes any one value where it is written
+-- an option that takes any one value and has no default
 abbrev pub option_of_any : Text → Rule
 option_of_any name = record (new_rule name) { long = Some name }
 
--- the names of the memory models, wherever they lie in memory
+-- the names of the memory models, wherever they are in memory
 abbrev pub ModelNames : Type 0
 ModelNames = Bor (List (Bor Text))
 
@@ -40,7 +40,7 @@ model_names = map model_name (Sc ∷ Tso ∷ Pso ∷ [])
 abbrev pub AreModelNames : ModelNames → Type 0
 AreModelNames names = map (λ n. n.now) names.now ≡ model_names
 
--- texts that lie at no place
+-- texts at no place in memory
 abbrev pub lent : Text → Bor Text
 lent text = record { ref_ptr = (0, 0); now = text }
 
@@ -129,7 +129,7 @@ why = record (new_shape (codes "why")) {
   rules = positional (codes "program") ∷ positional (codes "log") ∷ positional (codes "refutation") ∷ [];
 }
 
--- a command that wants a subcommand and knows no help
+-- a command that requires a subcommand and has no help
 abbrev pub commands : App → App
 commands a = record a {
   top = record a.top {
@@ -139,7 +139,7 @@ commands a = record a {
   };
 }
 
--- the whole command, where the names of the memory models lie there
+-- the whole command, with the names of the memory models at this place
 abbrev pub command_line_at : ModelNames → App
 command_line_at names = record {
   top = record (commands (new_app (codes "clap_debug"))).top { is_leaf = false };
@@ -150,6 +150,6 @@ command_line_at names = record {
 abbrev pub command_line : App
 command_line = command_line_at (lent_texts model_names)
 
--- whether clap takes the words
+-- whether clap accepts the words
 abbrev pub words_taken : List Text → Bool
 words_taken words = takes command_line words

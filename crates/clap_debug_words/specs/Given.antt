@@ -1,17 +1,17 @@
--- The files and numbers that words name where they are taken, and the values of their options.
+-- The files and numbers that accepted words name, and the values of their options.
 use Rattle.std.specs.Prelude.{◌≡◌, ◌⊎◌, true, false, List, codes, is_some, IfSome}
 use Rattle.clap.specs.Words.{Row, Text, first_of, one_of}
 use Rattle.clap.specs.ValueTests.{accepts, is_unsigned_in}
 use Rattle.clap.specs.declared.builder.value_parser.ValueParser.TheVariants as parser
-use Rattle.tc_base.specs.declared.limits.TheConstants.{BUDGET, MOVES}
+use Rattle.tc_limits.specs.declared.limits.TheConstants.{BUDGET, MOVES}
 use Rattle.clap_debug_words.specs.declared.workers.TheConstants.{WORKERS}
 use Rattle.clap_debug_words.specs.CommandLine.{last_seed, lent_texts, model_names}
 
--- a text stands for this positional
+-- the positional has a text
 abbrev pub IsNamed : List Row → Text → Type 0
 IsNamed rows id = is_some (first_of id rows) ≡ true
 
--- the command is one of the ten, and a text stands for each of its positionals
+-- the command is one of the ten, and each of its positionals has a text
 abbrev pub HasFiles : Text × List Row → Type 0
 HasFiles p =
     ((p.0 ≡ codes "list") × IsNamed p.1 (codes "program"))
@@ -25,7 +25,7 @@ HasFiles p =
     ⊎ ((p.0 ≡ codes "import") × IsNamed p.1 (codes "program") × IsNamed p.1 (codes "log") × IsNamed p.1 (codes "answer") × IsNamed p.1 (codes "out"))
     ⊎ ((p.0 ≡ codes "why") × IsNamed p.1 (codes "program") × IsNamed p.1 (codes "log") × IsNamed p.1 (codes "refutation"))
 
--- the value of an option, and a number, is one that it takes
+-- the values of options, and numbers, are accepted ones
 pub record HasValues (p : Text × List Row) : Type 0 where
   pub model : IfSome (one_of (codes "model") p.1) (λ v. accepts false (parser.Names (lent_texts model_names)) v ≡ true)
   pub seed : IfSome (one_of (codes "seed") p.1) (λ v. is_unsigned_in 0 last_seed v ≡ true)

@@ -1,12 +1,12 @@
--- Words as a user writes them: any first word, a command, the names of its files or its numbers, and then any of its options in their order.
+-- Words in plain order: any first word, a command, its files or numbers, then any of its options.
 use Rattle.std.specs.Prelude.{ℕ, ◌==◌, ◌&&◌, not, Bool, true, false, List, [], ◌∷◌, ◌++◌, Option, Some, None, codes, nat_le, option_map, unwrap_or}
 use Rattle.std.specs.Option.{option_map_or}
 use Rattle.std.specs.Fmt.{decimal}
 use Rattle.clap.specs.Words.{Text}
-use Rattle.tc_base.specs.declared.model.Model.{Model}
-use Rattle.tc_base.specs.Models.{model_name}
-use Rattle.tc_base.specs.declared.limits.TheConstants.{BUDGET, MOVES}
-use Rattle.tc_base.specs.declared.model.Model.TheVariants.{Sc}
+use Rattle.memory_models.specs.declared.model.Model.{Model}
+use Rattle.memory_models.specs.Models.{model_name}
+use Rattle.tc_limits.specs.declared.limits.TheConstants.{BUDGET, MOVES}
+use Rattle.memory_models.specs.declared.model.Model.TheVariants.{Sc}
 use Rattle.clap_debug_words.specs.declared.workers.TheConstants.{WORKERS}
 use Rattle.clap_debug_words.specs.CommandLine.{last_seed}
 use Rattle.clap_debug_words.specs.Calls.{Called, usual_budget}
@@ -26,7 +26,7 @@ pub data Written : Type 0 where
   Imports : (program log answer out : Text) (model : Option Model) → Written
   Explains : (program log refutation : Text) → Written
 
--- an option and its value, where it is written
+-- the words of an option and its value, if it is written
 abbrev pub option_words : Text → Option Text → List Text
 option_words name None = []
 option_words name (Some value) = name ∷ value ∷ []
@@ -51,7 +51,7 @@ words_of first (Imports program log answer out model) = first ∷ codes "import"
     ∷ option_words (codes "--model") (option_map model_name model)
 words_of first (Explains program log refutation) = first ∷ codes "why" ∷ program ∷ log ∷ refutation ∷ []
 
--- a name isn't empty and doesn't begin with `-`
+-- whether a text can name a file: it isn't empty and doesn't begin with `-`
 abbrev pub is_name : Text → Bool
 is_name [] = false
 is_name (b ∷ _) = not (b == 45)
@@ -59,7 +59,7 @@ is_name (b ∷ _) = not (b == 45)
 abbrev pub is_between : (low high : ℕ) → ℕ → Bool
 is_between low high n = nat_le low n && nat_le n high
 
--- the names are names, and the numbers in their ranges
+-- the names can name files, and the numbers are in their ranges
 abbrev pub is_plain : Written → Bool
 is_plain (Lists program) = is_name program
 is_plain (Replays program log schedule) = is_name program && (is_name log && is_name schedule)
@@ -75,7 +75,7 @@ is_plain (Exports program log out model) = is_name program && (is_name log && is
 is_plain (Imports program log answer out model) = is_name program && (is_name log && (is_name answer && is_name out))
 is_plain (Explains program log refutation) = is_name program && (is_name log && is_name refutation)
 
--- what they ask for: what isn't written is sequential consistency, or of `solve`, `cnf` and `import` the model of the log, seed 0 and a million moves or conflicts
+-- the call that the words ask for, with defaults for the options that aren't written
 abbrev pub asked : Written → Called
 asked (Lists program) = calls.Lists program
 asked (Replays program log schedule) = calls.Replays program log schedule

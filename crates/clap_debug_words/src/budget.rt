@@ -1,11 +1,11 @@
 //! The budget of a search.
 ghost use Rattle.std.specs.Prelude.{◌≤◌};
-ghost use Rattle.tc_base.specs.declared.limits.TheConstants.{BUDGET};
+ghost use Rattle.tc_limits.specs.declared.limits.TheConstants.{BUDGET};
 
-/// The conflicts of a search where no number is written.
+/// The default number of conflicts of a search.
 pub const USUAL_BUDGET: u32 = 1_000_000;
 
-/// How many conflicts a search may have.
+/// The number of conflicts that a search may have.
 #[derive(Clone, Copy, Debug)]
 pub struct Budget {
     pub conflicts: u32,

@@ -16,10 +16,10 @@ pub use budget::{Budget, USUAL_BUDGET};
 use clap::builder::ValueParser;
 use clap::error::ErrorKind;
 use clap::{Arg, ArgMatches, Command};
+use memory_models::Model;
 use std::alloc::{AllocError, Global};
 use std::mem::drop;
-use tc_base::Model;
-use tc_base::limits::{BUDGET, MOVES};
+use tc_limits::limits::{BUDGET, MOVES};
 pub use workers::{WORKERS, Workers};
 
 static MODEL_NAMES: [&str; 3] = ["sc", "tso", "pso"];
@@ -33,23 +33,23 @@ const MOST_CONFLICTS: u64 = BUDGET as u64;
 /// The most workers of a workload.
 const MOST_WORKERS: u64 = WORKERS as u64;
 
-/// The conflicts of a search where no number is written.
+/// The default number of conflicts of a search.
 const USUAL_CONFLICTS: u64 = USUAL_BUDGET as u64;
 
-/// What the words ask for.
+/// The call that the words ask for.
 #[derive(Clone, Copy)]
 pub enum Call<'a> {
     /// Print the flat code of a program.
     List {
         program: &'a str,
     },
-    /// Run a schedule, and say whether it leads to the failure of the log.
+    /// Run a schedule, and tell whether it leads to the failure of the log.
     Replay {
         program: &'a str,
         log: &'a str,
         schedule: &'a str,
     },
-    /// Run a program by moves that a seed chooses, at most `steps` of them, and keep the log of a run that fails.
+    /// Run a program by seeded moves, at most `steps` of them, and keep the log of a failing run.
     Record {
         program: &'a str,
         log: &'a str,
@@ -63,8 +63,8 @@ pub enum Call<'a> {
         log: &'a str,
         out: &'a str,
     },
-    /// Look for a schedule that leads to the failure of the log, or for a refutation that shows that none does. Without a
-    /// model the log's is meant.
+    /// Search for a schedule that leads to the failure of the log, or for a refutation that proves
+    /// that none does. Without a model, the log's is meant.
     Solve {
         program: &'a str,
         log: &'a str,
@@ -72,8 +72,8 @@ pub enum Call<'a> {
         model: Option<Model>,
         budget: Budget,
     },
-    /// Look for the schedule with the fewest context switches, and for a refutation that shows that none has fewer. Without a
-    /// model the log's is meant.
+    /// Search for a schedule with the fewest context switches, and for a refutation that proves
+    /// that none has fewer. Without a model, the log's is meant.
     Least {
         program: &'a str,
         log: &'a str,
@@ -88,20 +88,21 @@ pub enum Call<'a> {
         log: &'a str,
         refutation: &'a str,
     },
-    /// Make a program of so many workers, which read one another's cells as a seed chooses; run it by moves that the seed
-    /// chooses, and solve the log in which each worker reads before any writes.
+    /// Generate a program with this many workers, which read one another's cells as the seed
+    /// chooses; run it by moves that the seed chooses, and solve the log in which each worker reads
+    /// before any writes.
     Workload {
         workers: Workers,
         seed: u64,
     },
-    /// Write the clauses of the log for other solvers. Without a model the log's is meant.
+    /// Write the clauses of the log for other solvers. Without a model, the log's is meant.
     Cnf {
         program: &'a str,
         log: &'a str,
         out: &'a str,
         model: Option<Model>,
     },
-    /// Make a schedule of what another solver answers to the clauses of the log. Without a model the log's is meant.
+    /// Make a schedule from another solver's answer. Without a model, the log's is meant.
     Import {
         program: &'a str,
         log: &'a str,
@@ -109,7 +110,7 @@ pub enum Call<'a> {
         out: &'a str,
         model: Option<Model>,
     },
-    /// Say what a refutation rests on.
+    /// Print the rules that a refutation uses.
     Why {
         program: &'a str,
         log: &'a str,
@@ -117,9 +118,9 @@ pub enum Call<'a> {
     },
 }
 
-/// What the words ask for, or `None` where they are no words of the program: the asking for help is none either.
+/// The call that the words ask for, or `None` if they aren't accepted; a request for help isn't.
 ///
-/// The first of the words is the program's own name. An `Err` is want of memory.
+/// The first word is the program's own name. `Err` means that there is no memory.
 pub fn call_of<'a>(alloc: Global, words: &'a [String]) -> Result<Option<Call<'a>>, AllocError>
     ensures { IfOk result (λ call. option_map plain_call call ≡ call_of (map string_bytes words.now)) }
 {
@@ -132,22 +133,22 @@ pub fn call_of<'a>(alloc: Global, words: &'a [String]) -> Result<Option<Call<'a>
     }
 }
 
-/// Plain words are taken, with the names and values that stand there.
+/// Plain words are accepted, with the names and values that they have.
 pub fn plain_words_are_taken()
     ensures { (first : Text) (written : Written) → is_plain written ≡ true → call_of (words_of first written) ≡ Some (asked written) }
 {}
 
-/// Words that are taken name a command, and each file that it wants.
+/// Accepted words name a command, and each file that it needs.
 pub fn taken_words_name_their_files()
     ensures { (words : List Text) → words_taken words ≡ true → IsSomeAnd (subcommand_of command_line words) HasFiles }
 {}
 
-/// Words that are taken give each option a value that it takes.
+/// Accepted words give each option a value that it allows.
 pub fn taken_words_have_values()
     ensures { (words : List Text) → words_taken words ≡ true → IsSomeAnd (subcommand_of command_line words) HasValues }
 {}
 
-/// The call that the matches of the whole command say.
+/// The call in the matches of the whole command.
 fn call_in<'a>(matches: &ArgMatches<'a>) -> Option<Call<'a>>
     ensures { option_map plain_call result ≡ option_map called (subcommand_rows_of matches.now) }
 {
@@ -155,7 +156,7 @@ fn call_in<'a>(matches: &ArgMatches<'a>) -> Option<Call<'a>>
     Some(called(name, inner))
 }
 
-/// The call of a command, by its matches.
+/// The call of a command, from its matches.
 fn called<'a>(name: &str, matches: &ArgMatches<'a>) -> Call<'a>
     ensures { plain_call result ≡ called (name.now, rows_of (found_of matches.now)) }
 {
@@ -268,7 +269,7 @@ fn model_in(matches: &ArgMatches<'_>) -> Model
     model_named(text(matches, "model"))
 }
 
-/// The value of `--model`, where it is written.
+/// The value of `--model`, if it is written.
 fn written_model(matches: &ArgMatches<'_>) -> Option<Model>
     ensures { result ≡ written_model (rows_of (found_of matches.now)) }
 {
@@ -278,7 +279,7 @@ fn written_model(matches: &ArgMatches<'_>) -> Option<Model>
     }
 }
 
-/// The memory model of a name.
+/// The memory model with this name.
 fn model_named(name: &str) -> Model
     ensures { result ≡ model_in name.now }
 {
@@ -335,7 +336,7 @@ fn number(matches: &ArgMatches<'_>, id: &str, low: u64, high: u64, default: u64)
     within(matches.get_one::<u64>(id), low, high, default)
 }
 
-/// The number, where it is in the range.
+/// The number, if it is in the range, else the default.
 fn within(number: Option<u64>, low: u64, high: u64, default: u64) -> u64
     ensures value { result ≡ within low high default number }
     ensures least { low ≤ default → low ≤ result }
@@ -371,7 +372,7 @@ fn command_line<'a>(alloc: Global, names: &'a [&'a str]) -> Result<Command<'a>, 
     add_command(command, why(alloc))
 }
 
-/// The command, where there is one, with this subcommand.
+/// Adds a subcommand to a command, if there is one.
 fn add_command<'a>(
     command: Result<Command<'a>, AllocError>,
     subcommand: Result<Command<'a>, AllocError>,
@@ -388,7 +389,7 @@ fn add_command<'a>(
     }
 }
 
-/// The command with this subcommand.
+/// Adds a subcommand to a command.
 fn with_command<'a>(
     command: Command<'a>,
     subcommand: Result<Command<'a>, AllocError>,
@@ -405,7 +406,7 @@ fn with_command<'a>(
     }
 }
 
-/// The command, where it wants a subcommand and knows no help.
+/// The command, made to require a subcommand and to have no help.
 fn commands<'a>(command: Command<'a>) -> Command<'a>
     ensures { app_of result ≡ spec.commands (app_of command.entry) }
 {
@@ -519,7 +520,7 @@ fn of_log<'a>(alloc: Global, name: &'a str) -> Result<Command<'a>, AllocError>
     with(command, positional(alloc, "log"))
 }
 
-/// The command, where there is one, with this argument.
+/// Adds an argument to a command, if there is one.
 fn with<'a>(
     command: Result<Command<'a>, AllocError>,
     argument: Arg<'a>,
@@ -544,7 +545,7 @@ fn model_names() -> &'static [&'static str]
     MODEL_NAMES.as_slice()
 }
 
-/// An option that takes one value, and has this one where it isn't written.
+/// An option that takes one value and has a default.
 fn option<'a>(alloc: Global, name: &'a str, default: &'a str, parser: ValueParser<'a>) -> Arg<'a>
     ensures rule { rule_of result ≡ spec.option name.entry.now default.entry.now parser.entry }
     ensures local { result.global ≡ false }
@@ -555,7 +556,7 @@ fn option<'a>(alloc: Global, name: &'a str, default: &'a str, parser: ValueParse
         .value_parser(parser)
 }
 
-/// An option that takes one value where it is written.
+/// An option that takes one value and has no default.
 fn option_alone<'a>(alloc: Global, name: &'a str, parser: ValueParser<'a>) -> Arg<'a>
     ensures rule { rule_of result ≡ spec.option_alone name.entry.now parser.entry }
     ensures local { result.global ≡ false }
@@ -563,7 +564,7 @@ fn option_alone<'a>(alloc: Global, name: &'a str, parser: ValueParser<'a>) -> Ar
     Arg::new(alloc, name).long(name).value_parser(parser)
 }
 
-/// An option that takes any one value where it is written.
+/// An option that takes any one value and has no default.
 fn option_of_any<'a>(alloc: Global, name: &'a str) -> Arg<'a>
     ensures rule { rule_of result ≡ spec.option_of_any name.entry.now }
     ensures local { result.global ≡ false }
@@ -579,7 +580,7 @@ fn positional<'a>(alloc: Global, name: &'a str) -> Arg<'a>
     Arg::new(alloc, name).required(true)
 }
 
-/// A required positional that takes some values alone.
+/// A required positional that takes only some values.
 fn positional_of<'a>(alloc: Global, name: &'a str, parser: ValueParser<'a>) -> Arg<'a>
     ensures rule { rule_of result ≡ spec.positional_of name.entry.now parser.entry }
     ensures local { result.global ≡ false }

@@ -5,7 +5,7 @@ ghost use Rattle.clap_debug_words.specs.declared.workers.TheConstants.{WORKERS};
 /// The most workers of a workload.
 pub const WORKERS: u32 = 12;
 
-/// How many workers a workload has.
+/// The number of workers of a workload, in its range.
 #[derive(Clone, Copy, Debug)]
 pub struct Workers {
     pub count: u32,

@@ -1,8 +1,8 @@
 -- What is made of the parts of a log's system, and what is told of a derivation over its clauses.
 use Rattle.std.proofs.Common.{◌≡◌, ◌≢◌, ◌∙◌, ℕ, ◌+◌, ◌<◌, ◌≤◌, Bool, List, Result, Ok, Err, ap, sym, subst}
 use Rattle.std.specs.Prelude.{if◌then◌else◌}
-use Rattle.tc_base.specs.Logs.{Log}
-use Rattle.tc_base.specs.declared.limits.TheConstants.{EVENTS, OPERATORS}
+use Rattle.run_log.specs.Logs.{Log}
+use Rattle.tc_limits.specs.declared.limits.TheConstants.{EVENTS, OPERATORS}
 use Rattle.tc_code.specs.Code.{Code}
 use Rattle.store_buffers.specs.Pending.{Binding}
 use Rattle.path_walk.specs.Fits.{Fits}

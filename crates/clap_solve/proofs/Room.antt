@@ -14,12 +14,13 @@ use Rattle.std.proofs.lemmas.List.Elements.{All-contains}
 use Rattle.std.proofs.lemmas.List.Folds.{list_all-append}
 use Rattle.std.proofs.lemmas.Option.{none-some, same_Some, slice_get-get_or, slice_get-map, slice_get_within}
 use Rattle.tc_base.specs.Names.{Name, child, by_name}
-use Rattle.tc_base.specs.Logs.{Log, Path, ThreadPath, path_under}
-use Rattle.tc_base.specs.declared.limits.TheConstants.{DEPTH, STEPS, THREADS}
+use Rattle.run_log.specs.Logs.{Log}
+use Rattle.tc_base.specs.Paths.{Path, ThreadPath, path_under}
+use Rattle.tc_limits.specs.declared.limits.TheConstants.{DEPTH, STEPS, THREADS}
 use Rattle.tc_base.proofs.Names.{between, later_child, not_itself, not_less, parent_of, same_name, turned}
 use Rattle.tc_code.specs.Code.{Code}
-use Rattle.path_log.specs.Texts.{is_log}
-use Rattle.path_log.proofs.Lists.{get_seam}
+use Rattle.run_log.specs.Logs.{is_log}
+use Rattle.list_laws.proofs.Lists.{get_seam}
 use Rattle.path_walk.specs.Fits.{Fits, child_function, ending_of, function_of, places_in, started}
 use Rattle.path_walk.specs.Paths.{Walk, function_in, paths_of, walk_of}
 use Rattle.path_walk.specs.Steps.{places_from, places_of, steps_at}

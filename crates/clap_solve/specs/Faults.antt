@@ -1,6 +1,6 @@
--- Why a derivation says nothing of a log.
+-- Why a derivation proves nothing about a log.
 use Rattle.std.specs.Prelude.{◌≡◌, ◌≢◌, Bool, List, Err}
-use Rattle.tc_base.specs.Logs.{Log}
+use Rattle.run_log.specs.Logs.{Log}
 use Rattle.tc_code.specs.Code.{Code}
 use Rattle.store_buffers.specs.Pending.{Binding}
 use Rattle.refute_check.specs.Refutations.{check}
@@ -13,7 +13,7 @@ use Rattle.clap_solve.specs.Solved.{IsWithin}
 use Rattle.clap_solve.specs.declared.fault.CheckImpossibleFault.{CheckImpossibleFault}
 use Rattle.clap_solve.specs.declared.fault.CheckImpossibleFault.TheVariants.{Build, Check, Memory}
 
--- the cause of a fault: the log has no clauses, or the derivation has a fault over them; want of memory has none, and is neither of these
+-- what a fault means: the log has no clauses, or the derivation has a fault over them, or no memory
 abbrev pub IsCheckImpossibleFault : Bool → Binding → Code → Log → List Line → CheckImpossibleFault → Type 0
 IsCheckImpossibleFault buffered bound code log lines (Build fault) = (fault ≢ build.Memory) × IsBuildFault code log fault
 IsCheckImpossibleFault buffered bound code log lines (Check fault) =

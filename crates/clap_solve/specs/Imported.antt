@@ -1,8 +1,8 @@
--- What another solver's answer comes to.
+-- The result of another solver's answer.
 use Rattle.std.specs.Prelude.{◌≡◌, ℕ, suc, List, ℤ, IsTrue}
 use Rattle.tc_base.specs.Buffers.{BufferOps}
-use Rattle.tc_base.specs.Logs.{Log}
-use Rattle.tc_base.specs.declared.model.Model.{Model}
+use Rattle.run_log.specs.Logs.{Log}
+use Rattle.memory_models.specs.declared.model.Model.{Model}
 use Rattle.tc_code.specs.Code.{Code}
 use Rattle.tc_code.specs.Run.{Reproduces}
 use Rattle.store_buffers.specs.Pending.{Binding}
@@ -12,16 +12,16 @@ use Rattle.clap_solve.specs.Clauses.{clauses_of}
 use Rattle.clap_solve.specs.declared.imported.Imported.{Imported}
 use Rattle.clap_solve.specs.declared.imported.Imported.TheVariants.{Found, False}
 
--- the values that literals give the variables of some clauses
+-- the valuation that literals give to the variables of a formula
 abbrev pub values_of : Formula → List ℤ → Valuation
 values_of f literals = value_in (assigned f.vars literals)
 
--- the clause of a number, from 1, is the first that they leave false
+-- the clause of this number, from 1, is the first that the literals make false
 abbrev pub IsFalseOf : Formula → List ℤ → ℕ → Type 0
 IsFalseOf f literals number = (place : ℕ) × (number ≡ suc place) × IsFirstFalse (values_of f literals) f.clauses place
 
 module _ {B : Type 0} (ops : BufferOps B) (model : Model) (bound : Binding) (code : Code) (log : Log) (literals : List ℤ) where
-  -- they satisfy the log's clauses, and a schedule of the model reproduces it; or a clause is the first that they leave false
+  -- the literals satisfy the clauses and a schedule reproduces the log, or they make a clause false
   abbrev pub IsImported : Imported → Type 0
   IsImported (Found schedule) =
       IsTrue (satisfies (values_of (clauses_of ops.buffered bound code log) literals) (clauses_of ops.buffered bound code log).clauses)

@@ -1,12 +1,12 @@
--- The clauses of a log, with all that they are made of.
+-- The clauses of a log, with everything that they are made from.
 use Rattle.std.specs.Prelude.{◌≡◌, ◌≤◌, Bool, true, List}
 use Rattle.std.specs.List.{All}
-use Rattle.tc_base.specs.Logs.{Log}
-use Rattle.tc_base.specs.declared.limits.TheConstants.{STEPS}
+use Rattle.run_log.specs.Logs.{Log}
+use Rattle.tc_limits.specs.declared.limits.TheConstants.{STEPS}
 use Rattle.tc_code.specs.Code.{Code}
 use Rattle.tc_code.specs.Lawful.{IsLawful}
 use Rattle.store_buffers.specs.Pending.{Binding}
-use Rattle.path_log.specs.Texts.{is_log}
+use Rattle.run_log.specs.Logs.{is_log}
 use Rattle.path_walk.specs.Paths.{Paths, paths_of}
 use Rattle.sym_terms.specs.declared.node.Node.{Node}
 use Rattle.sym_exec.specs.Executed.{Symbolic}
@@ -18,15 +18,15 @@ use Rattle.clap_solve.specs.Solved.{IsWithin}
 
 pub record Posed : Type 0 where
   pub paths : Paths
-  -- what the paths come to, with terms in place of values
+  -- the symbolic execution of the paths, with terms in place of values
   pub symbolic : Symbolic
   -- the terms
   pub nodes : List Node
-  -- the rules of all groups: where the paths aren't dead, each conjunct has its clause at the end, in order
+  -- the rules of all groups; unless the paths are dead, the last clauses are those of the conjuncts
   pub formula : List Conjunct
   pub blasted : Blasted
 
--- by whether there are buffers, and which stores are bound
+-- the parts of a log, by whether there are buffers and which stores are bound
 abbrev pub posed_of : Bool → Binding → Code → Log → Posed
 posed_of buffered bound code log = record {
   paths = paths_of code log;
@@ -36,7 +36,7 @@ posed_of buffered bound code log = record {
   blasted = blasted_of buffered bound code log;
 }
 
--- what holds of all code and of each log, and that the log is within the limits
+-- facts about all code and all logs, and that the log is within the limits
 pub record IsGiven (code : Code) (log : Log) : Type 0 where
   pub lawful : IsLawful code
   pub is_log : is_log log ≡ true

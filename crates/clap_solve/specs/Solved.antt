@@ -1,9 +1,9 @@
--- What a search for a schedule of a log comes to.
+-- The results of a search for a schedule of a log.
 use Rattle.std.specs.Prelude.{◌≡◌, ℕ, ◌≤◌, List}
 use Rattle.tc_base.specs.Buffers.{BufferOps}
-use Rattle.tc_base.specs.Logs.{Log}
-use Rattle.tc_base.specs.declared.limits.TheConstants.{EVENTS, OPERATORS}
-use Rattle.tc_base.specs.declared.model.Model.{Model}
+use Rattle.run_log.specs.Logs.{Log}
+use Rattle.tc_limits.specs.declared.limits.TheConstants.{EVENTS, OPERATORS}
+use Rattle.memory_models.specs.declared.model.Model.{Model}
 use Rattle.tc_base.specs.declared.moves.Move.{Move}
 use Rattle.tc_code.specs.Code.{Code}
 use Rattle.tc_code.specs.Run.{Reproduces}
@@ -18,7 +18,7 @@ use Rattle.clap_solve.specs.Clauses.{clauses_of}
 use Rattle.clap_solve.specs.declared.answer.Answer.{Answer}
 use Rattle.clap_solve.specs.declared.answer.Answer.TheVariants.{Found, Impossible, Spent}
 
--- a log fits the code, and neither it nor its paths have too much of anything
+-- a log fits the code, and both it and its paths are within the limits
 pub record IsWithin (code : Code) (log : Log) : Type 0 where
   pub shallow : IsShallow log
   pub fits : Fits code log
@@ -31,14 +31,15 @@ module _ {B : Type 0} (ops : BufferOps B) where
   IsImpossible code log = (moves : List Move) → Reproduces ops code log moves → ⊥
 
   module _ (model : Model) (bound : Binding) (code : Code) (log : Log) (budget : ℕ) where
-    -- a schedule is of the model and reproduces the log; a derivation is closed on the log's clauses, and no moves reproduce it; or it is
-    -- open, fresh and deletes few clauses, and has as many added lines as the budget says, none of them empty
+    -- a schedule of the model reproduces the log; or a closed derivation shows that no moves do; or
+    -- an open, fresh derivation deletes few clauses and adds as many as the budget says, none of
+    -- them empty
     abbrev pub IsAnswer : Answer → Type 0
     IsAnswer (Found schedule) = (schedule.model ≡ model) × Reproduces ops code log schedule.moves.items
     IsAnswer (Impossible lines) = IsClosed (clauses_of ops.buffered bound code log) lines × IsImpossible code log
     IsAnswer (Spent lines) = Solves (clauses_of ops.buffered bound code log) budget (solved.Spent lines)
 
-    -- so is the answer, and the log is within the limits
+    -- the answer is right, and the log is within the limits
     pub record IsSolved (answer : Answer) : Type 0 where
       pub within : IsWithin code log
       pub is : IsAnswer answer

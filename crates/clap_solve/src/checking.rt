@@ -1,4 +1,4 @@
-//! Derivations that are held against the clauses of a log.
+//! Checking derivations against the clauses of a log.
 ghost use Rattle.std.specs.Prelude.{◌≡◌, IfOk, IfErr, OnOk, Ok};
 ghost use Rattle.refute_check.specs.Refutations.{check, start};
 ghost use Rattle.refute_check.specs.declared.verdict.Checked.TheVariants.{Closed};
@@ -10,15 +10,16 @@ ghost use Rattle.clap_solve.specs.Solved.{IsImpossible, IsWithin};
 use crate::CheckImpossibleFault;
 use crate::posed::pose;
 use clap_system::BuildFault;
-use path_log::Log;
 use refute_check::{Checked, Checker, Derivation, check};
+use run_log::Log;
 use std::alloc::Global;
 use store_buffers::MemoryModel;
 use tc_code::Code;
 
-/// A checker over the clauses of a log, before any line: the same clauses in which [`solve`](crate::solve) searches.
+/// A checker over the clauses of a log, in which [`solve`](crate::solve) searches, before any line.
 ///
-/// Where it comes to a closed derivation, no moves reproduce the log: [`closed_is_impossible`](crate::laws::closed_is_impossible).
+/// If the derivation is closed, no moves reproduce the log:
+/// [`closed_is_impossible`](crate::laws::closed_is_impossible).
 pub fn check_start<M: MemoryModel>(
     alloc: Global,
     code: &Code,
@@ -32,7 +33,7 @@ pub fn check_start<M: MemoryModel>(
     Ok(Checker::new(alloc, &clauses)?)
 }
 
-/// What a whole derivation shows over the clauses of a log, whoever made it.
+/// What a whole derivation proves over the clauses of a log, whoever made it.
 pub fn check_impossible<M: MemoryModel>(
     alloc: Global,
     code: &Code,

@@ -1,4 +1,4 @@
-//! Why a derivation says nothing of a log.
+//! Why a derivation proves nothing about a log.
 ghost use Rattle.std.specs.Prelude.{◌≡◌};
 ghost use Rattle.clap_solve.specs.declared.fault.CheckImpossibleFault.TheVariants.{Memory};
 ghost use Rattle.clap_solve.specs.helpers.From.{from_build, from_check};
@@ -7,14 +7,14 @@ use clap_system::BuildFault;
 use refute_check::CheckFault;
 use std::alloc::AllocError;
 
-/// Why a derivation says nothing of a log.
+/// Why a derivation proves nothing about a log.
 #[derive(Debug, Drop)]
 pub enum CheckImpossibleFault {
-    /// The log has no clauses. Want of memory there is `Memory` here.
+    /// The log has no clauses. Lack of memory is always `Memory`.
     Build(BuildFault),
-    /// A line of the derivation doesn't pass. Want of memory there is `Memory` here.
+    /// A line of the derivation doesn't pass. Lack of memory is always `Memory`.
     Check(CheckFault),
-    /// No memory is left.
+    /// Memory ran out.
     Memory,
 }
 

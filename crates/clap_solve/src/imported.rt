@@ -1,12 +1,12 @@
-//! What another solver's answer comes to.
+//! The result of another solver's answer.
 
 use schedule_file::Schedule;
 
-/// What another solver's answer comes to.
+/// The result of another solver's answer.
 #[derive(Debug, Drop)]
 pub enum Imported {
-    /// It satisfies the clauses of the log, and this schedule reproduces the log.
+    /// The answer satisfies the clauses of the log, and this schedule reproduces the log.
     Found(Schedule),
-    /// The clause of this number, from 1, is the first that it leaves false.
+    /// The clause of this number, from 1, is the first that the answer makes false.
     False(u32),
 }

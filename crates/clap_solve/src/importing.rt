@@ -1,4 +1,4 @@
-//! The answers of other solvers.
+//! Importing the answers of other solvers.
 ghost use Rattle.std.specs.Prelude.{IfOk, IfErr, OnOk};
 ghost use Rattle.clap_system.specs.Faults.{IsBuildFault};
 ghost use Rattle.dimacs_text.specs.Values.{assigned};
@@ -12,16 +12,17 @@ use crate::solving::schedule;
 use clap_system::BuildFault;
 use cnf_core::Assignment;
 use dimacs_text::{Literals, assignment, first_false};
-use path_log::Log;
+use run_log::Log;
 use std::alloc::{AllocError, Global};
 use std::mem::drop;
 use store_buffers::MemoryModel;
 use tc_code::Code;
 
-/// What the literals come to that another solver makes true: where they satisfy the clauses of a log, a schedule that reproduces it,
-/// and else the first clause that they leave false. Whoever made them need not be trusted.
+/// The result of the literals that another solver makes true: a schedule that reproduces the log if
+/// they satisfy its clauses, or else the first clause that they make false. The solver needn't be
+/// trusted.
 ///
-/// A variable that isn't named is false, and one that the clauses don't have says nothing. Refused is what [`pose`] refuses.
+/// Unnamed variables are false, and unknown ones are ignored. Fails if [`pose`] fails.
 pub fn take_answer<M: MemoryModel>(
     alloc: Global,
     code: &Code,
@@ -38,7 +39,7 @@ pub fn take_answer<M: MemoryModel>(
     Ok(imported?)
 }
 
-/// What the literals come to that are said to satisfy a log's clauses.
+/// The result of literals that should satisfy a log's clauses.
 fn taken<M: MemoryModel>(
     alloc: Global,
     code: &Code,
@@ -52,7 +53,7 @@ fn taken<M: MemoryModel>(
     imported::<M>(alloc, code, posed, &assignment)
 }
 
-/// What values of the variables come to.
+/// The result of an assignment.
 fn imported<M: MemoryModel>(
     alloc: Global,
     code: &Code,

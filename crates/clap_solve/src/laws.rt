@@ -1,22 +1,23 @@
-//! What the clauses of a log mean. Each function's clause is a law of every memory model, and its body does nothing.
+//! What the clauses of a log mean: laws of every memory model, as clauses of functions that do
+//! nothing.
 ghost use Rattle.std.specs.Prelude.{◌≡◌, ◌↔◌, true, List, IsTrue};
 ghost use Rattle.tc_base.specs.Buffers.{BufferOps};
-ghost use Rattle.tc_base.specs.Logs.{Log};
-ghost use Rattle.tc_base.specs.declared.model.Model.{Model};
+ghost use Rattle.run_log.specs.Logs.{Log};
+ghost use Rattle.memory_models.specs.declared.model.Model.{Model};
 ghost use Rattle.tc_base.specs.declared.moves.Move.{Move};
 ghost use Rattle.tc_code.specs.Code.{Code};
 ghost use Rattle.tc_code.specs.Lawful.{IsLawful};
 ghost use Rattle.tc_code.specs.Run.{Reproduces};
 ghost use Rattle.store_buffers.specs.Laws.{Laws};
 ghost use Rattle.store_buffers.specs.Pending.{Binding};
-ghost use Rattle.path_log.specs.Texts.{is_log};
+ghost use Rattle.run_log.specs.Logs.{is_log};
 ghost use Rattle.cnf_core.specs.Clauses.{Valuation, satisfies};
 ghost use Rattle.refute_check.specs.Refutations.{IsClosed};
 ghost use Rattle.refute_check.specs.declared.line.Line.{Line};
 ghost use Rattle.clap_solve.specs.Clauses.{clauses_of};
 ghost use Rattle.clap_solve.specs.Solved.{IsImpossible, IsWithin};
 
-/// Something satisfies the clauses of a log exactly where some moves reproduce it, a failure or a deadlock.
+/// A log's clauses are satisfiable exactly if some moves reproduce it, a failure or a deadlock.
 pub fn clauses_are_runs<B>()
     ensures { (ops : BufferOps B) (model : Model) (bound : Binding) (code : Code) (log : Log)
         → Laws ops model bound → IsLawful code → is_log log ≡ true → IsWithin code log
@@ -24,7 +25,7 @@ pub fn clauses_are_runs<B>()
         ↔ ((moves : List Move) × Reproduces ops code log moves) }
 {}
 
-/// Where a derivation is closed on the clauses of a log, whoever made it, no moves reproduce the log.
+/// If a derivation is closed on the clauses of a log, whoever made it, no moves reproduce the log.
 pub fn closed_is_impossible<B>()
     ensures { (ops : BufferOps B) (model : Model) (bound : Binding) (code : Code) (log : Log) (lines : List Line)
         → Laws ops model bound → IsLawful code → is_log log ≡ true → IsWithin code log

@@ -1,4 +1,4 @@
-//! From a program and a log to a schedule that reproduces it, or to a derivation that shows that none does.
+//! From a program and a log to a schedule that reproduces the log, or to a proof that none does.
 #![tactic(auto)]
 
 mod answer;

@@ -1,4 +1,4 @@
-//! A log's clauses, with all that they are made of.
+//! A log's clauses, with everything that they are made from.
 ghost use Rattle.std.specs.Prelude.{◌≡◌, ◌≤◌, ◌<◌, false, length, IfOk, IfErr, OnOk, if◌then◌else◌};
 ghost use Rattle.std.specs.List.{All};
 ghost use Rattle.order_formula.specs.Formulas.{IsOf};
@@ -15,8 +15,8 @@ use bit_blast::{Blasted, blast};
 use clap_system::{BuildFault, build};
 use cnf_core::Cnf;
 use order_formula::{Formula, Order};
-use path_log::Log;
 use path_walk::Paths;
+use run_log::Log;
 use std::alloc::{AllocError, Global};
 use std::marker::Model;
 use store_buffers::MemoryModel;
@@ -24,8 +24,8 @@ use sym_exec::Symbolic;
 use sym_terms::Terms;
 use tc_code::Code;
 
-/// The clauses of a log, with all that they are made of: by it values that satisfy them are read as a schedule, and a clause as a
-/// rule of the program. Contracts see a record of the parts.
+/// The clauses of a log, with everything that they are made from: it turns models into schedules,
+/// and clauses into rules of the program. Contracts see a record of the parts.
 #[derive(Debug, Drop)]
 pub struct Posed {
     paths: Paths,
@@ -51,7 +51,7 @@ impl Posed {
         &self.paths
     }
 
-    /// What they come to, with terms in place of values.
+    /// The symbolic execution of the paths, with terms in place of values.
     pub fn symbolic(&self) -> &Symbolic
         ensures { result.now ≡ self.now.symbolic }
     {
@@ -65,14 +65,14 @@ impl Posed {
         &self.terms
     }
 
-    /// The formula, of which each conjunct has the group of its rule.
+    /// The formula; each conjunct has the group of its rule.
     pub fn formula(&self) -> &Formula
         ensures { result.now ≡ self.now.formula }
     {
         &self.formula
     }
 
-    /// The clauses, with the layout of their variables and the place of each conjunct's clause.
+    /// The clauses, with the layout of their variables and the index of each conjunct's clause.
     pub fn blasted(&self) -> &Blasted
         ensures { result.now ≡ self.now.blasted }
     {
@@ -86,7 +86,7 @@ impl Posed {
         self.blasted.clauses()
     }
 
-    /// The clauses, without taking memory.
+    /// The clauses, without an allocation.
     pub fn into_clauses(self) -> Cnf
         ensures { result ≡ self.blasted.clauses }
     {
@@ -94,10 +94,10 @@ impl Posed {
     }
 }
 
-/// The clauses of a log, under a memory model, with all that they are made of.
+/// The clauses of a log under a memory model, with everything that they are made from.
 ///
-/// Refused is what has no clauses; which log that is, [`build`](clap_system::build) says. Where the paths are dead, the clauses are
-/// those of what is impossible, and the formula has none.
+/// Fails if the log has no clauses; see [`build`](clap_system::build). If the paths are dead, the
+/// clauses are those of an impossible formula, and the formula has none.
 pub fn pose<M: MemoryModel>(alloc: Global, code: &Code, log: &Log) -> Result<Posed, BuildFault>
     ensures posed { IfOk result (λ posed. posed ≡ posed_of M.BUFFERED M.bound code.now log.now.log) }
     ensures variables { IfOk result (λ posed. posed.paths.dead ≡ false → 0 < posed.blasted.clauses.vars) }
@@ -119,10 +119,11 @@ pub fn pose<M: MemoryModel>(alloc: Global, code: &Code, log: &Log) -> Result<Pos
     })
 }
 
-/// The clauses of a log, under a memory model: those in which [`solve`](crate::solve) searches.
+/// The clauses of a log under a memory model, in which [`solve`](crate::solve) searches.
 ///
-/// Something satisfies them exactly where some moves reproduce the log: [`clauses_are_runs`](crate::laws::clauses_are_runs). So any
-/// solver may search in their place. Refused is what [`pose`] refuses.
+/// They are satisfiable exactly if some moves reproduce the log:
+/// [`clauses_are_runs`](crate::laws::clauses_are_runs). So any solver may search them instead.
+/// Fails if [`pose`] fails.
 pub fn clauses<M: MemoryModel>(alloc: Global, code: &Code, log: &Log) -> Result<Cnf, BuildFault>
     ensures ok { IfOk result (λ clauses. clauses ≡ clauses_of M.BUFFERED M.bound code.now log.now.log) }
     ensures within { OnOk result (IsWithin code.now log.now.log) }
@@ -131,7 +132,7 @@ pub fn clauses<M: MemoryModel>(alloc: Global, code: &Code, log: &Log) -> Result<
     Ok(pose::<M>(alloc, code, log)?.into_clauses())
 }
 
-/// The clauses of a formula, or of what is impossible where the paths are dead.
+/// The clauses of a formula, or of an impossible one if the paths are dead.
 fn blasted(
     alloc: Global,
     dead: bool,

@@ -1,6 +1,6 @@
 //! The search for a schedule.
 ghost use Rattle.std.specs.Prelude.{◌≡◌, ◌≤◌, length, IfOk, IfErr};
-ghost use Rattle.tc_base.specs.declared.limits.TheConstants.{BUDGET, EVENTS};
+ghost use Rattle.tc_limits.specs.declared.limits.TheConstants.{BUDGET, EVENTS};
 ghost use Rattle.lawful_order.specs.Events.{all_events};
 ghost use Rattle.clap_system.specs.Faults.{IsBuildFault};
 ghost use Rattle.clap_solve.specs.Solved.{IsSolved};
@@ -12,7 +12,7 @@ use cdcl_core::{Solved, solve_cnf};
 use clap_system::BuildFault;
 use cnf_core::Assignment;
 use first_run::first_world;
-use path_log::Log;
+use run_log::Log;
 use schedule_decode::decode;
 use schedule_file::Schedule;
 use std::alloc::{AllocError, Global};
@@ -20,10 +20,11 @@ use std::mem::drop;
 use store_buffers::MemoryModel;
 use tc_code::Code;
 
-/// Searches for a schedule that leads the machine of a memory model to the end that a log tells of, each thread along its path,
-/// until there is one, or a derivation that there is none, or so many clauses are learnt.
+/// Searches for a schedule that leads the machine of a memory model to the end that a log records,
+/// each thread along its path; returns one, a proof that there is none, or an open derivation once
+/// the budget of learnt clauses is spent.
 ///
-/// Refused is what has no clauses; which log that is, [`build`](clap_system::build) says.
+/// Fails if the log has no clauses; see [`build`](clap_system::build).
 pub fn solve<M: MemoryModel>(
     alloc: Global,
     code: &Code,
@@ -41,7 +42,7 @@ pub fn solve<M: MemoryModel>(
     Ok(answer?)
 }
 
-/// Searches for what satisfies a log's clauses, and answers.
+/// Searches for a model of a log's clauses, and answers.
 fn searched<M: MemoryModel>(
     alloc: Global,
     code: &Code,
@@ -70,7 +71,7 @@ fn first_values<M: MemoryModel>(
     posed.blasted().first_values(alloc, &world)
 }
 
-/// The answer that a search of a log's clauses comes to.
+/// The answer from a search of a log's clauses.
 fn answer<M: MemoryModel>(
     alloc: Global,
     code: &Code,
@@ -90,7 +91,7 @@ fn answer<M: MemoryModel>(
     }
 }
 
-/// The schedule of the world that is said by what satisfies a log's clauses.
+/// The schedule of the world of a model of a log's clauses.
 pub(crate) fn schedule<M: MemoryModel>(
     alloc: Global,
     code: &Code,

@@ -3,7 +3,8 @@ use Rattle.std.proofs.Common.{ℕ, ◌+◌, ◌≤◌, List, [], ◌∷◌, map,
 use Rattle.std.specs.Prelude.{slice_get}
 use Rattle.std.specs.List.{cons_option}
 use Rattle.std.proofs.lemmas.List.{length-map}
-use Rattle.tc_base.specs.Logs.{Log, ThreadPath}
+use Rattle.run_log.specs.Logs.{Log}
+use Rattle.tc_base.specs.Paths.{ThreadPath}
 use Rattle.tc_code.specs.Code.{Code}
 use Rattle.path_walk.specs.Events.{sleep_by, sleeps_of}
 use Rattle.path_walk.specs.Paths.{Walk, Paths, ArePaths, walk_of}

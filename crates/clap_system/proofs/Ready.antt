@@ -8,9 +8,9 @@ use Rattle.std.proofs.lemmas.Bool.{cases_lt}
 use Rattle.std.proofs.lemmas.List.{get_or_past}
 use Rattle.std.proofs.lemmas.List.Elements.{All-nil, All-cons, All-head, All-tail, All-append, All-contains, All-get_or, All-push, Contains-append_cases}
 use Rattle.std.proofs.lemmas.Option.{cond_some, none-some, option_and_then_some}
-use Rattle.tc_base.specs.Arith.{IsInt}
-use Rattle.tc_base.specs.declared.arith.BinOp.TheVariants.{Eq}
-use Rattle.tc_base.proofs.Ints.{truth_int}
+use Rattle.int_ops.specs.Arith.{IsInt}
+use Rattle.int_ops.specs.declared.arith.BinOp.TheVariants.{Eq}
+use Rattle.int_ops.proofs.Ints.{truth_int}
 use Rattle.tc_code.specs.Code.{Code}
 use Rattle.tc_code.specs.Lawful.{IsLawful}
 use Rattle.path_walk.specs.Paths.{Paths, ArePaths}

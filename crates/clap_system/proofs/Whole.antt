@@ -1,6 +1,6 @@
 -- What the execution of paths leaves, and the system that is made of it.
 use Rattle.std.proofs.Common.{◌≡◌, ◌∙◌, ◌≤◌, Bool, List, [], length, sym, ap, ap₂, subst, arith}
-use Rattle.tc_base.specs.declared.limits.TheConstants.{EVENTS}
+use Rattle.tc_limits.specs.declared.limits.TheConstants.{EVENTS}
 use Rattle.tc_code.specs.Code.{Code}
 use Rattle.tc_code.specs.Lawful.{IsLawful}
 use Rattle.path_walk.specs.Paths.{Paths, ArePaths}

@@ -1,8 +1,9 @@
--- Why a log has no system.
+-- The reasons why a log has no system.
 use Rattle.std.specs.Prelude.{◌≡◌, ℕ, ◌<◌, ◌≤◌, List, length, map, nat_lt, Option, Some, None}
 use Rattle.std.specs.List.{find}
-use Rattle.tc_base.specs.Logs.{Log, ThreadPath}
-use Rattle.tc_base.specs.declared.limits.TheConstants.{THREADS, DEPTH, EVENTS, OPERATORS}
+use Rattle.run_log.specs.Logs.{Log}
+use Rattle.tc_base.specs.Paths.{ThreadPath}
+use Rattle.tc_limits.specs.declared.limits.TheConstants.{THREADS, DEPTH, EVENTS, OPERATORS}
 use Rattle.tc_code.specs.Code.{Code}
 use Rattle.path_walk.specs.Fits.{Fits, IsFirst}
 use Rattle.path_walk.specs.Paths.{paths_of}
@@ -12,30 +13,30 @@ use Rattle.clap_system.specs.declared.fault.BuildFault.TheVariants.{Walk, Limit,
 use Rattle.clap_system.specs.declared.fault.Which.{Which}
 use Rattle.clap_system.specs.declared.fault.Which.TheVariants.{Threads, Depth, Events, Operators}
 
--- the most that a log's paths may have
+-- the limit on a log's threads, depth, events or operators
 abbrev pub limit_of : Which → ℕ
 limit_of Threads = THREADS
 limit_of Depth = DEPTH
 limit_of Events = EVENTS
 limit_of Operators = OPERATORS
 
--- how many creates lead to the first thread with a name that is too deep, if there is one
+-- the depth of the first thread whose name is too deep, if any
 abbrev pub first_deep : List ThreadPath → Option ℕ
 first_deep threads = find (nat_lt DEPTH) (map (λ t. length t.name) threads)
 
--- a log has few threads, and no name is too deep
+-- a log's threads and the depth of their names are within the limits
 pub record IsShallow (log : Log) : Type 0 where
   pub threads : length log.threads ≤ THREADS
   pub names : first_deep log.threads ≡ None
 
--- a log's paths have more of something than they may, and not too much of what is told first
+-- n is the log's number of this, and the limits that are checked before are met
 abbrev pub IsOver : Code → Log → Which → ℕ → Type 0
 IsOver code log Threads n = n ≡ length log.threads
 IsOver code log Depth n = (length log.threads ≤ THREADS) × (first_deep log.threads ≡ Some n)
 IsOver code log Events n = IsShallow log × Fits code log × (n ≡ (paths_of code log).events)
 IsOver code log Operators n = IsShallow log × Fits code log × ((paths_of code log).events ≤ EVENTS) × (n ≡ (paths_of code log).operators)
 
--- the cause of a fault; want of memory has none, and is no fault of the walk
+-- what a fault says about the log; lack of memory says nothing, and isn't reported as the walk's
 abbrev pub IsBuildFault : Code → Log → BuildFault → Type 0
 IsBuildFault code log (Limit which n limit) = (limit_of which < n) × (limit ≡ limit_of which) × IsOver code log which n
 IsBuildFault code log (Walk (walk.Unfit n m)) = IsShallow log × IsFirst code log n m

@@ -1,6 +1,6 @@
--- The system of a log: what its paths, their execution and a memory model ask of the order of events.
+-- The system of a log: what its paths and a memory model require of the order of events.
 use Rattle.std.specs.Prelude.{List, [], ◌++◌, length, fold, Bool}
-use Rattle.tc_base.specs.Logs.{Log}
+use Rattle.run_log.specs.Logs.{Log}
 use Rattle.tc_code.specs.Code.{Code}
 use Rattle.path_walk.specs.Paths.{Paths, paths_of}
 use Rattle.store_buffers.specs.Pending.{Binding}
@@ -20,17 +20,17 @@ pub record System : Type 0 where
   pub symbolic : Symbolic
   -- the terms
   pub nodes : List Node
-  -- what the formula asks of the order
+  -- the questions that the formula asks about the order
   pub order : Order
   pub formula : List Conjunct
 
 module _ (buffered : Bool) (bound : Binding) (code : Code) (paths : Paths) where
-  -- the rules of all groups, one after another, over these terms
+  -- the conjuncts of all groups, over these terms
   abbrev pub rules_of : Symbolic → List Node → List Conjunct
   rules_of symbolic nodes =
       own_formula buffered bound paths symbolic nodes ++ sync_formula paths ++ read_formula code paths symbolic nodes ++ test_formula symbolic
 
-  -- the terms of the execution, with those that the order of a thread's events needs, and those that loads need
+  -- the execution's terms, with those that the order of a thread's events and the loads need
   abbrev pub with_needs : Symbolic → List Node → List Node
   with_needs symbolic nodes =
       let own = fold with_node nodes (own_needs buffered bound paths symbolic nodes) in

@@ -1,2 +1,2 @@
--- No promise speaks of what stands in this folder: private contracts alone cite it.
+-- No promise mentions the definitions in this folder; only private contracts do.
 pub mod From

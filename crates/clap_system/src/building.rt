@@ -1,8 +1,8 @@
-//! From a log to its system.
+//! Building the system of a log.
 ghost use Rattle.std.specs.Prelude.{◌≡◌, ◌≤◌, length, IfOk, IfErr, OnOk};
 ghost use Rattle.std.specs.List.{All};
 ghost use Rattle.std.specs.Option.{MatchOption};
-ghost use Rattle.tc_base.specs.declared.limits.TheConstants.{EVENTS, OPERATORS, STEPS};
+ghost use Rattle.tc_limits.specs.declared.limits.TheConstants.{EVENTS, OPERATORS, STEPS};
 ghost use Rattle.path_walk.specs.Fits.{Fits};
 ghost use Rattle.path_walk.specs.Paths.{ArePaths};
 ghost use Rattle.tc_code.specs.Code as spec;
@@ -19,22 +19,23 @@ use crate::{BuildFault, System, Which};
 use memory_order::order_constraints;
 use order_events::{Sleeps, formula_of};
 use order_formula::{Formula, Order};
-use path_log::{Log, ThreadPath};
 use path_walk::{Paths, walk};
 use read_write::read_constraints;
+use run_log::{Log, ThreadPath};
 use std::alloc::{AllocError, Global};
 use store_buffers::MemoryModel;
 use sym_exec::{Symbolic, execute};
 use sym_terms::Terms;
 use sync_order::sync_constraints;
-use tc_base::limits::{DEPTH, EVENTS, OPERATORS, THREADS};
 use tc_code::Code;
+use tc_limits::limits::{DEPTH, EVENTS, OPERATORS, THREADS};
 
 /// The system of a log, under a memory model.
 ///
-/// Refused are, in this order: a log with too many threads; one with a name that is too deep, the first; one that doesn't fit the
-/// program; and one whose paths have too many events, or too many operators. There is room for the clauses of what it takes: that is a
-/// law, `clauses_have_room` of `formula_sizes`.
+/// Fails, in this order, if the log has too many threads; if a name is too deep (the first such
+/// name is reported); if the log doesn't fit the program; if its paths have too many events, or too
+/// many operators. The clauses of an accepted system have room: that is the law `clauses_have_room`
+/// of `formula_sizes`.
 pub fn build<M: MemoryModel>(alloc: Global, code: &Code, log: &Log) -> Result<System, BuildFault>
     ensures system { IfOk result (λ system. system ≡ system_of M.BUFFERED M.bound code.now log.now.log) }
     ensures fits { OnOk result (Fits code.now log.now.log) }
@@ -58,7 +59,7 @@ pub fn build<M: MemoryModel>(alloc: Global, code: &Code, log: &Log) -> Result<Sy
     Ok(system::<M>(alloc, code, paths)?)
 }
 
-/// That a log has too many threads, or a name that is too deep, if so it is.
+/// The fault that a log has too many threads, or a name that is too deep, if so.
 fn too_much(log: &Log) -> Option<BuildFault>
     ensures { MatchOption result (IsShallow log.now.log) (λ fault. (code : spec.Code) → IsBuildFault code log.now.log fault) }
 {
@@ -70,7 +71,7 @@ fn too_much(log: &Log) -> Option<BuildFault>
     Some(over(Which::Depth, depth as u64))
 }
 
-/// How many creates lead to the first thread with a name that is too deep.
+/// The depth of the first thread whose name is too deep, if any.
 fn too_deep(threads: &[ThreadPath]) -> Option<usize>
     ensures { result ≡ first_deep threads.now }
 {
@@ -89,7 +90,7 @@ fn read_steps(threads: &[ThreadPath])
     }
 }
 
-/// That there is so much of something, which is too much.
+/// The fault that there are more of something than the limit.
 fn over(which: Which, number: u64) -> BuildFault
     ensures { result ≡ Limit which number (limit_of which) }
 {
@@ -102,7 +103,7 @@ fn system<M: MemoryModel>(alloc: Global, code: &Code, paths: Paths) -> Result<Sy
     requires few { paths.events ≤ EVENTS }
     ensures { IfOk result (λ system. system ≡ system_by M.BUFFERED M.bound code.now paths) }
 {
-    // Lawful code, of which the terms of tests and accesses are there.
+    // The code is lawful, so the terms of tests and accesses exist.
     let _functions = code.functions();
     let mut terms = Terms::new(alloc);
     let symbolic = execute(alloc, code, &paths, &mut terms)?;
@@ -117,7 +118,7 @@ fn system<M: MemoryModel>(alloc: Global, code: &Code, paths: Paths) -> Result<Sy
     })
 }
 
-/// The order of the paths' events, of which nothing is asked.
+/// The order of the paths' events, without questions.
 fn no_questions(alloc: Global, paths: &Paths) -> Result<Order, AllocError>
     requires counted { paths.now.events ≡ length (all_events paths.now) }
     requires few { paths.now.events ≤ EVENTS }
@@ -129,7 +130,7 @@ fn no_questions(alloc: Global, paths: &Paths) -> Result<Order, AllocError>
     Ok(Order::empty(alloc, paths.events() as u32, count))
 }
 
-/// The rules of all groups. The terms and the order take what they need and ask.
+/// The conjuncts of all groups. Adds the terms and the questions that they need.
 fn rules<M: MemoryModel>(
     alloc: Global,
     code: &Code,

@@ -1,4 +1,4 @@
-//! The outcomes of branches and sites, as conjuncts.
+//! Conjuncts for the outcomes of branches and sites.
 ghost use Rattle.std.specs.Prelude.{◌≡◌, ◌++◌, map, IfOk, OnOk};
 ghost use Rattle.clap_system.specs.Tests.{test_conjunct, test_formula};
 
@@ -21,7 +21,7 @@ pub(crate) fn test_conjuncts(
     Ok(conjuncts)
 }
 
-/// A conjunct for each test of a thread.
+/// Appends a conjunct for each test of a thread.
 fn push_tests(
     alloc: Global,
     thread: usize,
@@ -36,7 +36,7 @@ fn push_tests(
     Ok(())
 }
 
-/// That a test of a thread comes out as the path has it.
+/// The conjunct that a test of a thread has its wanted outcome.
 fn conjunct(alloc: Global, thread: usize, test: Test) -> Result<Conjunct, AllocError>
     ensures { IfOk result (λ conjunct. conjunct ≡ test_conjunct thread test) }
 {

@@ -1,4 +1,4 @@
-//! Why a log has no system.
+//! The reasons why a log has no system.
 ghost use Rattle.std.specs.Prelude.{◌≡◌};
 ghost use Rattle.clap_system.specs.Faults.{limit_of};
 ghost use Rattle.clap_system.specs.helpers.From.{from_walk};
@@ -6,14 +6,14 @@ ghost use Rattle.clap_system.specs.declared.fault.BuildFault.TheVariants.{Memory
 
 use path_walk::WalkFault;
 use std::alloc::{AllocError, AllocFailed};
-use tc_base::limits::{DEPTH, EVENTS, OPERATORS, THREADS};
+use tc_limits::limits::{DEPTH, EVENTS, OPERATORS, THREADS};
 
-/// What the paths of a log may have too much of.
+/// What the paths of a log may have too many of.
 #[derive(Clone, Copy, Debug, PartialEq, Eq)]
 pub enum Which {
     /// Threads, main included.
     Threads,
-    /// Creates that lead from main to a thread.
+    /// Creates on the way from main to a thread.
     Depth,
     /// Events of all threads.
     Events,
@@ -22,7 +22,7 @@ pub enum Which {
 }
 
 impl Which {
-    /// The most that they may have.
+    /// The limit.
     pub fn limit(self) -> u64
         ensures { result ≡ limit_of self }
     {
@@ -35,14 +35,14 @@ impl Which {
     }
 }
 
-/// Why a log has no system.
+/// The reasons why a log has no system.
 #[derive(Debug, Drop)]
 pub enum BuildFault {
-    /// It doesn't fit the program. Want of memory there is `Memory` here.
+    /// The log doesn't fit the program. Out of memory in the walk is reported as `Memory`.
     Walk(WalkFault),
-    /// Its paths have too much of something: how much, and the most that they may have.
+    /// The paths have too many of something: their number, and the limit.
     Limit(Which, u64, u64),
-    /// No memory is left.
+    /// Out of memory.
     Memory,
 }
 

@@ -1,4 +1,4 @@
-//! Laws of systems. Each is a clause of a function that does nothing.
+//! Laws about systems. Each law is the contract of a function with an empty body.
 ghost use Rattle.std.specs.Prelude.{◌≡◌, ◌↔◌, ℕ, Bool, true, Some, length};
 ghost use Rattle.std.specs.List.{Contains};
 ghost use Rattle.tc_code.specs.Code.{Code};
@@ -16,7 +16,7 @@ ghost use Rattle.lawful_order.specs.Lawful.{IsWorldOf, MeetsRule};
 ghost use Rattle.clap_system.specs.Ready.{IsReady};
 ghost use Rattle.clap_system.specs.Systems.{system_by};
 
-/// The conjuncts of each group are all true in a world exactly where it meets the rule of that group.
+/// All conjuncts of a group are true in a world exactly when it meets the rule of that group.
 pub fn groups_are_exact()
     ensures { (buffered : Bool) (bound : Binding) (code : Code) (paths : Paths) (w : World) (g : Group)
         → ((barred : Bool) → bound true barred ≡ true) → IsLawful code → ArePaths code paths
@@ -26,7 +26,7 @@ pub fn groups_are_exact()
         (MeetsRule buffered bound code paths (system_by buffered bound code paths).symbolic (system_by buffered bound code paths).nodes w g) }
 {}
 
-/// The formula is true exactly in the lawful worlds.
+/// The formula is true in a world exactly when the world is lawful.
 pub fn systems_are_exact()
     ensures { (buffered : Bool) (bound : Binding) (code : Code) (paths : Paths) (w : World)
         → ((barred : Bool) → bound true barred ≡ true) → IsLawful code → ArePaths code paths
@@ -36,14 +36,14 @@ pub fn systems_are_exact()
         ↔ order.IsLawful buffered bound code paths (system_by buffered bound code paths).symbolic (system_by buffered bound code paths).nodes w }
 {}
 
-/// A system has all that whoever turns it into clauses builds on.
+/// A system has everything that its translation into clauses relies on.
 pub fn systems_are_ready()
     ensures { (buffered : Bool) (bound : Binding) (code : Code) (paths : Paths)
         → IsLawful code → ArePaths code paths → IsReady (system_by buffered bound code paths) }
 {}
 
-/// A world of as many events, loads and sleeps as the paths have is one of the paths exactly where each event that ends a sleep is
-/// among those of which the order was asked whether they end it.
+/// A world with the paths' numbers of events, loads and sleeps is a world of the paths exactly when
+/// every event that ends a sleep is among the order's choices for that sleep.
 pub fn choices_are_enders()
     ensures { (buffered : Bool) (bound : Binding) (code : Code) (paths : Paths) (w : World)
         → length w.positions ≡ length (all_events paths) → length w.loads ≡ (system_by buffered bound code paths).symbolic.loads

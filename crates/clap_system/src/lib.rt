@@ -1,4 +1,5 @@
-//! The system of a log: its paths, their execution, and a formula that is true exactly in the worlds of runs along them.
+//! The system of a log: its paths, their execution, and a formula that is true exactly in the
+//! worlds of runs along these paths.
 #![tactic(auto)]
 
 mod building;

@@ -45,7 +45,7 @@ impl System {
         &self.paths
     }
 
-    /// What they come to, with terms in place of values.
+    /// The result of executing the paths, with terms in place of values.
     pub fn symbolic(&self) -> &Symbolic
         ensures { result.now ≡ self.now.symbolic }
     {
@@ -59,7 +59,7 @@ impl System {
         &self.terms
     }
 
-    /// What the formula asks of the order of events.
+    /// The questions that the formula asks about the order of events.
     pub fn order(&self) -> &Order
         ensures { result.now ≡ self.now.order }
     {
@@ -82,7 +82,8 @@ impl System {
         Ok(holds(&self.terms, &self.formula, world, &mut values))
     }
 
-    /// Its parts: the paths of the log, their execution, the terms, what the formula asks of the order, and the formula.
+    /// Its parts: the paths of the log, their execution, the terms, the questions about the order,
+    /// and the formula.
     pub fn into_parts(self) -> (Paths, Symbolic, Terms, Order, Formula)
         ensures paths { result.0 ≡ self.paths }
         ensures symbolic { result.1 ≡ self.symbolic }

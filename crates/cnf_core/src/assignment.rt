@@ -1,4 +1,4 @@
-//! Assignments, and what satisfies clauses.
+//! Assignments, and whether they satisfy clauses.
 ghost use Rattle.std.specs.Prelude.{◌≡◌, ◌≤◌, ◌<◌, Bool, List, length, IsTrue};
 ghost use Rattle.cnf_core.specs.Clauses.{value_in, satisfies, var_of, literal_true, clause_true, is_within};
 
@@ -6,7 +6,7 @@ use crate::{Cnf, Lit};
 use std::alloc::Global;
 use std::marker::Model;
 
-/// A value for each of the variables 1 to a number. Contracts see the list of the values.
+/// A value for each of the variables 1 to some number. Contracts see the list of the values.
 #[derive(Debug, Drop)]
 pub struct Assignment {
     values: Vec<bool>,
@@ -21,14 +21,14 @@ impl Model for Assignment {
 }
 
 impl Assignment {
-    /// The assignment of these values, the first of which is the variable 1's.
+    /// The assignment of these values; the first is that of variable 1.
     pub fn new(values: Vec<bool>) -> Assignment
         ensures { result ≡ values.items }
     {
         Assignment { values }
     }
 
-    /// Its values, without taking memory.
+    /// Its values, without an allocation.
     pub fn into_values(self) -> Vec<bool>
         ensures { result.items ≡ self }
     {

@@ -6,7 +6,7 @@ use crate::Lit;
 use std::alloc::Global;
 use std::marker::Model;
 
-/// Literals that rise strictly by variable, of which one is to be true. Contracts see them as a list.
+/// A disjunction of literals that rise strictly by variable. Contracts see them as a list.
 #[derive(Debug, Drop)]
 pub struct Clause {
     literals: Vec<Lit>,
@@ -37,7 +37,7 @@ pub fn is_clause(literals: &[Lit]) -> bool
     true
 }
 
-/// Whether each literal's variable is one of the first so many.
+/// Whether each literal's variable is at most `vars`.
 pub fn is_within(vars: u32, literals: &[Lit]) -> bool
     ensures { result ≡ is_within vars literals.now }
 {
@@ -66,7 +66,7 @@ impl Clause {
         self.literals.as_slice()
     }
 
-    /// Its literals, without taking memory.
+    /// Its literals, without an allocation.
     pub fn into_literals(self) -> Vec<Lit>
         ensures literals { result.items ≡ self }
         ensures rises { IsTrue (is_clause self) }

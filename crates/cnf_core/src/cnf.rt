@@ -32,12 +32,12 @@ use crate::Lit;
 use std::alloc::{AllocError, Global};
 use std::marker::Model;
 
-/// A list has fewer variables than this, and fewer clauses.
+/// A list has fewer variables than this, and fewer clauses than this.
 pub const LIMIT: u32 = 2_000_000_000;
 
-/// Clauses over the variables 1 to a number. Contracts see a record of that number and the list of the clauses.
+/// Clauses over the variables 1 to a number. Contracts see this number and the list of the clauses.
 ///
-/// The literals of all clauses lie in one list, with the place where each clause ends: a clause costs 4 bytes a literal and 8 more.
+/// All literals are in one list, with the clauses' ends: 4 bytes a literal and 8 more a clause.
 #[derive(Debug, Drop)]
 pub struct Cnf {
     vars: u32,
@@ -57,7 +57,7 @@ impl Model for Cnf {
     ghost invariant = { IsLaidOut };
 }
 
-/// Where the piece at that place begins, or would begin: at the end of the one before it.
+/// Where the piece at an index begins, or would begin: where the one before it ends.
 fn start(ends: &[usize], place: usize) -> usize
     requires { place ≤ length ends.now }
     ensures { result ≡ slice_index (0 ∷ ends.now) place }
@@ -65,7 +65,7 @@ fn start(ends: &[usize], place: usize) -> usize
     if place == 0 { 0 } else { ends[place - 1] }
 }
 
-/// The literals from one place to another.
+/// The literals from one index to another.
 fn piece(literals: &[Lit], from: usize, to: usize) -> &[Lit]
     requires ordered { from ≤ to }
     requires there { to ≤ length literals.now }
@@ -114,7 +114,7 @@ impl Cnf {
         self.ends.is_empty()
     }
 
-    /// The clause at that place, from 0.
+    /// The clause at an index, from 0.
     pub fn clause(&self, place: usize) -> &[Lit]
         requires { place < length self.now.clauses }
         ensures clause { slice_get self.now.clauses place ≡ Some result.now }
@@ -124,7 +124,7 @@ impl Cnf {
         piece(&self.literals, start(&self.ends, place), self.ends[place])
     }
 
-    /// One variable more, which no clause names yet: its literal.
+    /// Adds a variable that no clause names yet, and returns its literal.
     pub fn add_variable(&mut self) -> Lit
         requires { self.old.vars + 1 < LIMIT }
         ensures literal { result ≡ pos (self.old.vars + 1) }
@@ -135,7 +135,7 @@ impl Cnf {
         Lit::new(self.vars, false)
     }
 
-    /// One clause more, at the end.
+    /// Appends a clause.
     pub fn push(&mut self, clause: &[Lit]) -> Result<(), AllocError>
         requires rises { IsTrue (is_clause clause.now) }
         requires within { IsTrue (is_within self.old.vars clause.now) }
@@ -150,7 +150,7 @@ impl Cnf {
         Ok(())
     }
 
-    /// Clauses at the end; where there is no memory, maybe some of them.
+    /// Appends clauses; if memory runs out, perhaps only some of them.
     fn push_all(&mut self, clauses: &[&[Lit]]) -> Result<(), AllocError>
         requires clauses { IsTrue (are_clauses self.old.vars (all_now clauses.now)) }
         requires room { length self.old.clauses + length clauses.now < LIMIT }
@@ -165,7 +165,7 @@ impl Cnf {
         Ok(())
     }
 
-    /// Without the last variable, and with the first clauses alone.
+    /// Removes the last variable, and all clauses after the first `len`.
     fn take_back(&mut self, len: usize)
         requires vars { 0 < self.old.vars }
         requires len { len ≤ length self.old.clauses }
@@ -178,7 +178,7 @@ impl Cnf {
         self.ends.truncate(len);
     }
 
-    /// One variable more, and the clauses that define it: its literal.
+    /// Adds a variable and the clauses that define it, and returns its literal.
     pub(crate) fn define(&mut self, clauses: &[&[Lit]]) -> Result<Lit, AllocError>
         requires vars { self.old.vars + 1 < LIMIT }
         requires clauses { IsTrue (are_clauses (suc self.old.vars) (all_now clauses.now)) }

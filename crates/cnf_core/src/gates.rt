@@ -7,23 +7,23 @@ ghost use Rattle.cnf_core.specs.Gates.{BlockKeeps, BlockDecides, and_clauses, xo
 use crate::{Cnf, Lit};
 use std::alloc::AllocError;
 
-/// What a gate computes of two literals.
+/// The function that a gate computes of two literals.
 #[derive(Clone, Copy, Debug, PartialEq, Eq)]
 pub enum Gate {
-    /// Both are true.
+    /// Conjunction.
     And,
-    /// One is true, or both.
+    /// Disjunction.
     Or,
-    /// One is true, and the other isn't.
+    /// Exclusive or.
     Xor,
 }
 
-/// What satisfies a formula satisfies it with a block of gates, once the block's variables have the values of their gates.
+/// A model of a formula, extended by the values of a block's gates, is one with the block added.
 pub fn block_keeps()
     ensures { BlockKeeps }
 {}
 
-/// No other values of the block's variables do.
+/// A model with a block gives the block's variables the values of their gates.
 pub fn block_decides()
     ensures { BlockDecides }
 {}
@@ -31,7 +31,7 @@ pub fn block_decides()
 impl Cnf {
     ghost use Rattle.cnf_core.specs.Gates.{after_gate};
 
-    /// A new variable that is true where both literals are. The literals may have one variable.
+    /// Adds a variable for the conjunction of two literals, which may share a variable.
     pub fn and_gate(&mut self, a: Lit, b: Lit) -> Result<Lit, AllocError>
         requires first { var_of a ≤ self.old.vars }
         requires second { var_of b ≤ self.old.vars }
@@ -44,7 +44,7 @@ impl Cnf {
         self.define_and(a, b, Lit::new(self.vars() + 1, false))
     }
 
-    /// A new variable that is true where one of the literals is. The literals may have one variable.
+    /// Adds a variable for the disjunction of two literals, which may share a variable.
     pub fn or_gate(&mut self, a: Lit, b: Lit) -> Result<Lit, AllocError>
         requires first { var_of a ≤ self.old.vars }
         requires second { var_of b ≤ self.old.vars }
@@ -57,7 +57,7 @@ impl Cnf {
         self.define_and(a.opposite(), b.opposite(), Lit::new(self.vars() + 1, true))
     }
 
-    /// A new variable that is true where one of the literals is and the other isn't. The literals may have one variable.
+    /// Adds a variable for the exclusive or of two literals, which may share a variable.
     pub fn xor_gate(&mut self, a: Lit, b: Lit) -> Result<Lit, AllocError>
         requires first { var_of a ≤ self.old.vars }
         requires second { var_of b ≤ self.old.vars }
@@ -70,7 +70,7 @@ impl Cnf {
         self.define_xor(a, b, Lit::new(self.vars() + 1, false))
     }
 
-    /// A new variable, by the clauses that make a literal of it the conjunction of two literals.
+    /// Adds the variable of `out`, and clauses that make `out` the conjunction of two literals.
     fn define_and(&mut self, a: Lit, b: Lit, out: Lit) -> Result<Lit, AllocError>
         requires first { var_of a ≤ self.old.vars }
         requires second { var_of b ≤ self.old.vars }
@@ -94,7 +94,7 @@ impl Cnf {
         }
     }
 
-    /// A new variable, by the clauses that make a literal of it true where one of two literals is and the other isn't.
+    /// Adds the variable of `out`, and clauses that make `out` the exclusive or of two literals.
     fn define_xor(&mut self, a: Lit, b: Lit, out: Lit) -> Result<Lit, AllocError>
         requires first { var_of a ≤ self.old.vars }
         requires second { var_of b ≤ self.old.vars }
@@ -118,7 +118,7 @@ impl Cnf {
         }
     }
 
-    /// The same, where the first literal's variable is below the second's.
+    /// The same, if the first literal's variable is below the second's.
     fn define_one(&mut self, a: Lit, b: Lit, out: Lit) -> Result<Lit, AllocError>
         requires rising { var_of a < var_of b }
         requires second { var_of b ≤ self.old.vars }

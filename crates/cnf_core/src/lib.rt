@@ -1,4 +1,4 @@
-//! Clauses over numbered variables, what satisfies them, and the gates of a circuit as clauses.
+//! Clauses over numbered variables, assignments that satisfy them, and gates as clauses.
 #![tactic(auto)]
 
 mod assignment;

@@ -4,7 +4,7 @@ ghost use Rattle.cnf_core.specs.Clauses.{var_of};
 
 use std::marker::Model;
 
-/// A variable, or its negation: the variable's number, from 1 to 2,147,483,647, with a minus sign where it is negated.
+/// A variable or its negation: a number from 1 to 2,147,483,647, negative if it is negated.
 ///
 /// These are the numbers of DIMACS. Contracts see a literal as that integer.
 #[derive(Clone, Copy, Debug, PartialEq, Eq)]
@@ -55,7 +55,7 @@ impl Lit {
         self.number < 0
     }
 
-    /// The literal that is true where this one is false.
+    /// The negation of this literal.
     pub fn opposite(self) -> Lit
         ensures { result ≡ neg_ℤ self }
     {

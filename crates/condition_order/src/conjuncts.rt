@@ -23,10 +23,11 @@ use order_events::{Events, Sleeps, one_of, single};
 use order_formula::{Body, Case, Cases, Conjunct, Group, Literal};
 use std::alloc::{AllocError, Global};
 
-/// All conjuncts about conditions: of a sleep those that come with its start and its wake, that a signal ends no two sleeps, and
-/// that no signal or broadcast is lost on which the sleep waits. They are pushed sleep by sleep.
+/// All conjuncts about conditions, appended sleep by sleep: those about its start and its wake,
+/// that a signal ends at most one sleep, and that no signal or broadcast is lost while the sleep
+/// waits.
 ///
-/// The one error is want of memory; some of the conjuncts may have been pushed then.
+/// Fails only if out of memory; some of the conjuncts may then be appended.
 pub fn condition_conjuncts(
     alloc: Global,
     events: &Events,
@@ -40,7 +41,7 @@ pub fn condition_conjuncts(
     push_waits(alloc, events, waits.as_slice(), conjuncts)
 }
 
-/// The conjuncts of all waits.
+/// Appends the conjuncts of all waits.
 fn push_waits(
     alloc: Global,
     events: &Events,
@@ -56,7 +57,7 @@ fn push_waits(
 }
 
 impl Wait {
-    /// The conjuncts of the wait, which is one of some waits.
+    /// Appends the conjuncts of this wait, which is among all waits.
     fn push_all(
         &self,
         alloc: Global,
@@ -75,7 +76,7 @@ impl Wait {
         Ok(())
     }
 
-    /// What ends the sleep comes when it has begun.
+    /// If an ender ends the sleep, it comes after the sleep has begun.
     fn push_begun(
         &self,
         alloc: Global,
@@ -90,7 +91,7 @@ impl Wait {
         Ok(())
     }
 
-    /// Something has ended the sleep before the thread wakes, if it does.
+    /// If the thread wakes, an ender ends the sleep before that.
     fn push_woken(
         &self,
         alloc: Global,
@@ -106,7 +107,7 @@ impl Wait {
         Ok(())
     }
 
-    /// What ends the sleep comes before an event.
+    /// If an ender ends the sleep, it comes before the event `wake`.
     fn push_ended_before(
         &self,
         alloc: Global,
@@ -122,7 +123,7 @@ impl Wait {
         Ok(())
     }
 
-    /// A signal that ends the sleep ends no later one.
+    /// A signal that ends the sleep ends no sleep with a higher number.
     fn push_no_later(
         &self,
         alloc: Global,
@@ -140,7 +141,7 @@ impl Wait {
         Ok(())
     }
 
-    /// What ends the sleep ends no later one.
+    /// An ender of the sleep ends no sleep with a higher number.
     fn push_not_both(
         &self,
         alloc: Global,
@@ -158,7 +159,7 @@ impl Wait {
         Ok(())
     }
 
-    /// No signal and no broadcast is lost on which the sleep waits.
+    /// No signal or broadcast is lost while the sleep waits.
     fn push_not_lost(
         &self,
         alloc: Global,
@@ -174,7 +175,7 @@ impl Wait {
         Ok(())
     }
 
-    /// What ends the sleep comes when it has begun.
+    /// If an ender ends the sleep, it comes after the sleep has begun.
     fn begun(&self, alloc: Global, ender: Ender) -> Result<Conjunct, AllocError>
         ensures { IfOk result (λ conjunct. conjunct ≡ begun self.now ender) }
     {
@@ -188,7 +189,7 @@ impl Wait {
         )
     }
 
-    /// Something ends the sleep.
+    /// One of the enders ends the sleep.
     fn ended(&self, alloc: Global, enders: &[Ender]) -> Result<Conjunct, AllocError>
         ensures { IfOk result (λ conjunct. conjunct ≡ ended self.now enders.now) }
     {
@@ -199,7 +200,7 @@ impl Wait {
         Ok(self.about(cases))
     }
 
-    /// What ends the sleep comes before an event.
+    /// If an ender ends the sleep, it comes before the event `wake`.
     fn ended_before(&self, alloc: Global, wake: u32, ender: Ender) -> Result<Conjunct, AllocError>
         ensures { IfOk result (λ conjunct. conjunct ≡ ended_before self.now wake ender) }
     {
@@ -213,7 +214,7 @@ impl Wait {
         )
     }
 
-    /// What ends the sleep doesn't end another.
+    /// The ender doesn't end both this sleep and the other.
     fn not_both(&self, alloc: Global, ender: Ender, other: u32) -> Result<Conjunct, AllocError>
         ensures { IfOk result (λ conjunct. conjunct ≡ not_both self.now ender other) }
     {
@@ -227,7 +228,8 @@ impl Wait {
         )
     }
 
-    /// The ender comes before the sleep, or another has ended the sleep before, or it ends what it may.
+    /// The ender isn't lost: it comes before the sleep, or another ends the sleep before, or it
+    /// ends one.
     fn not_lost(
         &self,
         alloc: Global,
@@ -248,7 +250,7 @@ impl Wait {
         Ok(self.about(cases))
     }
 
-    /// The cases in which another ender has ended the sleep before.
+    /// Appends the cases in which another ender ends the sleep before.
     fn push_cases_before(
         &self,
         alloc: Global,
@@ -281,7 +283,7 @@ impl Wait {
     }
 }
 
-/// The cases in which the ender ends one of some sleeps.
+/// Appends the cases in which the ender ends one of some sleeps.
 fn push_cases_one(
     alloc: Global,
     sleeps: &[u32],
@@ -296,7 +298,7 @@ fn push_cases_one(
     Ok(())
 }
 
-/// The case of two literals.
+/// The case with two literals.
 fn both(alloc: Global, first: Literal, second: Literal) -> Result<Case, AllocError>
     ensures { IfOk result (λ case. case ≡ first ∷ second ∷ []) }
 {

@@ -1,4 +1,4 @@
-//! Laws of the formula of conditions. Each is a clause of a function that does nothing.
+//! Laws about the formula of conditions. Each law is the contract of a function with an empty body.
 ghost use Rattle.std.specs.Prelude.{◌≡◌, ℕ, List, length};
 ghost use Rattle.std.specs.List.{All, Contains};
 ghost use Rattle.path_walk.specs.Paths.{Paths};
@@ -16,8 +16,8 @@ ghost use Rattle.lawful_order.specs.Lawful.{IsWorldOf};
 ghost use Rattle.lawful_order.specs.Conditions.{ConditionRule};
 ghost use Rattle.condition_order.specs.Conditions.{condition_formula};
 
-/// The conjuncts about a condition are all true in a world exactly where its waits end as the condition's signals and broadcasts
-/// end them.
+/// All conjuncts about a condition are true in a world exactly when its sleeps end as the
+/// condition's signals and broadcasts end them.
 pub fn conditions_are_exact()
     ensures { (paths : Paths) (symbolic : Symbolic) (nodes : List Node) (w : World) (c : ℕ) → IsWorldOf paths symbolic w
         → IsExactly nodes w (condition_formula paths) (Condition c) (ConditionRule paths w c) }
@@ -29,7 +29,7 @@ pub fn conditions_have_their_group()
         → (c : ℕ) × (x.group ≡ Condition c) }
 {}
 
-/// Of whole paths all events and sleeps that a conjunct names are there.
+/// If the paths are whole, all events and sleeps that a conjunct names exist.
 pub fn conditions_are_of_the_order()
     ensures { (paths : Paths) (o : Order) → AreWhole paths → o.events ≡ length (all_events paths)
         → o.sleeps ≡ length (all_sleeps paths) → All (ConjunctIsIn o) (condition_formula paths) }

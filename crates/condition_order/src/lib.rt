@@ -1,4 +1,4 @@
-//! The rules of condition variables as conjuncts of a formula: what ends a wait, and which signals and broadcasts may be lost.
+//! The rules of condition variables as conjuncts: what ends a wait, and which signals may be lost.
 #![tactic(auto)]
 
 mod conjuncts;

@@ -1,4 +1,4 @@
-//! Waits on conditions, and what ends them.
+//! Waits on conditions, and the events that end them.
 ghost use Rattle.std.specs.Prelude.{◌≡◌, ◌<◌, ◌^◌, length, IfOk};
 ghost use Rattle.condition_order.specs.Conditions.{ender_by, enders, sleeps_on, wait_of, waits};
 
@@ -6,7 +6,7 @@ use order_events::{Events, Placed, PlacedSleep, Sleeps};
 use path_walk::EventKind;
 use std::alloc::{AllocError, Global};
 
-/// A thread's wait on a condition, by the number of its sleep.
+/// A thread's wait on a condition, with the number of its sleep.
 #[derive(Clone, Copy, Debug)]
 pub(crate) struct Wait {
     /// The number of the sleep.
@@ -15,7 +15,7 @@ pub(crate) struct Wait {
     pub(crate) condition: u32,
     /// The event that begins the sleep.
     pub(crate) begins: u32,
-    /// The event of the thread's wake, if the path has it.
+    /// The event in which the thread wakes, if the path has it.
     pub(crate) wakes: Option<u32>,
 }
 
@@ -24,12 +24,12 @@ pub(crate) struct Wait {
 pub struct Ender {
     /// The event.
     pub event: u32,
-    /// Whether it is a broadcast, which ends each sleep on the condition. A signal ends one.
+    /// Whether it is a broadcast, which ends every sleep on the condition. A signal ends one.
     pub all: bool,
 }
 
 impl Wait {
-    /// That of a sleep of a number.
+    /// The wait of a numbered sleep.
     fn of(events: &Events, number: u32, placed: &PlacedSleep) -> Wait
         ensures { result ≡ wait_of events.now (number, placed.now) }
     {
@@ -47,7 +47,7 @@ impl Wait {
 }
 
 impl Ender {
-    /// An event of a number, if it is a signal or a broadcast of the condition.
+    /// A numbered event as an ender, if it is a signal or a broadcast of the condition.
     fn by(condition: u32, number: u32, placed: &Placed) -> Option<Ender>
         ensures { result ≡ ender_by condition (number, placed.now) }
     {

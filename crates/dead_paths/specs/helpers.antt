@@ -1,2 +1,2 @@
--- No promise speaks of what stands in this folder: private contracts alone cite it.
+-- No promise uses the definitions in this folder; only private contracts do.
 pub mod Own

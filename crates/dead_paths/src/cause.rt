@@ -6,14 +6,14 @@ ghost use Rattle.path_walk.specs.Steps.{steps_at};
 ghost use Rattle.dead_paths.specs.Causes.{cause_of, exit_line, first_cause, line_in};
 
 use crate::own::Own;
-use path_log::Log;
 use path_walk::Paths;
+use run_log::Log;
 use std::alloc::{AllocError, Global};
 use std::marker::Model;
 use tc_base::ThreadName;
 use tc_code::Code;
 
-/// A line to which a thread comes by its path, and at which the path alone tells that no run goes on so.
+/// A line that a thread reaches on its path, and at which the path alone rules out every run.
 #[derive(Debug, Drop)]
 pub struct Cause {
     name: ThreadName,
@@ -29,7 +29,7 @@ impl Model for Cause {
 }
 
 impl Cause {
-    /// The thread.
+    /// The thread's name.
     pub fn name(&self) -> &ThreadName
         ensures { result.now ≡ self.now.name }
     {
@@ -44,8 +44,8 @@ impl Cause {
     }
 }
 
-/// Why the paths of a log are dead: the first cause of the least name that has one. Where none has, all threads have exited in a log
-/// of a deadlock, and it is main's exit.
+/// Why the paths of a log are dead: the first cause of the least name that has one. If none has,
+/// all threads have exited in the log of a deadlock, and the cause is main's exit.
 pub fn cause_of(alloc: Global, code: &Code, log: &Log, paths: &Paths) -> Result<Cause, AllocError>
     requires { paths.now ≡ paths_of code.now log.now.log }
     ensures { IfOk result (λ cause. cause ≡ cause_of code.now log.now.log) }
@@ -81,7 +81,7 @@ fn first_cause(
     Ok(None)
 }
 
-/// Whether it is the thread that failed.
+/// Whether the named thread is the one that failed.
 fn fails(log: &Log, name: &ThreadName) -> bool
     ensures { result ≡ fails_in log.now.log name.now }
 {
@@ -91,7 +91,7 @@ fn fails(log: &Log, name: &ThreadName) -> bool
     }
 }
 
-/// The line of the first step, at these places of a function, of which the steps alone tell that no run does it.
+/// The line of the first step at these places of a function that the steps alone rule out, if any.
 fn line_in(
     alloc: Global,
     code: &Code,

@@ -1,4 +1,4 @@
-//! Why the paths of a log alone tell that no run goes so.
+//! Why the paths of a log alone rule out every run.
 #![tactic(auto)]
 
 mod cause;

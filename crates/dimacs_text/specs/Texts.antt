@@ -4,11 +4,11 @@ use Rattle.std.specs.List.{flat_map}
 use Rattle.std.specs.Fmt.{decimal, signed_decimal}
 use Rattle.cnf_core.specs.Clauses.{Formula}
 
--- the first line: how many variables and clauses there are
+-- the header: the number of variables and the number of clauses
 abbrev pub header : Formula → List ℕ
 header f = codes "p cnf " ++ (decimal f.vars ++ (codes " " ++ (decimal (length f.clauses) ++ codes "\n")))
 
--- a literal, which a space follows
+-- a literal, followed by a space
 abbrev pub literal_text : ℤ → List ℕ
 literal_text l = signed_decimal l ++ codes " "
 
@@ -16,6 +16,6 @@ literal_text l = signed_decimal l ++ codes " "
 abbrev pub clause_line : List ℤ → List ℕ
 clause_line clause = flat_map literal_text clause ++ codes "0\n"
 
--- the first line, and a line for each clause
+-- the header, and a line for each clause
 abbrev pub cnf_text : Formula → List ℕ
 cnf_text f = header f ++ flat_map clause_line f.clauses

@@ -1,3 +1,3 @@
--- No promise speaks of what stands in this folder.
+-- No promise refers to the definitions of this folder.
 pub mod Pieces
 pub mod Reading

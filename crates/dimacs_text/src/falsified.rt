@@ -1,4 +1,4 @@
-//! What values leave false.
+//! The first clause that an assignment makes false.
 ghost use Rattle.std.specs.Prelude.{◌≡◌, ◌≤◌, ◌<◌, length, IfSome, IsTrue, MatchOption};
 ghost use Rattle.cnf_core.specs.Clauses.{clause_true, is_within, satisfies, value_in};
 ghost use Rattle.cnf_core.specs.declared.cnf.TheConstants.{LIMIT};
@@ -6,7 +6,7 @@ ghost use Rattle.dimacs_text.specs.Values.{IsFirstFalse};
 
 use cnf_core::{Assignment, Cnf, Lit};
 
-/// The place, from 0, of the first clause that the assignment leaves false, if it leaves one so.
+/// The index, from 0, of the first clause that the assignment makes false, if there is one.
 pub fn first_false(cnf: &Cnf, assignment: &Assignment) -> Option<u32>
     requires { cnf.now.vars ≤ length assignment.now }
     ensures first { MatchOption result (IsTrue (satisfies (value_in assignment.now) cnf.now.clauses)) (IsFirstFalse (value_in assignment.now) cnf.now.clauses) }

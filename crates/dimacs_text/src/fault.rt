@@ -1,17 +1,17 @@
-//! Why a text is no answer.
+//! Why a text isn't an answer.
 ghost use Rattle.std.specs.Prelude.{◌≡◌};
 ghost use Rattle.dimacs_text.specs.declared.fault.AnswerFault.TheVariants.{Memory};
 
 use std::alloc::{AllocError, AllocFailed};
 use thiserror::Error;
 
-/// Why a text is no answer.
+/// Why a text isn't an answer.
 #[derive(Clone, Copy, Debug, PartialEq, Eq, Error)]
 pub enum AnswerFault {
-    /// The number, from 1, of the first line with which no answer begins. Where the text ends too early, it is the line after the last.
+    /// The first line, from 1, that breaks the form; one past the last if the text ends too early.
     #[error("line {0}")]
     Form(usize),
-    /// There is no memory.
+    /// Memory ran out.
     #[error("no memory")]
     Memory,
 }

@@ -1,4 +1,4 @@
-//! The literals of an answer, and the values that they give.
+//! The literals of an answer, and the assignment that they give.
 ghost use Rattle.std.specs.Prelude.{◌≡◌, neg_ℤ, [], IfOk, OnOk};
 ghost use Rattle.std.specs.List.{list_any};
 ghost use Rattle.std.specs.Ordering.{int_eq};
@@ -10,9 +10,9 @@ use indexmap::IndexSet;
 use std::alloc::{AllocError, Global};
 use std::marker::Model;
 
-/// Literals that a solver makes true, each once, in the order in which they first come. Contracts see a list.
+/// The literals that a solver makes true, each once, by first occurrence. Contracts see a list.
 ///
-/// Their numbers have 64 bits, so that each variable that a `u32` counts has one.
+/// Numbers have 64 bits, so that each variable that a `u32` counts has one.
 #[derive(Debug, Drop)]
 pub struct Literals {
     numbers: IndexSet<i64>,
@@ -27,7 +27,7 @@ impl Model for Literals {
 }
 
 impl Literals {
-    /// No literals.
+    /// An empty list.
     pub fn new(alloc: Global) -> Literals
         ensures { result ≡ [] }
     {
@@ -36,21 +36,21 @@ impl Literals {
         }
     }
 
-    /// Whether a literal is among them.
+    /// Whether a literal is in the list.
     pub fn contains(&self, lit: Lit) -> bool
         ensures { result ≡ list_any (int_eq lit) self.now }
     {
         self.numbers.contains(&i64::from(lit.number()))
     }
 
-    /// Whether they make a variable true.
+    /// Whether the literals make a variable true.
     pub fn make_true(&self, var: u32) -> bool
         ensures { result ≡ is_made_true self.now var }
     {
         self.numbers.contains(&i64::from(var))
     }
 
-    /// One literal more, unless it is there.
+    /// Adds a literal, unless it is there already.
     pub fn insert(&mut self, lit: Lit) -> Result<(), AllocError>
         ensures { OnOk result (self.new ≡ insert_key int_eq self.old lit) }
     {
@@ -59,8 +59,8 @@ impl Literals {
     }
 }
 
-/// The values of the variables 1 to a number: a variable of which the literals don't say that it is true is false. Those of greater
-/// variables say nothing.
+/// The values of the variables 1 to `vars`: a variable is true if its positive literal is in the
+/// list. Literals of greater variables are ignored.
 pub fn assignment(alloc: Global, literals: &Literals, vars: u32) -> Result<Assignment, AllocError>
     ensures { IfOk result (λ assignment. assignment ≡ assigned vars literals.now) }
 {

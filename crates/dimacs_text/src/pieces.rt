@@ -1,11 +1,11 @@
-//! The pieces of bytes.
+//! Pieces of bytes.
 ghost use Rattle.std.specs.Prelude.{◌≡◌, ◌≤◌, suc, length, take, drop};
 ghost use Rattle.std.specs.List.{prefix_len, suffix_len};
 ghost use Rattle.std.specs.Str.Lines.{strip_carriage_return};
 ghost use Rattle.dimacs_text.specs.Answers as answers;
 ghost use Rattle.dimacs_text.specs.helpers.Pieces.{piece_len, first_piece, behind_first};
 
-/// The first line of a text, and what stands behind its end.
+/// The first line of a text, and the bytes after its end.
 pub(crate) fn next_line(text: &[u8]) -> (&[u8], &[u8])
     ensures first { result.0.now ≡ first_piece answers.is_line_feed text.now }
     ensures behind { result.1.now ≡ behind_first answers.is_line_feed text.now }
@@ -13,7 +13,7 @@ pub(crate) fn next_line(text: &[u8]) -> (&[u8], &[u8])
     cut(text, line_len(text))
 }
 
-/// What stands before the first blank of a line, and what behind it.
+/// The bytes before the first blank of a line, and those after it.
 pub(crate) fn next_part(line: &[u8]) -> (&[u8], &[u8])
     ensures first { result.0.now ≡ first_piece answers.is_blank line.now }
     ensures behind { result.1.now ≡ behind_first answers.is_blank line.now }
@@ -35,7 +35,7 @@ fn part_len(line: &[u8]) -> usize
     line.iter().take_while(|b| !is_blank(**b)).count()
 }
 
-/// So many bytes, and what stands behind the one after them.
+/// The first `len` bytes, and the bytes after the next one.
 fn cut(bytes: &[u8], len: usize) -> (&[u8], &[u8])
     requires { len ≤ length bytes.now }
     ensures first { result.0.now ≡ take len bytes.now }
@@ -54,7 +54,7 @@ fn is_blank(b: u8) -> bool
     b == b' ' || b == b'\t'
 }
 
-/// A line without what is skipped at its end.
+/// A line without a trailing carriage return and blanks.
 pub(crate) fn trimmed(line: &[u8]) -> &[u8]
     ensures { result.now ≡ answers.trimmed line.now }
 {
@@ -76,7 +76,7 @@ fn without_blanks(line: &[u8]) -> &[u8]
     &line[..line.len() - blanks_len(line)]
 }
 
-/// How many blanks stand at the end.
+/// The number of trailing blanks.
 fn blanks_len(line: &[u8]) -> usize
     ensures len { result ≡ suffix_len answers.is_blank line.now }
     ensures within { result ≤ length line.now }

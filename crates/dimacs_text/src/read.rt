@@ -1,4 +1,4 @@
-//! From a text to the literals of the answer.
+//! Reading the literals of an answer.
 ghost use Rattle.std.specs.Prelude.{IfOk, IfErr};
 ghost use Rattle.dimacs_text.specs.Answers.{IsAnswerWith};
 ghost use Rattle.dimacs_text.specs.Faults.{IsFault};
@@ -8,10 +8,10 @@ use crate::said::Said;
 use crate::{AnswerFault, Literals};
 use std::alloc::Global;
 
-/// The literals that a solver's answer makes true, or the first line with which no answer begins.
+/// The literals that a solver's answer makes true, or the first line that breaks the form.
 ///
-/// A text has one reading (`texts_have_one_reading`), so only want of memory leaves the result open. Nothing but the form is read:
-/// `first_false` says whether the literals satisfy clauses. The time grows linearly with the text.
+/// A text has one reading (`texts_have_one_reading`), so only lack of memory leaves the result
+/// open. Only the form is read; `first_false` checks the clauses. The time is linear in the text.
 pub fn read_answer(alloc: Global, text: &[u8]) -> Result<Literals, AnswerFault>
     ensures found { IfOk result (λ literals. IsAnswerWith text.now literals) }
     ensures refused { IfErr result (λ fault. IsFault text.now fault) }

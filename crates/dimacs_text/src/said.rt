@@ -1,4 +1,4 @@
-//! What the lines of an answer's text say so far.
+//! The state of a reader of an answer.
 ghost use Rattle.std.specs.Prelude.{◌≡◌, IfOk};
 ghost use Rattle.dimacs_text.specs.Answers as answers;
 ghost use Rattle.dimacs_text.specs.helpers.Reading as reading;
@@ -9,19 +9,19 @@ use crate::words::{Word, word_in};
 use cnf_core::Lit;
 use std::alloc::{AllocError, Global};
 
-/// What the lines so far say.
+/// What the lines so far have said.
 #[derive(Debug, Drop)]
 pub(crate) enum Said {
     /// Nothing.
     Nothing,
-    /// That there is an answer, and some of its literals.
+    /// There is an answer, with these literals so far.
     Begun(Literals),
     /// All literals of the answer.
     Whole(Literals),
 }
 
 impl Said {
-    /// What they say with one line more, unless it breaks the form.
+    /// The state after one more line, unless it breaks the form.
     pub(crate) fn after_line(self, alloc: Global, line: &[u8]) -> Result<Option<Said>, AllocError>
         ensures { IfOk result (λ next. next ≡ reading.after_any self (answers.trimmed line.now)) }
     {
@@ -38,7 +38,7 @@ impl Said {
         }
     }
 
-    /// What they say with what stands between two blanks more, unless it breaks the form.
+    /// The state after one more part between blanks, unless it breaks the form.
     fn after_part(self, part: &[u8]) -> Result<Option<Said>, AllocError>
         ensures { IfOk result (λ next. next ≡ reading.after_part self part.now) }
     {
@@ -51,7 +51,7 @@ impl Said {
         self.after_word(word)
     }
 
-    /// What they say with a word more, unless it breaks the form.
+    /// The state after one more word, unless it breaks the form.
     fn after_word(self, word: Word) -> Result<Option<Said>, AllocError>
         ensures { IfOk result (λ next. next ≡ reading.after_word self word) }
     {
@@ -63,14 +63,14 @@ impl Said {
     }
 }
 
-/// Whether a line says nothing.
+/// Whether a line is skipped.
 fn is_skipped(line: &[u8]) -> bool
     ensures { result ≡ answers.is_skipped line.now }
 {
     matches!(line, [] | [b'c', ..])
 }
 
-/// What is said after a line of values.
+/// The state after a line of values.
 fn after_values(literals: Literals, line: &[u8]) -> Result<Option<Said>, AllocError>
     ensures { IfOk result (λ next. next ≡ reading.after_line (Said.Begun literals) line.now) }
 {
@@ -82,7 +82,7 @@ fn after_values(literals: Literals, line: &[u8]) -> Result<Option<Said>, AllocEr
     }
 }
 
-/// What is said after the words of a line.
+/// The state after the words of a line.
 fn after_parts(literals: Literals, words: &[u8]) -> Result<Option<Said>, AllocError>
     ensures { IfOk result (λ next. next ≡ reading.after_parts (Said.Begun literals) (answers.pieces answers.is_blank words.now)) }
 {
@@ -99,7 +99,7 @@ fn after_parts(literals: Literals, words: &[u8]) -> Result<Option<Said>, AllocEr
     Ok(Some(said))
 }
 
-/// What is said with one literal more, unless its opposite is there.
+/// The state after one more literal, unless its opposite is there.
 fn with_literal(literals: Literals, lit: Lit) -> Result<Option<Said>, AllocError>
     ensures { IfOk result (λ next. next ≡ reading.after_word (Said.Begun literals) (Word.Literal lit)) }
 {

@@ -1,4 +1,4 @@
-//! Words of a line of values.
+//! The words in a line of values.
 ghost use Rattle.std.specs.Prelude.{◌≡◌, ◌<◌, ◌^◌, neg_ℤ, pos, if◌then◌else◌};
 ghost use Rattle.dimacs_text.specs.helpers.Reading as reading;
 
@@ -8,7 +8,7 @@ use tc_decimal::number_of;
 /// The greatest variable.
 const LAST_VAR: u32 = 2_147_483_647;
 
-/// What a word of a line of values is.
+/// The meaning of a word in a line of values.
 #[derive(Clone, Copy, Debug, PartialEq, Eq)]
 pub(crate) enum Word {
     /// A literal that is true.
@@ -17,7 +17,7 @@ pub(crate) enum Word {
     End,
 }
 
-/// What these bytes are, none of them a blank.
+/// The word of these bytes, none of them a blank.
 pub(crate) fn word_in(bytes: &[u8]) -> Option<Word>
     ensures { result ≡ reading.word_in bytes.now }
 {

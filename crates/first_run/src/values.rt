@@ -1,9 +1,9 @@
 //! Values of terms while some loads are still to come.
 
+use int_ops::arith;
 use std::alloc::{AllocError, Global};
 use sym_exec::Cell;
 use sym_terms::{Id, Node, Terms};
-use tc_base::arith;
 
 /// How many terms are worked out for a look ahead.
 const SUPPOSED: usize = 200;

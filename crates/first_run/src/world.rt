@@ -1,6 +1,6 @@
 //! The world of a run.
 ghost use Rattle.std.specs.Prelude.{◌≡◌, ◌≤◌, length, IfOk};
-ghost use Rattle.tc_base.specs.declared.limits.TheConstants.{EVENTS};
+ghost use Rattle.tc_limits.specs.declared.limits.TheConstants.{EVENTS};
 ghost use Rattle.lawful_order.specs.Events.{all_events, all_sleeps};
 
 use crate::machine::Machine;

@@ -9,7 +9,7 @@ use Rattle.store_buffers.specs.Pending.{Binding}
 use Rattle.sym_terms.specs.Terms.{id_of}
 use Rattle.sym_terms.specs.declared.node.Node.{Node}
 use Rattle.sym_terms.specs.declared.node.Node.TheVariants.{Binary}
-use Rattle.tc_base.specs.declared.arith.BinOp.TheVariants.{Eq}
+use Rattle.int_ops.specs.declared.arith.BinOp.TheVariants.{Eq}
 use Rattle.sym_exec.specs.Executed.{Symbolic}
 use Rattle.sym_exec.specs.declared.symbolic.Cell.{Cell}
 use Rattle.sym_exec.specs.declared.symbolic.Cell.TheVariants.{Fixed, Element}

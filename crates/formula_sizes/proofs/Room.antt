@@ -1,8 +1,8 @@
 -- The bounds at the limits together are below the number of variables and clauses that can be numbered.
 use Rattle.std.proofs.Common.{ℕ, ◌+◌, ◌*◌, ◌≤◌, Bool, List, [], ◌∷◌, ◌++◌, fold, map, length, arith, sum_by}
 use Rattle.std.proofs.lemmas.List.Sums.{sum_by-append, sum_by-cons}
-use Rattle.tc_base.specs.Logs.{Log}
-use Rattle.tc_base.specs.declared.limits.TheConstants.{THREADS, STEPS, EVENTS}
+use Rattle.run_log.specs.Logs.{Log}
+use Rattle.tc_limits.specs.declared.limits.TheConstants.{THREADS, STEPS, EVENTS}
 use Rattle.tc_code.specs.Code.{Code}
 use Rattle.path_walk.specs.Paths.{Paths, paths_of}
 use Rattle.store_buffers.specs.Pending.{Binding}

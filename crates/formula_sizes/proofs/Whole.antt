@@ -3,8 +3,9 @@ use Rattle.std.proofs.Common.{◌≡◌, ℕ, ◌+◌, ◌*◌, ◌≤◌, Bool,
 use Rattle.std.specs.Prelude.{sum, min, ◌-◌, ◌^◌}
 use Rattle.std.proofs.lemmas.List.{length-map}
 use Rattle.std.proofs.lemmas.List.Sums.{sum_by-append, sum_by-cons}
-use Rattle.tc_base.specs.Logs.{Log, ThreadPath}
-use Rattle.tc_base.specs.declared.limits.TheConstants.{THREADS, STEPS, EVENTS, OPERATORS}
+use Rattle.run_log.specs.Logs.{Log}
+use Rattle.tc_base.specs.Paths.{ThreadPath}
+use Rattle.tc_limits.specs.declared.limits.TheConstants.{THREADS, STEPS, EVENTS, OPERATORS}
 use Rattle.tc_code.specs.Code.{Code}
 use Rattle.path_walk.specs.Paths.{Walk, Paths, walk_of, paths_of, operators_in}
 use Rattle.store_buffers.specs.Pending.{Binding}

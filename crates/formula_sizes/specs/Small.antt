@@ -1,9 +1,9 @@
--- How large the parts of the formula of a log within the limits are at most, and the circuits of
--- its terms: in variables, and in clauses.
+-- Upper bounds on the parts of the formula of a log within the limits, and on the circuits of its
+-- terms: in variables, and in clauses.
 use Rattle.std.specs.Prelude.{◌+◌, ◌*◌, ◌<◌, ◌≤◌, Bool, List, length, sum_by}
 use Rattle.std.specs.List.{All}
-use Rattle.tc_base.specs.Logs.{Log}
-use Rattle.tc_base.specs.declared.limits.TheConstants.{THREADS, STEPS, EVENTS, OPERATORS}
+use Rattle.run_log.specs.Logs.{Log}
+use Rattle.tc_limits.specs.declared.limits.TheConstants.{THREADS, STEPS, EVENTS, OPERATORS}
 use Rattle.tc_code.specs.Code.{Code}
 use Rattle.path_walk.specs.Paths.{Paths, paths_of}
 use Rattle.store_buffers.specs.Pending.{Binding}
@@ -18,15 +18,15 @@ use Rattle.cnf_core.specs.declared.cnf.TheConstants.{LIMIT}
 use Rattle.switch_order.specs.Sizes as levels
 use Rattle.clap_system.specs.Systems.{System}
 
--- a log with no more threads, steps, events and operators than there may be
+-- a log within the limits of threads, steps, events and operators
 pub record IsWithin (code : Code) (log : Log) : Type 0 where
   pub threads : length log.threads ≤ THREADS
   pub steps : All (λ t. t.path.steps ≤ STEPS) log.threads
   pub events : (paths_of code log).events ≤ EVENTS
   pub operators : (paths_of code log).operators ≤ OPERATORS
 
--- The execution of its paths. An operator has 28,868 at most, a test of range 896, and a load of a
--- compare-and-exchange 1,152, of which a step's 896 are a part.
+-- The execution of a log's paths. An operator takes at most 28,868, a test of range 896, and a load
+-- of a compare-and-exchange 1,152, including 896 for its step.
 pub record IsSmall (x : Executed) : Type 0 where
   pub loads : x.symbolic.loads ≤ EVENTS
   pub tests : sum_by (λ c. length c.tests) x.symbolic.threads ≤ THREADS * STEPS
@@ -34,8 +34,8 @@ pub record IsSmall (x : Executed) : Type 0 where
 
 module _ (buffered : Bool) (bound : Binding) (code : Code) (paths : Paths) where
   module _ (symbolic : Symbolic) (nodes : List Node) where
-    -- The conjuncts over its events. Most are about what ends a sleep: for each sleep, each two of
-    -- the events that may end it.
+    -- The conjuncts over a log's events. Most are about what ends a sleep: for each sleep, each two
+    -- events that may end it.
     pub record HasSmall : Type 0 where
       pub own : size_of (own_formula buffered bound paths symbolic nodes)
           ≤ 123 * (EVENTS * EVENTS)
@@ -43,13 +43,13 @@ module _ (buffered : Bool) (bound : Binding) (code : Code) (paths : Paths) where
           ≤ 28 * (EVENTS * EVENTS * EVENTS) + 120 * (EVENTS * EVENTS)
       pub read : size_of (read_formula code paths symbolic nodes)
           ≤ EVENTS * ((EVENTS + 1) * (EVENTS + 170) + 1)
-      -- and the terms that these need
+      -- the terms that these conjuncts need
       pub own_needs : terms_size (own_needs buffered bound paths symbolic nodes)
           ≤ 224 * (EVENTS * EVENTS)
       pub read_needs : terms_size (read_needs code symbolic nodes) ≤ 224 * (EVENTS * EVENTS)
 
--- There is room for the clauses of a system, and for levels of 255 switches over them: together
--- they have fewer variables, and fewer clauses, than can be numbered.
+-- The clauses of a system, together with levels of 255 switches, have fewer variables and fewer
+-- clauses than `LIMIT`.
 abbrev pub ClausesHaveRoom : System → Type 0
 ClausesHaveRoom s =
     whole_size (record { order = s.order; loads = s.symbolic.loads }) s.nodes s.formula

@@ -1,11 +1,11 @@
-//! How large the formula of a log within the limits is at most, in variables and in clauses.
+//! Upper bounds on the formula of a log within the limits, in variables and in clauses.
 //!
-//! Each function's clause is a law, and its body does nothing.
+//! Each function's clause is a law; its body does nothing.
 #![tactic(auto)]
 
-ghost use Rattle.std.specs.Prelude.{◌≤◌, ℕ, Bool, List, [], length};
-ghost use Rattle.tc_base.specs.Logs.{Log};
-ghost use Rattle.tc_base.specs.declared.limits.TheConstants.{EVENTS};
+ghost use Rattle.std.specs.Prelude.{◌≤◌, Bool, List, [], length};
+ghost use Rattle.run_log.specs.Logs.{Log};
+ghost use Rattle.tc_limits.specs.declared.limits.TheConstants.{EVENTS};
 ghost use Rattle.tc_code.specs.Code.{Code};
 ghost use Rattle.path_walk.specs.Paths.{paths_of};
 ghost use Rattle.store_buffers.specs.Pending.{Binding};
@@ -25,13 +25,13 @@ pub fn logs_are_small()
         → IsSmall (executed code (paths_of code log) []) }
 {}
 
-/// So its conjuncts are small, whatever terms there are.
+/// The conjuncts of such a log are small, whatever terms there are.
 pub fn formulas_are_small()
     ensures { (buffered : Bool) (bound : Binding) (code : Code) (log : Log) (nodes : List Node) → IsWithin code log
         → HasSmall buffered bound code (paths_of code log) (executed code (paths_of code log) []).symbolic nodes }
 {}
 
-/// So there is room for its clauses, and for levels of 255 switches over them.
+/// There is room for the clauses of such a log, and for levels of 255 switches.
 pub fn clauses_have_room()
     ensures { (buffered : Bool) (bound : Binding) (code : Code) (log : Log) → IsWithin code log
         → ClausesHaveRoom (system_of buffered bound code log) }

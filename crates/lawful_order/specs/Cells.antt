@@ -1,5 +1,5 @@
--- Whether two accesses are to one cell, and what their cell has at the start. Arrays lie apart from each other and from the cells
--- that are told by number, and begin with 0 in each element.
+-- When two accesses are to the same cell, and a cell's initial value. Arrays overlap neither each
+-- other nor the numbered cells, and their elements are initially 0.
 use Rattle.std.specs.Prelude.{ℤ, pos, List, get_or, Bool, false, ◌&&◌, ◌==◌}
 use Rattle.std.specs.Ordering.{int_eq}
 use Rattle.tc_code.specs.Code.{Code}
@@ -9,7 +9,7 @@ use Rattle.sym_exec.specs.declared.symbolic.Cell.{Cell}
 use Rattle.sym_exec.specs.declared.symbolic.Cell.TheVariants.{Fixed, Element}
 use Rattle.order_formula.specs.Worlds.{World}
 
--- elements of an array are one cell where their indexes are equal, by the values that the world's loads take
+-- elements of the same array are one cell if their indexes have equal values in the world
 abbrev pub is_same_cell : List Node → World → Cell → Cell → Bool
 is_same_cell nodes w (Fixed c) (Fixed d) = c == d
 is_same_cell nodes w (Element f m i) (Element g n j) = f == g && int_eq (value_of nodes w.loads i) (value_of nodes w.loads j)

@@ -1,4 +1,4 @@
--- Threads begin after their create, and a join comes after the thread's end.
+-- A thread's events come after its create, and a join comes after the thread's exit.
 use Rattle.std.specs.Prelude.{◌≡◌, ℕ}
 use Rattle.path_walk.specs.Paths.{Paths}
 use Rattle.path_walk.specs.declared.event.Event.{Event}
@@ -8,7 +8,7 @@ use Rattle.order_formula.specs.Worlds.{World}
 use Rattle.lawful_order.specs.Events.{HasEvent, Creates, Joins, IsChild, IsBefore}
 
 module _ (paths : Paths) (w : World) where
-  -- the thread has exited before a step of another thread
+  -- the thread c exits before a step of the thread t
   pub record HasExited (c t step : ℕ) : Type 0 where
     pub exit : Event
     pub there : HasEvent paths c exit

@@ -1,5 +1,5 @@
--- What ends a wait: a signal wakes one of the threads that wait on its condition, if any does, and a broadcast all of them. No
--- wait ends by itself, and a signal on which nothing waits is lost.
+-- A signal wakes one of the threads that wait on its condition, if any; a broadcast wakes all.
+-- There are no spurious wakeups, and a signal without a waiting thread is lost.
 use Rattle.std.specs.Prelude.{◌≡◌, ◌⊎◌, ℕ, ◌<◌, ◌==◌, Bool, true, false, Some, slice_get}
 use Rattle.path_walk.specs.Paths.{Paths}
 use Rattle.path_walk.specs.declared.event.Event.{Event}
@@ -18,12 +18,12 @@ is_broadcast c (kind.Broadcast d) = d == c
 is_broadcast c _ = false
 
 module _ (paths : Paths) (w : World) where
-  -- the sleep of a number is a thread's sleep on a condition
+  -- the sleep number s is x, and x is on the condition c
   pub record IsSleep (s : ℕ) (x : Of Sleep) (c : ℕ) : Type 0 where
     pub is : slice_get (all_sleeps paths) s ≡ Some x
     pub condition : x.it.condition ≡ c
 
-  -- the event of a number is a signal of the condition, or a broadcast
+  -- the event number g is a signal, or a broadcast, of the condition c
   pub record IsSignal (g c : ℕ) : Type 0 where
     pub event : Of Event
     pub is : slice_get (all_events paths) g ≡ Some event
@@ -34,19 +34,19 @@ module _ (paths : Paths) (w : World) where
     pub is : slice_get (all_events paths) g ≡ Some event
     pub broadcasts : is_broadcast c event.it.kind ≡ true
 
-  -- when an event comes, a sleep has begun and nothing has ended it yet
+  -- at the event g the sleep s has begun, and no event has ended it yet
   pub record Waits (s : ℕ) (x : Of Sleep) (g : ℕ) : Type 0 where
     pub begun : place_of paths w x.thread x.it.step < position w g
     pub lasts : (h : ℕ) → ender_of w s ≡ Some h → position w h < position w g → ⊥
 
   pub record ConditionRule (c : ℕ) : Type 0 where
-    -- what ends a sleep comes when it has begun
+    -- the event that ends a sleep comes after the sleep has begun
     pub ends : (s g : ℕ) (x : Of Sleep) → IsSleep s x c → ender_of w s ≡ Some g → place_of paths w x.thread x.it.step < position w g
-    -- before a thread wakes something has ended its sleep
+    -- a thread wakes only after an event has ended its sleep
     pub wakes : (s k : ℕ) (x : Of Sleep) → IsSleep s x c → x.it.wake ≡ Some k
         → (g : ℕ) × (ender_of w s ≡ Some g) × (position w g < place_of paths w x.thread k)
-    -- a signal ends one sleep at most, and one where a sleep waits
+    -- a signal ends at most one sleep, and it ends one if any sleep waits
     pub one : (s r g : ℕ) → IsSignal g c → ender_of w s ≡ Some g → ender_of w r ≡ Some g → s ≡ r
     pub some : (s g : ℕ) (x : Of Sleep) → IsSignal g c → IsSleep s x c → Waits s x g → (r : ℕ) × (ender_of w r ≡ Some g)
-    -- a broadcast ends each sleep that waits
+    -- a broadcast ends every sleep that waits
     pub each : (s g : ℕ) (x : Of Sleep) → IsBroadcast g c → IsSleep s x c → Waits s x g → ender_of w s ≡ Some g

@@ -1,4 +1,4 @@
--- The events and sleeps of paths, by number, and where a world has them.
+-- The numbers of the paths' events and sleeps, and their positions in a world.
 use Rattle.std.specs.Prelude.{◌≡◌, ℕ, ◌+◌, ◌<◌, ◌==◌, ◌&&◌, List, [], ◌∷◌, ◌++◌, map, Option, Some, slice_get, get_or, None}
 use Rattle.std.specs.List.{Contains, position_or_len}
 use Rattle.tc_base.specs.Names.{child}
@@ -9,28 +9,28 @@ use Rattle.path_walk.specs.declared.event.Sleep.{Sleep}
 use Rattle.path_walk.specs.declared.event.Link.{Link}
 use Rattle.order_formula.specs.Worlds.{World, position}
 
--- something of a thread, which is told by its place among the paths' threads
+-- an item of a thread, with the thread's index in the paths
 pub record Of (X : Type 0) : Type 0 where
   pub thread : ℕ
   pub it : X
 
--- what each thread has, one thread after another
+-- the items of all threads, one thread after another
 abbrev pub all_from : {W X : Type 0} → (W → List X) → ℕ → List W → List (Of X)
 all_from has t [] = []
 all_from has t (w ∷ ws) = map (λ x. record { thread = t; it = x }) (has w) ++ all_from has (t + 1) ws
 
--- all events, and all sleeps: what stands at a place has that number
+-- all events, and all sleeps; the index of an event or sleep is its number
 abbrev pub all_events : Paths → List (Of Event)
 all_events paths = all_from (λ w. w.events) 0 paths.threads
 
 abbrev pub all_sleeps : Paths → List (Of Sleep)
 all_sleeps paths = all_from (λ w. w.sleeps) 0 paths.threads
 
--- the number of the event that is a thread's step of that number
+-- the number of the event that is the step `step` of a thread
 abbrev pub number_of : Paths → (thread step : ℕ) → ℕ
 number_of paths t k = position_or_len (λ e. e.thread == t && e.it.step == k) (all_events paths)
 
--- what a thread of the paths has
+-- the items, events, regions, creates and joins that the thread t has
 module _ (paths : Paths) (t : ℕ) where
   abbrev pub Has : {X : Type 0} → (Walk → List X) → X → Type 0
   Has has x = (w : Walk) × (slice_get paths.threads t ≡ Some w) × Contains (has w) x
@@ -47,12 +47,12 @@ module _ (paths : Paths) (t : ℕ) where
   abbrev pub Joins : Link → Type 0
   Joins = Has (λ w. w.joins)
 
--- a thread is another's child of a number
+-- `thread` is the child `number` of `parent`
 abbrev pub IsChild : Paths → (parent number thread : ℕ) → Type 0
 IsChild paths t k c =
     (p : Walk) × (q : Walk) × (slice_get paths.threads t ≡ Some p) × (slice_get paths.threads c ≡ Some q) × (q.name ≡ child p.name k)
 
--- where a world has a thread's step, and that one step comes before another
+-- the position of a thread's step in a world, and that one step comes before another
 module _ (paths : Paths) (w : World) where
   abbrev pub place_of : (thread step : ℕ) → ℕ
   place_of t k = position w (number_of paths t k)

@@ -1,4 +1,4 @@
--- Lawful orders of paths under a memory model: those of the runs that go along the paths.
+-- Lawful orders of paths under a memory model: the orders of the runs that follow the paths.
 use Rattle.std.specs.Prelude.{◌≡◌, ◌⊎◌, ℕ, Bool, List, length, Some}
 use Rattle.tc_code.specs.Code.{Code}
 use Rattle.path_walk.specs.Paths.{Paths}
@@ -18,7 +18,7 @@ use Rattle.lawful_order.specs.Conditions.{ConditionRule, IsSleep, IsSignal, IsBr
 use Rattle.lawful_order.specs.Tests.{TestRule}
 use Rattle.lawful_order.specs.Stuck.{StuckRule}
 
--- a world of the events, loads and sleeps of paths; what ends a sleep is a signal or a broadcast of its condition
+-- a world of the paths' items; a sleep ends by a signal or a broadcast of its condition
 pub record IsWorldOf (paths : Paths) (symbolic : Symbolic) (w : World) : Type 0 where
   pub events : length w.positions ≡ length (all_events paths)
   pub loads : length w.loads ≡ symbolic.loads
@@ -26,7 +26,7 @@ pub record IsWorldOf (paths : Paths) (symbolic : Symbolic) (w : World) : Type 0 
   pub enders : (s g c : ℕ) (x : Of Sleep) → IsSleep paths w s x c → ender_of w s ≡ Some g → IsSignal paths w g c ⊎ IsBroadcast paths w g c
 
 module _ (buffered : Bool) (bound : Binding) (code : Code) (paths : Paths) (symbolic : Symbolic) (nodes : List Node) (w : World) where
-  -- the rules of a group
+  -- the rule of a group
   abbrev pub MeetsRule : Group → Type 0
   MeetsRule (Own t) = OwnRule buffered bound paths symbolic nodes w t
   MeetsRule (Child t) = ChildRule paths w t
@@ -36,6 +36,6 @@ module _ (buffered : Bool) (bound : Binding) (code : Code) (paths : Paths) (symb
   MeetsRule (Test t line) = TestRule symbolic nodes w t line
   MeetsRule (Stuck t) = StuckRule paths w t
 
-  -- an order is lawful where it meets all rules
+  -- an order is lawful if it meets the rule of every group
   pub record IsLawful : Type 0 where
     pub meets : (g : Group) → MeetsRule g

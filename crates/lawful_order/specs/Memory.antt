@@ -1,4 +1,4 @@
--- Where a memory model wants the events of a thread in the order of its path.
+-- Which events of a thread a memory model keeps in program order.
 use Rattle.std.specs.Prelude.{◌≡◌, ◌≢◌, ℕ, ◌<◌, ◌==◌, Bool, true, false, not, ◌&&◌, ◌||◌, Option}
 use Rattle.std.specs.List.{find}
 use Rattle.std.specs.Option.{option_eq}
@@ -15,16 +15,16 @@ use Rattle.order_formula.specs.Worlds.{World}
 use Rattle.lawful_order.specs.Cells.{is_same_cell}
 use Rattle.lawful_order.specs.Events.{HasEvent, IsBefore}
 
--- the cell of a thread's step, if it has one
+-- the cell that a thread's step accesses, if any
 abbrev pub cell_of : Symbolic → (thread step : ℕ) → Option Cell
 cell_of symbolic t k = option_map (λ a. a.cell) (option_and_then (λ c. find (λ a. a.step == k) c.accesses) (slice_get symbolic.threads t))
 
--- an exchange is no store here: it drains the buffer first
+-- whether an event is a plain store; an exchange isn't, since it drains the buffer first
 abbrev pub is_store : EventKind → Bool
 is_store kind.Store = true
 is_store _ = false
 
--- what a thread may do while stores of its own are pending; all else needs them in memory
+-- whether a thread may do this while its stores are pending; other events need them in memory
 abbrev pub may_overtake : EventKind → Bool
 may_overtake kind.Load = true
 may_overtake kind.Store = true
@@ -32,15 +32,14 @@ may_overtake kind.Fail = true
 may_overtake _ = false
 
 module _ (buffered : Bool) (bound : Binding) (paths : Paths) (symbolic : Symbolic) (nodes : List Node) (w : World) where
-  -- a store whose place is that of its drain
+  -- whether an event is a store that waits in a buffer, and so has the position of its drain
   abbrev pub is_pending : EventKind → Bool
   is_pending k = buffered && is_store k
 
   abbrev pub same_cell : ℕ → Event → Event → Bool
   same_cell t x y = option_eq (is_same_cell nodes w) (cell_of symbolic t x.step) (cell_of symbolic t y.step)
 
-  -- whether the order keeps an event of a thread before a later one: where the earlier isn't pending; where the later needs an
-  -- empty buffer; and where both are stores and the model binds them, by their cells and the bars between them
+  -- whether x stays before y: x isn't pending, y needs an empty buffer, or the model binds the two
   abbrev pub is_kept : ℕ → Event → Event → Bool
   is_kept t x y =
       not (is_pending x.kind) || (not (may_overtake y.kind) || is_store y.kind && bound (same_cell t x y) (not (x.bars == y.bars)))
@@ -48,6 +47,6 @@ module _ (buffered : Bool) (bound : Binding) (paths : Paths) (symbolic : Symboli
   pub record OwnRule (t : ℕ) : Type 0 where
     pub own : (x y : Event) → HasEvent paths t x → HasEvent paths t y → x.step < y.step → is_kept t x y ≡ true
         → IsBefore paths w t x.step t y.step
-    -- after the failing event nothing comes but stores that are pending for good
+    -- every event except pending stores comes before the failing event
     pub last : (u : ℕ) (x f : Event) → HasEvent paths t x → HasEvent paths u f → f.kind ≡ kind.Fail → x.kind ≢ kind.Fail
         → is_pending x.kind ≡ false → IsBefore paths w t x.step u f.step

@@ -1,4 +1,4 @@
--- A mutex is had by one thread at a time.
+-- At most one thread holds a mutex at a time.
 use Rattle.std.specs.Prelude.{◌≡◌, ◌⊎◌, ◌≢◌, ℕ, Some}
 use Rattle.path_walk.specs.Paths.{Paths}
 use Rattle.path_walk.specs.declared.event.Region.{Region}
@@ -6,7 +6,7 @@ use Rattle.order_formula.specs.Worlds.{World}
 use Rattle.lawful_order.specs.Events.{HasRegion, IsBefore}
 
 module _ (paths : Paths) (w : World) where
-  -- the mutex is left at the end of one region before it is taken at the start of the other; an open region has no end
+  -- the region r ends before the region s begins; an open region has no end
   abbrev pub IsLeftBefore : (t : ℕ) → Region → (u : ℕ) → Region → Type 0
   IsLeftBefore t r u s = (k : ℕ) × (r.to ≡ Some k) × IsBefore paths w t k u s.«from»
 

@@ -1,5 +1,5 @@
--- The value that a load takes: that of the last store to its cell among those before it in the order and those before it on
--- its own path, and else the value at the start.
+-- The value that a load takes: that of the last write to its cell before it, in the order or on its
+-- own path, or the cell's initial value if there is none.
 use Rattle.std.specs.Prelude.{◌≡◌, ◌⊎◌, ℕ, ◌<◌, List, IsSome, Some, slice_get, true}
 use Rattle.std.specs.List.{Contains}
 use Rattle.tc_code.specs.Code.{Code}
@@ -17,29 +17,29 @@ abbrev pub HasAccess : Symbolic → ℕ → Access → Type 0
 HasAccess symbolic t a = (c : Course) × (slice_get symbolic.threads t ≡ Some c) × Contains c.accesses a
 
 module _ (code : Code) (paths : Paths) (symbolic : Symbolic) (nodes : List Node) (w : World) where
-  -- what an access takes and what it writes
+  -- the values that an access takes and writes
   abbrev pub asks : Access → Asked
   asks a = asked_in nodes w.loads a
 
-  -- a thread's access sees that of a thread: it writes to the same cell, and comes before it in the order or on its path
+  -- a sees b: b writes to the same cell, and comes before a in the order or on a's path
   pub record Sees (t : ℕ) (a : Access) (u : ℕ) (b : Access) : Type 0 where
     pub there : HasAccess symbolic u b
     pub writes : IsSome (asks b).writes
     pub cell : is_same_cell nodes w b.cell a.cell ≡ true
     pub before : IsBefore paths w u b.step t a.step ⊎ ((u ≡ t) × (b.step < a.step))
 
-  -- and it is the last of these, so that its value is taken
+  -- a takes the value of b, the last write that it sees
   pub record TakesFrom (t : ℕ) (a : Access) (u : ℕ) (b : Access) : Type 0 where
     pub sees : Sees t a u b
     pub last : (v : ℕ) (c : Access) → Sees t a v c → ((v ≡ u) × (c ≡ b)) ⊎ IsBefore paths w v c.step u b.step
     pub takes : (asks a).takes ≡ (asks b).writes
 
-  -- none is seen, and the value is that at the start
+  -- a sees no write, and takes its cell's initial value
   pub record TakesFirst (t : ℕ) (a : Access) : Type 0 where
     pub sees : (u : ℕ) (b : Access) → Sees t a u b → ⊥
     pub takes : (asks a).takes ≡ Some (value_at_start code a.cell)
 
-  -- of the loads of a thread's events of a line
+  -- each load of thread t at `line` takes the last write that it sees, or the initial value
   pub record ReadRule (t line : ℕ) : Type 0 where
     pub loads : (a : Access) (x : Event) → HasAccess symbolic t a → IsSome a.takes → HasEvent paths t x → x.step ≡ a.step → x.line ≡ line
         → ((u : ℕ) × (b : Access) × TakesFrom t a u b) ⊎ TakesFirst t a

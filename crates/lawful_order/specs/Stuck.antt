@@ -1,4 +1,4 @@
--- Of the log of a deadlock: no thread that hasn't exited can go on at the end.
+-- For the log of a deadlock: at the end, no thread that hasn't exited can go on.
 use Rattle.std.specs.Prelude.{◌≡◌, ◌⊎◌, ℕ, Option, Some, None, slice_get}
 use Rattle.path_walk.specs.Paths.{Walk, Paths}
 use Rattle.path_walk.specs.declared.event.Blocked.{Blocked}
@@ -11,7 +11,7 @@ use Rattle.order_formula.specs.Worlds.{World}
 use Rattle.lawful_order.specs.Events.{Of, HasEvent, HasRegion, IsChild, all_sleeps, ender_of}
 
 module _ (paths : Paths) (w : World) where
-  -- a region of the mutex is open, so that its thread, which may have exited, has it at the end
+  -- a thread, which may have exited, holds the mutex at the end: its region is open
   pub record IsHeld (mutex : ℕ) : Type 0 where
     pub thread : ℕ
     pub region : Region
@@ -19,11 +19,11 @@ module _ (paths : Paths) (w : World) where
     pub of : region.mutex ≡ mutex
     pub lasts : region.to ≡ None
 
-  -- nothing ends the sleep that a thread's step began
+  -- no event ends the sleep that a thread's step begins
   abbrev pub SleepsOn : (t step : ℕ) → Type 0
   SleepsOn t k = (s : ℕ) (x : Of Sleep) → slice_get (all_sleeps paths) s ≡ Some x → x.thread ≡ t → x.it.step ≡ k → ender_of w s ≡ None
 
-  -- a thread's child hasn't exited
+  -- the child `child` of the thread t doesn't exit
   abbrev pub RunsOn : (t child : ℕ) → Type 0
   RunsOn t k = (c : ℕ) (x : Event) → IsChild paths t k c → HasEvent paths c x → x.kind ≡ kind.Exit → ⊥
 
@@ -32,6 +32,6 @@ module _ (paths : Paths) (w : World) where
   CannotGoOn t (Wake c m k) = IsHeld m ⊎ SleepsOn t k
   CannotGoOn t (Join k) = RunsOn t k
 
-  -- a thread of the log of a deadlock that hasn't exited is blocked at something
+  -- if the thread t is blocked at the end, it can't go on
   pub record StuckRule (t : ℕ) : Type 0 where
     pub stuck : (q : Walk) (b : Blocked) → slice_get paths.threads t ≡ Some q → q.blocked ≡ Some b → CannotGoOn t b

@@ -1,4 +1,4 @@
--- Every branch and every site comes out as the paths have it.
+-- Every branch and every site has the outcome that the paths want.
 use Rattle.std.specs.Prelude.{◌≡◌, ℕ, List, Some, slice_get}
 use Rattle.std.specs.List.{Contains}
 use Rattle.sym_terms.specs.declared.node.Node.{Node}

@@ -1,4 +1,4 @@
--- What paths of a log have: their regions, sleeps and links begin and end with events, and so do the accesses of their execution.
+-- Facts about the paths of a log: regions, sleeps, links and accesses begin and end with events.
 use Rattle.std.specs.Prelude.{◌≡◌, ◌⊎◌, ℕ, ◌<◌, List, length, Option, Some, None, IsSome, slice_get}
 use Rattle.std.specs.List.{Contains}
 use Rattle.path_walk.specs.Paths.{Walk, Paths}
@@ -19,7 +19,7 @@ HasStep paths t k = (x : Event) × HasEvent paths t x × (x.step ≡ k)
 
 pub record AreWhole (paths : Paths) : Type 0 where
   pub counted : paths.events ≡ length (all_events paths)
-  -- the steps of a thread's events rise
+  -- a thread's events are in the order of their steps
   pub rise : (t j k : ℕ) (q : Walk) (x y : Event) → slice_get paths.threads t ≡ Some q → slice_get q.events j ≡ Some x
       → slice_get q.events k ≡ Some y → j < k → x.step < y.step
   pub taken : (t : ℕ) (r : Region) → HasRegion paths t r → HasStep paths t r.«from»
@@ -29,22 +29,22 @@ pub record AreWhole (paths : Paths) : Type 0 where
   pub created : (t : ℕ) (l : Link) → Creates paths t l → HasStep paths t l.step
   pub joined : (t : ℕ) (l : Link) → Joins paths t l → HasStep paths t l.step
 
--- the kind of event that an access is
+-- the kind of an access's event
 abbrev pub kind_of : (takes writes : Option ℕ) → EventKind
 kind_of (Some _) None = kind.Load
 kind_of (Some _) (Some _) = kind.Exchange
 kind_of None _ = kind.Store
 
--- each access is an event of its thread
+-- the execution has the paths' threads, and each of its accesses is an event of its thread
 pub record IsExecutedBy (paths : Paths) (symbolic : Symbolic) : Type 0 where
   pub threads : length symbolic.threads ≡ length paths.threads
   pub accesses : (t : ℕ) (a : Access) → HasAccess symbolic t a
       → (x : Event) × HasEvent paths t x × (x.step ≡ a.step) × (x.kind ≡ kind_of a.takes a.writes)
-  -- and each event of these kinds is one
+  -- each load, store and exchange event is an access
   pub events : (t : ℕ) (x : Event) → HasEvent paths t x → (x.kind ≡ kind.Load) ⊎ ((x.kind ≡ kind.Store) ⊎ (x.kind ≡ kind.Exchange))
       → (a : Access) × HasAccess symbolic t a × (a.step ≡ x.step)
-  -- the steps of a thread's accesses rise
+  -- a thread's accesses are in the order of their steps
   pub rise : (t j k : ℕ) (c : Course) (a b : Access) → slice_get symbolic.threads t ≡ Some c → slice_get c.accesses j ≡ Some a
       → slice_get c.accesses k ≡ Some b → j < k → a.step < b.step
-  -- each load has its number
+  -- the number of each load is in range
   pub takes : (t : ℕ) (a : Access) (k : ℕ) → HasAccess symbolic t a → a.takes ≡ Some k → k < symbolic.loads

@@ -1,3 +1,3 @@
-//! What makes one order of the events of paths lawful: the order of a run under a memory model. Definitions alone, which say
-//! nothing of formulas.
+//! Lawful orders: the orders of the paths' events that runs can have under a memory model.
+//! Definitions only, independent of formulas.
 #![tactic(auto)]

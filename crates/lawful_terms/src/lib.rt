@@ -1,5 +1,5 @@
-//! Which orders are lawful isn't changed by terms that nothing of the paths names. The function's clause is a law, and its
-//! body does nothing.
+//! Terms that nothing in the paths names don't change which orders are lawful. The law is the
+//! contract of a function with an empty body.
 #![tactic(auto)]
 
 ghost use Rattle.std.specs.Prelude.{◌↔◌, ◌++◌, ◌<◌, ℕ, Bool, List, Some, length, slice_get, ◌≡◌};
@@ -15,7 +15,8 @@ ghost use Rattle.order_formula.specs.declared.group.Group.{Group};
 ghost use Rattle.lawful_order.specs.Lawful.{MeetsRule};
 ghost use Rattle.order_cells.specs.Terms.{HaveTerms};
 
-/// An order meets the rules of each group over the terms that accesses and tests name exactly where it does over more terms.
+/// If accesses and tests name only existing terms, adding terms doesn't change whether an order
+/// meets the rule of a group.
 pub fn orders_stay_lawful()
     ensures { (buffered : Bool) (bound : Binding) (code : Code) (paths : Paths) (symbolic : Symbolic) (nodes more : List Node) (w : World) (g : Group)
         → HaveTerms nodes symbolic

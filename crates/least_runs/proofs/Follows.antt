@@ -7,10 +7,12 @@ use Rattle.std.specs.FinSet as set
 use Rattle.std.proofs.lemmas.Bool.{false≢true, and_parts, and_from, le-ltb}
 use Rattle.std.proofs.lemmas.Option.{none-some}
 use Rattle.std.proofs.lemmas.List.Sums.{sum_by-append}
-use Rattle.tc_base.specs.Buffers.{BufferOps, newest, is_nil}
+use Rattle.tc_base.specs.Buffers.{BufferOps}
+use Rattle.store_buffers.specs.Buffers.{newest}
+use Rattle.list_laws.specs.Lists.{is_nil}
 use Rattle.tc_base.specs.Names.{Name, child}
 use Rattle.tc_base.specs.States.{Local}
-use Rattle.tc_base.specs.declared.model.Model.{Model}
+use Rattle.memory_models.specs.declared.model.Model.{Model}
 use Rattle.tc_base.specs.declared.request.Request.{Request}
 use Rattle.tc_base.specs.declared.request.Request.TheVariants.{Silent, Read, Write, Exchange, CompareExchange, Bar, Acquire, EndWait}
 use Rattle.tc_base.specs.declared.request.Request.TheVariants.{WakeOne, Start, Await, Finish}

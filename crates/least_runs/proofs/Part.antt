@@ -8,10 +8,10 @@ use Rattle.std.proofs.lemmas.List.{same_from_push}
 use Rattle.std.proofs.lemmas.List.Sums.{fold-append, sum_by-append}
 use Rattle.std.proofs.lemmas.Option.{none-some, same_Some}
 use Rattle.tc_base.specs.Buffers.{BufferOps}
-use Rattle.tc_base.specs.Logs.{Path}
+use Rattle.tc_base.specs.Paths.{Path}
 use Rattle.tc_base.specs.Names.{Name, ByName, child}
 use Rattle.tc_base.specs.States.{Local, Thread}
-use Rattle.tc_base.specs.declared.model.Model.{Model}
+use Rattle.memory_models.specs.declared.model.Model.{Model}
 use Rattle.tc_base.specs.declared.request.Request.{Request}
 use Rattle.tc_base.specs.declared.request.Request.TheVariants.{Silent, WakeOne, Start, Fail}
 use Rattle.tc_code.specs.Code.{Code}

@@ -7,7 +7,7 @@ use Rattle.std.proofs.Math.Bool.{and-false}
 use Rattle.std.proofs.lemmas.Bool.{false≢true}
 use Rattle.std.proofs.lemmas.List.Elements.{filter_map-append, filter_agree}
 use Rattle.tc_base.specs.Names.{Name}
-use Rattle.tc_base.specs.Buffers.{newest}
+use Rattle.store_buffers.specs.Buffers.{newest}
 use Rattle.tc_base.specs.declared.request.Request.{Request}
 use Rattle.tc_base.specs.declared.request.Request.TheVariants.{Silent, Write, Exchange, CompareExchange, Bar, Acquire, Release, BeginWait, EndWait}
 use Rattle.tc_base.specs.declared.request.Request.TheVariants.{WakeOne, WakeAll, Start, Finish, Fail}

@@ -1,6 +1,6 @@
 -- Runs that fail with as few steps as possible.
 use Rattle.std.specs.Prelude.{◌≡◌, Bool, false, List, ◌∷◌, ◌++◌, Some}
-use Rattle.tc_base.specs.Logs.{Path}
+use Rattle.tc_base.specs.Paths.{Path}
 use Rattle.tc_base.specs.Names.{Name}
 use Rattle.tc_code.specs.Code.{Code}
 use Rattle.store_buffers.specs.Pending.{Binding}
@@ -14,28 +14,28 @@ abbrev pub is_by : Name → Deed → Bool
 is_by f (Did n k r took other) = same n f
 is_by f (Drained n k c v) = same n f
 
--- no step of another thread than this can be left out
+-- no step of a thread other than f can be left out
 abbrev pub IsLeast : Name → List Deed → Type 0
 IsLeast f h =
     (older newer : List Deed) (d : Deed) → h ≡ older ++ d ∷ newer → is_by f d ≡ false → comes_out d newer ≡ false
 
--- a thread went at least as far as this path goes
+-- the thread exists in the history, and its outcomes begin with those of p
 pub record Begins (code : Code) (h : List Deed) (n : Name) (p : Path) : Type 0 where
   pub path : Path
   pub there : path_told code h n ≡ Some path
   pub later : List Bool
   pub outcomes : path.outcomes ≡ p.outcomes ++ later
 
--- each thread of the one goes the beginning of its path in the other
+-- the outcomes of each thread of g are a prefix of its outcomes in h
 abbrev pub IsPart : Code → List Deed → List Deed → Type 0
 IsPart code g h = (n : Name) (p : Path) → path_told code g n ≡ Some p → Begins code h n p
 
--- a run with no step that can be left out fails where this one does, and no thread goes further in it
+-- a run is part of h, fails in the same thread, and no step of another thread can be left out of it
 pub record HasLeast (buffered : Bool) (bound : Binding) (code : Code) (h : List Deed) (f : Name) : Type 0 where
   pub deeds : List Deed
   pub run : AllFollow buffered bound code deeds
   pub fails : failed_in deeds ≡ Some f
   pub least : IsLeast f deeds
   pub part : IsPart code deeds h
-  -- who fails goes its whole path
+  -- the failing thread has the same path in both
   pub failing : path_told code deeds f ≡ path_told code h f

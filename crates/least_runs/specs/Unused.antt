@@ -1,4 +1,4 @@
--- Steps that can be left out of a run, since nothing that comes after them needs them.
+-- Steps that can be left out of a run, since no later step needs them.
 use Rattle.std.specs.Prelude.{◌==◌, Bool, true, false, not, ◌&&◌, Option, List}
 use Rattle.std.specs.List.{list_any}
 use Rattle.std.specs.Option.{option_map_or}
@@ -14,8 +14,8 @@ abbrev pub is_await_of : Name → Deed → Bool
 is_await_of n (Did q k (Await j) took other) = same n (child q j)
 is_await_of n _ = false
 
--- whether what comes after a thread's last step has no use for it: no other thread can tell whether
--- it was done, or it is an exit and nobody joins the thread, or it creates a thread that does no step
+-- whether no later deed needs a thread's last step: no other thread can tell whether it was done,
+-- or it is an exit and nobody joins the thread, or it creates a thread that does no step
 abbrev pub is_unused : Request → Name → Option Name → List Deed → Bool
 is_unused Silent n other newer = true
 is_unused (Read c) n other newer = true
@@ -28,7 +28,7 @@ is_unused Finish n other newer = not (list_any (is_await_of n) newer)
 is_unused (Start f) n other newer = option_map_or (λ u. steps_in newer u == 0) other true
 is_unused _ n other newer = false
 
--- whether a deed is the last step of its thread, and unused
+-- whether a deed is the last step of its thread and unused
 abbrev pub comes_out : Deed → List Deed → Bool
 comes_out (Did n k r took other) newer = steps_in newer n == 0 && is_unused r n other newer
 comes_out (Drained n k c v) newer = false

@@ -1,6 +1,7 @@
-//! Runs with as few steps as possible: which steps can be left out of a run, so that what is left is still one.
+//! Runs with as few steps as possible: which steps can be left out of a run so that the rest is a
+//! run.
 //!
-//! Each function's clause is a law, and its body does nothing.
+//! Each function states a law, and its body does nothing.
 #![tactic(auto)]
 
 ghost use Rattle.std.specs.Prelude.{◌≡◌, ◌≢◌, ℕ, ℤ, Bool, true, List, ◌∷◌, ◌++◌, Option, Some};
@@ -8,7 +9,7 @@ ghost use Rattle.std.specs.FinMap as fin;
 ghost use Rattle.tc_base.specs.Buffers.{BufferOps};
 ghost use Rattle.tc_base.specs.Names.{Name, child};
 ghost use Rattle.tc_base.specs.States.{Local};
-ghost use Rattle.tc_base.specs.declared.model.Model.{Model};
+ghost use Rattle.memory_models.specs.declared.model.Model.{Model};
 ghost use Rattle.tc_base.specs.declared.request.Request.{Request};
 ghost use Rattle.tc_base.specs.declared.request.Request.TheVariants.{Await};
 ghost use Rattle.tc_code.specs.Code.{Code};
@@ -24,8 +25,9 @@ ghost use Rattle.run_follows.specs.Logged.{path_told};
 ghost use Rattle.least_runs.specs.Least.{HasLeast};
 ghost use Rattle.least_runs.specs.Unused.{is_unused};
 
-/// The last step of a thread can be left out where nothing after it needs it: what is left is still a run, fails where the
-/// whole one does, and takes each other thread along the same path, but for one that the step creates.
+/// The last step of a thread can be left out if no later deed needs it: the rest is a run, fails
+/// like the whole run, and takes each other thread along the same path, except one that the step
+/// creates.
 pub fn unused_steps_come_out<B>()
     ensures run { (ops : BufferOps B) (model : Model) (bound : Binding) (code : Code) (older newer : List Deed) (n : Name) (k : ℕ) (r : Request)
         (took : ℤ) (other : Option Name)
@@ -40,8 +42,8 @@ pub fn unused_steps_come_out<B>()
         → path_told code (older ++ newer) q ≡ path_told code (older ++ Did n k r took other ∷ newer) q }
 {}
 
-/// So of each run that fails there is one that fails in the same thread, as far along that thread's path, in which no thread
-/// goes further than in the first, and no step of another thread can be left out.
+/// So for each run that fails there is one in which the same thread fails after the same path, no
+/// thread has further outcomes, and no step of another thread can be left out.
 pub fn failing_runs_have_least_ones<B>()
     ensures { (ops : BufferOps B) (model : Model) (bound : Binding) (code : Code) (h : List Deed) (f : Name)
         → Laws ops model bound → IsLawful code → AllFollow ops.buffered bound code h → failed_in h ≡ Some f
@@ -55,7 +57,7 @@ pub fn joined_threads_have_exited()
         → has_exited_in (older ++ Did n k (Await j) took other ∷ newer) (child n j) ≡ true }
 {}
 
-/// Two threads don't hold one mutex.
+/// No two threads hold the same mutex.
 pub fn mutexes_have_one_holder<B>()
     ensures { (ops : BufferOps B) (model : Model) (bound : Binding) (code : Code) (h : List Deed) (n q : Name) (t u : Local) (m : ℕ)
         → Laws ops model bound → IsLawful code → AllFollow ops.buffered bound code h

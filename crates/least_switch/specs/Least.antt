@@ -1,8 +1,8 @@
--- What a search for a schedule with the fewest context switches comes to.
+-- The results of a search for a schedule with the fewest context switches.
 use Rattle.std.specs.Prelude.{◌≡◌, ℕ, zero, suc, ◌≤◌, List, Option, Some, None}
 use Rattle.tc_base.specs.Buffers.{BufferOps}
-use Rattle.tc_base.specs.Logs.{Log}
-use Rattle.tc_base.specs.declared.model.Model.{Model}
+use Rattle.run_log.specs.Logs.{Log}
+use Rattle.memory_models.specs.declared.model.Model.{Model}
 use Rattle.tc_base.specs.declared.moves.Move.{Move}
 use Rattle.tc_code.specs.Code.{Code}
 use Rattle.tc_code.specs.Run.{Reproduces}
@@ -20,40 +20,41 @@ use Rattle.least_switch.specs.declared.answer.Least.{Least}
 use Rattle.least_switch.specs.declared.answer.Least.TheVariants.{Found, Impossible, Spent, SpentAt}
 
 module _ {B : Type 0} (ops : BufferOps B) (model : Model) (code : Code) (log : Log) where
-  -- a schedule is of the model, its moves reproduce the log, and they have so many switches, which are at most 255
+  -- a schedule of the model whose moves reproduce the log with `count` switches, at most 255
   pub record HasSwitches (schedule : Schedule) (count : ℕ) : Type 0 where
     pub model_is : schedule.model ≡ model
     pub reproduces : Reproduces ops code log schedule.moves.items
     pub count_is : switches ops code schedule.moves.items ≡ count
     pub few : count ≤ 255
 
-  -- all moves that reproduce the log have at least so many
+  -- all moves that reproduce the log have at least `count` switches
   abbrev pub IsFewest : ℕ → Type 0
   IsFewest count = (moves : List Move) → Reproduces ops code log moves → count ≤ switches ops code moves
 
 module _ {B : Type 0} (ops : BufferOps B) (model : Model) (bound : Binding) (code : Code) (log : Log) where
-  -- where there are any switches, a derivation is closed on the clauses of the log with one fewer; where there are none, there is none
+  -- for a count above 0, a derivation is closed on the clauses with one switch fewer; for 0, none
   abbrev pub IsShown : ℕ → Option (List Line) → Type 0
   IsShown zero None = Unit {0}
   IsShown (suc fewer) (Some lines) = IsClosed (switch_clauses ops.buffered bound code log fewer) lines
   IsShown _ _ = ⊥
 
   module _ (budget : ℕ) where
-    -- with one fewer a derivation is open, fresh and deletes few clauses, and has as many added lines as the budget says, none of them
-    -- empty
+    -- with one switch fewer, a derivation is open, fresh and deletes few clauses, and adds as many
+    -- as the budget says, none of them empty
     abbrev pub IsSpentBelow : ℕ → List Line → Type 0
     IsSpentBelow zero lines = ⊥
     IsSpentBelow (suc fewer) lines = Solves (switch_clauses ops.buffered bound code log fewer) budget (solved.Spent lines)
 
-    -- a schedule reproduces the log with the fewest switches, which is shown; or what a search for any schedule comes to without one;
-    -- or a schedule reproduces the log, and the search for one with fewer switches was given up
+    -- a schedule reproduces the log with the fewest switches, which is proved; or the search for
+    -- any schedule found none; or the search for one with fewer switches than this schedule was
+    -- given up
     abbrev pub IsLeastAnswer : Least → Type 0
     IsLeastAnswer (Found schedule count shown) = HasSwitches ops model code log schedule count × IsFewest ops model code log count × IsShown count shown
     IsLeastAnswer (Impossible lines) = IsAnswer ops model bound code log budget (answer.Impossible lines)
     IsLeastAnswer (Spent lines) = IsAnswer ops model bound code log budget (answer.Spent lines)
     IsLeastAnswer (SpentAt schedule count lines) = HasSwitches ops model code log schedule count × IsSpentBelow count lines
 
-    -- so is the answer, and the log is within the limits
+    -- the answer is right, and the log is within the limits
     pub record IsLeast (least : Least) : Type 0 where
       pub within : IsWithin code log
       pub is : IsLeastAnswer least

@@ -1,4 +1,4 @@
--- No promise speaks of what stands in this folder: private contracts alone cite it.
+-- No promise refers to the definitions of this folder; only private contracts do.
 pub mod Bounded
 pub mod Found
 pub mod Levels

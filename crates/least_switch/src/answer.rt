@@ -1,19 +1,19 @@
-//! What a search for a schedule with the fewest context switches comes to.
+//! The results of a search for a schedule with the fewest context switches.
 
 use refute_check::Derivation;
 use schedule_file::Schedule;
 
-/// What a search for a schedule of a log with the fewest context switches comes to.
+/// The result of a search for a schedule of a log with the fewest context switches.
 #[derive(Debug, Drop)]
 pub enum Least {
-    /// This schedule reproduces the log with so many switches, and none does so with fewer: where there are any, the derivation is
-    /// closed on the clauses of the log with one switch fewer.
+    /// This schedule reproduces the log with this many switches, and none has fewer: if it has
+    /// any, the derivation is closed on the log's clauses with one switch fewer.
     Found(Schedule, u32, Option<Derivation>),
     /// No schedule reproduces the log: the derivation is closed on its clauses.
     Impossible(Derivation),
     /// As many clauses were learnt as the budget allows, and no schedule was found.
     Spent(Derivation),
-    /// This schedule reproduces the log with so many switches, at least one. In the search for one with fewer as many clauses were
-    /// learnt as the budget allows, without either.
+    /// This schedule reproduces the log with this many switches, at least one. The search for fewer
+    /// learnt as many clauses as the budget allows, and found neither a schedule nor a proof.
     SpentAt(Schedule, u32, Derivation),
 }

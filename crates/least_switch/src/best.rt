@@ -14,7 +14,7 @@ use sym_exec::Symbolic;
 use sym_terms::Terms;
 use tc_code::Code;
 
-/// A schedule of a log, with its context switches, and the world of which it was made.
+/// A schedule of a log, with its number of context switches, and the world from which it was made.
 #[derive(Debug, Drop)]
 pub(crate) struct Best {
     pub(crate) schedule: Schedule,

@@ -1,7 +1,7 @@
-//! The clauses of a log with at most so many context switches.
+//! The clauses of a log with a bound on context switches.
 ghost use Rattle.std.specs.Prelude.{◌≡◌, ◌≤◌, ◌<◌, false, length, IfOk, IfErr, OnOk};
 ghost use Rattle.std.specs.List.{All};
-ghost use Rattle.tc_base.specs.declared.limits.TheConstants.{EVENTS};
+ghost use Rattle.tc_limits.specs.declared.limits.TheConstants.{EVENTS};
 ghost use Rattle.order_formula.specs.Formulas.{IsOf};
 ghost use Rattle.order_formula.specs.Orders.{ConjunctIsIn};
 ghost use Rattle.lawful_order.specs.Events.{all_events};
@@ -15,16 +15,16 @@ use bit_order::Layout;
 use clap_system::{BuildFault, build};
 use cnf_core::Cnf;
 use order_formula::{Formula, Order, World};
-use path_log::Log;
 use path_walk::Paths;
+use run_log::Log;
 use std::alloc::{AllocError, Global};
 use store_buffers::MemoryModel;
 use sym_exec::Symbolic;
 use sym_terms::Terms;
 use tc_code::Code;
 
-/// The clauses of a log with at most so many context switches, and what a schedule is made of: the layout, by which values that
-/// satisfy them are read as a world, the paths, and their execution.
+/// The clauses of a log with a bound on context switches, and what a schedule is made from: the
+/// layout, by which models are read as worlds, the paths, and their execution.
 #[derive(Debug, Drop)]
 pub(crate) struct Bounded {
     pub(crate) paths: Paths,
@@ -34,7 +34,7 @@ pub(crate) struct Bounded {
     pub(crate) clauses: Cnf,
 }
 
-/// The clauses of a log with at most so many context switches. Refused is what [`build`](clap_system::build) refuses.
+/// The clauses of a log with a bound on switches. Fails if [`build`](clap_system::build) does.
 pub(crate) fn pose_bounded<M: MemoryModel>(
     alloc: Global,
     code: &Code,
@@ -66,7 +66,7 @@ pub(crate) fn pose_bounded<M: MemoryModel>(
     })
 }
 
-/// The clauses of a formula with at most so many switches, or of what is impossible where the paths are dead.
+/// The clauses of a formula with a bound on switches, or an impossible one if the paths are dead.
 fn clauses(
     alloc: Global,
     paths: &Paths,
@@ -88,7 +88,7 @@ fn clauses(
 }
 
 impl Bounded {
-    /// Values of the variables that say a world, for a search to try first.
+    /// Values of the variables for a world, which a search tries first.
     pub(crate) fn first_values(
         &self,
         alloc: Global,
@@ -99,7 +99,7 @@ impl Bounded {
         Ok(values)
     }
 
-    /// The clauses, without taking memory.
+    /// The clauses, without an allocation.
     pub(crate) fn into_clauses(self) -> Cnf
         ensures { result ≡ self.clauses }
     {

@@ -1,4 +1,4 @@
-//! Derivations that are held against the clauses of a log with at most so many context switches.
+//! Checking derivations against the clauses of a log with a bound on context switches.
 ghost use Rattle.std.specs.Prelude.{◌≡◌, ◌≤◌, IfOk, IfErr, OnOk};
 ghost use Rattle.refute_check.specs.Refutations.{start};
 ghost use Rattle.clap_system.specs.Faults.{IsBuildFault};
@@ -7,16 +7,16 @@ ghost use Rattle.switch_clauses.specs.Clauses.{switch_clauses};
 
 use crate::bounded::pose_bounded;
 use clap_system::BuildFault;
-use path_log::Log;
 use refute_check::Checker;
+use run_log::Log;
 use std::alloc::Global;
 use store_buffers::MemoryModel;
 use tc_code::Code;
 
-/// A checker over the clauses of a log with at most so many context switches, before any line: the clauses in which
-/// [`least`](crate::least) searches for a schedule that has fewer.
+/// A checker over the clauses of a log with at most `most` context switches, before any line:
+/// [`least`](crate::least) searches these clauses for a schedule with fewer.
 ///
-/// Where it comes to a closed derivation, all moves that reproduce the log have more switches:
+/// If the derivation is closed, all moves that reproduce the log have more switches:
 /// [`closed_is_more_switches`](switch_clauses::closed_is_more_switches).
 pub fn check_least_start<M: MemoryModel>(
     alloc: Global,

@@ -1,7 +1,7 @@
-//! What switches are counted by: the thread of each event, and the event that fails.
+//! The data for counting switches: the thread of each event, and the failing event.
 ghost use Rattle.std.specs.Prelude.{◌≡◌, ◌==◌, ◌&&◌, ◌<◌, ◌≤◌, All, IfOk, length, option_map};
 ghost use Rattle.std.specs.List.{find, position_or_len};
-ghost use Rattle.tc_base.specs.declared.limits.TheConstants.{EVENTS};
+ghost use Rattle.tc_limits.specs.declared.limits.TheConstants.{EVENTS};
 ghost use Rattle.lawful_order.specs.Events.{all_events};
 ghost use Rattle.world_plan.specs.Plan.{is_failure};
 ghost use Rattle.switch_runs.specs.Worlds.{failing_of, threads_of, world_switches};
@@ -12,7 +12,7 @@ use order_switches::switches;
 use path_walk::{EventKind, Paths};
 use std::alloc::{AllocError, Global};
 
-/// How many context switches a world of paths has. There is one fewer at most than there are events.
+/// The number of context switches in a world of paths: less than the number of events.
 pub(crate) fn count(alloc: Global, paths: &Paths, world: &World) -> Result<u32, AllocError>
     requires events { length (all_events paths.now) ≤ EVENTS }
     requires small { All (λ p. p < 256) world.now.positions }
@@ -23,7 +23,7 @@ pub(crate) fn count(alloc: Global, paths: &Paths, world: &World) -> Result<u32, 
     Ok(switches(threads.as_slice(), failing, world))
 }
 
-/// The thread of each event of paths, and the number of the event that fails, if one does.
+/// The thread of each event of paths, and the number of the failing event, if there is one.
 pub(crate) fn threads_of(
     alloc: Global,
     paths: &Paths,
@@ -44,7 +44,7 @@ fn thread_of(placed: &Placed) -> usize
     placed.thread
 }
 
-/// The number of the event that fails, if one does.
+/// The number of the failing event, if there is one.
 fn failing(events: &Events) -> Option<u32>
     ensures { result ≡ option_map (λ e. position_or_len (λ d. d.thread == e.thread && d.it.step == e.it.step) events.now)
         (find (λ e. is_failure e.it.kind) events.now) }
@@ -53,7 +53,7 @@ fn failing(events: &Events) -> Option<u32>
     Some(events.number(failing.thread, failing.event.step))
 }
 
-/// The event that fails, if one does.
+/// The failing event, if there is one.
 fn failing_event(events: &Events) -> Option<&Placed>
     ensures { option_map (λ e. e.now) result ≡ find (λ e. is_failure e.it.kind) events.now }
 {
@@ -63,7 +63,7 @@ fn failing_event(events: &Events) -> Option<&Placed>
         .find(|placed| is_failure(placed.event.kind))
 }
 
-/// Whether an event of this kind fails.
+/// Whether events of this kind fail.
 fn is_failure(kind: EventKind) -> bool
     ensures { result ≡ is_failure kind }
 {

@@ -1,7 +1,7 @@
-//! Clauses of a formula with at most so many context switches.
+//! The clauses of a formula with a bound on context switches.
 ghost use Rattle.std.specs.Prelude.{◌≡◌, ◌+◌, ◌≤◌, ◌<◌, IfOk, length};
 ghost use Rattle.std.specs.List.{All, range_with_len};
-ghost use Rattle.tc_base.specs.declared.limits.TheConstants.{EVENTS};
+ghost use Rattle.tc_limits.specs.declared.limits.TheConstants.{EVENTS};
 ghost use Rattle.cnf_core.specs.declared.cnf.TheConstants.{LIMIT};
 ghost use Rattle.order_formula.specs.Formulas.{IsOf};
 ghost use Rattle.order_formula.specs.Orders.{ConjunctIsIn, IsOrder};
@@ -23,7 +23,7 @@ use std::alloc::{AllocError, Global};
 use switch_order::add_levels;
 use sym_terms::Terms;
 
-/// The clauses of a formula over an order, which is asked of every two events.
+/// The clauses of a formula over an order that asks about every two events.
 pub(crate) fn blast_asked(
     alloc: Global,
     terms: &Terms,
@@ -44,7 +44,7 @@ pub(crate) fn blast_asked(
     blast(alloc, terms, formula, order, loads)
 }
 
-/// The order, asked of every two events.
+/// The order, with all pairs of events added.
 fn ask_all(alloc: Global, order: Order) -> Result<Order, AllocError>
     requires { order.events ≤ 256 }
     ensures { IfOk result (λ asked. asked ≡ asked_of_all order) }
@@ -55,7 +55,7 @@ fn ask_all(alloc: Global, order: Order) -> Result<Order, AllocError>
     Ok(order)
 }
 
-/// The numbers from 0 on, so many of them.
+/// The first `count` numbers, from 0.
 fn numbers(alloc: Global, count: u32) -> Result<Vec<u32>, AllocError>
     ensures { IfOk result (λ numbers. numbers.items ≡ range_with_len 0 count) }
 {
@@ -66,7 +66,7 @@ fn numbers(alloc: Global, count: u32) -> Result<Vec<u32>, AllocError>
     Ok(numbers)
 }
 
-/// Clauses get levels up to a number, and with them at most so many switches.
+/// Adds levels up to `most` to clauses, and so bounds their switches.
 pub(crate) fn with_levels(
     alloc: Global,
     paths: &Paths,

@@ -1,5 +1,5 @@
-//! Fewest context switches: from a program and a log to a schedule that reproduces it with as few as any, and a derivation that none
-//! has fewer.
+//! Fewest context switches: from a program and a log to a schedule with as few switches as possible
+//! that reproduces the log, and a proof that none has fewer.
 #![tactic(auto)]
 
 mod answer;

@@ -1,6 +1,6 @@
-//! Searches one after another, each for fewer context switches.
+//! Repeated searches, each for fewer context switches.
 ghost use Rattle.std.specs.Prelude.{◌≡◌, ◌≤◌, IfOk, IfErr};
-ghost use Rattle.tc_base.specs.declared.limits.TheConstants.{BUDGET};
+ghost use Rattle.tc_limits.specs.declared.limits.TheConstants.{BUDGET};
 ghost use Rattle.clap_system.specs.Faults.{IsBuildFault};
 ghost use Rattle.clap_solve.specs.Posed.{IsGiven};
 ghost use Rattle.least_switch.specs.Least.{IsLeast};
@@ -10,16 +10,16 @@ use crate::Least;
 use crate::best::Best;
 use crate::stages::{Found, fewer, first};
 use clap_system::BuildFault;
-use path_log::Log;
+use run_log::Log;
 use std::alloc::Global;
 use store_buffers::MemoryModel;
 use tc_code::Code;
 
-/// Searches for a schedule of a log with the fewest context switches: first for any, as [`solve`](clap_solve::solve) does, and then
-/// each time for one with fewer than the last, until there is a derivation that there is none. Each search may learn as many clauses
-/// as the budget says.
+/// Searches for a schedule of a log with the fewest context switches: first for any, as
+/// [`solve`](clap_solve::solve) does, and then for one with fewer than the last, until a derivation
+/// proves that there is none. Each search may learn as many clauses as the budget says.
 ///
-/// Refused is what has no clauses; which log that is, [`build`](clap_system::build) says.
+/// Fails if the log has no clauses; see [`build`](clap_system::build).
 pub fn least<M: MemoryModel>(
     alloc: Global,
     code: &Code,
@@ -38,7 +38,7 @@ pub fn least<M: MemoryModel>(
     }
 }
 
-/// Searches for a schedule with fewer context switches than the best so far, as long as one is found.
+/// Searches for schedules with fewer context switches than the best so far, while one is found.
 fn fewest<M: MemoryModel>(
     alloc: Global,
     code: &Code,

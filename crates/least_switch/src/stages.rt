@@ -1,6 +1,6 @@
-//! One search: for any schedule of a log, or for one with at most so many context switches.
+//! One search: for any schedule of a log, or for one with a bound on context switches.
 ghost use Rattle.std.specs.Prelude.{◌≤◌, IfOk, IfErr, length};
-ghost use Rattle.tc_base.specs.declared.limits.TheConstants.{BUDGET, EVENTS};
+ghost use Rattle.tc_limits.specs.declared.limits.TheConstants.{BUDGET, EVENTS};
 ghost use Rattle.lawful_order.specs.Events.{all_events};
 ghost use Rattle.cdcl_core.specs.Solving.{Solves};
 ghost use Rattle.clap_system.specs.Faults.{IsBuildFault};
@@ -17,25 +17,25 @@ use clap_system::BuildFault;
 use cnf_core::Assignment;
 use first_run::first_world;
 use order_formula::World;
-use path_log::Log;
 use refute_check::Derivation;
+use run_log::Log;
 use std::alloc::{AllocError, Global};
 use std::mem::drop;
 use store_buffers::MemoryModel;
 use tc_code::Code;
 
-/// What a search comes to.
+/// The result of a search.
 #[derive(Debug, Drop)]
 pub(crate) enum Found {
     /// A schedule.
     Best(Best),
-    /// There is none: the derivation is closed on the clauses.
+    /// There is no schedule: the derivation is closed on the clauses.
     Impossible(Derivation),
-    /// As many clauses were learnt as the budget allows, without either.
+    /// The search learnt as many clauses as the budget allows, and found neither.
     Spent(Derivation),
 }
 
-/// A search for a schedule of a log.
+/// Searches for a schedule of a log.
 pub(crate) fn first<M: MemoryModel>(
     alloc: Global,
     code: &Code,
@@ -61,7 +61,7 @@ fn posed<M: MemoryModel>(alloc: Global, code: &Code, log: &Log) -> Result<Posed,
     pose::<M>(alloc, code, log)
 }
 
-/// A search for what satisfies the clauses of a log, and the schedule of what it finds.
+/// Searches for a model of the clauses of a log, and makes a schedule of it.
 fn searched<M: MemoryModel>(
     alloc: Global,
     code: &Code,
@@ -78,7 +78,7 @@ fn searched<M: MemoryModel>(
     first_found::<M>(alloc, code, log, posed, solved)
 }
 
-/// A search of the clauses of a log, which tries first what one run along its paths comes to.
+/// A search of the clauses of a log that first tries the values of one run along its paths.
 fn search<M: MemoryModel>(
     alloc: Global,
     code: &Code,
@@ -95,7 +95,7 @@ fn search<M: MemoryModel>(
     solve_cnf(alloc, posed.clauses(), values.as_slice(), budget)
 }
 
-/// What the search for a schedule of a log comes to.
+/// The result of the search for a schedule of a log.
 fn first_found<M: MemoryModel>(
     alloc: Global,
     code: &Code,
@@ -116,7 +116,7 @@ fn first_found<M: MemoryModel>(
     }
 }
 
-/// The schedule of the world that is said by what satisfies the clauses of a log.
+/// The schedule of the world of a model of the clauses of a log.
 fn first_best<M: MemoryModel>(
     alloc: Global,
     code: &Code,
@@ -138,7 +138,7 @@ fn first_best<M: MemoryModel>(
     )
 }
 
-/// A search for a schedule of a log with at most so many context switches, which tries first what is near a world.
+/// Searches for a schedule of a log with a bound on switches, trying values near a world first.
 pub(crate) fn fewer<M: MemoryModel>(
     alloc: Global,
     code: &Code,
@@ -161,7 +161,7 @@ pub(crate) fn fewer<M: MemoryModel>(
     Ok(found?)
 }
 
-/// A search for what satisfies the clauses with at most so many context switches, and the schedule of what it finds.
+/// Searches for a model of the clauses with a bound on switches, and makes a schedule of it.
 fn searched_near<M: MemoryModel>(
     alloc: Global,
     code: &Code,
@@ -183,7 +183,7 @@ fn searched_near<M: MemoryModel>(
     next_found::<M>(alloc, code, log, most, bounded, solved)
 }
 
-/// What the search for one with at most so many context switches comes to.
+/// The result of the search with a bound on context switches.
 fn next_found<M: MemoryModel>(
     alloc: Global,
     code: &Code,
@@ -205,7 +205,7 @@ fn next_found<M: MemoryModel>(
     }
 }
 
-/// The schedule of the world that is said by what satisfies the clauses with at most so many switches.
+/// The schedule of the world of a model of the clauses with a bound on switches.
 fn next_best<M: MemoryModel>(
     alloc: Global,
     code: &Code,

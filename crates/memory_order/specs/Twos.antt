@@ -1,4 +1,4 @@
--- Two elements of a list, with what stands between them.
+-- Two elements of a list, with the elements between them.
 use Rattle.std.specs.Prelude.{List, [], ◌∷◌, ◌++◌}
 
 pub record Two (X : Type 0) : Type 0 where
@@ -6,12 +6,12 @@ pub record Two (X : Type 0) : Type 0 where
   pub between : List X
   pub second : X
 
--- an element with each of those after it, where some stand between
+-- the element x with each element of `after`, where `between` lies before `after`
 abbrev pub twos_with : {X : Type 0} → X → (between after : List X) → List (Two X)
 twos_with x between [] = []
 twos_with x between (y ∷ ys) = record { first = x; between = between; second = y } ∷ twos_with x (between ++ y ∷ []) ys
 
--- each element of a list with each of those after it
+-- each element of a list with each later one
 abbrev pub twos : {X : Type 0} → List X → List (Two X)
 twos [] = []
 twos (x ∷ xs) = twos_with x [] xs ++ twos xs

@@ -17,35 +17,35 @@ use store_buffers::MemoryModel;
 use sym_exec::{Access, Cell, Symbolic};
 use sym_terms::{Id, Terms};
 
-/// Whether it is a store and no load.
+/// Whether an event is a plain store, not an exchange.
 fn is_store(kind: EventKind) -> bool
     ensures { result ≡ memory.is_store kind }
 {
     matches!(kind, EventKind::Store)
 }
 
-/// Whether a thread may do it while stores of its own are pending.
+/// Whether a thread may do an event while its own stores are pending.
 fn may_overtake(kind: EventKind) -> bool
     ensures { result ≡ memory.may_overtake kind }
 {
     matches!(kind, EventKind::Load | EventKind::Store | EventKind::Fail)
 }
 
-/// Whether it ends the run.
+/// Whether an event is a failure, which ends the run.
 pub(crate) fn is_failing(kind: EventKind) -> bool
     ensures { result ≡ spec.is_failing kind }
 {
     matches!(kind, EventKind::Fail)
 }
 
-/// Whether it has its place in the order where it stands on the path.
+/// Whether an event has the position of its step; a store in a buffer has that of its drain.
 pub(crate) fn is_settled<M: MemoryModel>(kind: EventKind) -> bool
     ensures { result ≡ spec.is_settled M.BUFFERED kind }
 {
     !(M::BUFFERED && is_store(kind))
 }
 
-/// Whether an event is kept before a later one of its thread, by whether both are to one cell.
+/// Whether the first event stays before the second, given whether both are to the same cell.
 fn keeps<M: MemoryModel>(same_cell: bool, first: &Event, second: &Event) -> bool
     ensures { result ≡ spec.keeps M.BUFFERED M.bound same_cell first.now second.now }
 {
@@ -61,28 +61,28 @@ fn access_at(accesses: &[Access], step: usize) -> Option<&Access>
     accesses.iter().find(|access| access.step == step)
 }
 
-/// An event of a thread with a later one, and what stands between them.
+/// Two events of a thread, with the events between them.
 #[derive(Clone, Copy, Debug)]
 pub(crate) struct Two<'a> {
-    /// The earlier.
+    /// The earlier event.
     pub(crate) first: &'a Event,
-    /// Those between them.
+    /// The events between them.
     pub(crate) between: &'a [Event],
-    /// The later.
+    /// The later event.
     pub(crate) second: &'a Event,
 }
 
-/// A thread of paths, with what their execution found.
+/// A thread of the paths, with the result of executing them.
 #[derive(Clone, Copy, Debug)]
 pub(crate) struct Thread<'a> {
-    /// What all threads come to.
+    /// The result of executing all threads.
     pub(crate) symbolic: &'a Symbolic,
-    /// Its place among them.
+    /// The thread's index.
     pub(crate) number: usize,
 }
 
 impl Thread<'_> {
-    /// The cell of its step, if that has one.
+    /// The cell of the thread's step, if it has one.
     fn cell_of(&self, step: usize) -> Option<Cell>
         ensures { result ≡ memory.cell_of self.now.symbolic.now self.now.number step }
     {
@@ -90,7 +90,7 @@ impl Thread<'_> {
         Some(access_at(course.accesses(), step)?.cell)
     }
 
-    /// The cells of two of its events.
+    /// The cells of two of the thread's events, if both have one.
     fn cells_of(&self, first: &Event, second: &Event) -> Option<(Cell, Cell)>
         ensures { result ≡ spec.cells_of self.now.symbolic.now self.now.number first.now second.now }
     {
@@ -98,7 +98,7 @@ impl Thread<'_> {
         Some((one, self.cell_of(second.step)?))
     }
 
-    /// Whether they are one, where that is known.
+    /// Whether the cells of two events are the same, if known.
     fn known_same(&self, terms: &Terms, first: &Event, second: &Event) -> Option<bool>
         ensures { result ≡ option_and_then (λ c. cells.known_same terms.now c.0 c.1)
             (spec.cells_of self.now.symbolic.now self.now.number first.now second.now) }
@@ -107,7 +107,7 @@ impl Thread<'_> {
         known_same(terms, one, other)
     }
 
-    /// Whether an event is kept before a later one, whatever the indexes of their cells are.
+    /// Whether the first event stays before the second, whatever the indexes of their cells are.
     fn is_always_kept<M: MemoryModel>(&self, terms: &Terms, first: &Event, second: &Event) -> bool
         ensures { result ≡ spec.is_always_kept M.BUFFERED M.bound self.now.symbolic.now terms.now self.now.number first.now second.now }
     {
@@ -115,7 +115,8 @@ impl Thread<'_> {
         keeps::<M>(same_cell, first, second)
     }
 
-    /// Whether it is, and not already since it is before an event between them that is before the later one.
+    /// Whether the first event always stays before the second, and no event between them implies
+    /// it.
     pub(crate) fn is_kept_next<M: MemoryModel>(&self, terms: &Terms, two: &Two) -> bool
         ensures { result ≡ spec.is_kept_next M.BUFFERED M.bound self.now.symbolic.now terms.now self.now.number (plain two.now) }
     {
@@ -123,7 +124,7 @@ impl Thread<'_> {
             && !self.goes_through::<M>(terms, two)
     }
 
-    /// Whether an event between two is kept after the first and before the second.
+    /// Whether an event between two always stays after the first and before the second.
     fn goes_through<M: MemoryModel>(&self, terms: &Terms, two: &Two) -> bool
         ensures { result ≡ list_any (λ z. spec.is_always_kept M.BUFFERED M.bound self.now.symbolic.now terms.now self.now.number two.now.first.now z
             && spec.is_always_kept M.BUFFERED M.bound self.now.symbolic.now terms.now self.now.number z two.now.second.now) two.now.between.now }
@@ -138,7 +139,7 @@ impl Thread<'_> {
         false
     }
 
-    /// The test of the indexes, where an event is kept before a later one only if these are equal.
+    /// The test that two indexes are equal, if the first event stays before the second only then.
     pub(crate) fn kept_test<M: MemoryModel>(
         &self,
         terms: &mut Terms,

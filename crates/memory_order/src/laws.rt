@@ -1,4 +1,5 @@
-//! Laws of the formula of threads' own events. Each is a clause of a function that does nothing.
+//! Laws about the formula of threads' own events. Each law is the contract of a function with an
+//! empty body.
 ghost use Rattle.std.specs.Prelude.{◌≡◌, ℕ, Bool, true, List, length};
 ghost use Rattle.std.specs.List.{All, Contains};
 ghost use Rattle.path_walk.specs.Paths.{Paths};
@@ -19,8 +20,8 @@ ghost use Rattle.lawful_order.specs.Whole.{AreWhole, IsExecutedBy};
 ghost use Rattle.order_cells.specs.Terms.{HaveTerms};
 ghost use Rattle.memory_order.specs.Own.{own_formula, own_needs};
 
-/// The conjuncts of a thread's own events are all true in a world exactly where the model's rule of these events is met. Of the
-/// model it wants that stores to one cell are bound.
+/// The conjuncts of a thread's own events are all true in a world exactly when it meets the model's
+/// rule for these events. The model must bind stores to the same cell.
 pub fn own_orders_are_exact()
     ensures { (buffered : Bool) (bound : Binding) (paths : Paths) (symbolic : Symbolic) (nodes : List Node) (w : World) (t : ℕ)
         → ((barred : Bool) → bound true barred ≡ true) → AreWhole paths → IsExecutedBy paths symbolic
@@ -28,13 +29,13 @@ pub fn own_orders_are_exact()
         → IsExactly nodes w (own_formula buffered bound paths symbolic nodes) (Own t) (OwnRule buffered bound paths symbolic nodes w t) }
 {}
 
-/// Each conjunct belongs to a thread's own events.
+/// Each conjunct belongs to the group of some thread's own events.
 pub fn own_conjuncts_have_their_group()
     ensures { (buffered : Bool) (bound : Binding) (paths : Paths) (symbolic : Symbolic) (nodes : List Node) (c : Conjunct)
         → Contains (own_formula buffered bound paths symbolic nodes) c → (t : ℕ) × (c.group ≡ Own t) }
 {}
 
-/// All events that the formula names are the order's, and all terms are there.
+/// All events and terms that the formula names exist.
 pub fn own_formulas_are_of_their_order()
     ensures events { (buffered : Bool) (bound : Binding) (paths : Paths) (symbolic : Symbolic) (nodes : List Node) (o : Order)
         → o.events ≡ length (all_events paths) → All (ConjunctIsIn o) (own_formula buffered bound paths symbolic nodes) }
@@ -42,7 +43,7 @@ pub fn own_formulas_are_of_their_order()
         → All (Contains nodes) (own_needs buffered bound paths symbolic nodes) → IsOf (length nodes) (own_formula buffered bound paths symbolic nodes) }
 {}
 
-/// While terms are added the formula needs the same nodes, and it stays as it is once these are there.
+/// While terms are added, the formula needs the same nodes; once these exist, it doesn't change.
 pub fn own_formulas_stay()
     ensures needs { (buffered : Bool) (bound : Binding) (paths : Paths) (symbolic : Symbolic) (nodes later : List Node)
         → HaveTerms nodes symbolic → Grows nodes later

@@ -1,7 +1,7 @@
 //! The conjuncts of threads' own events.
 ghost use Rattle.std.specs.Prelude.{◌≡◌, ◌≤◌, ◌++◌, ◌∷◌, List, [], length, fold, map, filter, IfOk, OnOk};
 ghost use Rattle.std.specs.List.{flat_map};
-ghost use Rattle.tc_base.specs.declared.limits.TheConstants.{EVENTS};
+ghost use Rattle.tc_limits.specs.declared.limits.TheConstants.{EVENTS};
 ghost use Rattle.sym_terms.specs.Terms.{with_node};
 ghost use Rattle.sym_terms.specs.declared.node.Node.{Node};
 ghost use Rattle.sym_exec.specs.Making.{Grows};
@@ -25,11 +25,13 @@ use store_buffers::MemoryModel;
 use sym_exec::Symbolic;
 use sym_terms::{Id, Terms};
 
-/// What a memory model asks of the order of each thread's own events, and that none comes after the failing one but stores that are
-/// pending for good. The terms take the tests of indexes, and the order takes what the formula asks.
+/// The conjuncts of a memory model for the order of each thread's own events, and that every event
+/// except stores in buffers comes before the failing one. Adds the tests of indexes to the terms,
+/// and the questions to the order.
 ///
-/// Of the events that are kept in order whatever their indexes are only neighbours are asked: the others follow. Refused for want
-/// of memory, the terms that there were mean the same, and the order has at most more questions.
+/// Of events that are kept in order whatever their indexes are, only neighbours get a conjunct,
+/// which implies the rest. If out of memory, existing terms keep their meaning, and the order may
+/// have more questions.
 pub fn order_constraints<M: MemoryModel>(
     alloc: Global,
     paths: &Paths,
@@ -60,7 +62,7 @@ pub fn order_constraints<M: MemoryModel>(
     formula_of(alloc, conjuncts, order)
 }
 
-/// The conjuncts of each two events of each thread.
+/// Appends the conjuncts of every two events of each thread.
 fn push_threads<M: MemoryModel>(
     alloc: Global,
     conjuncts: &mut Vec<Conjunct>,
@@ -83,7 +85,7 @@ fn push_threads<M: MemoryModel>(
     Ok(())
 }
 
-/// Those of each two events of a thread.
+/// Appends the conjuncts of every two events of a thread.
 fn push_thread<M: MemoryModel>(
     alloc: Global,
     conjuncts: &mut Vec<Conjunct>,
@@ -107,7 +109,7 @@ fn push_thread<M: MemoryModel>(
     Ok(())
 }
 
-/// Those of an event with each of those after it.
+/// Appends the conjuncts of an event with each later one.
 fn push_after<M: MemoryModel>(
     alloc: Global,
     conjuncts: &mut Vec<Conjunct>,
@@ -137,7 +139,7 @@ fn push_after<M: MemoryModel>(
     Ok(())
 }
 
-/// Those of two events of a thread.
+/// Appends the conjuncts of two events of a thread.
 fn push_two<M: MemoryModel>(
     alloc: Global,
     conjuncts: &mut Vec<Conjunct>,
@@ -157,7 +159,8 @@ fn push_two<M: MemoryModel>(
     push_tested::<M>(alloc, conjuncts, events, thread, terms, two)
 }
 
-/// That the earlier comes before the later, where it is always kept so and none between them tells it.
+/// Appends that the earlier comes before the later, if it always does and no event between implies
+/// it.
 fn push_next<M: MemoryModel>(
     alloc: Global,
     conjuncts: &mut Vec<Conjunct>,
@@ -176,7 +179,8 @@ fn push_next<M: MemoryModel>(
     Ok(())
 }
 
-/// That it does where the test of their indexes passes, if they have one.
+/// Appends that the earlier comes before the later if the test of their indexes passes, if they
+/// have one.
 fn push_tested<M: MemoryModel>(
     alloc: Global,
     conjuncts: &mut Vec<Conjunct>,
@@ -214,7 +218,7 @@ fn kept(alloc: Global, events: &Events, thread: &Thread, two: &Two) -> Result<Co
     one_of(alloc, group, &[in_order])
 }
 
-/// It does where a test passes.
+/// If a test passes, an event comes before a later one of its thread.
 fn kept_where(
     alloc: Global,
     events: &Events,
@@ -237,7 +241,7 @@ fn kept_where(
     one_of(alloc, group, &[Literal::test(test).opposite(), in_order])
 }
 
-/// The conjuncts of all events and the failing one.
+/// Appends that events come before the failing one.
 fn push_failing<M: MemoryModel>(
     alloc: Global,
     conjuncts: &mut Vec<Conjunct>,
@@ -253,7 +257,7 @@ fn push_failing<M: MemoryModel>(
     Ok(())
 }
 
-/// Those of an event.
+/// Appends that an event comes before the failing ones.
 fn push_before_failing(
     alloc: Global,
     conjuncts: &mut Vec<Conjunct>,

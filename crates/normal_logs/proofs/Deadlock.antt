@@ -2,10 +2,10 @@
 use Rattle.std.proofs.Common.{◌≡◌, ◌∙◌, ℕ, true, false, length, List, Some, IsSome, sym, ap, subst, arith}
 use Rattle.std.proofs.lemmas.Bool.{false≢true}
 use Rattle.tc_base.specs.Buffers.{BufferOps}
-use Rattle.tc_base.specs.Logs.{Log}
+use Rattle.run_log.specs.Logs.{Log}
 use Rattle.tc_base.specs.Names.{Name, child}
 use Rattle.tc_base.specs.declared.failing.Failing.TheVariants.{Deadlock}
-use Rattle.tc_base.specs.declared.model.Model.{Model}
+use Rattle.memory_models.specs.declared.model.Model.{Model}
 use Rattle.tc_base.specs.declared.moves.Move.{Move}
 use Rattle.tc_code.specs.Code.{Code}
 use Rattle.tc_code.specs.Lawful.{IsLawful}
@@ -16,7 +16,7 @@ use Rattle.run_laws.proofs.Basics.{some_value}
 use Rattle.run_history.specs.History.{Deed, history}
 use Rattle.run_history.specs.Told.{owner_in, steps_in, has_exited_in}
 use Rattle.run_follows.specs.blocked.Stuck.{IsBlockedIn}
-use Rattle.path_log.specs.Texts.{is_log}
+use Rattle.run_log.specs.Logs.{is_log}
 use Rattle.path_walk.specs.Paths.{Walk}
 use Rattle.path_walk.specs.declared.event.Blocked.{Blocked}
 use Rattle.path_walk.specs.declared.event.Blocked.TheVariants.{Lock, Wake, Join}

@@ -6,12 +6,13 @@ use Rattle.std.proofs.lemmas.Bool.{leb-true, le-leb}
 use Rattle.std.proofs.lemmas.List.{length-append}
 use Rattle.std.proofs.lemmas.Option.{none-some, same_Some}
 use Rattle.tc_base.specs.Buffers.{BufferOps}
-use Rattle.tc_base.specs.Logs.{Log, Path, ThreadPath, path_under}
+use Rattle.run_log.specs.Logs.{Log}
+use Rattle.tc_base.specs.Paths.{Path, ThreadPath, path_under}
 use Rattle.tc_base.specs.Names.{Name}
 use Rattle.tc_base.specs.States.{Thread, State}
 use Rattle.tc_base.specs.declared.failing.Failing.{Failing}
 use Rattle.tc_base.specs.declared.failing.Failing.TheVariants as failing
-use Rattle.tc_base.specs.declared.model.Model.{Model}
+use Rattle.memory_models.specs.declared.model.Model.{Model}
 use Rattle.tc_base.specs.declared.moves.Move.{Move}
 use Rattle.tc_code.specs.Code.{Code}
 use Rattle.tc_code.specs.Lawful.{IsLawful}
@@ -34,7 +35,7 @@ use Rattle.tc_record.specs.Logged.{IsLogOf}
 use Rattle.tc_record.proofs.OneLog.{some_log}
 use Rattle.tc_record.proofs.Paths.{reproduced}
 use Rattle.tc_record.proofs.Reached.{has_threads}
-use Rattle.path_log.specs.Texts.{StoredLog}
+use Rattle.run_log.specs.Logs.{StoredLog}
 use Rattle.normal_logs.specs.Normal.{IsNormal, IsNormalDeadlock}
 use Rattle.normal_logs.specs.Within.{Allowed, at_most, HasBeginnings, ComesTo, ReproducesSome}
 use Rattle.normal_logs.proofs.Reproduced.{fit_together}

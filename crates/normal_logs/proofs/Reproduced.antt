@@ -2,9 +2,9 @@
 use Rattle.std.proofs.Common.{◌≡◌, ◌∙◌, ℕ, zero, suc, ◌+◌, ◌<◌, ℤ, true, List, ◌∷◌, ◌++◌, length, cond, Option, Some, refl, sym, ap, subst, arith, append_assoc}
 use Rattle.std.proofs.lemmas.Option.{none-some, same_Some}
 use Rattle.tc_base.specs.Buffers.{BufferOps}
-use Rattle.tc_base.specs.Logs.{Log}
+use Rattle.run_log.specs.Logs.{Log}
 use Rattle.tc_base.specs.Names.{Name, child}
-use Rattle.tc_base.specs.declared.model.Model.{Model}
+use Rattle.memory_models.specs.declared.model.Model.{Model}
 use Rattle.tc_base.specs.declared.moves.Move.{Move}
 use Rattle.tc_base.specs.declared.request.Request.{Request}
 use Rattle.tc_base.specs.declared.request.Request.TheVariants.{Await, Finish}
@@ -18,7 +18,7 @@ use Rattle.run_history.specs.History.{Deed, Did, history}
 use Rattle.run_history.specs.Told.{is_exit_of, owner_in, steps_in, has_exited_in}
 use Rattle.run_history.proofs.of_pending.In.{In, in_split, any_in, in_mapped, from_mapped}
 use Rattle.run_follows.specs.Follow.{AllFollow, StepsAreOfThreads}
-use Rattle.path_log.specs.Texts.{is_log}
+use Rattle.run_log.specs.Logs.{is_log}
 use Rattle.path_walk.specs.Events.{join_by, joins_of}
 use Rattle.path_walk.specs.Fits.{Fits}
 use Rattle.path_walk.specs.Paths.{Walk}

@@ -1,7 +1,7 @@
 -- How the paths of a log end.
 use Rattle.std.specs.Prelude.{◌≡◌, ◌+◌, ◌<◌, ℕ, length}
 use Rattle.std.specs.List.{Contains}
-use Rattle.tc_base.specs.Logs.{Log}
+use Rattle.run_log.specs.Logs.{Log}
 use Rattle.tc_base.specs.Names.{Name, child}
 use Rattle.tc_code.specs.Code.{Code}
 use Rattle.path_walk.specs.Paths.{Walk}
@@ -14,7 +14,7 @@ use Rattle.path_walk.specs.declared.event.Region.{Region}
 use Rattle.path_laws.specs.events.Done.{IsOpenAfter}
 use Rattle.path_laws.specs.history.Along.{IsThread}
 
--- the last step of a path asks this
+-- the last step of a path is an event of this kind
 pub record EndsWith (w : Walk) (asked : EventKind) : Type 0 where
   pub event : Event
   pub there : Contains w.events event
@@ -29,7 +29,7 @@ pub record HoldsAtEnd (w : Walk) (m : ℕ) : Type 0 where
   pub lasts : IsOpenAfter (length w.places) region
 
 module _ (code : Code) (log : Log) where
-  -- some path joins the thread of a name
+  -- some path joins the named thread
   pub record IsJoined (n : Name) : Type 0 where
     pub place : ℕ
     pub walk : Walk
@@ -38,7 +38,7 @@ module _ (code : Code) (log : Log) where
     pub joins : Contains walk.joins join
     pub name : n ≡ child walk.name join.child
 
-  -- the thread of a name does a step
+  -- the named thread does at least one step
   pub record Acts (n : Name) : Type 0 where
     pub place : ℕ
     pub walk : Walk
@@ -46,7 +46,7 @@ module _ (code : Code) (log : Log) where
     pub name : walk.name ≡ n
     pub steps : 0 < length walk.places
 
-  -- another thread may have a use for the last step of the thread of a name, which asks this
+  -- another thread may need an event of this kind as the last step of the named thread
   abbrev pub IsUsed : Name → EventKind → Type 0
   IsUsed n Store = Unit {0}
   IsUsed n Exchange = Unit {0}
@@ -58,20 +58,20 @@ module _ (code : Code) (log : Log) where
   IsUsed n Exit = IsJoined n
   IsUsed n _ = ⊥
 
-  -- a path ends with such a step
+  -- a path ends with a step that another thread may need
   pub record EndsUsed (w : Walk) : Type 0 where
     pub asked : EventKind
     pub ends : EndsWith w asked
     pub used : IsUsed w.name asked
 
-  -- some thread holds a mutex at the end of its path
+  -- some thread holds the mutex at the end of its path
   pub record IsHeldAtEnd (m : ℕ) : Type 0 where
     pub place : ℕ
     pub walk : Walk
     pub there : IsThread code log place walk
     pub holds : HoldsAtEnd walk m
 
-  -- no path of the thread of a name ends with an exit
+  -- no path of the named thread ends with an exit
   abbrev pub NeverExits : Name → Type 0
   NeverExits n =
       (j : ℕ) (w : Walk) → IsThread code log j w → w.name ≡ n → EndsWith w Exit → ⊥

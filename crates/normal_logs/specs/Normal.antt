@@ -1,12 +1,12 @@
--- The logs that are enough to find each failure and each deadlock.
--- More could be left out: paths that decide a test of constants the wrong way, and rounds of a
--- loop that change nothing.
+-- Normal logs, which suffice to find every failure and every deadlock.
+-- More could be left out: paths with the wrong outcome of a test of constants, and rounds of a loop
+-- that change nothing.
 use Rattle.std.specs.Prelude.{◌≡◌, ◌⊎◌, ℕ, true, false, [], Some, IsSome}
-use Rattle.tc_base.specs.Logs.{Log, failing_of}
+use Rattle.run_log.specs.Logs.{Log, failing_of}
 use Rattle.tc_base.specs.Names.{child}
 use Rattle.tc_base.specs.declared.failing.Failing.TheVariants.{Deadlock}
 use Rattle.tc_code.specs.Code.{Code}
-use Rattle.path_log.specs.Texts.{is_log}
+use Rattle.run_log.specs.Logs.{is_log}
 use Rattle.path_walk.specs.Fits.{fails_in, Fits}
 use Rattle.path_walk.specs.Paths.{Walk, paths_of}
 use Rattle.path_walk.specs.declared.event.Blocked.{Blocked}
@@ -17,34 +17,33 @@ use Rattle.normal_logs.specs.Ends.{EndsWith, HoldsAtEnd, IsJoined, EndsUsed, IsH
 use Rattle.normal_logs.specs.Ends.{NeverExits}
 
 module _ (code : Code) (log : Log) where
-  -- the paths fit the program and one another
+  -- the paths fit the program and each other
   pub record FitTogether : Type 0 where
     pub is_log : is_log log ≡ true
     pub fits : Fits code log
-    -- no path tells by itself that no run goes so, and in a deadlock some thread hasn't exited
+    -- no path alone rules out every run, and in a deadlock some thread is blocked
     pub possible : (paths_of code log).dead ≡ false
-    -- who is joined has exited, so isn't the one that fails
+    -- a joined thread has exited, so it isn't the one that fails
     pub joined : (j : ℕ) (w : Walk) → IsThread code log j w → IsJoined code log w.name
         → EndsWith w Exit
-    -- two threads don't hold one mutex
+    -- no two threads hold the same mutex at the end
     pub apart : (i j m : ℕ) (v w : Walk) → IsThread code log i v → IsThread code log j w
         → HoldsAtEnd v m → HoldsAtEnd w m → v.name ≡ w.name
 
-  -- the log of a failure: each thread but the failing one does nothing, or ends with a step that
-  -- another may have a use for
+  -- a normal log of a failure: each other thread does nothing, or its last step may be needed
   pub record IsNormal : Type 0 where
     pub paths : FitTogether
     pub fails : IsSome (failing_of log)
     pub used : (j : ℕ) (w : Walk) → IsThread code log j w → fails_in log w.name ≡ false
         → (w.places ≡ []) ⊎ EndsUsed code log w
 
-  -- what blocks a thread: a mutex that is held at the end, a sleep, or a child that doesn't exit
+  -- a block has a cause: the mutex is held at the end, the child never exits, or the thread sleeps
   abbrev pub HasCause : Walk → Blocked → Type 0
   HasCause w (Lock m) = IsHeldAtEnd code log m
   HasCause w (Wake c m k) = Unit {0}
   HasCause w (Join k) = NeverExits code log (child w.name k)
 
-  -- the log of a deadlock: what each thread is blocked at has a cause
+  -- a normal log of a deadlock: whatever blocks a thread has a cause
   pub record IsNormalDeadlock : Type 0 where
     pub paths : FitTogether
     pub ends : log.failing ≡ Deadlock

@@ -2,29 +2,30 @@
 use Rattle.std.specs.Prelude.{◌≡◌, ℕ, Bool, true, nat_le, List, ◌++◌, length, Some}
 use Rattle.std.specs.FinMap as fin
 use Rattle.tc_base.specs.Buffers.{BufferOps}
-use Rattle.tc_base.specs.Logs.{Log, Path, path_under}
+use Rattle.run_log.specs.Logs.{Log}
+use Rattle.tc_base.specs.Paths.{Path, path_under}
 use Rattle.tc_base.specs.Names.{Name}
 use Rattle.tc_base.specs.States.{Thread, State}
-use Rattle.tc_base.specs.declared.model.Model.{Model}
+use Rattle.memory_models.specs.declared.model.Model.{Model}
 use Rattle.tc_base.specs.declared.moves.Move.{Move}
 use Rattle.tc_code.specs.Code.{Code}
 use Rattle.tc_code.specs.Run.{run, Reproduces}
 
--- which outcomes the thread of a name may have
+-- the outcomes that each named thread may have
 abbrev pub Allowed : Type 0
 Allowed = Name → List Bool → Bool
 
--- at most so many
+-- at most `most` outcomes
 abbrev pub at_most : ℕ → Allowed
 at_most most n outcomes = nat_le (length outcomes) most
 
--- the first outcomes of those that are allowed are allowed too
+-- every prefix of allowed outcomes is allowed
 abbrev pub HasBeginnings : Allowed → Type 0
 HasBeginnings allowed =
     (n : Name) (first later : List Bool) → allowed n (first ++ later) ≡ true → allowed n first ≡ true
 
 module _ {B : Type 0} (ops : BufferOps B) (code : Code) (allowed : Allowed) where
-  -- some moves lead to a state of a kind in which each thread has allowed outcomes
+  -- some run leads to a state of this kind, in which each thread has allowed outcomes
   pub record ComesTo (kind : State B → Type 0) : Type 0 where
     pub moves : List Move
     pub state : State B
@@ -33,7 +34,7 @@ module _ {B : Type 0} (ops : BufferOps B) (code : Code) (allowed : Allowed) wher
     pub within : (n : Name) (t : Thread B) → fin.get state.threads n ≡ Some t
         → allowed n t.local.outcomes ≡ true
 
-  -- some moves reproduce a log of a kind, made for a model, in which each path has allowed outcomes
+  -- some run reproduces a log of this kind and model, in which each path has allowed outcomes
   pub record ReproducesSome (model : Model) (kind : Log → Type 0) : Type 0 where
     pub log : Log
     pub is : kind log

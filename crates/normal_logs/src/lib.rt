@@ -1,12 +1,12 @@
-//! Logs that are enough to find each failure and each deadlock. In the log of a failure each thread but the failing one
-//! does nothing, or ends with a step that another may have a use for.
+//! Normal logs, which suffice to find every failure and every deadlock. In the normal log of a
+//! failure, each thread but the failing one does nothing or ends with a step that another may need.
 //!
-//! Each function's clause is a law, and its body does nothing.
+//! Each function states a law, and its body does nothing.
 #![tactic(auto)]
 
 ghost use Rattle.std.specs.Prelude.{◌↔◌, ℕ, IsSome};
 ghost use Rattle.tc_base.specs.Buffers.{BufferOps};
-ghost use Rattle.tc_base.specs.declared.model.Model.{Model};
+ghost use Rattle.memory_models.specs.declared.model.Model.{Model};
 ghost use Rattle.tc_code.specs.Code.{Code};
 ghost use Rattle.tc_code.specs.Lawful.{IsLawful};
 ghost use Rattle.tc_code.specs.Run.{IsStuck};
@@ -15,9 +15,9 @@ ghost use Rattle.store_buffers.specs.Pending.{Binding};
 ghost use Rattle.normal_logs.specs.Normal.{IsNormal, IsNormalDeadlock};
 ghost use Rattle.normal_logs.specs.Within.{Allowed, at_most, HasBeginnings, ComesTo, ReproducesSome};
 
-/// Some moves lead to a failure in which each thread has allowed outcomes exactly where some moves reproduce a normal log with
-/// allowed outcomes, under every memory model. A beginning of allowed outcomes must be allowed too, as it is where each thread
-/// may have at most so many.
+/// Some run fails with allowed outcomes if and only if some run reproduces a normal log with
+/// allowed outcomes, under every memory model. Every prefix of allowed outcomes must be allowed, as
+/// with a limit on their number.
 pub fn failures_have_normal_logs<B>()
     ensures allowed { (ops : BufferOps B) (model : Model) (bound : Binding) (code : Code) (allowed : Allowed)
         → Laws ops model bound → IsLawful code → HasBeginnings allowed
@@ -27,7 +27,7 @@ pub fn failures_have_normal_logs<B>()
         → ComesTo ops code (at_most most) (λ s. IsSome s.failed) ↔ ReproducesSome ops code (at_most most) model (IsNormal code) }
 {}
 
-/// The same of deadlocks, whatever is allowed.
+/// The same for deadlocks, for any allowed outcomes.
 pub fn deadlocks_have_normal_logs<B>()
     ensures { (ops : BufferOps B) (model : Model) (bound : Binding) (code : Code) (allowed : Allowed)
         → Laws ops model bound → IsLawful code

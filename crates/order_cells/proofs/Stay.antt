@@ -5,7 +5,7 @@ use Rattle.std.specs.Prelude.{fold, is_none, option_map, option_and_then, option
 use Rattle.std.specs.Ordering.{int_eq}
 use Rattle.std.proofs.lemmas.List.{get_or_append_left}
 use Rattle.std.proofs.lemmas.Option.{slice_get-get_or, IfSome_then}
-use Rattle.tc_base.specs.declared.arith.BinOp.TheVariants.{Eq}
+use Rattle.int_ops.specs.declared.arith.BinOp.TheVariants.{Eq}
 use Rattle.sym_terms.specs.Terms.{with_node, id_of}
 use Rattle.sym_terms.specs.declared.node.Node.{Node}
 use Rattle.sym_terms.specs.declared.node.Node.TheVariants.{Constant, Binary}

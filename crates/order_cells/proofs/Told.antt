@@ -7,8 +7,8 @@ use Rattle.std.specs.Ordering.{int_eq}
 use Rattle.std.proofs.lemmas.Bool.{eqb-true}
 use Rattle.std.proofs.lemmas.Bool.Decides.{Decides-int_eq}
 use Rattle.std.proofs.lemmas.Option.{none-some, same_Some, slice_get_within, get_or_from_slice_get, option_and_then_some, cond_some}
-use Rattle.tc_base.specs.Arith.{truth}
-use Rattle.tc_base.specs.declared.arith.BinOp.TheVariants.{Eq}
+use Rattle.int_ops.specs.Arith.{truth}
+use Rattle.int_ops.specs.declared.arith.BinOp.TheVariants.{Eq}
 use Rattle.sym_terms.specs.Terms.{AreTerms, NamesBelow, id_of}
 use Rattle.sym_terms.specs.Values.{value_of, values_of, node_value}
 use Rattle.sym_terms.specs.declared.node.Node.{Node}

@@ -8,16 +8,16 @@ use Rattle.sym_exec.specs.declared.symbolic.Cell.{Cell}
 use Rattle.sym_exec.specs.declared.symbolic.Cell.TheVariants.{Fixed, Element}
 use Rattle.lawful_order.specs.Reads.{HasAccess}
 
--- a cell's index is among so many terms
+-- a cell's index is less than `terms`
 abbrev pub CellIsOf : ℕ → Cell → Type 0
 CellIsOf terms (Fixed c) = Unit {0}
 CellIsOf terms (Element f m i) = i < terms
 
--- so is what an access writes
+-- the index of an access's cell, and the term that it writes, are less than `terms`
 pub record AccessIsOf (terms : ℕ) (a : Access) : Type 0 where
   pub cell : CellIsOf terms a.cell
   pub writes : IfSome a.writes (λ written. written < terms)
 
--- the terms of all accesses are of some nodes
+-- the terms of all accesses are indexes into the nodes
 abbrev pub HaveTerms : List Node → Symbolic → Type 0
 HaveTerms nodes symbolic = (t : ℕ) (a : Access) → HasAccess symbolic t a → AccessIsOf (length nodes) a

@@ -1,4 +1,4 @@
-//! What names and constants tell of two cells.
+//! When two cells are known to be the same.
 ghost use Rattle.std.specs.Prelude.{◌≡◌, ℕ, length, fold, option_map, OnOk, OnErr, IfOk};
 ghost use Rattle.std.specs.Option.{option_to_list};
 ghost use Rattle.sym_terms.specs.Terms.{with_node, id_of};
@@ -6,13 +6,13 @@ ghost use Rattle.sym_exec.specs.declared.symbolic.Cell.TheVariants.{Element};
 ghost use Rattle.order_cells.specs.Same as spec;
 ghost use Rattle.order_cells.specs.Terms.{CellIsOf};
 
+use int_ops::BinOp;
 use std::alloc::AllocError;
 use sym_exec::Cell;
 use sym_terms::{Id, Node, Terms};
-use tc_base::BinOp;
 
-/// Whether two cells are one, where names and constants tell it. None where both are elements of one array, and the values of
-/// their indexes decide.
+/// Whether two cells are the same, if known from array names and constant indexes. None if both are
+/// elements of one array and the values of their indexes decide.
 pub fn known_same(terms: &Terms, a: Cell, b: Cell) -> Option<bool>
     ensures { result ≡ spec.known_same terms.now a b }
 {
@@ -25,7 +25,7 @@ pub fn known_same(terms: &Terms, a: Cell, b: Cell) -> Option<bool>
     }
 }
 
-/// Whether an element of the array that begins at a cell is another cell, where that is known.
+/// Whether an element of the array that begins at `first` is the cell b, if known.
 fn known_element(terms: &Terms, first: u32, index: Id, b: Cell) -> Option<bool>
     ensures { (length : ℕ) → result ≡ spec.known_same terms.now (Element first length index) b }
 {
@@ -39,8 +39,8 @@ fn known_element(terms: &Terms, first: u32, index: Id, b: Cell) -> Option<bool>
     }
 }
 
-/// The test that tells whether two cells are one, where names and constants don't. Refused for want of memory, the terms are as
-/// before.
+/// The test whether two cells are the same, if `known_same` is None. If out of memory, the terms
+/// are unchanged.
 pub fn same_test(terms: &mut Terms, a: Cell, b: Cell) -> Result<Option<Id>, AllocError>
     requires first { CellIsOf (length terms.old) a }
     requires second { CellIsOf (length terms.old) b }
@@ -60,7 +60,7 @@ pub fn same_test(terms: &mut Terms, a: Cell, b: Cell) -> Result<Option<Id>, Allo
     Ok(Some(terms.op2(BinOp::Eq, index, other)?))
 }
 
-/// Whether two terms are equal, where that is known.
+/// Whether two terms are equal, if known.
 fn known_equal(terms: &Terms, a: Id, b: Id) -> Option<bool>
     ensures { result ≡ spec.known_equal terms.now a b }
 {
@@ -70,7 +70,7 @@ fn known_equal(terms: &Terms, a: Id, b: Id) -> Option<bool>
     Some(constant_of(terms, a)? == constant_of(terms, b)?)
 }
 
-/// The number of a term, if it is a constant.
+/// The value of a term, if it is a constant.
 fn constant_of(terms: &Terms, term: Id) -> Option<i32>
     ensures { result ≡ spec.constant_of terms.now term }
 {

@@ -1,4 +1,4 @@
-//! Laws of what is known of cells. Each is a clause of a function that does nothing.
+//! Laws about what is known of cells. Each law is the contract of a function with an empty body.
 ghost use Rattle.std.specs.Prelude.{◌≡◌, ◌++◌, ℕ, Bool, Some, List, length, is_some, is_none};
 ghost use Rattle.std.specs.List.{Contains};
 ghost use Rattle.sym_terms.specs.Terms.{AreTerms, id_of};
@@ -12,8 +12,8 @@ ghost use Rattle.lawful_order.specs.Cells.{is_same_cell};
 ghost use Rattle.order_cells.specs.Same.{known_same, same_test};
 ghost use Rattle.order_cells.specs.Terms.{CellIsOf, HaveTerms};
 
-/// What is known of two cells holds in every world. Where nothing is known there is a test, and once its term is there the cells
-/// are one exactly where it passes.
+/// What is known of two cells holds in every world. If nothing is known, there is a test: once its
+/// term exists, the cells are the same exactly when the test passes.
 pub fn cells_are_told()
     ensures known { (nodes : List Node) (w : World) (a b : Cell) (same : Bool) → known_same nodes a b ≡ Some same → is_same_cell nodes w a b ≡ same }
     ensures either { (nodes : List Node) (a b : Cell) → is_some (same_test nodes a b) ≡ is_none (known_same nodes a b) }
@@ -21,7 +21,7 @@ pub fn cells_are_told()
         → AreTerms nodes → same_test nodes a b ≡ Some test → Contains nodes test → is_same_cell nodes w a b ≡ passes_at nodes w (id_of nodes test) }
 {}
 
-/// More terms change nothing of it.
+/// More terms don't change what is known, the test, or whether cells are the same.
 pub fn cells_stay()
     ensures known { (nodes more : List Node) (a b : Cell) → CellIsOf (length nodes) a → CellIsOf (length nodes) b
         → known_same (nodes ++ more) a b ≡ known_same nodes a b }

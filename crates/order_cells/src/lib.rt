@@ -1,4 +1,4 @@
-//! Whether two accesses are to one cell.
+//! Whether two accesses are to the same cell.
 #![tactic(auto)]
 
 mod cells;

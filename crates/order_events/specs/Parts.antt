@@ -1,4 +1,4 @@
--- Parts of formulas over events.
+-- Building blocks of formulas about events.
 use Rattle.std.specs.Prelude.{ℕ, ◌==◌, ◌&&◌, List, [], ◌∷◌, map, true}
 use Rattle.std.specs.List.{enumerate_from, flat_map, position_or_len}
 use Rattle.path_walk.specs.declared.event.Event.{Event}
@@ -9,7 +9,7 @@ use Rattle.order_formula.specs.declared.formula.Conjunct.{Conjunct}
 use Rattle.order_formula.specs.declared.group.Group.{Group}
 use Rattle.lawful_order.specs.Events.{Of}
 
--- what f makes of each element and its place, one after another
+-- the results of f for each element and its index, concatenated
 abbrev pub of_each : {A X : Type 0} → (ℕ → A → List X) → List A → List X
 of_each f xs = flat_map (λ p. f p.0 p.1) (enumerate_from 0 xs)
 
@@ -17,10 +17,10 @@ of_each f xs = flat_map (λ p. f p.0 p.1) (enumerate_from 0 xs)
 abbrev pub number_in : List (Of Event) → (thread step : ℕ) → ℕ
 number_in events t k = position_or_len (λ e. e.thread == t && e.it.step == k) events
 
--- a step of a thread comes before a step of a thread
+-- the literal that the step k of the thread t comes before the step j of the thread u
 abbrev pub comes_before : List (Of Event) → (t k u j : ℕ) → Literal
 comes_before events t k u j = record { atom = Before (number_in events t k) (number_in events u j); wanted = true }
 
--- one of some literals holds
+-- the conjunct that one of the literals holds
 abbrev pub one_of : Group → List Literal → Conjunct
 one_of g literals = record { group = g; body = Any (map (λ l. l ∷ []) literals) }

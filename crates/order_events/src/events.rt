@@ -1,14 +1,14 @@
 //! The events of all threads.
 ghost use Rattle.std.specs.Prelude.{◌≡◌, ◌≤◌, ◌++◌, ◌==◌, ◌&&◌, ◌+◌, ◌<◌, ◌^◌, length, map, IfOk, OnOk};
 ghost use Rattle.std.specs.List.{position_or_len};
-ghost use Rattle.tc_base.specs.declared.limits.TheConstants.{EVENTS};
+ghost use Rattle.tc_limits.specs.declared.limits.TheConstants.{EVENTS};
 ghost use Rattle.lawful_order.specs.Events.{all_events, all_from};
 
 use path_walk::{Event, Paths, Walk};
 use std::alloc::{AllocError, Global};
 use std::marker::Model;
 
-/// An event of a thread, which is told by its place among the threads of the paths.
+/// An event of a thread, with the thread's index in the paths.
 #[derive(Debug, Drop)]
 pub struct Placed {
     /// The thread.
@@ -26,8 +26,8 @@ impl Model for Placed {
     ghost view = { λ p. record { thread = p.thread; it = p.event } };
 }
 
-/// All events, one thread after another, and those of a thread by their steps: what stands at a place has that number. There
-/// are at most `EVENTS`.
+/// All events, one thread after another, each thread's by step. The number of an event is its
+/// index. There are at most `EVENTS`.
 #[derive(Debug, Drop)]
 pub struct Events {
     all: Vec<Placed>,
@@ -35,7 +35,7 @@ pub struct Events {
 
 impl Model for Events {
     ghost use Rattle.std.specs.Prelude.{List, length, ◌≤◌};
-    ghost use Rattle.tc_base.specs.declared.limits.TheConstants.{EVENTS};
+    ghost use Rattle.tc_limits.specs.declared.limits.TheConstants.{EVENTS};
     ghost use Rattle.lawful_order.specs.Events.{Of};
     ghost use Rattle.path_walk.specs.declared.event.Event.{Event};
 
@@ -47,7 +47,7 @@ impl Model for Events {
 }
 
 impl Events {
-    /// The events of paths.
+    /// All events of the paths.
     pub fn of(alloc: Global, paths: &Paths) -> Result<Events, AllocError>
         requires { length (all_events paths.now) ≤ EVENTS }
         ensures { IfOk result (λ events. events ≡ all_events paths.now) }
@@ -65,7 +65,8 @@ impl Events {
         self.all.as_slice()
     }
 
-    /// The number of the event that is a thread's step; the number of all events, where no event is.
+    /// The number of the event that is a thread's step, or the number of all events if there is
+    /// none.
     pub fn number(&self, thread: usize, step: usize) -> u32
         ensures { result ≡ position_or_len (λ e. e.thread == thread && e.it.step == step) self.now }
     {
@@ -80,7 +81,7 @@ impl Events {
     }
 }
 
-/// The events of threads, the first of which has place 0.
+/// Appends the events of all threads, the first of which has index 0.
 fn push_walks(all: &mut Vec<Placed>, threads: &[Walk]) -> Result<(), AllocError>
     ensures { OnOk result (all.new.items ≡ all.old.items ++ all_from (λ w. w.events) 0 threads.now) }
 {
@@ -90,7 +91,7 @@ fn push_walks(all: &mut Vec<Placed>, threads: &[Walk]) -> Result<(), AllocError>
     Ok(())
 }
 
-/// The events of a thread.
+/// Appends the events of a thread.
 fn push_events(all: &mut Vec<Placed>, thread: usize, events: &[Event]) -> Result<(), AllocError>
     ensures { OnOk result (all.new.items ≡ all.old.items ++ map (λ x. record { thread = thread; it = x }) events.now) }
 {

@@ -1,4 +1,4 @@
-//! Conjuncts over events, and formulas of conjuncts.
+//! Conjuncts about events, and formulas.
 ghost use Rattle.std.specs.Prelude.{◌≡◌, [], ◌∷◌, IfOk, OnOk};
 ghost use Rattle.std.specs.List.{All};
 ghost use Rattle.order_formula.specs.Orders.{ConjunctIsIn, Grows, with_formula};
@@ -9,7 +9,7 @@ use order_formula::{Body, Case, Cases, Conjunct, Formula, Group, Literal, Order}
 use std::alloc::{AllocError, Global};
 
 impl Events {
-    /// That a step of a thread comes before a step of a thread, maybe another.
+    /// The literal that a step of one thread comes before a step of a thread, maybe the same.
     pub fn before(
         &self,
         thread: usize,
@@ -26,7 +26,7 @@ impl Events {
     }
 }
 
-/// That one of some literals holds.
+/// The conjunct that one of the literals holds.
 pub fn one_of(alloc: Global, group: Group, literals: &[Literal]) -> Result<Conjunct, AllocError>
     ensures { IfOk result (λ conjunct. conjunct ≡ one_of group literals.now) }
 {
@@ -40,16 +40,16 @@ pub fn one_of(alloc: Global, group: Group, literals: &[Literal]) -> Result<Conju
     })
 }
 
-/// The case of one literal.
+/// The case with one literal.
 pub fn single(alloc: Global, literal: Literal) -> Result<Case, AllocError>
     ensures { IfOk result (λ case. case ≡ literal ∷ []) }
 {
     Ok(Case::new(vec![in alloc; literal]?))
 }
 
-/// The formula of some conjuncts, of which the order takes what they ask.
+/// The formula of some conjuncts, whose questions are added to the order.
 ///
-/// The one error is want of memory; the order may have some of the questions then.
+/// Fails only if out of memory; the order may then have some of the questions.
 pub fn formula_of(
     alloc: Global,
     conjuncts: Vec<Conjunct>,

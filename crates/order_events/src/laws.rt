@@ -1,4 +1,4 @@
-//! Laws of the numbers of events. Each is a clause of a function that does nothing.
+//! Laws about event numbers. Each law is the contract of a function with an empty body.
 ghost use Rattle.std.specs.Prelude.{◌≡◌, ◌<◌, ◌⊎◌, ◌≢◌, ℕ, length};
 ghost use Rattle.tc_code.specs.Code.{Code};
 ghost use Rattle.path_walk.specs.Paths.{Paths, ArePaths};

@@ -6,7 +6,7 @@ use path_walk::{Paths, Sleep, Walk};
 use std::alloc::{AllocError, Global};
 use std::marker::Model;
 
-/// A sleep of a thread, which is told by its place among the threads of the paths.
+/// A sleep of a thread, with the thread's index in the paths.
 #[derive(Debug, Drop)]
 pub struct PlacedSleep {
     /// The thread.
@@ -24,7 +24,7 @@ impl Model for PlacedSleep {
     ghost view = { λ p. record { thread = p.thread; it = p.sleep } };
 }
 
-/// All sleeps, one thread after another, and those of a thread by their steps: what stands at a place has that number.
+/// All sleeps, one thread after another, each thread's by step. The number of a sleep is its index.
 #[derive(Debug, Drop)]
 pub struct Sleeps {
     all: Vec<PlacedSleep>,
@@ -41,7 +41,7 @@ impl Model for Sleeps {
 }
 
 impl Sleeps {
-    /// The sleeps of paths.
+    /// All sleeps of the paths.
     pub fn of(alloc: Global, paths: &Paths) -> Result<Sleeps, AllocError>
         ensures { IfOk result (λ sleeps. sleeps ≡ all_sleeps paths.now) }
     {
@@ -58,7 +58,7 @@ impl Sleeps {
     }
 }
 
-/// The sleeps of threads, the first of which has place 0.
+/// Appends the sleeps of all threads, the first of which has index 0.
 fn push_walks(all: &mut Vec<PlacedSleep>, threads: &[Walk]) -> Result<(), AllocError>
     ensures { OnOk result (all.new.items ≡ all.old.items ++ all_from (λ w. w.sleeps) 0 threads.now) }
 {
@@ -68,7 +68,7 @@ fn push_walks(all: &mut Vec<PlacedSleep>, threads: &[Walk]) -> Result<(), AllocE
     Ok(())
 }
 
-/// The sleeps of a thread.
+/// Appends the sleeps of a thread.
 fn push_sleeps(
     all: &mut Vec<PlacedSleep>,
     thread: usize,

@@ -1,4 +1,4 @@
--- Formulas: conjuncts, each with cases of which one is to hold, or with what a load takes.
+-- Formulas: lists of conjuncts, each of which has cases or describes the value of a load.
 use Rattle.std.specs.Prelude.{ℕ, ◌+◌, ◌<◌, List, length, map, sum, IfSome}
 use Rattle.std.specs.List.{All}
 use Rattle.order_formula.specs.declared.literal.Atom.{Atom}
@@ -10,7 +10,7 @@ use Rattle.order_formula.specs.declared.formula.Body.TheVariants as body
 use Rattle.order_formula.specs.declared.formula.Conjunct.{Conjunct}
 use Rattle.order_formula.specs.Reads.{Read}
 
--- all terms that a part of a formula names are among so many
+-- all terms that a part of a formula names are less than `terms`
 module _ (terms : ℕ) where
   abbrev pub AtomIsOf : Atom → Type 0
   AtomIsOf (Before _ _) = Unit {0}
@@ -39,7 +39,7 @@ module _ (terms : ℕ) where
   abbrev pub IsOf : List Conjunct → Type 0
   IsOf formula = All ConjunctIsOf formula
 
--- how many nodes a formula has: its conjuncts, their cases, the literals of these, and the candidates of what is read
+-- the size of a formula: the number of its conjuncts, cases, literals and candidates
 abbrev pub case_nodes : List Literal → ℕ
 case_nodes literals = length literals + 1
 

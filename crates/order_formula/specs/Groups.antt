@@ -8,11 +8,11 @@ use Rattle.order_formula.specs.Worlds.{World}
 use Rattle.order_formula.specs.Truth.{body_at}
 
 module _ (nodes : List Node) (w : World) (formula : List Conjunct) (g : Group) where
-  -- those of a formula are all true in a world
+  -- all conjuncts of the group g in a formula are true in a world
   abbrev pub HoldsIn : Type 0
   HoldsIn = (c : Conjunct) → Contains formula c → c.group ≡ g → body_at nodes w c.body ≡ true
 
-  -- and that is so exactly where the world meets a rule
+  -- all conjuncts of the group are true in a world exactly when the world meets a rule
   pub record IsExactly (Rule : Type 0) : Type 0 where
     pub to : HoldsIn → Rule
     pub back : Rule → HoldsIn

@@ -1,4 +1,4 @@
--- What a formula asks of the order of events, each question kept once.
+-- The questions that a formula asks about the order of events, each of them once.
 use Rattle.std.specs.Prelude.{◌≡◌, ℕ, ◌<◌, ◌≤◌, min, max, List, [], ◌++◌, fold, Bool, IsTrue, ◌&&◌, ◌==◌}
 use Rattle.std.specs.List.{All, IsDistinct, list_any, position_or_len}
 use Rattle.indexmap.specs.IndexSet.{insert_key}
@@ -12,15 +12,15 @@ use Rattle.order_formula.specs.declared.formula.Body.TheVariants as body
 use Rattle.order_formula.specs.declared.formula.Conjunct.{Conjunct}
 
 pub record Order : Type 0 where
-  -- how many events and how many sleeps there are
+  -- the number of events, and the number of sleeps
   pub events : ℕ
   pub sleeps : ℕ
-  -- the pairs of events of which it is asked which comes first
+  -- pairs of events, with the question which of the two comes first
   pub pairs : List Pair
-  -- the sleeps of which it is asked whether an event ends them
+  -- pairs of a sleep and an event, with the question whether the event ends the sleep
   pub choices : List Choice
 
--- there is nothing that was asked
+-- an order without questions
 abbrev pub unasked : (events sleeps : ℕ) → Order
 unasked events sleeps = record { events = events; sleeps = sleeps; pairs = []; choices = [] }
 
@@ -34,7 +34,7 @@ same_pair p q = p.lesser == q.lesser && p.greater == q.greater
 abbrev pub same_choice : Choice → Choice → Bool
 same_choice c d = c.sleep == d.sleep && c.by == d.by
 
--- a pair of so many events, and a choice of so many sleeps and events
+-- the numbers of a pair, or of a choice, are in range
 pub record PairIsOf (events : ℕ) (p : Pair) : Type 0 where
   pub ordered : p.lesser ≤ p.greater
   pub within : p.greater < events
@@ -43,28 +43,28 @@ pub record ChoiceIsOf (sleeps events : ℕ) (c : Choice) : Type 0 where
   pub sleep : c.sleep < sleeps
   pub by : c.by < events
 
--- nothing is asked twice, and all is asked of events and sleeps that are there
+-- no question is asked twice, and all questions are about events and sleeps in range
 pub record IsOrder (o : Order) : Type 0 where
   pub pairs : IsDistinct same_pair o.pairs
   pub choices : IsDistinct same_choice o.choices
   pub pairs_within : All (PairIsOf o.events) o.pairs
   pub choices_within : All (ChoiceIsOf o.sleeps o.events) o.choices
 
--- the order with a question more, which goes to the end where it wasn't asked already
+-- appends a question, unless it was asked already
 abbrev pub with_pair : Order → Pair → Order
 with_pair o p = record o { pairs = insert_key same_pair o.pairs p }
 
 abbrev pub with_choice : Order → Choice → Order
 with_choice o c = record o { choices = insert_key same_choice o.choices c }
 
--- its number: that of the same question, or else of the end
+-- the index of a question, or the number of questions if it wasn't asked
 abbrev pub pair_number : Order → Pair → ℕ
 pair_number o p = position_or_len (same_pair p) o.pairs
 
 abbrev pub choice_number : Order → Choice → ℕ
 choice_number o c = position_or_len (same_choice c) o.choices
 
--- with what an atom asks, with what all literals of a case ask, and so on
+-- appends the questions of an atom, of all literals of a case, and so on
 abbrev pub with_atom : Order → Atom → Order
 with_atom o (Before first second) = with_pair o (pair_of first second)
 with_atom o (Ends sleep by) = with_choice o (record { sleep = sleep; by = by })
@@ -73,7 +73,7 @@ with_atom o (Test _) = o
 abbrev pub with_case : Order → List Literal → Order
 with_case o literals = fold (λ o l. with_atom o l.atom) o literals
 
--- what a load takes asks nothing here
+-- the body of a load asks no question
 abbrev pub with_body : Order → Body → Order
 with_body o (body.Any cases) = fold with_case o cases
 with_body o (body.Read _) = o
@@ -84,7 +84,7 @@ with_conjunct o c = with_body o c.body
 abbrev pub with_formula : Order → List Conjunct → Order
 with_formula o formula = fold with_conjunct o formula
 
--- the events and sleeps of a part of a formula are the order's
+-- all events and sleeps that a part of a formula names are in the order's range
 module _ (o : Order) where
   abbrev pub AtomIsIn : Atom → Type 0
   AtomIsIn (Before first second) = (first < o.events) × (second < o.events)
@@ -101,7 +101,7 @@ module _ (o : Order) where
   abbrev pub ConjunctIsIn : Conjunct → Type 0
   ConjunctIsIn c = BodyIsIn c.body
 
--- a part of a formula was asked: its pairs and choices are among the order's
+-- all questions of a part of a formula were asked
 module _ (o : Order) where
   abbrev pub AtomIsAsked : Atom → Type 0
   AtomIsAsked (Before first second) = IsTrue (list_any (same_pair (pair_of first second)) o.pairs)
@@ -121,7 +121,7 @@ module _ (o : Order) where
   abbrev pub IsAsked : List Conjunct → Type 0
   IsAsked formula = All ConjunctIsAsked formula
 
--- the same questions as before, each with its number, and maybe more
+-- `new` appends questions to `old`, so earlier questions keep their numbers
 pub record Grows (old new : Order) : Type 0 where
   pub events : new.events ≡ old.events
   pub sleeps : new.sleeps ≡ old.sleeps

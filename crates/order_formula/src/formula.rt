@@ -7,7 +7,7 @@ use crate::{Group, Literal, Order, Read};
 use std::alloc::{AllocError, Global};
 use std::marker::Model;
 
-/// Literals that hold together.
+/// A conjunction of literals.
 #[derive(Debug, Drop)]
 pub struct Case {
     literals: Vec<Literal>,
@@ -23,7 +23,7 @@ impl Model for Case {
 }
 
 impl Case {
-    /// That all these literals hold.
+    /// The case that all these literals hold.
     pub fn new(literals: Vec<Literal>) -> Case
         ensures { result ≡ literals.items }
     {
@@ -38,7 +38,7 @@ impl Case {
     }
 }
 
-/// Cases of which at least one holds.
+/// A disjunction of cases.
 #[derive(Debug, Drop)]
 pub struct Cases {
     cases: Vec<Case>,
@@ -54,7 +54,7 @@ impl Model for Cases {
 }
 
 impl Cases {
-    /// That one of these cases holds.
+    /// The disjunction of these cases.
     pub fn new(cases: Vec<Case>) -> Cases
         ensures { result ≡ cases.items }
     {
@@ -72,22 +72,22 @@ impl Cases {
 /// What a conjunct says.
 #[derive(Debug, Drop)]
 pub enum Body {
-    /// One of the cases holds. What is always so has a case without literals, and what never is so has no case.
+    /// One of the cases holds. A case without literals always holds; without cases, none does.
     Any(Cases),
-    /// A load takes the value that it is to take.
+    /// A load takes the right value.
     Read(Read),
 }
 
-/// A part of a formula that is true by itself.
+/// A condition on a world.
 #[derive(Debug, Drop)]
 pub struct Conjunct {
-    /// The rules that it belongs to.
+    /// The group of rules that it belongs to.
     pub group: Group,
     /// What it says.
     pub body: Body,
 }
 
-/// Conjuncts that are all true.
+/// A conjunction of conjuncts.
 #[derive(Debug, Drop)]
 pub struct Formula {
     conjuncts: Vec<Conjunct>,
@@ -112,8 +112,8 @@ impl Formula {
         }
     }
 
-    /// One conjunct more, the last. The order takes what it asks. Refused for want of memory the formula is as before, and the
-    /// order has at most more questions.
+    /// Appends a conjunct, and adds its questions to the order. If out of memory, the formula is
+    /// unchanged, and the order may have more questions.
     pub fn push(&mut self, conjunct: Conjunct, order: &mut Order) -> Result<(), AllocError>
         requires { ConjunctIsIn order.old conjunct }
         ensures added { OnOk result (self.new ≡ self.old ++ conjunct ∷ []) }
@@ -125,7 +125,7 @@ impl Formula {
         Ok(self.conjuncts.push(conjunct)?)
     }
 
-    /// That both formulas are true: the conjuncts of the first, and then those of the second.
+    /// The conjunction of both formulas: the conjuncts of the first, then those of the second.
     pub fn and(self, other: Formula) -> Result<Formula, AllocError>
         ensures { IfOk result (λ both. both ≡ self ++ other) }
     {
@@ -143,8 +143,8 @@ impl Formula {
         self.conjuncts.as_slice()
     }
 
-    /// How many nodes it has: its conjuncts, their cases, the literals of these, and the candidates of what is read; the
-    /// greatest number where there are more.
+    /// The size of the formula: the number of its conjuncts, cases, literals and candidates, or the
+    /// greatest number of 64 bits if that is exceeded.
     pub fn nodes(&self) -> u64
         ensures { result ≡ min (nodes_of self.now) (2 ^ 64 - 1) }
     {
@@ -159,7 +159,7 @@ impl Formula {
 }
 
 impl Body {
-    /// Its nodes.
+    /// The number of its nodes.
     fn nodes(&self) -> u64
         ensures { result ≡ min (body_nodes self.now) (2 ^ 64 - 1) }
     {
@@ -171,7 +171,7 @@ impl Body {
 }
 
 impl Cases {
-    /// The nodes of all cases.
+    /// The number of the nodes of all cases.
     fn nodes(&self) -> u64
         ensures { result ≡ min (sum (map case_nodes self.now)) (2 ^ 64 - 1) }
     {

@@ -1,17 +1,17 @@
 //! What a conjunct is about.
 
-/// The rules to which a conjunct belongs. A thread is told by its place among the threads of the paths.
+/// The rules to which a conjunct belongs. `thread` is a thread's index in the paths.
 #[derive(Clone, Copy, Debug, PartialEq, Eq)]
 pub enum Group {
-    /// The order of a thread's own events, and where they stand to the failing one.
+    /// The order of a thread's own events, and their order to the failing event.
     Own { thread: usize },
-    /// The events of a thread come after its create, and its end comes before the join.
+    /// A thread's events come after its create, and its exit before the join.
     Child { thread: usize },
     /// The values that a thread's loads of a line take.
     Read { thread: usize, line: u32 },
-    /// No two threads have the mutex at once.
+    /// At most one thread holds the mutex at a time.
     Mutex(u32),
-    /// The sleeps on the condition, and what ends them.
+    /// The sleeps on the condition, and the events that end them.
     Condition(u32),
     /// The outcomes and sites of a thread at a line.
     Test { thread: usize, line: u32 },

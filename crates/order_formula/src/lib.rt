@@ -1,4 +1,5 @@
-//! Formulas over one order of events: what conjuncts say, in which worlds they are true, and what they ask of the order.
+//! Formulas about an order of events: their conjuncts, their truth in a world, and the questions
+//! that they ask about the order.
 #![tactic(auto)]
 
 mod formula;

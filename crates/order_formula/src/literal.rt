@@ -4,18 +4,18 @@ ghost use Rattle.order_formula.specs.declared.literal.Atom.TheVariants.{Before, 
 
 use sym_terms::Id;
 
-/// What a world and the terms decide. Events and sleeps are told by number.
+/// A statement that a world and the terms decide. Events and sleeps are named by number.
 #[derive(Clone, Copy, Debug)]
 pub enum Atom {
     /// The first event comes before the second.
     Before { first: u32, second: u32 },
-    /// The sleep is ended by the event.
+    /// The event ends the sleep.
     Ends { sleep: u32, by: u32 },
     /// The value of the term isn't 0.
     Test(Id),
 }
 
-/// An atom, or that it is false.
+/// An atom or its negation.
 #[derive(Clone, Copy, Debug)]
 pub struct Literal {
     /// The atom.
@@ -35,7 +35,7 @@ impl Literal {
         }
     }
 
-    /// The sleep is ended by the event.
+    /// The event ends the sleep.
     pub fn ends(sleep: u32, by: u32) -> Literal
         ensures { result ≡ record { atom = Ends sleep by; wanted = true } }
     {

@@ -1,4 +1,4 @@
-//! What formulas ask of the order of events.
+//! The questions that formulas ask about the order of events.
 ghost use Rattle.std.specs.Prelude.{◌≡◌, ◌<◌, ◌≤◌, ◌^◌, ◌-◌, length, fold, position, OnOk, OnErr, IfOk};
 ghost use Rattle.std.specs.List.{All};
 ghost use Rattle.order_formula.specs.Orders.{AtomIsIn, ChoiceIsOf, ConjunctIsIn, Grows, IsOrder, LiteralIsIn, PairIsOf};
@@ -10,12 +10,12 @@ use indexmap::IndexSet;
 use std::alloc::{AllocError, Global};
 use std::marker::Model;
 
-/// Two events, of which one comes before the other. The lesser number stands first.
+/// Two events, one of which comes before the other, with the lesser number first.
 #[derive(Clone, Copy, Debug, PartialEq, Eq, Hash)]
 pub struct Pair {
-    /// The event of the lesser number.
+    /// The event with the lesser number.
     pub lesser: u32,
-    /// The event of the greater number.
+    /// The event with the greater number.
     pub greater: u32,
 }
 
@@ -28,10 +28,10 @@ pub struct Choice {
     pub by: u32,
 }
 
-/// The pairs of events of which it is asked which comes first, and the sleeps and events of which it is asked whether the one
-/// is ended by the other. Each stands there once, and keeps its number while more are asked.
+/// The questions about an order: for pairs of events, which comes first; for a sleep and an event,
+/// whether the event ends the sleep. Each question is stored once, and keeps its number.
 ///
-/// Each refusal is want of memory.
+/// Each method fails only if out of memory.
 #[derive(Debug, Drop)]
 pub struct Order {
     events: u32,
@@ -51,7 +51,7 @@ impl Model for Order {
 }
 
 impl Order {
-    /// The order of so many events, with so many sleeps, of which nothing is asked yet.
+    /// The order of these numbers of events and sleeps, without questions.
     pub fn empty(alloc: Global, events: u32, sleeps: u32) -> Order
         ensures { result ≡ unasked events sleeps }
     {
@@ -63,7 +63,8 @@ impl Order {
         }
     }
 
-    /// Asks which of two events comes first: the number of this question among those of pairs, whichever is named first.
+    /// Asks which of two events comes first. Returns the question's number among the pairs; the
+    /// order of the arguments doesn't matter.
     pub fn before(&mut self, first: u32, second: u32) -> Result<u32, AllocError>
         requires first { first < self.old.events }
         requires second { second < self.old.events }
@@ -75,7 +76,7 @@ impl Order {
         Ok(self.ask_pair(Pair::of(first, second))? as u32)
     }
 
-    /// Asks whether the event ends the sleep: the number of this question among those of sleeps.
+    /// Asks whether the event ends the sleep. Returns the question's number among the choices.
     pub fn ends(&mut self, sleep: u32, by: u32) -> Result<u32, AllocError>
         requires sleep { sleep < self.old.sleeps }
         requires by { by < self.old.events }
@@ -87,7 +88,7 @@ impl Order {
         Ok(self.ask_choice(Choice { sleep, by })? as u32)
     }
 
-    /// Asks all that a conjunct asks.
+    /// Asks all questions of a conjunct.
     pub(crate) fn ask(&mut self, conjunct: &Conjunct) -> Result<(), AllocError>
         requires { ConjunctIsIn self.old conjunct.now }
         ensures asked { OnOk result (self.new ≡ with_conjunct self.old conjunct.now) }
@@ -99,7 +100,7 @@ impl Order {
         }
     }
 
-    /// What the literals of some cases ask.
+    /// Asks all questions of some cases.
     fn ask_cases(&mut self, cases: &[Case]) -> Result<(), AllocError>
         requires { All (All (LiteralIsIn self.old)) cases.now }
         ensures asked { OnOk result (self.new ≡ fold with_case self.old cases.now) }
@@ -111,7 +112,7 @@ impl Order {
         Ok(())
     }
 
-    /// What some literals ask.
+    /// Asks all questions of some literals.
     fn ask_literals(&mut self, literals: &[Literal]) -> Result<(), AllocError>
         requires { All (LiteralIsIn self.old) literals.now }
         ensures asked { OnOk result (self.new ≡ with_case self.old literals.now) }
@@ -123,7 +124,7 @@ impl Order {
         Ok(())
     }
 
-    /// What an atom asks.
+    /// Asks the question of an atom, if it has one.
     fn ask_atom(&mut self, atom: Atom) -> Result<(), AllocError>
         requires { AtomIsIn self.old atom }
         ensures asked { OnOk result (self.new ≡ with_atom self.old atom) }
@@ -141,7 +142,7 @@ impl Order {
         Ok(())
     }
 
-    /// The number of a pair.
+    /// Asks the question of a pair, and returns its number.
     fn ask_pair(&mut self, pair: Pair) -> Result<usize, AllocError>
         requires { PairIsOf self.old.events pair }
         ensures asked { OnOk result (self.new ≡ with_pair self.old pair) }
@@ -153,7 +154,7 @@ impl Order {
         Ok(number)
     }
 
-    /// The number of a choice.
+    /// Asks the question of a choice, and returns its number.
     fn ask_choice(&mut self, choice: Choice) -> Result<usize, AllocError>
         requires { ChoiceIsOf self.old.sleeps self.old.events choice }
         ensures asked { OnOk result (self.new ≡ with_choice self.old choice) }
@@ -165,21 +166,21 @@ impl Order {
         Ok(number)
     }
 
-    /// How many events there are.
+    /// The number of events.
     pub fn events(&self) -> u32
         ensures { result ≡ self.now.events }
     {
         self.events
     }
 
-    /// How many sleeps there are.
+    /// The number of sleeps.
     pub fn sleeps(&self) -> u32
         ensures { result ≡ self.now.sleeps }
     {
         self.sleeps
     }
 
-    /// The pairs of events of which it was asked which comes first, by their numbers.
+    /// All pairs that were asked; the index of a pair is its question's number.
     pub fn pairs(&self) -> &[Pair]
         ensures pairs { result.now ≡ self.now.pairs }
         ensures lawful { IsOrder self.now }
@@ -187,7 +188,7 @@ impl Order {
         self.pairs.as_slice()
     }
 
-    /// The sleeps and events of which it was asked whether the one is ended by the other, by their numbers.
+    /// All choices that were asked; the index of a choice is its question's number.
     pub fn choices(&self) -> &[Choice]
         ensures { result.now ≡ self.now.choices }
     {
@@ -210,7 +211,7 @@ impl Order {
 }
 
 impl Pair {
-    /// Two events, whichever is named first.
+    /// The pair of two events, in either order.
     pub fn of(first: u32, second: u32) -> Pair
         ensures { result ≡ pair_of first second }
     {

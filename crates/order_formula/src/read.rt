@@ -1,4 +1,4 @@
-//! What a load takes.
+//! The values that loads take.
 ghost use Rattle.std.specs.Prelude.{◌≡◌};
 
 use std::marker::Model;
@@ -9,17 +9,17 @@ use sym_terms::Id;
 pub struct Candidate {
     /// The event of the write.
     pub event: u32,
-    /// Whether the write is earlier on the load's own path, so that the load sees it wherever it comes in the order. A
-    /// load sees another write only where that comes before it.
+    /// Whether the write is earlier on the load's own path, so that the load sees it regardless of
+    /// the order. A load sees other writes only if they come before it in the order.
     pub earlier: bool,
-    /// The term that isn't 0 where the write is to the load's cell. There is none where it always is.
+    /// The term that is nonzero exactly when the write is to the load's cell. None if it always is.
     pub same_cell: Option<Id>,
     /// The term of the value that is written.
     pub value: Id,
 }
 
-/// That a load takes the value of the last write in the order among those to its cell that it sees, and where it sees none,
-/// the value at the start.
+/// The condition that a load takes the value of the last write to its cell that it sees, or the
+/// cell's initial value if it sees none.
 #[derive(Debug, Drop)]
 pub struct Read {
     event: u32,
@@ -37,8 +37,8 @@ impl Model for Read {
 }
 
 impl Read {
-    /// That the load, which is an event, takes a value: by the term of the value that it takes, that of the value at the
-    /// start, and the writes that may be to its cell.
+    /// The condition on a load: its event, the terms of the value that it takes and of its cell's
+    /// initial value, and the writes that may be to its cell.
     pub fn new(event: u32, takes: Id, start: Id, candidates: Vec<Candidate>) -> Read
         ensures { result ≡ record { event = event; takes = takes; start = start; candidates = candidates.items } }
     {
@@ -64,7 +64,7 @@ impl Read {
         self.takes
     }
 
-    /// The term of the value of its cell at the start.
+    /// The term of its cell's initial value.
     pub fn start(&self) -> Id
         ensures { result ≡ self.now.start }
     {

@@ -1,4 +1,4 @@
-//! In which worlds formulas are true.
+//! The truth of formulas in a world.
 ghost use Rattle.std.specs.Prelude.{◌≡◌, length};
 ghost use Rattle.std.specs.List.{All, list_any};
 ghost use Rattle.std.specs.Option.{IfSome, option_map_or};
@@ -8,8 +8,8 @@ ghost use Rattle.order_formula.specs.Truth.{Serves, atom_at, body_at, case_at, h
 use crate::{Atom, Body, Candidate, Case, Formula, Literal, Read, World};
 use sym_terms::{Id, Terms, Values, value};
 
-/// Whether a formula is true in a world. It takes no memory: the table, which gives the loads the world's values, has room for
-/// the values of all terms, and each is computed once.
+/// Whether a formula is true in a world. Allocates nothing: the table, which has the world's values
+/// of loads, has room for the values of all terms, and computes each of them once.
 pub fn holds(terms: &Terms, formula: &Formula, world: &World, values: &mut Values) -> bool
     requires terms { IsOf (length terms.now) formula.now }
     requires table { Serves terms.now world.now values.old }
@@ -90,7 +90,7 @@ fn read_holds(terms: &Terms, read: &Read, world: &World, values: &mut Values) ->
     value(terms, read.takes(), values) == value(terms, from, values)
 }
 
-/// The write from which a load takes its value, if it is one.
+/// The write from which a load takes its value, if any.
 fn source_of(terms: &Terms, read: &Read, world: &World, values: &mut Values) -> Option<Candidate>
     requires terms { ReadIsOf (length terms.now) read.now }
     requires table { Serves terms.now world.now values.old }
@@ -127,7 +127,7 @@ fn is_read(
     }
 }
 
-/// The one that comes later of a write, if there is one, and another.
+/// The later of two writes, or the second if there is no first.
 fn later_of(first: Option<Candidate>, second: Candidate, world: &World) -> Candidate
     ensures { result ≡ option_map_or (λ c. later_of world.now c second) first second }
 {

@@ -1,12 +1,13 @@
-//! Worlds: one order of events, and what it leaves open.
+//! Worlds: an order of all events, the values of loads, and the event that ends each sleep.
 ghost use Rattle.std.specs.Prelude.{◌≡◌, ◌==◌, Bool};
 ghost use Rattle.std.specs.List.{IsDistinct};
 ghost use Rattle.order_formula.specs.Worlds.{position, is_before, is_ended};
 
 use std::marker::Model;
 
-/// A position for each event, a value for each load, and for each sleep the event that ends it, or none. All positions
-/// differ. Events, loads and sleeps are told by number: by the order of the threads' names, and then of the steps.
+/// A position for each event, a value for each load, and for each sleep the event that ends it, if
+/// one does. All positions differ. Events, loads and sleeps are numbered by thread name, then by
+/// step.
 #[derive(Debug, Drop)]
 pub struct World {
     positions: Vec<u8>,
@@ -25,7 +26,7 @@ impl Model for World {
 }
 
 impl World {
-    /// The world of these positions, values of loads, and enders of sleeps.
+    /// The world with these positions, values of loads, and events that end sleeps.
     pub fn new(positions: Vec<u8>, loads: Vec<i32>, enders: Vec<Option<u32>>) -> World
         requires { IsDistinct (λ p q. p == q) positions.items }
         ensures { result ≡ record { positions = positions.items; loads = loads.items; enders = enders.items } }
@@ -59,7 +60,7 @@ impl World {
         self.enders.as_slice()
     }
 
-    /// The position of an event; of one that isn't there, 0.
+    /// The position of an event, or 0 if there is no such event.
     pub fn position(&self, event: u32) -> u8
         ensures { result ≡ position self.now event }
     {
@@ -73,7 +74,7 @@ impl World {
         self.position(first) < self.position(second)
     }
 
-    /// Whether the sleep is ended by the event.
+    /// Whether the event ends the sleep.
     pub fn is_ended(&self, sleep: u32, by: u32) -> bool
         ensures { result ≡ is_ended self.now sleep by }
     {

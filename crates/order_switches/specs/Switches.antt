@@ -1,12 +1,12 @@
--- How often the order of a world goes from one thread to another. `threads` has the thread of each event, by the event's number.
+-- The number of context switches in a world. `threads` has the thread of each event, by number.
 use Rattle.std.specs.Prelude.{ℕ, ◌+◌, ◌==◌, Bool, if◌then◌else◌, List, [], ◌∷◌, Option, Some, None}
 use Rattle.std.specs.List.{filter_map, range_with_len}
 use Rattle.std.specs.Option.{option_map_or}
 use Rattle.order_formula.specs.Worlds.{World, position}
 
--- how often neighbours of a list differ
+-- the number of neighbours in a list that differ
 module _ {X : Type 0} (eq : X → X → Bool) where
-  -- where an element stands before it
+  -- the same, for a list with x in front
   abbrev pub changes_after : X → List X → ℕ
   changes_after x [] = 0
   changes_after x (y ∷ ys) = (if eq x y then 0 else 1) + changes_after y ys
@@ -24,7 +24,7 @@ thread_in (t ∷ threads) (q ∷ positions) p = if q == p then Some t else threa
 abbrev pub thread_at : List ℕ → World → ℕ → Option ℕ
 thread_at threads w p = thread_in threads w.positions p
 
--- one past the position of the failing event, or past all positions where none fails
+-- one past the position of the failing event, or past all positions if none fails
 abbrev pub end_at : Option ℕ → World → ℕ
 end_at failing w = option_map_or (λ e. position w e + 1) failing 256
 

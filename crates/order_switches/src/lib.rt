@@ -1,4 +1,4 @@
-//! How often the order of a world goes from one thread to another.
+//! The number of context switches in the order of a world.
 #![tactic(auto)]
 
 ghost use Rattle.std.specs.Prelude.{◌≡◌, ◌≤◌, ◌==◌, ℕ, List, Option, length, if◌then◌else◌};
@@ -9,7 +9,8 @@ ghost use Rattle.order_switches.specs.Levels.{AreLevels};
 
 use order_formula::World;
 
-/// A world has at most k switches exactly where its events have levels up to k, which rise from thread to thread.
+/// A world has at most k switches exactly when its events have levels up to k that rise at each
+/// switch.
 pub fn levels_are_switches()
     ensures few { (threads : List ℕ) (failing : Option ℕ) (w : PlainWorld) (k : ℕ) (level : ℕ → ℕ) → IsWorld w → length threads ≡ length w.positions
         → AreLevels threads failing w k level → switches threads failing w ≤ k }
@@ -17,8 +18,8 @@ pub fn levels_are_switches()
         → switches threads failing w ≤ k → (level : ℕ → ℕ) × AreLevels threads failing w k level }
 {}
 
-/// How often the order of a world goes from one thread to another, up to the failing event where one fails. `threads` has the
-/// thread of each event.
+/// The number of context switches in a world, up to the failing event if there is one. `threads`
+/// has the thread of each event.
 pub fn switches(threads: &[usize], failing: Option<u32>, world: &World) -> u32
     ensures number { result ≡ switches threads.now failing world.now }
     ensures few { result ≤ 256 }
@@ -34,7 +35,7 @@ pub fn switches(threads: &[usize], failing: Option<u32>, world: &World) -> u32
     count
 }
 
-/// One past the position of the failing event, or past all positions where none fails.
+/// One past the position of the failing event, or past all positions if none fails.
 fn end_at(failing: Option<u32>, world: &World) -> usize
     ensures end { result ≡ end_at failing world.now }
     ensures few { result ≤ 256 }
@@ -57,7 +58,7 @@ fn thread_in(threads: &[usize], positions: &[u8], position: usize) -> Option<usi
     None
 }
 
-/// Whether a thread isn't the last one, as a number.
+/// 1 if a thread isn't the last one, and 0 otherwise.
 fn change(last: Option<usize>, thread: usize) -> u32
     ensures change { result ≡ option_map_or (λ earlier. if earlier == thread then 0 else 1) last 0 }
     ensures one { result ≤ 1 }

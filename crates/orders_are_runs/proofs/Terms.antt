@@ -5,7 +5,7 @@ use Rattle.std.specs.List.{All, Contains, IsDistinct, filter_map}
 use Rattle.std.specs.Option.{option_map_or}
 use Rattle.std.proofs.lemmas.List.Elements.{All-nil, All-cons, All-contains, All-head, All-tail, All-weaker}
 use Rattle.std.proofs.lemmas.Option.{cond_some, none-some, option_and_then_some}
-use Rattle.tc_base.specs.declared.arith.BinOp.TheVariants.{Eq}
+use Rattle.int_ops.specs.declared.arith.BinOp.TheVariants.{Eq}
 use Rattle.tc_code.specs.Code.{Code}
 use Rattle.tc_code.specs.Lawful.{IsLawful}
 use Rattle.path_walk.specs.Paths.{Paths}

@@ -11,11 +11,12 @@ use Rattle.std.proofs.lemmas.List.Folds.{list_all_at}
 use Rattle.std.proofs.lemmas.Option.{none-some, same_Some, slice_get-get_or, slice_get-map, slice_get_within}
 use Rattle.tc_base.specs.Names.{Name, child}
 use Rattle.tc_base.specs.Buffers.{BufferOps}
-use Rattle.tc_base.specs.Logs.{Log, Path, ThreadPath, path_under}
+use Rattle.run_log.specs.Logs.{Log}
+use Rattle.tc_base.specs.Paths.{Path, ThreadPath, path_under}
 use Rattle.tc_base.specs.States.{Local, Thread, State}
 use Rattle.tc_base.specs.declared.failing.Failing.{Failing}
 use Rattle.tc_base.specs.declared.failing.Failing.TheVariants as failing
-use Rattle.tc_base.specs.declared.model.Model.{Model}
+use Rattle.memory_models.specs.declared.model.Model.{Model}
 use Rattle.tc_base.specs.declared.moves.Move.{Move}
 use Rattle.tc_base.specs.declared.request.Request.TheVariants.{Fail}
 use Rattle.tc_base.proofs.Names.{HasParent, parent_of, same_true}
@@ -44,7 +45,7 @@ use Rattle.run_laws.proofs.Exits.{exited_past_exit, has_next}
 use Rattle.run_laws.proofs.Main.{main_is_there}
 use Rattle.run_laws.proofs.Stuck.{stuck_waits}
 use Rattle.run_history.proofs.of_pending.Stuck.{stuck_is_drained}
-use Rattle.path_log.proofs.Lists.{get_seam}
+use Rattle.list_laws.proofs.Lists.{get_seam}
 use Rattle.path_laws.specs.Along.{IsAlong}
 use Rattle.path_laws.specs.Prefixes.{fails_by}
 use Rattle.path_laws.proofs.Blocked.{waits_where_blocked, blocked_there, none_behind_exit}

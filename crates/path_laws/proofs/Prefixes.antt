@@ -9,7 +9,8 @@ use Rattle.std.proofs.lemmas.Bool.{and_parts, eqb-true, eq-eqb}
 use Rattle.std.proofs.lemmas.List.{take-append-drop}
 use Rattle.std.proofs.lemmas.Option.{none-some, same_Some, option_and_then_some}
 use Rattle.tc_base.specs.Buffers.{BufferOps}
-use Rattle.tc_base.specs.Logs.{Log, Path, ThreadPath, path_under}
+use Rattle.run_log.specs.Logs.{Log}
+use Rattle.tc_base.specs.Paths.{Path, ThreadPath, path_under}
 use Rattle.tc_base.specs.Names.{Name}
 use Rattle.tc_base.specs.States.{Local, Thread, State}
 use Rattle.tc_base.specs.declared.moves.Move.{Move}
@@ -20,9 +21,9 @@ use Rattle.tc_code.specs.declared.instr.Instr.{Instr}
 use Rattle.tc_code.specs.Lawful.{IsLawful}
 use Rattle.tc_code.specs.Run.{run, run_from, Reproduces, IsReached, path_of}
 use Rattle.tc_code.specs.Step.{step, opening}
-use Rattle.path_log.specs.Texts.{is_log, rises_from}
-use Rattle.path_log.proofs.Lists.{split_at}
-use Rattle.path_log.proofs.Rising.{own_path}
+use Rattle.run_log.specs.Logs.{is_log, rises_from}
+use Rattle.list_laws.proofs.Lists.{split_at}
+use Rattle.run_log.proofs.Rising.{own_path}
 use Rattle.path_walk.specs.Steps.{Onward, onward, is_failing, places_from, places_of}
 use Rattle.path_walk.specs.Fits.{ending_by, ending_of, fails_in, places_in, function_of, Fits}
 use Rattle.path_walk.specs.declared.ending.Ending.TheVariants.{Fails, Open}

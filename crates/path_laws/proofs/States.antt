@@ -24,7 +24,7 @@ use Rattle.tc_code.specs.Run.{IsReached}
 use Rattle.tc_code.specs.Step.{request, site, holds, handle_of, can_be_joined, stepped, local_after, arguments_of, instr_of, allows}
 use Rattle.tc_code.specs.Step.{drains_first, perform, born, woken, opening}
 use Rattle.tc_code.specs.Step as machine
-use Rattle.path_log.proofs.Lists.{get_front, get_seam}
+use Rattle.list_laws.proofs.Lists.{get_front, get_seam}
 use Rattle.path_walk.specs.Steps.{onward, places_from, steps_at, is_site}
 use Rattle.path_walk.specs.Fits.{starts, started}
 use Rattle.path_walk.specs.Marks.{Marks}

@@ -8,17 +8,17 @@ use Rattle.path_walk.specs.Fits.{started}
 use Rattle.path_walk.specs.Marks.{Marks, unmarked, marks_after, marked_steps}
 use Rattle.path_walk.specs.Events.{is_impossible}
 
--- a thread has what the marks say
+-- a thread has the mutexes, thread variables and children that the marks say
 pub record HasMarks (t : Local) (m : Marks) : Type 0 where
   pub held : m.held ≡ t.held
   pub handles : m.handles ≡ t.handles
   pub children : m.children ≡ t.children
 
--- a thread is where the steps at these places lead
+-- the thread's path so far has these places and leads to the thread's state
 pub record IsAlong (code : Code) (t : Local) (places : List ℕ) : Type 0 where
   pub told : places_from code t.function t.steps 0 t.outcomes ≡ Ok places
   pub end : end_from code t.function t.steps 0 t.outcomes ≡ t.instruction
   pub marks : HasMarks t (marks_after (unmarked code t.function) (steps_at code t.function places))
   pub children : length (started (steps_at code t.function places)) ≡ t.children
-  -- none of them is one that no run does
+  -- the path alone rules out none of these steps
   pub possible : list_any is_impossible (marked_steps code t.function false (steps_at code t.function places)) ≡ false

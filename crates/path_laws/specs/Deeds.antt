@@ -10,12 +10,12 @@ use Rattle.path_walk.specs.declared.event.Event.{Event}
 use Rattle.path_walk.specs.declared.event.EventKind.{EventKind}
 use Rattle.path_walk.specs.declared.event.EventKind.TheVariants as kind
 
--- the number of a step of the thread of a name
+-- the number of a deed, if it is a step of the named thread
 abbrev pub number_by : Name → Deed → Option ℕ
 number_by n (Did q k r took other) = if same n q then Some k else None
 number_by n _ = None
 
--- what a request asks as an event, if it is one; a create asks for the child of the last number of the child's name
+-- the event kind of a request, if it is an event; a create's number is the last of the child's name
 abbrev pub kind_of : Request → Option Name → Option EventKind
 kind_of Silent other = None
 kind_of (Read c) other = Some kind.Load
@@ -35,20 +35,20 @@ kind_of OrderStores other = Some kind.Fence
 kind_of Finish other = Some kind.Exit
 kind_of Fail other = Some kind.Fail
 
--- which event it is: the number of its step, and what it asks
+-- an event that was done: its step number and its kind
 pub record EventDone : Type 0 where
   pub step : ℕ
   pub kind : EventKind
 
--- the event of a path
+-- an event of a path, as its step number and its kind
 abbrev pub done_as : Event → EventDone
 done_as e = record { step = e.step; kind = e.kind }
 
--- a step of the thread of a name as an event, if it is one
+-- a deed as an event of the named thread, if it is one
 abbrev pub event_by : Name → Deed → Option EventDone
 event_by n (Did q k r took other) = if same n q then option_map (λ asked. record { step = k; kind = asked }) (kind_of r other) else None
 event_by n _ = None
 
--- the events of the first so many steps
+-- the events of the first `steps` steps
 abbrev pub events_before : ℕ → List Event → List EventDone
 events_before steps events = map done_as (filter (λ e. nat_lt e.step steps) events)

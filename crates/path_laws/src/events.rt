@@ -1,12 +1,12 @@
-//! The events of paths, with their bars, regions, sleeps and exits, as a history along the paths tells them. Each
-//! function's clause is a law, and its body does nothing.
+//! The events of paths, with their bars, regions, sleeps and exits, in a history along the paths.
+//! Each function states a law, and its body does nothing.
 ghost use Rattle.std.specs.Prelude.{◌≡◌, ◌↔◌, ◌≤◌, ◌<◌, ◌+◌, ◌==◌, ℕ, true, not, Some, None, List, length, map};
 ghost use Rattle.std.specs.FinSet as set;
 ghost use Rattle.std.specs.List.{Contains, filter_map};
 ghost use Rattle.tc_base.specs.Buffers.{BufferOps};
-ghost use Rattle.tc_base.specs.Logs.{Log};
+ghost use Rattle.run_log.specs.Logs.{Log};
 ghost use Rattle.tc_base.specs.Names.{Name};
-ghost use Rattle.tc_base.specs.declared.model.Model.{Model};
+ghost use Rattle.memory_models.specs.declared.model.Model.{Model};
 ghost use Rattle.tc_code.specs.Code.{Code};
 ghost use Rattle.tc_code.specs.Lawful.{IsLawful};
 ghost use Rattle.store_buffers.specs.Laws.{Laws};
@@ -14,7 +14,7 @@ ghost use Rattle.store_buffers.specs.Pending.{Binding};
 ghost use Rattle.run_history.specs.History.{Deed};
 ghost use Rattle.run_history.specs.Told.{owner_in, waiting_in, is_thread_in, steps_in, has_exited_in};
 ghost use Rattle.run_history.specs.pending.Deeds.{has_bar_between};
-ghost use Rattle.path_log.specs.Texts.{is_log};
+ghost use Rattle.run_log.specs.Logs.{is_log};
 ghost use Rattle.path_walk.specs.Fits.{Fits};
 ghost use Rattle.path_walk.specs.Paths.{Walk};
 ghost use Rattle.path_walk.specs.declared.event.Event.{Event};
@@ -32,7 +32,7 @@ pub fn events_lie_within()
         → is_log log ≡ true → Fits code log → IsThread code log j w → Contains w.events x → x.step < length w.places }
 {}
 
-/// The events of a path are those of the thread's steps in a history along the paths, as far as these go.
+/// In a history along the paths, a thread's events are those of its path, as far as its steps go.
 pub fn events_are_done<B>()
     ensures done { (ops : BufferOps B) (model : Model) (bound : Binding) (code : Code) (log : Log) (h : List Deed) (j : ℕ) (w : Walk) (x : Event)
         → Laws ops model bound → IsLawful code → is_log log ≡ true → Fits code log → IsAlongPaths ops.buffered bound code log h
@@ -48,7 +48,7 @@ pub fn events_are_done<B>()
         → filter_map (event_by w.name) h ≡ map done_as w.events }
 {}
 
-/// Between two events of a thread a bar stands in the history exactly where they have different numbers of bars before them.
+/// A history has a bar between two events of a thread if and only if their numbers of bars differ.
 pub fn bars_are_told<B>()
     ensures { (ops : BufferOps B) (model : Model) (bound : Binding) (code : Code) (log : Log) (h : List Deed) (j : ℕ) (w : Walk) (x y : Event)
         → Laws ops model bound → IsLawful code → is_log log ≡ true → Fits code log → IsAlongPaths ops.buffered bound code log h
@@ -56,8 +56,8 @@ pub fn bars_are_told<B>()
         → has_bar_between h w.name x.step y.step ≡ not (x.bars == y.bars) }
 {}
 
-/// A thread owns a mutex exactly where a region of its path is open after the steps that it has done. Each owner is a
-/// thread of the paths.
+/// A thread owns a mutex if and only if a region of its path is open after the steps that it has
+/// done. Each owner is a thread of the paths.
 pub fn regions_are_owned<B>()
     ensures open { (ops : BufferOps B) (model : Model) (bound : Binding) (code : Code) (log : Log) (h : List Deed) (j : ℕ) (w : Walk) (m : ℕ)
         → Laws ops model bound → IsLawful code → is_log log ≡ true → Fits code log → IsAlongPaths ops.buffered bound code log h
@@ -68,8 +68,8 @@ pub fn regions_are_owned<B>()
         → owner_in h m ≡ Some n → IsNameOfThread code log n }
 {}
 
-/// A thread waits on a condition exactly where a sleep of its path on it has begun, and nothing has ended it: then the thread
-/// has done no step since. Each waiter is a thread of the paths.
+/// A thread waits on a condition if and only if a sleep of its path on it has begun and nothing has
+/// ended it; the thread has done no step since. Each waiter is a thread of the paths.
 pub fn sleeps_wait<B>()
     ensures asleep { (ops : BufferOps B) (model : Model) (bound : Binding) (code : Code) (log : Log) (h : List Deed) (j : ℕ) (w : Walk) (c : ℕ)
         → Laws ops model bound → IsLawful code → is_log log ≡ true → Fits code log → IsAlongPaths ops.buffered bound code log h
@@ -83,7 +83,7 @@ pub fn sleeps_wait<B>()
         → set.contains (waiting_in h c) n ≡ true → IsNameOfThread code log n }
 {}
 
-/// The wake of a sleep is the thread's next step. Where the path has none, it ends with the sleep.
+/// The wake of a sleep is the thread's next step. A path without that wake ends with the sleep.
 pub fn wakes_come_next()
     ensures wake { (code : Code) (log : Log) (j k : ℕ) (w : Walk) (s : Sleep)
         → IsLawful code → is_log log ≡ true → Fits code log → IsThread code log j w → Contains w.sleeps s → s.wake ≡ Some k → k ≡ s.step + 1 }
@@ -92,7 +92,7 @@ pub fn wakes_come_next()
         → s.step + 1 ≡ length w.places }
 {}
 
-/// A thread has exited exactly where its exit is an event of its path that is done.
+/// A thread has exited if and only if its path has an exit and that step is done.
 pub fn exits_are_events<B>()
     ensures { (ops : BufferOps B) (model : Model) (bound : Binding) (code : Code) (log : Log) (h : List Deed) (j : ℕ) (w : Walk)
         → Laws ops model bound → IsLawful code → is_log log ≡ true → Fits code log → IsAlongPaths ops.buffered bound code log h

@@ -1,11 +1,11 @@
-//! Histories along the paths of a log: how they begin and go on, and what a thread of them does next. Each function's
-//! clause is a law, and its body does nothing.
+//! Histories along the paths of a log: how they begin and go on, and what their threads do next.
+//! Each function states a law, and its body does nothing.
 ghost use Rattle.std.specs.Prelude.{◌≡◌, ◌≤◌, ◌<◌, ℕ, ℤ, true, false, Option, Some, None, List, [], ◌∷◌, ◌++◌, length};
 ghost use Rattle.tc_base.specs.Buffers.{BufferOps};
-ghost use Rattle.tc_base.specs.Logs.{Log};
+ghost use Rattle.run_log.specs.Logs.{Log};
 ghost use Rattle.tc_base.specs.Names.{Name};
 ghost use Rattle.tc_base.specs.States.{State};
-ghost use Rattle.tc_base.specs.declared.model.Model.{Model};
+ghost use Rattle.memory_models.specs.declared.model.Model.{Model};
 ghost use Rattle.tc_base.specs.declared.moves.Move.{Move};
 ghost use Rattle.tc_base.specs.declared.request.Request.{Request};
 ghost use Rattle.tc_code.specs.Code.{Code};
@@ -17,14 +17,15 @@ ghost use Rattle.run_history.specs.History.{Deed, Did, Drained, history};
 ghost use Rattle.run_history.specs.Told.{is_thread_in, steps_in, failed_in, fails};
 ghost use Rattle.run_follows.specs.Follow.{MayFollow, moves_for};
 ghost use Rattle.run_follows.specs.Logged.{EndsAsIn, GoesAsLogged};
-ghost use Rattle.path_log.specs.Texts.{is_log};
+ghost use Rattle.run_log.specs.Logs.{is_log};
 ghost use Rattle.path_walk.specs.Fits.{Fits};
 ghost use Rattle.path_walk.specs.Paths.{Walk, paths_of};
 ghost use Rattle.path_laws.specs.Prefixes.{AreOnPaths};
 ghost use Rattle.path_laws.specs.history.Along.{IsAlongPaths, IsThread, IsNameOfThread, AllHaveDone, AllAreThere};
 ghost use Rattle.path_laws.specs.history.Next.{fails_next, failing_next, IsNextOnPath, IsAsWanted, BranchesAlong};
 
-/// The history of a run on the paths is along them, and each history along them is that of such a run.
+/// The history of a run on the paths is along them, and every history along them is that of such a
+/// run.
 pub fn histories_along_are_of_runs<B>()
     ensures history { (ops : BufferOps B) (model : Model) (bound : Binding) (code : Code) (log : Log) (moves : List Move) (s : State B)
         → Laws ops model bound → IsLawful code → run ops code moves ≡ Some s → AreOnPaths log s
@@ -34,7 +35,7 @@ pub fn histories_along_are_of_runs<B>()
         → (s : State B) × (run ops code (moves_for bound h) ≡ Some s) × (history ops code (moves_for bound h) ≡ h) × AreOnPaths log s }
 {}
 
-/// The first deeds of a history along the paths are along them, and where the log fits so is the history of no deeds.
+/// A prefix of a history along the paths is along them; so is the empty history, if the log fits.
 pub fn beginnings_are_along<B>()
     ensures start { (ops : BufferOps B) (model : Model) (bound : Binding) (code : Code) (log : Log)
         → Laws ops model bound → IsLawful code → Fits code log → IsAlongPaths ops.buffered bound code log [] }
@@ -43,7 +44,8 @@ pub fn beginnings_are_along<B>()
         → IsAlongPaths ops.buffered bound code log first }
 {}
 
-/// What reproduces a log has a history along its paths, in which each thread is there and has done all its steps.
+/// Moves that reproduce a log have a history along its paths, in which each thread exists and has
+/// done all its steps.
 pub fn reproduced_is_along<B>()
     ensures along { (ops : BufferOps B) (model : Model) (bound : Binding) (code : Code) (log : Log) (moves : List Move)
         → Laws ops model bound → IsLawful code → Reproduces ops code log moves → IsAlongPaths ops.buffered bound code log (history ops code moves) }
@@ -53,7 +55,8 @@ pub fn reproduced_is_along<B>()
         → Laws ops model bound → IsLawful code → is_log log ≡ true → Reproduces ops code log moves → AllHaveDone code log (history ops code moves) }
 {}
 
-/// The threads of a history along the paths are threads of the paths, and have done no more steps than these have.
+/// The threads of a history along the paths are threads of the paths, with no more steps than
+/// these.
 pub fn threads_are_of_paths<B>()
     ensures named { (ops : BufferOps B) (model : Model) (bound : Binding) (code : Code) (log : Log) (h : List Deed) (n : Name)
         → Laws ops model bound → IsLawful code → is_log log ≡ true → Fits code log → IsAlongPaths ops.buffered bound code log h
@@ -63,8 +66,8 @@ pub fn threads_are_of_paths<B>()
         → IsThread code log j w → steps_in h w.name ≤ length w.places }
 {}
 
-/// A thread that has steps left is to do the instruction at the next place of its path. Where the paths aren't dead, what
-/// these alone tell of it comes out as it is wanted.
+/// The next instruction of a thread with steps left is at the next place of its path. If the paths
+/// aren't dead, the tests that they decide have the wanted outcome.
 pub fn next_is_on_path<B>()
     ensures next { (ops : BufferOps B) (model : Model) (bound : Binding) (code : Code) (log : Log) (h : List Deed) (j : ℕ) (w : Walk)
         → Laws ops model bound → IsLawful code → is_log log ≡ true → Fits code log → IsAlongPaths ops.buffered bound code log h
@@ -77,8 +80,8 @@ pub fn next_is_on_path<B>()
         → IsAsWanted (fails_next log h w) x.local x.instr }
 {}
 
-/// A step of a thread on its path leaves all threads on their paths, where a branch goes by the path's next outcome, and
-/// the step fails exactly where the path does. A drain always does.
+/// A step of a thread on its path keeps all threads on their paths, if a branch takes the path's
+/// next outcome and the step fails if and only if the path does. A drain always keeps them.
 pub fn deeds_stay_on_paths<B>()
     ensures step { (ops : BufferOps B) (model : Model) (bound : Binding) (code : Code) (log : Log) (h : List Deed) (j : ℕ) (w : Walk)
         (x : IsNextOnPath code h w) (k : ℕ) (r : Request) (took : ℤ) (other : Option Name)
@@ -92,8 +95,8 @@ pub fn deeds_stay_on_paths<B>()
         → IsAlongPaths ops.buffered bound code log (h ++ Drained n k c v ∷ []) }
 {}
 
-/// Where each thread has done all its steps in a history along the paths, all are there. If it ends as the log does, it goes
-/// as logged.
+/// If each thread has done all its steps in a history along the paths, all threads exist. If the
+/// history also ends as the log does, it matches the log.
 pub fn whole_paths_go_as_logged<B>()
     ensures there { (ops : BufferOps B) (model : Model) (bound : Binding) (code : Code) (log : Log) (h : List Deed)
         → Laws ops model bound → IsLawful code → is_log log ≡ true → Fits code log → IsAlongPaths ops.buffered bound code log h

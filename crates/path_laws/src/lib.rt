@@ -1,6 +1,6 @@
-//! What the ways of threads, told from code and log alone, have to do with the runs of the machine.
+//! How the walks of threads, found from code and log alone, relate to the runs of the machine.
 //!
-//! Each function's clause is a law, and its body does nothing.
+//! Each function states a law, and its body does nothing.
 #![tactic(auto)]
 
 ghost use Rattle.std.specs.Prelude.{◌≡◌, ◌≢◌, ℕ, List, ◌++◌, Some, true};
@@ -8,10 +8,11 @@ ghost use Rattle.std.specs.FinMap as fin;
 ghost use Rattle.std.specs.List.{filter_map, range_with_len};
 ghost use Rattle.std.specs.Option.{option_map_or};
 ghost use Rattle.tc_base.specs.Buffers.{BufferOps};
-ghost use Rattle.tc_base.specs.Logs.{Log, ThreadPath};
+ghost use Rattle.run_log.specs.Logs.{Log};
+ghost use Rattle.tc_base.specs.Paths.{ThreadPath};
 ghost use Rattle.tc_base.specs.Names.{Name};
 ghost use Rattle.tc_base.specs.States.{State, Thread};
-ghost use Rattle.tc_base.specs.declared.model.Model.{Model};
+ghost use Rattle.memory_models.specs.declared.model.Model.{Model};
 ghost use Rattle.tc_base.specs.declared.moves.Move.{Move};
 ghost use Rattle.tc_code.specs.Code.{Code};
 ghost use Rattle.tc_code.specs.Lawful.{IsLawful};
@@ -29,35 +30,36 @@ pub mod events;
 pub mod history;
 pub mod stuck;
 
-/// After each run a thread that hasn't failed is where its path so far leads: the places of its steps are told by its
-/// function and its outcomes, and so are its place, what it holds and its thread variables.
+/// After each run, a thread that has not failed is where its path so far leads: its function and
+/// outcomes determine the places of its steps, its place, its mutexes and its thread variables.
 pub fn threads_go_along<B>()
     ensures { (ops : BufferOps B) (code : Code) (s : State B) (n : Name) (t : Thread B)
         → IsLawful code → IsReached ops code s → fin.get s.threads n ≡ Some t → s.failed ≢ Some n
         → (places : List ℕ) × IsAlong code t.local places }
 {}
 
-/// A log that some moves reproduce fits the code, under every memory model: in a deadlock each thread that hasn't exited
-/// stands where it can be blocked, since the oldest store of a buffer may always drain.
+/// A log that some moves reproduce fits the code, under every memory model. In a deadlock each
+/// thread that has not exited is at an instruction that can block, since a buffer's oldest store
+/// may always drain.
 pub fn reproduced_logs_fit<B>()
     ensures { (ops : BufferOps B) (model : Model) (bound : Binding) (code : Code) (log : Log) (moves : List Move)
         → Laws ops model bound → IsLawful code → Reproduces ops code log moves → Fits code log }
 {}
 
-/// Where the paths of a log are dead, no moves reproduce it, under any memory model.
+/// If the paths of a log are dead, no moves reproduce it, under any memory model.
 pub fn dead_logs_are_not_reproduced<B>()
     ensures { (ops : BufferOps B) (model : Model) (bound : Binding) (code : Code) (log : Log) (moves : List Move)
         → Laws ops model bound → IsLawful code → (paths_of code log).dead ≡ true → Reproduces ops code log moves → ⊥ }
 {}
 
-/// Moves that reproduce a log lead each thread along its path: after the first of them each thread has gone the first
-/// part of its path.
+/// Moves that reproduce a log lead each thread along its path: after any first part of the moves,
+/// each thread has followed a prefix of its path.
 pub fn beginnings_are_on_paths<B>()
     ensures { (ops : BufferOps B) (code : Code) (log : Log) (first rest : List Move) (s : State B)
         → Reproduces ops code log (first ++ rest) → run ops code first ≡ Some s → AreOnPaths log s }
 {}
 
-/// The steps of a thread in a history are numbered from 0 on, in order, and are as many as it has done.
+/// A history has all steps of a thread, numbered from 0 in order.
 pub fn deeds_are_steps<B>()
     ensures { (ops : BufferOps B) (code : Code) (moves : List Move) (s : State B) (n : Name)
         → run ops code moves ≡ Some s
@@ -65,8 +67,8 @@ pub fn deeds_are_steps<B>()
         ≡ range_with_len 0 (option_map_or (λ t. t.local.steps) (fin.get s.threads n) 0) }
 {}
 
-/// Where all threads have gone the first parts of their paths in a log that fits, the steps of each thread in the history
-/// ask what the events of its path do: these events are those of the steps that it has done, with their numbers.
+/// If all threads have followed prefixes of their paths in a log that fits, the events of a thread
+/// in the history are the events of its path for the steps that it has done.
 pub fn deeds_are_events<B>()
     ensures { (ops : BufferOps B) (code : Code) (log : Log) (moves : List Move) (s : State B) (p : ThreadPath) (t : Thread B)
         → IsLawful code → Fits code log → run ops code moves ≡ Some s → AreOnPaths log s → fin.get s.threads p.name ≡ Some t

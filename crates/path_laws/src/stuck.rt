@@ -1,10 +1,10 @@
-//! What a path says that its thread is blocked at in a deadlock is what the thread asks next. Each function's clause is
-//! a law, and its body does nothing.
+//! What blocks a thread in a deadlock by its path is its next request. Each function states a law,
+//! and its body does nothing.
 ghost use Rattle.std.specs.Prelude.{◌≡◌, ◌↔◌, ℕ, true, false, Some, IsSome, List, option_map};
 ghost use Rattle.tc_base.specs.Buffers.{BufferOps};
-ghost use Rattle.tc_base.specs.Logs.{Log};
+ghost use Rattle.run_log.specs.Logs.{Log};
 ghost use Rattle.tc_base.specs.declared.failing.Failing.TheVariants.{Deadlock};
-ghost use Rattle.tc_base.specs.declared.model.Model.{Model};
+ghost use Rattle.memory_models.specs.declared.model.Model.{Model};
 ghost use Rattle.tc_base.specs.declared.moves.Move.{Move};
 ghost use Rattle.tc_code.specs.Code.{Code};
 ghost use Rattle.tc_code.specs.Lawful.{IsLawful};
@@ -16,7 +16,7 @@ ghost use Rattle.run_history.specs.Locals.{asks_next};
 ghost use Rattle.run_history.specs.Told.{is_thread_in, has_exited_in};
 ghost use Rattle.run_follows.specs.Follow.{IsLeftIn};
 ghost use Rattle.run_follows.specs.blocked.Stuck.{IsBlockedIn};
-ghost use Rattle.path_log.specs.Texts.{is_log};
+ghost use Rattle.run_log.specs.Logs.{is_log};
 ghost use Rattle.path_walk.specs.Fits.{Fits};
 ghost use Rattle.path_walk.specs.Paths.{Walk};
 ghost use Rattle.path_walk.specs.declared.event.Blocked.{Blocked};
@@ -24,8 +24,8 @@ ghost use Rattle.path_walk.specs.declared.event.Blocked.TheVariants as blocked;
 ghost use Rattle.path_laws.specs.history.Along.{IsAlongPaths, IsThread, HasDoneAll};
 ghost use Rattle.path_laws.specs.stuck.Blocked.{asked_at, IsBlockedAt, IsLastSleep};
 
-/// A thread that has done all steps of its path in the log of a deadlock asks next what the path says that it is blocked at,
-/// and it has exited where the path says nothing.
+/// After all steps of its path in the log of a deadlock, a thread's next request is the one that
+/// the path says blocks it; if the path says nothing, the thread has exited.
 pub fn rest_is_told<B>()
     ensures asks { (ops : BufferOps B) (model : Model) (bound : Binding) (code : Code) (log : Log) (h : List Deed) (j : ℕ) (w : Walk)
         → Laws ops model bound → IsLawful code → is_log log ≡ true → Fits code log → IsAlongPaths ops.buffered bound code log h
@@ -37,15 +37,15 @@ pub fn rest_is_told<B>()
         → (has_exited_in h w.name ≡ false) ↔ IsSome w.blocked }
 {}
 
-/// A path that is blocked at a wake ends with its last sleep, which is the wake's.
+/// A path that is blocked at a wake ends with the sleep of that wake.
 pub fn blocked_at_last_sleep()
     ensures { (code : Code) (log : Log) (j : ℕ) (w : Walk) (c m k : ℕ)
         → IsLawful code → is_log log ≡ true → Fits code log → IsThread code log j w → w.blocked ≡ Some (blocked.Wake c m k)
         → IsLastSleep w c m k }
 {}
 
-/// Where moves reproduce the log of a deadlock, each thread that hasn't exited is blocked at what its path says, by its
-/// history; and each thread of whose path something is said is one of these.
+/// If moves reproduce the log of a deadlock, each thread that has not exited is blocked at what its
+/// path says, and each thread whose path says so has not exited.
 pub fn blocked_threads_are_told<B>()
     ensures left { (ops : BufferOps B) (model : Model) (bound : Binding) (code : Code) (log : Log) (moves : List Move) (j : ℕ) (w : Walk)
         → Laws ops model bound → IsLawful code → is_log log ≡ true → log.failing ≡ Deadlock → Reproduces ops code log moves

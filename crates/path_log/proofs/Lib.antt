@@ -1,5 +1,3 @@
-pub mod Lists
-pub mod Rising
 pub mod Loops
 pub mod Bits
 pub mod Packing

@@ -7,12 +7,14 @@ use Rattle.std.proofs.lemmas.Bool.{and_parts, and_from, cases_Bool, cases_lt, le
 use Rattle.std.proofs.lemmas.List.{append-nil, nil_from_length}
 use Rattle.std.proofs.lemmas.Slice.Eq.{bytes_eq-Decides}
 use Rattle.byteorder.specs.Endian.{big_bytes}
-use Rattle.tc_base.specs.Logs.{ThreadPath}
+use Rattle.tc_base.specs.Paths.{ThreadPath}
 use Rattle.tc_base.specs.declared.failing.Failing.{Failing}
 use Rattle.tc_base.specs.declared.failing.Failing.TheVariants.{Thread, Deadlock}
-use Rattle.tc_base.specs.declared.model.Model.{Model}
-use Rattle.tc_base.specs.declared.model.Model.TheVariants.{Sc, Tso, Pso}
-use Rattle.path_log.specs.Texts.{StoredLog, AreBytes, HasText, IsLog, is_log, is_digest, is_thread, is_there, has_ending, is_within, rises_from}
+use Rattle.memory_models.specs.declared.model.Model.{Model}
+use Rattle.memory_models.specs.declared.model.Model.TheVariants.{Sc, Tso, Pso}
+use Rattle.run_log.proofs.Digests.{digest_is}
+use Rattle.run_log.specs.Logs.{StoredLog, is_log, is_digest, is_there, rises_from}
+use Rattle.path_log.specs.Texts.{AreBytes, HasText, IsLog, is_thread, has_ending, is_within}
 use Rattle.path_log.specs.Texts.{thread_text, model_code, head_text, ending_code, log_text}
 use Rattle.path_log.specs.Fields.{Place, done, behind, ◌such◌, ◌>>=◌, field, byte, two, model_of, model, digest_in, head, ending_of, ending, threads}
 use Rattle.path_log.specs.Fields.{body, ended, whole}
@@ -78,14 +80,6 @@ model_again m rest offset =
 
 abbrev IsDigest : Option (List ℕ) → Type 0
 IsDigest digest = IfSome digest (λ d. is_digest d ≡ true)
-
-all_bytes : (bytes : List ℕ) → AreBytes bytes → list_all (λ byte. ltb byte 256) bytes ≡ true
-all_bytes [] h = refl
-all_bytes (b ∷ bytes) h = and_from (ltb b 256) (list_all (λ byte. ltb byte 256) bytes) (lt-ltb b 256 (h 0)) (all_bytes bytes (λ i. h (suc i)))
-
--- 32 bytes are a digest
-pub digest_is : (digest : List ℕ) → length digest ≡ 32 → AreBytes digest → is_digest digest ≡ true
-digest_is digest long h = and_from (eqb (length digest) 32) (list_all (λ byte. ltb byte 256) digest) (eq-eqb (length digest) 32 long) (all_bytes digest h)
 
 digest_takes : (format : ℕ) (place : Place) (x : Option (List ℕ) × Place) → 1 ≤ format → format ≤ 2 → AreBytes place.1 → digest_in format place ≡ Ok x
     → Takes place.1 (digest_text x.0) x.1.1 × (format ≡ format_of x.0) × IsDigest x.0

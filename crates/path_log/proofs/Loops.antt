@@ -35,9 +35,9 @@ use Rattle.std.proofs.Common.{
 use Rattle.std.specs.Prelude.{slice_get, option_map, replicate}
 use Rattle.std.proofs.lemmas.Bool.{and_parts, leb-true, ne_eqb}
 use Rattle.std.proofs.lemmas.List.{append-nil, length-append}
-use Rattle.path_log.proofs.Lists.{get_seam}
+use Rattle.list_laws.proofs.Lists.{get_seam}
 use Rattle.tc_base.specs.Names.{Name}
-use Rattle.tc_base.specs.Logs.{ThreadPath}
+use Rattle.tc_base.specs.Paths.{ThreadPath}
 use Rattle.path_log.specs.declared.fault.LogFault.{LogFault}
 use Rattle.path_log.specs.declared.fault.LogFault.TheVariants.{Form, Memory}
 use Rattle.path_log.specs.Texts.{is_within}

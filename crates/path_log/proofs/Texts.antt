@@ -46,8 +46,9 @@ use Rattle.std.proofs.lemmas.List.Concat.{flat_map-cons}
 use Rattle.std.proofs.lemmas.Nat.{be_bytes_2}
 use Rattle.byteorder.specs.Endian.{big_bytes, big_number}
 use Rattle.tc_base.specs.Names.{Name}
-use Rattle.tc_base.specs.Logs.{ThreadPath}
-use Rattle.path_log.specs.Texts.{AreBytes, is_above, rises_from, is_within, is_thread, bytes_for, packed, runs_behind, runs_text, outcomes_text, name_text}
+use Rattle.tc_base.specs.Paths.{ThreadPath}
+use Rattle.path_log.specs.Texts.{AreBytes, is_within, is_thread, bytes_for, packed, runs_behind, runs_text, outcomes_text, name_text}
+use Rattle.run_log.specs.Logs.{is_above, rises_from}
 use Rattle.path_log.specs.Texts.{thread_text}
 use Rattle.path_log.specs.Fields.{Place, Fields, done, behind, kept, ◌such◌, ◌>>=◌, field, byte, two, times, name, all_bits, is_padded, packed_outcomes}
 use Rattle.path_log.specs.Fields.{lengths, alternating, runs_of, run_outcomes, outcomes, thread, threads}

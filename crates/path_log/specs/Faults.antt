@@ -1,4 +1,4 @@
--- Where a text breaks the form of a log.
+-- Where a text breaks the format of a log.
 use Rattle.std.specs.Prelude.{◌≡◌, ℕ, List, Err}
 use Rattle.path_log.specs.declared.fault.LogFault.{LogFault}
 use Rattle.path_log.specs.declared.fault.LogFault.TheVariants.{Form, Memory}
@@ -8,7 +8,7 @@ use Rattle.path_log.specs.Fields.{whole}
 abbrev pub BreaksAt : List ℕ → ℕ → Type 0
 BreaksAt text offset = whole (0, text) ≡ Err offset
 
--- what a fault says of a text
+-- what a fault says about a text
 abbrev pub IsFault : List ℕ → LogFault → Type 0
 IsFault text (Form offset) = BreaksAt text offset
 IsFault text Memory = Unit {0}

@@ -1,4 +1,4 @@
--- Logs as files hold them, and the text of each.
+-- The text of a log.
 use Rattle.std.specs.Prelude.{◌≡◌, ◌≢◌, ℕ, zero, suc, ◌+◌, ◌/◌, ◌^◌, ◌<◌, Bool, true, false, ◌&&◌, nat_le, nat_lt, ◌==◌, if◌then◌else◌, IsTrue, IfSome}
 use Rattle.std.specs.Prelude.{List, [], ◌∷◌, ◌++◌, length, drop, slice_index, Option, Some, None, is_some, codes, IsSomeAnd}
 use Rattle.std.specs.List.{flat_map, list_all}
@@ -8,76 +8,54 @@ use Rattle.std.specs.Cmp.Lexicographic.{slice_cmp}
 use Rattle.byteorder.specs.Endian.{big_bytes}
 use Rattle.sha2.specs.Sha256.{sha256}
 use Rattle.tc_base.specs.Names.{Name}
-use Rattle.tc_base.specs.Logs.{Log, ThreadPath}
+use Rattle.run_log.specs.Logs.{Log}
+use Rattle.tc_base.specs.Paths.{ThreadPath}
+use Rattle.run_log.specs.Logs.{StoredLog, is_log, is_digest}
 use Rattle.tc_base.specs.declared.failing.Failing.{Failing}
 use Rattle.tc_base.specs.declared.failing.Failing.TheVariants.{Thread, Deadlock}
-use Rattle.tc_base.specs.declared.model.Model.{Model}
-use Rattle.tc_base.specs.declared.model.Model.TheVariants.{Sc, Tso, Pso}
-
--- a log, and the digest of the program that it was recorded of, where that is known
-pub record StoredLog : Type 0 where
-  pub digest : Option (List ℕ)
-  pub log : Log
-
--- the name is above this one, if there is one
-abbrev pub is_above : Option Name → Name → Bool
-is_above None name = true
-is_above (Some last) name = is_lt (slice_cmp nat_cmp last name)
-
--- each name is above the one before it
-abbrev pub rises_from : Option Name → List ThreadPath → Bool
-rises_from last [] = true
-rises_from last (t ∷ ts) = is_above last t.name && rises_from (Some t.name) ts
-
--- of so many threads, the one that failed is there; in a deadlock some thread is
-abbrev pub is_there : Failing → ℕ → Bool
-is_there (Thread k) count = nat_lt k count
-is_there Deadlock count = nat_lt 0 count
-
--- the paths have different names, in order, and that of the thread that failed is there, if one did
-abbrev pub is_log : Log → Bool
-is_log log = rises_from None log.threads && is_there log.failing (length log.threads)
+use Rattle.memory_models.specs.declared.model.Model.{Model}
+use Rattle.memory_models.specs.declared.model.Model.TheVariants.{Sc, Tso, Pso}
 
 -- Bits of a byte, the highest first.
 
--- what the first so many bits are worth together, those that aren't there being 0
+-- the value of the first n bits, highest first; missing bits are 0
 abbrev pub bits_value : ℕ → List Bool → ℕ
 bits_value zero bits = 0
 bits_value (suc n) [] = 0
 bits_value (suc n) (bit ∷ bits) = (if bit then 2 ^ n else 0) + bits_value n bits
 
--- so many bytes of eight bits each
+-- bits as n bytes of eight bits each
 abbrev pub packed : ℕ → List Bool → List ℕ
 packed zero bits = []
 packed (suc n) bits = bits_value 8 bits ∷ packed n (drop 8 bits)
 
--- the least number of bytes that have room for so many bits
+-- the least number of bytes that hold this many bits
 abbrev pub bytes_for : ℕ → ℕ
 bytes_for bits = (bits + 7) / 8
 
 -- Runs of equal outcomes.
 
--- the lengths of the runs of some outcomes behind so many that are equal to this one
+-- the lengths of runs, where n outcomes of the first run come before the list
 abbrev pub runs_behind : Bool → ℕ → List Bool → List ℕ
 runs_behind outcome n [] = n ∷ []
 runs_behind outcome n (next ∷ others) =
     if beq outcome next then runs_behind outcome (n + 1) others else n ∷ runs_behind next 1 others
 
--- a first outcome, and the length of each run in two bytes
+-- the first outcome, then the length of each run in two bytes
 abbrev pub runs_text : List Bool → List ℕ
 runs_text [] = []
 runs_text (first ∷ others) = (if first then 1 else 0) ∷ flat_map (big_bytes 2) (runs_behind first 1 others)
 
--- outcomes: as runs in format 2, and else as bits
+-- outcomes: as runs in format 2, as bits in format 1
 abbrev pub outcomes_text : Bool → List Bool → List ℕ
 outcomes_text true outcomes = runs_text outcomes
 outcomes_text false outcomes = packed (bytes_for (length outcomes)) outcomes
 
--- the depth of a name, and the number of each create
+-- a name: its depth, then the number of each create
 abbrev pub name_text : Name → List ℕ
 name_text name = length name ∷ name
 
--- a thread's name, its steps, how many outcomes it has, and these
+-- a thread: its name, its step count, its outcome count and its outcomes
 abbrev pub thread_text : Bool → ThreadPath → List ℕ
 thread_text as_runs t = name_text t.name ++ (big_bytes 2 t.path.steps
     ++ (big_bytes 2 (length t.path.outcomes) ++ outcomes_text as_runs t.path.outcomes))
@@ -88,12 +66,12 @@ model_code Sc = 0
 model_code Tso = 1
 model_code Pso = 2
 
--- the sign, the format, the model and in format 2 the digest
+-- the signature, the format, the model and, in format 2, the digest
 abbrev pub head_text : Option (List ℕ) → Model → List ℕ
 head_text None model = codes "CLPL" ++ (big_bytes 2 1 ++ model_code model ∷ [])
 head_text (Some digest) model = codes "CLPL" ++ (big_bytes 2 2 ++ model_code model ∷ digest)
 
--- the index of the thread that failed, or FF
+-- the index of the thread that failed, or 255 for a deadlock
 abbrev pub ending_code : Failing → ℕ
 ending_code (Thread k) = k
 ending_code Deadlock = 255
@@ -103,47 +81,43 @@ abbrev pub log_text : StoredLog → List ℕ
 log_text s = head_text s.digest s.log.model
     ++ (length s.log.threads ∷ ending_code s.log.failing ∷ flat_map (thread_text (is_some s.digest)) s.log.threads)
 
--- What has a text.
+-- Which logs have a text.
 
--- from low to high
+-- whether a number lies between low and high, both included
 abbrev pub is_within : ℕ → ℕ → ℕ → Bool
 is_within low high n = nat_le low n && nat_le n high
 
--- at most 255 creates, each of a number up to 255, and as many steps and outcomes as two bytes count
+-- at most 255 creates, numbered 1 to 255, and step and outcome counts that fit in two bytes
 abbrev pub is_thread : ThreadPath → Bool
 is_thread t = (nat_le (length t.name) 255 && list_all (is_within 1 255) t.name)
     && (nat_lt t.path.steps (2 ^ 16) && nat_lt (length t.path.outcomes) (2 ^ 16))
 
--- at most 255 threads, each of which has a text
+-- at most 255 threads, each within the format
 abbrev pub is_of_format : Log → Bool
 is_of_format log = nat_le (length log.threads) 255 && list_all is_thread log.threads
 
--- format 2 has both endings, format 1 failures alone
+-- whether the format has this ending: format 2 has both, format 1 only failures
 abbrev pub has_ending : Bool → Failing → Bool
 has_ending true failing = true
 has_ending false (Thread k) = true
 has_ending false Deadlock = false
 
--- a digest has 32 bytes
-abbrev pub is_digest : List ℕ → Bool
-is_digest digest = length digest == 32 && list_all (λ byte. nat_lt byte 256) digest
-
--- numbers that bytes have
+-- every number is a byte
 abbrev pub AreBytes : List ℕ → Type 0
 AreBytes bytes = (i : ℕ) → slice_index bytes i < 256
 
--- a log that has a text
+-- the log has a text
 pub record HasText (s : StoredLog) : Type 0 where
   pub is_log : IsTrue (is_log s.log)
   pub is_of_format : IsTrue (is_of_format s.log)
   pub has_ending : IsTrue (has_ending (is_some s.digest) s.log.failing)
   pub is_digest : IfSome s.digest (λ digest. IsTrue (is_digest digest))
 
--- the bytes are the log's
+-- the bytes are the log's text
 pub record IsLog (bytes : List ℕ) (log : StoredLog) : Type 0 where
   pub has_text : HasText log
   pub text : bytes ≡ log_text log
 
--- the log has the digest of a program, and it isn't this one's
+-- the log has a digest, and it isn't that of this program
 abbrev pub IsOfOther : (program : List ℕ) → StoredLog → Type 0
 IsOfOther program log = IsSomeAnd log.digest (λ digest. digest ≢ sha256 program)

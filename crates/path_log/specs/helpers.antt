@@ -1,2 +1,2 @@
--- No promise speaks of what stands in this folder.
+-- No promise uses the definitions in this folder.
 pub mod Reading

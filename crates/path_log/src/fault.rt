@@ -1,17 +1,17 @@
-//! Why a text is no log.
+//! Why a text isn't a log.
 ghost use Rattle.std.specs.Prelude.{◌≡◌};
 ghost use Rattle.path_log.specs.declared.fault.LogFault.TheVariants.{Memory};
 
 use std::alloc::{AllocError, AllocFailed};
 use thiserror::Error;
 
-/// Why a text is no log.
+/// Why a text isn't a log.
 #[derive(Clone, Copy, Debug, PartialEq, Eq, Error)]
 pub enum LogFault {
     /// The offset of the first field that is cut short or breaks its rule.
     #[error("form at {0}")]
     Form(usize),
-    /// There is no memory.
+    /// Memory ran out.
     #[error("no memory")]
     Memory,
 }

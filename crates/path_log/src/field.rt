@@ -1,4 +1,4 @@
-//! The fields at a place.
+//! Readers of the fields at a place.
 ghost use Rattle.std.specs.Prelude.{◌≡◌, length, IfOk};
 ghost use Rattle.path_log.specs.Texts.{is_within};
 ghost use Rattle.path_log.specs.Fields as fields;
@@ -9,7 +9,7 @@ use crate::cursor::Cursor;
 use crate::fault::LogFault;
 use byteorder::{BigEndian, ByteOrder};
 
-/// A field of so many bytes, and the place behind it.
+/// A field of `len` bytes, and the place behind it.
 pub(crate) fn field<'a>(len: usize, cursor: Cursor<'a>) -> Result<(&'a [u8], Cursor<'a>), LogFault>
     ensures gives { Gives (λ x. (x.0.now, place x.1)) result (fields.field len (place cursor.entry)) }
     ensures len { IfOk result (λ x. length x.0.now ≡ len) }
@@ -29,7 +29,7 @@ pub(crate) fn byte<'a>(cursor: Cursor<'a>) -> Result<(u8, Cursor<'a>), LogFault>
     Ok((bytes[0], cursor))
 }
 
-/// A number of two bytes, the higher first.
+/// A number of two bytes, high byte first.
 pub(crate) fn two<'a>(cursor: Cursor<'a>) -> Result<(u16, Cursor<'a>), LogFault>
     ensures { Gives seen result (fields.two (place cursor.entry)) }
 {

@@ -1,15 +1,16 @@
-//! Laws of the texts of logs. They do nothing when they run.
+//! Laws of the texts of logs. Each function states a law, and its body does nothing.
 ghost use Rattle.std.specs.Prelude.{◌≡◌, ◌++◌, ℕ, List, []};
-ghost use Rattle.path_log.specs.Texts.{StoredLog, HasText, IsLog, AreBytes, log_text};
+ghost use Rattle.run_log.specs.Logs.{StoredLog};
+ghost use Rattle.path_log.specs.Texts.{HasText, IsLog, AreBytes, log_text};
 ghost use Rattle.path_log.specs.Faults.{BreaksAt};
 
-/// A text is that of one log at most, and no log's text begins another's.
+/// A text is that of at most one log, and no log's text is a proper prefix of another's.
 pub fn logs_are_one()
     ensures one { (text : List ℕ) (this that : StoredLog) → IsLog text this → IsLog text that → this ≡ that }
     ensures whole { (this that : StoredLog) (more : List ℕ) → HasText this → HasText that → log_text this ++ more ≡ log_text that → more ≡ [] }
 {}
 
-/// Bytes that are no log break the form at exactly one offset, and those of a log at none.
+/// Bytes that are no log break the format at exactly one offset, and the bytes of a log at none.
 pub fn faults_are_one()
     ensures some { (text : List ℕ) → AreBytes text → ((log : StoredLog) → IsLog text log → ⊥) → (offset : ℕ) × BreaksAt text offset }
     ensures one { (text : List ℕ) (this that : ℕ) → BreaksAt text this → BreaksAt text that → this ≡ that }

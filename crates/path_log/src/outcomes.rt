@@ -1,4 +1,4 @@
-//! The outcomes of a thread's branches, as both formats have them.
+//! The outcomes of a thread's branches, in both formats.
 ghost use Rattle.std.specs.Prelude.{◌≡◌, ◌++◌, drop, not, replicate, IfOk, OnOk};
 ghost use Rattle.std.specs.List.{list_all};
 ghost use Rattle.path_log.specs.Fields as fields;
@@ -10,7 +10,7 @@ use crate::fault::LogFault;
 use crate::field::{byte_within, field, two_within};
 use std::alloc::{AllocError, Global};
 
-/// So many outcomes: as runs in format 2, and else as bits.
+/// `count` outcomes: as runs in format 2, as bits in format 1.
 pub(crate) fn outcomes<'a>(
     alloc: Global,
     as_runs: bool,
@@ -26,7 +26,7 @@ pub(crate) fn outcomes<'a>(
     }
 }
 
-/// So many outcomes, eight a byte.
+/// `count` outcomes, packed eight to a byte.
 #[tactic(auto, unfolding(crate::specs::Fields::packed_outcomes))]
 fn packed<'a>(
     alloc: Global,
@@ -45,7 +45,7 @@ fn packed<'a>(
     Ok((outcomes, next))
 }
 
-/// The bits of bytes, the highest of each first.
+/// The bits of all bytes, the highest bit of each first.
 fn bits(alloc: Global, bytes: &[u8]) -> Result<Vec<bool>, AllocError>
     ensures { IfOk result (λ bits. bits.items ≡ all_bits bytes.now) }
 {
@@ -71,14 +71,14 @@ fn bits_of(byte: u8) -> [bool; 8]
     ]
 }
 
-/// Whether the bits behind so many are 0.
+/// Whether all bits behind the first `count` are 0.
 fn is_padded(count: usize, bits: &[bool]) -> bool
     ensures { result ≡ list_all not (drop count bits.now) }
 {
     bits.iter().skip(count).all(|bit| !*bit)
 }
 
-/// So many outcomes, as runs.
+/// `count` outcomes, as runs.
 #[tactic(auto, unfolding(crate::specs::Fields::run_outcomes))]
 fn runs<'a>(
     alloc: Global,
@@ -94,7 +94,7 @@ fn runs<'a>(
     runs_from(alloc, first == 1, count, cursor)
 }
 
-/// So many outcomes, as runs of which the first is of this outcome.
+/// `count` outcomes as runs, beginning with a run of outcome `first`.
 fn runs_from<'a>(
     alloc: Global,
     first: bool,
@@ -117,7 +117,7 @@ fn runs_from<'a>(
     Ok((outcomes, rest))
 }
 
-/// So many equal outcomes more.
+/// Appends a run of equal outcomes.
 fn push_run(outcomes: &mut Vec<bool>, outcome: bool, run: u16) -> Result<(), AllocError>
     ensures { OnOk result (outcomes.new.items ≡ outcomes.old.items ++ replicate run outcome) }
 {

@@ -1,6 +1,7 @@
 //! From a text to its log.
 ghost use Rattle.std.specs.Prelude.{◌≡◌, ◌<◌, IfOk, IfErr, MatchResult};
-ghost use Rattle.path_log.specs.Texts.{StoredLog, IsLog};
+ghost use Rattle.run_log.specs.Logs.{StoredLog};
+ghost use Rattle.path_log.specs.Texts.{IsLog};
 ghost use Rattle.path_log.specs.Faults.{IsFault};
 ghost use Rattle.path_log.specs.Fields as fields;
 ghost use Rattle.path_log.specs.helpers.Reading.{Gives, place, seen};
@@ -8,15 +9,16 @@ ghost use Rattle.path_log.specs.helpers.Reading.{Gives, place, seen};
 use crate::cursor::Cursor;
 use crate::fault::LogFault;
 use crate::field::{byte, byte_within, field, two_within};
-use crate::log::Log;
 use crate::threads::threads;
+use memory_models::Model;
+use run_log::Log;
 use std::alloc::Global;
-use tc_base::{Failing, Model};
+use tc_base::Failing;
 
-/// The log that this text is.
+/// Reads a log from its text.
 ///
-/// A text either is that of one log or has one offset at which it breaks the form of a log, so the answer is the
-/// only one that there is, but for `Memory` where there is none. The time grows linearly with the text and the outcomes.
+/// A text is either that of exactly one log or breaks the format at exactly one offset, so only one
+/// answer is right, apart from `Memory`. The time is linear in the text and the outcomes.
 pub fn read_log(alloc: Global, text: &[u8]) -> Result<Log, LogFault>
     ensures found { IfOk result (IsLog text.now) }
     ensures refused { IfErr result (IsFault text.now) }
@@ -26,7 +28,7 @@ pub fn read_log(alloc: Global, text: &[u8]) -> Result<Log, LogFault>
     Ok(log)
 }
 
-/// A log, and nothing behind it.
+/// A log and the end of the text.
 #[tactic(auto, unfolding(crate::specs::Fields::whole))]
 fn whole<'a>(alloc: Global, cursor: Cursor<'a>) -> Result<(Log, Cursor<'a>), LogFault>
     ensures { Gives seen result (fields.whole (place cursor.entry)) }
@@ -51,7 +53,7 @@ fn body<'a>(alloc: Global, cursor: Cursor<'a>) -> Result<(Log, Cursor<'a>), LogF
     Ok((Log::new(digest, model, failing, paths), rest))
 }
 
-/// How the run of so many threads ended, of which format 1 has failures alone.
+/// How a run of `count` threads ended; format 1 has only failures.
 fn ending<'a>(both: bool, count: u8, cursor: Cursor<'a>) -> Result<(Failing, Cursor<'a>), LogFault>
     requires { 0 < count }
     ensures { Gives seen result (fields.ending both count (place cursor.entry)) }
@@ -64,7 +66,7 @@ fn ending<'a>(both: bool, count: u8, cursor: Cursor<'a>) -> Result<(Failing, Cur
     }
 }
 
-/// The digest where the format has it, and the model.
+/// The digest, if the format has one, and the model.
 type Head = (Option<[u8; 32]>, Model);
 
 #[tactic(auto, unfolding(crate::specs::Fields::head))]
@@ -93,7 +95,7 @@ fn model<'a>(cursor: Cursor<'a>) -> Result<(Model, Cursor<'a>), LogFault>
     Ok((model, rest))
 }
 
-/// The digest, which format 2 has.
+/// The digest, which only format 2 has.
 fn digest_in<'a>(
     format: u16,
     cursor: Cursor<'a>,

@@ -1,6 +1,7 @@
 //! The paths of threads.
 ghost use Rattle.std.specs.Prelude.{◌≡◌, None, option_map};
-ghost use Rattle.path_log.specs.Texts.{is_above, is_within};
+ghost use Rattle.run_log.specs.Logs.{is_above};
+ghost use Rattle.path_log.specs.Texts.{is_within};
 ghost use Rattle.path_log.specs.Fields as fields;
 ghost use Rattle.path_log.specs.Fields.{◌such◌};
 ghost use Rattle.path_log.specs.helpers.Reading.{Gives, place, seen, last_name};
@@ -8,12 +9,12 @@ ghost use Rattle.path_log.specs.helpers.Reading.{Gives, place, seen, last_name};
 use crate::cursor::Cursor;
 use crate::fault::LogFault;
 use crate::field::{byte, byte_within, two};
-use crate::log::ThreadPath;
 use crate::outcomes::outcomes;
+use run_log::ThreadPath;
 use std::alloc::Global;
 use tc_base::ThreadName;
 
-/// So many threads.
+/// `count` threads, with rising names.
 pub(crate) fn threads<'a>(
     alloc: Global,
     as_runs: bool,
@@ -39,7 +40,7 @@ fn last_name(threads: &[ThreadPath]) -> Option<&ThreadName>
     Some(threads.last()?.name())
 }
 
-/// A thread whose name is above the last one.
+/// A thread whose name is above the last name.
 #[tactic(auto, unfolding(crate::specs::Fields::thread))]
 fn thread<'a>(
     alloc: Global,
@@ -56,7 +57,7 @@ fn thread<'a>(
     Ok((ThreadPath::new(name, steps, found), rest))
 }
 
-/// A name above the last one.
+/// A name above the last name.
 fn name_above<'a>(
     alloc: Global,
     last: Option<&ThreadName>,
@@ -71,7 +72,7 @@ fn name_above<'a>(
     }
 }
 
-/// The depth of a name, and the number of each create.
+/// A name: its depth, then the number of each create.
 #[tactic(auto, unfolding(crate::specs::Fields::name))]
 fn name<'a>(alloc: Global, cursor: Cursor<'a>) -> Result<(ThreadName, Cursor<'a>), LogFault>
     ensures { Gives seen result (fields.name (place cursor.entry)) }

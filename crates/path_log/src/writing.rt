@@ -5,11 +5,12 @@ ghost use Rattle.byteorder.specs.Endian.{big_bytes};
 ghost use Rattle.path_log.specs.Texts as texts;
 ghost use Rattle.path_log.specs.Texts.{is_of_format, has_ending, is_thread, is_within, bytes_for};
 
-use crate::log::{Log, ThreadPath};
+use memory_models::Model;
+use run_log::{Log, ThreadPath};
 use std::alloc::{AllocError, Global};
-use tc_base::{Failing, Model, ThreadName};
+use tc_base::{Failing, ThreadName};
 
-/// The text of a log, in format 2 where it has a digest, and else in format 1.
+/// The text of a log: in format 2 if it has a digest, else in format 1.
 pub fn write_log(alloc: Global, log: &Log) -> Result<Vec<u8>, AllocError>
     requires format { IsTrue (is_of_format log.now.log) }
     requires ending { IsTrue (has_ending (is_some log.now.digest) log.now.log.failing) }
@@ -24,7 +25,7 @@ pub fn write_log(alloc: Global, log: &Log) -> Result<Vec<u8>, AllocError>
     Ok(text)
 }
 
-/// The sign, the format, the model and in format 2 the digest.
+/// The signature, the format, the model and, in format 2, the digest.
 fn head(alloc: Global, digest: Option<&[u8; 32]>, model: Model) -> Result<Vec<u8>, AllocError>
     ensures { IfOk result (λ text. text.items ≡ texts.head_text (option_map (λ d. d.now) digest.entry) model) }
 {
@@ -63,14 +64,14 @@ fn ending_code(failing: Failing) -> u8
     }
 }
 
-/// A number of two bytes, the higher first.
+/// Appends a number of two bytes, high byte first.
 fn push_two(text: &mut Vec<u8>, number: u16) -> Result<(), AllocError>
     ensures { OnOk result (text.new.items ≡ text.old.items ++ big_bytes 2 number) }
 {
     text.extend_from_slice(&number.to_be_bytes())
 }
 
-/// A thread's name, its steps, how many outcomes it has, and these.
+/// Appends a thread: its name, its step count, its outcome count and its outcomes.
 fn push_thread(text: &mut Vec<u8>, as_runs: bool, thread: &ThreadPath) -> Result<(), AllocError>
     requires { IsTrue (is_thread thread.now) }
     ensures { OnOk result (text.new.items ≡ text.old.items ++ texts.thread_text as_runs thread.now) }
@@ -81,7 +82,7 @@ fn push_thread(text: &mut Vec<u8>, as_runs: bool, thread: &ThreadPath) -> Result
     push_outcomes(text, as_runs, thread.outcomes())
 }
 
-/// The depth of a name, and the number of each create.
+/// Appends a name: its depth, then the number of each create.
 fn push_name(text: &mut Vec<u8>, name: &ThreadName) -> Result<(), AllocError>
     requires depth { length name.now ≤ 255 }
     requires children { IsTrue (list_all (is_within 1 255) name.now) }
@@ -94,7 +95,7 @@ fn push_name(text: &mut Vec<u8>, name: &ThreadName) -> Result<(), AllocError>
     Ok(())
 }
 
-/// Outcomes: as runs in format 2, and else as bits.
+/// Appends outcomes: as runs in format 2, as bits in format 1.
 fn push_outcomes(text: &mut Vec<u8>, as_runs: bool, outcomes: &[bool]) -> Result<(), AllocError>
     requires { length outcomes.now < 2 ^ 16 }
     ensures { OnOk result (text.new.items ≡ text.old.items ++ texts.outcomes_text as_runs outcomes.now) }
@@ -106,7 +107,7 @@ fn push_outcomes(text: &mut Vec<u8>, as_runs: bool, outcomes: &[bool]) -> Result
     }
 }
 
-/// Outcomes, eight a byte.
+/// Appends outcomes, packed eight to a byte.
 fn push_packed(text: &mut Vec<u8>, outcomes: &[bool]) -> Result<(), AllocError>
     ensures { OnOk result (text.new.items ≡ text.old.items ++ texts.packed (bytes_for (length outcomes.now)) outcomes.now) }
 {
@@ -119,7 +120,7 @@ fn push_packed(text: &mut Vec<u8>, outcomes: &[bool]) -> Result<(), AllocError>
     Ok(())
 }
 
-/// What at most eight bits are worth, the highest first.
+/// The value of at most eight bits, highest first.
 fn bits_value(bits: &[bool]) -> u8
     requires { length bits.now ≤ 8 }
     ensures { result ≡ texts.bits_value 8 bits.now }
@@ -135,7 +136,7 @@ fn bits_value(bits: &[bool]) -> u8
     value
 }
 
-/// Outcomes, as runs.
+/// Appends outcomes as runs.
 fn push_runs(text: &mut Vec<u8>, outcomes: &[bool]) -> Result<(), AllocError>
     requires { length outcomes.now < 2 ^ 16 }
     ensures { OnOk result (text.new.items ≡ text.old.items ++ texts.runs_text outcomes.now) }

@@ -14,11 +14,12 @@ use Rattle.std.proofs.lemmas.Bool.{cases_lt, eqb-true, ltb-true}
 use Rattle.std.proofs.lemmas.List.Sums.{fold-append}
 use Rattle.std.proofs.lemmas.Option.{none-some, slice_get_read}
 use Rattle.tc_base.specs.Names.{Name, child, by_name}
-use Rattle.tc_base.specs.Logs.{Log, Path, ThreadPath, path_under}
+use Rattle.run_log.specs.Logs.{Log}
+use Rattle.tc_base.specs.Paths.{Path, ThreadPath, path_under}
 use Rattle.tc_base.specs.declared.failing.Failing.{Failing}
 use Rattle.tc_base.specs.declared.failing.Failing.TheVariants as failing
 use Rattle.tc_code.specs.Code.{Code}
-use Rattle.path_log.specs.Texts.{rises_from, is_there}
+use Rattle.run_log.specs.Logs.{rises_from, is_there}
 use Rattle.path_walk.specs.Steps.{steps_at, places_of}
 use Rattle.path_walk.specs.Fits.{started, ending_of, places_in, child_function, function_of, misfit_of, IsFault, Fits}
 use Rattle.path_walk.specs.Paths.{Walk, have_exited, walk_of, function_in, steps_in, operators_in, is_dead, counted, Paths, paths_of}
@@ -31,8 +32,8 @@ use Rattle.path_walk.specs.declared.fault.Misfit.TheVariants as misfit
 use Rattle.path_walk.specs.declared.fault.WalkFault.{WalkFault}
 use Rattle.path_walk.specs.declared.fault.WalkFault.TheVariants.{Unfit}
 use Rattle.tc_base.proofs.Names.{between, less_true, up_to, child_is_above, later_child, same_true, same_refl}
-use Rattle.path_log.proofs.Lists.{split_at}
-use Rattle.path_log.proofs.Rising.{own_path, lesser_is_older, none_under}
+use Rattle.list_laws.proofs.Lists.{split_at}
+use Rattle.run_log.proofs.Rising.{own_path, lesser_is_older, none_under}
 use Rattle.tc_base.proofs.Names.{HasParent, parent_of}
 use Rattle.path_walk.proofs.Faults.{option_is, there, not_there, function_of_child, walked_there, no_child, missing, nobody}
 use Rattle.path_walk.proofs.Faults.{stranger, by_path, fitting}

@@ -5,7 +5,7 @@ use Rattle.std.proofs.Common.{IsSome, refl, sym, ap, subst, arith, append_assoc,
 use Rattle.std.specs.List.{filter_map, cons_option}
 use Rattle.std.specs.Option.{option_map_or}
 use Rattle.std.proofs.lemmas.List.{length-drop, length-map}
-use Rattle.tc_base.specs.Logs.{Path}
+use Rattle.tc_base.specs.Paths.{Path}
 use Rattle.tc_code.specs.Code.{Code, instr_at}
 use Rattle.tc_code.specs.declared.instr.Instr.{Instr}
 use Rattle.path_walk.specs.Steps.{Onward, onward, before, places_from, end_from, standing, Step, step_at, steps_at}

@@ -1,4 +1,4 @@
--- What the steps of a thread ask of memory and of the other threads.
+-- The events of a thread: what its steps ask of memory and of other threads.
 use Rattle.std.specs.Prelude.{ℕ, ◌+◌, ◌-◌, length, List, [], ◌∷◌, map, Bool, false, ◌==◌, Option, Some, None, option_map, unwrap_or, slice_get, sum}
 use Rattle.std.specs.Prelude.{if◌then◌else◌}
 use Rattle.std.specs.List.{filter_map, cons_option}
@@ -20,7 +20,7 @@ use Rattle.path_walk.specs.declared.event.Region.{Region}
 use Rattle.path_walk.specs.declared.event.Sleep.{Sleep as Wait}
 use Rattle.path_walk.specs.declared.event.Link.{Link}
 
--- what an instruction that doesn't fail asks, if it asks anything but a bar
+-- the event kind of an instruction that doesn't fail, if it is an event; a bar is none
 abbrev pub asks : Marks → Instr → Option EventKind
 asks t (Load k c) = Some kind.Load
 asks t (LoadAt k first len i) = Some kind.Load
@@ -40,38 +40,38 @@ asks t Fence = Some kind.Fence
 asks t Exit = Some kind.Exit
 asks t _ = None
 
--- what a step asks, which fails or doesn't: the end of the run, where it fails
+-- the event kind of a step, if it is an event: `Fail` if the step fails
 abbrev pub kind_with : Marks → Instr → Bool → Option EventKind
 kind_with t i fails = if fails then Some kind.Fail else asks t i
 
--- a step as an event, if it is one
+-- the event of a step, if it is one
 abbrev pub event_of : Code → ℕ → Marked → Option Event
 event_of code f s =
     option_map (λ k. record { step = s.number; line = unwrap_or (line_at code f s.step.place) 0; kind = k; bars = s.marks.bars })
     (kind_with s.marks s.step.instr s.fails)
 
--- the events of a thread that does a function
+-- the events of a thread that runs function f
 abbrev pub events_of : Code → ℕ → List Marked → List Event
 events_of code f steps = filter_map (event_of code f) steps
 
--- the mutex that an event takes
+-- the mutex that an event acquires, if any
 abbrev pub takes : EventKind → Option ℕ
 takes (kind.Lock m) = Some m
 takes (kind.Wake c m) = Some m
 takes _ = None
 
--- the mutex that it leaves
+-- the mutex that an event releases, if any
 abbrev pub leaves : EventKind → Option ℕ
 leaves (kind.Unlock m) = Some m
 leaves (kind.Sleep c m) = Some m
 leaves _ = None
 
--- the step of the first of some events that leaves a mutex
+-- the step of the first event that releases the mutex, if any
 abbrev pub left_at : ℕ → List Event → Option ℕ
 left_at m [] = None
 left_at m (e ∷ es) = if option_map_or (λ l. l == m) (leaves e.kind) false then Some e.step else left_at m es
 
--- for each event that takes a mutex, the steps between which the thread has it
+-- the region of an event that acquires a mutex: from its step to the release, if there is one
 abbrev pub region_of : Event → List Event → Option Region
 region_of e later = option_map (λ m. record { mutex = m; «from» = e.step; to = left_at m later }) (takes e.kind)
 
@@ -79,7 +79,7 @@ abbrev pub regions_of : List Event → List Region
 regions_of [] = []
 regions_of (e ∷ es) = cons_option (region_of e es) (regions_of es)
 
--- a wait begins with a sleep; the thread's next event, if there is one, is the wake that ends it
+-- the wait that a sleep begins; the thread's next event, if there is one, is the wake that ends it
 abbrev pub sleep_by : ℕ → Option Event → EventKind → Option Wait
 sleep_by step next (kind.Sleep c m) = Some (record { step = step; condition = c; mutex = m; wake = option_map (λ w. w.step) next })
 sleep_by step next _ = None
@@ -88,18 +88,18 @@ abbrev pub sleeps_of : List Event → List Wait
 sleeps_of [] = []
 sleeps_of (e ∷ es) = cons_option (sleep_by e.step (slice_get es 0) e.kind) (sleeps_of es)
 
--- the step of the last of some sleeps, and 0 where there is none
+-- the step of the last sleep, and 0 if there is none
 abbrev pub last_sleep : List Wait → ℕ
 last_sleep sleeps = option_map_or (λ s. s.step) (slice_get sleeps (length sleeps - 1)) 0
 
--- what a thread is blocked at that stands at an instruction, by the sleeps that it has begun
+-- what blocks a thread at an instruction, if the instruction can block; a wake has its last sleep
 abbrev pub blocked_at : Marks → List Wait → Instr → Option Blocked
 blocked_at t sleeps (Lock m) = Some (blocked.Lock m)
 blocked_at t sleeps (Wake c m) = Some (blocked.Wake c m (last_sleep sleeps))
 blocked_at t sleeps (Join h) = Some (blocked.Join (child_number (handle_in t h)))
 blocked_at t sleeps _ = None
 
--- a create or a join at a step, with the number of the child
+-- the create at a step, with the child's number; `join_by` is the same for a join
 abbrev pub create_by : ℕ → EventKind → Option Link
 create_by step (kind.Create k) = Some (record { step = step; child = k })
 create_by step _ = None
@@ -114,8 +114,7 @@ creates_of events = filter_map (λ e. create_by e.step e.kind) events
 abbrev pub joins_of : List Event → List Link
 joins_of events = filter_map (λ e. join_by e.step e.kind) events
 
--- whether the path alone tells that no run does a step, which fails or doesn't: it takes a mutex that the thread has, or a
--- test of a mutex or a thread variable passes where it is false, or fails where it is true
+-- whether the path alone rules out a step: a lock of a held mutex, or a wrong `Holds` or `Ready`
 abbrev pub excludes : Marks → Instr → Bool → Bool
 excludes t (Lock m) fails = has_mutex t m
 excludes t (Holds m) fails = beq (has_mutex t m) fails
@@ -125,14 +124,14 @@ excludes t _ fails = false
 abbrev pub is_impossible : Marked → Bool
 is_impossible s = excludes s.marks s.step.instr s.fails
 
--- the operators of an expression
+-- the number of operators in an expression
 abbrev pub operators : Expr → ℕ
 operators (Number n) = 0
 operators (Slot k) = 0
 operators (Unary op a) = 1 + operators a
 operators (Binary op a b) = 1 + (operators a + operators b)
 
--- and those of all expressions of an instruction
+-- the number of operators in all expressions of an instruction
 abbrev pub operators_of : Instr → ℕ
 operators_of (Set k e) = operators e
 operators_of (LoadAt k first len i) = operators i

@@ -1,4 +1,4 @@
--- What a thread's own steps make of its mutexes and thread variables.
+-- A thread's mutexes and thread variables, as its own steps leave them.
 use Rattle.std.specs.Prelude.{ℕ, ◌+◌, List, [], ◌∷◌, length, Bool, true, false, ◌&&◌, ◌==◌, replicate, slice_set, slice_index_or}
 use Rattle.tc_base.specs.declared.handle.Handle.{Handle}
 use Rattle.tc_base.specs.declared.handle.Handle.TheVariants.{Unset, Child, Joined}
@@ -9,15 +9,15 @@ use Rattle.tc_code.specs.Step.{handles_of, child_number}
 use Rattle.path_walk.specs.Steps.{Step}
 
 pub record Marks : Type 0 where
-  -- of each mutex, whether the thread holds it
+  -- for each mutex, whether the thread holds it
   pub held : List Bool
   -- its thread variables
   pub handles : List Handle
-  -- how many children it has created, and how many bars it has put between its stores
+  -- the number of children created, and the number of bars between stores
   pub children : ℕ
   pub bars : ℕ
 
--- at the start of a function nothing is held or set
+-- the marks at the start of a function: nothing is held or set
 abbrev pub unmarked : Code → ℕ → Marks
 unmarked code f = record { held = replicate code.mutexes false; handles = replicate (handles_of code f) Unset; children = 0; bars = 0 }
 
@@ -27,7 +27,7 @@ has_mutex t m = slice_index_or t.held m false
 abbrev pub handle_in : Marks → ℕ → Handle
 handle_in t h = slice_index_or t.handles h Unset
 
--- lock and wake take a mutex, unlock and sleep give it; a create sets a thread variable, and a join marks it as joined
+-- the marks after an instruction on a mutex, a thread variable or the bars
 abbrev pub marked : Marks → Instr → Marks
 marked t (Lock m) = record t { held = slice_set t.held m true }
 marked t (Unlock m) = record t { held = slice_set t.held m false }
@@ -38,24 +38,24 @@ marked t (Join h) = record t { handles = slice_set t.handles h (Joined (child_nu
 marked t Stbar = record t { bars = t.bars + 1 }
 marked t _ = t
 
--- what steps make of them
+-- the marks after some steps
 abbrev pub marks_after : Marks → List Step → Marks
 marks_after m [] = m
 marks_after m (s ∷ steps) = marks_after (marked m s.instr) steps
 
--- a step with its number, whether it fails, and what the steps before it made
+-- a step with its number, whether it fails, and the marks before it
 pub record Marked : Type 0 where
   pub number : ℕ
   pub step : Step
   pub fails : Bool
   pub marks : Marks
 
--- the steps from a number on; the last one fails where the thread failed
+-- the steps with their marks, numbered from k; the last one fails if the thread failed
 abbrev pub marked_from : Bool → ℕ → Marks → List Step → List Marked
 marked_from fails k t [] = []
 marked_from fails k t (s ∷ rest) =
     record { number = k; step = s; fails = fails && length rest == 0; marks = t } ∷ marked_from fails (k + 1) (marked t s.instr) rest
 
--- the steps of a thread that does a function
+-- the steps, with their marks, of a thread that runs function f
 abbrev pub marked_steps : Code → ℕ → Bool → List Step → List Marked
 marked_steps code f fails steps = marked_from fails 0 (unmarked code f) steps

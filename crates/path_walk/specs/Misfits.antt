@@ -1,4 +1,4 @@
--- The names of what may be wrong with a thread of a log.
+-- The names of the faults that a thread of a log may have.
 use Rattle.std.specs.Prelude.{ℕ, List, codes}
 use Rattle.path_walk.specs.declared.fault.Misfit.{Misfit}
 use Rattle.path_walk.specs.declared.fault.Misfit.TheVariants.{Missing, Stranger, OutcomesShort, OutcomesLeft, PastExit, NotASite, NotBlocked}

@@ -1,8 +1,9 @@
--- The ways of all threads of a log.
+-- The walks of all threads of a log.
 use Rattle.std.specs.Prelude.{◌≡◌, ℕ, ◌-◌, ◌^◌, List, map, length, Bool, false, ◌||◌, sum, min, Option, None, is_none, unwrap_or, option_and_then}
 use Rattle.std.specs.List.{list_all, list_any}
 use Rattle.tc_base.specs.Names.{Name}
-use Rattle.tc_base.specs.Logs.{ThreadPath, Log}
+use Rattle.tc_base.specs.Paths.{ThreadPath}
+use Rattle.run_log.specs.Logs.{Log}
 use Rattle.tc_base.specs.declared.failing.Failing.{Failing}
 use Rattle.tc_base.specs.declared.failing.Failing.TheVariants.{Thread, Deadlock}
 use Rattle.tc_code.specs.Code.{Code}
@@ -19,43 +20,43 @@ use Rattle.path_walk.specs.declared.event.Region.{Region}
 use Rattle.path_walk.specs.declared.event.Sleep.{Sleep}
 use Rattle.path_walk.specs.declared.event.Link.{Link}
 
--- the way of one thread
+-- the walk of one thread along its path
 pub record Walk : Type 0 where
   pub name : Name
   -- the number of its function
   pub function : ℕ
-  -- of its branches, in order
+  -- the outcomes of its branches, in order
   pub outcomes : List Bool
-  -- for each step the number of its instruction in the function
+  -- for each step, the index of its instruction in the function
   pub places : List ℕ
   pub events : List Event
   pub regions : List Region
   pub sleeps : List Sleep
   pub creates : List Link
   pub joins : List Link
-  -- what it is blocked at, where it rests and hasn't exited
+  -- what blocks the thread, if it rests and has not exited
   pub blocked : Option Blocked
 
 pub record Paths : Type 0 where
-  -- the place of the thread that failed, if one did
+  -- the index of the thread that failed, or a deadlock
   pub failing : Failing
   pub threads : List Walk
-  -- how many events the threads have together, and how many operators stand in the instructions of their steps
+  -- the total number of events, and of operators in the instructions of all steps
   pub events : ℕ
   pub operators : ℕ
-  -- whether the paths alone tell that no run goes so
+  -- whether the paths alone rule out every run
   pub dead : Bool
 
--- what a counter of 64 bits shows: its last value where there are more
+-- a number as a saturating 64-bit counter shows it
 abbrev pub counted : ℕ → ℕ
 counted n = min n (2 ^ 64 - 1)
 
--- what a thread is blocked at whose path ends so, with these marks and sleeps, at an instruction if it hasn't exited
+-- what blocks a thread at the end of its path, if it rests there and has not exited
 abbrev pub blocked_after : Ending → Marks → List Sleep → Option Instr → Option Blocked
 blocked_after Rests t sleeps at = option_and_then (blocked_at t sleeps) at
 blocked_after _ t sleeps at = None
 
--- the way of a thread that does a function, by how its path ends and the places of its steps
+-- the walk of a thread in function f, from its ending and the places of its steps
 abbrev pub walk_by : Code → Ending → ThreadPath → ℕ → List ℕ → Walk
 walk_by code ending t f places =
     let steps = steps_at code f places in
@@ -74,12 +75,12 @@ walk_by code ending t f places =
       blocked = blocked_after ending (marks_after (unmarked code f) steps) sleeps (standing code f t.path);
     }
 
--- whether it is a deadlock in which every thread has exited: that is none
+-- whether the log claims a deadlock although no thread is blocked
 abbrev pub have_exited : Failing → List Walk → Bool
 have_exited (Thread k) walks = false
 have_exited Deadlock walks = list_all (λ w. is_none w.blocked) walks
 
--- Of a log that fits, each thread has a function and places; what stands for them elsewhere says nothing.
+-- These have a meaning only for a log that fits: there, each thread has a function and places.
 module _ (code : Code) (log : Log) where
   abbrev pub function_in : ThreadPath → ℕ
   function_in t = unwrap_or (function_of code log t.name) 0
@@ -90,7 +91,7 @@ module _ (code : Code) (log : Log) where
   abbrev pub walk_of : ThreadPath → Walk
   walk_of t = walk_by code (ending_of log t.name) t (function_in t) (places_in code log t.name (function_in t))
 
-  -- whether the path of a thread alone tells that no run goes so
+  -- whether the path of one thread alone rules out every run
   abbrev pub is_dead : ThreadPath → Bool
   is_dead t = list_any is_impossible (marked_steps code (function_in t) (fails_in log t.name) (steps_in t))
 
@@ -106,7 +107,7 @@ module _ (code : Code) (log : Log) where
     dead = list_any is_dead log.threads || have_exited log.failing (map walk_of log.threads);
   }
 
--- paths of some log that fits the code
+-- the paths are those of some log that fits the code
 pub record ArePaths (code : Code) (paths : Paths) : Type 0 where
   pub log : Log
   pub fits : Fits code log

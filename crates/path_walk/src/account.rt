@@ -1,4 +1,4 @@
-//! All that is told of one thread.
+//! The account of one thread.
 ghost use Rattle.std.specs.Prelude.{◌≡◌, ◌<◌, ◌^◌, length, IfOk};
 ghost use Rattle.tc_code.specs.Code.{instr_at};
 ghost use Rattle.path_walk.specs.Fits.{starts, started};
@@ -13,7 +13,7 @@ use crate::operators::operators;
 use crate::parts::{Parts, parts_of};
 use crate::tell::{Told, tell};
 use crate::{Blocked, Sleep, Walk};
-use path_log::ThreadPath;
+use run_log::ThreadPath;
 use std::alloc::{AllocError, Global};
 use std::marker::Model;
 use tc_code::{Code, Instr};
@@ -41,20 +41,20 @@ impl Started {
     }
 }
 
-/// All that is told of one thread.
+/// The account of one thread.
 #[derive(Drop)]
 pub struct Account {
-    /// Its way.
+    /// Its walk.
     pub walk: Walk,
     /// The functions of the children that it creates.
     pub started: Started,
-    /// How many operators stand in the instructions of its steps.
+    /// The number of operators in the instructions of its steps.
     pub operators: u64,
-    /// Whether its path alone tells that no run goes so.
+    /// Whether its path alone rules out every run.
     pub dead: bool,
 }
 
-/// The function of the child that an instruction creates.
+/// The function of the child that an instruction creates, if any.
 fn child_function(instr: &Instr) -> Option<u32>
     ensures { result ≡ starts instr.now }
 {
@@ -84,7 +84,7 @@ fn started_by(
     Ok(Started { functions })
 }
 
-/// What a thread is blocked at whose path ends so, with these marks and sleeps, at a place.
+/// What blocks a thread at the end of its path, if it rests there and has not exited.
 fn blocked(
     code: &Code,
     function: usize,
@@ -101,7 +101,7 @@ fn blocked(
     }
 }
 
-/// All that is told of a thread that does a function, by its path and how that ends.
+/// The account of a thread that runs this function, from its path and ending.
 pub fn account_of(
     alloc: Global,
     code: &Code,

@@ -1,10 +1,11 @@
-//! What is told of the first threads of a log.
+//! The draft of a log's paths: its first threads.
 ghost use Rattle.std.specs.Prelude.{◌≡◌, ℕ, ◌+◌, ◌<◌, ◌≤◌, ◌^◌, length, Option, Some, IfOk, OnOk, IfErr};
 ghost use Rattle.std.specs.Prelude.{IfSome, IfNone, is_none, is_some, slice_get, true, false, bytes_eq, if◌then◌else◌};
 ghost use Rattle.std.specs.List.{list_all, list_any};
 ghost use Rattle.tc_base.specs.Names.{Name as PlainName};
-ghost use Rattle.tc_base.specs.Logs.{Log as PlainLog, ThreadPath as PlainPath, path_under};
-ghost use Rattle.tc_base.specs.declared.limits.TheConstants.{THREADS};
+ghost use Rattle.run_log.specs.Logs.{Log as PlainLog};
+ghost use Rattle.tc_base.specs.Paths.{ThreadPath as PlainPath, path_under};
+ghost use Rattle.tc_limits.specs.declared.limits.TheConstants.{THREADS};
 ghost use Rattle.path_walk.specs.Fits.{ending_of, function_of, IsFault, Fits};
 ghost use Rattle.path_walk.specs.Paths.{have_exited, paths_of};
 ghost use Rattle.path_walk.specs.declared.ending.Ending.TheVariants.{Fails, Open};
@@ -15,13 +16,13 @@ use crate::account::{Account, Started, account_of};
 use crate::ending::Ending;
 use crate::follow::FollowFault;
 use crate::{Misfit, Paths, Walk, WalkFault};
-use path_log::{Log, ThreadPath};
+use run_log::{Log, ThreadPath};
 use std::alloc::{AllocError, Global};
 use std::marker::Model;
 use tc_base::{Failing, ThreadName};
 use tc_code::Code;
 
-/// What is told of the first threads of a log.
+/// What is known after the first threads of a log.
 #[derive(Drop)]
 pub struct Draft {
     threads: Vec<Walk>,
@@ -47,7 +48,7 @@ impl Model for Draft {
     } };
 }
 
-/// Whether a log has the thread of a name.
+/// Whether a log has the named thread.
 fn has_thread(log: &Log, name: &ThreadName) -> bool
     ensures { result ≡ is_some (path_under name.now log.now.log.threads) }
 {
@@ -59,7 +60,7 @@ fn has_thread(log: &Log, name: &ThreadName) -> bool
     false
 }
 
-/// How the path of the thread of a name ends.
+/// How the named thread's path ends.
 fn ending_of(log: &Log, name: &ThreadName) -> Ending
     ensures { result ≡ ending_of log.now.log name.now }
 {
@@ -69,7 +70,7 @@ fn ending_of(log: &Log, name: &ThreadName) -> Ending
     }
 }
 
-/// How the path of a thread ends in a log of a failure.
+/// How a thread's path ends in the log of a failure.
 fn ending_by(name: &ThreadName, failing: &ThreadName) -> Ending
     ensures { result ≡ if bytes_eq name.now failing.now then Fails else Open }
 {
@@ -80,7 +81,7 @@ fn ending_by(name: &ThreadName, failing: &ThreadName) -> Ending
     }
 }
 
-/// The first of so many children of a thread that isn't in the log.
+/// The first of a thread's first `count` children that isn't in the log, if any.
 fn first_absent(
     alloc: Global,
     log: &Log,
@@ -99,7 +100,7 @@ fn first_absent(
     Ok(None)
 }
 
-/// The lesser of two names, if there are any.
+/// The lesser of two names, either of which may be absent.
 fn least(first: Option<ThreadName>, second: Option<ThreadName>) -> Option<ThreadName>
     ensures { result ≡ helper.least first second }
 {
@@ -110,7 +111,7 @@ fn least(first: Option<ThreadName>, second: Option<ThreadName>) -> Option<Thread
     }
 }
 
-/// Whether it is a deadlock in which every thread has exited.
+/// Whether the log claims a deadlock although every thread has exited.
 fn have_exited(failing: Failing, threads: &[Walk]) -> bool
     ensures { result ≡ have_exited failing threads.now }
 {
@@ -120,14 +121,14 @@ fn have_exited(failing: Failing, threads: &[Walk]) -> bool
     }
 }
 
-/// Whether every thread has exited, in a log of a deadlock.
+/// Whether every thread has exited, in the log of a deadlock.
 fn all_exited(threads: &[Walk]) -> bool
     ensures { result ≡ list_all (λ w. is_none w.blocked) threads.now }
 {
     threads.iter().all(|thread| thread.has_exited())
 }
 
-/// The place of the thread of a name among some.
+/// The index of the named thread in a list, if it is there.
 fn place_of(threads: &[Walk], name: &[u32]) -> Option<usize>
     ensures found { IfSome result (λ i. IfSome (slice_get threads.now i) (λ w. bytes_eq name.now w.name ≡ true) × (i < length threads.now)) }
     ensures none { IfNone result (list_any (λ w. bytes_eq name.now w.name) threads.now ≡ false) }
@@ -141,7 +142,7 @@ fn place_of(threads: &[Walk], name: &[u32]) -> Option<usize>
 }
 
 impl Draft {
-    /// Of no thread.
+    /// The draft without threads.
     pub fn new(alloc: Global) -> Draft
         ensures { result ≡ no_draft }
     {
@@ -171,7 +172,7 @@ impl Draft {
         }
     }
 
-    /// The function of the child of that number, from 1, of the thread at a place.
+    /// The function of a child, counted from 1, of the thread at an index.
     fn child_function(&self, place: usize, number: u32) -> Option<usize>
         ensures { result ≡ helper.started_at self.now.started place number }
     {
@@ -183,7 +184,8 @@ impl Draft {
         Some(*function as usize)
     }
 
-    /// A fault of the log's next thread, or that of a lesser child that isn't in the log.
+    /// The fault of the log's next thread, unless a missing child has a lesser name: then that
+    /// fault.
     fn first_fault(&self, name: &ThreadName, misfit: Misfit) -> Result<WalkFault, AllocError>
         ensures { IfOk result (λ e. e ≡ first_fault self.now.missing name.now misfit) }
     {
@@ -244,7 +246,7 @@ impl Draft {
         }
     }
 
-    /// The paths of a log of which all threads are told, or the fault of the least child that isn't in it.
+    /// The paths of the log once all threads are followed, or the fault of the least missing child.
     pub fn finish(self, failing: Failing) -> Result<Paths, WalkFault>
         ensures { result ≡ helper.finished self failing }
     {

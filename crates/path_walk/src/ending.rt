@@ -5,8 +5,8 @@
 pub enum Ending {
     /// The thread fails in its last step.
     Fails,
-    /// The thread has exited, or is blocked where it stands: nothing in the run could go on.
+    /// The thread has exited or is blocked: the run ended in a deadlock.
     Rests,
-    /// The thread may stand anywhere: another one failed.
+    /// The thread may be anywhere: another one failed.
     Open,
 }

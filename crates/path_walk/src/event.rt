@@ -1,39 +1,39 @@
-//! What a thread asks of memory and of the other threads, as its path tells it.
+//! The events of a thread: what its path says that it asks of memory and of other threads.
 
-/// What a step asks, but for cells and values, which no path tells.
+/// What a step asks, without cells and values, which a path doesn't determine.
 #[derive(Clone, Copy, Debug)]
 pub enum EventKind {
-    /// The value of a cell.
+    /// To read a cell.
     Load,
-    /// That a cell takes a value.
+    /// To write a cell.
     Store,
-    /// Both at once: a `swap` or a `cas`.
+    /// To read and write a cell at once: a `swap` or a `cas`.
     Exchange,
-    /// The mutex.
+    /// To acquire the mutex.
     Lock(u32),
-    /// That the mutex is free.
+    /// To release the mutex.
     Unlock(u32),
-    /// To wait on the condition, and that the mutex is free.
+    /// To wait on the condition and release the mutex.
     Sleep { condition: u32, mutex: u32 },
-    /// To be woken, and the mutex.
+    /// To be woken and acquire the mutex.
     Wake { condition: u32, mutex: u32 },
-    /// That one thread that waits on the condition is woken.
+    /// To wake one thread that waits on the condition.
     Signal(u32),
-    /// That all threads that wait on the condition are woken.
+    /// To wake all threads that wait on the condition.
     Broadcast(u32),
-    /// The child of that number, from 1.
+    /// To create the child with this number, from 1.
     Create(u32),
-    /// The end of the child of that number, and of none where it is 0.
+    /// To wait for the exit of the child with this number; 0 is no child.
     Join(u32),
-    /// That all stores of the thread are in memory.
+    /// To wait until all stores of the thread have drained.
     Fence,
-    /// The end of the thread.
+    /// To exit.
     Exit,
-    /// The end of the run: the site is false.
+    /// To fail: the site is false, and the run ends.
     Fail,
 }
 
-/// A step that asks something of memory or of the other threads, or that fails.
+/// A step that asks something of memory or of other threads, or that fails.
 #[derive(Clone, Copy, Debug)]
 pub struct Event {
     /// The number of the step in its thread, from 0.
@@ -42,19 +42,19 @@ pub struct Event {
     pub line: u32,
     /// What it asks.
     pub kind: EventKind,
-    /// How many `stbar` the thread has done before it. So a bar stands between two events of a thread exactly where
-    /// these differ.
+    /// The number of `stbar` that the thread has done before it. So a bar is between two events of
+    /// a thread if and only if their numbers differ.
     pub bars: usize,
 }
 
-/// The steps between which a thread has a mutex.
+/// The steps between which a thread holds a mutex.
 #[derive(Clone, Copy, Debug)]
 pub struct Region {
     /// The mutex.
     pub mutex: u32,
-    /// The step that takes it: a lock, or the second half of a wait.
+    /// The step that acquires it: a lock, or the second half of a wait.
     pub from: usize,
-    /// The first step after that which leaves it: an unlock, or the first half of a wait. There is none where the
+    /// The first later step that releases it: an unlock, or the first half of a wait. None if the
     /// region is open at the end of the path.
     pub to: Option<usize>,
 }
@@ -66,27 +66,28 @@ pub struct Sleep {
     pub step: usize,
     /// The condition on which it waits.
     pub condition: u32,
-    /// The mutex that it leaves, and takes again.
+    /// The mutex that it releases and acquires again.
     pub mutex: u32,
     /// The step that ends it, if the path has it.
     pub wake: Option<usize>,
 }
 
-/// What a thread is blocked at in a deadlock: the call that doesn't return.
+/// What blocks a thread in a deadlock: the call that doesn't return.
 #[derive(Clone, Copy, Debug)]
 pub enum Blocked {
-    /// A lock, as of `pthread_mutex_lock`: a thread has the mutex, maybe this one.
+    /// A lock, like `pthread_mutex_lock`: a thread holds the mutex, maybe this one.
     Lock {
         mutex: u32,
     },
-    /// The second half of a wait, as of `pthread_cond_wait`: nothing wakes the thread from the sleep that it began in that
-    /// step, or a thread has the mutex.
+    /// The second half of a wait, like `pthread_cond_wait`: nothing wakes the thread from the sleep
+    /// that it began in that step, or a thread holds the mutex.
     Wake {
         condition: u32,
         mutex: u32,
         sleep: usize,
     },
-    /// A join, as of `pthread_join`: the child of that number, from 1, hasn't exited. It is 0 where there is none.
+    /// A join, like `pthread_join`: the child with this number, from 1, has not exited; 0 is no
+    /// child.
     Join {
         child: u32,
     },
@@ -97,6 +98,7 @@ pub enum Blocked {
 pub struct Link {
     /// The step.
     pub step: usize,
-    /// The number of the child, from 1. Its name is the thread's with this at the end.
+    /// The number of the child, from 1. The child's name is the thread's name with this number
+    /// appended.
     pub child: u32,
 }

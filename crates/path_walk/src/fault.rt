@@ -8,12 +8,12 @@ use std::fmt;
 use tc_base::ThreadName;
 use thiserror::Error;
 
-/// What is wrong with a thread of a log. A thread has one fault at most.
+/// What is wrong with a thread of a log. A thread has at most one fault.
 #[derive(Clone, Copy, Debug)]
 pub enum Misfit {
-    /// It is main, or a child that some path creates, and isn't in the log.
+    /// It is main or a child that some path creates, but it isn't in the log.
     Missing,
-    /// It is in the log, and neither main nor a child that some path creates.
+    /// It is in the log, but it is neither main nor a child that some path creates.
     Stranger,
     /// A branch on its path has no outcome left.
     OutcomesShort,
@@ -21,15 +21,15 @@ pub enum Misfit {
     OutcomesLeft,
     /// It does a step after its exit.
     PastExit,
-    /// It is the thread that failed, and its last step is at no site, or it has none.
+    /// It is the thread that failed, but its path doesn't end at a site.
     NotASite,
-    /// No thread failed, and it neither has exited nor stands where it could be blocked: at a lock, the second half of a wait
-    /// or a join.
+    /// No thread failed, but it has not exited and isn't at a lock, the second half of a wait or a
+    /// join.
     NotBlocked,
 }
 
 impl Misfit {
-    /// Its name.
+    /// The fault's name.
     fn name(self) -> &'static str
         ensures { result.now ≡ misfit_text self }
     {
@@ -59,10 +59,10 @@ impl fmt::Display for Misfit {
 /// Why a log doesn't fit.
 #[derive(Debug, Drop, Error)]
 pub enum WalkFault {
-    /// Something is wrong with the thread of that name.
+    /// The named thread has this fault.
     #[error("{1} {0}")]
     Unfit(ThreadName, Misfit),
-    /// There is no memory.
+    /// Memory ran out.
     #[error("no memory")]
     Memory,
 }

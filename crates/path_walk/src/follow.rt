@@ -8,16 +8,16 @@ ghost use Rattle.path_walk.specs.declared.follow.FollowFault.TheVariants.{Memory
 
 use crate::Misfit;
 use crate::ending::Ending;
-use path_log::ThreadPath;
+use run_log::ThreadPath;
 use std::alloc::{AllocError, AllocFailed, Global};
 use tc_code::{Code, Instr};
 
-/// Why the steps of a thread can't be told.
+/// Why the steps of a thread can't be followed.
 #[derive(Clone, Copy)]
 pub enum FollowFault {
     /// The path doesn't fit.
     Unfit(Misfit),
-    /// There is no memory.
+    /// Memory ran out.
     Memory,
 }
 
@@ -63,7 +63,7 @@ fn onward(instr: &Instr, at: Position, outcomes: &[bool]) -> Option<Position>
     }
 }
 
-/// Where a thread goes on after a branch: to the target where its outcome is false.
+/// Where a thread goes on after a branch: at the target if the outcome is false.
 fn branched(next: Position, target: u32, outcomes: &[bool]) -> Option<Position>
     ensures { option_map (position_of outcomes.now) result ≡ branched next.place target (drop next.used outcomes.now) }
 {
@@ -75,7 +75,7 @@ fn branched(next: Position, target: u32, outcomes: &[bool]) -> Option<Position>
     })
 }
 
-/// Whether an instruction only tests something, and fails where that is false.
+/// Whether an instruction is a site: it only tests something, and fails if that is false.
 fn is_site(instr: &Instr) -> bool
     ensures { result ≡ is_site instr.now }
 {
@@ -90,7 +90,7 @@ fn is_site(instr: &Instr) -> bool
     )
 }
 
-/// Whether a thread may have to wait for others at an instruction.
+/// Whether a thread may block at an instruction.
 fn can_block(instr: &Instr) -> bool
     ensures { result ≡ can_block instr.now }
 {
@@ -100,7 +100,7 @@ fn can_block(instr: &Instr) -> bool
     )
 }
 
-/// Whether a thread that stands at a place has exited, since no instruction is there, or can be blocked.
+/// Whether a thread at a place has exited, since no instruction is there, or may block.
 fn can_rest(code: &Code, function: usize, place: usize) -> bool
     ensures { result ≡ option_map_or can_block (instr_at code.now function place) true }
 {
@@ -110,7 +110,7 @@ fn can_rest(code: &Code, function: usize, place: usize) -> bool
     }
 }
 
-/// Whether there is a step, and the last is at a site.
+/// Whether there is a last step, and it is at a site.
 fn ends_at_site(code: &Code, function: usize, places: &[usize]) -> bool
     ensures { result ≡ ends_at_site code.now function places.now }
 {
@@ -123,7 +123,7 @@ fn ends_at_site(code: &Code, function: usize, places: &[usize]) -> bool
     }
 }
 
-/// The places of the steps of a path through a function, and the place to which they lead.
+/// The places of a path's steps through a function, and the place that they lead to.
 #[derive(Drop)]
 pub struct Followed {
     pub places: Vec<usize>,
@@ -163,7 +163,7 @@ fn steps(
     })
 }
 
-/// The steps of a thread that does a function, by its path and how that ends.
+/// The steps of a thread that runs this function, from its path and ending.
 pub fn follow(
     alloc: Global,
     code: &Code,

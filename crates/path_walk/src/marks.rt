@@ -1,4 +1,4 @@
-//! What a thread's own steps make of its mutexes and thread variables.
+//! A thread's mutexes and thread variables, as its own steps leave them.
 ghost use Rattle.std.specs.Prelude.{◌≡◌, ◌+◌, ◌<◌, ◌^◌, IfOk, slice_set};
 ghost use Rattle.tc_base.specs.declared.handle.Handle.{Handle};
 ghost use Rattle.tc_code.specs.Step as step;
@@ -11,7 +11,7 @@ use std::marker::Model;
 use tc_base::Handle;
 use tc_code::{Code, Instr};
 
-/// What a thread's own steps made of its mutexes and thread variables.
+/// A thread's mutexes and thread variables, as its own steps leave them.
 #[derive(Drop)]
 pub struct Marks {
     held: Vec<bool>,
@@ -34,7 +34,7 @@ impl Model for Marks {
 }
 
 impl Marks {
-    /// At the start of a function.
+    /// The marks at the start of a function.
     pub fn at_start(alloc: Global, code: &Code, function: usize) -> Result<Marks, AllocError>
         ensures { IfOk result (λ t. t ≡ unmarked code.now function) }
     {
@@ -50,14 +50,14 @@ impl Marks {
         })
     }
 
-    /// How many bars the thread has put between its stores.
+    /// The number of bars that the thread has put between its stores.
     pub fn bars(&self) -> usize
         ensures { result ≡ self.now.bars }
     {
         self.bars
     }
 
-    /// What a step asks, which fails or doesn't.
+    /// The event kind of a step that fails or doesn't, if it is an event.
     pub fn kind(&self, instr: &Instr, fails: bool) -> Option<EventKind>
         requires { self.now.children + 1 < 2 ^ 32 }
         ensures { result ≡ kind_with self.now instr.now fails }
@@ -96,7 +96,7 @@ impl Marks {
         }
     }
 
-    /// Whether the path alone tells that no run does a step, which fails or doesn't.
+    /// Whether the path alone rules out a step that fails or doesn't.
     pub fn excludes(&self, instr: &Instr, fails: bool) -> bool
         ensures { result ≡ excludes self.now instr.now fails }
     {
@@ -108,7 +108,7 @@ impl Marks {
         }
     }
 
-    /// What a thread is blocked at that stands at an instruction, by the sleeps that it has begun.
+    /// What blocks a thread at an instruction, given its sleeps, if the instruction can block.
     pub fn blocked(&self, instr: &Instr, sleeps: &[Sleep]) -> Option<Blocked>
         ensures { result ≡ blocked_at self.now sleeps.now instr.now }
     {
@@ -160,7 +160,7 @@ impl Marks {
         }
     }
 
-    /// Takes a mutex, or leaves it.
+    /// Acquires or releases a mutex.
     fn hold(&mut self, mutex: u32, holds: bool)
         ensures { self.new ≡ record self.old { held = slice_set self.old.held mutex holds } }
     {
@@ -179,7 +179,7 @@ impl Marks {
         }
     }
 
-    /// A thread variable takes a new child.
+    /// Puts a new child into a thread variable.
     fn create(&mut self, handle: u32)
         requires { self.old.children + 1 < 2 ^ 32 }
         ensures { self.new ≡ record self.old {
@@ -192,7 +192,7 @@ impl Marks {
         self.set(handle, child);
     }
 
-    /// The child of a thread variable is joined.
+    /// Marks the child of a thread variable as joined.
     fn join(&mut self, handle: u32)
         ensures { self.new ≡ record self.old {
           handles = slice_set self.old.handles handle (Handle.Joined (step.child_number (handle_in self.old handle)));
@@ -203,7 +203,7 @@ impl Marks {
     }
 }
 
-/// The step of the last of some sleeps, and 0 where there is none.
+/// The step of the last sleep, and 0 if there is none.
 fn last_sleep(sleeps: &[Sleep]) -> usize
     ensures { result ≡ last_sleep sleeps.now }
 {
@@ -213,7 +213,7 @@ fn last_sleep(sleeps: &[Sleep]) -> usize
     }
 }
 
-/// The number of a child that hasn't been joined, and 0, which no child has, where it is none.
+/// The number of a child that hasn't been joined, else 0, which no child has.
 fn child_number(handle: Handle) -> u32
     ensures { result ≡ step.child_number handle }
 {
@@ -223,7 +223,7 @@ fn child_number(handle: Handle) -> u32
     }
 }
 
-/// Whether it is a child that hasn't been joined.
+/// Whether a handle is a child that hasn't been joined.
 fn can_be_joined(handle: Handle) -> bool
     ensures { result ≡ step.can_be_joined handle }
 {

@@ -1,4 +1,4 @@
-//! How many operators stand in instructions.
+//! The number of operators in instructions.
 ghost use Rattle.std.specs.Prelude.{◌≡◌, ℕ, map, sum, IfOk, slice_get, slice_index_or};
 ghost use Rattle.tc_code.specs.Code.{instr_at};
 ghost use Rattle.path_walk.specs.Steps.{step_at, steps_at};
@@ -8,7 +8,7 @@ ghost use Rattle.path_walk.specs.Paths.{counted};
 use std::alloc::{AllocError, Global};
 use tc_code::{Code, Expr, Instr, Node};
 
-/// The operators of an expression.
+/// The number of operators in an expression.
 fn in_expr(e: &Expr) -> u64
     ensures { result ≡ counted (operators e.now) }
 {
@@ -21,7 +21,7 @@ fn in_expr(e: &Expr) -> u64
     }
 }
 
-/// The operators of expressions.
+/// The number of operators in a list of expressions.
 fn in_exprs(exprs: &[Expr]) -> u64
     ensures { result ≡ counted (sum (map operators exprs.now)) }
 {
@@ -32,7 +32,7 @@ fn in_exprs(exprs: &[Expr]) -> u64
     count
 }
 
-/// The operators of the expressions of an instruction.
+/// The number of operators in an instruction's expressions.
 fn in_instr(instr: &Instr) -> u64
     ensures { result ≡ counted (operators_of instr.now) }
 {
@@ -54,7 +54,7 @@ fn in_instr(instr: &Instr) -> u64
     }
 }
 
-/// The instructions of a function; none where there is no such function.
+/// The instructions of a function; none if there is no such function.
 fn instrs_of(code: &Code, function: usize) -> &[Instr]
     ensures { (k : ℕ) → slice_get result.now k ≡ instr_at code.now function k }
 {
@@ -64,7 +64,7 @@ fn instrs_of(code: &Code, function: usize) -> &[Instr]
     }
 }
 
-/// The operators of each instruction of a function, in order.
+/// The number of operators in each instruction of a function, in order.
 fn in_function(alloc: Global, code: &Code, function: usize) -> Result<Vec<u64>, AllocError>
     ensures { IfOk result (λ counts. (k : ℕ) → slice_index_or counts.items k 0 ≡ counted (operators_of (step_at code.now function k).instr)) }
 {
@@ -75,8 +75,8 @@ fn in_function(alloc: Global, code: &Code, function: usize) -> Result<Vec<u64>, 
     Ok(counts)
 }
 
-/// The operators of the instructions of all steps at these places; of those that are more than it counts, the
-/// greatest number. Those of an instruction are counted once, however often it is done.
+/// The number of operators in the instructions of all steps at these places, saturating. It counts
+/// the operators of an instruction once, however often the instruction is done.
 pub fn operators(
     alloc: Global,
     code: &Code,

@@ -7,12 +7,12 @@ ghost use Rattle.path_walk.specs.Events.{takes, leaves, left_at, region_of, regi
 ghost use Rattle.path_walk.specs.Events.{create_by, join_by, creates_of, joins_of};
 
 use crate::{Event, EventKind, Link, Region, Sleep};
-use path_log::ThreadPath;
+use run_log::ThreadPath;
 use std::alloc::{AllocError, Global};
 use std::collections::BTreeMap;
 use tc_base::ThreadName;
 
-/// What belongs to the way of a thread beside its places and events.
+/// The parts of a walk beside its places and events.
 #[derive(Drop)]
 pub struct Parts {
     pub name: ThreadName,
@@ -23,7 +23,7 @@ pub struct Parts {
     pub joins: Vec<Link>,
 }
 
-/// The mutex that an event takes.
+/// The mutex that an event acquires, if any.
 fn taken(kind: EventKind) -> Option<u32>
     ensures { result ≡ takes kind }
 {
@@ -34,7 +34,7 @@ fn taken(kind: EventKind) -> Option<u32>
     }
 }
 
-/// The mutex that an event leaves.
+/// The mutex that an event releases, if any.
 fn left(kind: EventKind) -> Option<u32>
     ensures { result ≡ leaves kind }
 {
@@ -45,7 +45,7 @@ fn left(kind: EventKind) -> Option<u32>
     }
 }
 
-/// The event at a place.
+/// The event at an index.
 fn event_at(events: &[Event], place: usize) -> Event
     requires { place < length events.now }
     ensures { (n : ℕ) → n ≡ place → drop n events.now ≡ result ∷ drop (n + 1) events.now }
@@ -53,8 +53,8 @@ fn event_at(events: &[Event], place: usize) -> Event
     events[place]
 }
 
-/// The steps between which a thread has the mutex that an event takes, if it takes one; the map has the first step
-/// after it that leaves each mutex.
+/// The region of an event that acquires a mutex; the map has the first later step that releases
+/// each mutex.
 fn region(event: Event, ends: &BTreeMap<u32, usize>) -> Option<Region>
     ensures { (later : List Event) → ((m : ℕ) → tree.get nat_cmp ends.now m ≡ left_at m later) → result ≡ region_of event later }
 {
@@ -68,7 +68,7 @@ fn region(event: Event, ends: &BTreeMap<u32, usize>) -> Option<Region>
     }
 }
 
-/// Notes that an event leaves a mutex, if it does.
+/// Notes that an event releases a mutex, if it does.
 fn note_left(ends: &mut BTreeMap<u32, usize>, event: Event) -> Result<(), AllocError>
     ensures { OnOk result ((later : List Event) → ((m : ℕ) → tree.get nat_cmp ends.old m ≡ left_at m later)
         → (m : ℕ) → tree.get nat_cmp ends.new m ≡ left_at m (event ∷ later)) }
@@ -89,7 +89,7 @@ fn push_region(found: &mut Vec<Region>, region: Option<Region>) -> Result<(), Al
     Ok(())
 }
 
-/// For each event that takes a mutex, the steps between which the thread has it.
+/// The regions of the events that acquire a mutex, in order.
 fn regions(alloc: Global, events: &[Event]) -> Result<Vec<Region>, AllocError>
     ensures { IfOk result (λ found. found.items ≡ regions_of events.now) }
 {
@@ -104,7 +104,7 @@ fn regions(alloc: Global, events: &[Event]) -> Result<Vec<Region>, AllocError>
     Ok(found)
 }
 
-/// The wait that an event begins, the next event being its end.
+/// The wait that an event begins, if it is a sleep; the next event ends the wait.
 fn sleep(event: Event, next: Option<Event>) -> Option<Sleep>
     ensures { result ≡ sleep_by event.step next event.kind }
 {
@@ -136,7 +136,7 @@ fn sleeps(alloc: Global, events: &[Event]) -> Result<Vec<Sleep>, AllocError>
     Ok(found)
 }
 
-/// A create, with the number of the child.
+/// The link of a create: its step and the child's number.
 fn create(event: Event) -> Option<Link>
     ensures { result ≡ create_by event.step event.kind }
 {
@@ -149,7 +149,7 @@ fn create(event: Event) -> Option<Link>
     }
 }
 
-/// A join, with the number of the child.
+/// The link of a join: its step and the child's number.
 fn join(event: Event) -> Option<Link>
     ensures { result ≡ join_by event.step event.kind }
 {
@@ -188,7 +188,7 @@ fn joins(alloc: Global, events: &[Event]) -> Result<Vec<Link>, AllocError>
     Ok(found)
 }
 
-/// What a path and the events of its steps come to.
+/// The parts of a walk, from a path and its events.
 pub fn parts_of(alloc: Global, path: &ThreadPath, events: &[Event]) -> Result<Parts, AllocError>
     ensures name { IfOk result (λ p. p.name ≡ path.now.name) }
     ensures outcomes { IfOk result (λ p. p.outcomes.items ≡ path.now.path.outcomes) }

@@ -1,11 +1,11 @@
-//! Paths of threads, each with what it tells.
+//! The walks of threads.
 ghost use Rattle.std.specs.Prelude.{◌≡◌, is_none};
 
 use crate::{Blocked, Event, Link, Region, Sleep};
 use std::marker::Model;
 use tc_base::{Failing, ThreadName};
 
-/// The way of one thread.
+/// The walk of one thread along its path.
 #[derive(Debug, Drop)]
 pub struct Walk {
     pub(crate) name: ThreadName,
@@ -40,7 +40,7 @@ impl Model for Walk {
 }
 
 impl Walk {
-    /// The thread.
+    /// The thread's name.
     pub fn name(&self) -> &ThreadName
         ensures { result.now ≡ self.now.name }
     {
@@ -61,7 +61,7 @@ impl Walk {
         self.outcomes.as_slice()
     }
 
-    /// For each step the number of its instruction in the function.
+    /// For each step, the index of its instruction in the function.
     pub fn places(&self) -> &[usize]
         ensures { result.now ≡ self.now.places }
     {
@@ -75,7 +75,7 @@ impl Walk {
         self.events.as_slice()
     }
 
-    /// For each step that takes a mutex, the steps between which the thread has it.
+    /// For each step that acquires a mutex, the steps between which the thread holds it.
     pub fn regions(&self) -> &[Region]
         ensures { result.now ≡ self.now.regions }
     {
@@ -89,28 +89,28 @@ impl Walk {
         self.sleeps.as_slice()
     }
 
-    /// Its creates, in order: the one at place k is that of child k + 1.
+    /// Its creates, in order: the one at index k creates child k + 1.
     pub fn creates(&self) -> &[Link]
         ensures { result.now ≡ self.now.creates }
     {
         self.creates.as_slice()
     }
 
-    /// Its joins, in order, each with the child that it awaits.
+    /// Its joins, in order, each with the child that it waits for.
     pub fn joins(&self) -> &[Link]
         ensures { result.now ≡ self.now.joins }
     {
         self.joins.as_slice()
     }
 
-    /// Whether it has exited, in a log of a deadlock that fits.
+    /// Whether it has exited, in the log of a deadlock that fits.
     pub(crate) fn has_exited(&self) -> bool
         ensures { result ≡ is_none self.now.blocked }
     {
         self.blocked.is_none()
     }
 
-    /// What it is blocked at, in a log of a deadlock, unless it has exited; none in a log of a failure.
+    /// What blocks it in the log of a deadlock, unless it has exited; none in the log of a failure.
     pub fn blocked(&self) -> Option<Blocked>
         ensures { result ≡ self.now.blocked }
     {
@@ -118,7 +118,7 @@ impl Walk {
     }
 }
 
-/// The ways of all threads of a log, in the order of their names.
+/// The walks of all threads of a log, in the order of their names.
 #[derive(Debug, Drop)]
 pub struct Paths {
     pub(crate) failing: Failing,
@@ -143,7 +143,7 @@ impl Model for Paths {
 }
 
 impl Paths {
-    /// The place of the thread that failed, or that none did.
+    /// The index of the thread that failed, or a deadlock.
     pub fn failing(&self) -> Failing
         ensures { result ≡ self.now.failing }
     {
@@ -157,24 +157,23 @@ impl Paths {
         self.threads.as_slice()
     }
 
-    /// How many events they have together.
+    /// The total number of events.
     pub fn events(&self) -> usize
         ensures { result ≡ self.now.events }
     {
         self.events
     }
 
-    /// How many operators stand in the instructions of their steps, counted for each step; the greatest number where
-    /// there are more.
+    /// The number of operators in the instructions of all steps, counted for each step, saturating.
     pub fn operators(&self) -> u64
         ensures { result ≡ self.now.operators }
     {
         self.operators
     }
 
-    /// Whether the paths alone tell that no run goes so: some step takes a mutex that its thread has, or a test of a
-    /// mutex or a thread variable passes where it is false, or fails where it is true; or all threads have exited, and the
-    /// log is of a deadlock.
+    /// Whether the paths alone rule out every run: a step locks a mutex that its thread holds, a
+    /// test of a mutex or thread variable has the wrong outcome, or all threads have exited in the
+    /// log of a deadlock.
     pub fn dead(&self) -> bool
         ensures { result ≡ self.now.dead }
     {

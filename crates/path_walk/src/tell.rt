@@ -1,4 +1,4 @@
-//! What the steps of a thread ask, and whether the path alone tells that no run goes so.
+//! The events of a thread's steps, and whether the path alone rules out every run.
 ghost use Rattle.std.specs.Prelude.{◌≡◌, ℕ, ◌<◌, ◌≤◌, ◌^◌, length, IfOk, IsSome};
 ghost use Rattle.std.specs.List.{All, list_any};
 ghost use Rattle.tc_code.specs.Code.{instr_at};
@@ -11,18 +11,18 @@ use crate::marks::Marks;
 use std::alloc::{AllocError, Global};
 use tc_code::Code;
 
-/// What the steps of a thread tell.
+/// The events and marks of a thread's steps.
 #[derive(Drop)]
 pub struct Told {
     /// Its events, in order.
     pub events: Vec<Event>,
-    /// Whether the path alone tells that no run goes so.
+    /// Whether the path alone rules out every run.
     pub dead: bool,
-    /// What they made of the thread's mutexes and thread variables.
+    /// The thread's mutexes and thread variables after the steps.
     pub marks: Marks,
 }
 
-/// What the steps of a thread tell.
+/// The events and marks of a thread's steps.
 pub fn tell(
     alloc: Global,
     code: &Code,

@@ -1,25 +1,25 @@
-//! The ways of all threads of a log.
+//! The walks of all threads of a log.
 ghost use Rattle.std.specs.Prelude.{◌≡◌, ◌≤◌, length, IfOk, OnOk, IfErr};
-ghost use Rattle.tc_base.specs.declared.limits.TheConstants.{THREADS};
+ghost use Rattle.tc_limits.specs.declared.limits.TheConstants.{THREADS};
 ghost use Rattle.path_walk.specs.Fits.{Fits, IsFault};
 ghost use Rattle.path_walk.specs.Paths.{paths_of};
 
 use crate::draft::Draft;
 use crate::{Misfit, Paths, WalkFault};
-use path_log::Log;
+use run_log::Log;
 use std::alloc::Global;
 use tc_base::ThreadName;
 use tc_code::Code;
 
-/// The ways of all threads of a log, of at most `THREADS` threads, in the code; or the fault of the least name, where the log
+/// The walks of all threads of a log through the code, or the fault of the least name if the log
 /// doesn't fit.
 pub fn walk(alloc: Global, code: &Code, log: &Log) -> Result<Paths, WalkFault>
     requires { length log.now.log.threads ≤ THREADS }
-    // The ways are told where the log fits.
+    // The function returns paths only if the log fits.
     ensures fits { OnOk result (Fits code.now log.now.log) }
-    // They are what code and log say.
+    // The paths are those of the code and the log.
     ensures paths { IfOk result (λ paths. paths ≡ paths_of code.now log.now.log) }
-    // Else the fault is that of the least name that has one.
+    // A fault is that of the least name that has one.
     ensures err { IfErr result (IsFault code.now log.now.log) }
 {
     if !log.threads()[0].name().children().is_empty() {

@@ -3,8 +3,9 @@ use Rattle.std.specs.Prelude.{◌≡◌, ◌⊎◌, ℕ, suc, ◌<◌, ◌==◌,
 use Rattle.std.specs.Prelude.{Option, Some, None, slice_get, slice_index_or}
 use Rattle.std.specs.FinSet as set
 use Rattle.std.specs.List.{Contains}
-use Rattle.tc_base.specs.Buffers.{BufferOps, is_nil}
-use Rattle.tc_base.specs.Logs.{Log}
+use Rattle.tc_base.specs.Buffers.{BufferOps}
+use Rattle.list_laws.specs.Lists.{is_nil}
+use Rattle.run_log.specs.Logs.{Log}
 use Rattle.tc_base.specs.Names.{Name, child}
 use Rattle.tc_base.specs.declared.failing.Failing.TheVariants.{Deadlock}
 use Rattle.tc_base.specs.declared.request.Request.{Request}

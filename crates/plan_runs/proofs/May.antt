@@ -4,8 +4,9 @@ use Rattle.std.specs.Prelude.{is_none, option_map, option_and_then}
 use Rattle.std.specs.List.{last_or}
 use Rattle.std.proofs.lemmas.Bool.{and_from}
 use Rattle.std.proofs.lemmas.Option.{same_Some}
-use Rattle.tc_base.specs.Buffers.{BufferOps, is_nil}
-use Rattle.tc_base.specs.Logs.{Log}
+use Rattle.tc_base.specs.Buffers.{BufferOps}
+use Rattle.list_laws.specs.Lists.{is_nil}
+use Rattle.run_log.specs.Logs.{Log}
 use Rattle.tc_base.specs.Names.{Name}
 use Rattle.tc_base.specs.declared.request.Request.{Request}
 use Rattle.tc_base.specs.declared.request.Request.TheVariants.{Silent, Read, Write, Exchange, CompareExchange, Bar, Acquire, Release, BeginWait}

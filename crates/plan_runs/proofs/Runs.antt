@@ -6,11 +6,12 @@ use Rattle.std.specs.List.{list_all}
 use Rattle.std.proofs.lemmas.Bool.{false≢true, and_parts, or_parts, ltb-true, eq-eqb}
 use Rattle.std.proofs.lemmas.Option.{none-some, same_Some, slice_get-get_or}
 use Rattle.tc_base.specs.Buffers.{BufferOps}
-use Rattle.tc_base.specs.Logs.{Log, Path, ThreadPath}
+use Rattle.run_log.specs.Logs.{Log}
+use Rattle.tc_base.specs.Paths.{Path, ThreadPath}
 use Rattle.tc_base.specs.Names.{Name}
 use Rattle.tc_base.specs.declared.failing.Failing.{Failing}
 use Rattle.tc_base.specs.declared.failing.Failing.TheVariants as failing
-use Rattle.tc_base.specs.declared.model.Model.{Model}
+use Rattle.memory_models.specs.declared.model.Model.{Model}
 use Rattle.tc_base.proofs.Names.{same_true}
 use Rattle.tc_code.specs.Code.{Code}
 use Rattle.tc_code.specs.Run.{Reproduces}
@@ -22,7 +23,7 @@ use Rattle.run_follows.specs.Logged.{EndsAsIn}
 use Rattle.run_follows.proofs.Reproduced.{deeds_reproduce}
 use Rattle.run_follows.specs.blocked.Stuck.{AllDrained, AllAreBlocked}
 use Rattle.run_follows.proofs.of_blocked.Stuck.{nothing_follows}
-use Rattle.path_log.specs.Texts.{is_there, rises_from}
+use Rattle.run_log.specs.Logs.{is_there, rises_from}
 use Rattle.path_walk.specs.Fits.{fails_in}
 use Rattle.path_walk.specs.Paths.{Walk, Paths, paths_of, have_exited}
 use Rattle.path_walk.specs.declared.event.Blocked.{Blocked}

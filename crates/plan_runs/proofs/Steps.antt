@@ -6,9 +6,9 @@ use Rattle.std.specs.List.{Contains, find}
 use Rattle.std.proofs.lemmas.Bool.{cases_order, eqb-true, eq-eqb, and_parts}
 use Rattle.std.proofs.lemmas.Option.{none-some, same_Some}
 use Rattle.tc_base.specs.Buffers.{BufferOps}
-use Rattle.tc_base.specs.Logs.{Log}
+use Rattle.run_log.specs.Logs.{Log}
 use Rattle.tc_base.specs.Names.{Name}
-use Rattle.tc_base.specs.declared.model.Model.{Model}
+use Rattle.memory_models.specs.declared.model.Model.{Model}
 use Rattle.tc_code.specs.Code.{Code}
 use Rattle.store_buffers.specs.Pending.{Binding}
 use Rattle.run_laws.proofs.Names.{same_or_apart}

@@ -1,11 +1,11 @@
-//! Lawful orders are orders of runs: the plan of a lawful world reproduces its log. Each function's clause is a law, and its
-//! body does nothing.
+//! Lawful orders are the orders of runs: the plan of a lawful world reproduces its log. Each law is
+//! the contract of a function with an empty body.
 #![tactic(auto)]
 
 ghost use Rattle.std.specs.Prelude.{◌≡◌, List};
 ghost use Rattle.tc_base.specs.Buffers.{BufferOps};
-ghost use Rattle.tc_base.specs.Logs.{Log};
-ghost use Rattle.tc_base.specs.declared.model.Model.{Model};
+ghost use Rattle.run_log.specs.Logs.{Log};
+ghost use Rattle.memory_models.specs.declared.model.Model.{Model};
 ghost use Rattle.tc_code.specs.Code.{Code};
 ghost use Rattle.tc_code.specs.Run.{Reproduces};
 ghost use Rattle.store_buffers.specs.Pending.{Binding};
@@ -21,9 +21,10 @@ ghost use Rattle.world_plan.specs.Sights.{AreInOrder};
 pub mod memory;
 pub mod waits;
 
-/// The moves of the plan of a lawful world reproduce the log, a failure or a deadlock, under the memory model: what they do is
-/// the plan, and the events of the paths take place in the order of the world. Of the stores that wait in buffers those have
-/// drained that come before the failing event, and in a deadlock all.
+/// The moves of a lawful world's plan reproduce the log, a failure or a deadlock, under the memory
+/// model: their history is the plan, and the paths' events take place in the order of the world.
+/// The stores in buffers that have drained are those before the failing event, or all of them in a
+/// deadlock.
 pub fn lawful_worlds_are_run<B>()
     ensures reproduces { (ops : BufferOps B) (model : Model) (bound : Binding) (code : Code) (log : Log) (nodes : List Node) (w : World)
         → IsLawfulWorld ops model bound code log nodes w

@@ -1,11 +1,11 @@
-//! What memory and store buffers have when an event of a lawful world comes, where a history has gone up to its position.
-//! Each function's clause is a law, and its body does nothing.
+//! Memory and store buffers when a history has reached the position of an event of a lawful world.
+//! Each law is the contract of a function with an empty body.
 ghost use Rattle.std.specs.Prelude.{◌≡◌, ◌<◌, ℕ, ℤ, pos, true, false, Option, Some, None, List, [], ◌∷◌, ◌++◌, suc, slice_get, slice_index_or};
 ghost use Rattle.std.specs.List.{Contains};
 ghost use Rattle.tc_base.specs.Buffers.{BufferOps};
-ghost use Rattle.tc_base.specs.Logs.{Log};
+ghost use Rattle.run_log.specs.Logs.{Log};
 ghost use Rattle.tc_base.specs.Names.{Name};
-ghost use Rattle.tc_base.specs.declared.model.Model.{Model};
+ghost use Rattle.memory_models.specs.declared.model.Model.{Model};
 ghost use Rattle.tc_base.specs.declared.request.Request.{Request};
 ghost use Rattle.tc_code.specs.Code.{Code};
 ghost use Rattle.store_buffers.specs.Pending.{Binding};
@@ -27,7 +27,7 @@ ghost use Rattle.world_plan.specs.Going.{IsLawfulWorld, HasGone, IsAtEvent, Have
 ghost use Rattle.world_plan.specs.Plan.{drains_next};
 ghost use Rattle.world_plan.specs.Sights.{AreInOrder, sight_of};
 
-/// A thread that is about to do what may not overtake its stores has all of them in memory.
+/// If a thread's next event may not overtake its stores, all of its stores are in memory.
 pub fn buffers_are_empty<B>()
     ensures { (ops : BufferOps B) (model : Model) (bound : Binding) (code : Code) (log : Log) (nodes : List Node) (w : World)
         (p : ℕ) (h : List Deed) (t : ℕ) (q : Walk) (x : Event)
@@ -35,7 +35,7 @@ pub fn buffers_are_empty<B>()
         → may_overtake x.kind ≡ false → HasDrained ops.buffered h q.name }
 {}
 
-/// A thread that is about to load takes the value that the world says.
+/// If a thread's next event is a load, it takes the value that the world gives it.
 pub fn loads_take_theirs<B>()
     ensures { (ops : BufferOps B) (model : Model) (bound : Binding) (code : Code) (log : Log) (nodes : List Node) (w : World)
         (p : ℕ) (h : List Deed) (t : ℕ) (q : Walk) (x : Event) (r : Request) (c : Course) (a : Access) (m : ℕ)
@@ -45,7 +45,8 @@ pub fn loads_take_theirs<B>()
         → slice_index_or w.loads m (pos 0) ≡ taken_in ops.buffered code h q.name r }
 {}
 
-/// When the position of a store that its thread has issued comes, it is its turn to reach memory.
+/// If a store is in its thread's buffer when the history reaches its position, it is the next to
+/// drain.
 pub fn drains_have_their_turn<B>()
     ensures { (ops : BufferOps B) (model : Model) (bound : Binding) (code : Code) (log : Log) (nodes : List Node) (w : World)
         (p : ℕ) (h : List Deed) (t : ℕ) (q : Walk) (x : Event)
@@ -55,8 +56,9 @@ pub fn drains_have_their_turn<B>()
         × (drains_next ops.buffered h q.name x.step ≡ Drained q.name x.step c v ∷ []) }
 {}
 
-/// A step leaves in memory what was there, and so do the drains that have come; where it is the event at the position, and no
-/// store of a buffer, they are those before the next position. So they are with the drain of the store at the position.
+/// A step doesn't change which stores have drained. After the event at the position, if it isn't a
+/// store in a buffer, or after the drain of the store at the position, they are those before the
+/// next position.
 pub fn drains_go_on<B>()
     ensures step { (ops : BufferOps B) (model : Model) (bound : Binding) (code : Code) (log : Log) (nodes : List Node) (w : World)
         (p : ℕ) (h : List Deed) (n : Name) (k : ℕ) (r : Request) (took : ℤ) (other : Option Name)
@@ -74,7 +76,8 @@ pub fn drains_go_on<B>()
         → HaveDrained code log w ops.buffered (suc p) (h ++ Drained q.name x.step c v ∷ []) }
 {}
 
-/// What takes place by a step that shows nothing, by the event at the position, or by its drain, does so in the world's order.
+/// Events stay in the world's order after a deed that shows nothing, after the event at the
+/// position, and after its drain.
 pub fn orders_go_on<B>()
     ensures quiet { (ops : BufferOps B) (model : Model) (bound : Binding) (code : Code) (log : Log) (nodes : List Node) (w : World)
         (p : ℕ) (h : List Deed) (d : Deed)
@@ -91,7 +94,7 @@ pub fn orders_go_on<B>()
         → AreInOrder ops.buffered (paths_of code log) w (h ++ Drained q.name x.step c v ∷ []) }
 {}
 
-/// Where all events' positions are before that up to which a history has gone, no store is pending.
+/// If a history has passed the positions of all events, no store is pending.
 pub fn all_stores_drain<B>()
     ensures { (ops : BufferOps B) (model : Model) (bound : Binding) (code : Code) (log : Log) (nodes : List Node) (w : World) (p : ℕ) (h : List Deed)
         → IsLawfulWorld ops model bound code log nodes w → HasGone ops.buffered bound code log nodes w p h

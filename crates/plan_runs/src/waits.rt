@@ -1,15 +1,15 @@
-//! The other threads let each event come, in the run that a lawful order of events tells of: then the mutex that it takes is
-//! free, the sleep that it wakes from was ended, a signal finds the thread that it wakes, a join finds an exit, and the thread
-//! of the event is there. At the end of a deadlock each thread is blocked. Each function's clause is a law, and its body does
-//! nothing.
+//! In the run of a lawful order of events, other threads don't keep an event from its turn: the
+//! mutex that it takes is free, its sleep has ended, a signal finds the thread that it wakes, a
+//! join finds an exit, and its thread exists. At the end of a deadlock each thread is blocked. Each
+//! law is the contract of a function with an empty body.
 ghost use Rattle.std.specs.Prelude.{◌≡◌, ◌+◌, ◌<◌, ◌==◌, ℕ, ℤ, true, false, Option, Some, None, List, [], ◌∷◌, ◌++◌};
 ghost use Rattle.std.specs.FinSet as set;
 ghost use Rattle.std.specs.List.{Contains};
 ghost use Rattle.tc_base.specs.Buffers.{BufferOps};
-ghost use Rattle.tc_base.specs.Logs.{Log};
+ghost use Rattle.run_log.specs.Logs.{Log};
 ghost use Rattle.tc_base.specs.Names.{Name, child};
 ghost use Rattle.tc_base.specs.declared.failing.Failing.TheVariants.{Deadlock};
-ghost use Rattle.tc_base.specs.declared.model.Model.{Model};
+ghost use Rattle.memory_models.specs.declared.model.Model.{Model};
 ghost use Rattle.tc_base.specs.declared.request.Request.{Request};
 ghost use Rattle.tc_code.specs.Code.{Code};
 ghost use Rattle.store_buffers.specs.Pending.{Binding};
@@ -27,7 +27,7 @@ ghost use Rattle.lawful_order.specs.Events.{number_of};
 ghost use Rattle.world_plan.specs.Going.{IsLawfulWorld, HasGone, IsAtEvent, SleepUntilEnded, is_pending, place};
 ghost use Rattle.world_plan.specs.Plan.{is_failure, woken_by, other_of};
 
-/// The mutex that a thread is about to take is free: each region of it that has begun has been left.
+/// The mutex that a thread's next event takes is free: every region of it that began has ended.
 pub fn mutexes_are_free<B>()
     ensures { (ops : BufferOps B) (model : Model) (bound : Binding) (code : Code) (log : Log) (nodes : List Node) (w : World) (p : ℕ) (h : List Deed)
         (t : ℕ) (q : Walk) (x : Event) (m : ℕ)
@@ -35,7 +35,7 @@ pub fn mutexes_are_free<B>()
         → owner_in h m ≡ None }
 {}
 
-/// A thread whose event comes waits on no condition: what ends its sleep has come.
+/// A thread whose event is next waits on no condition: its sleep has ended.
 pub fn sleepers_were_woken<B>()
     ensures { (ops : BufferOps B) (model : Model) (bound : Binding) (code : Code) (log : Log) (nodes : List Node) (w : World) (p : ℕ) (h : List Deed)
         (t : ℕ) (q : Walk) (x : Event) (c : ℕ)
@@ -43,7 +43,7 @@ pub fn sleepers_were_woken<B>()
         → set.contains (waiting_in h c) q.name ≡ false }
 {}
 
-/// The thread that a signal is to wake waits on its condition, and where it is to wake none no thread does.
+/// The thread that a signal wakes waits on its condition; if it wakes none, no thread waits.
 pub fn signals_find_theirs<B>()
     ensures some { (ops : BufferOps B) (model : Model) (bound : Binding) (code : Code) (log : Log) (nodes : List Node) (w : World) (p : ℕ)
         (h : List Deed) (t : ℕ) (q : Walk) (x : Event) (c : ℕ) (n : Name)
@@ -57,7 +57,7 @@ pub fn signals_find_theirs<B>()
         → (set.len (waiting_in h c) == 0) ≡ true }
 {}
 
-/// The child that a thread is about to join has exited.
+/// The child that a thread's next event joins has exited.
 pub fn joins_find_exits<B>()
     ensures { (ops : BufferOps B) (model : Model) (bound : Binding) (code : Code) (log : Log) (nodes : List Node) (w : World) (p : ℕ) (h : List Deed)
         (t : ℕ) (q : Walk) (x : Event) (k : ℕ)
@@ -65,8 +65,8 @@ pub fn joins_find_exits<B>()
         → has_exited_in h (child q.name k) ≡ true }
 {}
 
-/// A thread whose event comes is there. Once all events have come that don't fail, but for stores that wait in buffers, each
-/// thread is.
+/// A thread whose event is next exists. Once all events except the failing one and stores in
+/// buffers took place, every thread exists.
 pub fn threads_are_there<B>()
     ensures next { (ops : BufferOps B) (model : Model) (bound : Binding) (code : Code) (log : Log) (nodes : List Node) (w : World) (p : ℕ)
         (h : List Deed) (t : ℕ) (q : Walk) (x : Event)
@@ -79,8 +79,9 @@ pub fn threads_are_there<B>()
         → AllAreThere code log h }
 {}
 
-/// After one deed more each sleep still lasts until what ends it has come: where a step is done that is no event but a store that
-/// waits in a buffer; where the event at the position is done; and where a store reaches memory, also the one at the position.
+/// Each sleep still lasts until the event that ends it, after any of these deeds: a step that is no
+/// event or a store in a buffer; the event at the position; a drain; the drain of the store at the
+/// position.
 pub fn sleeps_go_on<B>()
     ensures quiet { (ops : BufferOps B) (model : Model) (bound : Binding) (code : Code) (log : Log) (nodes : List Node) (w : World) (p : ℕ)
         (h : List Deed) (t : ℕ) (q : Walk) (k : ℕ) (r : Request) (took : ℤ) (other : Option Name)

@@ -12,7 +12,7 @@ use Rattle.bit_blast.specs.Blasted.{Blasted, root_of}
 use Rattle.refute_check.specs.declared.line.Line.{Line}
 use Rattle.refute_core.specs.Reached.{IsReached}
 
--- the place of a group among all groups: its kind, then its thread or number, then its line
+-- the sort key of a group: its kind, then its thread or number, then its line
 abbrev pub place_of : Group → List ℕ
 place_of (Own t) = 0 ∷ t ∷ 0 ∷ []
 place_of (Child t) = 1 ∷ t ∷ 0 ∷ []
@@ -22,7 +22,7 @@ place_of (Condition c) = 4 ∷ c ∷ 0 ∷ []
 place_of (Test t line) = 5 ∷ t ∷ line ∷ []
 place_of (Stuck t) = 6 ∷ t ∷ 0 ∷ []
 
--- groups compare by their places
+-- groups compare by their sort keys
 abbrev pub group_cmp : Group → Group → Ordering
 group_cmp = on place_of (slice_cmp nat_cmp)
 
@@ -35,7 +35,7 @@ module _ (formula : List Conjunct) (b : Blasted) (lines : List Line) where
     pub of : conjunct.group ≡ g
     pub reached : IsReached (length b.clauses.clauses) lines (root_of b number + 1)
 
-  -- groups are exactly those, each once and in order
+  -- the groups are exactly the reached ones, each once and in order
   pub record AreReachedGroups (groups : List Group) : Type 0 where
     pub rise : IsStrictlySortedBy group_cmp groups
     pub each : (g : Group) → Contains groups g → ReachesGroup g

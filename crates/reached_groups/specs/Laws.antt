@@ -1,7 +1,7 @@
--- What it means that a derivation reaches groups.
+-- What it means for a derivation to reach groups.
 use Rattle.std.specs.Prelude.{◌≡◌, ℕ, List, Some, None, get_or, length}
 use Rattle.std.specs.List.{All, Contains}
-use Rattle.tc_base.specs.Arith.{IsInt}
+use Rattle.int_ops.specs.Arith.{IsInt}
 use Rattle.sym_terms.specs.declared.node.Node.{Node}
 use Rattle.order_formula.specs.declared.formula.Conjunct.{Conjunct}
 use Rattle.order_formula.specs.declared.group.Group.{Group}
@@ -13,7 +13,7 @@ use Rattle.refute_check.specs.Refutations.{IsClosed}
 use Rattle.refute_check.specs.declared.line.Line.{Line}
 use Rattle.reached_groups.specs.Groups.{AreReachedGroups}
 
--- a world of an order's events and sleeps and so many loads, which take ints; it was asked of each event that ends a sleep whether it does
+-- a world of an order's events and sleeps, with `count` loads of ints and enders from the choices
 pub record IsWorldIn (o : Order) (count : ℕ) (w : World) : Type 0 where
   pub is : IsWorld w
   pub events : length w.positions ≡ o.events
@@ -22,7 +22,7 @@ pub record IsWorldIn (o : Order) (count : ℕ) (w : World) : Type 0 where
   pub sleeps : length w.enders ≡ o.sleeps
   pub chosen : (sleep by : ℕ) → get_or w.enders sleep None ≡ Some by → Contains o.choices (record { sleep = sleep; by = by })
 
--- in no world are the conjuncts of all groups true that a closed derivation reaches
+-- no world makes the conjuncts of all groups true that a closed derivation reaches
 abbrev pub GroupsBind : Type 0
 GroupsBind = (nodes : List Node) (formula : List Conjunct) (o : Order) (loads : ℕ) (lines : List Line) (groups : List Group)
     → IsPosed nodes formula o → IsOrder (layout_of o loads formula).order → IsClosed (blast nodes formula o loads).clauses lines

@@ -1,4 +1,4 @@
-//! The groups of conjuncts whose clauses are reached.
+//! The groups of conjuncts whose clauses a derivation reaches.
 ghost use Rattle.std.specs.Prelude.{◌≡◌, ◌≤◌, length, IfOk, OnOk};
 ghost use Rattle.refute_check.specs.Refutations.{IsClosed};
 ghost use Rattle.reached_groups.specs.Groups.{AreReachedGroups};
@@ -11,11 +11,11 @@ use refute_check::Derivation;
 use refute_core::reached;
 use std::alloc::{AllocError, Global};
 
-/// The groups of a formula's conjuncts whose clauses a closed derivation reaches, each once: first those of the order of a thread's
-/// own events, then of children, loads, mutexes, conditions, tests and threads that are stuck, and of one kind by thread or number,
-/// and then by line.
+/// The groups of a formula's conjuncts whose clauses a closed derivation reaches, each once, in
+/// order: thread orders, children, loads, mutexes, conditions, tests, stuck threads; within a kind
+/// by thread or number, and then by line.
 ///
-/// No world makes the conjuncts of all these groups true: [`groups_bind`](crate::laws::groups_bind).
+/// No world makes all their conjuncts true: [`groups_bind`](crate::laws::groups_bind).
 pub fn reached_groups(
     alloc: Global,
     formula: &Formula,

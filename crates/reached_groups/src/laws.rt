@@ -1,7 +1,7 @@
-//! What the groups mean. The function's clause is a law, and its body does nothing.
+//! What the groups mean. The function's clause is a law; its body does nothing.
 ghost use Rattle.reached_groups.specs.Laws.{GroupsBind};
 
-/// In no world are the conjuncts of all groups true that a closed derivation reaches.
+/// No world makes the conjuncts of all groups true that a closed derivation reaches.
 pub fn groups_bind()
     ensures { GroupsBind }
 {}

@@ -1,4 +1,4 @@
-//! The rules on which an impossibility rests: the groups of the conjuncts whose clauses a closed derivation reaches.
+//! The rules behind an impossibility: groups of conjuncts whose clauses a derivation reaches.
 #![tactic(auto)]
 
 mod groups;

@@ -4,11 +4,11 @@ use Rattle.sym_exec.specs.Executed.{Symbolic}
 use Rattle.sym_exec.specs.declared.symbolic.Access.{Access}
 use Rattle.lawful_order.specs.Events.{Of, all_from}
 
--- one thread after another
+-- all accesses, one thread after another
 abbrev pub all_accesses : Symbolic → List (Of Access)
 all_accesses symbolic = all_from (λ c. c.accesses) 0 symbolic.threads
 
--- whether two are one, and whether one is earlier on the path of the other's thread
+-- whether a and b are the same access, and whether a is earlier than b on the same path
 abbrev pub is_one : (a b : Of Access) → Bool
 is_one a b = a.thread == b.thread && a.it.step == b.it.step
 

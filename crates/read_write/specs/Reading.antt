@@ -1,4 +1,4 @@
--- What a formula says of the values that loads take.
+-- What a formula says about the values that loads take.
 use Rattle.std.specs.Prelude.{ℕ, ◌&&◌, Bool, true, not, List, [], ◌∷◌, Option, None, unwrap_or, option_map, option_and_then, slice_get, if◌then◌else◌}
 use Rattle.std.specs.List.{filter_map, flat_map}
 use Rattle.std.specs.Option.{option_map_or}
@@ -21,31 +21,31 @@ use Rattle.order_events.specs.Parts.{number_in}
 use Rattle.order_cells.specs.Same.{known_same, same_test}
 use Rattle.read_write.specs.Accesses.{all_accesses, is_one, is_earlier}
 
--- the line of a thread's step, among events; of one that isn't there, 0
+-- the line of a thread's step among events, or 0 if it isn't there
 abbrev pub line_in : List (Of Event) → (thread step : ℕ) → ℕ
 line_in events t k = option_map_or (λ e. e.it.line) (slice_get events (number_in events t k)) 0
 
 module _ (nodes : List Node) (load : Of Access) where
-  -- whether the load may see an access: it isn't known to be to another cell. An exchange doesn't see itself
+  -- whether the load may see an access: not itself, and none that is known to be to another cell
   abbrev pub may_be_seen : Of Access → Bool
   may_be_seen b = not (is_one b load) && unwrap_or (known_same nodes b.it.cell load.it.cell) true
 
-  -- of a write that it may see, the test that tells whether that is to its cell, where this isn't known
+  -- the test whether a write is to the load's cell, if the load may see it and that isn't known
   abbrev pub test_of : Of Access → Option Node
   test_of b = if may_be_seen b then option_and_then (λ _. same_test nodes b.it.cell load.it.cell) b.it.writes else None
 
--- the nodes that the load of a number needs: the value that it takes, that of its cell at the start, and the tests
+-- the nodes that a load needs: its value, its cell's initial value, and the tests
 abbrev pub needs_of : Code → List (Of Access) → List Node → Of Access → ℕ → List Node
 needs_of code accesses nodes load number = Symbol number ∷ Constant (value_at_start code load.it.cell) ∷ filter_map (test_of nodes load) accesses
 
--- those that all loads need, one load after another
+-- the nodes that all loads need, one load after another
 abbrev pub read_needs : Code → Symbolic → List Node → List Node
 read_needs code symbolic nodes =
     let accesses = all_accesses symbolic in
     flat_map (λ a. option_map_or (needs_of code accesses nodes a) a.it.takes []) accesses
 
 module _ (events : List (Of Event)) (nodes : List Node) (load : Of Access) where
-  -- a write of a term, as one whose value the load may take
+  -- a write of the term `value`, as a candidate of the load
   abbrev pub candidate_with : Of Access → ℕ → Candidate
   candidate_with b value = record {
     event = number_in events b.thread b.it.step;
@@ -54,12 +54,12 @@ module _ (events : List (Of Event)) (nodes : List Node) (load : Of Access) where
     value = value;
   }
 
-  -- an access so, if it is a write that the load may see
+  -- an access as a candidate, if it is a write that the load may see
   abbrev pub candidate_of : Of Access → Option Candidate
   candidate_of b = if may_be_seen nodes load b then option_map (candidate_with b) b.it.writes else None
 
 module _ (code : Code) (events : List (Of Event)) (accesses : List (Of Access)) (nodes : List Node) where
-  -- what the load of a number takes: the candidates are all writes that it may see
+  -- the value of the load `number`; its candidates are all writes that it may see
   abbrev pub read_of : Of Access → ℕ → plain.Read
   read_of load number = record {
     event = number_in events load.thread load.it.step;
@@ -68,7 +68,7 @@ module _ (code : Code) (events : List (Of Event)) (accesses : List (Of Access)) 
     candidates = filter_map (candidate_of events nodes load) accesses;
   }
 
-  -- that it takes so, among the rules of its thread and line
+  -- the conjunct about a load's value, in the group of its thread and line
   abbrev pub conjunct_of : Of Access → ℕ → Conjunct
   conjunct_of load number = record {
     group = group.Read load.thread (line_in events load.thread load.it.step);

@@ -6,7 +6,7 @@ use std::alloc::{AllocError, Global};
 use std::marker::Model;
 use sym_exec::{Access, Symbolic};
 
-/// An access of a thread, which is told by its place among the threads of the paths.
+/// An access of a thread, with the thread's index in the paths.
 #[derive(Clone, Copy, Debug)]
 pub(crate) struct PlacedAccess {
     pub(crate) thread: usize,
@@ -25,14 +25,14 @@ impl Model for PlacedAccess {
 }
 
 impl PlacedAccess {
-    /// Whether it is the other one.
+    /// Whether both are the same access.
     pub(crate) fn is_one(&self, other: &PlacedAccess) -> bool
         ensures { result ≡ spec.is_one self.now other.now }
     {
         self.thread == other.thread && self.access.step == other.access.step
     }
 
-    /// Whether it is earlier than the other on the path of one thread.
+    /// Whether this access is earlier than the other on the same path.
     pub(crate) fn is_earlier(&self, other: &PlacedAccess) -> bool
         ensures { result ≡ spec.is_earlier self.now other.now }
     {
@@ -54,7 +54,7 @@ pub(crate) fn all_accesses(
     Ok(all)
 }
 
-/// The accesses of one thread after the others.
+/// Appends the accesses of one thread.
 fn push_accesses(
     all: &mut Vec<PlacedAccess>,
     thread: usize,

@@ -1,4 +1,4 @@
-//! Laws of what loads take. Each is a clause of a function that does nothing.
+//! Laws about the values of loads. Each law is the contract of a function with an empty body.
 ghost use Rattle.std.specs.Prelude.{◌≡◌, ◌==◌, ℕ, List, ◌∷◌, fold, length, map};
 ghost use Rattle.std.specs.List.{All, Contains, IsDistinct};
 ghost use Rattle.tc_code.specs.Code.{Code};
@@ -22,8 +22,8 @@ ghost use Rattle.lawful_order.specs.Whole.{AreWhole, IsExecutedBy};
 ghost use Rattle.order_cells.specs.Terms.{HaveTerms};
 ghost use Rattle.read_write.specs.Reading.{read_formula, read_needs};
 
-/// In each world of the paths, the conjuncts of a thread's loads of a line are all true exactly where these loads take what
-/// they are to take.
+/// In each world of the paths, the conjuncts about a thread's loads at a line are all true exactly
+/// when these loads take the right values.
 pub fn reads_are_exact()
     ensures { (code : Code) (paths : Paths) (symbolic : Symbolic) (nodes : List Node) (w : World) (t line : ℕ)
         → IsWorld w → IsWorldOf paths symbolic w → AreWhole paths → IsExecutedBy paths symbolic → AreTerms nodes
@@ -31,13 +31,14 @@ pub fn reads_are_exact()
         → IsExactly nodes w (read_formula code paths symbolic nodes) (Read t line) (ReadRule code paths symbolic nodes w t line) }
 {}
 
-/// Each conjunct is of a thread's loads of a line.
+/// Each conjunct is about a thread's loads at a line.
 pub fn reads_have_their_group()
     ensures { (code : Code) (paths : Paths) (symbolic : Symbolic) (nodes : List Node) (c : Conjunct)
         → Contains (read_formula code paths symbolic nodes) c → (t : ℕ) × (line : ℕ) × (c.group ≡ Read t line) }
 {}
 
-/// Once the nodes are there that the loads need, the formula names terms that are there, and more terms change nothing of it.
+/// Once the nodes that the loads need exist, the formula names only existing terms, and more terms
+/// don't change it.
 pub fn reads_stay()
     ensures made { (code : Code) (symbolic : Symbolic) (nodes later : List Node)
         → HaveTerms nodes symbolic → Grows (fold with_node nodes (read_needs code symbolic nodes)) later
@@ -50,7 +51,8 @@ pub fn reads_stay()
         → read_formula code paths symbolic later ≡ read_formula code paths symbolic nodes }
 {}
 
-/// All events that the formula names are the order's, and those of a read, its own and those of its candidates, are all different.
+/// All events that the formula names exist, and the events of a read and of its candidates are
+/// distinct.
 pub fn reads_are_of_the_order()
     ensures within { (code : Code) (paths : Paths) (symbolic : Symbolic) (nodes : List Node) (o : Order)
         → IsExecutedBy paths symbolic → o.events ≡ length (all_events paths) → All (ConjunctIsIn o) (read_formula code paths symbolic nodes) }

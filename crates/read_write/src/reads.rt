@@ -1,8 +1,8 @@
-//! What loads take.
+//! The values that loads take.
 ghost use Rattle.std.specs.Prelude.{◌≡◌, ◌≤◌, [], List, fold, length, IfOk, OnOk, option_map, slice_get};
 ghost use Rattle.std.specs.List.{All, filter_map, flat_map};
 ghost use Rattle.std.specs.Option.{option_map_or, option_to_list};
-ghost use Rattle.tc_base.specs.declared.limits.TheConstants.{EVENTS};
+ghost use Rattle.tc_limits.specs.declared.limits.TheConstants.{EVENTS};
 ghost use Rattle.sym_terms.specs.Terms.{with_node};
 ghost use Rattle.sym_terms.specs.declared.node.Node.{Node};
 ghost use Rattle.sym_exec.specs.Making.{Grows};
@@ -23,10 +23,11 @@ use sym_exec::{Cell, Symbolic};
 use sym_terms::Terms;
 use tc_code::Code;
 
-/// A conjunct for each load: it takes the value of the last write to its cell that it sees, and where it sees none, that at
-/// the start.
+/// A conjunct for each load: it takes the value of the last write to its cell that it sees, or the
+/// cell's initial value if it sees none.
 ///
-/// The terms get what these need. Refused for want of memory, the terms and what is asked of the order are at most more.
+/// Adds the terms that the conjuncts need. If out of memory, the terms and the questions of the
+/// order may have grown.
 pub fn read_constraints(
     alloc: Global,
     code: &Code,
@@ -75,7 +76,7 @@ fn conjuncts(
     Ok(conjuncts)
 }
 
-/// What the load of a number takes.
+/// The conjunct about the load `number`.
 fn conjunct(
     alloc: Global,
     code: &Code,
@@ -105,7 +106,7 @@ fn conjunct(
     })
 }
 
-/// The writes among the accesses whose value a load may take.
+/// The accesses that are writes whose value a load may take.
 fn candidates(
     alloc: Global,
     events: &Events,
@@ -129,7 +130,7 @@ fn candidates(
     Ok(candidates)
 }
 
-/// An access as a write whose value a load may take, if it is one.
+/// An access as a candidate, if it is a write whose value the load may take.
 fn candidate(
     events: &Events,
     load: &PlacedAccess,
@@ -158,14 +159,14 @@ fn candidate(
     }))
 }
 
-/// Whether an access isn't the load itself, and isn't known to be to another cell.
+/// Whether an access isn't the load itself, nor known to be to another cell.
 fn may_be_seen(terms: &Terms, load: &PlacedAccess, other: &PlacedAccess) -> bool
     ensures { result ≡ spec.may_be_seen terms.now load.now other.now }
 {
     !other.is_one(load) && known_same(terms, other.access.cell, load.access.cell).unwrap_or(true)
 }
 
-/// The line of the event of a number; 0 where there is none.
+/// The line of the event `number`, or 0 if there is none.
 fn line_of(events: &Events, number: u32) -> u32
     ensures { result ≡ option_map_or (λ e. e.it.line) (slice_get events.now number) 0 }
 {
@@ -175,7 +176,7 @@ fn line_of(events: &Events, number: u32) -> u32
     }
 }
 
-/// The value of a cell at the start. Arrays begin with 0 in each element.
+/// The initial value of a cell. Elements of arrays are initially 0.
 fn value_at_start(code: &Code, cell: Cell) -> i32
     ensures { result ≡ cells.value_at_start code.now cell }
 {

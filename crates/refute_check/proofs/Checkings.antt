@@ -13,7 +13,7 @@ use Rattle.refute_check.specs.Left.{by_left, what_is_left}
 use Rattle.refute_check.specs.helpers.Checkers.{AreWithin}
 use Rattle.refute_check.specs.Refutations.{Checking, keep, without, hints_fault, clause_fault, after, judged, refused, passed_clause}
 use Rattle.refute_check.specs.Refutations.{line_fault, verdict, verdict_of}
-use Rattle.tc_base.specs.Buffers.{is_nil}
+use Rattle.list_laws.specs.Lists.{is_nil}
 use Rattle.refute_check.specs.declared.line.Line.TheVariants.{Add, Delete}
 use Rattle.refute_check.specs.declared.line.Line.{Line}
 use Rattle.refute_check.specs.declared.given.Left.{Left}

@@ -36,7 +36,7 @@ use borrow.Author.Tests.{ne_eqb, ltb-true, lt-ltb}
 use Rattle.std.proofs.lemmas.List.Folds.{list_all-append}
 use Rattle.std.specs.Option.{option_map_or}
 use Rattle.std.specs.Prelude.{MatchOption, ⊤, not, drop, length, Option, Some, None}
-use Rattle.tc_base.specs.Buffers.{is_nil}
+use Rattle.list_laws.specs.Lists.{is_nil}
 use Rattle.cnf_core.specs.Clauses.{var_of, is_clause, rises_above}
 use Rattle.refute_check.specs.helpers.Guess.{
   Reader,

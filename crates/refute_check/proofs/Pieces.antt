@@ -41,7 +41,7 @@ use Rattle.refute_check.specs.Reading.{Reading, Reads, ReadsTo, IsTakenAs, after
 use Rattle.refute_check.specs.helpers.Pieces.{ReadsMore}
 use Rattle.refute_check.specs.helpers.Pieces.{pushed}
 use Rattle.refute_check.specs.Refutations.{is_line}
-use Rattle.tc_base.specs.Buffers.{is_nil}
+use Rattle.list_laws.specs.Lists.{is_nil}
 use Rattle.refute_check.specs.declared.line.TheConstants.{LINES}
 use Rattle.refute_check.specs.Laws.{whole_lines, IsWhole, BrokenIsNoText}
 use Rattle.refute_check.specs.Broken.{BreaksFrom, BreaksAt, IsFaultFrom}

@@ -34,7 +34,7 @@ use borrow.Author.Tests.{eqb-true}
 use Rattle.refute_check.specs.Texts.{head_text, line_text, is_readable, ended, refutation_text}
 use Rattle.refute_check.specs.Reading.{Reading, Reads, IsTakenAs, after_taken, beginning}
 use Rattle.refute_check.specs.helpers.Pieces.{pushed}
-use Rattle.tc_base.specs.Buffers.{is_nil}
+use Rattle.list_laws.specs.Lists.{is_nil}
 use Rattle.refute_check.specs.declared.line.TheConstants.{LINES}
 use Rattle.refute_check.specs.Laws.{whole_lines, IsWhole, ReadIsText}
 use Rattle.refute_check.proofs.Cuts.{Step, stuck}

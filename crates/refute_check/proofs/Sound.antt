@@ -15,7 +15,7 @@ use Rattle.refute_check.specs.Kept.{KeptClauses}
 use Rattle.refute_check.specs.Literals.{is_among, left}
 use Rattle.refute_check.specs.Left.{by_left, what_is_left, counted}
 use Rattle.refute_check.specs.Refutations.{Checking, keep, opening, start, without, hints_fault, clause_fault, line_fault, after, judged, verdict_of}
-use Rattle.tc_base.specs.Buffers.{is_nil}
+use Rattle.list_laws.specs.Lists.{is_nil}
 use Rattle.refute_check.specs.Laws.{ClosedMeansUnsatisfiable}
 use Rattle.refute_check.specs.declared.line.Line.{Line}
 use Rattle.refute_check.specs.declared.line.Line.TheVariants.{Add, Delete}

@@ -4,7 +4,7 @@ use Rattle.std.proofs.Common.{◌≡◌, ℕ, ℤ, List, [], ◌∷◌, true, re
 use Rattle.std.specs.Prelude.{nat_lt, not, ◌&&◌}
 use Rattle.std.specs.List.{list_all}
 use Rattle.cnf_core.specs.Clauses.{is_clause, var_of}
-use Rattle.tc_base.specs.Buffers.{is_nil}
+use Rattle.list_laws.specs.Lists.{is_nil}
 use Rattle.refute_check.specs.Numbers.{are_numbers}
 use Rattle.refute_check.specs.Refutations.{is_line}
 use Rattle.refute_check.specs.Texts.{is_readable}

@@ -1,4 +1,4 @@
--- What a verdict means, and how texts and their values belong together.
+-- What a verdict means, and how texts and their values correspond.
 use Rattle.std.specs.Prelude.{◌≡◌, ℕ, ◌+◌, ◌≤◌, List, [], ◌∷◌, length, None, IsTrue}
 use Rattle.std.specs.List.{list_all}
 use Rattle.cnf_core.specs.Clauses.{Formula, IsUnsatisfiable}
@@ -12,23 +12,23 @@ use Rattle.refute_check.specs.declared.text.Taken.{Taken}
 use Rattle.refute_check.specs.declared.text.Taken.TheVariants.{Header}
 use Rattle.refute_check.specs.declared.line.Line.{Line}
 
--- where a derivation is closed, whoever made it, nothing satisfies the formula's clauses
+-- if a derivation is closed, whatever produced it, the formula's clauses are unsatisfiable
 abbrev pub ClosedMeansUnsatisfiable : Type 0
 ClosedMeansUnsatisfiable = (f : Formula) (lines : List Line) → IsClosed f lines → IsUnsatisfiable f.clauses
 
--- the lines of a text: a first line, then those of a derivation
+-- the lines of a text: the header, then those of a derivation
 abbrev pub whole_lines : Head → List Line → List Taken
 whole_lines h ls = Header h ∷ bodies ls
 
--- a first line and a derivation as the format allows them
+-- a header and a derivation that the format can express
 abbrev pub IsWhole : Head → List Line → Type 0
 IsWhole h ls = IsTrue (is_head h) × IsTrue (list_all is_readable ls) × (length ls ≤ LINES)
 
--- bytes are read in one way
+-- reading is deterministic
 abbrev pub ReadsAgree : Type 0
 ReadsAgree = (bytes : List ℕ) (s t u : Reading) (xs ys : List Taken) → Reads s bytes xs t → Reads s bytes ys u → (xs ≡ ys) × (t ≡ u)
 
--- a text is read as what it is the text of, and nothing breaks the form
+-- the text of a header and lines is read as these, and no line breaks the form
 abbrev pub TextIsRead : Type 0
 TextIsRead =
     (h : Head) (ls : List Line) → IsWhole h ls
@@ -39,12 +39,12 @@ abbrev pub TextHasOneValue : Type 0
 TextHasOneValue =
     (h k : Head) (ls ms : List Line) → IsWhole h ls → IsWhole k ms → refutation_text h ls ≡ refutation_text k ms → (h ≡ k) × (ls ≡ ms)
 
--- bytes in which nothing breaks the form are the text of what they are read as
+-- bytes in which no line breaks the form are the text of what was read from them
 abbrev pub ReadIsText : Type 0
 ReadIsText =
     (bytes : List ℕ) (ts : List Taken) (t : Reading) → Reads beginning bytes ts t → first_breach t ≡ None
     → (h : Head) × (ls : List Line) × (ts ≡ whole_lines h ls) × IsWhole h ls × (refutation_text h ls ≡ bytes)
 
--- bytes in which a line breaks the form are no text
+-- bytes in which a line breaks the form aren't the text of any refutation
 abbrev pub BrokenIsNoText : Type 0
 BrokenIsNoText = (bytes : List ℕ) (n : ℕ) → BreaksAt bytes n → (h : Head) (ls : List Line) → IsWhole h ls → refutation_text h ls ≡ bytes → ⊥

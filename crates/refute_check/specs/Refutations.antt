@@ -1,11 +1,11 @@
--- Derivations, and what a checker makes of them line by line.
+-- Derivations, and how a checker judges them line by line.
 use Rattle.std.specs.Prelude.{◌≡◌, ℕ, ◌+◌, ◌≤◌, Bool, true, false, not, ◌&&◌, ◌||◌, if◌then◌else◌, List, [], ◌∷◌, ◌++◌, map, length, ℤ, neg_ℤ, Option, Some, None, is_some, Result, Ok, Err, IsTrue}
 use Rattle.std.specs.List.{list_all, fold}
 use Rattle.std.specs.Option.{option_map_or}
 use Rattle.std.specs.FinMap.{empty, get, insert, remove}
 use Rattle.cnf_core.specs.Clauses.{Formula, is_within}
 use Rattle.refute_check.specs.Left.{by_left, what_is_left}
-use Rattle.tc_base.specs.Buffers.{is_nil}
+use Rattle.list_laws.specs.Lists.{is_nil}
 use Rattle.refute_check.specs.Kept.{KeptClauses}
 use Rattle.refute_check.specs.declared.line.TheConstants.{LINES}
 use Rattle.refute_check.specs.declared.line.Line.{Line}
@@ -15,16 +15,16 @@ use Rattle.refute_check.specs.declared.verdict.CheckFault.TheVariants.{NoVariabl
 use Rattle.refute_check.specs.declared.verdict.Checked.{Checked}
 use Rattle.refute_check.specs.declared.verdict.Checked.TheVariants.{Closed, Open}
 
--- a line of a derivation names a clause if it deletes
+-- whether a line may be in a derivation: a deletion names at least one clause
 abbrev pub is_line : Line → Bool
 is_line (Add lits hints) = true
 is_line (Delete ns) = not (is_nil ns)
 
--- a derivation: not too many lines
+-- a derivation: at most `LINES` such lines
 abbrev pub IsDerivation : List Line → Type 0
 IsDerivation lines = (length lines ≤ LINES) × IsTrue (list_all is_line lines)
 
--- the first fault of hints in turn, for the line of that number, where the given literals are true
+-- the first fault of the hints of line `n`, taken in turn, if the given literals are true
 abbrev pub hints_fault : ℕ → KeptClauses → List ℤ → List ℕ → Option CheckFault
 hints_fault n kept given [] = Some (NoConflict n)
 hints_fault n kept given (h ∷ hs) =
@@ -33,27 +33,27 @@ hints_fault n kept given (h ∷ hs) =
     (get kept h)
     (Some (NoClause n))
 
--- each number is kept at its turn, where they are taken out one after the other
+-- whether the clauses of these numbers can be deleted one after the other
 abbrev pub can_delete : KeptClauses → List ℕ → Bool
 can_delete kept [] = true
 can_delete kept (n ∷ ns) = is_some (get kept n) && can_delete (remove kept n) ns
 
--- what is kept without those numbers
+-- the kept clauses without those of these numbers
 abbrev pub without : KeptClauses → List ℕ → KeptClauses
 without kept ns = fold remove kept ns
 
--- the first fault of the line of that number that adds a clause, over that many variables and the kept clauses
+-- the first fault of line `n` if it adds a clause, over `vars` variables and the kept clauses
 abbrev pub clause_fault : ℕ → ℕ → KeptClauses → List ℤ → List ℕ → Option CheckFault
 clause_fault n vars kept lits hints = if is_within vars lits then hints_fault n kept (map neg_ℤ lits) hints else Some (NoVariable n)
 
--- the first fault of the line of that number
+-- the first fault of line `n`
 abbrev pub line_fault : ℕ → ℕ → KeptClauses → Line → Option CheckFault
 line_fault n vars kept (Add lits hints) = clause_fault n vars kept lits hints
 line_fault n vars kept (Delete ns) = if can_delete kept ns then None else Some (NoClause n)
 
--- what a checker knows between two lines
+-- the state of a checker between two lines
 pub record Checking : Type 0 where
-  -- the number of the last line, where the header is line 1
+  -- the number of the last line; the header is line 1
   pub line : ℕ
   pub vars : ℕ
   pub kept : KeptClauses
@@ -61,44 +61,44 @@ pub record Checking : Type 0 where
   pub next : ℕ
   -- whether an empty clause was added
   pub closed : Bool
-  -- the first fault, after which nothing is kept
+  -- the first fault; after it no clause is kept
   pub fault : Option CheckFault
 
--- one clause more, under the next number
+-- keeps one more clause, under the next number
 abbrev pub keep : Checking → List ℤ → Checking
 keep s c = record s { kept = insert s.kept s.next c; next = s.next + 1 }
 
--- over that many variables, before any clause
+-- the state before any clause, over `vars` variables
 abbrev pub opening : ℕ → Checking
 opening vars = record { line = 1; vars = vars; kept = empty; next = 1; closed = false; fault = None }
 
--- the clauses of a formula have the numbers 1, 2 and so on
+-- the state with the clauses of a formula, numbered 1, 2 and so on
 abbrev pub start : Formula → Checking
 start f = fold keep (opening f.vars) f.clauses
 
--- what a line leaves that adds a clause and passes
+-- the state after a line that adds a clause and passes
 abbrev pub passed_clause : Checking → List ℤ → Checking
 passed_clause s lits = record (keep s lits) { line = s.line + 1; closed = s.closed || is_nil lits }
 
--- what a line that passes leaves
+-- the state after a line that passes
 abbrev pub passed : Checking → Line → Checking
 passed s (Add lits hints) = passed_clause s lits
 passed s (Delete ns) = record s { line = s.line + 1; kept = without s.kept ns }
 
--- what a line with a fault leaves
+-- the state after a line with a fault
 abbrev pub refused : CheckFault → Checking → Checking
 refused f s = record s { line = s.line + 1; kept = empty; fault = Some f }
 
--- what a line leaves whose first fault is the one given, if any
+-- the state after a line with this first fault, if any
 abbrev pub judged : Option CheckFault → Checking → Line → Checking
 judged None s l = passed s l
 judged (Some f) s l = refused f s
 
--- what a line leaves; after a fault, nothing changes any more
+-- the state after a line; after a fault, nothing changes any more
 abbrev pub after : Checking → Line → Checking
 after s l = if is_some s.fault then s else judged (line_fault (s.line + 1) s.vars s.kept l) s l
 
--- the first fault, else whether an empty clause was added
+-- the first fault, or else whether an empty clause was added
 abbrev pub verdict_of : Option CheckFault → Bool → Result Checked CheckFault
 verdict_of None closed = Ok (if closed then Closed else Open)
 verdict_of (Some f) closed = Err f
@@ -106,7 +106,7 @@ verdict_of (Some f) closed = Err f
 abbrev pub verdict : Checking → Result Checked CheckFault
 verdict s = verdict_of s.fault s.closed
 
--- the verdict on a derivation over the formula's clauses
+-- the verdict on a derivation over a formula's clauses
 abbrev pub check : Formula → List Line → Result Checked CheckFault
 check f lines = verdict (fold after (start f) lines)
 

@@ -1,4 +1,4 @@
--- No promise speaks of what stands in this folder.
+-- No promise refers to the definitions of this folder.
 pub mod Blocks
 pub mod Checkers
 pub mod Given

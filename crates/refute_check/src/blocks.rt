@@ -1,18 +1,18 @@
-//! Where a clause is found by its number: 64 numbers in a row have places in a row, and rows are scattered.
+//! How a clause is found by its number: rows of 64 numbers stay together, and rows are hashed.
 ghost use Rattle.std.specs.Prelude.{◌≡◌};
 ghost use Rattle.std.specs.List.{fold};
 ghost use Rattle.refute_check.specs.helpers.Blocks.{next_number, place_of_number};
 
 use std::hash::{BuildHasher, Hasher};
 
-/// A number whose place is sought.
+/// A number whose place is being computed.
 #[derive(Clone, Copy)]
 pub struct Blocks {
     number: u32,
 }
 
 impl Blocks {
-    /// Before any number.
+    /// The state before any byte of a number.
     pub fn new() -> Blocks
         ensures { result.number ≡ 0 }
     {
@@ -44,7 +44,7 @@ impl BuildHasher for Blocks {
     }
 }
 
-/// A number's bytes come lowest first.
+/// The number after some of its bytes, the lowest first.
 fn number_after(number: u32, bytes: &[u8]) -> u32
     ensures { result ≡ fold next_number number bytes.now }
 {
@@ -55,7 +55,7 @@ fn number_after(number: u32, bytes: &[u8]) -> u32
     number
 }
 
-/// The row is scattered by a multiplication, and the place in the row stays.
+/// Hashes the row by a multiplication, and keeps the place in the row.
 fn place_of(number: u32) -> u64
     ensures { result ≡ place_of_number number }
 {

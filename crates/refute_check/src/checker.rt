@@ -9,10 +9,11 @@ use cnf_core::{Clause, Cnf, Lit, is_within};
 use std::alloc::{AllocError, Global};
 use std::marker::Model;
 
-/// What is known between two lines of a derivation over a formula: the clauses that are kept with their numbers, the number of
-/// the next, whether an empty clause was added, and the first fault. Nothing else of the lines is kept.
+/// The state between two lines of a derivation over a formula: the kept clauses by number, the next
+/// number, whether an empty clause was added, and the first fault. It keeps nothing else of the
+/// lines.
 ///
-/// The time of a line is linear in its literals and numbers and in the literals of the clauses that it names.
+/// A line takes time linear in its literals and numbers, and in the literals of clauses it names.
 #[derive(Drop)]
 pub struct Checker {
     alloc: Global,
@@ -66,7 +67,7 @@ impl Checker {
         Ok(checker)
     }
 
-    /// One of the formula's clauses.
+    /// Keeps one of the formula's clauses.
     fn keep(&mut self, clause: &[Lit]) -> Result<(), AllocError>
         requires rises { IsTrue (is_clause clause.now) }
         requires within { IsTrue (is_within self.old.vars clause.now) }
@@ -79,7 +80,7 @@ impl Checker {
         Ok(())
     }
 
-    /// Takes the next line. After a fault of a line each later call answers that fault, and nothing changes.
+    /// Checks the next line. After a fault, each later call returns it, and nothing changes.
     pub fn add(&mut self, line: &Line) -> Result<(), CheckFault>
         requires { self.old.line ≤ LINES }
         ensures ok { OnOk result ((self.new ≡ after self.old line.now) × (self.new.fault ≡ None)) }
@@ -95,14 +96,14 @@ impl Checker {
         }
     }
 
-    /// The number of the last line, where the header is line 1. Up to [`LINES`] a further line may be added.
+    /// The number of the last line; the header is line 1. More lines may be added up to [`LINES`].
     pub fn line(&self) -> u32
         ensures { result ≡ self.now.line }
     {
         self.line
     }
 
-    /// What the lines so far show, or their first fault.
+    /// What the lines so far prove, or their first fault.
     pub fn verdict(&self) -> Result<Checked, CheckFault>
         ensures { result ≡ verdict self.now }
     {
@@ -113,7 +114,7 @@ impl Checker {
         }
     }
 
-    /// A line that adds a clause.
+    /// Checks a line that adds a clause.
     fn add_clause(&mut self, clause: &Clause, hints: &Numbers) -> Result<(), CheckFault>
         requires none { self.old.fault ≡ None }
         requires lines { self.old.line ≤ LINES }
@@ -151,7 +152,7 @@ impl Checker {
         hints::clause_fault(self.line + 1, &self.kept, &mut self.given, clause, hints)
     }
 
-    /// A line adds a clause and passes.
+    /// Records a line that adds a clause and passes.
     fn pass(&mut self, clause: &[Lit]) -> Result<(), AllocError>
         requires rises { IsTrue (is_clause clause.now) }
         requires within { IsTrue (is_within self.old.vars clause.now) }
@@ -167,7 +168,7 @@ impl Checker {
         Ok(())
     }
 
-    /// A line has a fault, after which nothing is kept.
+    /// Records a fault; after it no clause is kept.
     fn refuse(&mut self, fault: CheckFault)
         requires lines { self.old.line ≤ LINES }
         requires fault { fault ≢ CheckFault.Memory }
@@ -178,7 +179,7 @@ impl Checker {
         self.fault = Some(fault);
     }
 
-    /// A line that deletes clauses.
+    /// Checks a line that deletes clauses.
     fn delete(&mut self, numbers: &Numbers) -> Result<(), CheckFault>
         requires none { self.old.fault ≡ None }
         requires lines { self.old.line ≤ LINES }

@@ -1,15 +1,15 @@
-//! Why bytes are no refutation.
+//! Why bytes aren't a refutation.
 ghost use Rattle.std.specs.Prelude.{◌≡◌};
 ghost use Rattle.refute_check.specs.declared.fault.RefutationFault.TheVariants.{Memory};
 
 use std::alloc::{AllocError, AllocFailed};
 
-/// Why bytes are no refutation.
+/// Why bytes aren't a refutation.
 #[derive(Clone, Copy, Debug, PartialEq, Eq)]
 pub enum RefutationFault {
     /// The number, from 1, of the first line that breaks the form.
     Form(u32),
-    /// There was no memory.
+    /// Memory ran out.
     Memory,
 }
 

@@ -9,9 +9,9 @@ use cnf_core::Lit;
 use std::alloc::{AllocError, Global};
 use std::marker::Model;
 
-/// Literals over the variables 1 to a number, each with a mark, so that it takes constant time to find one.
+/// Literals over the variables 1 to a number, each with a mark for lookups in constant time.
 ///
-/// They are taken back one by one, in time that doesn't depend on the number of variables.
+/// Clearing takes time linear in the literals, whatever the number of variables.
 #[derive(Drop)]
 pub struct Given {
     vars: u32,
@@ -29,7 +29,7 @@ impl Model for Given {
     ghost invariant = { AreMarked };
 }
 
-/// Where the mark of a literal is.
+/// The index of a literal's mark.
 fn place_of(lit: Lit) -> usize
     ensures place { result ≡ place_of lit }
     ensures positive { 0 < var_of lit }
@@ -41,11 +41,11 @@ fn place_of(lit: Lit) -> usize
 /// What is left of a clause without its false literals.
 #[derive(Clone, Copy, Debug, PartialEq, Eq)]
 pub enum Left {
-    /// No literal: the clause is false.
+    /// No literal is left: the clause is false.
     Nothing,
-    /// One literal, which is to be true.
+    /// One literal is left, and must be true.
     One(Lit),
-    /// More literals.
+    /// More than one literal is left.
     More,
 }
 
@@ -53,7 +53,7 @@ impl Given {
     ghost use Rattle.refute_check.specs.Left.{what_is_left};
     ghost use Rattle.refute_check.specs.helpers.Given.{those};
 
-    /// No literals.
+    /// An empty set of literals.
     pub fn new(alloc: Global, vars: u32) -> Result<Given, AllocError>
         requires { vars < LIMIT }
         ensures vars { IfOk result (λ given. given.vars ≡ vars) }
@@ -66,7 +66,7 @@ impl Given {
         })
     }
 
-    /// Whether a literal is false where these are true.
+    /// Whether a literal is false if these are true.
     pub fn is_false(&self, lit: Lit) -> bool
         requires { var_of lit ≤ self.now.vars }
         ensures { result ≡ is_among self.now.literals (neg_ℤ lit) }
@@ -74,7 +74,7 @@ impl Given {
         self.marks[place_of(lit.opposite())]
     }
 
-    /// One literal more.
+    /// Adds a literal.
     pub fn assume(&mut self, lit: Lit) -> Result<(), AllocError>
         requires { var_of lit ≤ self.old.vars }
         ensures vars { self.new.vars ≡ self.old.vars }
@@ -86,7 +86,7 @@ impl Given {
         Ok(())
     }
 
-    /// No literals any more.
+    /// Removes all literals.
     pub fn clear(&mut self)
         ensures vars { self.new.vars ≡ self.old.vars }
         ensures literals { self.new.literals ≡ [] }
@@ -96,7 +96,7 @@ impl Given {
         }
     }
 
-    /// What is left of a clause where these are true.
+    /// What is left of a clause if these are true.
     pub fn left(&self, clause: &[Lit]) -> Left
         requires { IsTrue (is_within self.now.vars clause.now) }
         ensures left { result ≡ what_is_left self.now.literals clause.now }
@@ -114,7 +114,7 @@ impl Given {
         found
     }
 
-    /// More literals: those that are true where the given ones are false.
+    /// Adds the negations of some literals.
     pub fn assume_opposites(&mut self, literals: &[Lit]) -> Result<(), AllocError>
         requires none { self.old.literals ≡ [] }
         requires within { IsTrue (is_within self.old.vars literals.now) }

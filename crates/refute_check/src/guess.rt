@@ -30,7 +30,7 @@ pub fn guessed(alloc: Global, bytes: &[u8]) -> Result<Vec<i64>, AllocError>
     Ok(numbers)
 }
 
-/// A number of that size and sign.
+/// The number of this size and sign.
 fn number_of(size: u64, negative: bool) -> i64
     requires { size < 4294967296 }
     ensures { result ≡ number_of size negative }
@@ -42,7 +42,7 @@ fn number_of(size: u64, negative: bool) -> i64
     }
 }
 
-/// The literals in front of some numbers.
+/// The literals at the front of some numbers.
 fn literals_in(alloc: Global, numbers: &[i64]) -> Result<Vec<Lit>, AllocError>
     ensures { IfOk result (λ literals. literals.items ≡ literals_in numbers.now) }
 {
@@ -67,7 +67,7 @@ fn literal_of(number: i64) -> Option<Lit>
     Some(Lit::new(size as u32, number < 0))
 }
 
-/// A number as a clause's.
+/// A number as the number of a clause.
 fn clause_number_of(number: i64) -> Option<u32>
     ensures { result ≡ clause_number_of number }
 {
@@ -77,7 +77,7 @@ fn clause_number_of(number: i64) -> Option<u32>
     Some(number as u32)
 }
 
-/// The clauses' numbers in front of some numbers.
+/// The numbers of clauses at the front of some numbers.
 fn clause_numbers_in(alloc: Global, numbers: &[i64]) -> Result<Vec<u32>, AllocError>
     ensures found { IfOk result (λ found. found.items ≡ clause_numbers_in numbers.now) }
     ensures positive { IfOk result (λ found. IsTrue (are_numbers found.items)) }
@@ -103,7 +103,7 @@ fn rest(numbers: &[i64], count: usize) -> &[i64]
     }
 }
 
-/// The line that some bytes may be. No other line has them as its text.
+/// The line that some bytes may be; no other line has this text.
 pub fn line_guess(alloc: Global, bytes: &[u8]) -> Result<Option<Line>, AllocError>
     ensures { IfOk result (λ line. line ≡ line_guess bytes.now) }
 {

@@ -1,12 +1,12 @@
-//! The first line of a refutation.
+//! The header of a refutation.
 
-use tc_base::Model;
+use memory_models::Model;
 
-/// What a refutation's first line says: the memory model, and the number of context switches if the formula bounds them.
+/// The header of a refutation: the memory model, and the bound on context switches, if any.
 #[derive(Clone, Copy, Debug, PartialEq, Eq)]
 pub struct Head {
     /// The memory model of the formula.
     pub model: Model,
-    /// The formula asks for at most this many context switches.
+    /// The formula allows at most this many context switches.
     pub switches: Option<u8>,
 }

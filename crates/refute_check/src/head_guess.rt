@@ -1,10 +1,10 @@
-//! What a first line says.
+//! The header that some bytes may be.
 ghost use Rattle.std.specs.Prelude.{◌≡◌, ◌<◌, IfSome, IsTrue, drop};
 ghost use Rattle.refute_check.specs.helpers.Guess.{small_number, switches_in, head_by, head_guess};
 ghost use Rattle.refute_check.specs.Texts.{is_head};
 
 use crate::Head;
-use tc_base::Model;
+use memory_models::Model;
 
 /// The bytes without the first ones.
 fn after(bytes: &[u8], count: usize) -> &[u8]
@@ -17,7 +17,7 @@ fn after(bytes: &[u8], count: usize) -> &[u8]
     }
 }
 
-/// A number in some digits, of which the last 8 bits are right.
+/// The number of some digits, modulo 256.
 fn small_number(digits: &[u8]) -> u8
     ensures { result ≡ small_number digits.now }
 {
@@ -28,7 +28,7 @@ fn small_number(digits: &[u8]) -> u8
     number as u8
 }
 
-/// What comes after a first line's model, where it isn't empty, is ` switches ` and a number.
+/// The number of switches after the header's model: ` switches ` and a number, or no bytes.
 fn switches_in(bytes: &[u8]) -> Option<u8>
     ensures { result ≡ switches_in bytes.now }
 {
@@ -38,7 +38,7 @@ fn switches_in(bytes: &[u8]) -> Option<u8>
     Some(small_number(after(bytes, 10)))
 }
 
-/// The first line by its model's first letter and the bytes from there on.
+/// The header, from its model's first letter and the bytes from there on.
 fn head_by(letter: u8, bytes: &[u8]) -> Option<Head>
     ensures { result ≡ head_by letter bytes.now }
 {
@@ -54,7 +54,7 @@ fn head_by(letter: u8, bytes: &[u8]) -> Option<Head>
     })
 }
 
-/// The first line that some bytes may be. No other first line has them as its text.
+/// The header that some bytes may be; no other header has this text.
 pub fn head_guess(bytes: &[u8]) -> Option<Head>
     ensures head { result ≡ head_guess bytes.now }
     ensures form { IfSome result (λ h. IsTrue (is_head h)) }

@@ -1,4 +1,4 @@
-//! What the hints of a line show, and which clauses a line takes out.
+//! What the hints of a line prove, and which clauses a line deletes.
 ghost use Rattle.std.specs.Prelude.{◌≡◌, IfOk, IsTrue, if◌then◌else◌, map, neg_ℤ, [], None, Some};
 ghost use Rattle.refute_check.specs.Refutations.{hints_fault, can_delete, without};
 ghost use Rattle.refute_check.specs.helpers.Checkers.{AreWithin};
@@ -8,7 +8,7 @@ use crate::{CheckFault, Given, Kept, Left};
 use cnf_core::Lit;
 use std::alloc::AllocError;
 
-/// The first fault of hints in turn, for the line of that number, from the given literals on.
+/// The first fault of the hints of line `line`, taken in turn, from the given literals on.
 pub fn hints_fault(
     line: u32,
     kept: &Kept,
@@ -32,7 +32,7 @@ pub fn hints_fault(
     Ok(Some(CheckFault::NoConflict(line)))
 }
 
-/// The first fault of a line's hints where the literals of its clause are false. No literal is given before or after.
+/// The first fault of a line's hints if its clause is false. No literal is given before or after.
 pub fn clause_fault(
     line: u32,
     kept: &Kept,
@@ -55,7 +55,7 @@ pub fn clause_fault(
     fault
 }
 
-/// A conflict is to be met by the last hint.
+/// The fault of a conflict, which only the last hint may have.
 fn conflict(line: u32, is_last: bool) -> Option<CheckFault>
     ensures { result ≡ (if is_last then None else Some (CheckFault.Hint line)) }
 {
@@ -66,7 +66,7 @@ fn conflict(line: u32, is_last: bool) -> Option<CheckFault>
     }
 }
 
-/// Takes clauses out one after the other, as far as each is kept at its turn, and says whether all were.
+/// Deletes clauses one after the other until one isn't kept, and tells whether all were.
 pub fn delete(kept: &mut Kept, numbers: &[u32]) -> bool
     ensures all { result ≡ can_delete kept.old numbers.now }
     ensures gone { IsTrue result → kept.new ≡ without kept.old numbers.now }

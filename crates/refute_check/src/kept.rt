@@ -1,4 +1,4 @@
-//! The clauses that are kept, by their numbers.
+//! The kept clauses, by their numbers.
 ghost use Rattle.std.specs.Prelude.{◌≡◌, ℤ, List, OnOk, OnErr, is_some, IfSome};
 ghost use Rattle.std.specs.Option.{option_copied};
 ghost use Rattle.std.specs.FinMap as map;
@@ -27,7 +27,7 @@ impl Model for Kept {
 }
 
 impl Kept {
-    /// No clauses.
+    /// An empty map.
     pub fn new(alloc: Global) -> Kept
         ensures { result ≡ map.empty }
     {
@@ -36,14 +36,14 @@ impl Kept {
         }
     }
 
-    /// The clause of that number.
+    /// The clause with this number.
     pub fn get(&self, number: u32) -> Option<&Clause>
         ensures { option_copied result ≡ map.get self.now number }
     {
         self.clauses.get(&number)
     }
 
-    /// The clause takes that number.
+    /// Keeps a clause under this number.
     pub fn insert(&mut self, number: u32, clause: Clause) -> Result<(), AllocError>
         ensures ok { OnOk result (self.new ≡ map.insert self.old number clause) }
         ensures err { OnErr result (self.new ≡ self.old) }
@@ -52,7 +52,7 @@ impl Kept {
         Ok(())
     }
 
-    /// Takes the clause of that number out, and says whether it was there.
+    /// Removes the clause with this number, and tells whether it was there.
     pub fn remove(&mut self, number: u32) -> bool
         ensures there { result ≡ is_some (map.get self.old number) }
         ensures gone { self.new ≡ map.remove self.old number }

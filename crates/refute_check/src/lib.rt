@@ -1,4 +1,4 @@
-//! Refutations: what they are, their text, and a checker that takes them line by line.
+//! Refutations: their definition, their text, and a checker that takes them line by line.
 #![tactic(auto)]
 
 mod blocks;

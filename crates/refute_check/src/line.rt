@@ -1,4 +1,4 @@
-//! Lines, and the derivations that are made of them.
+//! Lines, and derivations, which consist of lines.
 ghost use Rattle.std.specs.Prelude.{◌≡◌, ℕ, ◌+◌, ◌<◌, ◌≤◌, ◌^◌, List, [], ◌∷◌, ◌++◌, length, slice_get, Some, IsTrue, OnOk, OnErr, IfErr};
 ghost use Rattle.refute_check.specs.Numbers.{are_numbers};
 
@@ -27,7 +27,7 @@ impl Model for Numbers {
 }
 
 impl Numbers {
-    /// These numbers.
+    /// Wraps these numbers.
     pub fn new(numbers: Vec<u32>) -> Numbers
         requires { IsTrue (are_numbers numbers.items) }
         ensures { result ≡ numbers.items }
@@ -47,13 +47,13 @@ impl Numbers {
 /// A line of a derivation.
 #[derive(Debug, Drop)]
 pub enum Line {
-    /// A clause that follows, and the numbers of the clauses that show it, in the order in which they are to be used.
+    /// An implied clause, and the numbers of the clauses that prove it, in the order of their use.
     Add(Clause, Numbers),
-    /// The numbers of clauses that aren't kept any longer.
+    /// The numbers of clauses that are no longer kept.
     Delete(Numbers),
 }
 
-/// Lines in order, at most [`LINES`]; one that deletes names a clause. Contracts see them as a list.
+/// At most [`LINES`] lines; a deletion names a clause. Contracts see them as a list.
 #[derive(Debug, Drop)]
 pub struct Derivation {
     lines: Vec<Line>,
@@ -75,7 +75,7 @@ impl Derivation {
     ghost use Rattle.refute_check.specs.Refutations.{IsDerivation, is_line};
     ghost use Rattle.refute_check.specs.declared.line.TheConstants.{LINES};
 
-    /// No lines.
+    /// The empty derivation.
     pub fn new(alloc: Global) -> Derivation
         ensures { result ≡ [] }
     {
@@ -92,7 +92,7 @@ impl Derivation {
         self.lines.as_slice()
     }
 
-    /// One line more, at the end. It comes back where there is no memory.
+    /// Appends a line. If there is no memory, the line is returned.
     pub fn push(&mut self, line: Line) -> Result<(), AllocFailed<Line>>
         requires line { IsTrue (is_line line) }
         requires room { length self.old < LINES }

@@ -8,7 +8,7 @@ use crate::write::{write_head, write_line};
 use crate::{Head, Line};
 use std::alloc::{AllocError, Global};
 
-/// The line whose text these bytes are, without its end, if there is one. Only one line can have them.
+/// The line with this text (without its line end), if there is one. At most one line has it.
 pub fn read_line(alloc: Global, bytes: &[u8]) -> Result<Option<Line>, AllocError>
     ensures { IfOk result (λ line. MatchOption line (IsNoLine bytes.now) (λ l. (line_text l ≡ bytes.now) × IsTrue (is_readable l))) }
 {
@@ -21,7 +21,7 @@ pub fn read_line(alloc: Global, bytes: &[u8]) -> Result<Option<Line>, AllocError
     Ok(None)
 }
 
-/// Whether these bytes are the text of the line.
+/// Whether these bytes are the line's text.
 fn is_line_text(alloc: Global, line: &Line, bytes: &[u8]) -> Result<bool, AllocError>
     ensures { IfOk result (λ same. IsTrue same ↔ (line_text line.now ≡ bytes.now)) }
 {
@@ -30,7 +30,7 @@ fn is_line_text(alloc: Global, line: &Line, bytes: &[u8]) -> Result<bool, AllocE
     Ok(text.as_bytes() == bytes)
 }
 
-/// Whether these bytes are the text of the first line.
+/// Whether these bytes are the header's text.
 fn is_head_text(alloc: Global, head: Head, bytes: &[u8]) -> Result<bool, AllocError>
     ensures { IfOk result (λ same. IsTrue same ↔ (head_text head ≡ bytes.now)) }
 {
@@ -39,7 +39,7 @@ fn is_head_text(alloc: Global, head: Head, bytes: &[u8]) -> Result<bool, AllocEr
     Ok(text.as_bytes() == bytes)
 }
 
-/// The first line whose text these bytes are, without its end, if there is one. Only one first line can have them.
+/// The header with this text (without its line end), if there is one. At most one header has it.
 pub fn read_head(alloc: Global, bytes: &[u8]) -> Result<Option<Head>, AllocError>
     ensures { IfOk result (λ head. MatchOption head (IsNoHead bytes.now) (λ h. (head_text h ≡ bytes.now) × IsTrue (is_head h))) }
 {

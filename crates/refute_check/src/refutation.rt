@@ -9,10 +9,10 @@ ghost use Rattle.refute_check.specs.Broken.{IsFault, IsFaultFrom};
 use crate::{Derivation, Head, RefutationFault, RefutationText, Taken};
 use std::alloc::Global;
 
-/// The first line and the derivation whose text these bytes are.
+/// The header and the derivation with this text.
 ///
-/// Bytes are either the text of one first line and one derivation, or have one line that is the first to break the form, so the
-/// answer is the only one that there is, but for `Memory`.
+/// Bytes either are the text of one header and derivation, or have one line that first breaks the
+/// form, so the answer is unique, except for `Memory`.
 pub fn read_refutation(alloc: Global, bytes: &[u8]) -> Result<(Head, Derivation), RefutationFault>
     ensures found { IfOk result (λ r. IsWhole r.0 r.1 × (refutation_text r.0 r.1 ≡ bytes.now)) }
     ensures refused { IfErr result (λ fault. IsFault bytes.now fault) }
@@ -26,7 +26,7 @@ pub fn read_refutation(alloc: Global, bytes: &[u8]) -> Result<(Head, Derivation)
     Ok((head, derivation))
 }
 
-/// The lines after the first one, whose text these bytes are.
+/// The lines after the header.
 fn read_lines(
     alloc: Global,
     mut text: RefutationText,
@@ -48,7 +48,7 @@ fn read_lines(
     }
 }
 
-/// Takes bytes up to the next line's end, keeps that line, and says how many.
+/// Reads up to the next line end, keeps that line, and returns the number of bytes.
 fn read_more(
     text: &mut RefutationText,
     lines: &mut Derivation,

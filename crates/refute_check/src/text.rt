@@ -1,4 +1,4 @@
-//! A refutation's text, taken piece by piece.
+//! A refutation's text, read piece by piece.
 ghost use Rattle.std.specs.Prelude.{
   ◌≡◌,
   ◌≢◌,
@@ -32,20 +32,20 @@ use crate::{Head, LINES, Line};
 use std::alloc::{AllocError, Global};
 use std::marker::Model;
 
-/// What some bytes of a refutation's text were taken as.
+/// What some bytes of a refutation's text turned out to be.
 #[derive(Debug, Drop)]
 pub enum Taken {
-    /// No line ended in them.
+    /// The bytes end no line.
     More,
-    /// The first line ended.
+    /// The bytes end the header.
     Header(Head),
-    /// Another line ended.
+    /// The bytes end another line.
     Line(Line),
-    /// The line of that number breaks the form.
+    /// The line with this number breaks the form.
     Form(u32),
 }
 
-/// A refutation's text, of which only the line that isn't ended is kept.
+/// A reader of a refutation's text, which stores only the unfinished line.
 #[derive(Debug, Drop)]
 pub struct RefutationText {
     alloc: Global,
@@ -66,7 +66,7 @@ impl Model for RefutationText {
     ghost invariant = { λ t. (0 < t.line) × (t.line ≤ LINES + 2) };
 }
 
-/// However a text is cut into pieces, its lines are the same.
+/// A text has the same lines however it is cut into pieces.
 pub fn cuts_agree()
     ensures { CutsAgree }
 {}
@@ -75,7 +75,7 @@ impl RefutationText {
     ghost use Rattle.refute_check.specs.Reading.{beginning, Reads, lines_of, after_taken, first_breach, fault_of};
     ghost use Rattle.refute_check.specs.helpers.Pieces.{pushed};
 
-    /// A text of which no byte was taken.
+    /// A reader before any byte.
     pub fn new(alloc: Global) -> RefutationText
         ensures { result ≡ beginning }
     {
@@ -87,7 +87,7 @@ impl RefutationText {
         }
     }
 
-    /// Takes bytes up to the first line's end, and says how many. After `Form` it answers that `Form` and takes none.
+    /// Reads up to the first line end and returns the number of bytes. After `Form` it reads none.
     pub fn take(&mut self, bytes: &[u8]) -> Result<(usize, Taken), AllocError>
         ensures count { IfOk result (λ r. r.0 ≤ length bytes.now) }
         ensures through { self.old.fault ≡ None → IfOk result (λ r. r.0 ≡ length (take_through 10 bytes.now)) }
@@ -110,7 +110,7 @@ impl RefutationText {
         Ok((end + 1, taken))
     }
 
-    /// Whether the bytes that were taken are a whole text, which ends with a line's end. `Err` has the number of the first line that breaks the form.
+    /// Whether the bytes so far are a whole text. `Err` has the first line that breaks the form.
     pub fn finish(&self) -> Result<(), u32>
         ensures ok { IsOk result ↔ (first_breach self.now ≡ None) }
         ensures err { IfErr result (λ line. first_breach self.now ≡ Some line) }
@@ -122,7 +122,7 @@ impl RefutationText {
         }
     }
 
-    /// The rest of a line, which ends.
+    /// Reads the rest of a line, which ends.
     fn end_line(&mut self, bytes: &[u8]) -> Result<Taken, AllocError>
         ensures taken { IfOk result (λ t. IsTakenAs self.old.line (self.old.unfinished ++ bytes.now) t) }
         ensures state { IfOk result (λ t. self.new ≡ after_taken (pushed self.old bytes.now) t) }
@@ -147,7 +147,7 @@ impl RefutationText {
     }
 }
 
-/// Where the first line feed is, or where the bytes end.
+/// The index of the first line feed, or the number of bytes.
 fn line_end(bytes: &[u8]) -> usize
     ensures place { result ≡ position_or_len (λ b. b == 10) bytes.now }
     ensures bound { result ≤ length bytes.now }
@@ -160,7 +160,7 @@ fn line_end(bytes: &[u8]) -> usize
     bytes.len()
 }
 
-/// The first bytes of some.
+/// The first `count` bytes.
 fn first(bytes: &[u8], count: usize) -> &[u8]
     requires { count ≤ length bytes.now }
     ensures { result.now ≡ take count bytes.now }
@@ -168,7 +168,7 @@ fn first(bytes: &[u8], count: usize) -> &[u8]
     &bytes[..count]
 }
 
-/// What the bytes of the line of that number are.
+/// What the bytes of line `line` are.
 fn taken_as(alloc: Global, line: u32, bytes: &[u8]) -> Result<Taken, AllocError>
     requires { 0 < line }
     ensures { IfOk result (λ t. IsTakenAs line bytes.now t) }

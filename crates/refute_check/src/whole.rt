@@ -8,37 +8,37 @@ use crate::{CheckFault, Checked, Checker, Derivation};
 use cnf_core::Cnf;
 use std::alloc::Global;
 
-/// Where a derivation is closed, nothing satisfies the formula's clauses.
+/// If a derivation is closed, the formula's clauses are unsatisfiable.
 pub fn closed_means_unsatisfiable()
     ensures { ClosedMeansUnsatisfiable }
 {}
 
-/// Bytes are read in one way.
+/// Reading is deterministic.
 pub fn reads_agree()
     ensures { ReadsAgree }
 {}
 
-/// A text is read as what it is the text of, and nothing in it breaks the form.
+/// The text of a header and lines is read as these, and no line breaks the form.
 pub fn text_is_read()
     ensures { TextIsRead }
 {}
 
-/// A text is that of one first line and one derivation.
+/// A text belongs to only one header and derivation.
 pub fn text_has_one_value()
     ensures { TextHasOneValue }
 {}
 
-/// Bytes in which nothing breaks the form are the text of what they are read as.
+/// Bytes in which no line breaks the form are the text of what was read from them.
 pub fn read_is_text()
     ensures { ReadIsText }
 {}
 
-/// Bytes in which a line breaks the form are no text.
+/// Bytes in which a line breaks the form aren't the text of any refutation.
 pub fn broken_is_no_text()
     ensures { BrokenIsNoText }
 {}
 
-/// The verdict on a derivation over a formula's clauses: the first fault, else whether an empty clause was added.
+/// The verdict on a derivation: the first fault, or else whether an empty clause was added.
 pub fn check(alloc: Global, cnf: &Cnf, derivation: &Derivation) -> Result<Checked, CheckFault>
     ensures verdict { result ≢ Err CheckFault.Memory → result ≡ check cnf.now derivation.now }
     ensures closed { result ≡ Ok Checked.Closed → IsUnsatisfiable cnf.now.clauses }

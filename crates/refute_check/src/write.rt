@@ -14,7 +14,7 @@ use cnf_core::Lit;
 use std::alloc::{AllocError, Global};
 use std::fmt::Write;
 
-/// The text of a refutation. It is the one text that is read as this head and derivation.
+/// The text of a refutation. No other text is read as this header and derivation.
 pub fn write_refutation(
     alloc: Global,
     head: Head,
@@ -32,7 +32,7 @@ pub fn write_refutation(
     Ok(text.into_bytes())
 }
 
-/// The first line without its end.
+/// Writes the header, without its line end.
 pub fn write_head(text: &mut String, head: Head) -> Result<(), AllocError>
     ensures { OnOk result (string_bytes text.new ≡ string_bytes text.old ++ head_text head) }
 {
@@ -58,7 +58,7 @@ fn write_ended(text: &mut String, line: &Line) -> Result<(), AllocError>
     text.push_str("\n")
 }
 
-/// A line without its end.
+/// Writes a line, without its line end.
 #[tactic(auto, using(crate::proofs::Written::added_is_readable, crate::proofs::Written::deleted_is_readable))]
 pub fn write_line(text: &mut String, line: &Line) -> Result<(), AllocError>
     ensures text { OnOk result (string_bytes text.new ≡ string_bytes text.old ++ line_text line.now) }
@@ -88,7 +88,7 @@ fn write_literals(text: &mut String, literals: &[Lit]) -> Result<(), AllocError>
     Ok(())
 }
 
-/// The variable, with a minus sign where it is negated.
+/// Writes the variable, with a minus sign if it is negated.
 fn write_literal(text: &mut String, lit: Lit) -> Result<(), AllocError>
     ensures text { OnOk result (string_bytes text.new ≡ string_bytes text.old ++ (codes " " ++ signed_decimal lit)) }
     ensures small { var_of lit < 2 ^ 31 }
@@ -98,7 +98,7 @@ fn write_literal(text: &mut String, lit: Lit) -> Result<(), AllocError>
     write!(text, " {sign}{var}")
 }
 
-/// The numbers, and the 0 that ends them.
+/// Writes the numbers, and the 0 that ends them.
 fn write_numbers(text: &mut String, numbers: &[u32]) -> Result<(), AllocError>
     requires { IsTrue (are_numbers numbers.now) }
     ensures text { OnOk result (string_bytes text.new ≡ string_bytes text.old ++ (numbers_text (map pos numbers.now) ++ codes " 0")) }

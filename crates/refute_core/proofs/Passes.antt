@@ -11,7 +11,7 @@ use Rattle.std.proofs.lemmas.Bool.{false≢true}
 use Rattle.std.proofs.lemmas.Option.{none-some}
 use borrow.Author.Tests.{eqb-true}
 use Rattle.cnf_core.specs.Clauses.{is_within, Formula}
-use Rattle.tc_base.specs.Buffers.{is_nil}
+use Rattle.list_laws.specs.Lists.{is_nil}
 use Rattle.refute_check.specs.Kept.{KeptClauses}
 use Rattle.refute_check.specs.Left.{by_left, what_is_left}
 use Rattle.refute_check.specs.Refutations.{Checking, IsClosed, keep, opening, start, without, hints_fault, line_fault, after, judged, passed, verdict_of}

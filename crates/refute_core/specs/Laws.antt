@@ -1,4 +1,4 @@
--- What the clauses that are reached mean.
+-- What the reached clauses mean.
 use Rattle.std.specs.Prelude.{ℕ, ◌+◌, ◌<◌, List, [], length, map, get_or}
 use Rattle.std.specs.List.{Contains}
 use Rattle.cnf_core.specs.Clauses.{Formula, IsUnsatisfiable}
@@ -6,7 +6,7 @@ use Rattle.refute_check.specs.Refutations.{IsClosed}
 use Rattle.refute_check.specs.declared.line.Line.{Line}
 use Rattle.refute_core.specs.Reached.{IsReached}
 
--- where a derivation is closed, nothing satisfies those of the formula's clauses that it reaches, whatever becomes of the others
+-- if a derivation is closed, the clauses of the formula that it reaches are unsatisfiable alone
 abbrev pub ReachedAreUnsatisfiable : Type 0
 ReachedAreUnsatisfiable =
     (f : Formula) (lines : List Line) (places : List ℕ) → IsClosed f lines

@@ -1,4 +1,4 @@
-//! Which clauses of a formula a derivation rests on.
+//! Which clauses of a formula a derivation uses.
 #![tactic(auto)]
 
 ghost use Rattle.std.specs.Prelude.{◌≡◌, ◌<◌, ◌≤◌, length, map, IfOk};
@@ -12,13 +12,13 @@ use cnf_core::Cnf;
 use refute_check::{Derivation, Line, Numbers};
 use std::alloc::{AllocError, Global};
 
-/// Nothing satisfies the clauses of a formula that a closed derivation reaches.
+/// The clauses of a formula that a closed derivation reaches are unsatisfiable.
 pub fn reached_are_unsatisfiable()
     ensures { ReachedAreUnsatisfiable }
 {}
 
-/// Of each clause of a formula, in order, whether a closed derivation reaches it. The derivation is gone through once, backwards from
-/// its first empty clause.
+/// Whether a closed derivation reaches each clause of a formula, in order. Takes one pass,
+/// backwards from the first empty clause.
 pub fn reached(alloc: Global, cnf: &Cnf, derivation: &Derivation) -> Result<Vec<bool>, AllocError>
     requires { IsClosed cnf.now derivation.now }
     ensures { IfOk result (λ marks. AreReached cnf.now derivation.now marks.items) }
@@ -36,7 +36,7 @@ pub fn reached(alloc: Global, cnf: &Cnf, derivation: &Derivation) -> Result<Vec<
     Ok(marks)
 }
 
-/// The hints of the clauses that lines add, in order, up to the first empty clause.
+/// The hints of the added clauses, in order, up to the first empty clause.
 fn hints_used(alloc: Global, lines: &[Line]) -> Result<Vec<&Numbers>, AllocError>
     ensures { IfOk result (λ hints. map (λ h. h.now) hints.items ≡ hints_used lines.now) }
 {
@@ -52,7 +52,7 @@ fn hints_used(alloc: Global, lines: &[Line]) -> Result<Vec<&Numbers>, AllocError
     Ok(hints)
 }
 
-/// Marks the clauses of some numbers, which are from 1.
+/// Marks the clauses with these numbers, which count from 1.
 fn mark(marks: &mut [bool], numbers: &[u32])
     requires { All (λ n. (0 < n) × (n ≤ length marks.old)) numbers.now }
     ensures { AreMarked marks.old numbers.now marks.new }

@@ -7,9 +7,10 @@ use Rattle.std.specs.FinMap as fin
 use Rattle.std.specs.FinSet as set
 use Rattle.std.proofs.lemmas.Bool.{false≢true, and_from}
 use Rattle.tc_base.specs.Names.{Name, child}
-use Rattle.tc_base.specs.Buffers.{BufferOps, is_nil}
+use Rattle.tc_base.specs.Buffers.{BufferOps}
+use Rattle.list_laws.specs.Lists.{is_nil}
 use Rattle.tc_base.specs.States.{Local, Thread, State}
-use Rattle.tc_base.specs.declared.model.Model.{Model}
+use Rattle.memory_models.specs.declared.model.Model.{Model}
 use Rattle.tc_base.specs.declared.moves.Move.{Move}
 use Rattle.tc_base.specs.declared.request.Request.{Request}
 use Rattle.tc_base.specs.declared.request.Request.TheVariants.{Silent, WakeOne, Start}

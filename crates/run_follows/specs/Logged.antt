@@ -1,7 +1,8 @@
--- Histories that go as a log says.
+-- Histories that match a log.
 use Rattle.std.specs.Prelude.{◌≡◌, Bool, List, Option, Some, option_map, slice_get, IsSomeAnd}
 use Rattle.std.specs.FinMap as fin
-use Rattle.tc_base.specs.Logs.{Path, ThreadPath, Log, path_under}
+use Rattle.tc_base.specs.Paths.{Path, ThreadPath, path_under}
+use Rattle.run_log.specs.Logs.{Log}
 use Rattle.tc_base.specs.Names.{Name}
 use Rattle.tc_base.specs.States.{Local}
 use Rattle.tc_base.specs.declared.failing.Failing.{Failing}
@@ -13,20 +14,20 @@ use Rattle.run_history.specs.Locals.{locals_in}
 use Rattle.run_history.specs.Told.{failed_in}
 use Rattle.run_follows.specs.Follow.{IsStuckIn}
 
--- the path of what a thread has to itself
+-- the path of a thread, from its local state
 abbrev pub path_by : Local → Path
 path_by t = record { outcomes = t.outcomes; steps = t.steps }
 
--- the path of a thread of a history, if it is there
+-- the path of a thread in a history, if the thread exists
 abbrev pub path_told : Code → List Deed → Name → Option Path
 path_told code h n = option_map path_by (fin.get (locals_in code h) n)
 
--- the thread at a place has failed; or nothing can go on
+-- the history ends as logged: the thread at the index has failed, or there is a deadlock
 abbrev pub EndsAsIn : Bool → Binding → Code → Failing → List ThreadPath → List Deed → Type 0
 EndsAsIn buffered bound code (failing.Thread k) threads h = IsSomeAnd (slice_get threads k) (λ t. failed_in h ≡ Some t.name)
 EndsAsIn buffered bound code failing.Deadlock threads h = IsStuckIn buffered bound code h
 
--- the deeds lead to the end that the log tells of, and each thread goes as it went in the log
+-- the history ends as the log says, and each thread has the same path in both
 pub record GoesAsLogged (buffered : Bool) (bound : Binding) (code : Code) (log : Log) (h : List Deed) : Type 0 where
   pub ends : EndsAsIn buffered bound code log.failing log.threads h
   pub paths : (n : Name) → path_told code h n ≡ path_under n log.threads

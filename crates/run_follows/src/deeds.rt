@@ -1,9 +1,10 @@
-//! How histories go on, and what holds of their deeds. Each function's clause is a law, and its body does nothing.
+//! How histories go on, and facts of their deeds. Each function states a law, and its body does
+//! nothing.
 ghost use Rattle.std.specs.Prelude.{◌≡◌, ◌↔◌, ◌<◌, ◌==◌, ℕ, ℤ, Bool, true, false, Option, Some, None, List, [], ◌∷◌, ◌++◌, length};
 ghost use Rattle.std.specs.FinSet as set;
 ghost use Rattle.tc_base.specs.Buffers.{BufferOps};
 ghost use Rattle.tc_base.specs.Names.{Name};
-ghost use Rattle.tc_base.specs.declared.model.Model.{Model};
+ghost use Rattle.memory_models.specs.declared.model.Model.{Model};
 ghost use Rattle.tc_base.specs.declared.request.Request.{Request};
 ghost use Rattle.tc_code.specs.Code.{Code};
 ghost use Rattle.tc_code.specs.Lawful.{IsLawful};
@@ -16,8 +17,8 @@ ghost use Rattle.run_history.specs.Told.{owner_by, owner_in, waiting_in, failed_
 ghost use Rattle.run_follows.specs.Follow.{MayFollow, AllFollow};
 ghost use Rattle.run_follows.specs.deeds.Cells.{cell_of};
 
-/// Deeds of which each may come after those before it go on by one more that may, and so do the first of them; at the
-/// start there is none.
+/// The empty list is a history, a history may be extended by a deed that may follow it, and every
+/// prefix of a history is one.
 pub fn deeds_go_on()
     ensures start { (buffered : Bool) (bound : Binding) (code : Code) → AllFollow buffered bound code [] }
     ensures more { (buffered : Bool) (bound : Binding) (code : Code) (h : List Deed) (d : Deed)
@@ -26,17 +27,17 @@ pub fn deeds_go_on()
         → AllFollow buffered bound code (first ++ later) → AllFollow buffered bound code first }
 {}
 
-/// Nobody waits on a condition exactly where no thread does.
+/// A condition has no waiters if and only if no thread waits on it.
 pub fn nobody_waits()
     ensures { (h : List Deed) (c : ℕ) → ((set.len (waiting_in h c) == 0) ≡ true) ↔ ((n : Name) → set.contains (waiting_in h c) n ≡ false) }
 {}
 
-/// A mutex has no owner exactly where the last step that took or left it, if there is one, is none that took it.
+/// A mutex has no owner if and only if nothing acquired it or it was released since.
 pub fn nobody_owns()
     ensures { (h : List Deed) (m : ℕ) → (owner_in h m ≡ None) ↔ ((n : Name) → IsLast (owner_by m) h (Some n) → ⊥) }
 {}
 
-/// The cells that steps ask for are in memory, those of drains too, and those that threads ask for next.
+/// The cells of steps, of drains and of next requests are in memory.
 pub fn cells_are_within<B>()
     ensures done { (ops : BufferOps B) (model : Model) (bound : Binding) (code : Code) (h older newer : List Deed) (n : Name) (k c : ℕ) (r : Request)
         (took : ℤ) (other : Option Name)

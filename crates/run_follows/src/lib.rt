@@ -1,15 +1,16 @@
-//! Whether a move is enabled is told by the history alone, and which lists of deeds are histories of runs.
+//! How the history alone determines which moves are enabled; which lists of deeds are histories.
 //!
-//! So what holds of runs can be shown of lists of deeds. Each function's clause is a law, and its body does nothing.
+//! So facts of runs can be proved of lists of deeds. Each function states a law, and its body does
+//! nothing.
 #![tactic(auto)]
 
 ghost use Rattle.std.specs.Prelude.{◌≡◌, ◌<◌, ℕ, List, length, Some, is_some, ◌↔◌, ◌&&◌, true, Option, is_none};
 ghost use Rattle.std.specs.FinMap as fin;
 ghost use Rattle.tc_base.specs.Buffers.{BufferOps};
-ghost use Rattle.tc_base.specs.Logs.{Log};
+ghost use Rattle.run_log.specs.Logs.{Log};
 ghost use Rattle.tc_base.specs.Names.{Name};
 ghost use Rattle.tc_base.specs.States.{State, Thread};
-ghost use Rattle.tc_base.specs.declared.model.Model.{Model};
+ghost use Rattle.memory_models.specs.declared.model.Model.{Model};
 ghost use Rattle.tc_base.specs.declared.moves.Move.{Move};
 ghost use Rattle.tc_code.specs.Code.{Code};
 ghost use Rattle.tc_code.specs.Run.{run, IsStuck, Reproduces};
@@ -27,16 +28,16 @@ ghost use Rattle.tc_code.specs.declared.instr.Instr.{Instr};
 pub mod blocked;
 pub mod deeds;
 
-/// A load takes the newest of the thread's pending stores to the cell, else the last store that reached it, else the
-/// value at the start.
+/// A load returns the thread's newest pending store to the cell, else the last store that reached
+/// the cell, else its initial value.
 pub fn loads_are_told<B>()
     ensures { (ops : BufferOps B) (model : Model) (bound : Binding) (code : Code) (moves : List Move) (s : State B) (n : Name) (t : Thread B) (c : ℕ)
         → Laws ops model bound → run ops code moves ≡ Some s → fin.get s.threads n ≡ Some t → c < length code.memory
         → loaded ops s t c ≡ seen_in ops.buffered code (history ops code moves) n c }
 {}
 
-/// A thread may do its next instruction where none has failed, its request finds its stores in memory if it needs that,
-/// and the other threads let it.
+/// A thread may do its next instruction if no thread has failed, its stores have drained if they
+/// must, and mutexes, waiters and children allow the request.
 pub fn runs_are_told<B>()
     ensures { (ops : BufferOps B) (model : Model) (bound : Binding) (code : Code) (moves : List Move) (s : State B) (n : Name) (t : Thread B) (i : Instr)
         → Laws ops model bound → IsLawful code → run ops code moves ≡ Some s
@@ -45,8 +46,8 @@ pub fn runs_are_told<B>()
         ≡ (is_none (failed_in (history ops code moves)) && is_allowed_in ops.buffered (history ops code moves) n (request t.local i)) }
 {}
 
-/// A thread may wake another by its next instruction where none has failed, that is a signal, its stores are in memory,
-/// and the other waits.
+/// A thread may wake another by its next instruction if no thread has failed, the instruction is a
+/// signal, the thread has no pending store, and the other thread waits.
 pub fn wakes_are_told<B>()
     ensures { (ops : BufferOps B) (model : Model) (bound : Binding) (code : Code) (moves : List Move) (s : State B) (n u : Name) (t : Thread B) (i : Instr)
         → Laws ops model bound → IsLawful code → run ops code moves ≡ Some s
@@ -55,8 +56,8 @@ pub fn wakes_are_told<B>()
         ≡ (is_none (failed_in (history ops code moves)) && may_wake_in ops.buffered (history ops code moves) n u (request t.local i)) }
 {}
 
-/// A store of a thread may drain by a form where none has failed, and it is the turn of a store that drains by it: one that
-/// was issued and hasn't drained, and is bound behind no older one of which the same holds.
+/// A thread's store may drain by a form if no thread has failed and a pending store that drains by
+/// this form is bound behind no older pending store.
 pub fn drains_are_told<B>()
     ensures { (ops : BufferOps B) (model : Model) (bound : Binding) (code : Code) (moves : List Move) (s : State B) (n : Name) (t : Thread B)
         (form : Option ℕ)
@@ -65,43 +66,43 @@ pub fn drains_are_told<B>()
         ↔ ((is_none (failed_in (history ops code moves)) ≡ true) × HasTurn ops.buffered bound (history ops code moves) n form) }
 {}
 
-/// Each deed of a run of lawful code may come after those before it, and nothing comes after a failure.
+/// Each deed of a run of lawful code may follow the deeds before it, and nothing follows a failure.
 pub fn deeds_follow<B>()
     ensures { (ops : BufferOps B) (model : Model) (bound : Binding) (code : Code) (moves : List Move) (s : State B)
         → Laws ops model bound → IsLawful code → run ops code moves ≡ Some s → AllFollow ops.buffered bound code (history ops code moves) }
 {}
 
-/// A step is one of a thread that is there and hasn't exited.
+/// Every step is by a thread that exists and has not exited.
 pub fn steps_are_of_threads<B>()
     ensures { (ops : BufferOps B) (model : Model) (bound : Binding) (code : Code) (moves : List Move) (s : State B)
         → Laws ops model bound → IsLawful code → run ops code moves ≡ Some s → StepsAreOfThreads (history ops code moves) }
 {}
 
-/// Deeds of which each may come after those before it, and none after a failure, are the history of a run, by the moves
-/// that they stand for.
+/// A list of deeds, each of which may follow those before it and none a failure, is the history of
+/// a run by the moves of these deeds.
 pub fn what_follows_is_a_run<B>()
     ensures { (ops : BufferOps B) (model : Model) (bound : Binding) (code : Code) (h : List Deed)
         → Laws ops model bound → IsLawful code → AllFollow ops.buffered bound code h
         → (s : State B) × (run ops code (moves_for bound h) ≡ Some s) × (history ops code (moves_for bound h) ≡ h) }
 {}
 
-/// Nothing can go on after a run exactly where no thread has failed, nothing may come after its history, and some thread of
-/// that hasn't exited.
+/// A run ends in a deadlock if and only if no thread has failed, no deed may follow its history,
+/// and some thread has not exited.
 pub fn stuck_is_told<B>()
     ensures { (ops : BufferOps B) (model : Model) (bound : Binding) (code : Code) (moves : List Move) (s : State B)
         → Laws ops model bound → IsLawful code → run ops code moves ≡ Some s
         → IsStuck ops code s ↔ IsStuckIn ops.buffered bound code (history ops code moves) }
 {}
 
-/// What reproduces a log, of a failure or of a deadlock, has a history that goes as logged.
+/// Moves that reproduce a log, of a failure or of a deadlock, have a history that matches the log.
 pub fn reproduces_as_logged<B>()
     ensures { (ops : BufferOps B) (model : Model) (bound : Binding) (code : Code) (log : Log) (moves : List Move)
         → Laws ops model bound → IsLawful code → Reproduces ops code log moves
         → GoesAsLogged ops.buffered bound code log (history ops code moves) }
 {}
 
-/// And deeds that follow and go as logged reproduce the log, by the moves that they stand for. So some moves reproduce a
-/// log exactly where some deeds that follow go as logged.
+/// Conversely, a history that matches a log reproduces it by the moves of its deeds. So some moves
+/// reproduce a log if and only if some history matches it.
 pub fn deeds_reproduce<B>()
     ensures { (ops : BufferOps B) (model : Model) (bound : Binding) (code : Code) (log : Log) (h : List Deed)
         → Laws ops model bound → IsLawful code → AllFollow ops.buffered bound code h → GoesAsLogged ops.buffered bound code log h

@@ -4,10 +4,11 @@ use Rattle.std.specs.List.{All}
 use Rattle.std.specs.Option.{option_or}
 use Rattle.std.proofs.lemmas.List.Elements.{All-nil, All-push}
 use Rattle.std.proofs.lemmas.Option.{none-some, cond_some}
-use Rattle.tc_base.specs.Arith.{IsInt}
-use Rattle.tc_base.specs.Buffers.{BufferOps, Entry, newest}
+use Rattle.int_ops.specs.Arith.{IsInt}
+use Rattle.tc_base.specs.Buffers.{BufferOps, Entry}
+use Rattle.store_buffers.specs.Buffers.{newest}
 use Rattle.tc_base.specs.States.{Thread, State}
-use Rattle.tc_base.specs.declared.model.Model.{Model}
+use Rattle.memory_models.specs.declared.model.Model.{Model}
 use Rattle.tc_base.specs.declared.moves.Move.{Move}
 use Rattle.tc_base.specs.declared.request.Request.{Request}
 use Rattle.tc_base.specs.declared.request.Request.TheVariants.{Read, Exchange, CompareExchange}

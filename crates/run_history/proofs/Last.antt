@@ -10,8 +10,9 @@ use Rattle.std.proofs.lemmas.Cmp.{nat_list_cmp_total}
 use Rattle.std.proofs.lemmas.List.Elements.{filter_map-append}
 use Rattle.std.proofs.lemmas.Option.{none-some}
 use Rattle.tc_base.specs.Names.{Name, by_name}
-use Rattle.tc_base.proofs.Options.{or_none}
-use Rattle.tc_base.specs.Buffers.{Entry, newest}
+use Rattle.list_laws.proofs.Options.{or_none}
+use Rattle.tc_base.specs.Buffers.{Entry}
+use Rattle.store_buffers.specs.Buffers.{newest}
 use Rattle.tc_base.specs.declared.request.Request.TheVariants.{Silent, BeginWait, WakeOne, WakeAll}
 use Rattle.tc_code.specs.Code.{Code}
 use Rattle.tc_code.specs.Step.{NameSet}

@@ -1,4 +1,4 @@
--- What a run did: a list of deeds, oldest first.
+-- The history of a run: a list of deeds, oldest first.
 use Rattle.std.specs.Prelude.{ℕ, ◌+◌, ◌==◌, ℤ, pos, Bool, false, not, ◌&&◌, Option, Some, None, List, [], ◌∷◌, ◌++◌, map, if◌then◌else◌}
 use Rattle.std.specs.List.{filter, filter_map, list_any}
 use Rattle.std.specs.Option.{option_map_or}
@@ -16,25 +16,24 @@ use Rattle.store_buffers.specs.Pending.{Pending, Store, Bar as barred}
 pub use Rattle.run_laws.specs.Alone.{same}
 
 pub data Deed : Type 0 where
-  -- a thread does its step of that number, from 0, which asks this; it takes this value from memory, and 0 where it takes none;
-  -- the other is the thread that it wakes or creates, if it does
+  -- a step, numbered from 0: its request, the value read or 0, and the thread woken or created
   Did : (thread : Name) (number : ℕ) (asks : Request) (took : ℤ) (other : Option Name) → Deed
-  -- the store of a thread's step of that number reaches memory
+  -- the store of the thread's step with this number reaches memory
   Drained : (thread : Name) (number : ℕ) (cell : ℕ) (value : ℤ) → Deed
 
--- a store or a bar that a thread has put into its buffer, and the number of its step
+-- a store or a bar that a thread put into its buffer, with the number of its step
 pub record Issue : Type 0 where
   pub number : ℕ
   pub what : Pending
 
--- what a deed puts into a thread's buffer, by whether there are buffers
+-- what a deed puts into a thread's buffer, if anything; a store only if the model has buffers
 abbrev pub issue_of : Bool → Name → Deed → Option Issue
 issue_of buffered n (Did q k (Write c v) took other) =
     if buffered && same n q then Some (record { number = k; what = Store (record { cell = c; value = v }) }) else None
 issue_of buffered n (Did q k Bar took other) = if same n q then Some (record { number = k; what = barred }) else None
 issue_of buffered n _ = None
 
--- whether a deed is the drain of a thread's step of that number
+-- whether a deed drains the store of the thread's step number k
 abbrev pub drains : Name → ℕ → Deed → Bool
 drains n k (Drained q j c v) = same n q && k == j
 drains n k _ = false
@@ -42,7 +41,7 @@ drains n k _ = false
 abbrev pub has_drained : List Deed → Name → ℕ → Bool
 has_drained h n k = list_any (drains n k) h
 
--- what a thread has put in and hasn't drained, in order of issue
+-- the stores and bars that a thread has issued and not drained, in order of issue
 abbrev pub pending_issues : Bool → List Deed → Name → List Issue
 pending_issues buffered h n = filter (λ i. not (has_drained h n i.number)) (filter_map (issue_of buffered n) h)
 
@@ -53,20 +52,20 @@ abbrev pub is_to : ℕ → Pending → Bool
 is_to c (Store e) = e.cell == c
 is_to c barred = false
 
--- the number of the oldest of these that is a store to a cell
+-- the step number of the oldest store to a cell, and 0 if there is none
 abbrev pub oldest_to : ℕ → List Issue → ℕ
 oldest_to c [] = 0
 oldest_to c (i ∷ is) = if is_to c i.what then i.number else oldest_to c is
 
 module _ {B : Type 0} (ops : BufferOps B) (code : Code) where
-  -- what a request takes from memory, and 0 where it takes nothing
+  -- the value that a request reads, and 0 if it reads none
   abbrev pub taken : State B → Thread B → Request → ℤ
   taken s t (Read c) = loaded ops s t c
   taken s t (Exchange c v) = in_memory s c
   taken s t (CompareExchange c e v) = in_memory s c
   taken s t _ = pos 0
 
-  -- the child that a request of a thread creates
+  -- the child that a thread's request creates, if any
   abbrev pub created_by : Name → Local → Request → Option Name
   created_by n t (Start f) = Some (child n (t.children + 1))
   created_by n t _ = None
@@ -74,19 +73,19 @@ module _ {B : Type 0} (ops : BufferOps B) (code : Code) where
   abbrev pub did : State B → Name → Thread B → Request → Deed
   did s n t r = Did n t.local.steps r (taken s t r) (created_by n t.local r)
 
-  -- a thread's signal, which wakes another
+  -- the deed of a thread's signal that wakes another thread
   abbrev pub woke : Name → Name → Thread B → Request → Deed
   woke n u t r = Did n t.local.steps r (pos 0) (Some u)
 
-  -- the store that drains is the oldest to its cell
+  -- the deed of a drain, which drains the thread's oldest pending store to the cell
   abbrev pub drained : List Deed → Name → Entry → Deed
   drained h n e = Drained n (oldest_to e.cell (pending_issues ops.buffered h n)) e.cell e.value
 
-  -- what a thread does by its instruction, if it is at one
+  -- the deed of a thread's next instruction, if it has one
   abbrev pub by_instr : Thread B → (Request → Deed) → List Deed
   by_instr t does = option_map_or (λ i. does (request t.local i) ∷ []) (instr_of code t.local) []
 
-  -- what a move does after a history
+  -- the deed of a move made after a history, if any
   abbrev pub deed_of : State B → List Deed → Move → List Deed
   deed_of s h (move.Run n) = option_map_or (λ t. by_instr t (did s n t)) (fin.get s.threads n) []
   deed_of s h (move.Wake n u) = option_map_or (λ t. by_instr t (woke n u t)) (fin.get s.threads n) []

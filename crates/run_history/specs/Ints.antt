@@ -1,5 +1,5 @@
--- What a deed asks, takes and drains is an int.
-use Rattle.tc_base.specs.Arith.{IsInt}
+-- Deeds whose values are all ints.
+use Rattle.int_ops.specs.Arith.{IsInt}
 use Rattle.run_laws.specs.Ints.{AsksInts}
 use Rattle.run_history.specs.History.{Deed, Did, Drained}
 

@@ -1,9 +1,9 @@
--- What a history tells of what each thread has to itself.
+-- The local state of each thread after a history.
 use Rattle.std.specs.Prelude.{ℕ, ◌+◌, ◌-◌, ℤ, List, [], Option, option_and_then, option_map, fold, length}
 use Rattle.std.specs.Option.{option_map_or}
 use Rattle.std.specs.FinMap as fin
 use Rattle.tc_base.specs.Names.{Name, ByName, main, child}
-use Rattle.tc_base.specs.Buffers.{no_buffer}
+use Rattle.store_buffers.specs.Buffers.{no_buffer}
 use Rattle.tc_base.specs.States.{Local}
 use Rattle.tc_base.specs.declared.request.Request.{Request}
 use Rattle.tc_base.specs.declared.request.Request.TheVariants.{Start, Fail}
@@ -16,27 +16,27 @@ use Rattle.run_history.specs.History.{Deed, Did, Drained}
 abbrev pub born_local : Code → ℕ → List ℤ → Local
 born_local code f arguments = (born no_buffer code f arguments).local
 
--- a thread after a step that asks this and takes a value
+-- a thread after a step with this request that reads this value
 abbrev pub after_step : Local → Instr → Request → ℤ → Local
 after_step t i Fail took = stepped t
 after_step t i r took = local_after t i took
 
--- the threads, and the child that a step creates
+-- the threads with the child that a step creates, if any
 abbrev pub with_child : Code → Name → Local → Instr → Request → ByName Local → ByName Local
 with_child code n t i (Start f) ts = fin.insert ts (child n (t.children + 1)) (born_local code f (arguments_of t i))
 with_child code n t i r ts = ts
 
--- the threads after a deed: a step is that of the instruction at its thread's place
+-- the threads after a deed; a step does the instruction at its thread's place
 abbrev pub after_deed : Code → ByName Local → Deed → ByName Local
 after_deed code ts (Did n k r took other) =
     option_map_or
     (λ t. option_map_or (λ i. with_child code n t i r (fin.insert ts n (after_step t i r took))) (instr_of code t) ts) (fin.get ts n) ts
 after_deed code ts (Drained n k c v) = ts
 
--- main alone, and then what the deeds made of the threads
+-- the threads after a history that begins with main alone
 abbrev pub locals_in : Code → List Deed → ByName Local
 locals_in code h = fold (after_deed code) (fin.insert fin.empty main (born_local code (length code.functions - 1) [])) h
 
--- what a thread asks next, if it is there and hasn't exited
+-- a thread's next request, if the thread exists and has not exited
 abbrev pub asks_next : Code → List Deed → Name → Option Request
 asks_next code h n = option_and_then (λ t. option_map (request t) (instr_of code t)) (fin.get (locals_in code h) n)

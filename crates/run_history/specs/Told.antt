@@ -1,17 +1,18 @@
--- What a history tells of the state that it leads to.
+-- The state after a history, read off its deeds.
 use Rattle.std.specs.Prelude.{ℕ, ◌==◌, ℤ, pos, Bool, false, ◌||◌, Option, Some, None, unwrap_or}
 use Rattle.std.specs.Prelude.{List, fold, slice_index_or, if◌then◌else◌}
 use Rattle.std.specs.List.{filter_map, list_any, last_or, count_by}
 use Rattle.std.specs.FinSet as set
 use Rattle.tc_base.specs.Names.{Name, main}
-use Rattle.tc_base.specs.Buffers.{Entry, newest}
+use Rattle.tc_base.specs.Buffers.{Entry}
+use Rattle.store_buffers.specs.Buffers.{newest}
 use Rattle.tc_base.specs.declared.request.Request.TheVariants.{Write, Exchange, CompareExchange, Acquire, Release, BeginWait, EndWait}
 use Rattle.tc_base.specs.declared.request.Request.TheVariants.{WakeOne, WakeAll, Start, Finish, Fail}
 use Rattle.tc_code.specs.Code.{Code}
 use Rattle.tc_code.specs.Step.{replaced, NameSet}
 use Rattle.run_history.specs.History.{Deed, Did, Drained, same}
 
--- the store that reaches memory by a deed, by whether there are buffers
+-- the store that reaches memory by a deed, if any; with buffers, a write has to drain first
 abbrev pub reaches : Bool → Deed → Option Entry
 reaches buffered (Did n k (Write c v) took other) = if buffered then None else Some (record { cell = c; value = v })
 reaches buffered (Did n k (Exchange c v) took other) = Some (record { cell = c; value = v })
@@ -19,11 +20,11 @@ reaches buffered (Did n k (CompareExchange c e v) took other) = Some (record { c
 reaches buffered (Did n k _ took other) = None
 reaches buffered (Drained n k c v) = Some (record { cell = c; value = v })
 
--- a cell has the value of the last store that reached it, else its value at the start
+-- a cell's value: that of the last store that reached it, else its initial value
 abbrev pub value_in : Bool → Code → List Deed → ℕ → ℤ
 value_in buffered code h c = unwrap_or (newest (filter_map (reaches buffered) h) c) (slice_index_or code.memory c (pos 0))
 
--- who owns a mutex after a deed that takes or leaves it
+-- the owner of a mutex after a deed, if the deed acquires or releases it
 abbrev pub owner_by : ℕ → Deed → Option (Option Name)
 owner_by m (Did n k (Acquire l) took other) = if l == m then Some (Some n) else None
 owner_by m (Did n k (Release l) took other) = if l == m then Some None else None
@@ -31,11 +32,11 @@ owner_by m (Did n k (BeginWait c l) took other) = if l == m then Some None else 
 owner_by m (Did n k (EndWait c l) took other) = if l == m then Some (Some n) else None
 owner_by m _ = None
 
--- a mutex is owned by the thread of the last deed that took it, where none has left it since
+-- the owner of a mutex: the thread that last acquired it, unless it was released since
 abbrev pub owner_in : List Deed → ℕ → Option Name
 owner_in h m = unwrap_or (last_or None (filter_map (owner_by m) h)) None
 
--- who waits on a condition after a deed: also a thread that sleeps, and no longer one that is woken
+-- the waiters of a condition after a deed: a sleep adds its thread, a wake-up removes threads
 abbrev pub waiting_after : ℕ → NameSet → Deed → NameSet
 waiting_after c ns (Did n k (BeginWait d m) took other) = if d == c then set.insert ns n else ns
 waiting_after c ns (Did n k (WakeOne d) took (Some u)) = if d == c then set.remove ns u else ns
@@ -45,16 +46,16 @@ waiting_after c ns _ = ns
 abbrev pub waiting_in : List Deed → ℕ → NameSet
 waiting_in h c = fold (waiting_after c) set.empty h
 
--- the thread that a deed creates
+-- the thread that a deed creates, if any
 abbrev pub creates : Deed → Option Name
 creates (Did n k (Start f) took other) = other
 creates _ = None
 
--- main is a thread, and each that a create made
+-- whether a thread exists: it is main, or a deed created it
 abbrev pub is_thread_in : List Deed → Name → Bool
 is_thread_in h n = same n main || list_any (same n) (filter_map creates h)
 
--- how many steps a thread has done
+-- whether a deed is a step of the thread; `steps_in` counts these
 abbrev pub is_step_of : Name → Deed → Bool
 is_step_of n (Did q k r took other) = same n q
 is_step_of n _ = false
@@ -62,7 +63,7 @@ is_step_of n _ = false
 abbrev pub steps_in : List Deed → Name → ℕ
 steps_in h n = count_by (is_step_of n) h
 
--- how many children it has created
+-- whether a deed creates a child of the thread; `children_in` counts these
 abbrev pub is_start_of : Name → Deed → Bool
 is_start_of n (Did q k (Start f) took other) = same n q
 is_start_of n _ = false
@@ -70,7 +71,7 @@ is_start_of n _ = false
 abbrev pub children_in : List Deed → Name → ℕ
 children_in h n = count_by (is_start_of n) h
 
--- a thread has exited where its exit is in the history
+-- whether a deed is the thread's exit; a thread has exited if its history has one
 abbrev pub is_exit_of : Name → Deed → Bool
 is_exit_of n (Did q k Finish took other) = same n q
 is_exit_of n _ = false
@@ -78,7 +79,7 @@ is_exit_of n _ = false
 abbrev pub has_exited_in : List Deed → Name → Bool
 has_exited_in h n = list_any (is_exit_of n) h
 
--- a thread has failed where a site of it was false
+-- the thread that fails by a deed, if any
 abbrev pub fails : Deed → Option Name
 fails (Did n k Fail took other) = Some n
 fails _ = None

@@ -1,10 +1,11 @@
-//! Each run that reproduces a log has a lawful order. The function's clauses are a theorem, and its body does nothing.
+//! Each run that reproduces a log has a lawful order. The theorem is the contract of a function
+//! with an empty body.
 #![tactic(auto)]
 
 ghost use Rattle.std.specs.Prelude.{◌≡◌, true, List};
 ghost use Rattle.tc_base.specs.Buffers.{BufferOps};
-ghost use Rattle.tc_base.specs.Logs.{Log};
-ghost use Rattle.tc_base.specs.declared.model.Model.{Model};
+ghost use Rattle.run_log.specs.Logs.{Log};
+ghost use Rattle.memory_models.specs.declared.model.Model.{Model};
 ghost use Rattle.tc_base.specs.declared.moves.Move.{Move};
 ghost use Rattle.tc_code.specs.Code.{Code};
 ghost use Rattle.tc_code.specs.Lawful.{IsLawful};
@@ -12,7 +13,7 @@ ghost use Rattle.tc_code.specs.Run.{Reproduces};
 ghost use Rattle.store_buffers.specs.Laws.{Laws};
 ghost use Rattle.store_buffers.specs.Pending.{Binding};
 ghost use Rattle.run_history.specs.History.{history};
-ghost use Rattle.path_log.specs.Texts.{is_log};
+ghost use Rattle.run_log.specs.Logs.{is_log};
 ghost use Rattle.path_walk.specs.Paths.{paths_of};
 ghost use Rattle.sym_terms.specs.Terms.{AreTerms};
 ghost use Rattle.sym_terms.specs.declared.node.Node.{Node};
@@ -26,8 +27,8 @@ pub mod reads;
 pub mod waits;
 pub mod world;
 
-/// Where moves reproduce a log, under any memory model that keeps its laws, the world of their history is lawful, and has the
-/// events in the order in which they take place.
+/// If moves reproduce a log, under any memory model that obeys its laws, the world of their history
+/// is lawful, and has the events in the order in which they take place.
 pub fn runs_have_lawful_worlds<B>()
     ensures lawful { (ops : BufferOps B) (model : Model) (bound : Binding) (code : Code) (log : Log) (nodes : List Node) (moves : List Move)
         → Laws ops model bound → IsLawful code → is_log log ≡ true → AreTerms nodes → Reproduces ops code log moves

@@ -1,8 +1,9 @@
-//! What loads take in the world of a run. The function's clause is a law, and its body does nothing.
+//! The values of loads in the world of a run. The law is the contract of a function with an empty
+//! body.
 ghost use Rattle.std.specs.Prelude.{◌≡◌, ℕ, true, List};
 ghost use Rattle.tc_base.specs.Buffers.{BufferOps};
-ghost use Rattle.tc_base.specs.Logs.{Log};
-ghost use Rattle.tc_base.specs.declared.model.Model.{Model};
+ghost use Rattle.run_log.specs.Logs.{Log};
+ghost use Rattle.memory_models.specs.declared.model.Model.{Model};
 ghost use Rattle.tc_base.specs.declared.moves.Move.{Move};
 ghost use Rattle.tc_code.specs.Code.{Code};
 ghost use Rattle.tc_code.specs.Lawful.{IsLawful};
@@ -10,7 +11,7 @@ ghost use Rattle.tc_code.specs.Run.{Reproduces};
 ghost use Rattle.store_buffers.specs.Laws.{Laws};
 ghost use Rattle.store_buffers.specs.Pending.{Binding};
 ghost use Rattle.run_history.specs.History.{history};
-ghost use Rattle.path_log.specs.Texts.{is_log};
+ghost use Rattle.run_log.specs.Logs.{is_log};
 ghost use Rattle.path_walk.specs.Paths.{paths_of};
 ghost use Rattle.sym_terms.specs.Terms.{AreTerms};
 ghost use Rattle.sym_terms.specs.declared.node.Node.{Node};
@@ -18,8 +19,8 @@ ghost use Rattle.sym_laws.specs.Valued.{found};
 ghost use Rattle.lawful_order.specs.Reads.{ReadRule};
 ghost use Rattle.run_lawful.specs.world.WorldOf.{world_in};
 
-/// Each load and exchange takes the value of the last store that it sees: where stores of its own thread to the cell wait in the
-/// buffer, that of the newest of them, and else that of the last one which reached memory.
+/// Each load and exchange takes the value of the last store that it sees: the newest store to the
+/// cell in its own thread's buffer, or else the last one that reached memory.
 pub fn loads_take_the_last<B>()
     ensures { (ops : BufferOps B) (model : Model) (bound : Binding) (code : Code) (log : Log) (nodes : List Node) (moves : List Move) (t line : ℕ)
         → Laws ops model bound → IsLawful code → is_log log ≡ true → AreTerms nodes → Reproduces ops code log moves

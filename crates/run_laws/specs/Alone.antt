@@ -1,4 +1,4 @@
--- A thread by itself: what it does with the values that its loads take.
+-- One thread alone: what it does, given the values that it reads.
 use Rattle.std.specs.Prelude.{◌≡◌, Bool, ℕ, zero, suc, ◌+◌, ◌-◌, ℤ, pos, List, [], ◌∷◌, ◌++◌, length, map, Some, if◌then◌else◌}
 use Rattle.std.specs.Option.{option_map_or}
 use Rattle.std.specs.Ordering.{eq_by_cmp}
@@ -17,16 +17,16 @@ use Rattle.tc_base.specs.declared.request.Request.TheVariants.{Read, Exchange, C
 use Rattle.tc_code.specs.Step.{request, stepped, value_in, local_after, instr_of, loaded, in_memory, born, step}
 use Rattle.tc_code.specs.Run.{run}
 
--- whether two names are one
+-- whether two names are equal
 abbrev pub same : Name → Name → Bool
 same m n = eq_by_cmp by_name m n
 
--- a thread, and the values that its further loads take
+-- a thread and the values that its remaining reads return
 pub record Alone : Type 0 where
   pub local : Local
   pub values : List ℤ
 
--- after an instruction that asks this: one that takes a value from memory takes the first of the values
+-- the thread after an instruction with this request; a request that reads takes the first value
 abbrev pub after_request : Local → Instr → List ℤ → Request → Alone
 after_request t i (v ∷ vs) (Read c) = record { local = local_after t i v; values = vs }
 after_request t i (v ∷ vs) (Exchange c _) = record { local = local_after t i v; values = vs }
@@ -34,24 +34,24 @@ after_request t i (v ∷ vs) (CompareExchange c _ _) = record { local = local_af
 after_request t i vs Fail = record { local = stepped t; values = vs }
 after_request t i vs _ = record { local = local_after t i (pos 0); values = vs }
 
--- after the instruction at its place, if there is one
+-- the thread after its next instruction; unchanged if it has none
 abbrev pub goes_on : Code → Alone → Alone
 goes_on code a = option_map_or (λ i. after_request a.local i a.values (request a.local i)) (instr_of code a.local) a
 
--- after so many steps
+-- the thread after k steps
 abbrev pub after_steps : Code → ℕ → Alone → Alone
 after_steps code zero a = a
 after_steps code (suc k) a = after_steps code k (goes_on code a)
 
 module _ {B : Type 0} (ops : BufferOps B) (code : Code) where
-  -- the value that a request of a thread takes from memory, if it takes one
+  -- the value that a thread's request reads, if it reads one
   abbrev pub taken_by : State B → Thread B → Request → List ℤ
   taken_by s t (Read c) = loaded ops s t c ∷ []
   taken_by s t (Exchange c _) = in_memory s c ∷ []
   taken_by s t (CompareExchange c _ _) = in_memory s c ∷ []
   taken_by s t _ = []
 
-  -- the value that a move's load by the thread of a name takes, if it is one
+  -- the value that a move reads, if it is a read by the named thread
   abbrev pub taken_in : State B → Name → Move → List ℤ
   taken_in s q (move.Run n) =
       if same q n
@@ -59,21 +59,21 @@ module _ {B : Type 0} (ops : BufferOps B) (code : Code) where
       else []
   taken_in s q _ = []
 
-  -- the values that the loads of the thread of a name take in a run from a state, in order
+  -- the values that the named thread reads in a run from a state, in order
   abbrev pub taken_from : State B → Name → List Move → List ℤ
   taken_from s q [] = []
   taken_from s q (m ∷ ms) = taken_in s q m ++ option_map_or (λ u. taken_from u q ms) (step ops code s m) []
 
-  -- the thread of a name is created by the last of some moves, to do a function with these arguments
+  -- these moves create the named thread, which runs this function with these arguments
   pub data Creation : Name → List Move → ℕ → List ℤ → Type 0 where
-    -- main is there before the first move, and does the last function
+    -- main exists before the first move and runs the last function
     Of_main : Creation main [] (length code.functions - 1) []
-    -- its parent does a create, which names the function and the arguments
+    -- the parent's create names the function and the arguments
     By_parent : (moves : List Move) (s : State B) (p : Name) (t : Thread B) (h f : ℕ) (es : List Expr) → run ops code moves ≡ Some s
         → fin.get s.threads p ≡ Some t → instr_of code t.local ≡ Some (Create h f es)
         → Creation (child p (t.local.children + 1)) (moves ++ move.Run p ∷ []) f (map (value_in t.local) es)
 
-  -- where the thread of a name began in a run: the first moves create it, and it is at the start of its function
+  -- how the named thread begins in a run: the first moves create it at the start of its function
   pub record Beginning (n : Name) (moves : List Move) : Type 0 where
     pub first : List Move
     pub rest : List Move
@@ -85,7 +85,7 @@ module _ {B : Type 0} (ops : BufferOps B) (code : Code) where
     pub creation : Creation n first function arguments
     pub there : fin.get state.threads n ≡ Some (born ops code function arguments)
 
-  -- what a thread that began so has by itself after so many steps
+  -- the local state of a thread with this beginning after k steps, run alone
   abbrev pub alone_since : (n : Name) (moves : List Move) → Beginning n moves → ℕ → Local
   alone_since n moves b k =
       let start = (born ops code b.function b.arguments).local in

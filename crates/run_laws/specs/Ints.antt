@@ -1,8 +1,8 @@
--- What holds ints in a run of lawful code.
+-- Which values are ints in a run of lawful code.
 use Rattle.std.specs.Prelude.{◌≡◌, ℕ, ℤ, true, IsTrue, Option, Some}
 use Rattle.std.specs.List.{All}
 use Rattle.std.specs.FinMap as fin
-use Rattle.tc_base.specs.Arith.{IsInt}
+use Rattle.int_ops.specs.Arith.{IsInt}
 use Rattle.tc_base.specs.Names.{Name}
 use Rattle.tc_base.specs.Buffers.{BufferOps}
 use Rattle.tc_base.specs.States.{Thread, State}
@@ -17,24 +17,24 @@ AsksInts (CompareExchange c e v) = IsInt e × IsInt v
 AsksInts _ = Unit {0}
 
 module _ {B : Type 0} (ops : BufferOps B) where
-  -- a buffer into which only ints were put
+  -- every value put into the buffer was an int
   pub data HoldsInts : B → Type 0 where
     Empty : HoldsInts ops.empty
     Issued : (b : B) (c : ℕ) (v : ℤ) → ops.buffered ≡ true → HoldsInts b → IsInt v → HoldsInts (ops.issue b c v)
     Barred : (b : B) → HoldsInts b → HoldsInts (ops.bar b)
     Drained : (b : B) (form : Option ℕ) → IsTrue (ops.may_drain b form) → HoldsInts b → HoldsInts (ops.drain b form).rest
 
-  -- what comes out of such a buffer is an int
+  -- every value that comes out of a buffer of ints is an int
   pub record PassesInts : Type 0 where
     pub forwards : (b : B) (c : ℕ) (v : ℤ) → HoldsInts b → ops.forward b c ≡ Some v → IsInt v
     pub drains : (b : B) (form : Option ℕ) → HoldsInts b → IsTrue (ops.may_drain b form) → IsInt (ops.drain b form).entry.value
 
-  -- a thread has ints in its slots and in its buffer
+  -- the slots and the buffer of a thread hold ints
   pub record ThreadHasInts (t : Thread B) : Type 0 where
     pub slots : All IsInt t.local.slots
     pub buffer : HoldsInts t.buffer
 
-  -- so has each thread of a state, and memory
+  -- memory and every thread of a state hold ints
   pub record StateHasInts (s : State B) : Type 0 where
     pub memory : All IsInt s.memory
     pub threads : (n : Name) (t : Thread B) → fin.get s.threads n ≡ Some t → ThreadHasInts t

@@ -1,4 +1,4 @@
--- What each thread of lawful code has, and each state.
+-- Well-formed threads and states of lawful code.
 use Rattle.std.specs.Prelude.{◌≡◌, length, Some, slice_get, IsTrue}
 use Rattle.std.specs.FinMap as fin
 use Rattle.tc_base.specs.Names.{Name, ByName}
@@ -9,11 +9,11 @@ use Rattle.tc_code.specs.Code.{Code}
 use Rattle.tc_code.specs.declared.code.Func.{Func}
 use Rattle.tc_code.specs.Step.{is_within, value_in}
 
--- a fact of each thread
+-- P holds of every thread
 abbrev pub AllThreads : {B : Type 0} → (Local → Type 0) → ByName (Thread B) → Type 0
 AllThreads {B} P threads = (n : Name) (t : Thread B) → fin.get threads n ≡ Some t → P t.local
 
--- a thread has what its function may name
+-- a thread has the slots and handles of its function, and a held flag for each mutex
 pub record IsWholeThread (code : Code) (t : Local) : Type 0 where
   pub function : Func
   pub there : slice_get code.functions t.function ≡ Some function
@@ -21,7 +21,7 @@ pub record IsWholeThread (code : Code) (t : Local) : Type 0 where
   pub handles : length t.handles ≡ function.handles
   pub held : length t.held ≡ code.mutexes
 
--- there are all cells, mutexes and conditions of the code, and each thread is whole
+-- the state has every cell, mutex and condition of the code, and every thread is whole
 pub record IsWhole {B : Type 0} (code : Code) (s : State B) : Type 0 where
   pub cells : length s.memory ≡ length code.memory
   pub owners : length s.owners ≡ code.mutexes

@@ -1,11 +1,11 @@
-//! What holds of every run of the machine, for every memory model. Each function's clause is a law, and its body
-//! does nothing.
+//! What holds in every run of the machine, under every memory model. Each function states a law,
+//! and its body does nothing.
 #![tactic(auto)]
 
 ghost use Rattle.std.specs.Prelude.{◌≡◌, ◌≤◌, ◌+◌, ℕ, ℤ, List, length, Option, Some, None, IsSome, IsTrue};
 ghost use Rattle.std.specs.FinMap as fin;
 ghost use Rattle.std.specs.List.{All};
-ghost use Rattle.tc_base.specs.Arith.{IsInt};
+ghost use Rattle.int_ops.specs.Arith.{IsInt};
 ghost use Rattle.tc_base.specs.Buffers.{BufferOps};
 ghost use Rattle.tc_base.specs.Names.{Name, main, child};
 ghost use Rattle.tc_base.specs.States.{State, Thread};
@@ -20,13 +20,13 @@ ghost use Rattle.run_laws.specs.Ints.{PassesInts, StateHasInts, AsksInts};
 ghost use Rattle.run_laws.specs.Laws.{HasTested, OwnersHold, WaitersAreAtWake, ExitedPastExit, ThreadsAreCreated, HandlesAreChildren};
 ghost use Rattle.run_laws.specs.Whole.{AllThreads, IsWhole, IndexIsWithin};
 
-/// Once a thread has failed no move is enabled.
+/// After a thread has failed, no move is enabled.
 pub fn none_after_failure<B>()
     ensures { (ops : BufferOps B) (code : Code) (s : State B) (m : Move)
         → IsSome s.failed → step ops code s m ≡ None }
 {}
 
-/// A thread has done no more instructions than there were moves.
+/// A thread has done at most as many steps as there were moves.
 pub fn steps_within_moves<B>()
     ensures { (ops : BufferOps B) (code : Code) (moves : List Move) (s : State B) (n : Name) (t : Thread B)
         → run ops code moves ≡ Some s → fin.get s.threads n ≡ Some t → t.local.steps ≤ length moves }
@@ -38,81 +38,80 @@ pub fn main_is_there<B>()
         → IsReached ops code s → IsSome (fin.get s.threads main) }
 {}
 
-/// In every reached state there are the cells, mutexes and conditions of the code, and each thread has the slots,
-/// thread variables and marks of held mutexes that its function may name.
+/// Every reached state has the code's cells, mutexes and conditions, and every thread the slots,
+/// thread variables and held flags that it may name.
 pub fn states_are_whole<B>()
     ensures { (ops : BufferOps B) (code : Code) (s : State B)
         → IsLawful code → IsReached ops code s → IsWhole code s }
 {}
 
-/// The index of an access that a thread does next is inside its array. So no access ever leaves its array.
+/// The index of a thread's next access is inside its array. So no access ever leaves its array.
 pub fn accesses_are_within<B>()
     ensures { (ops : BufferOps B) (code : Code) (s : State B) (n : Name) (t : Thread B) (i : Instr)
         → IsLawful code → IsReached ops code s → fin.get s.threads n ≡ Some t
         → instr_of code t.local ≡ Some i → IndexIsWithin t.local i }
 {}
 
-/// At an unlock or a sleep a thread holds the mutex, and at a join the thread variable is a child that wasn't
-/// joined. So the site before it, which tests that, is all that tests it.
+/// At an unlock or a sleep the thread holds the mutex, and at a join the thread variable is a child
+/// that wasn't joined. So no test is needed beside the site before the instruction.
 pub fn tests_stand<B>()
     ensures { (ops : BufferOps B) (code : Code) (s : State B)
         → IsLawful code → IsReached ops code s → AllThreads (HasTested code) s.threads }
 {}
 
-/// A thread holds a mutex exactly where it is its owner, and each owner is a thread.
+/// A thread holds a mutex if and only if it owns it, and every owner is a thread.
 pub fn owners_hold<B>()
     ensures { (ops : BufferOps B) (code : Code) (s : State B)
         → IsLawful code → IsReached ops code s → OwnersHold s }
 {}
 
-/// A waiter is a thread at a wake of that condition.
+/// Every waiter of a condition is a thread at a wake on it.
 pub fn waiters_are_at_wake<B>()
     ensures { (ops : BufferOps B) (code : Code) (s : State B)
         → IsLawful code → IsReached ops code s → WaitersAreAtWake code s }
 {}
 
-/// A thread has exited exactly where its last instruction was an exit.
+/// A thread has exited if and only if its last instruction was an exit.
 pub fn exited_past_exit<B>()
     ensures { (ops : BufferOps B) (code : Code) (s : State B)
         → IsLawful code → IsReached ops code s → AllThreads (ExitedPastExit code) s.threads }
 {}
 
-/// Each child that a thread has created is a thread, and each thread but main is a child that its parent has
-/// created.
+/// Every created child is a thread, and every thread but main is a created child.
 pub fn threads_are_created<B>()
     ensures { (ops : BufferOps B) (code : Code) (s : State B)
         → IsReached ops code s → ThreadsAreCreated s }
 {}
 
-/// The names in thread variables are children.
+/// A thread variable that holds a child holds one that its thread has created.
 pub fn handles_are_children<B>()
     ensures { (ops : BufferOps B) (code : Code) (s : State B)
         → IsReached ops code s → AllThreads HandlesAreChildren s.threads }
 {}
 
-/// Where a model's buffers give back ints wherever ints were put in, all values are ints: those in memory, in the slots of
-/// threads and in buffers.
+/// If a model's buffers return ints whenever ints were put in, every value in memory, in slots and
+/// in buffers is an int.
 pub fn values_are_ints<B>()
     ensures { (ops : BufferOps B) (code : Code) (s : State B)
         → PassesInts ops → IsLawful code → IsReached ops code s → StateHasInts ops s }
 {}
 
-/// So are those that a thread asks by its next instruction.
+/// Under the same condition, the values in a thread's next request are ints.
 pub fn requests_have_ints<B>()
     ensures { (ops : BufferOps B) (code : Code) (s : State B) (n : Name) (t : Thread B) (i : Instr)
         → PassesInts ops → IsLawful code → IsReached ops code s → fin.get s.threads n ≡ Some t
         → instr_of code t.local ≡ Some i → AsksInts (request t.local i) }
 {}
 
-/// And those that its loads take.
+/// Under the same condition, the values that a thread reads are ints.
 pub fn taken_are_ints<B>()
     ensures { (ops : BufferOps B) (code : Code) (s : State B) (n : Name) (moves : List Move)
         → PassesInts ops → IsLawful code → IsReached ops code s → All IsInt (taken_from ops code s n moves) }
 {}
 
-/// What a thread has to itself is a function of its code, of what it had in an earlier state, as at its creation,
-/// of the values that its loads took since, and of how many steps it has done since. Nothing else of the other
-/// threads, of memory or of the order of moves is in it.
+/// A thread's local state depends only on its code, its earlier local state, and the values read
+/// and the number of steps done since. Other threads, memory and the order of moves matter only
+/// through these values.
 pub fn threads_go_alone<B>()
     ensures { (ops : BufferOps B) (code : Code) (s u : State B) (moves : List Move) (n : Name) (t v : Thread B)
         → IsReached ops code s → run_from ops code s moves ≡ Some u
@@ -121,8 +120,8 @@ pub fn threads_go_alone<B>()
         × (v.local ≡ (after_steps code k (record { local = t.local; values = taken_from ops code s n moves })).local) }
 {}
 
-/// So after any run what a thread has to itself is a function of its code, of the function and the arguments that it
-/// was created with, of the values that its loads took, and of its number of steps.
+/// So after any run, a thread's local state depends only on its code, the function and arguments
+/// that it was created with, the values that it has read, and its number of steps.
 pub fn threads_live_alone<B>()
     ensures { (ops : BufferOps B) (code : Code) (moves : List Move) (s : State B) (n : Name) (t : Thread B)
         → run ops code moves ≡ Some s → fin.get s.threads n ≡ Some t

@@ -2,7 +2,8 @@
 use Rattle.std.specs.Prelude.{◌≡◌, Bool, true, List, [], ◌∷◌, ◌++◌, None, option_map, if◌then◌else◌}
 use Rattle.std.specs.Option.{option_map_or}
 use Rattle.std.specs.FinMap as fin
-use Rattle.tc_base.specs.Buffers.{BufferOps, no_buffer, fifo_buffer}
+use Rattle.tc_base.specs.Buffers.{BufferOps}
+use Rattle.store_buffers.specs.Buffers.{no_buffer, fifo_buffer}
 use Rattle.tc_base.specs.Names.{Name}
 use Rattle.tc_base.specs.States.{Local, Thread, State}
 use Rattle.tc_base.specs.declared.moves.Move.{Move}
@@ -13,19 +14,19 @@ use Rattle.tc_code.specs.Code.{Code}
 use Rattle.tc_code.specs.Step.{request, instr_of, step, opening}
 use Rattle.store_buffers.specs.Pending.{Binding, form_of, binds_all, binds_cells}
 
--- a model allows all that another does: what it binds the other binds, and it has buffers where the other has them
+-- `more` allows all that `ops` does: it binds no more, and it has buffers if `ops` has them
 pub record AllowsMore {B C : Type 0} (ops : BufferOps B) (bound : Binding) (more : BufferOps C) (bound_more : Binding) : Type 0 where
   pub binds : (same_cell barred : Bool) → bound_more same_cell barred ≡ true → bound same_cell barred ≡ true
   pub buffers : ops.buffered ≡ true → more.buffered ≡ true
 
--- the moves of a run, as moves of a model that allows more: by its buffers, and by what it binds
+-- the moves of a run as moves of a model that allows more, given that model's buffers and binding
 module _ {B : Type 0} (ops : BufferOps B) (code : Code) (buffered : Bool) (bound : Binding) where
-  -- a store that goes to memory at once is one that drains at once
+  -- the drain that follows a write at once, if only the new model has buffers
   abbrev pub drains_at_once : Name → Request → List Move
   drains_at_once n (Write c v) = if ops.buffered then [] else if buffered then move.Drain n (form_of bound c) ∷ [] else []
   drains_at_once n _ = []
 
-  -- and a drain names what the other model's drains name
+  -- a move as moves of the new model, whose binding decides whether a drain names its cell
   abbrev pub move_as : State B → Move → List Move
   move_as s (move.Run n) =
       move.Run n
@@ -41,18 +42,18 @@ module _ {B : Type 0} (ops : BufferOps B) (code : Code) (buffered : Bool) (bound
   abbrev pub moves_as : List Move → List Move
   moves_as ms = moves_from (opening ops code) ms
 
--- the moves under total store order of a run under sequential consistency: each store is drained at once
+-- a run under sequential consistency as one under total store order: each store drains at once
 abbrev pub drained_at_once : Code → List Move → List Move
 drained_at_once code ms = moves_as no_buffer code true binds_all ms
 
--- the moves under partial store order of a run under total store order: each drain names its cell
+-- a run under total store order as one under partial store order: each drain names its cell
 abbrev pub with_cells : Code → List Move → List Move
 with_cells code ms = moves_as fifo_buffer code true binds_cells ms
 
 abbrev pub local_of : {B : Type 0} → Thread B → Local
 local_of t = t.local
 
--- two states are the same but for their buffers
+-- two states are equal apart from their buffers
 pub record SameButBuffers {B C : Type 0} (s : State B) (u : State C) : Type 0 where
   pub memory : s.memory ≡ u.memory
   pub owners : s.owners ≡ u.owners

@@ -7,8 +7,8 @@ use Rattle.std.specs.Option.{IfSome}
 use Rattle.std.proofs.lemmas.Bool.{and_parts, eqb-true}
 use Rattle.std.proofs.lemmas.Option.{none-some, same_Some, slice_get_within}
 use Rattle.tc_base.specs.Buffers.{BufferOps}
-use Rattle.tc_base.specs.Logs.{Log}
-use Rattle.tc_base.specs.declared.model.Model.{Model}
+use Rattle.run_log.specs.Logs.{Log}
+use Rattle.memory_models.specs.declared.model.Model.{Model}
 use Rattle.tc_base.specs.declared.request.Request.TheVariants.{Write}
 use Rattle.tc_code.specs.Code.{Code}
 use Rattle.store_buffers.specs.Pending.{Binding}

@@ -5,7 +5,7 @@ use Rattle.std.specs.Prelude.{slice_get, max}
 use Rattle.std.specs.Option.{option_map_or}
 use Rattle.std.proofs.lemmas.Bool.{false≢true, eqb-true, eq-eqb}
 use Rattle.std.proofs.lemmas.Option.{same_Some, slice_get_within}
-use Rattle.tc_base.specs.Logs.{Log}
+use Rattle.run_log.specs.Logs.{Log}
 use Rattle.tc_base.specs.Names.{Name}
 use Rattle.tc_base.specs.declared.moves.Move.{Move}
 use Rattle.tc_base.specs.declared.request.Request.{Request}
@@ -16,7 +16,7 @@ use Rattle.run_history.specs.Locals.{asks_next}
 use Rattle.run_history.specs.Told.{steps_in}
 use Rattle.run_history.proofs.Lists.{index_or-set}
 use Rattle.run_follows.specs.Follow.{moves_for, taken_in}
-use Rattle.path_log.specs.Texts.{is_log}
+use Rattle.run_log.specs.Logs.{is_log}
 use Rattle.path_walk.specs.Paths.{Walk, Paths, paths_of}
 use Rattle.path_laws.specs.history.Along.{IsThread}
 use Rattle.order_formula.specs.Worlds.{World}

@@ -9,11 +9,12 @@ use Rattle.std.proofs.lemmas.List.{append-nil, map-append, length-map}
 use Rattle.std.proofs.lemmas.List.Sums.{fold-append}
 use Rattle.std.proofs.lemmas.Option.{none-some, same_Some}
 use Rattle.tc_base.specs.Buffers.{BufferOps}
-use Rattle.tc_base.specs.Logs.{Log, place_in}
+use Rattle.run_log.specs.Logs.{Log}
+use Rattle.tc_base.specs.Paths.{place_in}
 use Rattle.tc_base.specs.Names.{Name}
 use Rattle.tc_base.specs.declared.failing.Failing.{Failing}
 use Rattle.tc_base.specs.declared.failing.Failing.TheVariants as failing
-use Rattle.tc_base.specs.declared.model.Model.{Model}
+use Rattle.memory_models.specs.declared.model.Model.{Model}
 use Rattle.tc_base.specs.declared.moves.Move.{Move}
 use Rattle.tc_base.specs.declared.moves.Move.TheVariants as move
 use Rattle.tc_code.specs.Code.{Code}
@@ -21,7 +22,7 @@ use Rattle.store_buffers.specs.Pending.{Binding}
 use Rattle.run_history.specs.History.{Deed}
 use Rattle.run_history.specs.Told.{steps_in, is_thread_in}
 use Rattle.run_follows.specs.Follow.{move_for, moves_for, taken_in}
-use Rattle.path_log.specs.Texts.{is_there, rises_from}
+use Rattle.run_log.specs.Logs.{is_there, rises_from}
 use Rattle.path_walk.specs.Fits.{fails_in}
 use Rattle.path_walk.specs.Paths.{Walk, Paths, paths_of, walk_of}
 use Rattle.path_walk.specs.declared.event.Event.{Event}

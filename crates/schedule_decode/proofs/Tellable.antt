@@ -5,8 +5,8 @@ use Rattle.std.specs.List.{All}
 use Rattle.std.specs.Option.{IfSome}
 use Rattle.std.proofs.lemmas.Option.{slice_get_within, get_or_from_slice_get}
 use Rattle.tc_base.specs.Buffers.{BufferOps}
-use Rattle.tc_base.specs.declared.limits.TheConstants.{CELLS, STEPS}
-use Rattle.tc_base.specs.declared.model.Model.{Model}
+use Rattle.tc_limits.specs.declared.limits.TheConstants.{CELLS, STEPS}
+use Rattle.memory_models.specs.declared.model.Model.{Model}
 use Rattle.tc_code.specs.Code.{Code}
 use Rattle.store_buffers.specs.Pending.{Binding}
 use Rattle.path_walk.specs.Paths.{Walk, Paths}

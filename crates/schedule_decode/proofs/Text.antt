@@ -11,11 +11,11 @@ use Rattle.std.proofs.lemmas.List.Folds.{list_all-append}
 use Rattle.std.proofs.lemmas.List.Sums.{sum_by-cons, count_by-le-length}
 use Rattle.std.proofs.lemmas.Option.{none-some, same_Some}
 use Rattle.tc_base.specs.Buffers.{BufferOps}
-use Rattle.tc_base.specs.Logs.{place_in}
+use Rattle.tc_base.specs.Paths.{place_in}
 use Rattle.tc_base.specs.Names.{Name}
-use Rattle.tc_base.specs.declared.limits.TheConstants.{CELLS, EVENTS, STEPS}
-use Rattle.tc_base.specs.declared.model.Model.{Model}
-use Rattle.tc_base.specs.declared.model.Model.TheVariants.{Sc, Tso, Pso}
+use Rattle.tc_limits.specs.declared.limits.TheConstants.{CELLS, EVENTS, STEPS}
+use Rattle.memory_models.specs.declared.model.Model.{Model}
+use Rattle.memory_models.specs.declared.model.Model.TheVariants.{Sc, Tso, Pso}
 use Rattle.tc_base.specs.declared.moves.Move.{Move}
 use Rattle.tc_base.specs.declared.moves.Move.TheVariants as move
 use Rattle.tc_code.specs.Code.{Code}

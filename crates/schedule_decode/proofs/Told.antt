@@ -1,15 +1,15 @@
 -- What is shown of a schedule, by what a memory model's constants tell of its buffers.
 use Rattle.std.proofs.Common.{◌≡◌, ◌∙◌, Bool, true, List, sym, ap, subst}
 use Rattle.tc_base.specs.Buffers.{BufferOps}
-use Rattle.tc_base.specs.Logs.{Log}
-use Rattle.tc_base.specs.declared.model.Model.{Model}
+use Rattle.run_log.specs.Logs.{Log}
+use Rattle.memory_models.specs.declared.model.Model.{Model}
 use Rattle.tc_base.specs.declared.moves.Move.{Move}
 use Rattle.tc_code.specs.Code.{Code}
 use Rattle.tc_code.specs.Run.{Reproduces}
 use Rattle.store_buffers.specs.Pending.{Binding}
 use Rattle.schedule_file.specs.Schedules.{HaveText}
 use Rattle.run_follows.specs.Follow.{moves_for}
-use Rattle.path_log.specs.Texts.{is_log}
+use Rattle.run_log.specs.Logs.{is_log}
 use Rattle.path_walk.specs.Fits.{Fits}
 use Rattle.path_walk.specs.Paths.{Paths, paths_of}
 use Rattle.sym_terms.specs.declared.node.Node.{Node}

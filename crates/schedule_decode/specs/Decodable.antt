@@ -2,9 +2,9 @@
 use Rattle.std.specs.Prelude.{◌≡◌, ◌≤◌, List, ◌++◌, length, IsTrue}
 use Rattle.std.specs.List.{All}
 use Rattle.tc_base.specs.Buffers.{BufferOps}
-use Rattle.tc_base.specs.Logs.{Log}
-use Rattle.tc_base.specs.declared.limits.TheConstants.{THREADS, STEPS, EVENTS}
-use Rattle.tc_base.specs.declared.model.Model.{Model}
+use Rattle.run_log.specs.Logs.{Log}
+use Rattle.tc_limits.specs.declared.limits.TheConstants.{THREADS, STEPS, EVENTS}
+use Rattle.memory_models.specs.declared.model.Model.{Model}
 use Rattle.tc_code.specs.Code.{Code}
 use Rattle.store_buffers.specs.Pending.{Binding}
 use Rattle.schedule_file.specs.Schedules.{is_name}
@@ -16,14 +16,14 @@ use Rattle.order_formula.specs.Worlds.{World}
 use Rattle.lawful_order.specs.Events.{all_events}
 use Rattle.world_plan.specs.Going.{IsLawfulWorld}
 
--- paths that a schedule has room for
+-- paths that fit into a schedule
 pub record HaveRoom (paths : Paths) : Type 0 where
   pub threads : length paths.threads ≤ THREADS
   pub steps : All (λ q. length q.places ≤ STEPS) paths.threads
   pub names : All (λ q. IsTrue (is_name q.name)) paths.threads
   pub events : length (all_events paths) ≤ EVENTS
 
--- a lawful world of the paths of some log, with what their execution found, and terms of which those of the execution are the first
+-- a lawful world of a log's paths; `symbolic` and the first of `nodes` come from their execution
 pub record IsDecodable {B : Type 0} (ops : BufferOps B) (model : Model) (bound : Binding) (code : Code) (paths : Paths) (symbolic : Symbolic)
     (nodes : List Node) (w : World) : Type 0 where
   pub log : Log

@@ -1,8 +1,8 @@
 //! The schedule of a lawful world.
 ghost use Rattle.std.specs.Prelude.{◌≡◌, true, IfOk};
-ghost use Rattle.tc_base.specs.Logs.{Log};
+ghost use Rattle.run_log.specs.Logs.{Log};
 ghost use Rattle.tc_code.specs.Run.{Reproduces};
-ghost use Rattle.path_log.specs.Texts.{is_log};
+ghost use Rattle.run_log.specs.Logs.{is_log};
 ghost use Rattle.path_walk.specs.Fits.{Fits};
 ghost use Rattle.path_walk.specs.Paths.{paths_of};
 ghost use Rattle.run_follows.specs.Follow.{moves_for};
@@ -19,10 +19,10 @@ use sym_terms::Terms;
 use tc_code::Code;
 use world_moves::moves_of;
 
-/// The schedule of a lawful world of paths under a memory model: by it each event of the world comes in its turn, up to the one
-/// that fails if one does, and then each thread goes to the end of its path.
+/// The schedule of a lawful world of paths under a memory model: each event of the world takes its
+/// turn, up to the failing one if there is one, and then each thread goes to the end of its path.
 ///
-/// Refused for want of memory alone.
+/// Fails only if out of memory.
 pub fn decode<M: MemoryModel>(
     alloc: Global,
     code: &Code,

@@ -44,7 +44,7 @@ use Rattle.std.proofs.lemmas.List.{length-append, append-nil}
 use Rattle.std.proofs.lemmas.List.Concat.{flat_map-cons}
 use Rattle.std.proofs.lemmas.Option.{same_Some, none-some}
 use Rattle.tc_base.specs.Names.{Name, name_text}
-use Rattle.tc_base.specs.declared.limits.TheConstants.{DEPTH}
+use Rattle.tc_limits.specs.declared.limits.TheConstants.{DEPTH}
 use Rattle.schedule_file.specs.Schedules.{is_child, is_name}
 use Rattle.schedule_file.specs.helpers.Reading.{◌>>=◌, behind, where_dot, with_child, children_at, name_at}
 use Rattle.schedule_file.proofs.Lists.{bind_some}

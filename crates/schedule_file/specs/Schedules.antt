@@ -1,12 +1,12 @@
--- Schedules, and the text of each.
+-- Schedules and their texts.
 use Rattle.std.specs.Prelude.{ℕ, ◌<◌, Bool, false, ◌&&◌, nat_le, nat_lt, IsTrue, List, ◌++◌, length, Some, None, codes}
 use Rattle.std.specs.List.{flat_map, list_all}
 use Rattle.std.specs.Fmt.{decimal}
 use Rattle.tc_base.specs.Names.{Name, name_text}
-use Rattle.tc_base.specs.Models.{model_name}
-use Rattle.tc_base.specs.declared.limits.TheConstants.{CELLS, DEPTH, SCHEDULE_BYTES}
-use Rattle.tc_base.specs.declared.model.Model.{Model}
-use Rattle.tc_base.specs.declared.model.Model.TheVariants.{Tso, Pso}
+use Rattle.memory_models.specs.Models.{model_name}
+use Rattle.tc_limits.specs.declared.limits.TheConstants.{CELLS, DEPTH, SCHEDULE_BYTES}
+use Rattle.memory_models.specs.declared.model.Model.{Model}
+use Rattle.memory_models.specs.declared.model.Model.TheVariants.{Tso, Pso}
 use Rattle.tc_base.specs.declared.moves.Move.{Move}
 use Rattle.tc_base.specs.declared.moves.Move.TheVariants.{Run, Wake, Drain}
 
@@ -25,15 +25,15 @@ line (Drain n (Some cell)) = codes "d " ++ (name_text n ++ (codes " " ++ (decima
 abbrev pub schedule_text : Model → List Move → List ℕ
 schedule_text model moves = header model ++ flat_map line moves
 
--- a child's number that a schedule may name
+-- whether a schedule may use this child number
 abbrev pub is_child : ℕ → Bool
 is_child child = nat_le 1 child && nat_le child 255
 
--- a name that a schedule may name
+-- whether a schedule may use this name
 abbrev pub is_name : Name → Bool
 is_name n = nat_le (length n) DEPTH && list_all is_child n
 
--- a move that a schedule may have: under TSO a drain names no cell, under PSO one
+-- whether a schedule may have this move: a drain names no cell under TSO, and one under PSO
 abbrev pub is_move : Model → Move → Bool
 is_move model (Run n) = is_name n
 is_move model (Wake n waiter) = is_name n && is_name waiter
@@ -41,7 +41,7 @@ is_move Tso (Drain n None) = is_name n
 is_move Pso (Drain n (Some cell)) = is_name n && nat_lt cell CELLS
 is_move _ (Drain n cell) = false
 
--- a schedule has this many lines at most, the header among them: as many as its bytes may be
+-- the most lines that a schedule may have, with the header: as many as it may have bytes
 abbrev pub most_lines : ℕ
 most_lines = SCHEDULE_BYTES
 

@@ -1,17 +1,17 @@
-//! Why a text is no schedule.
+//! Why a text isn't a schedule.
 ghost use Rattle.std.specs.Prelude.{◌≡◌};
 ghost use Rattle.schedule_file.specs.declared.fault.ScheduleFault.TheVariants.{Memory};
 
 use std::alloc::{AllocError, AllocFailed};
 use thiserror::Error;
 
-/// Why a text is no schedule.
+/// Why a text isn't a schedule.
 #[derive(Clone, Copy, Debug, PartialEq, Eq, Error)]
 pub enum ScheduleFault {
-    /// The number, from 1, of the first line that breaks the form of a schedule.
+    /// The number, from 1, of the first line that breaks the format of a schedule.
     #[error("line {0}")]
     Form(u32),
-    /// There is no memory.
+    /// Memory ran out.
     #[error("no memory")]
     Memory,
 }

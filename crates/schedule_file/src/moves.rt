@@ -1,14 +1,15 @@
-//! The line at the front of a text.
+//! Readers of the line at the front of a text.
 ghost use Rattle.std.specs.Prelude.{◌≡◌, option_map, IfOk};
 ghost use Rattle.schedule_file.specs.helpers.Reading as reading;
 
 use crate::front::{behind, name_at};
+use memory_models::Model;
 use std::alloc::{AllocError, Global};
-use tc_base::limits::CELLS;
-use tc_base::{Model, Move};
+use tc_base::Move;
 use tc_decimal::number_at;
+use tc_limits::limits::CELLS;
 
-/// The model that the header at the front names, and what stands behind the header.
+/// The model in the header at the front, and the rest of the text.
 #[tactic(auto, unfolding(crate::specs::helpers::Reading::header_at, crate::specs::helpers::Reading::model_at))]
 pub(crate) fn header_at(text: &[u8]) -> Option<(Model, &[u8])>
     ensures { option_map (λ x. (x.0, x.1.now)) result ≡ reading.header_at text.now }
@@ -24,7 +25,7 @@ pub(crate) fn header_at(text: &[u8]) -> Option<(Model, &[u8])>
     }
 }
 
-/// The move whose line is at the front, under this model, and what stands behind the line.
+/// The move whose line is at the front, under this model, and the rest of the text.
 #[tactic(auto, unfolding(crate::specs::helpers::Reading::move_at))]
 pub(crate) fn move_at(
     alloc: Global,
@@ -99,7 +100,8 @@ fn drain_at(alloc: Global, model: Model, text: &[u8]) -> Result<Option<(Move, &[
     Ok(Some((Move::Drain(name, cell), rest)))
 }
 
-/// What a drain's line names behind the thread under this model, and what stands behind that.
+/// The cell that a drain's line names behind the thread, if this model's drains name one, and the
+/// rest.
 #[tactic(auto, unfolding(crate::specs::helpers::Reading::cell_at))]
 fn cell_at(model: Model, text: &[u8]) -> Option<(Option<u32>, &[u8])>
     ensures { option_map (λ x. (x.0, x.1.now)) result ≡ reading.cell_at model text.now }

@@ -8,15 +8,15 @@ use crate::moves::{header_at, move_at};
 use crate::schedule::Schedule;
 use std::alloc::Global;
 use tc_base::Move;
-use tc_base::limits::SCHEDULE_BYTES;
+use tc_limits::limits::SCHEDULE_BYTES;
 
-/// A schedule's lines, the header among them, are at most so many: as many as its bytes may be.
+/// The most lines of a schedule, with the header: as many as it may have bytes.
 const MOST_LINES: usize = SCHEDULE_BYTES as usize;
 
-/// The schedule that this text is.
+/// Reads a schedule from its text.
 ///
-/// A text is either one schedule or has one line at which it breaks the form, so the answer is the only one
-/// that there is, but for `Memory` where there is none. The time grows linearly with the text.
+/// A text is either exactly one schedule or breaks the format at exactly one line, so only one
+/// answer is right, apart from `Memory`. The time is linear in the text.
 pub fn read_schedule(alloc: Global, text: &[u8]) -> Result<Schedule, ScheduleFault>
     ensures found { IfOk result (λ schedule. text.now ≡ schedule_text schedule.model schedule.moves.items) }
     ensures refused { IfErr result (λ fault. IsFault text.now fault) }

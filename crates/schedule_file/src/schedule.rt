@@ -1,13 +1,14 @@
 //! A schedule.
 ghost use Rattle.schedule_file.specs.Schedules.{HaveText};
 
-use tc_base::{Model, Move};
+use memory_models::Model;
+use tc_base::Move;
 
-/// The moves of a run, and the model under which they are made.
+/// The moves of a run and its memory model.
 ///
-/// A schedule has a text: it has no more lines than a schedule may have bytes, its names have at most `DEPTH` children
-/// with numbers from 1 to 255, its cells are below `CELLS`, and a drain names a cell under PSO, none under TSO, and
-/// stands under no other model.
+/// Every schedule has a text: it has at most as many lines as a schedule may have bytes, its names
+/// have at most `DEPTH` creates with numbers from 1 to 255, its cells are below `CELLS`, and a
+/// drain names a cell under PSO, none under TSO, and is impossible under SC.
 #[derive(Debug, Drop)]
 pub struct Schedule {
     pub model: Model,

@@ -3,8 +3,9 @@ ghost use Rattle.std.specs.Prelude.{◌≡◌, ◌++◌, IfOk, string_bytes};
 ghost use Rattle.schedule_file.specs.Schedules.{header, line, schedule_text};
 
 use crate::schedule::Schedule;
+use memory_models::Model;
 use std::alloc::{AllocError, Global};
-use tc_base::{Model, Move};
+use tc_base::Move;
 
 /// The text of a schedule.
 pub fn write_schedule(alloc: Global, schedule: &Schedule) -> Result<Vec<u8>, AllocError>

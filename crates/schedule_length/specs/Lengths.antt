@@ -1,13 +1,13 @@
--- How long the text of a schedule may be that reproduces a log.
+-- A bound on the text of a schedule that reproduces a log.
 use Rattle.std.specs.Prelude.{◌≡◌, ℕ, ◌+◌, ◌*◌, ◌≤◌, true, length}
 use Rattle.std.specs.List.{All}
-use Rattle.tc_base.specs.Logs.{Log}
-use Rattle.tc_base.specs.declared.limits.TheConstants.{THREADS, DEPTH, STEPS, EVENTS}
+use Rattle.run_log.specs.Logs.{Log}
+use Rattle.tc_limits.specs.declared.limits.TheConstants.{THREADS, DEPTH, STEPS, EVENTS}
 use Rattle.tc_code.specs.Code.{Code}
-use Rattle.path_log.specs.Texts.{is_log}
+use Rattle.run_log.specs.Logs.{is_log}
 use Rattle.path_walk.specs.Paths.{paths_of}
 
--- the first line: `clap-schedule 1`, a space, at most three letters of the model, and the end of the line
+-- the first line: `clap-schedule 1`, a space, a model of at most three letters, and the line's end
 abbrev pub header_bytes : ℕ
 header_bytes = 20
 
@@ -19,15 +19,15 @@ name_bytes = 1 + 4 * DEPTH
 abbrev pub run_bytes : ℕ
 run_bytes = 3 + name_bytes
 
--- any line: a wake has one more space and name, and a drain a space and at most four digits
+-- any line: a wake adds a space and a name, and a drain a space and at most four digits
 abbrev pub line_bytes : ℕ
 line_bytes = run_bytes + (1 + name_bytes)
 
--- the first line, the line of a run for each step of each thread, and for each event a line of any kind
+-- the first line, a run's line for each step of each thread, and a line of any kind for each event
 abbrev pub most_bytes : ℕ
 most_bytes = header_bytes + (THREADS * STEPS * run_bytes + EVENTS * line_bytes)
 
--- a log has few threads with few steps each, and its paths have few events
+-- a log within the limits on threads, steps and events
 pub record IsSmall (code : Code) (log : Log) : Type 0 where
   pub is_log : is_log log ≡ true
   pub threads : length log.threads ≤ THREADS

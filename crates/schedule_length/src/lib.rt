@@ -1,12 +1,12 @@
-//! How long the text of a schedule may be that reproduces a log. The function's clause is a law of every memory model, and its
-//! body does nothing.
+//! A bound on the text of a schedule that reproduces a log. The function states a law for every
+//! memory model, and its body does nothing.
 #![tactic(auto)]
 
 ghost use Rattle.std.specs.Prelude.{◌≤◌, List, length};
 ghost use Rattle.tc_base.specs.Buffers.{BufferOps};
-ghost use Rattle.tc_base.specs.Logs.{Log};
-ghost use Rattle.tc_base.specs.declared.limits.TheConstants.{SCHEDULE_BYTES};
-ghost use Rattle.tc_base.specs.declared.model.Model.{Model};
+ghost use Rattle.run_log.specs.Logs.{Log};
+ghost use Rattle.tc_limits.specs.declared.limits.TheConstants.{SCHEDULE_BYTES};
+ghost use Rattle.memory_models.specs.declared.model.Model.{Model};
 ghost use Rattle.tc_base.specs.declared.moves.Move.{Move};
 ghost use Rattle.tc_code.specs.Code.{Code};
 ghost use Rattle.tc_code.specs.Lawful.{IsLawful};
@@ -16,7 +16,8 @@ ghost use Rattle.store_buffers.specs.Pending.{Binding};
 ghost use Rattle.schedule_file.specs.Schedules.{HaveText, schedule_text};
 ghost use Rattle.schedule_length.specs.Lengths.{IsSmall, most_bytes};
 
-/// A schedule whose moves reproduce a log within the limits has at most `most_bytes` bytes, which a schedule may have.
+/// The text of a schedule that reproduces a log within the limits has at most `most_bytes` bytes,
+/// and a schedule may have that many.
 pub fn reproducing_schedules_are_short<B>()
     ensures short { (ops : BufferOps B) (model : Model) (bound : Binding) (code : Code) (log : Log) (form : Model) (moves : List Move)
         → Laws ops model bound → IsLawful code → IsSmall code log → HaveText form moves → Reproduces ops code log moves

@@ -14,14 +14,15 @@ use Rattle.std.proofs.lemmas.Cmp.{nat_list_cmp_total}
 use Rattle.std.proofs.lemmas.List.{drop_more, drop_all, length-map}
 use Rattle.std.proofs.lemmas.Option.{none-some, same_Some}
 use Rattle.std.proofs.lemmas.Map.Text.{is_eq-slice_cmp}
-use Rattle.tc_base.proofs.Bools.{first_T, second_T}
+use Rattle.list_laws.proofs.Bools.{first_T, second_T}
 use Rattle.tc_base.specs.Names.{Name, by_name}
 use Rattle.tc_base.proofs.Names.{same_name, itself, between, turned, less_true, equal_of}
-use Rattle.path_log.proofs.Rising.{rises_behind, none_below, under_first}
+use Rattle.run_log.proofs.Rising.{rises_behind, none_below, under_first}
 use Rattle.tc_base.specs.States.{Thread, State}
-use Rattle.tc_base.specs.Logs.{Path, ThreadPath, Log, path_under}
+use Rattle.tc_base.specs.Paths.{Path, ThreadPath, path_under}
+use Rattle.run_log.specs.Logs.{Log}
 use Rattle.tc_code.specs.Run.{path_of, path_in}
-use Rattle.path_log.specs.Texts.{is_above, rises_from, is_there, is_log}
+use Rattle.run_log.specs.Logs.{is_above, rises_from, is_there, is_log}
 use Rattle.schedule_replay.specs.Verdicts.{GoesAsLogged, IsFirstToDiffer}
 use Rattle.schedule_replay.specs.helpers.Judged.{IsFirstOther, is_path, by_order, other_at}
 

@@ -12,7 +12,8 @@ use Rattle.std.proofs.lemmas.Option.{same_Some}
 use Rattle.tc_base.specs.Names.{Name}
 use Rattle.tc_base.specs.Buffers.{BufferOps}
 use Rattle.tc_base.specs.States.{State}
-use Rattle.tc_base.specs.Logs.{ThreadPath, Log, place_in}
+use Rattle.tc_base.specs.Paths.{ThreadPath, place_in}
+use Rattle.run_log.specs.Logs.{Log}
 use Rattle.tc_base.specs.declared.failing.Failing.{Failing}
 use Rattle.tc_base.specs.declared.failing.Failing.TheVariants as failing
 use Rattle.tc_base.specs.declared.moves.Move.{Move}

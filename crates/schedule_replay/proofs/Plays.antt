@@ -12,7 +12,7 @@ use Rattle.tc_machine.specs.Why.{why}
 use Rattle.tc_machine.specs.declared.why.Why.{Why}
 use Rattle.run_laws.specs.Counters.{CountersAreBelowLast}
 use Rattle.run_laws.proofs.Counts.{counters_below_last}
-use Rattle.tc_base.specs.Logs.{Log}
+use Rattle.run_log.specs.Logs.{Log}
 use Rattle.schedule_file.specs.Schedules.{most_lines}
 use Rattle.schedule_replay.specs.Verdicts.{StopsAt, IsVerdictAt, IsVerdict}
 use Rattle.schedule_replay.proofs.OneVerdict.{one_verdict}

@@ -1,10 +1,11 @@
--- What a replay says of a schedule.
+-- The verdict of a replay on a schedule.
 use Rattle.std.specs.Prelude.{◌≡◌, ◌⊎◌, ℕ, ◌+◌, List, ◌∷◌, ◌++◌, length, Some, None, IsSome}
 use Rattle.std.specs.declared.cmp.Ordering.TheVariants.{Less}
 use Rattle.tc_base.specs.Names.{Name, by_name}
 use Rattle.tc_base.specs.Buffers.{BufferOps}
 use Rattle.tc_base.specs.States.{State}
-use Rattle.tc_base.specs.Logs.{Log, place_in, failing_of, path_under}
+use Rattle.run_log.specs.Logs.{Log, failing_of}
+use Rattle.tc_base.specs.Paths.{place_in, path_under}
 use Rattle.tc_base.specs.declared.failing.Failing.TheVariants.{Deadlock}
 use Rattle.tc_base.specs.declared.moves.Move.{Move}
 use Rattle.tc_code.specs.Code.{Code}
@@ -16,7 +17,7 @@ use Rattle.schedule_replay.specs.declared.verdict.Verdict.{Verdict}
 use Rattle.schedule_replay.specs.declared.verdict.Verdict.TheVariants as verdict
 
 module _ {B : Type 0} where
-  -- the thread's path in the run is its path in the log, or it is in neither
+  -- the thread has the same path in the run as in the log, or it is in neither
   abbrev pub GoesAsLogged : State B → Log → Name → Type 0
   GoesAsLogged s log n = path_in s n ≡ path_under n log.threads
 
@@ -26,11 +27,11 @@ module _ {B : Type 0} where
     pub least : (m : Name) → by_name m n ≡ Less → GoesAsLogged s log m
 
 module _ {B : Type 0} (ops : BufferOps B) (code : Code) where
-  -- some move is enabled, or no thread is left
+  -- some move is enabled, or every thread has exited
   abbrev pub GoesOn : State B → Type 0
   GoesOn s = ((m : Move) × IsSome (step ops code s m)) ⊎ ((n : Name) → ¬ (IsLeft s n))
 
-  -- the verdict on the state that all moves lead to
+  -- the verdict on the state after all moves
   abbrev pub IsVerdictAt : State B → Log → Verdict → Type 0
   IsVerdictAt s log verdict.NoFailure = IsSome (place_in log.failing) × (s.failed ≡ None)
   IsVerdictAt s log (verdict.OtherFailure n) = (s.failed ≡ Some n) × ¬ (failing_of log ≡ Some n)
@@ -38,7 +39,7 @@ module _ {B : Type 0} (ops : BufferOps B) (code : Code) where
   IsVerdictAt s log (verdict.OtherPath n) = EndsAs ops code log.failing log.threads s × IsFirstToDiffer s log n
   IsVerdictAt s log _ = ⊥
 
-  -- the move of this number, from 1, is the first that isn't enabled, for this reason
+  -- the first move that isn't enabled has this number, from 1, and this reason
   pub record StopsAt (moves : List Move) (number : ℕ) (reason : Why) : Type 0 where
     pub before : List Move
     pub move : Move
@@ -49,7 +50,7 @@ module _ {B : Type 0} (ops : BufferOps B) (code : Code) where
     pub leads : run ops code before ≡ Some state
     pub stops : why ops code state move ≡ Some reason
 
-  -- the first verdict that holds
+  -- the verdict on the moves, against a log
   abbrev pub IsVerdict : Log → List Move → Verdict → Type 0
   IsVerdict log moves (verdict.Stops number reason) = StopsAt moves number reason
   IsVerdict log moves verdict.Reproduces = Reproduces ops code log moves

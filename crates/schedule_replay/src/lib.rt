@@ -1,4 +1,4 @@
-//! Replays: whether a schedule leads to the failure that a log tells of, under a memory model.
+//! Replays: whether a schedule reproduces a log under a memory model.
 #![tactic(auto)]
 
 mod laws;

@@ -6,7 +6,7 @@ ghost use Rattle.schedule_replay.specs.Verdicts.{GoesOn, IsVerdict};
 ghost use Rattle.schedule_replay.specs.helpers.Judged.{IsJudged, IsOtherEnd, IsFirstOther, is_path, other_at};
 
 use crate::verdict::Verdict;
-use path_log::{Log, ThreadPath};
+use run_log::{Log, ThreadPath};
 use schedule_file::Schedule;
 use std::alloc::{AllocError, Global};
 use std::cmp::Ordering;
@@ -15,9 +15,9 @@ use tc_base::{Failing, ThreadName};
 use tc_code::Code;
 use tc_machine::{State, StepFault, choices, start, try_step};
 
-/// The first verdict on a schedule's moves that holds under a memory model.
+/// The verdict on a schedule's moves under a memory model.
 ///
-/// The model that the schedule names is the caller's to hold against `M`, and the log's plays no part.
+/// The caller must compare the schedule's model with `M`; the log's model plays no part.
 pub fn replay<M: MemoryModel>(
     alloc: Global,
     code: &Code,
@@ -38,7 +38,7 @@ pub fn replay<M: MemoryModel>(
     judge(alloc, code, log, &state)
 }
 
-/// The verdict on the state that all moves led to.
+/// The verdict on the state after all moves.
 fn judge<M: MemoryModel>(
     alloc: Global,
     code: &Code,
@@ -57,7 +57,7 @@ fn judge<M: MemoryModel>(
     }
 }
 
-/// The verdict on a state at which the run doesn't end as the log says.
+/// The verdict if the run doesn't end as the log says, and none if it does.
 fn other_end<M: MemoryModel>(
     alloc: Global,
     code: &Code,
@@ -76,7 +76,7 @@ fn other_end<M: MemoryModel>(
     }
 }
 
-/// Whether nothing can go on where no thread has failed, and some thread is left.
+/// Whether a state without a failure is a deadlock.
 fn is_stuck<M: MemoryModel>(
     alloc: Global,
     code: &Code,
@@ -92,7 +92,7 @@ fn is_stuck<M: MemoryModel>(
     Ok(choices(alloc, code, state)?.is_empty())
 }
 
-/// The least name whose path in the run isn't that in the log.
+/// The least thread whose path in the run differs from that in the log, if any.
 fn first_other<'a, M: MemoryModel>(log: &'a Log, state: &'a State<M>) -> Option<&'a ThreadName>
     ensures { IsFirstOther state.now log.now.log (option_map (λ n. n.now) result) }
 {
@@ -113,7 +113,7 @@ fn first_other<'a, M: MemoryModel>(log: &'a Log, state: &'a State<M>) -> Option<
     }
 }
 
-/// The lesser of a log's and a run's thread, where their names or their paths differ.
+/// The lesser of a log's and a run's thread, if their names or their paths differ.
 fn other_at<'a, M: MemoryModel>(
     state: &State<M>,
     thread: &'a ThreadPath,
@@ -128,7 +128,7 @@ fn other_at<'a, M: MemoryModel>(
     }
 }
 
-/// Whether a logged thread went so in the run.
+/// Whether a logged thread has the same path in the run.
 fn goes_as_logged<M: MemoryModel>(state: &State<M>, thread: &ThreadPath) -> bool
     ensures { result ≡ is_path (path_in state.now thread.now.name) thread.now.path }
 {

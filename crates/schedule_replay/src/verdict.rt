@@ -1,22 +1,24 @@
-//! Verdicts.
+//! The verdicts of replays.
 
 use tc_base::ThreadName;
 use tc_machine::Why;
 
-/// What a replay says of a schedule: the first that holds of all but `Reproduces`, in this order, and `Reproduces` where
-/// none of them does.
+/// The verdict of a replay on a schedule: the first of the others that holds, in this order, and
+/// `Reproduces` if none does.
 #[derive(Debug, PartialEq, Eq, Drop)]
 pub enum Verdict {
-    /// It leads to the log's failure or deadlock along the log's paths.
+    /// The schedule leads to the log's failure or deadlock along the log's paths.
     Reproduces,
-    /// The move of this number, from 1, is the first that isn't enabled, and why.
+    /// The number, from 1, of the first move that isn't enabled, and why.
     Stops(usize, Why),
-    /// No thread fails, but in the log one does.
+    /// No thread fails, but one does in the log.
     NoFailure,
-    /// This thread fails, and in the log it doesn't.
+    /// This thread fails, but it doesn't in the log.
     OtherFailure(ThreadName),
-    /// The log tells of a deadlock, and no thread fails, but a move is enabled or every thread has exited.
+    /// The log is of a deadlock and no thread fails, but a move is enabled or every thread has
+    /// exited.
     NotStuck,
-    /// The least name whose path isn't the log's: it is in the run or the log alone, or its outcomes or steps differ.
+    /// The least thread whose path differs: only the run or the log has it, or outcomes or steps
+    /// differ.
     OtherPath(ThreadName),
 }

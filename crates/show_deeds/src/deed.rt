@@ -1,5 +1,6 @@
 //! Deeds: what moves did.
 ghost use Rattle.std.specs.Prelude.{◌≡◌, IfOk};
+ghost use Rattle.show_deeds.specs.Deeds.{doer};
 
 use std::alloc::AllocError;
 use tc_base::{Request, ThreadName};
@@ -43,7 +44,9 @@ pub enum Deed {
 
 impl Deed {
     /// The thread.
-    pub fn thread(&self) -> &ThreadName {
+    pub fn thread(&self) -> &ThreadName
+        ensures { result.now ≡ doer self.now }
+    {
         match self {
             Deed::Did(step) => &step.thread,
             Deed::Drained(stored) => &stored.thread,

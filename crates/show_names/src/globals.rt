@@ -4,10 +4,18 @@ use crate::text::shown;
 use std::alloc::{AllocError, Global as Heap};
 use tc_tree::{Global, Name, Tree};
 
-/// The names of cells, mutexes and conditions, each at the place of its number.
+/// An array: the number of its first cell, and its name.
+#[derive(Drop)]
+pub(crate) struct Array {
+    pub(crate) first: usize,
+    pub(crate) name: String,
+}
+
+/// The names of cells, mutexes and conditions, each at the place of its number, and the arrays.
 #[derive(Drop)]
 pub(crate) struct GlobalNames {
     pub(crate) cells: Vec<String>,
+    pub(crate) arrays: Vec<Array>,
     pub(crate) mutexes: Vec<String>,
     pub(crate) conditions: Vec<String>,
 }
@@ -16,6 +24,7 @@ pub(crate) struct GlobalNames {
 pub(crate) fn global_names(alloc: Heap, tree: &Tree) -> Result<GlobalNames, AllocError> {
     let mut names = GlobalNames {
         cells: Vec::new(alloc),
+        arrays: Vec::new(alloc),
         mutexes: Vec::new(alloc),
         conditions: Vec::new(alloc),
     };
@@ -32,9 +41,11 @@ impl GlobalNames {
             Global::Int(name, _) => self.cells.push(name_of(alloc, text, name)?)?,
             Global::Array(name, length) => {
                 let name = name_of(alloc, text, name)?;
+                let first = self.cells.len();
                 for i in 0..length.value {
                     self.cells.push(format!(in alloc; "{name}[{i}]")?)?;
                 }
+                self.arrays.push(Array { first, name })?;
             }
             Global::Mutex(name) => self.mutexes.push(name_of(alloc, text, name)?)?,
             Global::Condition(name) => self.conditions.push(name_of(alloc, text, name)?)?,

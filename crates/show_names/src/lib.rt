@@ -4,6 +4,7 @@
 mod body;
 mod globals;
 mod names;
+mod source;
 mod text;
 
 pub use names::Names;

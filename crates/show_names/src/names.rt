@@ -2,16 +2,20 @@
 
 use crate::body::{BodyNames, body_names};
 use crate::globals::{GlobalNames, global_names};
+use crate::source::source_of;
 use crate::text::lines_of;
+use sha2::{Digest, Sha256};
 use std::alloc::{AllocError, Global};
 use tc_tree::Tree;
 
-/// What the text calls a cell, a mutex, a condition, a slot or a thread variable of its code, and the text's lines.
+/// What the text calls a cell, a mutex, a condition, a slot or a thread variable of its code, the text's lines, and its digest.
 ///
 /// What has no name is shown as `?`: a slot that the code keeps for a value of its own, a number past the last.
 #[derive(Drop)]
 pub struct Names {
+    digest: String,
     lines: Vec<String>,
+    source: Vec<String>,
     globals: GlobalNames,
     bodies: Vec<BodyNames>,
 }
@@ -20,18 +24,31 @@ impl Names {
     /// The names of a program.
     pub fn of_tree(alloc: Global, tree: &Tree) -> Result<Names, AllocError> {
         Ok(Names {
+            digest: hex::encode(alloc, Sha256::digest(tree.text).as_slice())?,
             lines: lines_of(alloc, tree.text)?,
+            source: source_of(alloc, tree.text)?,
             globals: global_names(alloc, tree)?,
             bodies: body_names(alloc, tree)?,
         })
     }
 
-    /// The line of that number, from 1, without the blanks at its ends.
+    /// The SHA-256 digest of the text, in 64 digits.
+    pub fn digest(&self) -> &str {
+        self.digest.as_str()
+    }
+
+    /// The line of that number, from 1, without comments and the blanks at its ends, and cut off where it is longer than 60
+    /// characters.
     pub fn line(&self, number: u32) -> &str {
         match number.checked_sub(1) {
             Some(place) => named(self.lines.get(place as usize)),
             None => "?",
         }
+    }
+
+    /// All lines as they are written, each tab as four blanks.
+    pub fn source(&self) -> &[String] {
+        self.source.as_slice()
     }
 
     /// The name of a cell: that of an int, or of an array with the index.
@@ -44,9 +61,29 @@ impl Names {
         self.globals.cells.as_slice()
     }
 
+    /// The name of the array that begins at a cell.
+    pub fn array(&self, first: u32) -> &str {
+        for array in self.globals.arrays.iter() {
+            if array.first == first as usize {
+                return array.name.as_str();
+            }
+        }
+        "?"
+    }
+
     /// The name of a mutex.
     pub fn mutex(&self, mutex: u32) -> &str {
         named(self.globals.mutexes.get(mutex as usize))
+    }
+
+    /// The names of all mutexes.
+    pub fn mutexes(&self) -> &[String] {
+        self.globals.mutexes.as_slice()
+    }
+
+    /// The names of all conditions.
+    pub fn conditions(&self) -> &[String] {
+        self.globals.conditions.as_slice()
     }
 
     /// The name of a condition.

@@ -4,12 +4,28 @@ use show_rows::Told;
 use show_words::Program;
 use std::alloc::{AllocError, Global};
 use std::collections::BTreeMap;
-use tc_base::ThreadName;
+use tc_base::{Request, ThreadName};
 
-/// The title of each thread's lane.
+/// The lane of a thread.
+#[derive(Drop)]
+pub(crate) struct Lane {
+    pub(crate) title: String,
+    /// Where the thread is when the schedule ends, unless it has exited.
+    pub(crate) end: Option<End>,
+}
+
+/// Where a thread is when the schedule ends.
+#[derive(Clone, Copy)]
+pub(crate) struct End {
+    pub(crate) line: u32,
+    /// What its next step asks.
+    pub(crate) asks: Request,
+}
+
+/// The lane of each thread.
 #[derive(Drop)]
 pub(crate) struct Lanes {
-    titles: BTreeMap<ThreadName, String>,
+    lanes: BTreeMap<ThreadName, Lane>,
 }
 
 impl Lanes {
@@ -20,13 +36,17 @@ impl Lanes {
         told: &Told,
     ) -> Result<Lanes, AllocError> {
         let mut lanes = Lanes {
-            titles: BTreeMap::new(alloc),
+            lanes: BTreeMap::new(alloc),
         };
-        for row in told.rows.iter() {
-            lanes.add(alloc, program, row.deed.thread(), row.function)?;
-        }
         for thread in told.standing.iter() {
-            lanes.add(alloc, program, &thread.thread, thread.function)?;
+            let end = End {
+                line: program.line(thread.function, thread.instruction),
+                asks: thread.asks,
+            };
+            lanes.add(alloc, program, &thread.thread, thread.function, Some(end))?;
+        }
+        for row in told.rows.iter() {
+            lanes.add(alloc, program, row.deed.thread(), row.function, None)?;
         }
         Ok(lanes)
     }
@@ -38,23 +58,24 @@ impl Lanes {
         program: Program<'_>,
         name: &ThreadName,
         function: usize,
+        end: Option<End>,
     ) -> Result<(), AllocError> {
-        if !self.titles.contains_key(name) {
+        if !self.lanes.contains_key(name) {
             let function = program.function(alloc, function)?;
             let title = format!(in alloc; "{name} {function}")?;
-            self.titles.insert(name.clone()?, title)?;
+            self.lanes.insert(name.clone()?, Lane { title, end })?;
         }
         Ok(())
     }
 
-    /// The titles, lane by lane.
-    pub(crate) fn titles(&self) -> &BTreeMap<ThreadName, String> {
-        &self.titles
+    /// The lanes, by their threads.
+    pub(crate) fn lanes(&self) -> &BTreeMap<ThreadName, Lane> {
+        &self.lanes
     }
 
     /// The number of a thread's lane, from 0.
     pub(crate) fn lane(&self, name: &ThreadName) -> usize {
-        for (i, known) in self.titles.keys().enumerate() {
+        for (i, known) in self.lanes.keys().enumerate() {
             if known == name {
                 return i;
             }

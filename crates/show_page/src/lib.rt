@@ -2,15 +2,18 @@
 #![tactic(auto)]
 
 mod escape;
+mod fixed;
 mod frame;
 mod lanes;
 mod log;
 mod marks;
 mod moves;
+mod panels;
 mod schedule;
 mod script;
 mod sources;
 mod style;
+mod tags;
 
 pub use log::log_page;
 pub use schedule::schedule_page;

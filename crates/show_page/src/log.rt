@@ -2,8 +2,8 @@
 
 use crate::escape::push_text;
 use crate::frame::{push_bottom, push_end, push_top};
-use path_log::Log;
 use path_walk::{Paths, Walk};
+use run_log::Log;
 use show_words::{Program, Went, ending_words, walk_title, walk_words};
 use std::alloc::{AllocError, Global};
 

@@ -2,7 +2,10 @@
 
 use show_deeds::Deed;
 use show_rows::Row;
-use tc_base::Request;
+use show_words::Program;
+use std::alloc::AllocError;
+use tc_base::{Request, ThreadName};
+use tc_code::Instr;
 
 /// An access of a cell.
 #[derive(Clone, Copy)]
@@ -10,38 +13,138 @@ pub(crate) struct Access {
     /// `load`, `store`, `issue` of a store that then waits in a buffer, or `drain`.
     pub(crate) kind: &'static str,
     pub(crate) cell: u32,
-    /// The value that is taken or put.
-    pub(crate) value: i32,
+    /// The value that is taken, if one is.
+    pub(crate) took: Option<i32>,
+    /// The value that is put, if one is.
+    pub(crate) put: Option<i32>,
+}
+
+impl Access {
+    fn load(cell: u32, took: i32) -> Access {
+        Access {
+            kind: "load",
+            cell,
+            took: Some(took),
+            put: None,
+        }
+    }
+
+    fn store(kind: &'static str, cell: u32, put: i32) -> Access {
+        Access {
+            kind,
+            cell,
+            took: None,
+            put: Some(put),
+        }
+    }
+
+    fn exchange(cell: u32, took: i32, put: i32) -> Access {
+        Access {
+            kind: "store",
+            cell,
+            took: Some(took),
+            put: Some(put),
+        }
+    }
 }
 
 /// A row's access of a cell, if it has one. An exchange that puts a value is a store, and else a load.
 pub(crate) fn access_of(row: &Row, buffered: bool) -> Option<Access> {
-    let (kind, cell, value) = match &row.deed {
-        Deed::Drained(stored) => ("drain", stored.cell, stored.value),
-        Deed::Did(step) => match step.asks {
-            Request::Read(cell) => ("load", cell, step.took),
-            Request::Write(cell, value) if buffered => ("issue", cell, value),
-            Request::Write(cell, value) | Request::Exchange(cell, value) => ("store", cell, value),
-            Request::CompareExchange(cell, expected, value) if step.took == expected => {
-                ("store", cell, value)
+    match &row.deed {
+        Deed::Drained(stored) => Some(Access::store("drain", stored.cell, stored.value)),
+        Deed::Did(step) => {
+            let took = step.took;
+            match step.asks {
+                Request::Read(cell) => Some(Access::load(cell, took)),
+                Request::Write(cell, put) if buffered => Some(Access::store("issue", cell, put)),
+                Request::Write(cell, put) => Some(Access::store("store", cell, put)),
+                Request::Exchange(cell, put) => Some(Access::exchange(cell, took, put)),
+                Request::CompareExchange(cell, expected, put) if took == expected => {
+                    Some(Access::exchange(cell, took, put))
+                }
+                Request::CompareExchange(cell, _, _) => Some(Access::load(cell, took)),
+                _ => None,
             }
-            Request::CompareExchange(cell, _, _) => ("load", cell, step.took),
-            _ => return None,
-        },
-    };
-    Some(Access { kind, cell, value })
+        }
+    }
 }
 
-/// Whether an event takes place by a row: a step that asks something of memory or of other threads, or the failing one. Of a
-/// store that waits in a buffer it does by the drain.
-pub(crate) fn is_event(row: &Row, buffered: bool) -> bool {
+/// What a step does with a mutex, a condition or another thread.
+#[derive(Clone, Copy)]
+pub(crate) struct Synchronization {
+    /// `lock`, `unlock`, `sleep`, `wake`, `signal`, `broadcast`, `create`, `join` or `exit`.
+    pub(crate) kind: &'static str,
+    pub(crate) mutex: Option<u32>,
+    pub(crate) condition: Option<u32>,
+}
+
+impl Synchronization {
+    fn new(kind: &'static str, mutex: Option<u32>, condition: Option<u32>) -> Synchronization {
+        Synchronization {
+            kind,
+            mutex,
+            condition,
+        }
+    }
+
+    /// What a step does that asks this, if it does.
+    pub(crate) fn of(asks: Request) -> Option<Synchronization> {
+        let new = Synchronization::new;
+        match asks {
+            Request::Acquire(mutex) => Some(new("lock", Some(mutex), None)),
+            Request::Release(mutex) => Some(new("unlock", Some(mutex), None)),
+            Request::BeginWait(condition, mutex) => {
+                Some(new("sleep", Some(mutex), Some(condition)))
+            }
+            Request::EndWait(condition, mutex) => Some(new("wake", Some(mutex), Some(condition))),
+            Request::WakeOne(condition) => Some(new("signal", None, Some(condition))),
+            Request::WakeAll(condition) => Some(new("broadcast", None, Some(condition))),
+            Request::Start(_) => Some(new("create", None, None)),
+            Request::Await(_) => Some(new("join", None, None)),
+            Request::Finish => Some(new("exit", None, None)),
+            _ => None,
+        }
+    }
+}
+
+/// What a row's move asks: a drain nothing.
+pub(crate) fn asks_of(row: &Row) -> Request {
     match &row.deed {
-        Deed::Drained(_) => true,
-        Deed::Did(step) => match step.asks {
-            Request::Silent | Request::Bar => false,
-            Request::Write(_, _) => !buffered,
-            _ => true,
+        Deed::Did(step) => step.asks,
+        Deed::Drained(_) => Request::Silent,
+    }
+}
+
+/// The other thread of a row's step: the one that it creates, wakes by a signal, or joins.
+pub(crate) fn other_of(row: &Row) -> Result<Option<ThreadName>, AllocError> {
+    match &row.deed {
+        Deed::Did(step) => match &step.other {
+            Some(other) => Ok(Some(other.clone()?)),
+            None => awaited_by(&step.thread, step.asks),
         },
+        Deed::Drained(_) => Ok(None),
+    }
+}
+
+/// The child whose end a thread's step asks for, if it does.
+pub(crate) fn awaited_by(
+    thread: &ThreadName,
+    asks: Request,
+) -> Result<Option<ThreadName>, AllocError> {
+    match asks {
+        Request::Await(number) if number >= 1 => Ok(Some(thread.child(number)?)),
+        _ => Ok(None),
+    }
+}
+
+/// The int of the program that a row's step sets, if it sets one.
+pub(crate) fn int_set<'a>(program: Program<'a>, row: &Row) -> Option<&'a str> {
+    match (
+        &row.deed,
+        program.code.instr(row.function, row.instruction)?,
+    ) {
+        (Deed::Did(_), Instr::Set { slot, .. }) => program.names.int(row.function, *slot),
+        _ => None,
     }
 }
 

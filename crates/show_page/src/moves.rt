@@ -2,37 +2,38 @@
 
 use crate::escape::push_text;
 use crate::lanes::Lanes;
-use crate::marks::{Access, access_of, is_event, is_failure};
+use crate::marks::{Synchronization, access_of, asks_of, int_set, is_failure, other_of};
 use crate::sources::Sources;
+use crate::tags::{push_access, push_mark, push_number, push_synchronization};
+use memory_models::Model;
 use show_rows::Row;
-use show_words::{Program, Words};
+use show_words::{Program, Words, is_event};
 use std::alloc::{AllocError, Global};
-use tc_base::Model;
 
 /// The rows so far.
 #[derive(Drop)]
-pub(crate) struct Moves {
+pub(crate) struct Moves<'a> {
+    program: Program<'a>,
     out: String,
     sources: Sources,
     buffered: bool,
     /// The lane of the last event.
     last: Option<usize>,
-    switches: usize,
 }
 
-impl Moves {
+impl<'a> Moves<'a> {
     /// No rows, under a memory model.
     pub(crate) fn new(
         alloc: Global,
-        program: Program<'_>,
+        program: Program<'a>,
         model: Model,
-    ) -> Result<Moves, AllocError> {
+    ) -> Result<Moves<'a>, AllocError> {
         Ok(Moves {
+            program,
             out: String::new(alloc),
             sources: Sources::new(alloc, program.code)?,
             buffered: !matches!(model, Model::Sc),
             last: None,
-            switches: 0,
         })
     }
 
@@ -41,89 +42,90 @@ impl Moves {
         self.out.as_str()
     }
 
-    /// How many events are of another thread than the event before them.
-    pub(crate) fn switches(&self) -> usize {
-        self.switches
-    }
-
-    /// Adds a row, which comes after these.
+    /// Adds a row, which comes after these, with its words, and with those that it has where silent steps are folded, if it is
+    /// shown there.
     pub(crate) fn push(
         &mut self,
         lanes: &Lanes,
         before: &[Row],
         row: &Row,
         words: &Words<'_>,
+        brief: Option<&str>,
     ) -> Result<(), AllocError> {
+        let number = before.len().saturating_add(1);
         let lane = lanes.lane(row.deed.thread());
         let source = self.sources.source(before, row, words.own);
-        self.push_marks(before.len().saturating_add(1), lane, row)?;
+        let fails = if is_failure(row) { " fail" } else { "" };
+        let alloc = *self.out.allocator();
+        let head = format!(in alloc; "<li class=\"row{fails}\" id=\"m{number}\"")?;
+        self.out.push_str(head.as_str())?;
+        push_number(&mut self.out, "lane", lane)?;
+        self.push_marks(lanes, row)?;
         if let Some(source) = source {
-            let alloc = *self.out.allocator();
-            let from = source.saturating_add(1);
-            self.out
-                .push_str(format!(in alloc; " data-from=\"{from}\"")?.as_str())?;
+            push_number(&mut self.out, "from", source.saturating_add(1))?;
         }
-        self.push_words(before.len().saturating_add(1), lane, words)?;
+        if is_event(&row.deed, self.buffered) {
+            let event = self.event(lane);
+            push_mark(&mut self.out, "event", event)?;
+        }
+        if brief.is_none() {
+            push_mark(&mut self.out, "fold", "")?;
+        }
+        self.push_place(number, lane)?;
+        push_words(&mut self.out, words, brief)?;
         self.sources.take(row, before.len(), source, self.buffered);
         Ok(())
     }
 
-    /// Adds the beginning of a row, with what the script reads.
-    fn push_marks(&mut self, number: usize, lane: usize, row: &Row) -> Result<(), AllocError> {
-        let alloc = *self.out.allocator();
-        let fails = if is_failure(row) { " fail" } else { "" };
-        let event = self.event(lane, row);
-        let head = format!(in alloc;
-            "<li class=\"row{fails}\" id=\"m{number}\" data-lane=\"{lane}\"{event}"
-        )?;
-        self.out.push_str(head.as_str())?;
+    /// Adds what the script reads of a row's move.
+    fn push_marks(&mut self, lanes: &Lanes, row: &Row) -> Result<(), AllocError> {
         if let Some(access) = access_of(row, self.buffered) {
-            let Access { kind, cell, value } = access;
-            let data = format!(in alloc;
-                " data-kind=\"{kind}\" data-cell=\"{cell}\" data-value=\"{value}\""
-            )?;
-            self.out.push_str(data.as_str())?;
+            push_access(&mut self.out, access)?;
         }
-        Ok(())
+        if let Some(does) = Synchronization::of(asks_of(row)) {
+            push_synchronization(&mut self.out, does)?;
+        }
+        if let Some(name) = int_set(self.program, row) {
+            push_mark(&mut self.out, "sets", name)?;
+        }
+        match other_of(row)? {
+            Some(other) => push_number(&mut self.out, "other", lanes.lane(&other)),
+            None => Ok(()),
+        }
     }
 
-    /// The mark of a row that is an event, by whether it is a switch, which is counted.
-    fn event(&mut self, lane: usize, row: &Row) -> &'static str {
-        if !is_event(row, self.buffered) {
-            return "";
-        }
+    /// The mark of the next event, by whether it is a switch.
+    fn event(&mut self, lane: usize) -> &'static str {
         let last = self.last;
         self.last = Some(lane);
         match last {
-            Some(before) if before != lane => {
-                self.switches = self.switches.saturating_add(1);
-                " data-event=\"switch\""
-            }
-            _ => " data-event=\"\"",
+            Some(before) if before != lane => "switch",
+            _ => "",
         }
     }
 
-    /// Adds the rest of a row, with its words.
-    fn push_words(
-        &mut self,
-        number: usize,
-        lane: usize,
-        words: &Words<'_>,
-    ) -> Result<(), AllocError> {
+    /// Adds the number of a row, and the beginning of what stands in its lane.
+    fn push_place(&mut self, number: usize, lane: usize) -> Result<(), AllocError> {
         let alloc = *self.out.allocator();
         let column = lane.saturating_add(2);
-        let line = words.line;
-        let out = &mut self.out;
-        out.push_str(format!(in alloc;
-            "><div class=\"n\">{number}</div><div class=\"deed\" style=\"grid-column:{column}\"><span class=\"who\">"
-        )?.as_str())?;
-        push_text(out, words.thread.as_str())?;
-        out.push_str(format!(in alloc;
-            ", </span><span class=\"line\">{line}</span><code>"
-        )?.as_str())?;
-        push_text(out, words.source)?;
-        out.push_str("</code>")?;
-        push_text(out, words.deed.as_str())?;
-        out.push_str("</div></li>\n")
+        let place = format!(in alloc;
+            "><div class=\"n\">{number}</div><div class=\"deed\" style=\"grid-column:{column}\">"
+        )?;
+        self.out.push_str(place.as_str())
     }
+}
+
+/// Adds the words of a row, to its end.
+fn push_words(out: &mut String, words: &Words<'_>, brief: Option<&str>) -> Result<(), AllocError> {
+    let alloc = *out.allocator();
+    let line = words.line;
+    out.push_str("<span class=\"who\">")?;
+    push_text(out, words.thread.as_str())?;
+    out.push_str(format!(in alloc; ", </span><span class=\"line\">{line}</span><code>")?.as_str())?;
+    push_text(out, words.source)?;
+    out.push_str("</code><span class=\"each\">")?;
+    push_text(out, words.deed.as_str())?;
+    out.push_str("</span><span class=\"brief\">")?;
+    push_text(out, brief.unwrap_or(""))?;
+    out.push_str("</span></div></li>\n")
 }

@@ -3,10 +3,10 @@
 /// The style sheet: in light and in dark, on narrow screens, and on paper.
 pub(crate) const STYLE: &str = r#"
 :root { color-scheme: light dark; --ink: #1c2128; --faint: #606b78; --paper: #ffffff; --card: #f4f6f8;
-  --edge: #d3dae1; --take: #0a5bb5; --drain: #a8480f; --mark: #fff1b8; --fail: #b3261e; --failed: #fdeceb;
+  --edge: #d3dae1; --take: #0a5bb5; --drain: #a8480f; --order: #2e7d32; --mark: #fff1b8; --fail: #b3261e; --failed: #fdeceb;
   --number: 3rem; --lane: 12rem; --gap: 1.75rem; }
 @media (prefers-color-scheme: dark) { :root { --ink: #e3e7ec; --faint: #97a3b0; --paper: #13171b; --card: #1d2329;
-  --edge: #39424c; --take: #73b5ff; --drain: #f2a26b; --mark: #413a12; --fail: #ff8a80; --failed: #3a1c1b; } }
+  --edge: #39424c; --take: #73b5ff; --drain: #f2a26b; --order: #7fc784; --mark: #413a12; --fail: #ff8a80; --failed: #3a1c1b; } }
 * { box-sizing: border-box; }
 body { margin: 0; padding: 1rem 1.5rem; color: var(--ink); background: var(--paper);
   font: 14px/1.4 system-ui, sans-serif; }
@@ -24,6 +24,7 @@ table { border-collapse: collapse; width: 100%; }
 td, th { border-bottom: 1px solid var(--edge); padding: .15rem .4rem; text-align: left; font-weight: 400; }
 select, button { font: inherit; color: inherit; background: var(--card); border: 1px solid var(--edge);
   border-radius: 4px; padding: .15rem .5rem; max-width: 20rem; }
+button[aria-pressed=true] { border-color: var(--take); box-shadow: inset 0 0 0 1px var(--take); }
 :focus-visible { outline: 2px solid var(--take); outline-offset: 1px; }
 #said { position: absolute; width: 1px; height: 1px; overflow: hidden; clip-path: inset(50%); white-space: nowrap; }
 
@@ -36,6 +37,14 @@ select, button { font: inherit; color: inherit; background: var(--card); border:
 .tools { display: flex; flex-wrap: wrap; align-items: baseline; gap: .3rem 1rem; margin-bottom: .6rem; color: var(--faint); }
 .tools p { margin: 0; }
 main { flex: 1; min-height: 20rem; display: flex; gap: 1.5rem; }
+#program { flex: 0 1 20rem; min-width: 12rem; overflow: auto; contain: content; counter-reset: line; }
+#program[hidden] { display: none; }
+#program li { counter-increment: line; display: flex; flex-wrap: wrap; justify-content: end; column-gap: .5rem; padding-right: .3rem; border-left: 3px solid transparent; }
+#program li::before { content: counter(line); flex: none; width: 2rem; text-align: right; color: var(--faint); font-size: 12px;
+  font-variant-numeric: tabular-nums; }
+#program li.now { background: var(--mark); border-color: var(--take); }
+#program code { flex: 1 0 auto; max-width: calc(100% - 2.5rem); }
+#program b { flex: none; padding: 0 .35rem; border-radius: 3px; background: var(--take); color: var(--paper); font-size: 11px; }
 #run { flex: 1; min-width: 0; overflow: auto; contain: strict; scroll-padding: 3rem 1rem 4rem 5rem; }
 #sheet { position: relative; isolation: isolate; min-width: calc(var(--number) + var(--lanes) * (var(--lane) + var(--gap))); padding: 0 .25rem 1rem 0; }
 aside { width: 17rem; flex: none; overflow: auto; contain: content; }
@@ -51,28 +60,34 @@ aside { width: 17rem; flex: none; overflow: auto; contain: content; }
 .deed > code { display: block; color: var(--faint); }
 .deed > .line { float: right; padding-left: .5rem; color: var(--faint); font-size: 12px;
   font-variant-numeric: tabular-nums; }
+#sheet.each .brief, #sheet:not(.each) .each { display: none; }
 .row.later .deed { color: var(--faint); border-style: dashed; background: var(--paper); }
 .row.fail .deed { border-color: var(--fail); background: var(--failed); font-weight: 600; }
-.row[aria-current] .deed { border-color: var(--take); box-shadow: 0 0 0 1px var(--take); }
+.row[aria-current] .deed { border-color: var(--take); }
 .row.at .deed { background: var(--mark); border-color: var(--take); border-style: solid; color: inherit; }
 .row.fail .deed { border-left: 4px solid var(--fail); }
 .row.at > .n { color: var(--ink); }
 
 #arrows { position: absolute; left: 0; top: 0; z-index: -1; pointer-events: none; }
-#arrows path { fill: none; stroke-width: 1.4; opacity: .55; }
+#arrows path { fill: none; stroke-width: 1.6; stroke-opacity: .55; }
 #arrows .take { stroke: var(--take); }
 #arrows .drain { stroke: var(--drain); stroke-dasharray: 4 3; }
-#arrows .now { stroke-width: 2.6; opacity: 1; }
-#arrows .later { opacity: .15; }
+#arrows .order { stroke: var(--order); stroke-dasharray: 1.5 3; stroke-linecap: round; }
+#arrows .now { stroke-opacity: 1; }
+#arrows .later { stroke-opacity: .15; }
 
 #at { font-weight: 600; font-variant-numeric: tabular-nums; margin-top: .35rem; }
-#memory td { text-align: right; font-variant-numeric: tabular-nums; }
+#why p { padding: .2rem .5rem; border-left: 2px solid var(--take); }
+a { color: var(--take); }
+#threads th { width: 45%; }
+aside td { text-align: right; font-variant-numeric: tabular-nums; }
 .new > * { background: var(--mark); font-weight: 600; }
 .key { display: flex; flex-wrap: wrap; gap: 0 1.2rem; color: var(--faint); }
 .key svg { width: 2.2rem; height: .7rem; vertical-align: middle; margin-right: .3rem; }
 .key path { fill: none; stroke-width: 2; }
 .key .take { stroke: var(--take); }
 .key .drain { stroke: var(--drain); stroke-dasharray: 4 3; }
+.key .order { stroke: var(--order); stroke-dasharray: 1.5 3; stroke-linecap: round; }
 dialog { color: var(--ink); background: var(--paper); border: 1px solid var(--edge); border-radius: 6px; max-width: 30rem; }
 dialog::backdrop { background: rgb(0 0 0 / .35); }
 dialog h2 { margin-top: 0; }
@@ -90,9 +105,12 @@ dialog form { margin-top: .8rem; text-align: right; }
   .moves > pre { max-height: 6.5rem; }
   .tools p { display: none; }
   main { flex-direction: column; gap: .5rem; }
-  aside { width: auto; max-height: 32%; border-top: 1px solid var(--edge); }
+  #program { flex: none; max-height: 26%; border-bottom: 1px solid var(--edge); }
+  aside { width: auto; max-height: 34%; border-top: 1px solid var(--edge);
+    display: grid; grid-template: auto 1fr / 1fr 1fr; gap: 0 1.2rem; }
   aside h2 { margin: .4rem 0 .1rem; }
-  #memory tbody { display: flex; flex-wrap: wrap; gap: 0 .8rem; }
+  .held { grid-area: 1 / 2 / 3 / 3; }
+  .held tbody { display: flex; flex-wrap: wrap; gap: 0 .8rem; }
   .key, aside h2:has(+ .key) { display: none; }
 }
 @media print {
@@ -105,12 +123,12 @@ dialog form { margin-top: .8rem; text-align: right; }
   .tools, .key, .key ~ *, aside h2:has(+ .key) { display: none; }
   main { flex-direction: column-reverse; gap: 1rem; }
   aside { width: auto; }
-  #run, aside { overflow: visible; contain: none; }
+  #program, #run, aside { overflow: visible; contain: none; max-height: none; }
   #sheet { min-width: 0; }
   .head { position: static; }
   .row { grid-template-columns: 2rem repeat(var(--lanes), minmax(0, 1fr)); column-gap: 1rem; break-inside: avoid; }
   .deed { break-inside: avoid; }
   .row.later .deed { border-style: solid; color: inherit; }
-  .row.at .deed, .row[aria-current] .deed { border-color: var(--edge); box-shadow: none; }
+  .row.at .deed, .row[aria-current] .deed { border-color: var(--edge); }
 }
 "#;

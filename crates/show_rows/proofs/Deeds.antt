@@ -1,31 +1,41 @@
 -- What an enabled move does, by what was told before it.
 use Rattle.std.proofs.Common.{◌≡◌, ◌∙◌, ℕ, ℤ, List, [], ◌∷◌, true, Option, Some, None, IsSome, refl, sym, ap, subst}
 use Rattle.std.specs.Option.{option_map_or, IsSomeAnd}
+use Rattle.std.specs.Prelude.{option_map}
 use Rattle.std.specs.FinMap as fin
 use Rattle.tc_base.specs.Names.{Name}
 use Rattle.tc_base.specs.Buffers.{BufferOps}
-use Rattle.tc_base.specs.States.{Thread, State}
-use Rattle.tc_base.specs.declared.model.Model.{Model}
+use Rattle.tc_base.specs.States.{Local, Thread, State}
+use Rattle.memory_models.specs.declared.model.Model.{Model}
 use Rattle.tc_base.specs.declared.moves.Move.{Move}
 use Rattle.tc_base.specs.declared.moves.Move.TheVariants as move
 use Rattle.tc_base.specs.declared.request.Request.{Request}
 use Rattle.tc_code.specs.declared.instr.Instr.{Instr}
+use Rattle.tc_code.specs.declared.instr.Instr.TheVariants.{Signal}
 use Rattle.tc_code.specs.Code.{Code}
+use Rattle.tc_code.specs.Lawful.{IsLawful}
 use Rattle.tc_code.specs.Run.{IsReached}
 use Rattle.tc_code.specs.Step.{request, instr_of, step}
+use Rattle.run_laws.specs.Whole.{IsWholeThread}
+use Rattle.run_laws.proofs.Whole.{reached_is_whole}
 use Rattle.run_laws.proofs.Basics.{some_value}
 use Rattle.run_laws.proofs.Steps.{Went, step_went}
 use Rattle.store_buffers.specs.Pending.{Binding}
 use Rattle.store_buffers.specs.Laws.{Laws}
-use Rattle.run_history.specs.History.{Deed, Did, Drained, deed_of, did, woke, drained, taken, created_by, by_instr}
+use Rattle.run_history.specs.History.{Deed, Did, Drained, history, deed_of, did, woke, drained, taken, created_by, by_instr}
+use Rattle.run_history.specs.Locals.{locals_in}
+use Rattle.run_history.proofs.Frame.{holds_after}
+use Rattle.run_history.proofs.Locals.{LocalsAre, keeps_locals, opening_locals}
 use Rattle.std.proofs.lemmas.Option.{none-some, same_Some}
 use Rattle.tc_threads.proofs.ByName.{there_and}
-use Rattle.show_deeds.specs.Deeds.{plain_deed}
+use Rattle.show_deeds.specs.Deeds.{plain_deed, doer}
+use Rattle.show_deeds.specs.declared.deed.Deed.{Deed as AnyDeed}
 use Rattle.show_deeds.specs.Seen.{Seen, taken_by, first_by}
 use Rattle.show_deeds.specs.declared.deed.Deed.TheVariants as deed
 use Rattle.show_deeds.specs.declared.deed.Stored.{Stored}
 use Rattle.show_deeds.proofs.Kept.{SeenIs, seen_is, taken_is, first_drains}
-use Rattle.show_rows.specs.Rows.{deeds}
+use Rattle.show_rows.specs.Rows.{deeds, WasAt}
+use Rattle.show_rows.specs.declared.row.Row.{Row}
 use Rattle.show_rows.specs.declared.telling.Telling.{Telling}
 use Rattle.show_rows.specs.helpers.SoFar.{IsSoFar}
 
@@ -50,6 +60,35 @@ module _ {B : Type 0} (ops : BufferOps B) (code : Code) (s : State B) where
 
     pub drain_does : (form : Option ℕ) → deed_of ops code s h (move.Drain n form) ≡ drained ops code h n (ops.drain t.buffer form).entry ∷ []
     drain_does form = ap (λ o. option_map_or (λ (t : Thread B). drained ops code h n (ops.drain t.buffer form).entry ∷ []) o []) there
+
+-- the thread of the first of some deeds
+abbrev first_doer : List Deed → Name
+first_doer [] = []
+first_doer (Did n k r v o ∷ ds) = n
+first_doer (Drained n k c v ∷ ds) = n
+
+doer_first : (d : AnyDeed) → first_doer (plain_deed d ∷ []) ≡ doer d
+doer_first (deed.Did s) = refl
+doer_first (deed.Drained s) = refl
+
+module _ {B : Type 0} (ops : BufferOps B) (code : Code) (s : State B) (h : List Deed) (d : AnyDeed) where
+  -- what is known of a thread's name is known of the deed's
+  there_by : (n : Name) (t : Thread B) (ds : List Deed) → fin.get s.threads n ≡ Some t → ds ≡ plain_deed d ∷ [] → first_doer ds ≡ n
+      → fin.get s.threads (doer d) ≡ Some t
+  there_by n t ds there does first = ap (fin.get s.threads) (sym (doer_first d) ∙ sym (ap first_doer does) ∙ first) ∙ there
+
+  -- the thread of what an enabled move does is there
+  pub doer_is_there : (m : Move) → IsSome (step ops code s m) → deed_of ops code s h m ≡ plain_deed d ∷ []
+      → (t : Thread B) × (fin.get s.threads (doer d) ≡ Some t)
+  doer_is_there (move.Run n) enabled does =
+      let g = (goes ops code s (move.Run n) enabled).1 in
+      (g.thread, there_by n g.thread _ g.there does (ap first_doer (run_does ops code s h n g.thread g.there g.instr g.at)))
+  doer_is_there (move.Wake n u) enabled does =
+      let g = (goes ops code s (move.Wake n u) enabled).1 in
+      (g.thread, there_by n g.thread _ g.there does (ap first_doer (wake_does ops code s h n g.thread g.there (Signal g.condition) u g.at)))
+  doer_is_there (move.Drain n form) enabled does =
+      let g = (goes ops code s (move.Drain n form) enabled).1 in
+      (g.thread, there_by n g.thread _ g.there does (ap first_doer (drain_does ops code s h n g.thread g.there form)))
 
 module _ {B : Type 0} (ops : BufferOps B) (model : Model) (bound : Binding) (laws : Laws ops model bound) (code : Code) (s : State B) (t : Telling)
     (so : IsSoFar ops code s t) where
@@ -103,3 +142,19 @@ module _ {B : Type 0} (ops : BufferOps B) (model : Model) (bound : Binding) (law
       ∙ ap (λ x. Did n thread.local.steps r v x ∷ []) (sym eo)
       ∙ ap (λ x. Did n x r v o ∷ []) (sym ek)
       ∙ ap (λ (x : Name). Did x k r v o ∷ []) (sym em)
+
+  -- a thread has what its function may name
+  pub whole_so : IsLawful code → (n : Name) (thread : Thread B) → fin.get s.threads n ≡ Some thread → IsWholeThread code thread.local
+  whole_so lawful n thread there = (reached_is_whole ops code s lawful reached).threads n thread there
+
+  -- where a row's thread is, which is what the rows so far made of it
+  pub was_at : (row : Row) (thread : Thread B) → fin.get s.threads (doer row.deed) ≡ Some thread → row.function ≡ thread.local.function
+      → row.instruction ≡ thread.local.instruction → row.slots.items ≡ thread.local.slots → WasAt code told row
+  was_at row thread there function instruction slots =
+      subst
+      (λ (o : Option Local). IsSomeAnd o (λ t. (t.function ≡ row.function) × (t.instruction ≡ row.instruction) × (t.slots ≡ row.slots.items)))
+      (sym (ap (λ h. fin.get (locals_in code h) (doer row.deed)) so.told ∙ locals_so ∙ ap (option_map (λ (t : Thread B). t.local)) there))
+      (sym function, sym instruction, sym slots)
+    where
+      locals_so : fin.get (locals_in code (history ops code so.made)) (doer row.deed) ≡ option_map (λ (t : Thread B). t.local) (fin.get s.threads (doer row.deed))
+      locals_so = holds_after ops code (LocalsAre ops code) (keeps_locals ops code) (opening_locals ops code) so.made s so.leads (doer row.deed)

@@ -1,5 +1,5 @@
 -- Rows that are told one after another.
-use Rattle.std.proofs.Common.{◌≡◌, ◌∙◌, ℕ, ◌+◌, ◌<◌, ◌≤◌, List, [], ◌∷◌, ◌++◌, length, take, drop, get_or, map, Some, refl, suc, sym, ap, subst, append-nil, add-one, drop-cons}
+use Rattle.std.proofs.Common.{◌≡◌, ◌∙◌, ℕ, ◌+◌, ◌<◌, ◌≤◌, List, [], ◌∷◌, ◌++◌, length, take, drop, get_or, map, Some, refl, suc, sym, ap, subst, append-nil, append_assoc, add-one, drop-cons}
 use Rattle.std.proofs.lemmas.List.{take_all, take_more, take-append-drop, map-append}
 use Rattle.std.proofs.lemmas.List.Sums.{fold-append}
 use Rattle.tc_base.specs.Buffers.{BufferOps}
@@ -15,7 +15,7 @@ use Rattle.run_history.proofs.Grows.{moves_add_deeds}
 use Rattle.schedule_replay.proofs.Plays.{leads_on, all_made}
 use Rattle.show_deeds.specs.Deeds.{plain_deed}
 use Rattle.show_deeds.specs.Seen.{Seen, at_start, seen_after, seen_in}
-use Rattle.show_rows.specs.Rows.{deeds, EndsSo, AreTold}
+use Rattle.show_rows.specs.Rows.{deeds, WasAt, WereAt, EndsSo, AreTold}
 use Rattle.show_rows.specs.declared.row.Row.{Row}
 use Rattle.show_rows.specs.declared.told.End.{End}
 use Rattle.show_rows.specs.declared.told.End.TheVariants as end
@@ -25,6 +25,16 @@ use Rattle.show_rows.specs.helpers.SoFar.{IsSoFar}
 -- the deeds of a row more
 deeds-push : (rows : List Row) (row : Row) → deeds (rows ++ row ∷ []) ≡ deeds rows ++ plain_deed row.deed ∷ []
 deeds-push rows row = map-append (λ (r : Row). plain_deed r.deed) rows (row ∷ [])
+
+-- a row more was where its thread was, if the others were
+at-push : (code : Code) (h : List Deed) (rows : List Row) (row : Row) → WereAt code h rows → WasAt code (h ++ deeds rows) row
+    → WereAt code h (rows ++ row ∷ [])
+at-push code h [] row were was = (subst (λ g. WasAt code g row) (append-nil h) was, tt)
+at-push code h (r ∷ rs) row were was = (
+  were.0,
+  at-push code (h ++ plain_deed r.deed ∷ []) rs row were.1
+      (subst (λ g. WasAt code g row) (sym (append_assoc h (plain_deed r.deed ∷ []) (deeds rs))) was),
+)
 
 -- a list at one of its places
 split_here : {A : Type 0} (xs : List A) (i : ℕ) (x : A) → i < length xs → x ≡ get_or xs i x → xs ≡ take i xs ++ x ∷ drop (i + 1) xs
@@ -38,6 +48,7 @@ module _ {B : Type 0} (ops : BufferOps B) (code : Code) where
     pub leads : run ops code (take i moves) ≡ Some s
     pub told : deeds t.rows.items ≡ history ops code (take i moves)
     pub sees : t.seen ≡ seen_in ops.buffered code (deeds t.rows.items)
+    pub at : WereAt code [] t.rows.items
 
   pub so_far : (moves : List Move) (i : ℕ) (s : State B) (t : Telling) → AreToldUpTo moves i s t → IsSoFar ops code s t
   so_far moves i s t a = record { made = take i moves; leads = a.leads; told = a.told; sees = a.sees }
@@ -47,8 +58,8 @@ module _ {B : Type 0} (ops : BufferOps B) (code : Code) where
     -- a move more
     pub told_on : (u : State B) (v : Telling) (row : Row) → step ops code s m ≡ Some u
         → deed_of ops code s (deeds t.rows.items) m ≡ plain_deed row.deed ∷ [] → v.rows.items ≡ t.rows.items ++ row ∷ []
-        → v.seen ≡ seen_after ops.buffered t.seen (plain_deed row.deed) → AreToldUpTo moves (i + 1) u v
-    told_on u v row one does rows seen =
+        → v.seen ≡ seen_after ops.buffered t.seen (plain_deed row.deed) → WasAt code (deeds t.rows.items) row → AreToldUpTo moves (i + 1) u v
+    told_on u v row one does rows seen was =
         let more = ap deeds rows ∙ deeds-push t.rows.items row in
         let next = take_more moves i m lt ∙ ap (λ x. take i moves ++ x ∷ []) (sym here) in
         record {
@@ -64,6 +75,7 @@ module _ {B : Type 0} (ops : BufferOps B) (code : Code) where
               ∙ ap (λ (x : Seen). seen_after ops.buffered x (plain_deed row.deed)) a.sees
               ∙ sym (fold-append (seen_after ops.buffered) (at_start code) (deeds t.rows.items) (plain_deed row.deed ∷ []))
               ∙ ap (seen_in ops.buffered code) (sym more);
+          at = subst (WereAt code []) (sym rows) (at-push code [] t.rows.items row a.at was);
         }
 
     -- a move that isn't enabled
@@ -79,6 +91,7 @@ module _ {B : Type 0} (ops : BufferOps B) (code : Code) where
           split = split_here moves i m lt here;
           leads = a.leads;
           told = a.told;
+          at = a.at;
           ends = stops;
         }))
 
@@ -95,5 +108,6 @@ module _ {B : Type 0} (ops : BufferOps B) (code : Code) where
         split = sym (append-nil moves);
         leads = all_made ops code moves i s le a.leads;
         told = a.told ∙ ap (history ops code) (take_all i moves le);
+        at = a.at;
         ends = ends;
       }))

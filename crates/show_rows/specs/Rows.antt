@@ -1,5 +1,6 @@
 -- What the moves of a schedule did, as far as they could be made, and how that ended.
-use Rattle.std.specs.Prelude.{◌≡◌, true, List, [], ◌∷◌, ◌++◌, map, Some, None, IsSome}
+use Rattle.std.specs.Prelude.{◌≡◌, true, List, [], ◌∷◌, ◌++◌, map, Some, None, IsSome, IsSomeAnd}
+use Rattle.std.specs.FinMap as fin
 use Rattle.tc_base.specs.Buffers.{BufferOps}
 use Rattle.tc_base.specs.States.{State}
 use Rattle.tc_base.specs.declared.moves.Move.{Move}
@@ -10,7 +11,8 @@ use Rattle.tc_machine.specs.Exits.{all_have_exited}
 use Rattle.tc_machine.specs.Why.{why}
 use Rattle.run_history.specs.History.{history}
 use Rattle.run_history.specs.History.{Deed}
-use Rattle.show_deeds.specs.Deeds.{plain_deed}
+use Rattle.run_history.specs.Locals.{locals_in}
+use Rattle.show_deeds.specs.Deeds.{plain_deed, doer}
 use Rattle.show_rows.specs.declared.row.Row.{Row}
 use Rattle.show_rows.specs.declared.told.End.{End}
 use Rattle.show_rows.specs.declared.told.End.TheVariants as end
@@ -18,6 +20,16 @@ use Rattle.show_rows.specs.declared.told.End.TheVariants as end
 -- the deeds of rows
 abbrev pub deeds : List Row → List Deed
 deeds rows = map (λ r. plain_deed r.deed) rows
+
+-- where a row's thread was after these deeds, and the value that each of its slots had
+abbrev pub WasAt : Code → List Deed → Row → Type 0
+WasAt code h r =
+    IsSomeAnd (fin.get (locals_in code h) (doer r.deed)) (λ t. (t.function ≡ r.function) × (t.instruction ≡ r.instruction) × (t.slots ≡ r.slots.items))
+
+-- the same of each row, by the deeds before it
+abbrev pub WereAt : Code → List Deed → List Row → Type 0
+WereAt code h [] = Unit {0}
+WereAt code h (r ∷ rs) = WasAt code h r × WereAt code (h ++ plain_deed r.deed ∷ []) rs
 
 module _ {B : Type 0} (ops : BufferOps B) (code : Code) where
   -- some move could go on
@@ -33,7 +45,7 @@ module _ {B : Type 0} (ops : BufferOps B) (code : Code) where
   EndsSo s (m ∷ ms) (end.Stopped reason) = why ops code s m ≡ Some reason
   EndsSo s _ _ = ⊥
 
-  -- the rows are the history of the moves that could be made, and it ended so
+  -- the rows are the history of the moves that could be made, each thread was where its row says, and it ended so
   pub record AreTold (moves : List Move) (rows : List Row) (end : End) : Type 0 where
     pub made : List Move
     pub left : List Move
@@ -41,4 +53,5 @@ module _ {B : Type 0} (ops : BufferOps B) (code : Code) where
     pub split : moves ≡ made ++ left
     pub leads : run ops code made ≡ Some state
     pub told : deeds rows ≡ history ops code made
+    pub at : WereAt code [] rows
     pub ends : EndsSo state left end

@@ -2,6 +2,7 @@
 #![tactic(auto)]
 
 mod row;
+mod slots;
 mod telling;
 mod thread;
 mod told;

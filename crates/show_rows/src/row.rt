@@ -11,6 +11,6 @@ pub struct Row {
     pub function: usize,
     /// The number of the instruction there that it does next, which is that of a step.
     pub instruction: usize,
-    /// Of a branch, whether its condition wasn't 0.
-    pub outcome: Option<bool>,
+    /// The value that each slot of the thread had.
+    pub slots: Vec<i32>,
 }

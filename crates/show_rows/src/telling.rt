@@ -8,10 +8,11 @@ ghost use Rattle.tc_code.specs.Step.{step};
 ghost use Rattle.show_deeds.specs.Deeds.{plain_deed};
 ghost use Rattle.show_deeds.specs.Seen.{at_start, seen_after};
 ghost use Rattle.show_deeds.specs.declared.deed.Deed.TheVariants as deed;
-ghost use Rattle.show_rows.specs.Rows.{deeds};
+ghost use Rattle.show_rows.specs.Rows.{deeds, WasAt};
 ghost use Rattle.show_rows.specs.helpers.SoFar.{IsSoFar};
 
 use crate::row::Row;
+use crate::slots::{ints_of, slots_of};
 use crate::thread::thread_of;
 use show_deeds::{Deed, Seen, Step, Stored};
 use std::alloc::{AllocError, Global};
@@ -61,6 +62,7 @@ impl Telling {
     /// The row of a move that is enabled.
     pub(crate) fn row<M: MemoryModel>(
         &self,
+        alloc: Global,
         code: &Code,
         state: &State<M>,
         m: &Move,
@@ -68,15 +70,21 @@ impl Telling {
         requires so_far { IsSoFar M.ops code.now state.now self.now }
         requires enabled { IsSome (step M.ops code.now state.now m.now) }
         requires counters { CountersAreBelowLast state.now }
-        ensures { IfOk result (λ row. deed_of M.ops code.now state.now (deeds self.now.rows.items) m.now ≡ plain_deed row.deed ∷ []) }
+        ensures did { IfOk result (λ row. deed_of M.ops code.now state.now (deeds self.now.rows.items) m.now ≡ plain_deed row.deed ∷ []) }
+        ensures at { IfOk result (WasAt code.now (deeds self.now.rows.items)) }
     {
         let deed = self.deed(code, state, m)?;
-        let (function, instruction) = state.place_of(deed.thread()).unwrap_or((0, 0));
+        let Some(thread) = thread_of(state, deed.thread()) else {
+            unreachable!()
+        };
+        let (function, instruction) = thread.local().place();
+        let count = ints_of(code, function);
+        let slots = slots_of(alloc, count, thread)?;
         Ok(Row {
             deed,
             function,
             instruction,
-            outcome: None,
+            slots,
         })
     }
 

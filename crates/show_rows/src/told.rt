@@ -6,11 +6,10 @@ ghost use Rattle.show_rows.specs.Rows.{AreTold, EndsSo};
 use crate::row::Row;
 use crate::telling::Telling;
 use schedule_file::Schedule;
-use show_deeds::Deed;
 use std::alloc::{AllocError, Global};
 use store_buffers::MemoryModel;
-use tc_base::ThreadName;
-use tc_code::{Code, Instr};
+use tc_base::{Request, ThreadName};
+use tc_code::Code;
 use tc_machine::{State, Why, choices, enabled, start, step};
 
 /// How a schedule ended.
@@ -37,6 +36,8 @@ pub struct Standing {
     pub function: usize,
     /// The number of the instruction there that it does next.
     pub instruction: usize,
+    /// What that asks.
+    pub asks: Request,
 }
 
 /// What the moves of a schedule did, as far as they could be made.
@@ -64,45 +65,37 @@ pub fn tell<M: MemoryModel>(
     let mut telling = Telling::new(alloc, code)?;
     for m in schedule.moves.iter() {
         if let Err(why) = enabled(code, &state, m) {
-            return finish(alloc, &state, telling.into_rows(), End::Stopped(why));
+            return finish(alloc, code, &state, telling.into_rows(), End::Stopped(why));
         }
-        let mut row = telling.row(code, &state, m)?;
+        let row = telling.row(alloc, code, &state, m)?;
         step(alloc, code, &mut state, m)?;
-        row.outcome = outcome_of(code, &state, &row);
         telling.take(M::BUFFERED, row)?;
     }
     let end = end_at(alloc, code, &state)?;
-    finish(alloc, &state, telling.into_rows(), end)
-}
-
-/// The outcome of a row that is a branch's, in the state after it.
-fn outcome_of<M: MemoryModel>(code: &Code, state: &State<M>, row: &Row) -> Option<bool> {
-    match (&row.deed, code.instr(row.function, row.instruction)) {
-        (Deed::Did(step), Some(Instr::Branch { .. })) => {
-            state.outcomes_of(&step.thread)?.as_slice().last().copied()
-        }
-        _ => None,
-    }
+    finish(alloc, code, &state, telling.into_rows(), end)
 }
 
 /// The rows, with where the threads are.
 fn finish<M: MemoryModel>(
     alloc: Global,
+    code: &Code,
     state: &State<M>,
     rows: Vec<Row>,
     end: End,
 ) -> Result<Told, AllocError>
+    requires { IsReached M.ops code.now state.now }
     ensures rows { IfOk result (λ told. told.rows.items ≡ rows.items) }
     ensures end { IfOk result (λ told. told.end ≡ end) }
 {
     let mut standing = Vec::new(alloc);
     for (name, thread) in state.entries() {
-        if !thread.local().has_exited() {
+        if let Some(instr) = thread.instr(code) {
             let (function, instruction) = thread.local().place();
             standing.push(Standing {
                 thread: name.clone()?,
                 function,
                 instruction,
+                asks: thread.request(instr),
             })?;
         }
     }

@@ -6,4 +6,4 @@ mod path;
 mod table;
 
 pub use path::log_text;
-pub use table::schedule_text;
+pub use table::{Detail, schedule_text};

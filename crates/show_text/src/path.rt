@@ -1,8 +1,8 @@
 //! The ways of a log's threads.
 
 use crate::columns::push_right;
-use path_log::Log;
 use path_walk::Paths;
+use run_log::Log;
 use show_words::{Program, Went, ending_words, walk_title, walk_words};
 use std::alloc::{AllocError, Global};
 

@@ -1,19 +1,22 @@
 //! Deeds in words.
 
 use crate::program::Program;
+use crate::rows::Shared;
 use crate::sites::{failed_words, silent_words};
+use crate::terms::value_over;
 use show_deeds::{Deed, Step, Stored};
 use show_rows::Row;
 use std::alloc::{AllocError, Global};
-use tc_base::Request;
+use tc_base::{Request, ThreadName};
+use tc_code::Instr;
 
-/// What a row's move did, by whether there are buffers, and whether what it took was in its thread's own buffer.
+/// What a row's move did, by whether there are buffers, and by what it shares with other moves.
 pub(crate) fn deed_words(
     alloc: Global,
     program: Program<'_>,
     row: &Row,
     buffered: bool,
-    own: bool,
+    shared: &Shared<'_>,
 ) -> Result<String, AllocError> {
     match &row.deed {
         Deed::Drained(stored) => drained_words(alloc, program, stored),
@@ -24,8 +27,13 @@ pub(crate) fn deed_words(
             | Request::Write(_, _)
             | Request::Exchange(_, _)
             | Request::CompareExchange(_, _, _) => {
-                access_words(alloc, program, step, buffered, own)
+                access_words(alloc, program, step, buffered, shared.own)
             }
+            Request::BeginWait(_, _)
+            | Request::EndWait(_, _)
+            | Request::WakeOne(_)
+            | Request::WakeAll(_) => wait_words(alloc, program, step, shared),
+            Request::Start(_) => creation_words(alloc, program, row, step),
             _ => sync_words(alloc, program, step),
         },
     }
@@ -96,6 +104,23 @@ fn sync_words(alloc: Global, program: Program<'_>, step: &Step) -> Result<String
             let mutex = names.mutex(mutex);
             format!(in alloc; "unlock {mutex}")
         }
+        Request::Await(child) => {
+            let parent = &step.thread;
+            format!(in alloc; "joins {parent}.{child}")
+        }
+        _ => String::from_str(alloc, ""),
+    }
+}
+
+/// A step by which a thread begins or ends a wait, or wakes others.
+fn wait_words(
+    alloc: Global,
+    program: Program<'_>,
+    step: &Step,
+    shared: &Shared<'_>,
+) -> Result<String, AllocError> {
+    let names = program.names;
+    match step.asks {
         Request::BeginWait(condition, mutex) => {
             let condition = names.condition(condition);
             let mutex = names.mutex(mutex);
@@ -104,30 +129,71 @@ fn sync_words(alloc: Global, program: Program<'_>, step: &Step) -> Result<String
         Request::EndWait(condition, mutex) => {
             let condition = names.condition(condition);
             let mutex = names.mutex(mutex);
-            format!(in alloc; "is awake from {condition}, lock {mutex}")
-        }
-        Request::WakeAll(condition) => {
-            let condition = names.condition(condition);
-            format!(in alloc; "broadcast {condition}")
+            match shared.waker {
+                Some(waker) => {
+                    format!(in alloc; "is awake from {condition} by {waker}, lock {mutex}")
+                }
+                None => format!(in alloc; "is awake from {condition}, lock {mutex}"),
+            }
         }
         Request::WakeOne(condition) => {
             let condition = names.condition(condition);
-            match &step.other {
-                Some(waiter) => format!(in alloc; "signal {condition}: wakes {waiter}"),
-                None => format!(in alloc; "signal {condition}: nobody waits"),
-            }
+            let woken = woken_words(alloc, shared.wakes)?;
+            format!(in alloc; "signal {condition}: {woken}")
         }
-        Request::Start(function) => {
-            let function = program.function(alloc, function as usize)?;
-            match &step.other {
-                Some(child) => format!(in alloc; "creates {child} {function}"),
-                None => format!(in alloc; "creates {function}"),
-            }
-        }
-        Request::Await(child) => {
-            let parent = &step.thread;
-            format!(in alloc; "joins {parent}.{child}")
+        Request::WakeAll(condition) => {
+            let condition = names.condition(condition);
+            let woken = woken_words(alloc, shared.wakes)?;
+            format!(in alloc; "broadcast {condition}: {woken}")
         }
         _ => String::from_str(alloc, ""),
     }
+}
+
+/// Who is woken.
+fn woken_words(alloc: Global, wakes: &[ThreadName]) -> Result<String, AllocError> {
+    if wakes.is_empty() {
+        return String::from_str(alloc, "nobody waits");
+    }
+    let mut words = String::from_str(alloc, "wakes")?;
+    for (i, name) in wakes.iter().enumerate() {
+        let comma = if i == 0 { "" } else { "," };
+        words.push_str(format!(in alloc; "{comma} {name}")?.as_str())?;
+    }
+    Ok(words)
+}
+
+/// A step that creates a thread, with the arguments.
+fn creation_words(
+    alloc: Global,
+    program: Program<'_>,
+    row: &Row,
+    step: &Step,
+) -> Result<String, AllocError> {
+    let (
+        Some(child),
+        Some(
+            Instr::Create {
+                function,
+                arguments,
+                ..
+            },
+        ),
+    ) = (&step.other, program.instr(row))
+    else {
+        return String::from_str(alloc, "");
+    };
+    let function = *function as usize;
+    let name = program.function(alloc, function)?;
+    let mut words = format!(in alloc; "creates {child} {name}(")?;
+    let mut number = 0u32;
+    for argument in arguments.as_slice() {
+        let comma = if number == 0 { "" } else { ", " };
+        let parameter = program.names.int(function, number).unwrap_or("?");
+        let value = value_over(row.slots.as_slice(), argument);
+        words.push_str(format!(in alloc; "{comma}{parameter} = {value}")?.as_str())?;
+        number = number.saturating_add(1);
+    }
+    words.push(')')?;
+    Ok(words)
 }

@@ -1,15 +1,24 @@
 //! The program that rows are of.
 
+use int_ops::BinOp;
 use show_names::Names;
 use show_rows::Row;
 use std::alloc::{AllocError, Global};
-use tc_code::Code;
+use tc_code::{Code, Expr, Instr, Node};
 
 /// A program's code, and what its text calls the parts of that.
 #[derive(Clone, Copy)]
 pub struct Program<'a> {
     pub names: &'a Names,
     pub code: &'a Code,
+}
+
+/// A `&&` or `||` of the text, which the code keeps in a slot of its own.
+#[derive(Clone, Copy)]
+pub(crate) struct Choice<'a> {
+    /// Whether it is `||`.
+    pub(crate) is_or: bool,
+    pub(crate) left: &'a Expr,
 }
 
 impl<'a> Program<'a> {
@@ -32,6 +41,71 @@ impl<'a> Program<'a> {
             }
         }
         Ok(name)
+    }
+
+    /// The instruction at which a row's thread is.
+    pub(crate) fn instr(&self, row: &Row) -> Option<&'a Instr> {
+        self.code.instr(row.function, row.instruction)
+    }
+
+    /// The `&&` or `||` whose left side a slot is set for at an instruction, which stands before the branch on that side.
+    pub(crate) fn choice(&self, function: usize, instruction: usize) -> Option<Choice<'a>> {
+        let Some(Instr::Set { slot, value }) = self.code.instr(function, instruction) else {
+            return None;
+        };
+        if self.names.int(function, *slot).is_some() {
+            return None;
+        }
+        let next = instruction.checked_add(1)?;
+        let Some(Instr::Branch { condition, .. }) = self.code.instr(function, next) else {
+            return None;
+        };
+        match (&value.node, &condition.node) {
+            (Node::Number(0), _) => Some(Choice {
+                is_or: false,
+                left: condition,
+            }),
+            (Node::Number(_), Node::Unary(_, left)) => Some(Choice { is_or: true, left }),
+            _ => None,
+        }
+    }
+
+    /// The `&&` or `||` on whose left side an instruction branches.
+    pub(crate) fn branched(&self, function: usize, instruction: usize) -> Option<Choice<'a>> {
+        self.choice(function, instruction.checked_sub(1)?)
+    }
+
+    /// The right side of a `&&` or `||`, where an instruction sets its slot to whether that isn't 0.
+    pub(crate) fn right_side(&self, function: usize, instruction: usize) -> Option<&'a Expr> {
+        let Some(Instr::Set { slot, value }) = self.code.instr(function, instruction) else {
+            return None;
+        };
+        match &value.node {
+            Node::Binary(BinOp::Ne, right, _) if self.names.int(function, *slot).is_none() => {
+                Some(right)
+            }
+            _ => None,
+        }
+    }
+
+    /// Whether the instruction of a row's step is followed by another of the same statement.
+    pub(crate) fn leads_on(&self, row: &Row) -> bool {
+        match self.instr(row) {
+            Some(Instr::Set { slot, .. }) => self.names.int(row.function, *slot).is_none(),
+            Some(Instr::Branch { .. }) => self.branched(row.function, row.instruction).is_some(),
+            Some(
+                Instr::Load { .. }
+                | Instr::LoadAt { .. }
+                | Instr::Inside { .. }
+                | Instr::Nonzero(_)
+                | Instr::InRange(_)
+                | Instr::Holds { .. }
+                | Instr::Ready { .. }
+                | Instr::Swap { .. }
+                | Instr::Cas { .. },
+            ) => true,
+            _ => false,
+        }
     }
 }
 

@@ -2,10 +2,12 @@
 
 use crate::deeds::deed_words;
 use crate::program::Program;
+use crate::wakes::{Wakes, Woken};
+use memory_models::Model;
 use show_deeds::{Deed, Seen, Stored};
 use show_rows::Row;
 use std::alloc::{AllocError, Global};
-use tc_base::{Model, Request};
+use tc_base::{Request, ThreadName};
 
 /// A row in words.
 #[derive(Drop)]
@@ -20,6 +22,21 @@ pub struct Words<'a> {
     pub deed: String,
     /// Whether what it took was in its thread's own buffer.
     pub own: bool,
+    /// The threads that it wakes, in the order of their names.
+    pub wakes: Vec<ThreadName>,
+    /// Of a thread that is awake again, the place of the row that woke it.
+    pub woken_by: Option<usize>,
+}
+
+/// What a move shares with other moves.
+#[derive(Clone, Copy)]
+pub(crate) struct Shared<'a> {
+    /// Whether what it took was in its thread's own buffer.
+    pub(crate) own: bool,
+    /// The threads that it wakes.
+    pub(crate) wakes: &'a [ThreadName],
+    /// Of a thread that is awake again, the one that woke it.
+    pub(crate) waker: Option<&'a ThreadName>,
 }
 
 /// The rows in words, by the memory model under which their moves were made.
@@ -29,19 +46,58 @@ pub fn row_words<'a>(
     model: Model,
     rows: &[Row],
 ) -> Result<Vec<Words<'a>>, AllocError> {
-    let buffered = is_buffered(model);
-    let mut seen = Seen::at_start(alloc, program.code)?;
+    let mut wording = Wording {
+        program,
+        buffered: is_buffered(model),
+        seen: Seen::at_start(alloc, program.code)?,
+        wakes: Wakes::new(alloc),
+    };
     let mut words = Vec::new(alloc);
     for (i, row) in rows.iter().enumerate() {
-        let at = stated_at(&rows[..i], row);
-        words.push(words_of(alloc, program, buffered, &seen, row, at)?)?;
-        seen.take(buffered, &row.deed)?;
+        words.push(wording.put(alloc, &rows[..i], row)?)?;
     }
     Ok(words)
 }
 
+/// What the rows so far made of memory, of the stores that wait, and of those who sleep.
+#[derive(Drop)]
+struct Wording<'a> {
+    program: Program<'a>,
+    buffered: bool,
+    seen: Seen,
+    wakes: Wakes,
+}
+
+impl<'a> Wording<'a> {
+    /// Puts the row behind the rows so far in words, and takes it in.
+    fn put(&mut self, alloc: Global, before: &[Row], row: &Row) -> Result<Words<'a>, AllocError> {
+        let program = self.program;
+        let name = row.deed.thread();
+        let function = program.function(alloc, row.function)?;
+        let line = program.line_of(stated_at(before, row));
+        let own = is_own(&self.seen, &row.deed);
+        let Woken { wakes, woken_by } = self.wakes.take(alloc, before.len(), &row.deed)?;
+        let shared = Shared {
+            own,
+            wakes: wakes.as_slice(),
+            waker: waker_of(before, woken_by),
+        };
+        let deed = deed_words(alloc, program, row, self.buffered, &shared)?;
+        self.seen.take(self.buffered, &row.deed)?;
+        Ok(Words {
+            thread: format!(in alloc; "{name} {function}")?,
+            line,
+            source: program.names.line(line),
+            deed,
+            own,
+            wakes,
+            woken_by,
+        })
+    }
+}
+
 /// Whether stores wait in buffers under a memory model.
-fn is_buffered(model: Model) -> bool {
+pub(crate) fn is_buffered(model: Model) -> bool {
     match model {
         Model::Sc => false,
         Model::Tso | Model::Pso => true,
@@ -72,26 +128,9 @@ pub fn issue_of(before: &[Row], stored: &Stored) -> Option<usize> {
     None
 }
 
-/// A row in words, by what was seen before it, and the row whose statement it belongs to.
-fn words_of<'a>(
-    alloc: Global,
-    program: Program<'a>,
-    buffered: bool,
-    seen: &Seen,
-    row: &Row,
-    at: &Row,
-) -> Result<Words<'a>, AllocError> {
-    let name = row.deed.thread();
-    let function = program.function(alloc, row.function)?;
-    let line = program.line_of(at);
-    let own = is_own(seen, &row.deed);
-    Ok(Words {
-        thread: format!(in alloc; "{name} {function}")?,
-        line,
-        source: program.names.line(line),
-        deed: deed_words(alloc, program, row, buffered, own)?,
-        own,
-    })
+/// The thread of the row at a place.
+fn waker_of(before: &[Row], place: Option<usize>) -> Option<&ThreadName> {
+    Some(before.get(place?)?.deed.thread())
 }
 
 /// Whether what a deed took was in its thread's own buffer.

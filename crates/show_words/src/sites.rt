@@ -1,9 +1,10 @@
 //! Steps that ask for nothing, and sites that fail, in words.
 
-use crate::program::Program;
+use crate::program::{Choice, Program};
+use crate::terms::{named, value_over, valued};
 use show_rows::Row;
 use std::alloc::{AllocError, Global};
-use tc_code::Instr;
+use tc_code::{Expr, Instr};
 
 /// What a step did that asked for nothing.
 pub(crate) fn silent_words(
@@ -12,17 +13,18 @@ pub(crate) fn silent_words(
     row: &Row,
 ) -> Result<String, AllocError> {
     let names = program.names;
-    match program.code.instr(row.function, row.instruction) {
-        Some(Instr::Set { slot, .. }) => match names.int(row.function, *slot) {
-            Some(name) => format!(in alloc; "sets {name}"),
-            None => String::from_str(alloc, "weighs && or ||"),
-        },
-        Some(Instr::Branch { .. }) => String::from_str(alloc, outcome_words(row.outcome)),
+    let slots = row.slots.as_slice();
+    match program.instr(row) {
+        Some(Instr::Set { slot, value }) => set_words(alloc, program, row, *slot, value),
+        Some(Instr::Branch { condition, .. }) => branch_words(alloc, program, row, condition),
         Some(Instr::Goto { target }) => {
             let line = program.line(row.function, *target as usize);
             format!(in alloc; "goes on at line {line}")
         }
-        Some(Instr::Inside { .. }) => String::from_str(alloc, "index is inside"),
+        Some(Instr::Inside { length, index }) => {
+            let index = value_over(slots, index);
+            format!(in alloc; "index {index} is inside, length {length}")
+        }
         Some(Instr::Holds { mutex }) => {
             let mutex = names.mutex(*mutex);
             format!(in alloc; "holds {mutex}")
@@ -31,20 +33,122 @@ pub(crate) fn silent_words(
             let handle = names.handle(row.function, *handle);
             format!(in alloc; "{handle} can be joined")
         }
-        Some(Instr::Assert(_)) => String::from_str(alloc, "assertion holds"),
-        Some(Instr::Nonzero(_)) => String::from_str(alloc, "divisor isn't 0"),
-        Some(Instr::InRange(_)) => String::from_str(alloc, "distance is 0 to 31"),
+        Some(Instr::Assert(e)) => {
+            let values = valued(alloc, program, row, e)?;
+            format!(in alloc; "assertion holds: {values}")
+        }
+        Some(Instr::Nonzero(e)) => {
+            let divisor = value_over(slots, e);
+            format!(in alloc; "divisor is {divisor}")
+        }
+        Some(Instr::InRange(e)) => {
+            let distance = value_over(slots, e);
+            format!(in alloc; "distance is {distance}")
+        }
         _ => String::from_str(alloc, ""),
     }
 }
 
-/// How a branch went.
-fn outcome_words(outcome: Option<bool>) -> &'static str {
-    match outcome {
-        Some(true) => "condition is true",
-        Some(false) => "condition is false",
-        None => "branch",
+/// What is worth reading of a step that asked for nothing, where the steps of its statement are one row: what an int took, how
+/// a condition came out, and that an assertion holds.
+pub(crate) fn brief_words(
+    alloc: Global,
+    program: Program<'_>,
+    row: &Row,
+) -> Result<Option<String>, AllocError> {
+    let is_wanted = match program.instr(row) {
+        Some(Instr::Set { slot, .. }) => program.names.int(row.function, *slot).is_some(),
+        Some(Instr::Branch { .. }) => program.branched(row.function, row.instruction).is_none(),
+        Some(Instr::Assert(_)) => true,
+        _ => false,
+    };
+    if is_wanted {
+        Ok(Some(silent_words(alloc, program, row)?))
+    } else {
+        Ok(None)
     }
+}
+
+/// A slot that takes a value: an int of the text, or a side of `&&` or `||`.
+fn set_words(
+    alloc: Global,
+    program: Program<'_>,
+    row: &Row,
+    slot: u32,
+    value: &Expr,
+) -> Result<String, AllocError> {
+    let slots = row.slots.as_slice();
+    if let Some(name) = program.names.int(row.function, slot) {
+        let value = value_over(slots, value);
+        return format!(in alloc; "{name} = {value}");
+    }
+    if let Some(choice) = program.choice(row.function, row.instruction) {
+        let sign = choice.sign();
+        let side = condition_words(alloc, program, row, choice.left)?;
+        return format!(in alloc; "left of {sign}: {side}");
+    }
+    match program.right_side(row.function, row.instruction) {
+        Some(right) => {
+            let sign = sign_of(program, row, slot);
+            let side = condition_words(alloc, program, row, right)?;
+            format!(in alloc; "right of {sign}: {side}")
+        }
+        None => String::from_str(alloc, ""),
+    }
+}
+
+impl<'a> Choice<'a> {
+    /// The operator.
+    fn sign(&self) -> &'static str {
+        if self.is_or { "||" } else { "&&" }
+    }
+}
+
+/// The operator whose right side a row's step keeps in a slot.
+fn sign_of(program: Program<'_>, row: &Row, slot: u32) -> &'static str {
+    for place in 0..row.instruction {
+        if let Some(choice) = program.choice(row.function, place)
+            && matches!(program.code.instr(row.function, place), Some(Instr::Set { slot: to, .. }) if *to == slot)
+        {
+            return choice.sign();
+        }
+    }
+    "?"
+}
+
+/// A branch: on the condition of a statement, or on the left side of `&&` or `||`.
+fn branch_words(
+    alloc: Global,
+    program: Program<'_>,
+    row: &Row,
+    condition: &Expr,
+) -> Result<String, AllocError> {
+    match program.branched(row.function, row.instruction) {
+        Some(choice) => {
+            let sign = choice.sign();
+            let truth = truth_of(row, choice.left);
+            format!(in alloc; "left of {sign} is {truth}")
+        }
+        None => condition_words(alloc, program, row, condition),
+    }
+}
+
+/// A condition by its names, by their values, and whether it is true.
+fn condition_words(
+    alloc: Global,
+    program: Program<'_>,
+    row: &Row,
+    condition: &Expr,
+) -> Result<String, AllocError> {
+    let names = named(alloc, program, row, condition)?;
+    let values = valued(alloc, program, row, condition)?;
+    let truth = truth_of(row, condition);
+    format!(in alloc; "{names}: {values}, {truth}")
+}
+
+/// Whether a condition is true.
+fn truth_of(row: &Row, condition: &Expr) -> bool {
+    value_over(row.slots.as_slice(), condition) != 0
 }
 
 /// What a site found that failed.
@@ -54,8 +158,12 @@ pub(crate) fn failed_words(
     row: &Row,
 ) -> Result<String, AllocError> {
     let names = program.names;
-    match program.code.instr(row.function, row.instruction) {
-        Some(Instr::Inside { .. }) => String::from_str(alloc, "fails: index is outside"),
+    let slots = row.slots.as_slice();
+    match program.instr(row) {
+        Some(Instr::Inside { length, index }) => {
+            let index = value_over(slots, index);
+            format!(in alloc; "fails: index {index} is outside, length {length}")
+        }
         Some(Instr::Holds { mutex }) => {
             let mutex = names.mutex(*mutex);
             format!(in alloc; "fails: doesn't hold {mutex}")
@@ -64,8 +172,15 @@ pub(crate) fn failed_words(
             let handle = names.handle(row.function, *handle);
             format!(in alloc; "fails: {handle} can't be joined")
         }
+        Some(Instr::Assert(e)) => {
+            let values = valued(alloc, program, row, e)?;
+            format!(in alloc; "assertion fails: {values}")
+        }
         Some(Instr::Nonzero(_)) => String::from_str(alloc, "fails: divisor is 0"),
-        Some(Instr::InRange(_)) => String::from_str(alloc, "fails: distance isn't 0 to 31"),
-        _ => String::from_str(alloc, "assertion fails"),
+        Some(Instr::InRange(e)) => {
+            let distance = value_over(slots, e);
+            format!(in alloc; "fails: distance {distance} isn't 0 to 31")
+        }
+        _ => String::from_str(alloc, "fails"),
     }
 }

@@ -1,54 +1,127 @@
 //! The values that a failing statement saw.
 
 use crate::program::Program;
-use show_deeds::{Deed, Step};
+use show_deeds::Deed;
 use show_rows::Row;
 use std::alloc::{AllocError, Global};
 use tc_base::Request;
+use tc_code::{Expr, Instr, Node};
 
-/// A cell, and the value that was taken from it.
+/// A name of the text, and the value that it had.
 #[derive(Clone, Copy)]
-pub(crate) struct Value {
-    pub(crate) cell: u32,
+pub(crate) struct Value<'a> {
+    pub(crate) name: &'a str,
     pub(crate) value: i32,
+    is_local: bool,
 }
 
-/// What the thread of the last row took from cells in its last steps at that row's line, in order.
-pub(crate) fn values_at_end(
+/// The values that a statement saw, in order: of each load, and of each int of the body once.
+#[derive(Drop)]
+struct Values<'a> {
+    values: Vec<Value<'a>>,
+}
+
+/// What the last row's statement saw up to it.
+pub(crate) fn values_at_end<'a>(
+    alloc: Global,
+    program: Program<'a>,
+    rows: &[Row],
+) -> Result<Vec<Value<'a>>, AllocError> {
+    let mut values = Values {
+        values: Vec::new(alloc),
+    };
+    let places = places_at_end(alloc, program, rows)?;
+    for place in places.iter().rev() {
+        if let Some(row) = rows.get(*place) {
+            values.take(program, row)?;
+        }
+    }
+    Ok(values.values)
+}
+
+/// The places of the last row and of those that led to it in its statement, the last first.
+fn places_at_end(
     alloc: Global,
     program: Program<'_>,
     rows: &[Row],
-) -> Result<Vec<Value>, AllocError> {
-    let mut values = Vec::new(alloc);
+) -> Result<Vec<usize>, AllocError> {
+    let mut places = Vec::new(alloc);
     let Some(last) = rows.last() else {
-        return Ok(values);
+        return Ok(places);
     };
-    let line = program.line_of(last);
-    for row in rows.iter().rev() {
-        if row.deed.thread() != last.deed.thread() {
+    for (i, row) in rows.iter().enumerate().rev() {
+        let is_step = matches!(&row.deed, Deed::Did(step) if step.thread == *last.deed.thread());
+        if !is_step {
             continue;
         }
-        let Deed::Did(step) = &row.deed else {
-            continue;
-        };
-        if program.line_of(row) != line {
+        if !places.is_empty() && !program.leads_on(row) {
             break;
         }
-        if let Some(value) = taken(step) {
-            values.push(value)?;
-        }
+        places.push(i)?;
     }
-    values.reverse();
-    Ok(values)
+    Ok(places)
 }
 
-/// What a step took from a cell, if it took something.
-fn taken(step: &Step) -> Option<Value> {
-    match step.asks {
-        Request::Read(cell) => Some(Value {
-            cell,
-            value: step.took,
-        }),
-        _ => None,
+impl<'a> Values<'a> {
+    /// Takes in what a row's step saw.
+    fn take(&mut self, program: Program<'a>, row: &Row) -> Result<(), AllocError> {
+        match program.instr(row) {
+            Some(
+                Instr::Branch { condition: e, .. }
+                | Instr::Set { value: e, .. }
+                | Instr::Inside { index: e, .. }
+                | Instr::LoadAt { index: e, .. }
+                | Instr::Assert(e)
+                | Instr::Nonzero(e)
+                | Instr::InRange(e),
+            ) => self.push_ints(program, row, e)?,
+            _ => {}
+        }
+        if let Deed::Did(step) = &row.deed
+            && let Request::Read(cell) = step.asks
+        {
+            self.values.push(Value {
+                name: program.names.cell(cell),
+                value: step.took,
+                is_local: false,
+            })?;
+        }
+        Ok(())
+    }
+
+    /// Takes in the ints of the body that an expression names.
+    fn push_ints(&mut self, program: Program<'a>, row: &Row, e: &Expr) -> Result<(), AllocError> {
+        match &e.node {
+            Node::Number(_) => Ok(()),
+            Node::Slot(slot) => self.push_int(program, row, *slot),
+            Node::Unary(_, operand) => self.push_ints(program, row, operand),
+            Node::Binary(_, left, right) => {
+                self.push_ints(program, row, left)?;
+                self.push_ints(program, row, right)
+            }
+        }
+    }
+
+    /// Takes in a slot, if it is an int of the body that isn't there yet.
+    fn push_int(&mut self, program: Program<'a>, row: &Row, slot: u32) -> Result<(), AllocError> {
+        let (Some(name), Some(value)) = (
+            program.names.int(row.function, slot),
+            row.slots.get(slot as usize),
+        ) else {
+            return Ok(());
+        };
+        if self
+            .values
+            .iter()
+            .any(|other| other.is_local && other.name == name)
+        {
+            return Ok(());
+        }
+        self.values.push(Value {
+            name,
+            value: *value,
+            is_local: true,
+        })?;
+        Ok(())
     }
 }

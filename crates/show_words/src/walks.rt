@@ -13,7 +13,7 @@ pub struct Went<'a> {
     pub line: u32,
     /// Its text.
     pub source: &'a str,
-    /// Of a branch there, whether its condition wasn't 0.
+    /// Of a branch there, whether its condition, or the left side of its `&&` or `||`, wasn't 0.
     pub outcome: Option<bool>,
 }
 
@@ -44,6 +44,7 @@ pub fn walk_words<'a>(
         open = line;
         if branches {
             let outcome = walk.outcomes().get(used).copied();
+            let outcome = truth_of(program, walk.function(), *place, outcome);
             lines.push(line_went(program, line, outcome))?;
             used = used.saturating_add(1);
             open = 0;
@@ -62,6 +63,18 @@ fn line_went<'a>(program: Program<'a>, line: u32, outcome: Option<bool>) -> Went
         source: program.names.line(line),
         outcome,
     }
+}
+
+/// Whether the condition of the text is true at a branch, by the outcome that the code keeps: for a `||` it branches on whether
+/// the left side is false.
+fn truth_of(
+    program: Program<'_>,
+    function: usize,
+    place: usize,
+    outcome: Option<bool>,
+) -> Option<bool> {
+    let is_or = matches!(program.branched(function, place), Some(choice) if choice.is_or);
+    Some(outcome? != is_or)
 }
 
 /// Whether there is a branch at a place.

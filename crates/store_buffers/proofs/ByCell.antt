@@ -58,7 +58,8 @@ use Rattle.std.proofs.lemmas.Bool.{false≢true, eqb-true}
 use Rattle.std.proofs.lemmas.Option.{none-some}
 use Rattle.std.proofs.Math.Dec.{eqb-suc-zero}
 use Rattle.std.proofs.lemmas.Bool.Decides.{nat_tests}
-use Rattle.tc_base.specs.Buffers.{Segment, values_to, with_values, has_no_store, is_nil}
+use Rattle.store_buffers.specs.Buffers.{Segment, values_to, with_values, has_no_store}
+use Rattle.list_laws.specs.Lists.{is_nil}
 use Rattle.store_buffers.specs.helpers.Segments.{
   IsTidy,
   some_values,

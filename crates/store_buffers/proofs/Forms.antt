@@ -32,7 +32,9 @@ use Rattle.std.specs.FinMap as fin
 use Rattle.std.specs.FinMap.{contains_key-keys}
 use Rattle.std.specs.List.{list_any, AllByRecursion}
 use Rattle.std.specs.List.Sorted.{IsStrictlySortedBy}
-use Rattle.tc_base.specs.Buffers.{Entry, BufferOps, Segment, fifo_buffer, cell_buffer, values_to, first_values, may_drain_cell, is_nil}
+use Rattle.tc_base.specs.Buffers.{Entry, BufferOps}
+use Rattle.store_buffers.specs.Buffers.{Segment, fifo_buffer, cell_buffer, values_to, first_values, may_drain_cell}
+use Rattle.list_laws.specs.Lists.{is_nil}
 use Rattle.store_buffers.specs.Laws.{AreForms}
 use Rattle.store_buffers.specs.helpers.Segments.{IsTidy}
 use Rattle.store_buffers.proofs.ByCell.{is_there}

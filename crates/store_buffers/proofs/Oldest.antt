@@ -6,7 +6,7 @@ use Rattle.std.proofs.lemmas.Bool.{false≢true, or_parts}
 use Rattle.std.proofs.lemmas.List.Elements.{filter-append}
 use Rattle.std.specs.Cmp.{nat_eq_equiv}
 use Rattle.tc_base.specs.Buffers.{Entry, BufferOps}
-use Rattle.tc_base.specs.declared.model.Model.{Model}
+use Rattle.memory_models.specs.declared.model.Model.{Model}
 use Rattle.store_buffers.specs.Pending.{Pending, Store, Bar, stores, has_bar, Binding, waits, form_of, stores_by, Drains, Stands}
 use Rattle.store_buffers.specs.Laws.{Laws}
 use Rattle.store_buffers.specs.helpers.Lists.{stores-append, first_store, waits_for_none}

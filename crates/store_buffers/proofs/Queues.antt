@@ -3,7 +3,8 @@ use Rattle.std.proofs.Common.{◌≡◌, ◌==◌, cond, Some, None, List, [], �
 use Rattle.std.specs.FinMap as fin
 use Rattle.std.specs.List.{last_or}
 use Rattle.std.specs.Option.{option_or}
-use Rattle.tc_base.specs.Buffers.{Entry, newest, values_to, with_values}
+use Rattle.tc_base.specs.Buffers.{Entry}
+use Rattle.store_buffers.specs.Buffers.{newest, values_to, with_values}
 use Rattle.store_buffers.specs.helpers.Seen.{stores_by_cell}
 use Rattle.store_buffers.specs.helpers.Partial.{forward_behind}
 use Rattle.store_buffers.specs.helpers.Segments.{

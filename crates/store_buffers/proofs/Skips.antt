@@ -44,8 +44,9 @@ use Rattle.std.specs.FinMap.{empty_of_len}
 use Rattle.std.proofs.lemmas.Bool.{false≢true, eqb-true}
 use Rattle.std.proofs.Math.Bool.{and-true}
 use Rattle.std.proofs.lemmas.List.{length-replicate}
-use Rattle.tc_base.proofs.Options.{or_none}
-use Rattle.tc_base.specs.Buffers.{Segment, values_to, with_values, has_no_store, issue_last, last_value, first_values, drop_first, is_nil}
+use Rattle.list_laws.proofs.Options.{or_none}
+use Rattle.store_buffers.specs.Buffers.{Segment, values_to, with_values, has_no_store, issue_last, last_value, first_values, drop_first}
+use Rattle.list_laws.specs.Lists.{is_nil}
 use Rattle.store_buffers.specs.helpers.Lists.{or_assoc}
 use Rattle.store_buffers.specs.helpers.Segments.{values-empty, no_store-empty, has_store}
 use Rattle.store_buffers.specs.helpers.Segments.{first_values-store, first_values-past, drop_first-store, drop_first-past}

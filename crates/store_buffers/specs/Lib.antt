@@ -1,3 +1,4 @@
+pub mod Buffers
 pub mod Pending
 pub mod Laws
 pub mod helpers

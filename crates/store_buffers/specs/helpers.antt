@@ -1,4 +1,4 @@
--- No promise speaks of what stands in this folder: what private contracts cite, and that the three models meet the laws.
+-- Helpers, in no public contract: for private contracts, and proofs of the three models' laws.
 pub mod Seen
 pub mod Lists
 pub mod Segments

@@ -1,14 +1,14 @@
 //! Partial store order: a queue of stores for each cell.
 ghost use Rattle.std.specs.Prelude.{refl, true};
-ghost use Rattle.tc_base.specs.Buffers.{cell_buffer};
-ghost use Rattle.tc_base.specs.declared.model.Model.TheVariants as model;
+ghost use Rattle.store_buffers.specs.Buffers.{cell_buffer};
+ghost use Rattle.memory_models.specs.declared.model.Model.TheVariants as model;
 ghost use Rattle.store_buffers.specs.Pending.{binds_cells};
 ghost use Rattle.store_buffers.specs.helpers.Partial.{pso_laws};
 
 use crate::MemoryModel;
 use crate::segments::Segments;
+use memory_models::Model;
 use std::alloc::{AllocError, Global};
-use tc_base::Model;
 
 /// Partial store order.
 #[derive(Clone, Copy, Debug)]

@@ -1,6 +1,7 @@
 //! One queue of stores.
 ghost use Rattle.std.specs.Prelude.{◌≡◌, ◌∷◌, [], ◌++◌, drop, slice_index_or, OnOk, OnErr, IfOk, IfSome, IfNone, is_some, not, option_map};
-ghost use Rattle.tc_base.specs.Buffers.{newest, no_entry, is_nil};
+ghost use Rattle.store_buffers.specs.Buffers.{newest, no_entry};
+ghost use Rattle.list_laws.specs.Lists.{is_nil};
 
 use crate::segment::Segment;
 use std::alloc::{AllocError, Global};
@@ -14,9 +15,9 @@ pub(crate) struct Store {
     pub(crate) value: i32,
 }
 
-/// The stores of a thread on their way to memory, the oldest first.
+/// The stores of a thread on their way to memory, oldest first.
 ///
-/// They are kept by their cells too, so that the newest to a cell is found without a look at the others.
+/// They are also grouped by cell, so that the newest to a cell is found without a search.
 #[derive(Debug, Drop)]
 pub struct Queue {
     stores: VecDeque<Store>,
@@ -48,7 +49,7 @@ impl Queue {
         }
     }
 
-    /// A store goes to the end.
+    /// Adds a store at the end.
     pub(crate) fn push(&mut self, cell: u32, value: i32) -> Result<(), AllocError>
         ensures ok { OnOk result (self.new ≡ self.old ++ record { cell = cell; value = value } ∷ []) }
         ensures err { OnErr result (self.new ≡ self.old) }

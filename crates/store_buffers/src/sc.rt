@@ -1,13 +1,13 @@
 //! Sequential consistency: no store is ever buffered.
 ghost use Rattle.std.specs.Prelude.{refl, true, false};
-ghost use Rattle.tc_base.specs.Buffers.{no_buffer};
-ghost use Rattle.tc_base.specs.declared.model.Model.TheVariants as model;
+ghost use Rattle.store_buffers.specs.Buffers.{no_buffer};
+ghost use Rattle.memory_models.specs.declared.model.Model.TheVariants as model;
 ghost use Rattle.store_buffers.specs.Pending.{binds_all};
 ghost use Rattle.store_buffers.specs.helpers.Sequential.{sc_laws};
 
 use crate::MemoryModel;
+use memory_models::Model;
 use std::alloc::{AllocError, Global};
-use tc_base::Model;
 
 /// Sequential consistency.
 #[derive(Clone, Copy, Debug)]

@@ -2,7 +2,8 @@
 ghost use Rattle.std.specs.Prelude.{◌≡◌, ◌∷◌, [], ◌++◌, drop, slice_get, not, IfOk, OnOk, OnErr, None, true, false};
 ghost use Rattle.std.specs.FinMap as fin;
 ghost use Rattle.std.specs.List.{last_or};
-ghost use Rattle.tc_base.specs.Buffers.{is_nil, values_to, with_values, has_no_store, cell_buffer};
+ghost use Rattle.list_laws.specs.Lists.{is_nil};
+ghost use Rattle.store_buffers.specs.Buffers.{values_to, with_values, has_no_store, cell_buffer};
 ghost use Rattle.store_buffers.specs.Laws.{AreForms};
 
 use crate::values::Values;
@@ -10,7 +11,7 @@ use std::alloc::{AllocError, Global};
 use std::collections::BTreeMap;
 use std::marker::Model;
 
-/// Of each cell that has any, the values on their way there.
+/// For each cell that has any, the values on their way to it.
 #[derive(Debug, Drop)]
 pub(crate) struct Segment {
     by_cell: BTreeMap<u32, Values>,
@@ -66,7 +67,7 @@ impl Segment {
         }
     }
 
-    /// The cells that have one, in order, as the forms of their drains.
+    /// The cells that have a store, in order, as the forms of their drains.
     pub(crate) fn forms(&self, alloc: Global) -> Result<Vec<Option<u32>>, AllocError>
         ensures { IfOk result (λ forms. AreForms cell_buffer (self.now ∷ []) forms.items) }
     {
@@ -77,7 +78,7 @@ impl Segment {
         Ok(forms)
     }
 
-    /// A store goes to the end of its cell's queue.
+    /// Adds a store at the end of its cell's queue.
     pub(crate) fn push(&mut self, alloc: Global, cell: u32, value: i32) -> Result<(), AllocError>
         ensures ok { OnOk result (self.new ≡ with_values self.old cell (values_to self.old cell ++ value ∷ [])) }
         ensures err { OnErr result (self.new ≡ self.old) }
@@ -88,7 +89,7 @@ impl Segment {
         self.add(cell, Values::of_one(alloc, value)?)
     }
 
-    /// One value more to a cell that has some.
+    /// Adds a value to a cell that has some.
     fn grow(&mut self, cell: u32, value: i32) -> Result<(), AllocError>
         requires { is_nil (values_to self.old cell) ≡ false }
         ensures ok { OnOk result (self.new ≡ with_values self.old cell (values_to self.old cell ++ value ∷ [])) }
@@ -100,7 +101,7 @@ impl Segment {
         }
     }
 
-    /// The first values to a cell.
+    /// Adds the first values to a cell.
     fn add(&mut self, cell: u32, values: Values) -> Result<(), AllocError>
         requires { is_nil values ≡ false }
         ensures ok { OnOk result (self.new ≡ with_values self.old cell values) }
@@ -110,7 +111,7 @@ impl Segment {
         Ok(())
     }
 
-    /// Takes out the oldest value to a cell, where there is one.
+    /// Takes out the oldest value to a cell, if there is one.
     pub(crate) fn pop(&mut self, cell: u32) -> Option<i32>
         ensures first { result ≡ slice_get (values_to self.old cell) 0 }
         ensures rest { self.new ≡ with_values self.old cell (drop 1 (values_to self.old cell)) }
@@ -132,7 +133,7 @@ impl Segment {
         }
     }
 
-    /// Takes out one of several values.
+    /// Takes out the oldest of several values to a cell.
     fn pop_one(&mut self, cell: u32) -> Option<i32>
         requires { is_nil (drop 1 (values_to self.old cell)) ≡ false }
         ensures first { result ≡ slice_get (values_to self.old cell) 0 }
@@ -144,7 +145,7 @@ impl Segment {
         }
     }
 
-    /// Takes out the only value, and its queue.
+    /// Takes out the only value to a cell, and its queue.
     fn pop_last(&mut self, cell: u32) -> Option<i32>
         requires { is_nil (drop 1 (values_to self.old cell)) ≡ true }
         ensures first { result ≡ slice_get (values_to self.old cell) 0 }

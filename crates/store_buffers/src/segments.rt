@@ -1,9 +1,10 @@
-//! Segments with a bar between each two.
+//! Segments, separated by bars.
 ghost use Rattle.std.specs.Prelude.{◌≡◌, ℕ, ◌∷◌, [], ◌++◌, ◌+◌, ◌<◌, ◌^◌, length, slice_get, not, false, OnOk, OnErr, IfOk};
 ghost use Rattle.std.specs.VecDeque.{deque_len};
 ghost use Rattle.std.specs.FinMap as fin;
 ghost use Rattle.std.specs.List.{list_all};
-ghost use Rattle.tc_base.specs.Buffers.{is_nil, has_no_store, issue_last, last_value, first_values, values_to, drop_first, cell_buffer};
+ghost use Rattle.list_laws.specs.Lists.{is_nil};
+ghost use Rattle.store_buffers.specs.Buffers.{has_no_store, issue_last, last_value, first_values, values_to, drop_first, cell_buffer};
 ghost use Rattle.store_buffers.specs.Laws.{AreForms};
 ghost use Rattle.store_buffers.specs.helpers.Seen.{begins_empty, after_empty, values_in_first, drop_in_first};
 
@@ -51,7 +52,7 @@ impl Segments {
         }
     }
 
-    /// A store goes into the last segment.
+    /// Adds a store to the last segment.
     pub(crate) fn issue(&mut self, cell: u32, value: i32) -> Result<(), AllocError>
         ensures ok { OnOk result (self.new ≡ issue_last self.old cell value) }
         ensures err { OnErr result (self.new ≡ self.old) }
@@ -60,7 +61,7 @@ impl Segments {
         self.last.push(alloc, cell, value)
     }
 
-    /// A bar goes behind what is there.
+    /// Adds a bar at the end.
     pub(crate) fn bar(&mut self) -> Result<(), AllocError>
         ensures ok { OnOk result (self.new ≡ self.old ++ fin.empty ∷ []) }
         ensures err { OnErr result (self.new ≡ self.old) }
@@ -75,7 +76,7 @@ impl Segments {
         self.begin_segment()
     }
 
-    /// The last segment gets one behind it.
+    /// Adds an empty segment at the end.
     fn begin_segment(&mut self) -> Result<(), AllocError>
         requires some { list_all has_no_store self.old ≡ false }
         requires room { length self.old < 2 ^ 64 }
@@ -106,7 +107,7 @@ impl Segments {
         self.older.is_empty() && self.last.is_empty()
     }
 
-    /// The first segment that isn't empty, and the last where each is.
+    /// The first segment that isn't empty, or the last one if all are.
     fn front(&self) -> &Segment
         ensures { (c : ℕ) → first_values self.now c ≡ values_to result.now c }
     {
@@ -123,7 +124,7 @@ impl Segments {
         self.front().has(cell)
     }
 
-    /// The cells of that segment, in order, as the forms of their drains.
+    /// The cells of the first segment that isn't empty, in order, as the forms of their drains.
     pub(crate) fn forms(&self, alloc: Global) -> Result<Vec<Option<u32>>, AllocError>
         ensures { IfOk result (λ forms. AreForms cell_buffer self.now forms.items) }
     {

@@ -1,14 +1,14 @@
 //! Total store order: one queue of stores.
 ghost use Rattle.std.specs.Prelude.{refl, true};
-ghost use Rattle.tc_base.specs.Buffers.{fifo_buffer};
-ghost use Rattle.tc_base.specs.declared.model.Model.TheVariants as model;
+ghost use Rattle.store_buffers.specs.Buffers.{fifo_buffer};
+ghost use Rattle.memory_models.specs.declared.model.Model.TheVariants as model;
 ghost use Rattle.store_buffers.specs.Pending.{binds_all};
 ghost use Rattle.store_buffers.specs.helpers.Total.{tso_laws};
 
 use crate::MemoryModel;
 use crate::queue::Queue;
+use memory_models::Model;
 use std::alloc::{AllocError, Global};
-use tc_base::Model;
 
 /// Total store order.
 #[derive(Clone, Copy, Debug)]

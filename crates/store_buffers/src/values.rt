@@ -1,13 +1,13 @@
 //! The values of one cell on their way to memory.
 ghost use Rattle.std.specs.Prelude.{◌≡◌, ◌∷◌, [], ◌++◌, drop, slice_get, IfOk, OnOk, OnErr, None, not};
 ghost use Rattle.std.specs.List.{last_or};
-ghost use Rattle.tc_base.specs.Buffers.{is_nil};
+ghost use Rattle.list_laws.specs.Lists.{is_nil};
 
 use std::alloc::{AllocError, Global};
 use std::collections::VecDeque;
 use std::marker::Model;
 
-/// Values, the oldest first.
+/// Values, oldest first.
 #[derive(Debug, Drop)]
 pub(crate) struct Values {
     values: VecDeque<i32>,
@@ -31,7 +31,7 @@ impl Values {
         Ok(Values { values })
     }
 
-    /// A value goes to the end.
+    /// Adds a value at the end.
     pub(crate) fn push(&mut self, value: i32) -> Result<(), AllocError>
         ensures ok { OnOk result (self.new ≡ self.old ++ value ∷ []) }
         ensures err { OnErr result (self.new ≡ self.old) }

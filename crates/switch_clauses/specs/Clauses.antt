@@ -1,7 +1,7 @@
--- The clauses of a log with at most so many context switches.
+-- The clauses of a log with a bound on context switches.
 use Rattle.std.specs.Prelude.{ℕ, Bool, if◌then◌else◌}
 use Rattle.std.specs.List.{range_with_len}
-use Rattle.tc_base.specs.Logs.{Log}
+use Rattle.run_log.specs.Logs.{Log}
 use Rattle.tc_code.specs.Code.{Code}
 use Rattle.store_buffers.specs.Pending.{Binding}
 use Rattle.path_walk.specs.Paths.{Paths, paths_of}
@@ -13,7 +13,7 @@ use Rattle.switch_order.specs.Levels.{levelled}
 use Rattle.switch_runs.specs.Worlds.{failing_of, threads_of}
 use Rattle.clap_system.specs.Systems.{System, system_of}
 
--- an order that is asked of every two of its events
+-- an order that asks about every two of its events
 abbrev pub asked_of_all : Order → Order
 asked_of_all o = completed o (range_with_len 0 o.events)
 
@@ -21,11 +21,11 @@ asked_of_all o = completed o (range_with_len 0 o.events)
 abbrev pub asked_by : System → Blasted
 asked_by s = blast s.nodes s.formula (asked_of_all s.order) s.symbolic.loads
 
--- with levels up to a number
+-- the same with levels up to `most`
 abbrev pub switched_by : Paths → System → ℕ → Formula
 switched_by paths s most = levelled (asked_by s).layout (threads_of paths) (failing_of paths) most (asked_by s).clauses
 
--- what is impossible where the paths of the log are dead, and else the clauses of the log's system
+-- the clauses of the log's system, or an impossible formula if the paths are dead
 abbrev pub switch_clauses : Bool → Binding → Code → Log → ℕ → Formula
 switch_clauses buffered bound code log most =
     if (paths_of code log).dead then impossible.clauses else switched_by (paths_of code log) (system_of buffered bound code log) most

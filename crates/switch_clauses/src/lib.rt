@@ -1,18 +1,18 @@
-//! The clauses of a log with at most so many context switches, and what they mean. Each function's clause is a law of every memory
-//! model, and its body does nothing.
+//! The clauses of a log with a bound on context switches, and what they mean: laws of every memory
+//! model, as clauses of functions that do nothing.
 #![tactic(auto)]
 
 ghost use Rattle.std.specs.Prelude.{◌≡◌, ◌≤◌, ◌<◌, ◌↔◌, ℕ, true, List, IsTrue};
 ghost use Rattle.tc_base.specs.Buffers.{BufferOps};
-ghost use Rattle.tc_base.specs.Logs.{Log};
-ghost use Rattle.tc_base.specs.declared.model.Model.{Model};
+ghost use Rattle.run_log.specs.Logs.{Log};
+ghost use Rattle.memory_models.specs.declared.model.Model.{Model};
 ghost use Rattle.tc_base.specs.declared.moves.Move.{Move};
 ghost use Rattle.tc_code.specs.Code.{Code};
 ghost use Rattle.tc_code.specs.Lawful.{IsLawful};
 ghost use Rattle.tc_code.specs.Run.{Reproduces};
 ghost use Rattle.store_buffers.specs.Laws.{Laws};
 ghost use Rattle.store_buffers.specs.Pending.{Binding};
-ghost use Rattle.path_log.specs.Texts.{is_log};
+ghost use Rattle.run_log.specs.Logs.{is_log};
 ghost use Rattle.cnf_core.specs.Clauses.{Valuation, satisfies};
 ghost use Rattle.refute_check.specs.Refutations.{IsClosed};
 ghost use Rattle.refute_check.specs.declared.line.Line.{Line};
@@ -20,8 +20,8 @@ ghost use Rattle.switch_runs.specs.Switches.{switches};
 ghost use Rattle.clap_solve.specs.Solved.{IsWithin};
 ghost use Rattle.switch_clauses.specs.Clauses.{switch_clauses};
 
-/// Something satisfies the clauses of a log with at most so many switches exactly where some moves with at most so many reproduce
-/// the log, a failure or a deadlock.
+/// The clauses of a log with at most `most` switches are satisfiable exactly if some moves with at
+/// most that many reproduce the log, a failure or a deadlock.
 pub fn switch_clauses_are_runs<B>()
     ensures { (ops : BufferOps B) (model : Model) (bound : Binding) (code : Code) (log : Log) (most : ℕ)
         → Laws ops model bound → IsLawful code → is_log log ≡ true → IsWithin code log
@@ -29,7 +29,8 @@ pub fn switch_clauses_are_runs<B>()
         ↔ ((moves : List Move) × Reproduces ops code log moves × (switches ops code moves ≤ most)) }
 {}
 
-/// Where a derivation is closed on these clauses, whoever made it, all moves that reproduce the log have more switches.
+/// If a derivation is closed on these clauses, whoever made it, all moves that reproduce the log
+/// have more switches.
 pub fn closed_is_more_switches<B>()
     ensures { (ops : BufferOps B) (model : Model) (bound : Binding) (code : Code) (log : Log) (most : ℕ) (lines : List Line) (moves : List Move)
         → Laws ops model bound → IsLawful code → is_log log ≡ true → IsWithin code log

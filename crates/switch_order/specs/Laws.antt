@@ -11,7 +11,7 @@ use Rattle.bit_order.specs.Layouts.{Layout}
 use Rattle.bit_order.specs.Readings.{world_of}
 use Rattle.switch_order.specs.Levels.{levelled}
 
--- an order that was asked of every two events, the thread of each, the failing one, and a formula that stands on the order's clauses
+-- a formula over an order that asks about all pairs of events, their threads, and the failing event
 pub record IsReady (y : Layout) (threads : List ℕ) (failing : Option ℕ) (f : Formula) : Type 0 where
   pub order : IsOrder y.order
   pub events : y.order.events ≤ 256
@@ -21,7 +21,7 @@ pub record IsReady (y : Layout) (threads : List ℕ) (failing : Option ℕ) (f :
   pub more : (ordered y).vars ≤ f.vars
   pub before : (w : Valuation) → IsModel w f → IsModel w (ordered y)
 
--- the values that satisfy a formula with levels are those that satisfy it and say a world of at most so many switches
+-- the models of a formula with levels are its models whose worlds have at most `most` switches
 pub record LevelsMean (y : Layout) (threads : List ℕ) (failing : Option ℕ) (most : ℕ) (f : Formula) : Type 0 where
   pub before : (w : Valuation) → IsModel w (levelled y threads failing most f) → IsModel w f
   pub few : (w : Valuation) → IsModel w (levelled y threads failing most f) → switches threads failing (world_of y w) ≤ most

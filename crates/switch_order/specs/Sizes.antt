@@ -1,4 +1,4 @@
--- How many variables and clauses levels take at most.
+-- An upper bound on the variables, and on the clauses, of levels.
 use Rattle.std.specs.Prelude.{ℕ, ◌+◌, ◌*◌}
 
 abbrev pub size_of : (events most : ℕ) → ℕ

@@ -1,2 +1,2 @@
--- No promise speaks of what stands in this folder.
+-- No promise refers to the definitions of this folder.
 pub mod Within

@@ -15,8 +15,8 @@ use bit_order::{Layout, add_clause};
 use cnf_core::{Cnf, Lit};
 use std::alloc::{AllocError, Global};
 
-/// A formula that stands on the clauses of an order gets levels up to a number, and with them at most so many switches. `threads`
-/// has the thread of each event; where an event fails, those after it don't count.
+/// Adds levels of at most `most` to a formula over an order, and so bounds its switches. `threads`
+/// has the thread of each event; if an event fails, later ones don't count.
 pub fn add_levels(
     alloc: Global,
     cnf: &mut Cnf,
@@ -42,7 +42,7 @@ pub fn add_levels(
     Ok(())
 }
 
-/// So many variables more, which no clause names yet.
+/// Adds `count` variables that no clause names yet.
 fn add_variables(cnf: &mut Cnf, count: u32)
     requires { cnf.old.vars + count < LIMIT }
     ensures vars { cnf.new.vars ≡ cnf.old.vars + count }
@@ -53,7 +53,7 @@ fn add_variables(cnf: &mut Cnf, count: u32)
     }
 }
 
-/// From an event to each later one of another thread that counts the level rises.
+/// Adds clauses: the level rises from an event to each later one of another thread that counts.
 fn add_rises_from(
     alloc: Global,
     cnf: &mut Cnf,
@@ -87,7 +87,7 @@ fn add_rises_from(
     Ok(())
 }
 
-/// That an event counts: it is the failing one or before it, where one fails.
+/// The literal of "this event counts": it is the failing event or before it, or no event fails.
 fn counts(layout: &Layout, failing: Option<u32>, event: u32) -> Lit
     ensures { (threads : List ℕ) → result ≡ counts_literal layout.now threads failing event }
 {
@@ -97,7 +97,7 @@ fn counts(layout: &Layout, failing: Option<u32>, event: u32) -> Lit
     }
 }
 
-/// Where an event is before another that counts, the other's level is higher.
+/// Adds clauses: if an event is before another that counts, the other's level is higher.
 fn add_rises(
     alloc: Global,
     cnf: &mut Cnf,
@@ -135,7 +135,7 @@ fn add_rises(
     Ok(())
 }
 
-/// That the level of an event is at least so much.
+/// The literal of "this event's level is at least `least`".
 fn level(start: u32, most: u32, event: u32, least: u32) -> Lit
     requires start { 1 < start }
     requires most { most ≤ 255 }

@@ -1,8 +1,9 @@
 //! At most so many switches between threads, as clauses.
 //!
-//! Each event has a level, in unary: for each number from 1 on a variable that its level is at least that. From an event to each
-//! later one of another thread the level rises. So there are two clauses for each two events of different threads and each level.
-//! No position has more bits than without, and which of two events comes first is asked of every two.
+//! Each event has a level, in unary: a variable for each number from 1 on, true if the level is at
+//! least that. The level rises from an event to each later one of another thread. So each two
+//! events of different threads have two clauses for each level. The order asks about every two
+//! events.
 #![tactic(auto)]
 
 mod adding;
@@ -14,8 +15,8 @@ ghost use Rattle.switch_order.specs.Laws.{IsReady, LevelsMean};
 
 pub use adding::add_levels;
 
-/// What satisfies a formula with levels up to a number satisfies the formula, and says a world of at most so many switches. What
-/// satisfies the formula and says such a world satisfies that with levels too, with some values of their variables.
+/// The models of a formula with levels up to a number are models of the formula whose worlds have
+/// at most that many switches, and each such model extends to one with levels.
 pub fn levels_mean()
     ensures { (y : PlainLayout) (threads : List ℕ) (failing : Option ℕ) (most : ℕ) (f : Formula) → IsReady y threads failing f
         → LevelsMean y threads failing most f }

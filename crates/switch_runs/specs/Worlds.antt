@@ -1,4 +1,4 @@
--- Switches of a world of paths.
+-- Context switches in a world of the paths.
 use Rattle.std.specs.Prelude.{ℕ, List, map, Option, option_map}
 use Rattle.std.specs.List.{find}
 use Rattle.path_walk.specs.Paths.{Paths}
@@ -11,7 +11,7 @@ use Rattle.world_plan.specs.Plan.{is_failure}
 abbrev pub threads_of : Paths → List ℕ
 threads_of paths = map (λ e. e.thread) (all_events paths)
 
--- the number of the event that fails, if one does
+-- the number of the failing event, if any
 abbrev pub failing_of : Paths → Option ℕ
 failing_of paths = option_map (λ e. number_of paths e.thread e.it.step) (find (λ e. is_failure e.it.kind) (all_events paths))
 

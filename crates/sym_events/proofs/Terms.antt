@@ -7,8 +7,8 @@ use Rattle.std.specs.List.{All, Contains}
 use Rattle.std.specs.Option.{IfSome, option_map_or}
 use Rattle.std.proofs.lemmas.Bool.{and_parts}
 use Rattle.std.proofs.lemmas.List.Elements.{All-nil, All-weaker, All-push, All-contains}
-use Rattle.tc_base.specs.declared.arith.UnOp.TheVariants.{Neg}
-use Rattle.tc_base.specs.declared.arith.BinOp.TheVariants.{Xor, Eq, And, Le}
+use Rattle.int_ops.specs.declared.arith.UnOp.TheVariants.{Neg}
+use Rattle.int_ops.specs.declared.arith.BinOp.TheVariants.{Xor, Eq, And, Le}
 use Rattle.tc_code.specs.Code.{Code, instr_at, line_at}
 use Rattle.tc_code.specs.Expr.{names_slots}
 use Rattle.tc_code.specs.Lawful.{IsLawful}

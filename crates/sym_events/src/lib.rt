@@ -1,6 +1,6 @@
-//! The execution of paths and their events.
+//! How the symbolic execution of paths agrees with their events.
 //!
-//! Each function's clause is a law, and its body does nothing.
+//! Each law is the contract of a function with an empty body.
 #![tactic(auto)]
 
 ghost use Rattle.std.specs.Prelude.{◌≡◌, ◌<◌, ℕ, List, Some, length, slice_get};
@@ -14,14 +14,15 @@ ghost use Rattle.sym_exec.specs.declared.symbolic.Test.{Test};
 ghost use Rattle.lawful_order.specs.Whole.{IsExecutedBy};
 ghost use Rattle.order_cells.specs.Terms.{HaveTerms};
 
-/// The accesses that the execution of a log's paths finds are the paths' loads, stores and exchanges, in the same steps, and
-/// the number of each load is below their count.
+/// The accesses of the symbolic execution are the paths' loads, stores and exchanges, in the same
+/// steps, and the number of each load is below their count.
 pub fn executed_paths()
     ensures { (code : Code) (paths : Paths) (nodes : List Node)
         → ArePaths code paths → IsExecutedBy paths (executed code paths nodes).symbolic }
 {}
 
-/// Of lawful code, the terms that accesses and tests name are among those that the execution leaves, whatever paths it goes.
+/// For lawful code, the terms that accesses and tests name exist after the execution, whatever its
+/// paths are.
 pub fn executed_terms()
     ensures accesses { (code : Code) (paths : Paths) (nodes : List Node)
         → IsLawful code → HaveTerms (executed code paths nodes).nodes (executed code paths nodes).symbolic }

@@ -11,11 +11,11 @@ use Rattle.std.proofs.Math.IntN.{pred_ℤ, -ℤ_one}
 use Rattle.std.proofs.lemmas.Bool.{and_parts, le-ltb, le-leb, leb-true}
 use Rattle.std.proofs.lemmas.List.Elements.{All-push, All-nil, All-drop}
 use Rattle.std.proofs.lemmas.List.{map-set, map-append, append-nil}
-use Rattle.tc_base.specs.Arith.{IsInt, is_distance, truth, bits_xor, bits_and, negated, equal}
+use Rattle.int_ops.specs.Arith.{IsInt, is_distance, truth, bits_xor, bits_and, negated, equal}
 use Rattle.tc_base.specs.States.{Local}
-use Rattle.tc_base.specs.declared.arith.UnOp.TheVariants.{Neg}
-use Rattle.tc_base.specs.declared.arith.BinOp.TheVariants.{Xor, Eq, And}
-use Rattle.tc_base.proofs.Ints.{by_sameness, there_int}
+use Rattle.int_ops.specs.declared.arith.UnOp.TheVariants.{Neg}
+use Rattle.int_ops.specs.declared.arith.BinOp.TheVariants.{Xor, Eq, And}
+use Rattle.int_ops.proofs.Ints.{by_sameness, there_int}
 use Rattle.tc_code.specs.Code.{Code, instr_at, line_at}
 use Rattle.tc_code.specs.Expr.{Expr, names_slots, value_of as expr_value_of}
 use Rattle.tc_code.specs.declared.instr.Instr.{Instr}

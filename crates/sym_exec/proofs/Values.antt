@@ -6,11 +6,11 @@ use Rattle.std.specs.Prelude.{int_le}
 use Rattle.std.proofs.lemmas.Bool.{and_parts, ltb-true}
 use Rattle.std.proofs.lemmas.List.{get_or-map}
 use Rattle.std.proofs.lemmas.List.Elements.{All-head, All-tail}
-use Rattle.tc_base.specs.Arith.{unary, binary, truth, bits_and, less_or_equal}
-use Rattle.tc_base.proofs.Bits.{int_bit_and-is}
-use Rattle.tc_base.specs.declared.arith.UnOp.{UnOp}
-use Rattle.tc_base.specs.declared.arith.BinOp.{BinOp}
-use Rattle.tc_base.specs.declared.arith.BinOp.TheVariants.{And, Le}
+use Rattle.int_ops.specs.Arith.{unary, binary, truth, bits_and, less_or_equal}
+use Rattle.int_ops.proofs.Bits.{int_bit_and-is}
+use Rattle.int_ops.specs.declared.arith.UnOp.{UnOp}
+use Rattle.int_ops.specs.declared.arith.BinOp.{BinOp}
+use Rattle.int_ops.specs.declared.arith.BinOp.TheVariants.{And, Le}
 use Rattle.tc_code.specs.Expr as expr
 use Rattle.tc_code.specs.Expr.{Expr, names_slots}
 use Rattle.tc_code.specs.Step.{is_nonzero}

@@ -1,9 +1,9 @@
--- What the execution of a path tells of a thread that goes along it by itself, under the values that the loads take.
+-- What symbolic execution says about a thread alone on its path, given the values of its loads.
 use Rattle.std.specs.Prelude.{◌≡◌, ℕ, zero, suc, ◌+◌, ◌<◌, ◌≤◌, ℤ, pos, List, [], ◌∷◌, ◌++◌, map, length, Bool, Option, Some, None, option_map}
 use Rattle.std.specs.Prelude.{option_and_then, slice_index_or}
 use Rattle.std.specs.List.{All, cons_option}
 use Rattle.std.specs.Option.{option_map_or}
-use Rattle.tc_base.specs.Arith.{IsInt, is_distance}
+use Rattle.int_ops.specs.Arith.{IsInt, is_distance}
 use Rattle.tc_base.specs.declared.request.Request.{Request}
 use Rattle.tc_base.specs.declared.request.Request.TheVariants.{Read, Write, Exchange, CompareExchange}
 use Rattle.tc_base.specs.States.{Local}
@@ -25,7 +25,7 @@ use Rattle.sym_exec.specs.declared.symbolic.Test.{Test}
 abbrev pub slots_by : List ℤ → Doing → List ℤ
 slots_by loads d = map (value_of d.nodes loads) d.slots
 
--- what an instruction tests, if it tests a value
+-- the outcome of an instruction's test, if it has one
 abbrev pub condition : Local → Instr → Option Bool
 condition t (Inside len i) = Some (is_within len (value_in t i))
 condition t (Branch e to) = Some (is_nonzero (value_in t e))
@@ -34,16 +34,16 @@ condition t (Nonzero e) = Some (is_nonzero (value_in t e))
 condition t (InRange e) = Some (is_distance (value_in t e))
 condition t _ = None
 
--- how the tests of so many steps of a thread come out, in order
+-- the outcomes of the tests in a thread's next k steps, in order
 abbrev pub outcomes_of : Code → ℕ → Alone → List Bool
 outcomes_of code zero a = []
 outcomes_of code (suc k) a = cons_option (option_and_then (condition a.local) (instr_of code a.local)) (outcomes_of code k (goes_on code a))
 
--- how a test of a term comes out
+-- the outcome of a test: whether its term is nonzero
 abbrev pub outcome_by : List Node → List ℤ → Test → Bool
 outcome_by nodes loads x = is_nonzero (value_of nodes loads x.term)
 
--- what the creates of so many steps of a thread hand to the children, in order
+-- the arguments that an instruction, or a thread's next k steps, hand to new children, in order
 abbrev pub given_by : Local → Instr → List (List ℤ)
 given_by t (Create h f es) = map (value_in t) es ∷ []
 given_by t _ = []
@@ -52,17 +52,17 @@ abbrev pub given_of : Code → ℕ → Alone → List (List ℤ)
 given_of code zero a = []
 given_of code (suc k) a = option_map_or (given_by a.local) (instr_of code a.local) [] ++ given_of code k (goes_on code a)
 
--- the values of what a create hands over
+-- the values of the arguments that a create hands over
 abbrev pub values_in : List Node → List ℤ → Handed → List ℤ
 values_in nodes loads h = map (value_of nodes loads) h.terms
 
--- what an instruction asks of a cell: the value that it takes, if it loads, and the one that it brings, if it stores
+-- an access to a cell: the value that it loads, if any, and the value that it stores, if any
 pub record Asked : Type 0 where
   pub cell : ℕ
   pub takes : Option ℤ
   pub writes : Option ℤ
 
--- by a request that takes this value, if it takes one
+-- the accesses of a request, where a load takes the value v
 abbrev pub asked_by : ℤ → Request → List Asked
 asked_by v (Read c) = record { cell = c; takes = Some v; writes = None } ∷ []
 asked_by v (Write c w) = record { cell = c; takes = None; writes = Some w } ∷ []
@@ -70,13 +70,13 @@ asked_by v (Exchange c w) = record { cell = c; takes = Some v; writes = Some w }
 asked_by v (CompareExchange c e w) = record { cell = c; takes = Some v; writes = Some (replaced v e w) } ∷ []
 asked_by v _ = []
 
--- what so many steps of a thread ask of cells, in order
+-- the accesses of a thread's next k steps, in order
 abbrev pub asked_of : Code → ℕ → Alone → List Asked
 asked_of code zero a = []
 asked_of code (suc k) a =
     option_map_or (λ i. asked_by (slice_index_or a.values 0 (pos 0)) (request a.local i)) (instr_of code a.local) [] ++ asked_of code k (goes_on code a)
 
--- the cell of an access, and what it asks, by the values of its terms
+-- the cell of a symbolic access, and the whole access, with the values of its terms
 abbrev pub cell_by : List Node → List ℤ → Cell → ℕ
 cell_by nodes loads (Fixed c) = c
 cell_by nodes loads (Element first len index) = cell_at first (value_of nodes loads index)
@@ -88,17 +88,17 @@ asked_in nodes loads x = record {
   writes = option_map (value_of nodes loads) x.writes;
 }
 
--- a thread does the instructions at places of a function, one after another
+-- the thread's next instructions are those at these places of a function
 abbrev pub GoesAlong : Code → ℕ → List ℕ → Alone → Type 0
 GoesAlong code f [] a = Unit {0}
 GoesAlong code f (place ∷ places) a = (instr_of code a.local ≡ instr_at code f place) × GoesAlong code f places (goes_on code a)
 
--- the loads from one number on up to another take these values
+-- the loads numbered from `first` to before `end` take these values in order
 abbrev pub TakesFrom : List ℤ → ℕ → ℕ → List ℤ → Type 0
 TakesFrom loads first end values = (k : ℕ) → first + k < end → slice_index_or loads (first + k) (pos 0) ≡ slice_index_or values k (pos 0)
 
 module _ (code : Code) (f : ℕ) (outcomes : List Bool) (fails : Option ℕ) (loads : List ℤ) where
-  -- an execution that stands for a thread, which goes along the places
+  -- a symbolic execution that agrees with a thread, which follows the places
   pub record StandsFor (places : List ℕ) (d : Doing) (a : Alone) : Type 0 where
     pub terms : AreTerms d.nodes
     pub sound : HasTerms d
@@ -106,14 +106,13 @@ module _ (code : Code) (f : ℕ) (outcomes : List Bool) (fails : Option ℕ) (lo
     -- each slot has the value of its term
     pub slots : a.local.slots ≡ slots_by loads d
     pub along : GoesAlong code f places a
-    -- the loads of the execution take what the thread takes
+    -- the execution's loads take the values that the thread takes
     pub takes : TakesFrom loads d.loads (after_all code f outcomes fails d places).loads a.values
-    -- its slots, and what it takes, are ints
+    -- the thread's slots, and the values that it takes, are ints
     pub slot_ints : All IsInt a.local.slots
     pub taken_ints : All IsInt a.values
 
-  -- what the steps at the places lead to: each slot has the value of its term, each test comes out as its term tells, and each
-  -- create and each access asks what its terms tell
+  -- after the steps at the places, slots, tests, creates and accesses agree with their terms
   pub record Tells (places : List ℕ) (d : Doing) (a : Alone) : Type 0 where
     pub slots : (after_steps code (length places) a).local.slots ≡ slots_by loads (after_all code f outcomes fails d places)
     pub tests : map (outcome_by (after_all code f outcomes fails d places).nodes loads) (after_all code f outcomes fails d places).tests

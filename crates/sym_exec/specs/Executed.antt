@@ -1,4 +1,4 @@
--- The execution of all threads of paths.
+-- The symbolic execution of all threads of the paths.
 use Rattle.std.specs.Prelude.{ℕ, ◌-◌, ◌==◌, Bool, false, Option, Some, None, List, [], ◌∷◌, ◌++◌, length, take, fold, slice_get, bytes_eq, if◌then◌else◌}
 use Rattle.std.specs.List.{find, last_or}
 use Rattle.std.specs.Option.{option_map_or}
@@ -13,7 +13,7 @@ use Rattle.sym_exec.specs.Thread.{Handed, Doing, started, after_all}
 use Rattle.sym_exec.specs.declared.symbolic.Test.{Test}
 use Rattle.sym_exec.specs.declared.symbolic.Access.{Access}
 
--- what the execution of a thread's path found
+-- the result of executing a thread's path
 pub record Course : Type 0 where
   pub name : Name
   pub tests : List Test
@@ -21,47 +21,47 @@ pub record Course : Type 0 where
   pub creates : List Handed
 
 pub record Symbolic : Type 0 where
-  -- of each thread, in the order of the paths
+  -- one course for each thread, in the order of the paths
   pub threads : List Course
-  -- how many loads they have together
+  -- the number of loads of all threads together
   pub loads : ℕ
 
--- what was found, and the nodes after that
+-- the threads executed so far, and the nodes of their terms
 pub record Executed : Type 0 where
   pub symbolic : Symbolic
   pub nodes : List Node
 
--- the terms that a thread hands to its child of a number, from 1
+-- the terms that a thread hands to its child `number`, counted from 1
 abbrev pub handed_by : ℕ → Course → List ℕ
 handed_by number c = option_map_or (λ h. h.terms) (slice_get c.creates (number - 1)) []
 
--- the terms that a child of a number takes from its parent, which came before it
+-- the terms that `parent`, if it is among the courses, hands to its child `number`
 abbrev pub handed_to : List Course → Name → ℕ → List ℕ
 handed_to courses parent number = option_map_or (handed_by number) (find (λ c. bytes_eq c.name parent) courses) []
 
--- the terms that the thread of a name takes: main takes none
+-- the terms of a thread's arguments; main has none
 abbrev pub arguments_for : List Course → Name → List ℕ
 arguments_for courses n = option_map_or (handed_to courses (take (length n - 1) n)) (last_or None n) []
 
--- whether the thread of a number is the one that failed
+-- whether the thread `number` is the one that failed
 abbrev pub has_failed : Failing → ℕ → Bool
 has_failed (failing.Thread k) number = number == k
 has_failed failing.Deadlock number = false
 
--- the number of the step in which a thread fails, if it does
+-- the step in which a thread fails, if it does
 abbrev pub fails_at : Paths → ℕ → Walk → Option ℕ
 fails_at paths number w = if has_failed paths.failing number then Some (length w.places - 1) else None
 
--- a thread with its first slots, loads and nodes
+-- a thread's execution at its start
 abbrev pub thread_started : Code → Executed → Walk → Doing
 thread_started code x w = started (ints_of code w.function) (arguments_for x.symbolic.threads w.name) x.symbolic.loads x.nodes
 
--- its execution
+-- a thread's execution along its whole path
 abbrev pub thread_done : Code → Paths → Executed → Walk → Doing
 thread_done code paths x w =
     after_all code w.function w.outcomes (fails_at paths (length x.symbolic.threads) w) (thread_started code x w) w.places
 
--- one thread more
+-- appends a thread's execution
 abbrev pub with_course : Executed → Name → Doing → Executed
 with_course x name d = record {
   symbolic = record {
@@ -74,10 +74,10 @@ with_course x name d = record {
 abbrev pub with_thread : Code → Paths → Executed → Walk → Executed
 with_thread code paths x w = with_course x w.name (thread_done code paths x w)
 
--- nothing is executed yet
+-- the execution of no threads
 abbrev pub nothing : List Node → Executed
 nothing nodes = record { symbolic = record { threads = []; loads = 0 }; nodes = nodes }
 
--- all threads of the paths in order, from these nodes on
+-- the execution of all threads of the paths in order, starting with these nodes
 abbrev pub executed : Code → Paths → List Node → Executed
 executed code paths nodes = fold (with_thread code paths) (nothing nodes) paths.threads

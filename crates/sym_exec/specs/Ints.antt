@@ -1,16 +1,16 @@
--- Numbers in the range of `int`, in terms.
+-- Terms whose constants are in the range of `int`.
 use Rattle.std.specs.Prelude.{ℤ, List}
 use Rattle.std.specs.List.{All}
-use Rattle.tc_base.specs.Arith.{IsInt, bits_xor, bits_and, negated, equal}
+use Rattle.int_ops.specs.Arith.{IsInt, bits_xor, bits_and, negated, equal}
 use Rattle.sym_terms.specs.declared.node.Node.{Node}
 use Rattle.sym_terms.specs.declared.node.Node.TheVariants.{Constant}
 
--- the number of a node, if it has one
+-- if a node is a constant, it is an int
 abbrev pub HasInt : Node → Type 0
 HasInt (Constant n) = IsInt n
 HasInt _ = Unit {0}
 
--- the numbers of all nodes, and what the loads take
+-- all constants, and all values that the loads take, are ints
 pub record AreInts (nodes : List Node) (loads : List ℤ) : Type 0 where
   pub constants : All HasInt nodes
   pub taken : All IsInt loads

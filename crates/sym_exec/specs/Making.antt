@@ -1,19 +1,19 @@
--- Terms that are made from others, and of expressions.
+-- Adding terms of nodes and of expressions.
 use Rattle.std.specs.Prelude.{◌≡◌, ℕ, ◌-◌, ◌^◌, ℤ, pos, ◌-ℤ◌, nat_lt, List, [], ◌∷◌, ◌++◌, fold, slice_index_or, if◌then◌else◌}
-use Rattle.tc_base.specs.declared.arith.UnOp.TheVariants.{Neg}
-use Rattle.tc_base.specs.declared.arith.BinOp.TheVariants.{Xor, Eq, And, Le}
+use Rattle.int_ops.specs.declared.arith.UnOp.TheVariants.{Neg}
+use Rattle.int_ops.specs.declared.arith.BinOp.TheVariants.{Xor, Eq, And, Le}
 use Rattle.tc_code.specs.Expr as expr
 use Rattle.tc_code.specs.Expr.{Expr}
 use Rattle.sym_terms.specs.Terms.{with_node, id_of}
 use Rattle.sym_terms.specs.declared.node.Node.{Node}
 use Rattle.sym_terms.specs.declared.node.Node.TheVariants.{Constant, Unary, Binary}
 
--- a term, and the nodes once it is made
+-- a term, and the nodes after adding it
 pub record Made : Type 0 where
   pub term : ℕ
   pub nodes : List Node
 
--- terms, and the nodes once all of them are made
+-- terms, and the nodes after adding all of them
 pub record AllMade : Type 0 where
   pub terms : List ℕ
   pub nodes : List Node
@@ -22,7 +22,7 @@ pub record AllMade : Type 0 where
 abbrev pub made : List Node → Node → Made
 made nodes node = record { term = id_of nodes node; nodes = with_node nodes node }
 
--- the term of an expression, where the slots have these: first those of its parts, from left to right
+-- the term of an expression, given the terms of the slots; its parts are added first, left to right
 abbrev pub expr_term : List Node → List ℕ → Expr → Made
 expr_term nodes slots (expr.Number n) = made nodes (Constant n)
 expr_term nodes slots (expr.Slot k) = record { term = slice_index_or slots k 0; nodes = nodes }
@@ -32,14 +32,14 @@ expr_term nodes slots (expr.Binary op a b) =
     let y = expr_term x.nodes slots b in
     made y.nodes (Binary op x.term y.term)
 
--- the terms of expressions, one after another
+-- the terms with that of one more expression, and the terms of a list of expressions
 abbrev pub with_expr : List ℕ → AllMade → Expr → AllMade
 with_expr slots xs e = let x = expr_term xs.nodes slots e in record { terms = xs.terms ++ x.term ∷ []; nodes = x.nodes }
 
 abbrev pub expr_terms : List Node → List ℕ → List Expr → AllMade
 expr_terms nodes slots es = fold (with_expr slots) (record { terms = []; nodes = nodes }) es
 
--- the test whether a term is from 0 to a number: both comparisons give 1 or 0, so the bits that they share do
+-- the test 0 <= x <= last, as the bitwise and of two comparisons, each of which is 1 or 0
 abbrev pub range_test : Made → ℤ → Made
 range_test x last =
     let zero = made x.nodes (Constant (pos 0)) in
@@ -48,12 +48,12 @@ range_test x last =
     let high = made top.nodes (Binary Le x.term top.term) in
     made high.nodes (Binary And low.term high.term)
 
--- the last index of an array of a length, where an int can be that large, and else the greatest int
+-- the last index of an array of this length, but at most the greatest int
 abbrev pub last_index : ℕ → ℤ
 last_index length = if nat_lt (2 ^ 31) length then pos (2 ^ 31 - 1) else pos length -ℤ pos 1
 
--- What a cell has after a compare-and-exchange that found v, where e was expected and f is new. Terms have no conditional:
--- it is v ^ ((v ^ f) & -(v == e)).
+-- The cell's value after a compare-and-exchange that finds v, expects e and would write f.
+-- Terms have no conditional, so it is v ^ ((v ^ f) & -(v == e)).
 abbrev pub replaced_term : List Node → (v e f : ℕ) → Made
 replaced_term nodes v e f =
     let change = made nodes (Binary Xor v f) in
@@ -62,6 +62,6 @@ replaced_term nodes v e f =
     let masked = made mask.nodes (Binary And change.term mask.term) in
     made masked.nodes (Binary Xor v masked.term)
 
--- nodes with more of them at the end, so that each name means the same
+-- `later` appends nodes to `nodes`, so existing terms keep their meaning
 abbrev pub Grows : List Node → List Node → Type 0
 Grows nodes later = (more : List Node) × (later ≡ nodes ++ more)

@@ -1,4 +1,4 @@
--- The execution of one thread.
+-- The symbolic execution of one thread.
 use Rattle.std.specs.Prelude.{ℕ, ◌<◌, ◌+◌, ◌-◌, ◌==◌, pos, Bool, true, not, Option, Some, None, unwrap_or, length, replicate}
 use Rattle.std.specs.Prelude.{List, [], ◌∷◌, ◌++◌, fold, slice_set, slice_index_or}
 use Rattle.std.specs.List.{All}
@@ -15,7 +15,7 @@ use Rattle.sym_exec.specs.declared.symbolic.Access.{Access}
 use Rattle.sym_exec.specs.declared.symbolic.Cell.{Cell}
 use Rattle.sym_exec.specs.declared.symbolic.Cell.TheVariants.{Fixed, Element}
 
--- what a create hands to its child: the terms of the arguments, in the step of that number
+-- a create: its step, and the terms of the arguments that it hands to the child
 pub record Handed : Type 0 where
   pub step : ℕ
   pub terms : List ℕ
@@ -25,29 +25,29 @@ pub record Doing : Type 0 where
   pub nodes : List Node
   -- the term of each slot
   pub slots : List ℕ
-  -- how many loads there were, in the threads before it and in this one
+  -- the number of loads so far, in the earlier threads and in this one
   pub loads : ℕ
-  -- how many steps it has done, and how many of them are branches
+  -- the number of steps so far, and of branches among them
   pub steps : ℕ
   pub branches : ℕ
   pub tests : List Test
   pub accesses : List Access
   pub creates : List Handed
 
--- terms are of some nodes
+-- every term is an index into the nodes
 abbrev pub AreOf : List Node → List ℕ → Type 0
 AreOf nodes terms = All (λ term. term < length nodes) terms
 
--- and those that a create hands over
+-- every term that a create hands over is an index into the nodes
 abbrev pub HandsOf : List Node → Handed → Type 0
 HandsOf nodes h = AreOf nodes h.terms
 
--- all terms of a thread's execution are of its nodes
+-- the terms of slots and creates are indexes into the execution's nodes
 pub record HasTerms (d : Doing) : Type 0 where
   pub slots : AreOf d.nodes d.slots
   pub creates : All (HandsOf d.nodes) d.creates
 
--- at the start the first of so many slots have the terms of the arguments, and the others 0
+-- the start of an execution: the first slots have the arguments' terms, and the others 0
 abbrev pub started : ℕ → List ℕ → ℕ → List Node → Doing
 started ints arguments loads nodes =
     let zero = made nodes (Constant (pos 0)) in
@@ -66,19 +66,19 @@ started ints arguments loads nodes =
 abbrev pub term_in : Doing → Expr → Made
 term_in d e = expr_term d.nodes d.slots e
 
--- a term is made
+-- adds a term
 abbrev pub making : Doing → Made → Doing
 making d x = record d { nodes = x.nodes }
 
--- a slot takes a term
+-- sets a slot to a term
 abbrev pub setting : Doing → ℕ → Made → Doing
 setting d k x = record d { slots = slice_set d.slots k x.term; nodes = x.nodes }
 
--- a term is tested: that it isn't 0, or that it is
+-- appends the test that a term is nonzero, or that it is 0
 abbrev pub testing : Doing → ℕ → Bool → Made → Doing
 testing d line wanted x = record d { nodes = x.nodes; tests = d.tests ++ record { step = d.steps; line = line; term = x.term; wanted = wanted } ∷ [] }
 
--- a cell takes a term
+-- appends a store of a term to a cell
 abbrev pub storing : Doing → Cell → Made → Doing
 storing d cell x = record d { nodes = x.nodes; accesses = d.accesses ++ record { step = d.steps; cell = cell; takes = None; writes = Some x.term } ∷ [] }
 
@@ -86,7 +86,7 @@ storing d cell x = record d { nodes = x.nodes; accesses = d.accesses ++ record {
 abbrev pub symbol_in : Doing → Made
 symbol_in d = made d.nodes (Symbol d.loads)
 
--- a slot takes the symbol of a load from a cell, which takes the term that is written, if one is
+-- appends a load of a cell into a slot, and a store of `writes` to the same cell if it is given
 abbrev pub loading : Doing → ℕ → Cell → ℕ → Option ℕ → Doing
 loading d k cell symbol writes = record d {
   slots = slice_set d.slots k symbol;
@@ -94,15 +94,15 @@ loading d k cell symbol writes = record d {
   accesses = d.accesses ++ record { step = d.steps; cell = cell; takes = Some d.loads; writes = writes } ∷ [];
 }
 
--- a slot takes what a cell has
+-- loads a cell into a slot
 abbrev pub reading : Doing → ℕ → Cell → Doing
 reading d k cell = let v = symbol_in d in loading (making d v) k cell v.term None
 
--- and the cell takes a term
+-- exchanges a cell: loads it into a slot, and stores a term to it
 abbrev pub swapping : Doing → ℕ → Cell → Made → Doing
 swapping d k cell x = let v = symbol_in (making d x) in loading (making d v) k cell v.term (Some x.term)
 
--- and it takes that where it had the expected one
+-- compares and exchanges a cell: loads it into a slot, and stores `new` if it was `expected`
 abbrev pub replacing : Doing → ℕ → Cell → Expr → Expr → Doing
 replacing d k cell expected new =
     let e = term_in d expected in
@@ -111,11 +111,11 @@ replacing d k cell expected new =
     let w = replaced_term v.nodes v.term e.term f.term in
     loading (making d w) k cell v.term (Some w.term)
 
--- a child takes the terms of expressions
+-- appends a create that hands the terms of expressions to a child
 abbrev pub handing : Doing → List Expr → Doing
 handing d es = let xs = expr_terms d.nodes d.slots es in record d { nodes = xs.nodes; creates = d.creates ++ record { step = d.steps; terms = xs.terms } ∷ [] }
 
--- after an instruction at a line; of a test, what is wanted of it
+-- the execution after an instruction at `line`, where `wanted` is the wanted outcome of a test
 abbrev pub after_instr : ℕ → Bool → Doing → Instr → Doing
 after_instr line wanted d (Set k e) = setting d k (term_in d e)
 after_instr line wanted d (Load k c) = reading d k (Fixed c)
@@ -132,17 +132,17 @@ after_instr line wanted d (Swap k c e) = swapping d k (Fixed c) (term_in d e)
 after_instr line wanted d (Cas k c e new) = replacing d k (Fixed c) e new
 after_instr line wanted d _ = d
 
--- what is wanted of the test of a step: the outcome of a branch, and that a site passes unless it is the one that fails
+-- the wanted outcome: a branch's as the path has it; other tests pass, except in the failing step
 abbrev pub wanted_of : List Bool → Option ℕ → Doing → Instr → Bool
 wanted_of outcomes fails d (Branch e to) = slice_index_or outcomes d.branches true
 wanted_of outcomes None d i = true
 wanted_of outcomes (Some k) d i = not (d.steps == k)
 
--- after a step that does the instruction at a place of a function, if one is there
+-- the execution after the instruction at a place of a function, if there is one
 abbrev pub after_step : Code → ℕ → List Bool → Option ℕ → Doing → ℕ → Doing
 after_step code f outcomes fails d place = option_map_or (λ i.
     record (after_instr (unwrap_or (line_at code f place) 0) (wanted_of outcomes fails d i) d i) { steps = d.steps + 1 }) (instr_at code f place) d
 
--- after steps at places; a thread that fails does so in the step of that number
+-- the execution after the steps at these places; `fails` is the step in which the thread fails
 abbrev pub after_all : Code → ℕ → List Bool → Option ℕ → Doing → List ℕ → Doing
 after_all code f outcomes fails d places = fold (after_step code f outcomes fails) d places

@@ -1,8 +1,8 @@
-//! Laws of symbolic execution. Each is a clause of a function that does nothing.
+//! Laws about symbolic execution. Each law is the contract of a function with an empty body.
 ghost use Rattle.std.specs.Prelude.{◌≡◌, ◌<◌, ℕ, ℤ, Bool, List, Option, Some, length};
 ghost use Rattle.std.specs.FinMap as fin;
 ghost use Rattle.std.specs.List.{All};
-ghost use Rattle.tc_base.specs.Arith.{IsInt};
+ghost use Rattle.int_ops.specs.Arith.{IsInt};
 ghost use Rattle.tc_base.specs.Buffers.{BufferOps};
 ghost use Rattle.tc_base.specs.Names.{Name};
 ghost use Rattle.tc_base.specs.States.{State, Thread};
@@ -24,26 +24,28 @@ ghost use Rattle.sym_exec.specs.Making.{replaced_term};
 ghost use Rattle.sym_exec.specs.Runs.{ThreadTells};
 ghost use Rattle.sym_exec.specs.Thread.{Doing};
 
-/// Where a thread goes along the places of a path by itself, each slot has the value of its term, under the values that
-/// its loads take, and each branch and each site over expressions comes out as its term tells: the outcome is true, or
-/// the site passes, exactly where the term isn't 0.
+/// If a thread follows the places of a path, each slot has the value of its term, given the values
+/// that its loads take, and each branch and each site over expressions has its term's outcome: the
+/// outcome is true, or the site passes, exactly when the term isn't 0.
 ///
-/// It speaks of any part of a path, from any execution that stands for the thread at its beginning.
+/// This holds for any part of a path, from any execution that agrees with the thread at its start.
 pub fn executions_tell()
     ensures { (code : Code) (f : ℕ) (outcomes : List Bool) (fails : Option ℕ) (loads : List ℤ) (places : List ℕ) (d : Doing) (a : Alone)
         → IsLawful code → StandsFor code f outcomes fails loads places d a → Tells code f outcomes fails loads places d a }
 {}
 
-/// So it is in every run, under every memory model: a thread that was created with arguments, and went along the places
-/// since, has in each slot the value of its term, where the terms of the arguments have the values that were handed over.
-/// (Of a memory model it wants that of ints no other values come out: all three do so.)
+/// The same holds in every run, under every memory model: if a thread was created with arguments
+/// and has followed the places since, each slot has the value of its term, where the terms of the
+/// arguments have the values that were handed over. The memory model must return only ints if it
+/// was given only ints; all three models do.
 pub fn threads_tell<B>()
     ensures { (ops : BufferOps B) (code : Code) (moves : List Move) (s : State B) (n : Name) (t : Thread B)
         → PassesInts ops → IsLawful code → run ops code moves ≡ Some s → fin.get s.threads n ≡ Some t → ThreadTells ops code moves n t }
 {}
 
-/// What a compare-and-exchange brings by bits is what the cell has after it: the new value where it had the expected one,
-/// and else the value that it had. So it is of the term that is made for it.
+/// The bitwise expression of a compare-and-exchange gives the cell's value after it: the new value
+/// if the cell had the expected one, and its old value otherwise. The term built for it has this
+/// value.
 pub fn exchanges_replace()
     ensures values { (v e f : ℤ) → IsInt v → IsInt f → exchanged v e f ≡ replaced v e f }
     ensures terms { (nodes : List Node) (loads : List ℤ) (v e f : ℕ)
@@ -52,13 +54,13 @@ pub fn exchanges_replace()
         value_of x.nodes loads x.term ≡ replaced (value_of nodes loads v) (value_of nodes loads e) (value_of nodes loads f) }
 {}
 
-/// Where the loads take ints, and the constants are ints, the value of each term is one.
+/// If all constants and all values that the loads take are ints, the value of every term is an int.
 pub fn values_are_ints()
     ensures { (nodes : List Node) (loads : List ℤ) (id : ℕ) → AreInts nodes loads → IsInt (value_of nodes loads id) }
 {}
 
-/// In the paths of lawful code each constant is an int, where those were that came before. So where the loads take ints
-/// the value of each of their terms is one.
+/// In the paths of lawful code every constant is an int, if those of the earlier nodes are. So if
+/// the loads take ints, the value of every term is an int.
 pub fn lawful_terms_are_ints()
     ensures constants { (code : Code) (paths : Paths) (nodes : List Node)
         → IsLawful code → All HasInt nodes → All HasInt (executed code paths nodes).nodes }

@@ -1,4 +1,4 @@
-//! Symbolic execution: what the threads of paths do, with a term in place of each value that comes from a load.
+//! Symbolic execution: executes the paths of threads, with a term in place of each loaded value.
 #![tactic(auto)]
 
 pub mod laws;

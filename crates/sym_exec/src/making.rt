@@ -7,12 +7,12 @@ ghost use Rattle.sym_exec.specs.Thread.{AreOf};
 ghost use Rattle.sym_exec.specs.Making as spec;
 ghost use Rattle.sym_exec.specs.Making.{Grows};
 
+use int_ops::{BinOp, UnOp};
 use std::alloc::{AllocError, Global};
 use sym_terms::{Id, Terms};
-use tc_base::{BinOp, UnOp};
 use tc_code::{Expr, Node};
 
-/// The term of a number.
+/// The term of a constant.
 pub(crate) fn constant(terms: &mut Terms, n: i32) -> Result<Id, AllocError>
     ensures made { IfOk result (λ id. record { term = id; nodes = terms.new } ≡ spec.made terms.old (Constant n)) }
     ensures within { IfOk result (λ id. id < length terms.new) }
@@ -51,7 +51,7 @@ fn binary(terms: &mut Terms, op: BinOp, a: Id, b: Id) -> Result<Id, AllocError>
     terms.op2(op, a, b)
 }
 
-/// The term of an expression, where the slots have these terms.
+/// The term of an expression, given the terms of the slots.
 pub(crate) fn expr_term(terms: &mut Terms, slots: &[Id], e: &Expr) -> Result<Id, AllocError>
     requires slots { AreOf terms.old slots.now }
     requires names { IsTrue (names_slots (length slots.now) e.now) }
@@ -74,7 +74,7 @@ pub(crate) fn expr_term(terms: &mut Terms, slots: &[Id], e: &Expr) -> Result<Id,
     }
 }
 
-/// The terms of expressions, one after another.
+/// The terms of expressions, in order.
 pub(crate) fn expr_terms(
     alloc: Global,
     terms: &mut Terms,
@@ -93,7 +93,7 @@ pub(crate) fn expr_terms(
     Ok(made)
 }
 
-/// The test whether a term is from 0 to a number.
+/// The test whether a term is between 0 and `last`.
 pub(crate) fn range_test(terms: &mut Terms, term: Id, last: i32) -> Result<Id, AllocError>
     requires { term < length terms.old }
     ensures term { IfOk result (λ test. record { term = test; nodes = terms.new } ≡ spec.range_test (record { term = term; nodes = terms.old }) last) }
@@ -106,7 +106,7 @@ pub(crate) fn range_test(terms: &mut Terms, term: Id, last: i32) -> Result<Id, A
     binary(terms, BinOp::And, low, high)
 }
 
-/// The last index of an array of a length, where an int can be that large, and else the greatest int.
+/// The last index of an array of this length, but at most the greatest int.
 pub(crate) fn last_index(length: u32) -> i32
     ensures { result ≡ spec.last_index length }
 {
@@ -117,8 +117,8 @@ pub(crate) fn last_index(length: u32) -> i32
     }
 }
 
-/// What a cell has after a compare-and-exchange that found a value: the new one where that is the expected one, and else
-/// the same. Terms have no conditional, so it is made by bits.
+/// A cell's value after a compare-and-exchange: the new value if the cell had the expected one, and
+/// its old value otherwise. Terms have no conditional, so the term uses bitwise operators.
 pub(crate) fn replaced_term(
     terms: &mut Terms,
     found: Id,

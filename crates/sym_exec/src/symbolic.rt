@@ -1,48 +1,49 @@
-//! What symbolic execution finds.
+//! The results of symbolic execution.
 ghost use Rattle.std.specs.Prelude.{◌≡◌};
 
 use std::marker::Model;
 use sym_terms::Id;
 use tc_base::ThreadName;
 
-/// A test of a term, by which a thread went as its path says.
+/// A test of a term: a branch or a site on a thread's path.
 #[derive(Clone, Copy, Debug, PartialEq, Eq)]
 pub struct Test {
     /// The number of the step in its thread, from 0.
     pub step: usize,
     /// The line of its instruction in the program's text, from 1.
     pub line: u32,
-    /// What is tested. Of an index, or the distance of a shift, it is whether that is in its range: 1, or else 0.
+    /// The tested term. For an index, or the distance of a shift, it is 1 if that is in range, and
+    /// 0 otherwise.
     pub term: Id,
-    /// Whether the path has it other than 0: the outcome of a branch, and that a site passes. Only the last test of the
-    /// thread that failed has 0 wanted at a site.
+    /// Whether the path wants the term to be nonzero: the outcome of a branch, and true for a site.
+    /// It is false for a site only in the last test of the thread that failed.
     pub wanted: bool,
 }
 
 /// A cell of memory.
 #[derive(Clone, Copy, Debug, PartialEq, Eq)]
 pub enum Cell {
-    /// The cell of that number.
+    /// The cell with this number.
     Fixed(u32),
-    /// The element at an index, which is a term, of the array that begins at a cell.
+    /// The element at an index, which is a term, of the array that begins at the cell `first`.
     Element { first: u32, length: u32, index: Id },
 }
 
-/// An event that loads, stores or does both: its step, its cell, and values.
+/// An event that loads, stores or does both, with its step, its cell and its values.
 #[derive(Clone, Copy, Debug, PartialEq, Eq)]
 pub struct Access {
     /// The number of the step in its thread, from 0.
     pub step: usize,
     /// The cell.
     pub cell: Cell,
-    /// The number of the load, if it is one, which is that of the symbol for the value that it takes. Loads are
-    /// counted from 0, in the order of the threads and then of the steps.
+    /// The number of the load, if it is one, and of the symbol for its value. Loads are counted
+    /// from 0, thread by thread and then step by step.
     pub takes: Option<u32>,
-    /// The term of the value that the cell takes, if it takes one.
+    /// The term of the value that is stored, if one is.
     pub writes: Option<Id>,
 }
 
-/// What a create hands to its child.
+/// The arguments that a create hands to its child.
 #[derive(Debug, Drop)]
 pub struct Handed {
     pub(crate) step: usize,
@@ -73,7 +74,7 @@ impl Handed {
     }
 }
 
-/// What the path of one thread comes to.
+/// The result of executing one thread's path.
 #[derive(Debug, Drop)]
 pub struct Course {
     pub(crate) name: ThreadName,
@@ -98,8 +99,8 @@ impl Course {
         &self.name
     }
 
-    /// Its tests, in the order of the steps: those of branches and of sites over expressions. The test of a mutex or of
-    /// a thread variable has none, since the path alone decides it.
+    /// Its tests, in the order of the steps: those of branches and of sites over expressions. A
+    /// site about a mutex or a thread variable has no test, since the path alone decides it.
     pub fn tests(&self) -> &[Test]
         ensures { result.now ≡ self.now.tests }
     {
@@ -113,7 +114,7 @@ impl Course {
         &self.accesses
     }
 
-    /// What its creates hand to the children, whose numbers go from 1 in this order.
+    /// The arguments that its creates hand to children, which are numbered from 1 in this order.
     pub fn creates(&self) -> &[Handed]
         ensures { result.now ≡ self.now.creates }
     {
@@ -121,7 +122,7 @@ impl Course {
     }
 }
 
-/// What the paths of all threads come to.
+/// The result of executing the paths of all threads.
 #[derive(Debug, Drop)]
 pub struct Symbolic {
     pub(crate) threads: Vec<Course>,
@@ -137,14 +138,14 @@ impl Model for Symbolic {
 }
 
 impl Symbolic {
-    /// What each thread comes to, in the order of the paths.
+    /// The result for each thread, in the order of the paths.
     pub fn threads(&self) -> &[Course]
         ensures { result.now ≡ self.now.threads }
     {
         &self.threads
     }
 
-    /// How many loads they have together. The values that these take are named by symbols below it.
+    /// The number of loads of all threads together. Symbols are numbered below it.
     pub fn loads(&self) -> u32
         ensures { result ≡ self.now.loads }
     {

@@ -26,9 +26,9 @@ use tc_code::{Code, Expr, Exprs, Instr};
 pub(crate) struct Thread {
     /// The term of each slot.
     pub(crate) slots: Vec<Id>,
-    /// How many loads there were, in the threads before it and in this one.
+    /// The number of loads so far, in the earlier threads and in this one.
     pub(crate) loads: u32,
-    /// How many steps it has done, and how many of them are branches.
+    /// The number of steps so far, and of branches among them.
     pub(crate) steps: usize,
     pub(crate) branches: usize,
     pub(crate) tests: Vec<Test>,
@@ -37,7 +37,7 @@ pub(crate) struct Thread {
 }
 
 impl Thread {
-    /// A slot takes a term.
+    /// Sets a slot to a term.
     fn set(&mut self, slot: u32, term: Id)
         requires { slot < length self.old.slots.items }
         ensures { (nodes : List Node) → seen self.new nodes ≡ spec.setting (seen self.old nodes) slot (record { term = term; nodes = nodes }) }
@@ -45,7 +45,7 @@ impl Thread {
         self.slots[slot as usize] = term;
     }
 
-    /// A term is tested.
+    /// Appends a test of a term.
     fn test(&mut self, line: u32, wanted: bool, term: Id) -> Result<(), AllocError>
         ensures { (nodes : List Node) → OnOk result (seen self.new nodes
             ≡ spec.testing (seen self.old nodes) line wanted (record { term = term; nodes = nodes })) }
@@ -60,7 +60,7 @@ impl Thread {
         Ok(())
     }
 
-    /// A cell takes a term.
+    /// Appends a store of a term to a cell.
     fn store(&mut self, cell: Cell, term: Id) -> Result<(), AllocError>
         ensures { (nodes : List Node) → OnOk result (seen self.new nodes ≡ spec.storing (seen self.old nodes) cell (record { term = term; nodes = nodes })) }
     {
@@ -74,7 +74,7 @@ impl Thread {
         Ok(())
     }
 
-    /// A slot takes the symbol of a load. There are no more loads than numbers of 32 bits.
+    /// Loads a symbol into a slot. The number of loads fits in 32 bits.
     fn load(
         &mut self,
         slot: u32,
@@ -97,7 +97,7 @@ impl Thread {
         Ok(())
     }
 
-    /// A slot takes what a cell has.
+    /// Loads a cell into a slot.
     fn read(&mut self, terms: &mut Terms, slot: u32, cell: Cell) -> Result<(), AllocError>
         requires { slot < length self.old.slots.items }
         ensures read { OnOk result (seen self.new terms.new ≡ spec.reading (seen self.old terms.old) slot cell) }
@@ -118,7 +118,7 @@ impl Thread {
         expr_term(terms, &self.slots, e)
     }
 
-    /// An expression is tested.
+    /// Appends a test of an expression.
     fn test_value(
         &mut self,
         terms: &mut Terms,
@@ -136,7 +136,7 @@ impl Thread {
         self.test(line, wanted, term)
     }
 
-    /// It is tested that an expression is from 0 to a number.
+    /// Appends the test that an expression is between 0 and `last`.
     fn test_range(
         &mut self,
         terms: &mut Terms,
@@ -156,7 +156,7 @@ impl Thread {
         self.test(line, wanted, test)
     }
 
-    /// A slot takes the term of an expression.
+    /// Sets a slot to the term of an expression.
     fn set_value(&mut self, terms: &mut Terms, slot: u32, e: &Expr) -> Result<(), AllocError>
         requires slot { slot < length self.old.slots.items }
         requires slots { AreOf terms.old self.old.slots.items }
@@ -170,7 +170,7 @@ impl Thread {
         Ok(())
     }
 
-    /// A cell takes the term of an expression.
+    /// Appends a store of an expression to a cell.
     fn store_value(&mut self, terms: &mut Terms, cell: Cell, e: &Expr) -> Result<(), AllocError>
         requires slots { AreOf terms.old self.old.slots.items }
         requires names { IsTrue (names_slots (length self.old.slots.items) e.now) }
@@ -182,7 +182,7 @@ impl Thread {
         self.store(cell, term)
     }
 
-    /// The cell at an index of an array.
+    /// The cell at an index of an array, where the index is an expression.
     fn element(
         &self,
         terms: &mut Terms,
@@ -204,7 +204,7 @@ impl Thread {
         })
     }
 
-    /// A slot takes what a cell has, and the cell the value of an expression.
+    /// Exchanges a cell: loads it into a slot, and stores an expression.
     fn swap(&mut self, terms: &mut Terms, slot: u32, cell: Cell, e: &Expr) -> Result<(), AllocError>
         requires slot { slot < length self.old.slots.items }
         requires slots { AreOf terms.old self.old.slots.items }
@@ -218,7 +218,7 @@ impl Thread {
         self.load(slot, cell, symbol, Some(term))
     }
 
-    /// A slot takes what a cell has, and the cell a new value where it had the expected one.
+    /// Compares and exchanges a cell: loads it into a slot, and stores `new` if it was `expected`.
     fn replace(
         &mut self,
         terms: &mut Terms,
@@ -242,7 +242,7 @@ impl Thread {
         self.load(slot, cell, symbol, Some(written))
     }
 
-    /// A child takes the terms of expressions.
+    /// Appends a create that hands expressions to a child.
     fn hand(&mut self, alloc: Global, terms: &mut Terms, es: &Exprs) -> Result<(), AllocError>
         requires slots { AreOf terms.old self.old.slots.items }
         requires names { IsTrue (list_all (names_slots (length self.old.slots.items)) es.now) }
@@ -258,7 +258,8 @@ impl Thread {
         Ok(())
     }
 
-    /// The thread does an instruction at a line. Of a test it is told what is wanted.
+    /// Executes an instruction at a line. `wanted` is the wanted outcome of its test, if it has
+    /// one.
     fn follow(
         &mut self,
         alloc: Global,
@@ -319,8 +320,8 @@ impl Thread {
         }
     }
 
-    /// What is wanted of the test of an instruction: the outcome of a branch, and that a site passes unless the thread
-    /// fails in this step.
+    /// The wanted outcome of an instruction's test: a branch's as the path has it; a site passes
+    /// unless the thread fails in this step.
     fn wanted(&self, outcomes: &[bool], fails: Option<usize>, instr: &Instr) -> bool
         ensures { (nodes : List Node) → result ≡ spec.wanted_of outcomes.now fails (seen self.now nodes) instr.now }
     {
@@ -330,7 +331,7 @@ impl Thread {
         }
     }
 
-    /// The thread does the instruction at a place, if there is one.
+    /// Executes the instruction at a place, if there is one.
     fn step(
         &mut self,
         alloc: Global,
@@ -362,7 +363,7 @@ impl Thread {
         Ok(())
     }
 
-    /// The thread does all steps of its path.
+    /// Executes all steps of the thread's path.
     pub(crate) fn run(
         &mut self,
         alloc: Global,
@@ -409,7 +410,7 @@ impl Thread {
     }
 }
 
-/// Terms, and then others up to a number.
+/// The terms, padded with `other` up to `count`.
 fn padded(alloc: Global, terms: &[Id], count: usize, other: Id) -> Result<Vec<Id>, AllocError>
     ensures { IfOk result (λ all. all.items ≡ terms.now ++ replicate (count - length terms.now) other) }
 {
@@ -420,7 +421,7 @@ fn padded(alloc: Global, terms: &[Id], count: usize, other: Id) -> Result<Vec<Id
     Ok(all)
 }
 
-/// How many int slots a function has.
+/// The number of int slots of a function.
 pub(crate) fn ints_of(code: &Code, function: usize) -> u32
     ensures ints { result ≡ ints_of code.now function }
     ensures lawful { IsLawful code.now }

@@ -16,9 +16,10 @@ use tc_code::Code;
 
 /// Executes the paths of all threads, in their order, with a term in place of each value.
 ///
-/// It tests nothing: paths of other code have terms too, which say nothing. A slot begins as 0, or, in a child, as what
-/// the create on its parent's path hands to it. Refused for want of memory, or where there are more loads than numbers of
-/// 32 bits; then the terms are longer, and those that there were mean the same.
+/// It checks nothing: paths of other code have terms too, which are meaningless. A slot starts as
+/// 0, or, in a child, as the argument that the create on its parent's path hands to it. Fails if
+/// out of memory, or if the number of loads exceeds 32 bits; existing terms then keep their
+/// meaning.
 pub fn execute(
     alloc: Global,
     code: &Code,
@@ -75,7 +76,7 @@ fn add_thread(
     Ok(())
 }
 
-/// The number of the step in which the thread of a number fails, if it does.
+/// The step in which the thread `number` fails, if it does.
 fn fails_at(paths: &Paths, number: usize, walk: &Walk) -> Option<usize>
     ensures { result ≡ spec.fails_at paths.now number walk.now }
 {
@@ -85,7 +86,7 @@ fn fails_at(paths: &Paths, number: usize, walk: &Walk) -> Option<usize>
     }
 }
 
-/// The terms that the thread of a name takes from its parent. Main takes none.
+/// The terms of a thread's arguments, which its parent hands to it. Main has none.
 fn arguments_for<'a>(courses: &'a [Course], name: &[u32]) -> &'a [Id]
     ensures { result.now ≡ spec.arguments_for courses.now name.now }
 {
@@ -95,7 +96,7 @@ fn arguments_for<'a>(courses: &'a [Course], name: &[u32]) -> &'a [Id]
     }
 }
 
-/// The terms that a child of a number takes from its parent.
+/// The terms that the child `number` of `parent` takes as arguments.
 fn handed_to<'a>(courses: &'a [Course], parent: &[u32], number: usize) -> &'a [Id]
     ensures { result.now ≡ spec.handed_to courses.now parent.now number }
 {
@@ -107,7 +108,7 @@ fn handed_to<'a>(courses: &'a [Course], parent: &[u32], number: usize) -> &'a [I
     &[]
 }
 
-/// The terms that a thread hands to its child of a number.
+/// The terms that a thread hands to its child `number`.
 fn handed_by(course: &Course, number: usize) -> &[Id]
     ensures { result.now ≡ spec.handed_by number course.now }
 {

@@ -7,7 +7,8 @@ use Rattle.std.specs.Option.{option_map_or}
 use Rattle.std.proofs.lemmas.List.{take-take}
 use Rattle.std.proofs.lemmas.Option.{same_Some, slice_get-get_or, slice_get_within}
 use Rattle.tc_base.specs.Names.{Name, child}
-use Rattle.tc_base.specs.Logs.{Log, ThreadPath}
+use Rattle.run_log.specs.Logs.{Log}
+use Rattle.tc_base.specs.Paths.{ThreadPath}
 use Rattle.tc_base.specs.States.{Local}
 use Rattle.tc_base.specs.declared.request.Request.TheVariants.{Start}
 use Rattle.tc_code.specs.Code.{Code}
@@ -18,7 +19,7 @@ use Rattle.tc_code.specs.Step.{request, ints_of, arguments_of}
 use Rattle.run_laws.proofs.Names.{child_apart}
 use Rattle.run_history.specs.History.{Deed, Did}
 use Rattle.run_history.specs.Locals.{after_step as thread_after, born_local}
-use Rattle.path_log.specs.Texts.{is_log}
+use Rattle.run_log.specs.Logs.{is_log}
 use Rattle.path_laws.proofs.States.{site_starts_none}
 use Rattle.path_walk.specs.Fits.{function_of}
 use Rattle.path_walk.specs.Paths.{Walk, walk_of, paths_of}
@@ -34,7 +35,7 @@ use Rattle.sym_exec.proofs.Begun.{start_slots}
 use Rattle.sym_exec.proofs.Courses.{takes_from_parent}
 use Rattle.sym_exec.proofs.Grown.{grows_both}
 use Rattle.sym_exec.proofs.Sound.{arguments_sound}
-use Rattle.path_log.proofs.Lists.{get_front, get_seam}
+use Rattle.list_laws.proofs.Lists.{get_front, get_seam}
 use Rattle.sym_laws.specs.Valued.{AgreesWith, asked_of, found, found_before, execution}
 use Rattle.sym_laws.proofs.Lists.{get_take, found_at}
 use Rattle.sym_laws.proofs.Names.{parent_before, others_before}

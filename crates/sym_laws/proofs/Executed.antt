@@ -19,7 +19,7 @@ use Rattle.sym_exec.specs.helpers.Threads.{HaveTerms}
 use Rattle.sym_exec.proofs.Grown.{grows_none, grows_both, grows_made}
 use Rattle.sym_exec.proofs.Sound.{start_sound, start_has, arguments_sound, thread_sound}
 use Rattle.sym_exec.proofs.Values.{constant_value}
-use Rattle.path_log.proofs.Lists.{get_seam, split_at}
+use Rattle.list_laws.proofs.Lists.{get_seam, split_at}
 use Rattle.sym_laws.proofs.Lists.{long_front}
 use Rattle.sym_laws.proofs.Steps.{IsFine, IsNext, all_on}
 

@@ -7,9 +7,10 @@ use Rattle.std.proofs.lemmas.Grind.{flat_map-append}
 use Rattle.std.proofs.lemmas.List.{map-append, take-append-drop}
 use Rattle.std.proofs.lemmas.List.Sums.{fold-append}
 use Rattle.std.proofs.lemmas.Option.{slice_get-map}
-use Rattle.tc_base.specs.Arith.{IsInt}
+use Rattle.int_ops.specs.Arith.{IsInt}
 use Rattle.tc_base.specs.Names.{Name}
-use Rattle.tc_base.specs.Logs.{Log, ThreadPath}
+use Rattle.run_log.specs.Logs.{Log}
+use Rattle.tc_base.specs.Paths.{ThreadPath}
 use Rattle.tc_base.specs.States.{Local}
 use Rattle.tc_base.specs.declared.request.Request.{Request}
 use Rattle.tc_code.specs.Code.{Code, instr_at}
@@ -22,8 +23,8 @@ use Rattle.run_history.specs.Locals.{after_step as thread_after}
 use Rattle.run_laws.specs.Ints.{AsksInts}
 use Rattle.run_laws.proofs.Names.{same_self, same_other}
 use Rattle.run_history.proofs.Threads.{steps_by}
-use Rattle.path_log.proofs.Lists.{get_seam}
-use Rattle.path_log.specs.Texts.{is_log}
+use Rattle.list_laws.proofs.Lists.{get_seam}
+use Rattle.run_log.specs.Logs.{is_log}
 use Rattle.path_walk.specs.Fits.{fails_in, places_in, function_of}
 use Rattle.path_walk.specs.Paths.{Walk, walk_of, paths_of}
 use Rattle.sym_terms.specs.Terms.{AreTerms}

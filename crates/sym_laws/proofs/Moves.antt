@@ -11,7 +11,8 @@ use Rattle.std.proofs.lemmas.List.Sums.{sum_by-append}
 use Rattle.std.proofs.lemmas.Option.{none-some, same_Some}
 use Rattle.tc_base.specs.Names.{Name, ByName, child}
 use Rattle.tc_base.specs.Buffers.{BufferOps}
-use Rattle.tc_base.specs.Logs.{Log, ThreadPath}
+use Rattle.run_log.specs.Logs.{Log}
+use Rattle.tc_base.specs.Paths.{ThreadPath}
 use Rattle.tc_base.specs.States.{Local, Thread, State}
 use Rattle.tc_base.specs.declared.request.Request.{Request}
 use Rattle.tc_base.specs.declared.request.Request.TheVariants.{Start}
@@ -25,7 +26,7 @@ use Rattle.run_laws.proofs.Names.{get_put_cases}
 use Rattle.run_history.specs.History.{Deed, Did, Drained, same, taken}
 use Rattle.run_history.specs.Told.{is_step_of, steps_in}
 use Rattle.run_history.proofs.Threads.{ThreadsAre, own, with_born}
-use Rattle.path_log.specs.Texts.{is_log}
+use Rattle.run_log.specs.Logs.{is_log}
 use Rattle.path_laws.proofs.Does.{Does, Drains}
 use Rattle.path_walk.specs.Fits.{function_of}
 use Rattle.path_walk.specs.Paths.{walk_of}

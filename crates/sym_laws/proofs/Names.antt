@@ -6,11 +6,12 @@ use Rattle.std.specs.declared.cmp.Ordering.TheVariants.{Less}
 use Rattle.std.proofs.lemmas.Bool.{and_parts, ltb-true}
 use Rattle.std.proofs.lemmas.Option.{same_Some, slice_get-get_or}
 use Rattle.tc_base.specs.Names.{child, by_name}
-use Rattle.tc_base.specs.Logs.{Log, ThreadPath, place_in}
+use Rattle.run_log.specs.Logs.{Log}
+use Rattle.tc_base.specs.Paths.{ThreadPath, place_in}
 use Rattle.tc_base.specs.declared.failing.Failing.{Failing}
 use Rattle.tc_base.specs.declared.failing.Failing.TheVariants as failing
-use Rattle.path_log.specs.Texts.{rises_from, is_there, is_log}
-use Rattle.path_log.proofs.Rising.{rise as rise_in}
+use Rattle.run_log.specs.Logs.{rises_from, is_there, is_log}
+use Rattle.run_log.proofs.Rising.{rise as rise_in}
 use Rattle.path_walk.specs.Fits.{ending_by, fails_in}
 use Rattle.path_walk.specs.Steps.{is_failing}
 use Rattle.path_laws.proofs.Prefixes.{failing_by}

@@ -7,7 +7,8 @@ use Rattle.std.specs.FinMap as fin
 use Rattle.std.proofs.lemmas.Option.{same_Some, option_and_then_some}
 use Rattle.tc_base.specs.Names.{Name}
 use Rattle.tc_base.specs.Buffers.{BufferOps}
-use Rattle.tc_base.specs.Logs.{Log, Path, ThreadPath, path_under}
+use Rattle.run_log.specs.Logs.{Log}
+use Rattle.tc_base.specs.Paths.{Path, ThreadPath, path_under}
 use Rattle.tc_base.specs.States.{Thread, State}
 use Rattle.tc_base.specs.declared.moves.Move.{Move}
 use Rattle.tc_base.specs.declared.moves.Move.TheVariants as move
@@ -26,7 +27,7 @@ use Rattle.run_history.specs.History.{Deed, Did, taken, created_by, did, woke, d
 use Rattle.run_history.proofs.Frame.{kept_by_step}
 use Rattle.run_history.proofs.Ints.{taken_int}
 use Rattle.run_history.proofs.Threads.{ThreadsAre, own, keeps_threads, opening_threads}
-use Rattle.path_log.specs.Texts.{is_log}
+use Rattle.run_log.specs.Logs.{is_log}
 use Rattle.path_laws.proofs.Does.{Does, Drains, ran_does, woke_does, flush_drains, own_there}
 use Rattle.path_laws.proofs.Prefixes.{on_before_step, so_far, step_is_onward}
 use Rattle.path_walk.specs.Fits.{fails_in, function_of, Fits}

@@ -1,11 +1,11 @@
-//! What the runs on a log's paths have to do with their symbolic execution.
+//! How the runs along a log's paths agree with their symbolic execution.
 //!
-//! Each function's clause is a law, and its body does nothing.
+//! Each law is the contract of a function with an empty body.
 #![tactic(auto)]
 
 ghost use Rattle.std.specs.Prelude.{◌≡◌, ℤ, List, Some, true, length};
 ghost use Rattle.tc_base.specs.Buffers.{BufferOps};
-ghost use Rattle.tc_base.specs.Logs.{Log};
+ghost use Rattle.run_log.specs.Logs.{Log};
 ghost use Rattle.tc_base.specs.States.{State};
 ghost use Rattle.tc_base.specs.declared.moves.Move.{Move};
 ghost use Rattle.tc_code.specs.Code.{Code};
@@ -13,7 +13,7 @@ ghost use Rattle.tc_code.specs.Lawful.{IsLawful};
 ghost use Rattle.tc_code.specs.Run.{run, Reproduces};
 ghost use Rattle.run_laws.specs.Ints.{PassesInts};
 ghost use Rattle.run_history.specs.History.{history};
-ghost use Rattle.path_log.specs.Texts.{is_log};
+ghost use Rattle.run_log.specs.Logs.{is_log};
 ghost use Rattle.path_walk.specs.Fits.{Fits};
 ghost use Rattle.sym_terms.specs.Terms.{AreTerms};
 ghost use Rattle.sym_terms.specs.declared.node.Node.{Node};
@@ -22,10 +22,11 @@ ghost use Rattle.sym_laws.specs.Loads.{loads_in};
 ghost use Rattle.path_laws.specs.Prefixes.{AreOnPaths};
 ghost use Rattle.sym_laws.specs.Valued.{IsOneOf, AgreesWith, HaveValues, IsMet, found};
 
-/// In each run on a log's paths, under every memory model that gives back ints where ints were put in, as all three do, and
-/// under loads that took what their symbols stand for: each thread has in its slots the values of the terms of its path so
-/// far, its tests came out as the path wants them, and its loads, stores and exchanges are those of the path, with the same
-/// cells and values. What a compare-and-exchange writes is what its step leaves in the cell.
+/// In every run along a log's paths, if the loads took the values of their symbols, each thread's
+/// slots have the values of their terms, its tests had their wanted outcomes, and its loads, stores
+/// and exchanges are those of the path, with the same cells and values. A compare-and-exchange
+/// writes the value that its step leaves in the cell. The memory model must return only ints if it
+/// was given only ints; all three models do.
 pub fn runs_have_values<B>()
     ensures { (ops : BufferOps B) (code : Code) (log : Log) (nodes : List Node) (loads : List ℤ) (moves : List Move) (s : State B)
         → PassesInts ops → IsLawful code → is_log log ≡ true → Fits code log → AreTerms nodes → run ops code moves ≡ Some s → AreOnPaths log s
@@ -33,8 +34,8 @@ pub fn runs_have_values<B>()
         → HaveValues code log nodes loads (history ops code moves) s }
 {}
 
-/// Moves that reproduce a log that fits do all of its paths: then all tests come out as they are wanted, and each thread asked of
-/// cells what all of its accesses ask.
+/// Moves that reproduce a log that fits finish all of its paths: all tests have their wanted
+/// outcomes, and each thread made exactly the accesses of its path.
 pub fn reproduced_paths_are_met<B>()
     ensures { (ops : BufferOps B) (code : Code) (log : Log) (nodes : List Node) (loads : List ℤ) (moves : List Move) (c : Course)
         → PassesInts ops → IsLawful code → is_log log ≡ true → Fits code log → AreTerms nodes → Reproduces ops code log moves
@@ -42,7 +43,7 @@ pub fn reproduced_paths_are_met<B>()
         → IsOneOf c (found code log nodes).symbolic.threads → IsMet (found code log nodes).nodes loads (history ops code moves) c }
 {}
 
-/// There are such loads for each run: what each load of the paths took, and 0 for those that are still to come.
+/// Every run has such loads: the value that each load of the paths took, or 0 if it isn't done yet.
 pub fn runs_have_loads<B>()
     ensures many { (ops : BufferOps B) (code : Code) (log : Log) (nodes : List Node) (moves : List Move) (s : State B) → run ops code moves ≡ Some s
         → length (loads_in (found code log nodes).symbolic (history ops code moves)) ≡ (found code log nodes).symbolic.loads }

@@ -12,10 +12,11 @@ use Rattle.std.proofs.lemmas.List.{append_cancel_left}
 use Rattle.std.proofs.lemmas.List.Sums.{fold-append}
 use Rattle.std.proofs.lemmas.Option.{none-some, same_Some, get_or_from_slice_get}
 use Rattle.tc_base.specs.Buffers.{BufferOps}
-use Rattle.tc_base.specs.Logs.{Log, ThreadPath}
+use Rattle.run_log.specs.Logs.{Log}
+use Rattle.tc_base.specs.Paths.{ThreadPath}
 use Rattle.tc_base.specs.Names.{Name}
 use Rattle.tc_base.specs.States.{Local, Thread}
-use Rattle.tc_base.specs.declared.model.Model.{Model}
+use Rattle.memory_models.specs.declared.model.Model.{Model}
 use Rattle.tc_base.specs.declared.request.Request.{Request}
 use Rattle.tc_code.specs.Code.{Code}
 use Rattle.tc_code.specs.Lawful.{IsLawful}
@@ -32,8 +33,8 @@ use Rattle.run_history.proofs.Ints.{models_pass_ints}
 use Rattle.run_history.proofs.Threads.{children_are}
 use Rattle.run_follows.specs.Follow.{OtherIs}
 use Rattle.run_history.proofs.of_pending.In.{In, in_left, in_right}
-use Rattle.path_log.specs.Texts.{is_log}
-use Rattle.path_log.proofs.Lists.{get_seam}
+use Rattle.run_log.specs.Logs.{is_log}
+use Rattle.list_laws.proofs.Lists.{get_seam}
 use Rattle.path_walk.specs.Events.{kind_with}
 use Rattle.path_walk.specs.Fits.{fails_in, Fits}
 use Rattle.path_walk.specs.Marks.{unmarked, marks_after}

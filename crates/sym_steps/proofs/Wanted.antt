@@ -11,7 +11,7 @@ use Rattle.tc_base.specs.declared.request.Request.TheVariants.{Silent, Fail}
 use Rattle.tc_code.specs.declared.instr.Instr.{Instr}
 use Rattle.tc_code.specs.declared.instr.Instr.TheVariants.{Inside, Branch, Create, Join, Holds, Ready, Assert, Nonzero, InRange}
 use Rattle.tc_code.specs.Step.{is_within, is_nonzero, value_in, holds, can_be_joined, child_number, handle_of, site, request}
-use Rattle.tc_base.specs.Arith.{is_distance}
+use Rattle.int_ops.specs.Arith.{is_distance}
 use Rattle.run_laws.proofs.Changes.{is_fail}
 use Rattle.run_history.specs.History.{Deed, Did}
 use Rattle.run_history.specs.Told.{fails, children_in}

@@ -1,7 +1,7 @@
--- What the next step of a thread asks, as the terms of its path tell it.
+-- What the next step of a thread does, according to the terms of its path.
 use Rattle.std.specs.Prelude.{◌≡◌, ℕ, ◌==◌, ℤ, List, map, Option, Some, option_map}
 use Rattle.std.specs.List.{Contains, filter, find}
-use Rattle.tc_base.specs.Logs.{Log}
+use Rattle.run_log.specs.Logs.{Log}
 use Rattle.tc_base.specs.Names.{Name}
 use Rattle.tc_base.specs.declared.request.Request.{Request}
 use Rattle.tc_code.specs.Code.{Code}
@@ -21,7 +21,7 @@ use Rattle.sym_exec.specs.Executed.{Course}
 use Rattle.sym_exec.specs.declared.symbolic.Access.{Access}
 use Rattle.sym_exec.specs.declared.symbolic.Test.{Test}
 
--- what a thread's step of a number asks as an event of its path, if it is one
+-- the kind of the path's event in the step k, if any
 abbrev pub kind_at : Walk → ℕ → Option EventKind
 kind_at w k = option_map (λ (e : Event). e.kind) (find (λ (e : Event). e.step == k) w.events)
 
@@ -29,19 +29,19 @@ kind_at w k = option_map (λ (e : Event). e.kind) (find (λ (e : Event). e.step 
 abbrev pub accesses_at : Course → ℕ → List Access
 accesses_at c k = filter (λ (a : Access). a.step == k) c.accesses
 
--- the tests of a thread's next step come out as they are wanted
+-- the tests of a thread's next step have their wanted outcomes
 abbrev pub TestsAreMet : List Node → List ℤ → List Deed → Course → Type 0
 TestsAreMet nodes loads h c = (x : Test) → Contains c.tests x → x.step ≡ steps_in h c.name → outcome_by nodes loads x ≡ x.wanted
 
 module _ (code : Code) (log : Log) (nodes : List Node) (loads : List ℤ) (h : List Deed) (w : Walk) (c : Course) where
-  -- what the next step asks
+  -- the next step makes the request r, as its path says
   pub record IsToldNext (x : IsNextOnPath code h w) (r : Request) : Type 0 where
     pub asks : asks_next code h w.name ≡ Some r
     pub request_is : r ≡ request x.local x.instr
-    -- it fails where the path does, and a branch goes by the path's next outcome
+    -- the step fails where the path does, and a branch takes the path's next outcome
     pub fails_so : (k : ℕ) (took : ℤ) (other : Option Name) → fails (Did w.name k r took other) ≡ failing_next log h w
     pub branches : BranchesAlong w x.local x.instr
-    -- it is the path's event of that step, or none
+    -- the step is the path's event of that number, or no event if the path has none
     pub event : (other : Option Name) → OtherIs h w.name r other → kind_of r other ≡ kind_at w (steps_in h w.name)
-    -- and is to the cells of the path's accesses of that step, whatever it takes
+    -- the step accesses the cells of the path's accesses, whatever value it takes
     pub cells : (took : ℤ) → map (λ a. a.cell) (asked_by took r) ≡ map (λ (a : Access). cell_by nodes loads a.cell) (accesses_at c (steps_in h w.name))

@@ -1,16 +1,17 @@
-//! The cells of accesses in a history along the paths. Each function's clause is a law, and its body does nothing.
+//! The cells of accesses in a history along the paths. Each law is the contract of a function with
+//! an empty body.
 ghost use Rattle.std.specs.Prelude.{◌≡◌, ◌<◌, ◌==◌, ℕ, ℤ, pos, true, Some, List, slice_get, slice_index_or};
 ghost use Rattle.std.specs.List.{Contains};
 ghost use Rattle.tc_base.specs.Buffers.{BufferOps};
-ghost use Rattle.tc_base.specs.Logs.{Log};
-ghost use Rattle.tc_base.specs.declared.model.Model.{Model};
+ghost use Rattle.run_log.specs.Logs.{Log};
+ghost use Rattle.memory_models.specs.declared.model.Model.{Model};
 ghost use Rattle.tc_code.specs.Code.{Code};
 ghost use Rattle.tc_code.specs.Lawful.{IsLawful};
 ghost use Rattle.store_buffers.specs.Laws.{Laws};
 ghost use Rattle.store_buffers.specs.Pending.{Binding};
 ghost use Rattle.run_history.specs.History.{Deed};
 ghost use Rattle.run_history.specs.Told.{steps_in};
-ghost use Rattle.path_log.specs.Texts.{is_log};
+ghost use Rattle.run_log.specs.Logs.{is_log};
 ghost use Rattle.path_walk.specs.Fits.{Fits};
 ghost use Rattle.path_walk.specs.Paths.{Walk, Paths};
 ghost use Rattle.path_laws.specs.history.Along.{IsAlongPaths, IsThread};
@@ -27,7 +28,8 @@ ghost use Rattle.lawful_order.specs.Reads.{HasAccess};
 ghost use Rattle.lawful_order.specs.Whole.{IsExecutedBy};
 ghost use Rattle.sym_steps.specs.accesses.Asked.{IsAskedIn, IsReachedIn};
 
-/// What a thread's steps ask of cells in a history along the paths is what its accesses ask, step by step.
+/// In a history along the paths, a thread's steps make exactly the accesses of its path, step by
+/// step.
 pub fn accesses_are_asked<B>()
     ensures done { (ops : BufferOps B) (model : Model) (bound : Binding) (code : Code) (log : Log) (nodes : List Node) (loads : List ℤ) (h : List Deed)
         (j : ℕ) (w : Walk) (c : Course) (a : Access)
@@ -44,8 +46,8 @@ pub fn accesses_are_asked<B>()
         → (a : Access) × Contains c.accesses a × (a.step ≡ k) × (asked_in (found code log nodes).nodes loads a ≡ asked) }
 {}
 
-/// Two accesses that are done, or next, are to one cell exactly where their cells have one number: arrays lie apart, and each
-/// index was tested to be inside its array.
+/// Two accesses that are done, or next, are to the same cell exactly when their cells have the same
+/// number: arrays don't overlap, and each index was tested to be inside its array.
 pub fn cells_are_one<B>()
     ensures { (ops : BufferOps B) (model : Model) (bound : Binding) (code : Code) (log : Log) (nodes : List Node) (w : World) (h : List Deed)
         (t u : ℕ) (a b : Access)
@@ -56,7 +58,7 @@ pub fn cells_are_one<B>()
         ≡ (cell_by (found code log nodes).nodes w.loads a.cell == cell_by (found code log nodes).nodes w.loads b.cell) }
 {}
 
-/// The cell of such an access has at the start the value that the code gives it.
+/// The initial value of such an access's cell is the one that the code gives it.
 pub fn cells_begin<B>()
     ensures { (ops : BufferOps B) (model : Model) (bound : Binding) (code : Code) (log : Log) (nodes : List Node) (loads : List ℤ) (h : List Deed)
         (t : ℕ) (a : Access)
@@ -66,7 +68,7 @@ pub fn cells_begin<B>()
         → value_at_start code a.cell ≡ slice_index_or code.memory (cell_by (found code log nodes).nodes loads a.cell) (pos 0) }
 {}
 
-/// The cell of a thread's step is that of its access.
+/// The cell of a thread's step is the cell of its access.
 pub fn cells_are_found()
     ensures { (paths : Paths) (symbolic : Symbolic) (t : ℕ) (a : Access)
         → IsExecutedBy paths symbolic → HasAccess symbolic t a → cell_of symbolic t a.step ≡ Some a.cell }

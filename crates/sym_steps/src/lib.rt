@@ -1,14 +1,14 @@
-//! The next step of a thread on its path, as the terms of the path tell it, and loads that go on agreeing. Each
-//! function's clause is a law, and its body does nothing.
+//! The next step of a thread on its path, according to the path's terms, and that loads keep
+//! agreeing with a history. Each law is the contract of a function with an empty body.
 #![tactic(auto)]
 
 ghost use Rattle.std.specs.Prelude.{◌≡◌, ℕ, ℤ, true, false, Option, Some, None, List, [], ◌∷◌, ◌++◌, slice_get, slice_index_or, pos};
 ghost use Rattle.std.specs.FinMap as fin;
 ghost use Rattle.tc_base.specs.Buffers.{BufferOps};
-ghost use Rattle.tc_base.specs.Logs.{Log};
+ghost use Rattle.run_log.specs.Logs.{Log};
 ghost use Rattle.tc_base.specs.Names.{Name};
 ghost use Rattle.tc_base.specs.States.{Local};
-ghost use Rattle.tc_base.specs.declared.model.Model.{Model};
+ghost use Rattle.memory_models.specs.declared.model.Model.{Model};
 ghost use Rattle.tc_base.specs.declared.request.Request.{Request};
 ghost use Rattle.tc_code.specs.Code.{Code};
 ghost use Rattle.tc_code.specs.Lawful.{IsLawful};
@@ -17,7 +17,7 @@ ghost use Rattle.store_buffers.specs.Pending.{Binding};
 ghost use Rattle.run_history.specs.History.{Deed, Did, Drained};
 ghost use Rattle.run_history.specs.Locals.{locals_in};
 ghost use Rattle.run_history.specs.Told.{failed_in};
-ghost use Rattle.path_log.specs.Texts.{is_log};
+ghost use Rattle.run_log.specs.Logs.{is_log};
 ghost use Rattle.path_walk.specs.Fits.{Fits};
 ghost use Rattle.path_walk.specs.Paths.{Walk, paths_of};
 ghost use Rattle.path_laws.specs.history.Along.{IsAlongPaths, IsThread};
@@ -31,8 +31,8 @@ ghost use Rattle.sym_steps.specs.Next.{TestsAreMet, IsToldNext};
 
 pub mod accesses;
 
-/// Loads go on agreeing with a history where a step takes what its symbol stands for. So they do with a drain more, and with
-/// the first deeds.
+/// Loads keep agreeing with a history after a step that took its symbol's value, and after a drain.
+/// They agree with every beginning of the history too.
 pub fn loads_go_on_agreeing()
     ensures step { (symbolic : Symbolic) (loads : List ℤ) (h : List Deed) (n : Name) (k : ℕ) (r : Request) (took : ℤ) (other : Option Name)
         → AgreesWith symbolic loads h
@@ -45,8 +45,9 @@ pub fn loads_go_on_agreeing()
         → AgreesWith symbolic loads (first ++ later) → AgreesWith symbolic loads first }
 {}
 
-/// In a history along the paths, under loads that took what their symbols stand for, each thread has in its slots the values
-/// of its terms so far, its tests came out as they are wanted, and what it asked of cells is what its accesses ask.
+/// In a history along the paths, if the loads took the values of their symbols, each thread's slots
+/// have the values of their terms, its tests had their wanted outcomes, and its accesses are those
+/// of its path.
 pub fn histories_have_values<B>()
     ensures { (ops : BufferOps B) (model : Model) (bound : Binding) (code : Code) (log : Log) (nodes : List Node) (loads : List ℤ) (h : List Deed)
         (j : ℕ) (w : Walk) (c : Course) (t : Local)
@@ -56,8 +57,8 @@ pub fn histories_have_values<B>()
         → HasValues code log nodes loads h j w c t }
 {}
 
-/// Where moreover the tests of a thread's next step come out as they are wanted, and the paths aren't dead, what the step asks
-/// is told: whether it fails, how a branch goes, which event of the path it is, and the cells that it is to.
+/// If also the tests of a thread's next step have their wanted outcomes, and the paths aren't dead,
+/// the path determines the step: whether it fails, how it branches, its event, and its cells.
 pub fn next_is_told<B>()
     ensures { (ops : BufferOps B) (model : Model) (bound : Binding) (code : Code) (log : Log) (nodes : List Node) (loads : List ℤ) (h : List Deed)
         (j : ℕ) (w : Walk) (c : Course) (x : IsNextOnPath code h w)

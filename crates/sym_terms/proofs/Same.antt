@@ -6,13 +6,13 @@ use Rattle.std.specs.Bool.{Decides, one_answer}
 use Rattle.std.specs.Cmp.{IsEquivalence}
 use Rattle.std.proofs.lemmas.Bool.{and_parts, and_from, eq-eqb}
 use denote.Enum.Bare.{sameb, same_true, true_same}
-use Rattle.tc_base.specs.Arith.{same_unary, same_binary}
-use Rattle.tc_base.specs.declared.arith.UnOp.{UnOp}
-use Rattle.tc_base.specs.declared.arith.UnOp.TheVariants.{Neg, Not, Inv}
-use Rattle.tc_base.specs.declared.arith.BinOp.{BinOp}
-use Rattle.tc_base.specs.declared.arith.BinOp.TheVariants.{Add, Sub, Mul, And, Or, Xor, Eq, Ne, Lt, Le, Gt, Ge, Div, Rem, Shl, Shr}
-use Rattle.tc_base.specs.contracts.arith.UnOp.{the_type as unary_type}
-use Rattle.tc_base.specs.contracts.arith.BinOp.{the_type as binary_type}
+use Rattle.int_ops.specs.Arith.{same_unary, same_binary}
+use Rattle.int_ops.specs.declared.arith.UnOp.{UnOp}
+use Rattle.int_ops.specs.declared.arith.UnOp.TheVariants.{Neg, Not, Inv}
+use Rattle.int_ops.specs.declared.arith.BinOp.{BinOp}
+use Rattle.int_ops.specs.declared.arith.BinOp.TheVariants.{Add, Sub, Mul, And, Or, Xor, Eq, Ne, Lt, Le, Gt, Ge, Div, Rem, Shl, Shr}
+use Rattle.int_ops.specs.contracts.arith.UnOp.{the_type as unary_type}
+use Rattle.int_ops.specs.contracts.arith.BinOp.{the_type as binary_type}
 use Rattle.sym_terms.specs.contracts.node.NodePartialEq.TheImpl.{eq-value}
 use Rattle.sym_terms.specs.declared.node.Node.{Node}
 use Rattle.sym_terms.specs.declared.node.Node.TheVariants.{Constant, Symbol, Unary, Binary}

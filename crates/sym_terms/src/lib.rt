@@ -1,5 +1,5 @@
-//! Terms over the values that loads take. Each distinct term is one node, which names the nodes of its parts, so that a
-//! value that is used again and again is kept once.
+//! Terms over the values that loads take. Each distinct term is one node, which names the nodes of
+//! its parts, so a value that is used several times is stored once.
 #![tactic(auto)]
 
 pub mod laws;

@@ -1,10 +1,10 @@
 //! Nodes, and their names.
 ghost use Rattle.std.specs.Prelude.{◌≡◌};
 
+use int_ops::{BinOp, UnOp};
 use std::marker::Model;
-use tc_base::{BinOp, UnOp};
 
-/// The name of a term: the place of its node.
+/// The name of a term: the index of its node.
 #[derive(Clone, Copy, Debug, PartialEq, Eq, Hash)]
 pub struct Id {
     place: usize,
@@ -21,14 +21,14 @@ impl Model for Id {
 }
 
 impl Id {
-    /// The name of the node at a place.
+    /// The name of the node at an index.
     pub(crate) fn at(place: usize) -> Id
         ensures { result ≡ place }
     {
         Id { place }
     }
 
-    /// The place of the node among the nodes of the terms.
+    /// The index of the node among the nodes of the terms.
     pub fn place(self) -> usize
         ensures { result ≡ self }
     {
@@ -36,12 +36,12 @@ impl Id {
     }
 }
 
-/// The operator of a term, with the names of its parts.
+/// A term: a constant, a symbol, or an operator with the names of its parts.
 #[derive(Clone, Copy, Debug, PartialEq, Eq, Hash)]
 pub enum Node {
-    /// A number.
+    /// A constant.
     Constant(i32),
-    /// The value that the load of that number takes.
+    /// The value that the load with this number takes.
     Symbol(u32),
     /// An operator over one term.
     Unary(UnOp, Id),

@@ -1,17 +1,19 @@
-//! Terms, each kept once.
+//! Terms, each stored once.
 ghost use Rattle.std.specs.Prelude.{◌≡◌, ◌<◌, [], length, IfOk, OnOk, OnErr};
 ghost use Rattle.sym_terms.specs.Terms.{AreTerms, NamesBelow, with_node, id_of};
 ghost use Rattle.sym_terms.specs.declared.node.Node.TheVariants.{Constant, Symbol, Unary, Binary};
 
 use crate::{Id, Node};
 use indexmap::IndexSet;
+use int_ops::{BinOp, UnOp};
 use std::alloc::{AllocError, Global};
 use std::marker::Model;
-use tc_base::{BinOp, UnOp};
 
-/// Distinct nodes, each of which names earlier ones. A name stays valid, and means the same, while terms are added.
+/// Distinct nodes, each of which names only earlier ones. A name stays valid, and keeps its
+/// meaning, while terms are added.
 ///
-/// A term that is there already is answered by its name, so equal terms have one name. Each refusal is want of memory.
+/// Equal terms have one name: adding an existing term returns its name. Fails only if out of
+/// memory.
 #[derive(Debug, Drop)]
 pub struct Terms {
     nodes: IndexSet<Node>,
@@ -40,7 +42,7 @@ impl Terms {
         }
     }
 
-    /// The term of a number.
+    /// The term of a constant.
     pub fn constant(&mut self, value: i32) -> Result<Id, AllocError>
         ensures added { OnOk result (self.new ≡ with_node self.old (Constant value)) }
         ensures id { IfOk result (λ id. id ≡ id_of self.old (Constant value)) }
@@ -50,7 +52,7 @@ impl Terms {
         self.add(Node::Constant(value))
     }
 
-    /// The term of the value that the load of this number takes.
+    /// The term of the value that the load with this number takes.
     pub fn symbol(&mut self, load: u32) -> Result<Id, AllocError>
         ensures added { OnOk result (self.new ≡ with_node self.old (Symbol load)) }
         ensures id { IfOk result (λ id. id ≡ id_of self.old (Symbol load)) }
@@ -103,7 +105,7 @@ impl Terms {
         self.nodes.as_slice()
     }
 
-    /// How many distinct terms there are.
+    /// The number of distinct terms.
     #[allow(clippy::len_without_is_empty)]
     pub fn len(&self) -> usize
         ensures { result ≡ length self.now }

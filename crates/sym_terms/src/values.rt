@@ -1,15 +1,15 @@
-//! What terms come to.
+//! Values of terms.
 ghost use Rattle.std.specs.Prelude.{◌≡◌, ◌+◌, ◌<◌, ◌≤◌, max, [], length, IfOk};
 ghost use Rattle.sym_terms.specs.Terms.{NamesBelow};
 ghost use Rattle.sym_terms.specs.Values.{AreKnown, node_value, value_of};
 
 use crate::{Id, Node, Terms};
+use int_ops::arith;
 use std::alloc::{AllocError, Global};
 use std::marker::Model;
-use tc_base::arith;
 
-/// The values of terms under the values that the loads took. A value is computed when it, or that of a later term, is
-/// first asked for.
+/// The values of terms, given the values that the loads took. A term's value is computed when the
+/// value of that term, or of a later one, is first asked for.
 #[derive(Debug, Drop)]
 pub struct Values {
     symbols: Vec<i32>,
@@ -26,8 +26,8 @@ impl Model for Values {
 }
 
 impl Values {
-    /// A table with room for all terms, in which none is computed, for loads that took these values. A load past them has 0.
-    /// Refused for want of memory.
+    /// An empty table with room for all terms, given the values of the loads. A missing load has
+    /// the value 0. Fails if out of memory.
     pub fn new(alloc: Global, terms: &Terms, loads: &[i32]) -> Result<Values, AllocError>
         ensures symbols { IfOk result (λ values. values.symbols ≡ loads.now) }
         ensures known { IfOk result (λ values. values.known ≡ []) }
@@ -41,8 +41,8 @@ impl Values {
     }
 }
 
-/// The value of a term. All terms up to it are then computed, and none is computed again. It takes no memory, so the table
-/// has to be made for these terms, or for later ones.
+/// The value of a term. Computes all values up to it that the table doesn't have yet. Allocates
+/// nothing, so the table must have been made for these terms, or for later ones.
 pub fn value(terms: &Terms, id: Id, values: &mut Values) -> i32
     requires there { id < length terms.now }
     requires room { length terms.now ≤ values.old.room }
@@ -57,13 +57,13 @@ pub fn value(terms: &Terms, id: Id, values: &mut Values) -> i32
     while values.known.len() <= id.place() {
         let node = nodes[values.known.len()];
         let value = value_of_node(node, &values.symbols, &values.known);
-        // The table has room for every node, so this takes no memory.
+        // The table has room for every node, so this allocates nothing.
         let _ = values.known.push(value);
     }
     values.known[id.place()]
 }
 
-/// The value of a node over the values of those before it.
+/// The value of a node, given the values of the nodes before it.
 fn value_of_node(node: Node, symbols: &[i32], known: &[i32]) -> i32
     requires { NamesBelow (length known.now) node }
     ensures { result ≡ node_value known.now symbols.now node }

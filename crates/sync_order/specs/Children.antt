@@ -1,4 +1,4 @@
--- The conjuncts of children: the create comes before all that the child does, and the child's end before the join.
+-- Conjuncts for children: the create comes before the child's events, and its exit before the join.
 use Rattle.std.specs.Prelude.{ℕ, List, [], ◌∷◌, ◌++◌, map, filter, Bool, true, false, bytes_eq, if◌then◌else◌}
 use Rattle.std.specs.List.{flat_map}
 use Rattle.tc_base.specs.Names.{child}
@@ -13,34 +13,34 @@ use Rattle.order_formula.specs.declared.group.Group.TheVariants.{Child}
 use Rattle.lawful_order.specs.Events.{Of, all_events}
 use Rattle.order_events.specs.Parts.{of_each, comes_before, one_of}
 
--- whether an event is the end of its thread
+-- whether an event is the exit of its thread
 abbrev pub is_exit : EventKind → Bool
 is_exit kind.Exit = true
 is_exit _ = false
 
--- whether a thread is another's child of a number
+-- whether `thread` is the child `number` of `parent`
 abbrev pub is_child : (parent : Walk) → ℕ → Walk → Bool
 is_child parent number thread = bytes_eq thread.name (child parent.name number)
 
--- what f makes of each thread that is a thread's child of a number
+-- the results of f for each thread that is the child `number` of `parent`, concatenated
 abbrev pub of_children : {X : Type 0} → List Walk → (parent : Walk) → ℕ → (ℕ → Walk → List X) → List X
 of_children threads parent number f = of_each (λ c q. if is_child parent number q then f c q else []) threads
 
 module _ (events : List (Of Event)) where
-  -- a thread's create of a child comes before an event of the child
+  -- the create of the child c comes before its event x
   abbrev pub created_before : (t : ℕ) → Link → (c : ℕ) → Event → Conjunct
   created_before t l c x = one_of (Child c) (comes_before events t l.step c x.step ∷ [])
 
-  -- an event of a child comes before a thread's join
+  -- an event of the child c comes before the join
   abbrev pub exit_before : (t : ℕ) → Link → (c : ℕ) → Event → Literal
   exit_before t l c x = comes_before events c x.step t l.step
 
-  -- an end of the child does; where its path has none, no order has the join
+  -- an exit of the child c comes before the join; if its path has no exit, no order meets this
   abbrev pub exited_before : (t : ℕ) → Link → (c : ℕ) → Walk → Conjunct
   exited_before t l c q = one_of (Child c) (map (exit_before t l c) (filter (λ x. is_exit x.kind) q.events))
 
   module _ (threads : List Walk) where
-    -- what a create, a join, and all of both ask
+    -- the conjuncts of a create, of a join, and of all creates and joins of a thread
     abbrev pub created : (t : ℕ) → Walk → Link → List Conjunct
     created t parent l = of_children threads parent l.child (λ c q. map (created_before t l c) q.events)
 

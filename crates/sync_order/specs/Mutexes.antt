@@ -1,4 +1,4 @@
--- The conjuncts of mutexes: of two regions of one mutex, one ends before the other begins.
+-- Conjuncts for mutexes: of two regions of the same mutex, one ends before the other begins.
 use Rattle.std.specs.Prelude.{ℕ, List, [], ◌∷◌, ◌++◌, map, Bool, not, ◌&&◌, ◌==◌, option_to_list, if◌then◌else◌}
 use Rattle.std.specs.List.{flat_map}
 use Rattle.path_walk.specs.Paths.{Paths}
@@ -10,25 +10,25 @@ use Rattle.order_formula.specs.declared.group.Group.TheVariants.{Mutex}
 use Rattle.lawful_order.specs.Events.{Of, all_from, all_events}
 use Rattle.order_events.specs.Parts.{comes_before, one_of}
 
--- what f makes of each two elements, of which the first stands before the second
+-- the results of f for every two elements, in the order of the list, concatenated
 abbrev pub of_pairs : {A X : Type 0} → (A → A → List X) → List A → List X
 of_pairs f [] = []
 of_pairs f (x ∷ xs) = flat_map (f x) xs ++ of_pairs f xs
 
--- whether two regions are of one mutex and aren't the same
+-- whether two regions are distinct and of the same mutex
 abbrev pub exclude : Of Region → Of Region → Bool
 exclude r s = r.it.mutex == s.it.mutex && not (r.thread == s.thread && r.it.«from» == s.it.«from»)
 
 module _ (events : List (Of Event)) where
-  -- a step at which the first region ends comes before the second begins
+  -- the step k of the first region's thread comes before the second region begins
   abbrev pub left_at : Of Region → Of Region → ℕ → Literal
   left_at r s k = comes_before events r.thread k s.thread s.it.«from»
 
-  -- the step at which it ends does, if it has one
+  -- the first region ends before the second begins; no literal if the first has no end
   abbrev pub left_before : Of Region → Of Region → List Literal
   left_before r s = map (left_at r s) (option_to_list r.it.to)
 
-  -- one of them ends before the other begins
+  -- one of two regions ends before the other begins
   abbrev pub excludes : Of Region → Of Region → Conjunct
   excludes r s = one_of (Mutex r.it.mutex) (left_before r s ++ left_before s r)
 

@@ -1,4 +1,4 @@
--- The conjuncts of a deadlock: no thread that hasn't exited can go on at the end.
+-- Conjuncts for a deadlock: at the end, no thread that hasn't exited can go on.
 use Rattle.std.specs.Prelude.{ℕ, List, [], ◌∷◌, map, Bool, not, ◌&&◌, ◌==◌, is_none, option_to_list, if◌then◌else◌}
 use Rattle.std.specs.List.{list_any}
 use Rattle.path_walk.specs.Paths.{Walk, Paths}
@@ -22,38 +22,38 @@ use Rattle.sync_order.specs.Children.{is_child, is_exit}
 abbrev pub is_open : ℕ → Region → Bool
 is_open m r = r.mutex == m && is_none r.to
 
--- what is so always, by a case without literals, or never, without a case
+-- the cases of a constant: one without literals for true, none for false
 abbrev pub cases_if : Bool → List (List Literal)
 cases_if b = if b then [] ∷ [] else []
 
--- a signal or a broadcast doesn't end a sleep
+-- the literal that an ender doesn't end the sleep s
 abbrev pub unended_by : (s : ℕ) → Ender → Literal
 unended_by s g = fails (Ends s g.event)
 
 module _ (events : List (Of Event)) where
-  -- no signal and no broadcast of a condition ends a sleep
+  -- no ender of the condition c ends the sleep s
   abbrev pub unended : (s c : ℕ) → List Literal
   unended s c = map (unended_by s) (enders events c)
 
-  -- none of its condition ends a sleep, if a thread's step began it
+  -- no ender ends the sleep s, if the step `step` of the thread t begins it
   abbrev pub sleeping : (t step : ℕ) → (s : ℕ) → Of Sleep → List Literal
   sleeping t k s x = if x.thread == t && x.it.step == k then unended s x.it.condition else []
 
-  -- nothing ends the sleep that a thread's step began
+  -- no ender ends the sleep that a thread's step begins
   abbrev pub sleeps_on : List (Of Sleep) → (t step : ℕ) → List Literal
   sleeps_on sleeps t k = of_each (sleeping t k) sleeps
 
 module _ (threads : List Walk) where
-  -- whether a thread has the mutex at the end
+  -- whether a thread holds the mutex at the end
   abbrev pub is_held : ℕ → Bool
   is_held m = list_any (λ q. list_any (is_open m) q.regions) threads
 
-  -- whether a thread's child of a number has exited
+  -- whether the child `number` of `parent` has exited
   abbrev pub has_exited : (parent : Walk) → ℕ → Bool
   has_exited parent number = list_any (λ q. is_child parent number q && list_any (λ x. is_exit x.kind) q.events) threads
 
 module _ (paths : Paths) where
-  -- the cases in which a thread can't go on that is blocked there
+  -- the cases in which a blocked thread can't go on
   abbrev pub cannot_go_on : (t : ℕ) → Walk → Blocked → List (List Literal)
   cannot_go_on t q (Lock m) = cases_if (is_held paths.threads m)
   cannot_go_on t q (Wake c m k) =

@@ -1,4 +1,4 @@
--- The conjuncts of all that threads wait for: children, mutexes, conditions, and the end of a deadlock.
+-- Conjuncts for synchronisation: children, mutexes, conditions and deadlocks.
 use Rattle.std.specs.Prelude.{List, ◌++◌, Bool, true, false}
 use Rattle.path_walk.specs.Paths.{Paths}
 use Rattle.order_formula.specs.declared.formula.Conjunct.{Conjunct}
@@ -9,7 +9,7 @@ use Rattle.sync_order.specs.Children.{children_formula}
 use Rattle.sync_order.specs.Mutexes.{mutexes_formula}
 use Rattle.sync_order.specs.Stuck.{stuck_formula}
 
--- which groups are of synchronisation
+-- whether a group is about synchronisation
 abbrev pub is_sync : Group → Bool
 is_sync (Child t) = true
 is_sync (Mutex m) = true

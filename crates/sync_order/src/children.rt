@@ -1,4 +1,4 @@
-//! The create of a thread comes before all that it does, and its end before what joins it.
+//! The create of a thread comes before its events, and its exit before the join.
 ghost use Rattle.std.specs.Prelude.{◌≡◌, ◌++◌, flat_map, map, IfOk, OnOk};
 ghost use Rattle.order_events.specs.Parts.{of_each};
 ghost use Rattle.sync_order.specs.Children.{created, created_before, exited_before, is_child, is_exit, joined, links_formula};
@@ -8,7 +8,7 @@ use order_formula::{Conjunct, Group};
 use path_walk::{Event, EventKind, Link, Walk};
 use std::alloc::{AllocError, Global};
 
-/// The conjuncts of all creates and joins of threads.
+/// Appends the conjuncts of all creates and joins of threads.
 pub(crate) fn push_children(
     alloc: Global,
     events: &Events,
@@ -59,7 +59,7 @@ fn push_joins(
     Ok(())
 }
 
-/// A create comes before all events of the child.
+/// Appends that a create comes before all events of the child.
 fn push_created(
     alloc: Global,
     events: &Events,
@@ -87,7 +87,7 @@ fn push_created(
     Ok(())
 }
 
-/// A create comes before events of the child.
+/// Appends that a create comes before these events of the child.
 fn push_created_before(
     alloc: Global,
     events: &Events,
@@ -107,7 +107,7 @@ fn push_created_before(
     Ok(())
 }
 
-/// The end of the child comes before a join.
+/// Appends that the child's exit comes before a join.
 fn push_joined(
     alloc: Global,
     events: &Events,
@@ -127,7 +127,7 @@ fn push_joined(
     Ok(())
 }
 
-/// Some end of a thread comes before a join.
+/// An exit of the thread comes before a join.
 fn exited_before(
     alloc: Global,
     events: &Events,
@@ -147,14 +147,14 @@ fn exited_before(
     one_of(alloc, Group::Child { thread: child }, ends.as_slice())
 }
 
-/// Whether an event is the end of its thread.
+/// Whether an event is the exit of its thread.
 pub(crate) fn is_exit(kind: EventKind) -> bool
     ensures { result ≡ is_exit kind }
 {
     matches!(kind, EventKind::Exit)
 }
 
-/// Whether a thread is another's child of a number.
+/// Whether `thread` is the child `number` of `parent`.
 pub(crate) fn is_child(parent: &Walk, number: u32, thread: &Walk) -> bool
     ensures { result ≡ is_child parent.now number thread.now }
 {

@@ -1,4 +1,5 @@
-//! Laws of the formula of synchronisation. Each is a clause of a function that does nothing.
+//! Laws about the formula of synchronisation. Each law is the contract of a function with an empty
+//! body.
 ghost use Rattle.std.specs.Prelude.{◌≡◌, ℕ, List, length, Bool, true};
 ghost use Rattle.std.specs.List.{All, Contains};
 ghost use Rattle.tc_code.specs.Code.{Code};
@@ -17,19 +18,19 @@ ghost use Rattle.lawful_order.specs.Lawful.{IsWorldOf, MeetsRule};
 ghost use Rattle.lawful_order.specs.Whole.{AreWhole};
 ghost use Rattle.sync_order.specs.Sync.{is_sync, sync_formula};
 
-/// The conjuncts of a group are all true in a world exactly where it meets the rule of that group.
+/// All conjuncts of a group are true in a world exactly when it meets the rule of that group.
 pub fn sync_is_exact()
     ensures { (buffered : Bool) (bound : Binding) (code : Code) (paths : Paths) (symbolic : Symbolic) (nodes : List Node) (w : World) (g : Group)
         → IsWorldOf paths symbolic w → is_sync g ≡ true
         → IsExactly nodes w (sync_formula paths) g (MeetsRule buffered bound code paths symbolic nodes w g) }
 {}
 
-/// Each conjunct is of such a group.
+/// Each conjunct belongs to a group of synchronisation.
 pub fn sync_has_its_groups()
     ensures { (paths : Paths) (c : Conjunct) → Contains (sync_formula paths) c → is_sync c.group ≡ true }
 {}
 
-/// Of whole paths all events and sleeps that a conjunct names are there.
+/// If the paths are whole, all events and sleeps that a conjunct names exist.
 pub fn sync_is_of_the_order()
     ensures { (paths : Paths) (o : Order) → AreWhole paths → o.events ≡ length (all_events paths) → o.sleeps ≡ length (all_sleeps paths)
         → All (ConjunctIsIn o) (sync_formula paths) }

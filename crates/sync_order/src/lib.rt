@@ -1,4 +1,4 @@
-//! The rules of synchronisation as conjuncts of a formula: of children, of mutexes, of conditions, and of the end of a deadlock.
+//! The rules of synchronisation as conjuncts: children, mutexes, conditions and deadlocks.
 #![tactic(auto)]
 
 mod children;

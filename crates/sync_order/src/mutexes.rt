@@ -1,4 +1,4 @@
-//! A mutex is left before it is taken again.
+//! A mutex is released before it is taken again.
 ghost use Rattle.std.specs.Prelude.{◌≡◌, ◌++◌, flat_map, map, option_to_list, IfOk, OnOk};
 ghost use Rattle.lawful_order.specs.Events.{all_from};
 ghost use Rattle.sync_order.specs.Mutexes.{exclude, excludes, exclusive, left_before, of_pairs};
@@ -9,7 +9,7 @@ use path_walk::{Region, Walk};
 use std::alloc::{AllocError, Global};
 use std::marker::Model;
 
-/// A region of a thread, which is told by its place among the threads of the paths.
+/// A region of a thread, with the thread's index in the paths.
 #[derive(Debug, Drop)]
 struct PlacedRegion {
     thread: usize,
@@ -25,7 +25,7 @@ impl Model for PlacedRegion {
     ghost view = { λ p. record { thread = p.thread; it = p.region } };
 }
 
-/// The conjuncts of each two regions of one mutex.
+/// Appends the conjuncts of every two regions of the same mutex.
 pub(crate) fn push_mutexes(
     alloc: Global,
     events: &Events,
@@ -50,7 +50,7 @@ fn all_regions(alloc: Global, threads: &[Walk]) -> Result<Vec<PlacedRegion>, All
     Ok(all)
 }
 
-/// The regions of a thread.
+/// Appends the regions of a thread.
 fn push_regions(
     all: &mut Vec<PlacedRegion>,
     thread: usize,
@@ -67,7 +67,7 @@ fn push_regions(
     Ok(())
 }
 
-/// Each region with those after it.
+/// Appends the conjuncts of each region with all later ones.
 fn push_pairs(
     alloc: Global,
     events: &Events,
@@ -82,7 +82,7 @@ fn push_pairs(
     Ok(())
 }
 
-/// A region with some others.
+/// Appends the conjuncts of a region with some others.
 fn push_exclusive(
     alloc: Global,
     events: &Events,
@@ -100,7 +100,7 @@ fn push_exclusive(
     Ok(())
 }
 
-/// Whether two regions are of one mutex, and aren't the same.
+/// Whether two regions are distinct and of the same mutex.
 fn exclude(region: &PlacedRegion, other: &PlacedRegion) -> bool
     ensures { result ≡ exclude region.now other.now }
 {
@@ -127,7 +127,7 @@ fn excludes(
     one_of(alloc, Group::Mutex(region.region.mutex), ways.as_slice())
 }
 
-/// That the end of a region, if it has one, comes before the beginning of another.
+/// The literal that a region's end, if it has one, comes before the beginning of another.
 fn left_before(events: &Events, region: &PlacedRegion, other: &PlacedRegion) -> Option<Literal>
     ensures { option_to_list result ≡ left_before events.now region.now other.now }
 {

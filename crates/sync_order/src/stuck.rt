@@ -1,4 +1,4 @@
-//! No thread that hasn't exited can go on at the end of a deadlock.
+//! At the end of a deadlock, no thread that hasn't exited can go on.
 ghost use Rattle.std.specs.Prelude.{◌≡◌, ◌++◌, [], ◌∷◌, ◌<◌, ◌^◌, length, map, IfOk, OnOk};
 ghost use Rattle.std.specs.List.{list_any};
 ghost use Rattle.lawful_order.specs.Events.{all_events, all_sleeps};
@@ -12,7 +12,7 @@ use order_formula::{Atom, Body, Case, Cases, Conjunct, Group, Literal};
 use path_walk::{Blocked, Event, Paths, Region, Walk};
 use std::alloc::{AllocError, Global};
 
-/// The conjuncts of all threads that are blocked at the end.
+/// Appends the conjuncts of all threads that are blocked at the end.
 pub(crate) fn push_stuck(
     alloc: Global,
     paths: &Paths,
@@ -37,7 +37,7 @@ pub(crate) fn push_stuck(
     Ok(())
 }
 
-/// The cases in which a thread is blocked there for good.
+/// The cases in which a blocked thread can't go on.
 fn cannot_go_on(
     alloc: Global,
     paths: &Paths,
@@ -66,7 +66,7 @@ fn cannot_go_on(
     }
 }
 
-/// What is so always, or never.
+/// The cases of a constant, true or false.
 fn cases_if(alloc: Global, always: bool) -> Result<Cases, AllocError>
     ensures { IfOk result (λ cases. cases ≡ cases_if always) }
 {
@@ -85,7 +85,7 @@ fn one_case(alloc: Global, literals: Vec<Literal>) -> Result<Cases, AllocError>
     Ok(Cases::new(cases))
 }
 
-/// Whether a thread has the mutex at the end of its path.
+/// Whether a thread holds the mutex at the end.
 fn is_held(threads: &[Walk], mutex: u32) -> bool
     ensures { result ≡ is_held threads.now mutex }
 {
@@ -108,7 +108,7 @@ fn has_open(regions: &[Region], mutex: u32) -> bool
     false
 }
 
-/// Whether a thread's child of a number has exited.
+/// Whether the child `number` of `parent` has exited.
 fn has_exited(threads: &[Walk], parent: &Walk, number: u32) -> bool
     ensures { result ≡ has_exited threads.now parent.now number }
 {
@@ -131,7 +131,7 @@ fn has_exit(events: &[Event]) -> bool
     false
 }
 
-/// Nothing ends the sleep that a thread's step began.
+/// The literals that no ender ends the sleep that a thread's step begins.
 fn sleeps_on(
     alloc: Global,
     events: &Events,
@@ -152,7 +152,7 @@ fn sleeps_on(
     Ok(literals)
 }
 
-/// No signal and no broadcast ends a sleep.
+/// Appends the literals that no ender ends a sleep.
 fn push_unended(sleep: u32, enders: &[Ender], literals: &mut Vec<Literal>) -> Result<(), AllocError>
     ensures { OnOk result (literals.new.items ≡ literals.old.items ++ map (unended_by sleep) enders.now) }
 {

@@ -1,6 +1,6 @@
-//! All constraints of synchronisation.
+//! All conjuncts of synchronisation.
 ghost use Rattle.std.specs.Prelude.{◌≡◌, ◌≤◌, ◌<◌, ◌^◌, length, IfOk, OnOk};
-ghost use Rattle.tc_base.specs.declared.limits.TheConstants.{EVENTS};
+ghost use Rattle.tc_limits.specs.declared.limits.TheConstants.{EVENTS};
 ghost use Rattle.order_formula.specs.Orders.{Grows, with_formula};
 ghost use Rattle.lawful_order.specs.Events.{all_events, all_sleeps};
 ghost use Rattle.lawful_order.specs.Whole.{AreWhole};
@@ -15,10 +15,10 @@ use order_formula::{Conjunct, Formula, Order};
 use path_walk::Paths;
 use std::alloc::{AllocError, Global};
 
-/// What the paths' creates, joins, regions, sleeps and blocked threads ask of the order of their events. The order takes these
-/// questions.
+/// The conjuncts of the paths' creates, joins, regions, sleeps and blocked threads. Adds their
+/// questions to the order.
 ///
-/// The one error is want of memory; the order may have some of the questions then.
+/// Fails only if out of memory; the order may then have some of the questions.
 pub fn sync_constraints(
     alloc: Global,
     paths: &Paths,
@@ -32,7 +32,7 @@ pub fn sync_constraints(
     ensures asked { OnOk result (order.new ≡ with_formula order.old (sync_formula paths.now)) }
     ensures grows { Grows order.old order.new }
 {
-    // The order's count of sleeps has 32 bits, and so have their numbers.
+    // The order counts sleeps in 32 bits, so their numbers fit too.
     let _count = order.sleeps();
     let events = Events::of(alloc, paths)?;
     let sleeps = Sleeps::of(alloc, paths)?;

@@ -1,168 +1,28 @@
--- Store buffers, as the operations that the machine asks of them, and those of the three memory models.
-use Rattle.std.specs.Prelude.{
-  ℕ,
-  ◌==◌,
-  ℤ,
-  pos,
-  Bool,
-  true,
-  false,
-  not,
-  ◌&&◌,
-  Option,
-  Some,
-  None,
-  is_none,
-  unwrap_or,
-  List,
-  [],
-  ◌∷◌,
-  ◌++◌,
-  drop,
-  slice_index_or,
-  if◌then◌else◌,
-}
-use Rattle.std.specs.List.{list_all, last_or}
-use Rattle.std.specs.Option.{option_or}
-use Rattle.std.specs.Ordering.{nat_cmp}
-use Rattle.std.specs.FinMap as fin
-use Rattle.tc_base.specs.declared.model.Model.{Model}
-use Rattle.tc_base.specs.declared.model.Model.TheVariants.{Sc, Tso, Pso}
+-- The operations that the machine needs of a store buffer.
+use Rattle.std.specs.Prelude.{ℕ, ℤ, Bool, Option}
 
 -- a store on its way to memory
 pub record Entry : Type 0 where
   pub cell : ℕ
   pub value : ℤ
 
--- what a drain takes, and what it leaves
+-- the store that a drain takes out, and the buffer that is left
 pub record Drained (B : Type 0) : Type 0 where
   pub entry : Entry
   pub rest : B
 
--- the operations of a memory model, over the meaning of its buffer
+-- the operations of a memory model on buffers of type B
 pub record BufferOps (B : Type 0) : Type 0 where
-  -- whether a store goes into the buffer, and not to memory at once
+  -- whether stores go into the buffer instead of straight to memory
   pub buffered : Bool
   pub empty : B
   pub is_empty : B → Bool
-  -- puts a store at the end
+  -- adds a store at the end
   pub issue : B → ℕ → ℤ → B
-  -- the newest store to a cell
+  -- the value of the newest buffered store to a cell, if there is one
   pub forward : B → ℕ → Option ℤ
-  -- whether there is a store to drain by this form: none, or a cell
+  -- whether a store may drain in this form: None, or Some cell
   pub may_drain : B → Option ℕ → Bool
   pub drain : B → Option ℕ → Drained B
-  -- no store after it reaches memory before one that is there
+  -- adds a bar: no later store reaches memory before a store that is already buffered
   pub bar : B → B
-
--- a buffer that holds nothing
-abbrev pub NoBuffer : Type 0
-NoBuffer = Unit {0}
-
--- sequential consistency: no store is ever buffered
-abbrev pub no_buffer : BufferOps NoBuffer
-no_buffer = record {
-  buffered = false;
-  empty = tt;
-  is_empty = λ _. true;
-  issue = λ b _ _. b;
-  forward = λ _ _. None;
-  may_drain = λ _ _. false;
-  drain = λ b _. record { entry = record { cell = 0; value = pos 0 }; rest = b };
-  bar = λ b. b;
-}
-
-abbrev pub is_nil : {A : Type 0} → List A → Bool
-is_nil [] = true
-is_nil (x ∷ xs) = false
-
--- where nothing may drain, a drain takes this
-abbrev pub no_entry : Entry
-no_entry = record { cell = 0; value = pos 0 }
-
--- the value of the newest of these stores to a cell
-abbrev pub newest : List Entry → ℕ → Option ℤ
-newest [] c = None
-newest (e ∷ es) c = option_or (newest es c) (if e.cell == c then Some e.value else None)
-
--- total store order: one queue of stores, the oldest first
-abbrev pub fifo_buffer : BufferOps (List Entry)
-fifo_buffer = record {
-  buffered = true;
-  empty = [];
-  is_empty = λ b. is_nil b;
-  issue = λ b c v. b ++ record { cell = c; value = v } ∷ [];
-  forward = newest;
-  may_drain = λ b form. is_none form && not (is_nil b);
-  drain = λ b form. record { entry = slice_index_or b 0 no_entry; rest = drop 1 b };
-  bar = λ b. b;
-}
-
--- stores with no bar between them: of each cell that has any, their values, the oldest first
-abbrev pub Segment : Type 0
-Segment = fin.FinMap nat_cmp (List ℤ)
-
-abbrev pub values_to : Segment → ℕ → List ℤ
-values_to s c = unwrap_or (fin.get s c) []
-
--- the segment with other values to a cell
-abbrev pub with_values : Segment → ℕ → List ℤ → Segment
-with_values s c [] = fin.remove s c
-with_values s c (v ∷ vs) = fin.insert s c (v ∷ vs)
-
-abbrev pub has_no_store : Segment → Bool
-has_no_store s = fin.len s == 0
-
--- a store goes into the last segment
-abbrev pub issue_last : List Segment → ℕ → ℤ → List Segment
-issue_last [] c v = []
-issue_last (s ∷ []) c v = with_values s c (values_to s c ++ v ∷ []) ∷ []
-issue_last (s ∷ t ∷ ss) c v = s ∷ issue_last (t ∷ ss) c v
-
--- the last value to a cell, in the last segment that has one
-abbrev pub last_value : List Segment → ℕ → Option ℤ
-last_value [] c = None
-last_value (s ∷ ss) c = option_or (last_value ss c) (last_or None (values_to s c))
-
--- the values to a cell in the first segment that isn't empty
-abbrev pub first_values : List Segment → ℕ → List ℤ
-first_values [] c = []
-first_values (s ∷ ss) c = if has_no_store s then first_values ss c else values_to s c
-
--- the segments after the first of these values has drained
-abbrev pub drop_first : List Segment → ℕ → List Segment
-drop_first [] c = []
-drop_first (s ∷ ss) c = if has_no_store s then s ∷ drop_first ss c else with_values s c (drop 1 (values_to s c)) ∷ ss
-
-abbrev pub may_drain_cell : List Segment → Option ℕ → Bool
-may_drain_cell ss None = false
-may_drain_cell ss (Some c) = not (is_nil (first_values ss c))
-
-abbrev pub drain_cell : List Segment → Option ℕ → Drained (List Segment)
-drain_cell ss None = record { entry = no_entry; rest = ss }
-drain_cell ss (Some c) = record { entry = record { cell = c; value = slice_index_or (first_values ss c) 0 (pos 0) }; rest = drop_first ss c }
-
--- partial store order: segments with a bar between each two, the oldest first, and a queue for each cell
-abbrev pub cell_buffer : BufferOps (List Segment)
-cell_buffer = record {
-  buffered = true;
-  empty = fin.empty ∷ [];
-  is_empty = list_all has_no_store;
-  issue = issue_last;
-  forward = last_value;
-  may_drain = may_drain_cell;
-  drain = drain_cell;
-  bar = λ ss. ss ++ fin.empty ∷ [];
-}
-
--- what the buffer of a memory model is
-abbrev pub BufferOf : Model → Type 0
-BufferOf Sc = NoBuffer
-BufferOf Tso = List Entry
-BufferOf Pso = List Segment
-
--- and its operations
-abbrev pub buffer_of : (m : Model) → BufferOps (BufferOf m)
-buffer_of Sc = no_buffer
-buffer_of Tso = fifo_buffer
-buffer_of Pso = cell_buffer

@@ -1,7 +1,5 @@
-pub mod Arith
 pub mod Names
-pub mod Models
+pub mod Paths
 pub mod Buffers
 pub mod States
-pub mod Logs
 pub mod helpers

@@ -14,18 +14,18 @@ Name = List ℕ
 abbrev pub main : Name
 main = []
 
--- a thread's child of that number
+-- the name of a thread's child of that number
 abbrev pub child : Name → ℕ → Name
 child n k = n ++ k ∷ []
 
--- `0`, then a dot and the number of each create
+-- a name as text: `0`, then a dot and the number of each create
 abbrev pub name_text : Name → List ℕ
 name_text n = codes "0" ++ flat_map (λ child. codes "." ++ decimal child) n
 
--- names are ordered child by child, a prefix first
+-- the order of names: lexicographic, a prefix first
 abbrev pub by_name : Name → Name → Ordering
 by_name = slice_cmp nat_cmp
 
--- a finite map from names, in their order
+-- a finite map whose keys are names, in this order
 abbrev pub ByName : Type 0 → Type 0
 ByName X = FinMap by_name X

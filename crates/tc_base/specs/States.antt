@@ -6,25 +6,25 @@ use Rattle.std.specs.FinSet.{FinSet}
 use Rattle.tc_base.specs.Names.{Name, ByName}
 use Rattle.tc_base.specs.declared.handle.Handle.{Handle}
 
--- what a thread has to itself, but for its store buffer
+-- a thread's own state, except its store buffer
 pub record Local : Type 0 where
-  -- the number of its function, and of the instruction there that it does next
+  -- the number of its function, and of its next instruction in that function
   pub function : ℕ
   pub instruction : ℕ
   -- its int variables, and its thread variables
   pub slots : List ℤ
   pub handles : List Handle
-  -- of each mutex, whether it holds it
+  -- for each mutex, whether the thread holds it
   pub held : List Bool
-  -- how many threads it has created
+  -- how many threads this thread has created
   pub children : ℕ
   pub has_exited : Bool
-  -- of its branches, in order
+  -- the outcomes of its branches, in order
   pub outcomes : List Bool
-  -- how many instructions it has done, one that failed included
+  -- how many instructions the thread has executed, counting one that failed
   pub steps : ℕ
 
--- a thread, its buffer being a B
+-- a thread with a store buffer of type B
 pub record Thread (B : Type 0) : Type 0 where
   pub local : Local
   pub buffer : B
@@ -32,10 +32,10 @@ pub record Thread (B : Type 0) : Type 0 where
 pub record State (B : Type 0) : Type 0 where
   -- the value of each cell
   pub memory : List ℤ
-  -- the owner of each mutex
+  -- the owner of each mutex, if it has one
   pub owners : List (Option Name)
   -- the threads that wait on each condition
   pub waiters : List (FinSet (slice_cmp nat_cmp))
   pub threads : ByName (Thread B)
-  -- the thread whose assertion failed
+  -- the thread that failed, if one did
   pub failed : Option Name

@@ -1,2 +1,2 @@
--- No promise speaks of what stands in this folder.
+-- Helpers for proofs, which no public contract mentions.
 pub mod Codes

@@ -1,10 +1,10 @@
 //! How a logged run ended.
 
-/// What a log says of the end of its run.
+/// How a logged run ended.
 #[derive(Clone, Copy, Debug, PartialEq, Eq)]
 pub enum Failing {
-    /// The thread whose path has that place in the log failed.
+    /// A thread failed: the one whose path has this place in the log.
     Thread(usize),
-    /// No thread failed, nothing could go on, and not every thread had exited.
+    /// No thread failed, no move was enabled, and some thread hadn't exited.
     Deadlock,
 }

@@ -1,6 +1,7 @@
 //! Thread variables.
 
-/// What a thread variable holds. A child is told by the number of its create in its creator, from 1.
+/// The value of a thread variable. A child is known by the number of its create in its creator,
+/// from 1.
 #[derive(Clone, Copy, Debug, PartialEq, Eq)]
 pub enum Handle {
     /// Nothing yet.

@@ -4,10 +4,10 @@ use crate::ThreadName;
 /// One atomic move of the machine. A schedule is a list of moves.
 #[derive(Debug, PartialEq, Eq, Drop)]
 pub enum Move {
-    /// The thread does the instruction at its place.
+    /// The thread executes its next instruction.
     Run(ThreadName),
-    /// The first thread signals, and the second is the waiter that it wakes.
+    /// The first thread signals, and wakes the second, which waits.
     Wake(ThreadName, ThreadName),
-    /// A buffered store of the thread reaches memory: its oldest under TSO, its oldest to the cell under PSO.
+    /// A buffered store of the thread drains: its oldest (TSO), or its oldest to a cell (PSO).
     Drain(ThreadName, Option<u32>),
 }

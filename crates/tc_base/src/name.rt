@@ -14,8 +14,8 @@ use std::marker::Model;
 
 /// The name of a thread: the numbers of the creates, from 1, that lead from main to it.
 ///
-/// So main's has none, its first child's is 1, and a thread has the same name in every schedule. Names are
-/// ordered child by child, a prefix first.
+/// Main has no numbers, and its first child the number 1. A thread has the same name in every
+/// schedule. Names are ordered lexicographically, a prefix first.
 #[derive(Debug, Drop)]
 pub struct ThreadName {
     children: SmallVec<u32, 8>,
@@ -39,7 +39,7 @@ impl ThreadName {
         }
     }
 
-    /// The name of its child of that number, from 1.
+    /// The name of this thread's child of that number, from 1.
     pub fn child(&self, number: u32) -> Result<ThreadName, AllocError>
         requires { 1 ≤ number }
         ensures { IfOk result (λ name. name ≡ child self.now number) }

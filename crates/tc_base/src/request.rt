@@ -1,40 +1,40 @@
-//! What instructions ask.
+//! Requests of instructions.
 
-/// What an instruction asks of the memory and of the other threads. Each instruction asks for one thing at most.
+/// What an instruction asks of the memory and of the other threads: at most one thing.
 #[derive(Clone, Copy, Debug, PartialEq, Eq)]
 pub enum Request {
     /// Nothing: the thread goes on by itself.
     Silent,
-    /// The value of a cell.
+    /// Load a cell.
     Read(u32),
-    /// That a cell takes a value.
+    /// Store a value to a cell.
     Write(u32, i32),
-    /// That a cell takes the value, and what it had before.
+    /// Load a cell and store a value to it, in one step.
     Exchange(u32, i32),
-    /// What a cell has, and that it takes the second value where it has the first.
+    /// Load a cell and, if it has the first value, store the second to it, in one step.
     CompareExchange(u32, i32, i32),
-    /// That the thread's later stores reach memory after its earlier ones.
+    /// Make the thread's later stores reach memory after its earlier ones.
     Bar,
-    /// A mutex.
+    /// Acquire a mutex.
     Acquire(u32),
-    /// That a mutex is free.
+    /// Release a mutex.
     Release(u32),
-    /// To wait on a condition, and that a mutex is free.
+    /// Begin to wait on a condition, and release a mutex.
     BeginWait(u32, u32),
-    /// To wait no longer on a condition, and a mutex.
+    /// End a wait on a condition, once woken, and acquire a mutex.
     EndWait(u32, u32),
-    /// That a thread that waits on a condition is woken, if one does.
+    /// Wake one thread that waits on a condition, if there is one.
     WakeOne(u32),
-    /// That all who wait on a condition are woken.
+    /// Wake all threads that wait on a condition.
     WakeAll(u32),
-    /// A child that does a function.
+    /// Start a child that runs a function.
     Start(u32),
-    /// The end of the child of that number.
+    /// Wait until the child of that number has exited.
     Await(u32),
-    /// That all stores of the thread are in memory.
+    /// Wait until all stores of the thread are in memory.
     OrderStores,
-    /// The end of the thread.
+    /// End the thread.
     Finish,
-    /// The end of the run: a site is false.
+    /// End the run: the test of a site failed.
     Fail,
 }

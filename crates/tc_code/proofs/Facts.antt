@@ -4,7 +4,8 @@ use Rattle.std.specs.Prelude.{if◌then◌else◌}
 use Rattle.std.proofs.Common.{ap, subst, ◌∙◌}
 use Rattle.std.proofs.lemmas.Option.{none-some, same_Some, option_and_then_some}
 use Rattle.tc_base.specs.Buffers.{BufferOps}
-use Rattle.tc_base.specs.Logs.{ThreadPath, Log, place_in, failing_of}
+use Rattle.tc_base.specs.Paths.{ThreadPath, place_in}
+use Rattle.run_log.specs.Logs.{Log, failing_of}
 use Rattle.tc_base.specs.States.{Local, State}
 use Rattle.tc_base.specs.declared.failing.Failing.{Failing}
 use Rattle.tc_base.specs.declared.failing.Failing.TheVariants as failing

@@ -1,8 +1,8 @@
 -- The value of an expression is an int.
 use Rattle.std.proofs.Common.{ℤ, List}
 use Rattle.std.specs.List.{All}
-use Rattle.tc_base.specs.Arith.{IsInt}
-use Rattle.tc_base.proofs.Ints.{unary_int, binary_int, there_int}
+use Rattle.int_ops.specs.Arith.{IsInt}
+use Rattle.int_ops.proofs.Ints.{unary_int, binary_int, there_int}
 use Rattle.tc_code.specs.Expr.{Expr, Number, Slot, Unary, Binary, HasInts, value_of}
 
 -- over ints

@@ -4,14 +4,14 @@ use Rattle.tc_code.specs.declared.instr.Instr.{Instr}
 use Rattle.tc_code.specs.declared.code.Func.{Func}
 
 pub record Code : Type 0 where
-  -- the value of each cell at the start
+  -- the initial value of each cell
   pub memory : List ℤ
   pub mutexes : ℕ
   pub conditions : ℕ
-  -- main is the last
+  -- the functions, main last
   pub functions : List Func
 
--- the code of these parts
+-- code made of these parts
 abbrev pub code_of : List ℤ → ℕ → ℕ → List Func → Code
 code_of memory mutexes conditions functions = record { memory = memory; mutexes = mutexes; conditions = conditions; functions = functions }
 

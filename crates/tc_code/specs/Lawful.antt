@@ -1,10 +1,10 @@
--- Lawful code: what it keeps.
+-- Lawful code: the rules that it obeys.
 use Rattle.std.specs.Prelude.{◌≡◌, ℕ, zero, suc, ◌+◌, ◌-◌, ◌<◌, ◌≤◌, List, [], ◌∷◌, length, nat_lt, nat_le, ◌==◌}
 use Rattle.std.specs.Prelude.{Bool, true, false, not, ◌&&◌, ◌||◌, pos, IsTrue, Option, Some, None, slice_get}
 use Rattle.std.specs.List.{All, list_all, list_any}
 use Rattle.std.specs.Option.{option_map_or}
-use Rattle.tc_base.specs.Arith.{IsInt}
-use Rattle.tc_base.specs.declared.limits.TheConstants.{CELLS}
+use Rattle.int_ops.specs.Arith.{IsInt}
+use Rattle.tc_limits.specs.declared.limits.TheConstants.{CELLS}
 use Rattle.tc_code.specs.Expr.{Expr, HasInts, names_slots, names_slot}
 use Rattle.tc_code.specs.declared.instr.Instr.{Instr}
 use Rattle.tc_code.specs.declared.instr.Instr.TheVariants.{Set, Load, LoadAt, Store, StoreAt, Inside, Branch, Goto, Holds, Lock, Unlock, Sleep, Wake}
@@ -12,11 +12,11 @@ use Rattle.tc_code.specs.declared.instr.Instr.TheVariants.{Signal, Broadcast, Cr
 use Rattle.tc_code.specs.Code.{Code}
 use Rattle.tc_code.specs.declared.code.Func.{Func}
 
--- whether a function is there that has so many parameters
+-- whether function f exists and has n parameters
 abbrev pub takes : Code → ℕ → ℕ → Bool
 takes code f n = option_map_or (λ g. g.params == n) (slice_get code.functions f) false
 
--- whether all that an instruction of a function names is there, but for the target of a jump
+-- whether everything that an instruction names exists, except the target of a jump
 abbrev pub names_what_is : Code → Func → Instr → Bool
 names_what_is code f (Set k e) = nat_lt k f.ints && names_slots f.ints e
 names_what_is code f (Load k c) = nat_lt k f.ints && nat_lt c (length code.memory)
@@ -45,20 +45,20 @@ names_what_is code f Fence = true
 names_what_is code f Stbar = true
 names_what_is code f Exit = true
 
--- an array: its first cell, and how many it has
+-- an array: its first cell, and how many cells it has
 pub record Array : Type 0 where
   pub first : ℕ
   pub length : ℕ
 
--- whether a cell is none of an array's
+-- whether a cell is outside an array
 abbrev pub is_outside : ℕ → Array → Bool
 is_outside c a = nat_lt c a.first || nat_le (a.first + a.length) c
 
--- whether these cells are one of the arrays
+-- whether these cells are exactly one of the arrays
 abbrev pub is_array : List Array → (first length : ℕ) → Bool
 is_array arrays first n = list_any (λ a. a.first == first && a.length == n) arrays
 
--- whether the cell that an instruction names by number is no array's, and the array that it names is one
+-- whether each cell that an instruction names is in no array, and each array is one of these
 abbrev pub keeps_apart : List Array → Instr → Bool
 keeps_apart arrays (Load k c) = list_all (is_outside c) arrays
 keeps_apart arrays (LoadAt k a len i) = is_array arrays a len
@@ -97,7 +97,7 @@ exprs_of Fence = []
 exprs_of Stbar = []
 exprs_of Exit = []
 
--- whether an instruction goes only with the one directly before it
+-- whether an instruction belongs to the one directly before it, so that no jump may lead to it
 abbrev pub is_bound : Instr → Bool
 is_bound (Unlock m) = true
 is_bound (Sleep c m) = true
@@ -134,72 +134,72 @@ written Fence = None
 written Stbar = None
 written Exit = None
 
--- the place that an instruction may jump to, if there is one
+-- the target of an instruction that may jump
 abbrev pub target : Instr → Option ℕ
 target (Branch e to) = Some to
 target (Goto to) = Some to
 target _ = None
 
--- whether an instruction leaves the slots of an expression as they are
+-- whether an instruction writes no slot of the expression
 abbrev pub keeps : Expr → Instr → Bool
 keeps e i = option_map_or (λ k. not (names_slot k e)) (written i) true
 
--- an instruction stands directly before a place
+-- the instruction directly before place k is i
 abbrev pub StandsBefore : List Instr → ℕ → Instr → Type 0
 StandsBefore is zero i = ⊥
 StandsBefore is (suc k) i = slice_get is k ≡ Some i
 
--- a jump may lead to a place: an instruction is there, and doesn't go only with the one before it
+-- a jump may lead to place k: an instruction is there, and it isn't bound to the one before it
 pub record IsTarget (is : List Instr) (k : ℕ) : Type 0 where
   pub instr : Instr
   pub there : slice_get is k ≡ Some instr
   pub unbound : is_bound instr ≡ false
 
--- the test of an index at a place stands for the access at k: in between nothing writes a slot of the index, and a
--- jump that leads there comes from there
+-- the index test at a place guards the access at k: in between, nothing writes a slot of the index,
+-- and every jump that leads there also comes from there
 pub record Guards (is : List Instr) (len : ℕ) (index : Expr) (place k : ℕ) : Type 0 where
   pub before : place < k
   pub test : slice_get is place ≡ Some (Inside len index)
   pub kept : (at : ℕ) (i : Instr) → slice_get is at ≡ Some i → place < at → at < k → IsTrue (keeps index i)
   pub enters : (from to : ℕ) (i : Instr) → slice_get is from ≡ Some i → target i ≡ Some to → place < to → to ≤ k → (place < from) × (from < k)
 
--- the index of the access at k was tested
+-- some test guards the index of the access at k
 abbrev pub IsGuarded : List Instr → ℕ → Expr → ℕ → Type 0
 IsGuarded is len index k = (place : ℕ) × Guards is len index place k
 
 pub record IsLawfulFunction (code : Code) (f : Func) : Type 0 where
   -- each instruction has its line
   pub lines : length f.lines ≡ length f.instrs
-  -- parameters are slots
+  -- parameters are int slots
   pub params : f.params ≤ f.ints
-  -- all that an instruction names is there
+  -- everything that an instruction names exists
   pub names : (k : ℕ) (i : Instr) → slice_get f.instrs k ≡ Some i → IsTrue (names_what_is code f i)
-  -- each number of its expressions is an int
+  -- every number in its expressions is an int
   pub ints : (k : ℕ) (i : Instr) → slice_get f.instrs k ≡ Some i → All HasInts (exprs_of i)
-  -- a jump leads to an instruction, and not in between two that go together
+  -- a jump leads to an instruction that isn't bound to the one before it
   pub jump : (k to : ℕ) (i : Instr) → slice_get f.instrs k ≡ Some i → target i ≡ Some to → IsTarget f.instrs to
-  -- a mutex is left, and a wait begins, directly after the test that the thread holds the mutex
+  -- an unlock, or the start of a wait, directly follows the test that the thread holds the mutex
   pub unlock : (k m : ℕ) → slice_get f.instrs k ≡ Some (Unlock m) → StandsBefore f.instrs k (Holds m)
   pub sleep : (k c m : ℕ) → slice_get f.instrs k ≡ Some (Sleep c m) → StandsBefore f.instrs k (Holds m)
-  -- the two halves of a wait stand together
+  -- the two halves of a wait are adjacent
   pub wait : (k c m : ℕ) → slice_get f.instrs k ≡ Some (Sleep c m) → slice_get f.instrs (k + 1) ≡ Some (Wake c m)
   pub wake : (k c m : ℕ) → slice_get f.instrs k ≡ Some (Wake c m) → StandsBefore f.instrs k (Sleep c m)
-  -- a child is joined directly after the test that it can be
+  -- a join directly follows the test that the child can be joined
   pub join : (k h : ℕ) → slice_get f.instrs k ≡ Some (Join h) → StandsBefore f.instrs k (Ready h)
-  -- the index of an access was tested
+  -- the index of every array access is guarded by a test
   pub load : (k slot first len : ℕ) (index : Expr) → slice_get f.instrs k ≡ Some (LoadAt slot first len index) → IsGuarded f.instrs len index k
   pub store : (k first len : ℕ) (index value : Expr) → slice_get f.instrs k ≡ Some (StoreAt first len index value) → IsGuarded f.instrs len index k
   -- the last instruction is an exit, and no other is
   pub last : slice_get f.instrs (length f.instrs - 1) ≡ Some Exit
   pub only : (k : ℕ) → slice_get f.instrs k ≡ Some Exit → k + 1 ≡ length f.instrs
 
--- main is there, the last function, and has no parameters
+-- main exists: it is the last function, and has no parameters
 pub record HasMain (code : Code) : Type 0 where
   pub main : Func
   pub there : slice_get code.functions (length code.functions - 1) ≡ Some main
   pub params : main.params ≡ 0
 
--- memory has arrays and single cells: arrays lie one after another, begin with 0 in each element, and are named whole
+-- memory has single cells and arrays; arrays don't overlap, start as 0, and are named as a whole
 pub record HasArrays (code : Code) : Type 0 where
   pub arrays : List Array
   pub apart : (j k : ℕ) (a b : Array) → slice_get arrays j ≡ Some a → slice_get arrays k ≡ Some b → j < k → a.first + a.length ≤ b.first
@@ -209,7 +209,7 @@ pub record HasArrays (code : Code) : Type 0 where
 
 pub record IsLawful (code : Code) : Type 0 where
   pub cells : length code.memory ≤ CELLS
-  -- each cell has an int at the start
+  -- each cell starts as an int
   pub ints : All IsInt code.memory
   pub functions : (f : ℕ) (g : Func) → slice_get code.functions f ≡ Some g → IsLawfulFunction code g
   pub arrays : HasArrays code

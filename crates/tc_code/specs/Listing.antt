@@ -2,10 +2,10 @@
 use Rattle.std.specs.Prelude.{ℕ, List, [], ◌∷◌, ◌++◌, map, codes, zip, flat_map}
 use Rattle.std.specs.List.{enumerate_from}
 use Rattle.std.specs.Fmt.{decimal, signed_decimal}
-use Rattle.tc_base.specs.declared.arith.UnOp.{UnOp}
-use Rattle.tc_base.specs.declared.arith.UnOp.TheVariants as unary
-use Rattle.tc_base.specs.declared.arith.BinOp.{BinOp}
-use Rattle.tc_base.specs.declared.arith.BinOp.TheVariants as binary
+use Rattle.int_ops.specs.declared.arith.UnOp.{UnOp}
+use Rattle.int_ops.specs.declared.arith.UnOp.TheVariants as unary
+use Rattle.int_ops.specs.declared.arith.BinOp.{BinOp}
+use Rattle.int_ops.specs.declared.arith.BinOp.TheVariants as binary
 use Rattle.tc_code.specs.Expr.{Expr, Number, Slot, Unary, Binary}
 use Rattle.tc_code.specs.declared.instr.Instr.{Instr}
 use Rattle.tc_code.specs.declared.instr.Instr.TheVariants.{Set, Load, LoadAt, Store, StoreAt, Inside, Branch, Goto, Holds, Lock, Unlock, Sleep, Wake}
@@ -13,7 +13,7 @@ use Rattle.tc_code.specs.declared.instr.Instr.TheVariants.{Signal, Broadcast, Cr
 use Rattle.tc_code.specs.Code.{Code}
 use Rattle.tc_code.specs.declared.code.Func.{Func}
 
--- parts with a blank between any two
+-- the parts, separated by blanks
 abbrev pub spaced : List (List ℕ) → List ℕ
 spaced [] = []
 spaced (w ∷ []) = w
@@ -49,14 +49,14 @@ binary_text binary.Shr = codes ">>"
 abbrev pub slot_text : ℕ → List ℕ
 slot_text k = codes "$" ++ decimal k
 
--- an operator stands in brackets with what it takes
+-- an expression as text; an operator and its operands are in parentheses
 abbrev pub expr_text : Expr → List ℕ
 expr_text (Number n) = signed_decimal n
 expr_text (Slot k) = slot_text k
 expr_text (Unary op a) = codes "(" ++ (unary_text op ++ (expr_text a ++ codes ")"))
 expr_text (Binary op a b) = codes "(" ++ (spaced (expr_text a ∷ binary_text op ∷ expr_text b ∷ []) ++ codes ")")
 
--- an instruction's word, and then all that it names, by number
+-- an instruction as text: its word, then everything that it names, by number
 abbrev pub instr_text : Instr → List ℕ
 instr_text (Set k e) = spaced (codes "set" ∷ slot_text k ∷ expr_text e ∷ [])
 instr_text (Load k c) = spaced (codes "load" ∷ slot_text k ∷ decimal c ∷ [])
@@ -89,7 +89,7 @@ instr_text Exit = codes "exit"
 abbrev pub row_text : ℕ → ℕ → Instr → List ℕ
 row_text n line i = as_line (decimal n ∷ decimal line ∷ instr_text i ∷ [])
 
--- a row for each instruction; they are numbered from 0
+-- a row for each instruction, numbered from 0
 abbrev pub instrs_text : Func → List ℕ
 instrs_text f = flat_map (λ r. row_text r.0 r.1.0 r.1.1) (enumerate_from 0 (zip f.lines f.instrs))
 

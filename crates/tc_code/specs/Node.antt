@@ -1,4 +1,4 @@
--- What an expression of the program is seen as.
+-- The plain expression that an expression in memory represents.
 use Rattle.tc_code.specs.Expr as plain
 use Rattle.tc_code.specs.declared.expr.Node.{Node}
 use Rattle.tc_code.specs.declared.expr.Node.TheVariants.{Number, Slot, Unary, Binary}

@@ -4,7 +4,8 @@ use Rattle.std.specs.FinMap as map
 use Rattle.tc_base.specs.Names.{Name}
 use Rattle.tc_base.specs.Buffers.{BufferOps}
 use Rattle.tc_base.specs.States.{Thread, State}
-use Rattle.tc_base.specs.Logs.{Path, ThreadPath, Log, path_under}
+use Rattle.tc_base.specs.Paths.{Path, ThreadPath, path_under}
+use Rattle.run_log.specs.Logs.{Log}
 use Rattle.tc_base.specs.declared.failing.Failing.{Failing}
 use Rattle.tc_base.specs.declared.failing.Failing.TheVariants as failing
 use Rattle.tc_base.specs.declared.moves.Move.{Move}
@@ -15,18 +16,18 @@ use Rattle.tc_code.specs.Step.{step, opening}
 abbrev pub path_of : {B : Type 0} → Thread B → Path
 path_of t = record { outcomes = t.local.outcomes; steps = t.local.steps }
 
--- the path of the thread of a name, if there is one
+-- the path of the thread with this name, if there is one
 abbrev pub path_in : {B : Type 0} → State B → Name → Option Path
 path_in s n = option_map path_of (map.get s.threads n)
 
--- the thread of a name is there, and it hasn't exited
+-- the thread with this name exists and hasn't exited
 pub record IsLeft {B : Type 0} (s : State B) (n : Name) : Type 0 where
   pub thread : Thread B
   pub there : map.get s.threads n ≡ Some thread
   pub going : thread.local.has_exited ≡ false
 
 module _ {B : Type 0} (ops : BufferOps B) (code : Code) where
-  -- the steps in turn from a state, and nothing as soon as one is nothing
+  -- the state after these moves from a state, or None if a move isn't enabled
   abbrev pub run_from : State B → List Move → Option (State B)
   run_from s [] = Some s
   run_from s (m ∷ ms) = option_and_then (λ u. run_from u ms) (step ops code s m)
@@ -34,7 +35,7 @@ module _ {B : Type 0} (ops : BufferOps B) (code : Code) where
   abbrev pub run : List Move → Option (State B)
   run ms = run_from (opening ops code) ms
 
-  -- a state that some moves lead to
+  -- a reachable state: some moves lead to it
   pub record IsReached (s : State B) : Type 0 where
     pub moves : List Move
     pub leads : run moves ≡ Some s
@@ -45,12 +46,12 @@ module _ {B : Type 0} (ops : BufferOps B) (code : Code) where
     pub still : (m : Move) → step ops code s m ≡ None
     pub left : (n : Name) × IsLeft s n
 
-  -- the thread at a place has failed; or nothing can go on
+  -- the state ends as logged: the thread at this place has failed, or there is a deadlock
   abbrev pub EndsAs : Failing → List ThreadPath → State B → Type 0
   EndsAs (failing.Thread k) threads s = IsSomeAnd (slice_get threads k) (λ t. s.failed ≡ Some t.name)
   EndsAs failing.Deadlock threads s = IsStuck s
 
-  -- the moves lead to the end that the log tells of, and each thread goes as it went in the log
+  -- the moves reproduce the log: the run ends as logged, and each thread takes its logged path
   pub record Reproduces (log : Log) (moves : List Move) : Type 0 where
     pub state : State B
     pub leads : run moves ≡ Some state

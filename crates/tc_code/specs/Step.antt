@@ -7,7 +7,7 @@ use Rattle.std.specs.Ordering.{nat_cmp, int_eq}
 use Rattle.std.specs.Cmp.Lexicographic.{slice_cmp}
 use Rattle.std.specs.FinMap as fin
 use Rattle.std.specs.FinSet as set
-use Rattle.tc_base.specs.Arith.{is_distance}
+use Rattle.int_ops.specs.Arith.{is_distance}
 use Rattle.tc_base.specs.Names.{Name, main, child}
 use Rattle.tc_base.specs.Buffers.{BufferOps}
 use Rattle.tc_base.specs.States.{Local, Thread, State}
@@ -24,7 +24,7 @@ use Rattle.tc_code.specs.declared.instr.Instr.TheVariants.{Set, Load, LoadAt, St
 use Rattle.tc_code.specs.declared.instr.Instr.TheVariants.{Signal, Broadcast, Create, Ready, Join, Assert, Nonzero, InRange, Swap, Cas, Fence, Stbar, Exit}
 use Rattle.tc_code.specs.Code.{Code, instr_at}
 
--- a site asks for nothing where it is true
+-- the request of a site: nothing if its test holds, and failure if it doesn't
 abbrev pub site : Bool → Request
 site true = Silent
 site false = Fail
@@ -32,11 +32,11 @@ site false = Fail
 abbrev pub is_nonzero : ℤ → Bool
 is_nonzero n = not (int_eq n (pos 0))
 
--- whether an index is inside a length
+-- whether an index is within an array of this length
 abbrev pub is_within : ℕ → ℤ → Bool
 is_within len index = int_le (pos 0) index && int_lt index (pos len)
 
--- the cell at an index of the array that begins at a cell
+-- the cell at an index of the array that begins at cell `first`
 abbrev pub cell_at : ℕ → ℤ → ℕ
 cell_at first index = first + unsigned_abs index
 
@@ -49,12 +49,12 @@ holds t m = slice_index_or t.held m false
 abbrev pub handle_of : Local → ℕ → Handle
 handle_of t h = slice_index_or t.handles h Unset
 
--- whether it is a child that hasn't been joined
+-- whether a handle is a child that hasn't been joined
 abbrev pub can_be_joined : Handle → Bool
 can_be_joined (Child _) = true
 can_be_joined _ = false
 
--- the number of a child that hasn't been joined, and 0, which no child has, where it is none
+-- the number of a child that hasn't been joined; otherwise 0, which no child has
 abbrev pub child_number : Handle → ℕ
 child_number (Child k) = k
 child_number _ = 0
@@ -100,16 +100,16 @@ next t = record (stepped t) { instruction = t.instruction + 1 }
 abbrev pub jumped : Local → ℕ → Local
 jumped t to = record (stepped t) { instruction = to }
 
--- the thread after a branch: it keeps the outcome, and goes to the target where that is false
+-- the thread after a branch: it records the outcome, and jumps to the target if that is false
 abbrev pub branched : Local → Bool → ℕ → Local
 branched t true to = record (next t) { outcomes = t.outcomes ++ true ∷ [] }
 branched t false to = record (jumped t to) { outcomes = t.outcomes ++ false ∷ [] }
 
--- the thread after a step in which it takes a mutex, or leaves it
+-- the thread after a step that acquires or releases a mutex
 abbrev pub holding : Local → ℕ → Bool → Local
 holding t m b = record (next t) { held = slice_set t.held m b }
 
--- the thread after an instruction that didn't fail; v is the value that it takes from memory, if it takes one
+-- the thread after an instruction that didn't fail; v is the value loaded from memory, if any
 abbrev pub local_after : Local → Instr → ℤ → Local
 local_after t (Set k e) v = record (next t) { slots = slice_set t.slots k (value_in t e) }
 local_after t (Load k c) v = record (next t) { slots = slice_set t.slots k v }
@@ -138,20 +138,20 @@ local_after t Fence v = next t
 local_after t Stbar v = next t
 local_after t Exit v = record (next t) { has_exited = true }
 
--- the values that a create hands to the child
+-- the arguments that a create passes to the child
 abbrev pub arguments_of : Local → Instr → List ℤ
 arguments_of t (Create h f es) = map (value_in t) es
 arguments_of t _ = []
 
--- the instruction that a thread does next, and none once it has exited
+-- the next instruction of a thread, or None once it has exited
 abbrev pub instr_of : Code → Local → Option Instr
 instr_of code t = if t.has_exited then None else instr_at code t.function t.instruction
 
--- the state with one thread's part put in
+-- the state with this thread under its name
 abbrev pub with_thread : {B : Type 0} → State B → Name → Thread B → State B
 with_thread s n t = record s { threads = fin.insert s.threads n t }
 
--- a set of threads
+-- a set of names of threads
 abbrev pub NameSet : Type 0
 NameSet = set.FinSet (slice_cmp nat_cmp)
 
@@ -165,7 +165,7 @@ is_free s m = is_none (slice_index_or s.owners m None)
 abbrev pub in_memory : {B : Type 0} → State B → ℕ → ℤ
 in_memory s c = slice_index_or s.memory c (pos 0)
 
--- what a cell has after a compare-and-exchange: the new value where it had the expected one, and else what it had
+-- a cell after a compare-and-exchange: the new value if the old one is as expected, else unchanged
 abbrev pub replaced : ℤ → ℤ → ℤ → ℤ
 replaced old expected value = if int_eq old expected then value else old
 
@@ -193,7 +193,7 @@ is_event OrderStores = true
 is_event Finish = true
 is_event Fail = true
 
--- whether a request can only be met once all stores of the thread are in memory
+-- whether a request must wait until all stores of the thread are in memory
 abbrev pub drains_first : Request → Bool
 drains_first Silent = false
 drains_first (Read c) = false
@@ -213,7 +213,7 @@ drains_first OrderStores = true
 drains_first Finish = true
 drains_first Fail = false
 
--- whether the other threads let a request be met
+-- whether the mutexes, conditions and children allow a request
 abbrev pub is_let : {B : Type 0} → State B → Name → Request → Bool
 is_let s n Silent = true
 is_let s n (Read c) = true
@@ -241,34 +241,34 @@ abbrev pub handles_of : Code → ℕ → ℕ
 handles_of code f = option_map_or (λ g. g.handles) (slice_get code.functions f) 0
 
 module _ {B : Type 0} (ops : BufferOps B) where
-  -- whether the request may be met now
+  -- whether the request may be carried out now
   abbrev pub allows : State B → Name → Thread B → Request → Bool
   allows s n t r = (not (drains_first r) || ops.is_empty t.buffer) && is_let s n r
 
-  -- what a load takes: the thread's own newest store to the cell, and else memory
+  -- the value of a load: the thread's newest buffered store to the cell, otherwise memory
   abbrev pub loaded : State B → Thread B → ℕ → ℤ
   loaded s t c = unwrap_or (ops.forward t.buffer c) (in_memory s c)
 
-  -- the state in which the thread has done the instruction, having taken a value from memory
+  -- the state after the thread's instruction, which loaded v from memory
   abbrev pub done : State B → Name → Thread B → Instr → ℤ → State B
   done s n t i v = with_thread s n (record t { local = local_after t.local i v })
 
-  -- the same, of an instruction that takes none
+  -- the state after the thread's instruction, which loaded nothing
   abbrev pub did : State B → Name → Thread B → Instr → State B
   did s n t i = done s n t i (pos 0)
 
-  -- a store goes to memory, or into the thread's buffer where the model has buffers
+  -- the state after a store: to the thread's buffer if the model has buffers, otherwise to memory
   abbrev pub stored : State B → Name → Thread B → Instr → ℕ → ℤ → State B
   stored s n t i c v =
       if ops.buffered
       then with_thread s n (record { local = local_after t.local i (pos 0); buffer = ops.issue t.buffer c v })
       else record (did s n t i) { memory = slice_set s.memory c v }
 
-  -- the thread takes what the cell has, and the cell takes a value, in one step
+  -- the state after an exchange: in one step, the thread loads the cell and stores v to it
   abbrev pub exchanged : State B → Name → Thread B → Instr → ℕ → ℤ → State B
   exchanged s n t i c v = record (done s n t i (in_memory s c)) { memory = slice_set s.memory c v }
 
-  -- a thread at the start of a function: its first slots are the arguments, and all else is 0, unset and free
+  -- a new thread: its first slots are the arguments, and everything else is 0, unset or free
   abbrev pub born : Code → ℕ → List ℤ → Thread B
   born code f arguments = record {
     local = record {
@@ -285,7 +285,7 @@ module _ {B : Type 0} (ops : BufferOps B) where
     buffer = ops.empty;
   }
 
-  -- the state after a request is met
+  -- the state after a request is carried out
   abbrev pub perform : Code → State B → Name → Thread B → Instr → Request → State B
   perform code s n t i Silent = did s n t i
   perform code s n t i (Read c) = done s n t i (loaded s t c)
@@ -306,11 +306,11 @@ module _ {B : Type 0} (ops : BufferOps B) where
   perform code s n t i Finish = did s n t i
   perform code s n t i Fail = record (with_thread s n (record t { local = stepped t.local })) { failed = Some n }
 
-  -- a thread does an instruction, where its request may be met
+  -- the state after a thread's instruction, if its request is allowed
   abbrev pub run_of : Code → State B → Name → Thread B → Instr → Option (State B)
   run_of code s n t i = if allows s n t (request t.local i) then Some (perform code s n t i (request t.local i)) else None
 
-  -- a thread signals, and wakes a thread that waits on the condition
+  -- the state after thread n signals condition c and wakes thread u
   abbrev pub woken : State B → Name → Name → Thread B → ℕ → State B
   woken s n u t c = record (did s n t (Signal c)) { waiters = slice_set s.waiters c (set.remove (waiting_on s c) u) }
 
@@ -318,7 +318,7 @@ module _ {B : Type 0} (ops : BufferOps B) where
   wake_of s n u t (Signal c) = if ops.is_empty t.buffer && set.contains (waiting_on s c) u then Some (woken s n u t c) else None
   wake_of s n u t _ = None
 
-  -- a buffered store reaches memory
+  -- the state after a buffered store of the thread reaches memory
   abbrev pub drained : State B → Name → Thread B → Option ℕ → State B
   drained s n t form =
       let out = ops.drain t.buffer form in
@@ -327,17 +327,17 @@ module _ {B : Type 0} (ops : BufferOps B) where
   abbrev pub drain_of : State B → Name → Thread B → Option ℕ → Option (State B)
   drain_of s n t form = if ops.may_drain t.buffer form then Some (drained s n t form) else None
 
-  -- a move, where no thread has failed yet
+  -- the state after a move, if it is enabled, where no thread has failed yet
   abbrev pub move_of : Code → State B → Move → Option (State B)
   move_of code s (move.Run n) = option_and_then (λ t. option_and_then (run_of code s n t) (instr_of code t.local)) (fin.get s.threads n)
   move_of code s (move.Wake n u) = option_and_then (λ t. option_and_then (wake_of s n u t) (instr_of code t.local)) (fin.get s.threads n)
   move_of code s (move.Drain n form) = option_and_then (λ t. drain_of s n t form) (fin.get s.threads n)
 
-  -- the state after a move, or nothing where the move isn't enabled; after a failure none is
+  -- the state after a move, or None if it isn't enabled; after a failure, no move is
   abbrev pub step : Code → State B → Move → Option (State B)
   step code s m = if is_some s.failed then None else move_of code s m
 
-  -- main alone, at its first instruction; all mutexes are free, and nobody waits
+  -- the initial state: only main, at its first instruction; mutexes are free, and no thread waits
   abbrev pub opening : Code → State B
   opening code = record {
     memory = code.memory;

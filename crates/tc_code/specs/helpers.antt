@@ -1,4 +1,4 @@
--- No promise speaks of what stands in this folder.
+-- Helpers for proofs, which no public contract mentions.
 pub mod CodedExpr
 pub mod Falls
 pub mod CodedCode

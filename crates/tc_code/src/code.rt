@@ -7,12 +7,12 @@ ghost use Rattle.tc_code.specs.Lawful.{IsLawful};
 use crate::{FuncName, Instr, Instrs, Lines};
 use std::marker::Model;
 
-/// A function, which a thread does from its first instruction on.
+/// A function, which a thread executes from its first instruction on.
 #[derive(Debug, Drop)]
 pub struct Func {
     /// Its name in the text.
     pub name: FuncName,
-    /// How many of the int slots, from the first on, are parameters.
+    /// How many of its int slots, the first ones, are parameters.
     pub params: u32,
     /// How many int slots it has.
     pub ints: u32,
@@ -20,21 +20,22 @@ pub struct Func {
     pub handles: u32,
     /// The instructions, in order.
     pub instrs: Instrs,
-    /// The line of each instruction: that of the first token of its statement, and of the closing brace for the exit.
+    /// The line of each instruction: that of its statement's first token, or of the closing brace
+    /// for the exit.
     pub lines: Lines,
 }
 
 /// Lawful code, in which
 /// - each instruction has its line;
-/// - memory has at most `CELLS` cells, and ints in them, as each number of an expression is one;
-/// - arrays lie apart from each other and from the cells that are named by number, and begin with 0 in each element;
-/// - all that an instruction names is there;
-/// - a child's function has as many parameters as it is given arguments, and parameters are slots;
-/// - a mutex is left, and a wait begins, directly after the test that the thread holds the mutex;
-/// - the second half of a wait stands directly after the first;
-/// - a child is joined directly after the test that it can be;
-/// - no jump leads in between two that stand together like this;
-/// - the index of an access was tested, and hasn't changed since;
+/// - memory has at most `CELLS` cells, and each cell and each number of an expression is an int;
+/// - arrays overlap neither each other nor the cells that are named by number, and start as 0;
+/// - everything that an instruction names exists;
+/// - a create passes as many arguments as its function has parameters; parameters are int slots;
+/// - an unlock, or the start of a wait, directly follows the test that the thread holds the mutex;
+/// - the second half of a wait directly follows the first;
+/// - a join directly follows the test that the child can be joined;
+/// - no jump leads between two instructions that belong together like this;
+/// - the index of an array access was tested, and hasn't changed since;
 /// - the first exit of a function is its last instruction;
 /// - main is the last function, and has no parameters.
 #[derive(Debug, Drop)]
@@ -61,9 +62,9 @@ impl Model for Code {
 }
 
 impl Code {
-    /// The code of these cells, by their values at the start, so many mutexes and conditions, and these functions.
+    /// The code with these initial cell values, numbers of mutexes and conditions, and functions.
     ///
-    /// Nothing is tested: whoever makes code proves that it is lawful.
+    /// Nothing is tested at run time: the caller proves that the code is lawful.
     pub fn new(memory: Vec<i32>, mutexes: u32, conditions: u32, functions: Vec<Func>) -> Code
         requires { IsLawful (code_of memory.items mutexes conditions functions.items) }
         ensures { result ≡ code_of memory.items mutexes conditions functions.items }
@@ -76,7 +77,7 @@ impl Code {
         }
     }
 
-    /// The value of each cell at the start.
+    /// The initial value of each cell.
     pub fn memory(&self) -> &[i32]
         ensures { result.now ≡ self.now.memory }
     {

@@ -3,8 +3,8 @@ ghost use Rattle.std.specs.Prelude.{◌≡◌};
 ghost use Rattle.tc_code.specs.Listing.{unary_text, binary_text};
 
 use crate::{Expr, Exprs, Instr, Node};
+use int_ops::{BinOp, UnOp};
 use std::fmt;
-use tc_base::{BinOp, UnOp};
 
 fn unary_text(op: UnOp) -> &'static str
     ensures { result.now ≡ unary_text op }
@@ -39,7 +39,7 @@ fn binary_text(op: BinOp) -> &'static str
     }
 }
 
-/// An operator stands in brackets with what it takes, so the text needs no rule on what binds more tightly.
+/// An operator and its operands are in parentheses, so the text needs no rules of precedence.
 impl fmt::Display for Expr {
     ghost use Rattle.std.specs.Prelude.{Some};
     ghost use Rattle.tc_code.specs.Listing.{expr_text};
@@ -84,7 +84,7 @@ impl fmt::Display for Exprs {
     }
 }
 
-/// The instruction's word, and then all that it names, by number.
+/// The instruction's word, and then everything that it names, by number.
 impl fmt::Display for Instr {
     ghost use Rattle.std.specs.Prelude.{Some};
     ghost use Rattle.tc_code.specs.Listing.{instr_text};

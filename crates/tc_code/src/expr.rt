@@ -3,9 +3,9 @@ ghost use Rattle.std.specs.Prelude.{◌≡◌, length, IsTrue, IfOk};
 ghost use Rattle.tc_code.specs.Expr.{value_of, names_slots};
 ghost use Rattle.tc_code.specs.Expr as plain;
 
+use int_ops::{BinOp, UnOp, arith};
 use std::alloc::{AllocError, Global};
 use std::marker::Model;
-use tc_base::{BinOp, UnOp, arith};
 
 /// An expression over the int slots of a thread.
 #[cycle(expr)]
@@ -89,7 +89,7 @@ impl Expr {
     }
 }
 
-/// The value of an expression, over these slots.
+/// The value of an expression, given the values of the slots.
 pub fn value(e: &Expr, slots: &[i32]) -> i32
     requires { IsTrue (names_slots (length slots.now) e.now) }
     ensures { result ≡ value_of e.now slots.now }
@@ -106,7 +106,7 @@ pub fn value(e: &Expr, slots: &[i32]) -> i32
     }
 }
 
-/// Expressions, one after another.
+/// Expressions, in order.
 #[derive(Debug, Drop)]
 pub struct Exprs {
     exprs: Vec<Expr>,
@@ -133,7 +133,7 @@ impl Exprs {
         Exprs { exprs }
     }
 
-    /// The expressions, one after another.
+    /// The expressions, in order.
     pub fn as_slice(&self) -> &[Expr]
         ensures { result.now ≡ self.now }
     {

@@ -4,125 +4,126 @@ ghost use Rattle.std.specs.Prelude.{◌≡◌, ◌+◌, ◌<◌, ◌^◌, OnSome
 use crate::{Expr, Exprs};
 use std::marker::Model;
 
-/// An instruction of a thread. A site is one that only tests something, and fails where that is false.
+/// An instruction of a thread. A site only tests something, and fails if that is false.
 #[derive(Debug, Drop)]
 pub enum Instr {
-    /// The slot takes the value.
+    /// Sets the slot to the value.
     Set {
         slot: u32,
         value: Expr,
     },
-    /// The slot takes the value of the cell.
+    /// Loads the cell into the slot.
     Load {
         slot: u32,
         cell: u32,
     },
-    /// The slot takes the value at the index of the array that begins at cell `first`.
+    /// Loads the element at the index, of the array that begins at cell `first`, into the slot.
     LoadAt {
         slot: u32,
         first: u32,
         length: u32,
         index: Expr,
     },
-    /// The cell takes the value.
+    /// Stores the value to the cell.
     Store {
         cell: u32,
         value: Expr,
     },
-    /// The array that begins at cell `first` takes the value at the index.
+    /// Stores the value to the element at the index, of the array that begins at cell `first`.
     StoreAt {
         first: u32,
         length: u32,
         index: Expr,
         value: Expr,
     },
-    /// A site, which fails where the index isn't inside an array of that length.
+    /// A site, which fails if the index isn't inside an array of that length.
     Inside {
         length: u32,
         index: Expr,
     },
-    /// Where the value isn't 0 the thread goes on, and else it goes to the instruction of that number. It keeps
-    /// which of the two it did.
+    /// Goes on if the value isn't 0, and otherwise jumps to the instruction with that number. The
+    /// thread records which of the two it did.
     Branch {
         condition: Expr,
         target: u32,
     },
-    /// The thread goes to the instruction of that number.
+    /// Jumps to the instruction with that number.
     Goto {
         target: u32,
     },
-    /// A site, which fails where the thread doesn't hold the mutex.
+    /// A site, which fails if the thread doesn't hold the mutex.
     Holds {
         mutex: u32,
     },
-    /// The thread takes the mutex, once nobody has it.
+    /// Acquires the mutex, once it is free.
     Lock {
         mutex: u32,
     },
-    /// The thread leaves the mutex.
+    /// Releases the mutex.
     Unlock {
         mutex: u32,
     },
-    /// The first half of a wait: the thread leaves the mutex, and waits on the condition.
+    /// The first half of a wait: releases the mutex, and begins to wait on the condition.
     Sleep {
         condition: u32,
         mutex: u32,
     },
-    /// The second half of a wait: once it was woken, the thread takes the mutex again.
+    /// The second half of a wait: once woken, acquires the mutex again.
     Wake {
         condition: u32,
         mutex: u32,
     },
-    /// One thread that waits on the condition is woken, if there is one.
+    /// Wakes one thread that waits on the condition, if there is one.
     Signal {
         condition: u32,
     },
-    /// All threads that wait on the condition are woken.
+    /// Wakes all threads that wait on the condition.
     Broadcast {
         condition: u32,
     },
-    /// The handle takes a new child, which does the function with these parameters.
+    /// Sets the handle to a new child, which runs the function with these arguments.
     Create {
         handle: u32,
         function: u32,
         arguments: Exprs,
     },
-    /// A site, which fails where the handle is no child, or one that was joined.
+    /// A site, which fails if the handle isn't a child, or is one that was joined.
     Ready {
         handle: u32,
     },
-    /// The thread waits for the end of the child, which is then joined.
+    /// Waits until the child has exited; the child is joined then.
     Join {
         handle: u32,
     },
-    /// A site, which fails where the value is 0.
+    /// A site, which fails if the value is 0.
     Assert(Expr),
-    /// A site, which fails where the value is 0: a divisor must not be.
+    /// A site, which fails if the value is 0: a divisor must not be.
     Nonzero(Expr),
-    /// A site, which fails where the value is below 0 or above 31: the distance of a shift must not be.
+    /// A site, which fails if the value is below 0 or above 31: a shift distance must not be.
     InRange(Expr),
-    /// The slot takes the value of the cell, and the cell takes the value, at once.
+    /// Loads the cell into the slot and stores the value to the cell, in one step.
     Swap {
         slot: u32,
         cell: u32,
         value: Expr,
     },
-    /// The slot takes the value of the cell, and where that is the expected one the cell takes the value, at once.
+    /// Loads the cell into the slot and, if it had the expected value, stores the new one, in one
+    /// step.
     Cas {
         slot: u32,
         cell: u32,
         expected: Expr,
         value: Expr,
     },
-    /// The thread waits until all its stores are in memory.
+    /// Waits until all stores of the thread are in memory.
     Fence,
-    /// The thread's later stores reach memory after its earlier ones.
+    /// Makes the thread's later stores reach memory after its earlier ones.
     Stbar,
-    /// The thread ends.
+    /// Ends the thread.
     Exit,
 }
 
-/// Instructions, one after another.
+/// Instructions, in order.
 #[derive(Debug, Drop)]
 pub struct Instrs {
     instrs: Vec<Instr>,
@@ -149,7 +150,7 @@ impl Instrs {
         Instrs { instrs }
     }
 
-    /// The instructions, one after another.
+    /// The instructions, in order.
     pub fn as_slice(&self) -> &[Instr]
         ensures { result.now ≡ self.now }
     {

@@ -1,4 +1,4 @@
-//! Flat code: what a program's functions are lowered to, and what it means.
+//! Flat code: what a program is lowered to, and what that means.
 #![tactic(auto)]
 
 mod code;

@@ -1,9 +1,9 @@
-//! What code keeps of the text that it was lowered from.
+//! What code keeps of its text: names and lines.
 ghost use Rattle.std.specs.Prelude.{◌≡◌};
 
 use std::marker::Model;
 
-/// The name of a function, as the text has it.
+/// The name of a function, as in the text.
 #[derive(Debug, Drop)]
 pub struct FuncName {
     bytes: Vec<u8>,
@@ -21,7 +21,7 @@ impl Model for FuncName {
 }
 
 impl FuncName {
-    /// The name of these bytes.
+    /// The name with these bytes.
     pub fn new(bytes: Vec<u8>) -> FuncName
         ensures { result ≡ bytes.items }
     {

@@ -9,21 +9,21 @@ use Rattle.tc_tree.specs.Grammar.{Program}
 use Rattle.tc_compile.specs.declared.fault.CompileFault.{CompileFault}
 use Rattle.tc_compile.specs.declared.fault.CompileFault.TheVariants.{Refused, Memory}
 
--- programs are those of language 3
+-- the language of the programs that are compiled
 abbrev pub language : ℕ
 language = 3
 
--- the code of the program that the text is
+-- the text is a program, and this is its code
 pub record IsCodeOf (bytes : List ℕ) (code : Code) : Type 0 where
   pub program : Program
   pub is : IsProgram language bytes program
   pub lowers : code ≡ code_of bytes program
 
--- the text is no program, by this fault
+-- the text isn't a program: it has this fault
 abbrev pub IsRefusal : List ℕ → TextFault → Type 0
 IsRefusal bytes fault = IsTextFault language bytes fault
 
--- why the text has no code
+-- why the text has no code: it has a fault, or memory ran out
 abbrev pub IsWhyNoCode : List ℕ → CompileFault → Type 0
 IsWhyNoCode bytes (Refused fault) = IsRefusal bytes fault
 IsWhyNoCode bytes Memory = Unit {0}

@@ -9,9 +9,9 @@ use tc_parser::{ParseFault, TextFault};
 /// Why a text has no code.
 #[derive(Clone, Copy, Debug, PartialEq, Eq)]
 pub enum CompileFault {
-    /// It is no program.
+    /// The text isn't a program.
     Refused(TextFault),
-    /// There is no memory.
+    /// Memory ran out.
     Memory,
 }
 

@@ -1,4 +1,4 @@
-//! From a program's text to its flat code, or to the one reason why it has none.
+//! From a program's text to its flat code, or to the one fault that it has.
 #![tactic(auto)]
 
 mod fault;

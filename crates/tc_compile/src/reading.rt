@@ -1,6 +1,6 @@
 //! From a program's text to its flat code.
 ghost use Rattle.std.specs.Prelude.{◌≤◌, length, IfOk, IfErr};
-ghost use Rattle.tc_base.specs.declared.limits.TheConstants.{PROGRAM_BYTES};
+ghost use Rattle.tc_limits.specs.declared.limits.TheConstants.{PROGRAM_BYTES};
 ghost use Rattle.tc_compile.specs.Programs.{IsCodeOf, IsWhyNoCode};
 
 use crate::fault::CompileFault;
@@ -11,7 +11,7 @@ use tc_parser::read;
 
 /// The code of the program of this text.
 ///
-/// A text has one code or one refusal, so the answer is the only one that there is, but for want of memory.
+/// A text has one code or one refusal, so only one answer is right, except that memory may run out.
 pub fn compile(alloc: Global, text: &[u8]) -> Result<Code, CompileFault>
     requires { length text.now ≤ PROGRAM_BYTES }
     ensures found { IfOk result (IsCodeOf text.now) }

@@ -1,4 +1,4 @@
-//! Readers of a word, and of the front of a text.
+//! Reads numbers from a word, and from the front of a text.
 ghost use Rattle.std.specs.Prelude.{◌≡◌, ◌<◌, ◌≤◌, ◌^◌, length, option_map, IsTrue, IfSome};
 ghost use Rattle.std.specs.List.{list_all, prefix_len};
 ghost use Rattle.std.specs.Option.{SomeIff};
@@ -7,7 +7,7 @@ ghost use Rattle.tc_decimal.specs.Decimals.{is_digit, leads_with_zero, number_of
 
 use std::str;
 
-/// The number up to `last` that a word writes: `0`, or digits of which the first is no `0`.
+/// The number that a word writes, at most `last`: `0`, or digits that don't begin with `0`.
 pub fn number_of(last: u32, word: &[u8]) -> Option<u32>
     ensures number { result ≡ number_of last word.now }
     ensures within { IfSome result (λ number. number ≤ last) }
@@ -19,7 +19,7 @@ pub fn number_of(last: u32, word: &[u8]) -> Option<u32>
     if number <= last { Some(number) } else { None }
 }
 
-/// The number from `low` to `last` at the front of a text, and what stands behind it.
+/// The number from `low` to `last` at the front of a text, and the text after it.
 #[tactic(auto, unfolding(crate::specs::Decimals::number_at))]
 pub fn number_at(low: u32, last: u32, text: &[u8]) -> Option<(u32, &[u8])>
     ensures number { option_map (λ x. (x.0, x.1.now)) result ≡ number_at low last text.now }
@@ -35,7 +35,7 @@ pub fn number_at(low: u32, last: u32, text: &[u8]) -> Option<(u32, &[u8])>
     }
 }
 
-/// How many digits stand at the front.
+/// How many digits the text begins with.
 fn digits_len(text: &[u8]) -> usize
     ensures len { result ≡ prefix_len is_digit text.now }
     ensures within { result ≤ length text.now }
@@ -55,7 +55,7 @@ fn leads_with_zero(word: &[u8]) -> bool
     matches!(word, [b'0', _, ..])
 }
 
-/// The value of some digits, if it has 32 bits.
+/// The value of some digits, if it fits 32 bits.
 fn value_of(digits: &[u8]) -> Option<u32>
     requires { IsTrue (list_all is_digit digits.now) }
     ensures { SomeIff result ((0 < length digits.now) × (digits_value 10 digits.now < 2 ^ 32)) (digits_value 10 digits.now) }

@@ -1,6 +1,6 @@
 -- In a program no two comparisons stand side by side.
 use Rattle.std.proofs.Common.{◌≡◌, Bool, true, false, List, [], ◌∷◌, refl}
-use Rattle.tc_base.specs.declared.arith.UnOp.TheVariants.{Neg, Not, Inv}
+use Rattle.int_ops.specs.declared.arith.UnOp.TheVariants.{Neg, Not, Inv}
 use Rattle.tc_lexer.specs.declared.token.Keyword.TheVariants as keyword
 use Rattle.tc_lexer.specs.declared.token.Sign.TheVariants as sign
 use Rattle.tc_tree.specs.declared.expression.Name.{Name}

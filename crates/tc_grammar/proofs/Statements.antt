@@ -1,7 +1,7 @@
 -- Words begin with one statement at most.
 use Rattle.std.proofs.Common.{◌≡◌, true, false, List, ◌∷◌, drop, refl, sym, ap}
 use Rattle.std.specs.Prelude.{None}
-use Rattle.tc_base.specs.declared.place.Place.{Place}
+use Rattle.tc_lexer.specs.declared.place.Place.{Place}
 use Rattle.tc_lexer.specs.declared.token.Keyword.{Keyword as AnyKeyword}
 use Rattle.tc_lexer.specs.declared.token.Keyword.TheVariants as keyword
 use Rattle.tc_lexer.specs.declared.token.Sign.{Sign}

@@ -3,13 +3,13 @@ ghost use Rattle.std.specs.Prelude.{◌≡◌, ◌≤◌, ◌⊎◌, ℕ, List};
 ghost use Rattle.tc_tree.specs.declared.word.Word.{Word as OneWord};
 ghost use Rattle.tc_tree.specs.Grammar.{Program as OneProgram, AreOf, IsSpelled, IsSyntaxFault};
 
-/// Words are one program at most: the grammar, with its precedence, gives them no second tree.
+/// Words are at most one program: with its precedence, the grammar is unambiguous.
 pub fn words_are_one_program()
     ensures { (language : ℕ) (words : List OneWord) (this that : OneProgram)
         → IsSpelled language words this → IsSpelled language words that → this ≡ that }
 {}
 
-/// Words are a program or have a fault, at one word or at their end, and never both.
+/// Words are a program or have one fault, at a word or at their end, and never both.
 pub fn words_have_one_fault()
     ensures some { (words : List OneWord)
         → ((program : OneProgram) × IsSpelled 3 words program) ⊎ ((k : ℕ) × IsSyntaxFault 3 words k) }

@@ -1,4 +1,4 @@
-//! Laws of the grammar: words are one program at most, and else they have one fault.
+//! Laws of the grammar: words are at most one program, and otherwise have one fault.
 #![tactic(auto)]
 
 mod laws;

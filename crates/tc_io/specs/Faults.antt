@@ -4,16 +4,16 @@ use Rattle.tc_io.specs.declared.faults.Access.{Access}
 use Rattle.tc_io.specs.declared.faults.Access.TheVariants.{Read, Write}
 use Rattle.tc_io.specs.Outside.{Fault, Reading, Writing}
 
--- how often it failed, and the call that failed last
+-- how many calls failed, and the last that did
 pub record PlainFaults : Type 0 where
   pub count : ℕ
   pub last : Option Fault
 
--- before the first call
+-- no call has failed
 abbrev pub no_faults : PlainFaults
 no_faults = record { count = 0; last = None }
 
--- a call with a name, as it stands where it failed
+-- the fault of a failed call on this name
 abbrev pub fault_of : Access → List ℕ → Fault
 fault_of Read name = Reading name
 fault_of Write name = Writing name

@@ -4,29 +4,29 @@ use Rattle.std.specs.Io.KnownBytes.{Consumes, IsAtEnd}
 use Rattle.tc_io.specs.Faults.{PlainFaults, no_faults}
 use Rattle.tc_io.specs.Outside.{ShelfTells, counted_on}
 
--- the reader gave some bytes, at most so many, and each was counted; where it tells what it has left, it lost these and no others
+-- the reader gave at most `limit` bytes, all counted; if its rest is known, it lost just these
 pub record GaveAtMost (limit : ℕ) (old new : Option (List ℕ)) (before now : ℕ) : Type 0 where
   pub bytes : List ℕ
   pub most : length bytes ≤ limit
   pub counted : now ≡ counted_on before (length bytes)
   pub lost : Consumes old new bytes
 
--- a file that is being read, under its name
+-- a file that is open for reading, and its name
 pub record PlainOpen (F : Type 0) : Type 0 where
   pub name : List ℕ
   pub file : F
 
--- a shelf over real files: how many bytes were taken, its faults, and the open reading, where one is open
+-- a shelf over real files: how many bytes were taken, its faults, and the open reading, if any
 pub record PlainFileShelf (F : Type 0) : Type 0 where
   pub taken : ℕ
   pub faults : PlainFaults
   pub reading : Option (PlainOpen F)
 
--- one from which nothing was fetched
+-- a file shelf from which nothing was fetched
 abbrev pub new_file_shelf : {F : Type 0} → PlainFileShelf F
 new_file_shelf = record { taken = 0; faults = no_faults; reading = None }
 
--- what it tells: nothing of what it holds
+-- what a file shelf reports: all but its contents
 abbrev pub file_tells : {F : Type 0} → PlainFileShelf F → ShelfTells
 file_tells shelf = record {
   held = None;
@@ -37,7 +37,7 @@ file_tells shelf = record {
   reading = None;
 }
 
--- the file that is being read gave these bytes and stays open; where it tells what it has left, it lost these and no others, and none are given only at its end
+-- the open file gave these bytes, its next ones, and stays open; it gives none only at its end
 abbrev pub ReadOn : {F : Type 0} → (remaining : F → Option (List ℕ)) → (old new : Option (PlainOpen F)) → List ℕ → Type 0
 ReadOn {F} remaining old new bytes = IsSomeAnd old (λ was. (now : F) × (new ≡ Some (record was { file = now }))
     × Consumes (remaining was.file) (remaining now) bytes × (bytes ≡ [] → IsAtEnd (remaining now)))

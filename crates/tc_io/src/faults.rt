@@ -5,14 +5,14 @@ ghost use Rattle.tc_io.specs.Outside.{counted_on};
 
 use std::marker::Model;
 
-/// What a call of a shelf was to do.
+/// What a call of a shelf does.
 #[derive(Clone, Copy)]
 pub enum Access {
     Read,
     Write,
 }
 
-/// How often a shelf failed, and what the call that failed last was to do, with its name.
+/// How many calls of a shelf failed, and what the last of them was, with its name.
 #[derive(Drop)]
 pub struct Faults {
     count: u64,
@@ -38,7 +38,7 @@ impl Faults {
         }
     }
 
-    /// Counts a call with this name that failed.
+    /// Counts a failed call with this name.
     pub fn add(&mut self, access: Access, name: String)
         ensures { self.new ≡ record { count = counted_on self.old.count 1; last = Some (fault_of access (string_bytes name)) } }
     {

@@ -1,10 +1,11 @@
-//! The files of the system and its writers as a shelf and a sink: the edge that is trusted.
+//! The files of the system and its writers as a shelf and a sink. This edge is trusted.
 //!
-//! As a shelf and a sink these tell nothing of what they hold or wrote, since real files and standard output don't.
-//! What a reader gives is promised by [`read_up_to`]; `FileShelf` opens the file of a name and reads it so, or keeps it
-//! open and reads once for each piece. What a writer has is promised by [`write_whole`], where the writer tells that;
-//! `FileShelf` creates or truncates the file of a name and writes it so, and `StdSink` writes so to the writer it has.
-//! They count each failure, and stop on every input.
+//! As a shelf and a sink, these don't report what they hold or wrote: for real files and standard
+//! output, that isn't known. [`read_up_to`] promises what a reader gives: `FileShelf` opens the
+//! file of a name and reads it that way, or keeps it open and reads once for each piece.
+//! [`write_whole`] promises what a writer has, if the writer reports that: `FileShelf` creates or
+//! truncates the file of a name and writes it that way, and so does `StdSink` with its writer. They
+//! count each failure, and terminate on every input.
 ghost use Rattle.std.specs.Prelude.{◌≡◌, ◌≢◌, ◌+◌, ◌≤◌, ◌<◌, ◌⊎◌, length, take, IfOk, IfSome, IsSome, OnOk, IsErrOf, Err, None, ℕ};
 ghost use Rattle.std.specs.Io.KnownBytes.{Appends, Consumes, IsAtEnd};
 ghost use Rattle.tc_io.specs.Files.{GaveAtMost, ReadOn, file_tells, new_file_shelf};
@@ -17,7 +18,7 @@ use std::fs::{File, Files};
 use std::io::{Read, Write};
 use std::marker::Model;
 
-/// A file that is being read, under its name.
+/// A file that is open for reading, and its name.
 #[derive(Drop)]
 struct Open<F: Drop> {
     name: String,
@@ -63,7 +64,7 @@ impl<R: Files + Drop> FileShelf<R> {
         }
     }
 
-    /// How many bytes were taken from it so far.
+    /// How many bytes were taken from the shelf so far.
     pub fn taken(&self) -> u64
         ensures { result ≡ self.now.taken }
     {
@@ -102,9 +103,10 @@ impl<R: Files + Drop> Shelf for FileShelf<R> {
         answer
     }
 
-    /// That an Ok leaves the bytes under the name, and a failure a front of them or what stood there, is [`write_whole`]'s
-    /// promise for the file that is opened. This call adds the opening, which creates or truncates the file: that the
-    /// system does so, and keeps what it took, no clause says, and tests alone show it.
+    /// [`write_whole`] promises, for the open file, that an Ok leaves the bytes under the name, and
+    /// a failure a prefix of them or the old bytes. This call also opens the file, which creates or
+    /// truncates it. That the system does so, and keeps the bytes, isn't proved: no clause says it,
+    /// and only tests show it.
     fn keep(&mut self, alloc: Global, name: &str, bytes: &[u8]) -> Result<(), KeepFault>
         ensures ok { OnOk result (Kept (file_tells self.old) (file_tells self.new) name.now bytes.now) }
         ensures failed { IsErrOf result KeepFault.Failed → KeptPart (file_tells self.old) (file_tells self.new) name.now bytes.now }
@@ -143,7 +145,8 @@ impl<R: Files + Drop> Shelf for FileShelf<R> {
         }
     }
 
-    /// One read of the file that was opened. A read of none is the end, and each error is a failure, an interruption too.
+    /// One read of the open file. A read of no bytes is the end, and each error is a failure, even
+    /// an interruption.
     fn piece(&mut self, buf: &mut [u8]) -> Result<usize, PieceFault>
         requires opened { IsSome (file_tells self.old).open_name }
         requires room { 0 < length buf.old }
@@ -174,10 +177,10 @@ impl<R: Files + Drop> Shelf for FileShelf<R> {
     }
 }
 
-/// The bytes that a reader has left, at most `limit` of them, each counted as it is taken.
+/// The bytes that a reader has left, at most `limit`, each counted when it is taken.
 ///
-/// It asks for one byte past the limit at most, which shows it that there are too many. A read of none is the end, and
-/// each error ends the call as a failure, an interruption too.
+/// It asks for at most one byte past the limit, which shows that there are too many. A read of no
+/// bytes is the end, and each error ends the call as a failure, even an interruption.
 #[tactic(auto, using(crate::proofs::Known::consumed))]
 pub fn read_up_to<R: Read>(
     alloc: Global,
@@ -216,8 +219,8 @@ pub fn read_up_to<R: Read>(
 
 /// Writes all of the bytes.
 ///
-/// Every turn but the last takes a byte. A write that takes none ends it as a failure, and so does each error, an
-/// interruption too; a front of the bytes was written then.
+/// Every round but the last takes a byte. A write that takes none ends the call as a failure, and
+/// so does each error, even an interruption; then a prefix of the bytes was written.
 pub fn write_whole<W: Write>(to: &mut W, bytes: &[u8]) -> Result<(), PutFault>
     // Where the writer tells what it has, that grows by the bytes, and by a front of them after a failure.
     ensures told { OnOk result (Appends (W.contents to.old) (W.contents to.new) bytes.now) }
@@ -236,7 +239,8 @@ pub fn write_whole<W: Write>(to: &mut W, bytes: &[u8]) -> Result<(), PutFault>
 
 /// A writer as a sink.
 ///
-/// It writes as [`write_whole`] does, and doesn't flush, so give it a writer that holds nothing back, as standard output.
+/// It writes as [`write_whole`] does, and doesn't flush, so give it a writer that holds nothing
+/// back, such as standard output.
 #[derive(Drop)]
 pub struct StdSink<W: Write + Drop> {
     to: W,
@@ -252,7 +256,7 @@ impl<W: Write + Drop> Model for StdSink<W> {
 }
 
 impl<W: Write + Drop> StdSink<W> {
-    /// A sink over this writer, to which nothing was put.
+    /// A sink over this writer, to which nothing was written.
     pub fn new(to: W) -> Self
         ensures { result ≡ (to, 0) }
     {

@@ -1,9 +1,9 @@
 //! The outside world as two traits: a [`Shelf`] of named bytes, and a [`Sink`] where answers go.
 //!
-//! A shelf gives the bytes of a name whole, by a fetch, or piece by piece, by a reading that is opened and then gives them.
+//! A shelf gives the bytes of a name as a whole (a fetch), or piece by piece (an open reading).
 //!
-//! Module `mem` has them in memory, failing where a test tells them to or never; module `files` has the files of
-//! the system and its writers, and is the edge that is trusted.
+//! Module `mem` has shelves and sinks in memory, which fail as a test plans or never. Module
+//! `files` has the system's files and its writers, and is trusted.
 #![tactic(auto)]
 
 ghost use Rattle.std.specs.Prelude.{◌≡◌, ◌≤◌, ◌<◌, length, take, is_some, IsSome, IfOk, OnOk, IsErrOf};
@@ -37,29 +37,29 @@ use std::alloc::Global;
 /// Why a fetch gave no bytes.
 #[derive(Clone, Copy, Debug, PartialEq, Eq)]
 pub enum FetchFault {
-    /// The shelf failed, as it does where the name isn't there.
+    /// The shelf failed, as it does if the name is absent.
     Failed,
-    /// There were more bytes than the limit.
+    /// The name has more bytes than the limit.
     TooLong,
-    /// The bytes, or the copy of the name, found no memory.
+    /// There is no memory for the bytes, or for the copy of the name.
     Memory,
 }
 
-/// Why a keep wasn't done.
+/// Why a keep failed.
 #[derive(Clone, Copy, Debug, PartialEq, Eq)]
 pub enum KeepFault {
     /// The shelf failed, maybe after some of the bytes.
     Failed,
-    /// The bytes, or the copy of the name, found no memory.
+    /// There is no memory for the bytes, or for the copy of the name.
     Memory,
 }
 
 /// Why no reading was opened.
 #[derive(Clone, Copy, Debug, PartialEq, Eq)]
 pub enum OpenFault {
-    /// The shelf failed, as it does where the name isn't there.
+    /// The shelf failed, as it does if the name is absent.
     Failed,
-    /// The copy of the name found no memory.
+    /// There is no memory for the copy of the name.
     Memory,
 }
 
@@ -70,39 +70,39 @@ pub enum PieceFault {
     Failed,
 }
 
-/// Why a put wasn't done.
+/// Why a put failed.
 #[derive(Clone, Copy, Debug, PartialEq, Eq)]
 pub enum PutFault {
     /// The sink failed, maybe after some of the bytes.
     Failed,
-    /// The bytes found no memory.
+    /// There is no memory for the bytes.
     Memory,
 }
 
-/// Bytes under names, as a folder of files.
+/// Bytes under names, such as a folder of files.
 ///
-/// What a shelf doesn't tell it doesn't promise: of real files nothing is known but what came out of them.
+/// A shelf promises only what it reports: of real files, only the bytes that came out are known.
 ///
-/// At most one reading is open. A fetch, a keep and another open end it, whatever they answer.
+/// At most one reading is open. A fetch, a keep and another open end it, whatever their result.
 pub trait Shelf {
-    /// What it tells: what it holds, how often it failed, how many bytes were taken, the call that failed last, and of
-    /// the open reading its name and what it is still to give.
+    /// What the shelf reports: its contents, how many calls failed and the last of them, how many
+    /// bytes were taken, and the name of the open reading and the bytes that it has left.
     ghost tells: { Self → ShelfTells };
 
     /// The bytes under a name, at most `limit` of them.
     ///
-    /// Before it asks for any it copies the name, so that a fault always has one. It takes one byte past the limit at
-    /// most, which shows it that there are too many.
+    /// It copies the name first, so that a fault always has one. It takes at most one byte past the
+    /// limit, which shows that there are too many.
     fn fetch(&mut self, alloc: Global, name: &str, limit: u64) -> Result<Vec<u8>, FetchFault>
         ensures ok { IfOk result (λ bytes. Gave (tells self.old) (tells self.new) name.now limit bytes.items) }
         ensures failed { IsErrOf result FetchFault.Failed → FailedToGive (tells self.old) (tells self.new) name.now limit }
         ensures too_long { IsErrOf result FetchFault.TooLong → WasTooLong (tells self.old) (tells self.new) name.now limit }
         ensures memory { IsErrOf result FetchFault.Memory → TookPart (tells self.old) (tells self.new) name.now limit };
 
-    /// Puts all of the bytes under a name, in place of what is there.
+    /// Puts all of the bytes under a name, instead of its old bytes.
     ///
-    /// Before anything else it copies the name, so that a fault always has one. A keep that failed may have begun: then
-    /// what stood under the name is gone, and a front of the bytes stands there.
+    /// It copies the name first, so that a fault always has one. A keep that failed may have begun:
+    /// then the old bytes of the name are gone, and it has a prefix of the new ones.
     fn keep(&mut self, alloc: Global, name: &str, bytes: &[u8]) -> Result<(), KeepFault>
         ensures ok { OnOk result (Kept (tells self.old) (tells self.new) name.now bytes.now) }
         ensures failed { IsErrOf result KeepFault.Failed → KeptPart (tells self.old) (tells self.new) name.now bytes.now }
@@ -110,15 +110,16 @@ pub trait Shelf {
 
     /// Opens a reading of the bytes under a name.
     ///
-    /// Before anything else it copies the name, so that a fault always has one, also that of a piece.
+    /// It copies the name first, so that a fault always has one, also the fault of a piece.
     fn open(&mut self, alloc: Global, name: &str) -> Result<(), OpenFault>
         ensures ok { OnOk result (Opened (tells self.old) (tells self.new) name.now) }
         ensures failed { IsErrOf result OpenFault.Failed → FailedToOpen (tells self.old) (tells self.new) name.now }
         ensures memory { IsErrOf result OpenFault.Memory → tells self.new ≡ closed (tells self.old) };
 
-    /// The next bytes of the open reading, in front of the buffer, and how many they are: none only at its end.
+    /// Puts the next bytes of the open reading in front of the buffer, and returns how many they
+    /// are: none only at its end.
     ///
-    /// It takes no memory.
+    /// It allocates no memory.
     fn piece(&mut self, buf: &mut [u8]) -> Result<usize, PieceFault>
         requires opened { IsSome (tells self.old).open_name }
         requires room { 0 < length buf.old }
@@ -131,12 +132,12 @@ pub trait Shelf {
         ensures { result ≡ is_some (tells self.now).open_name };
 }
 
-/// Where answers go, as standard output.
+/// Where answers go, such as standard output.
 pub trait Sink {
-    /// What it tells: what was written, and how often it failed.
+    /// What the sink reports: what was written, and how many puts failed.
     ghost tells: { Self → SinkTells };
 
-    /// Writes all of the bytes, at the end of what was written.
+    /// Appends all of the bytes to what was written.
     fn put(&mut self, bytes: &[u8]) -> Result<(), PutFault>
         ensures ok { OnOk result (Wrote (tells self.old) (tells self.new) bytes.now) }
         ensures failed { IsErrOf result PutFault.Failed → WrotePart (tells self.old) (tells self.new) bytes.now }

@@ -1,4 +1,4 @@
-//! A shelf and a sink in memory, which fail where they are told to, and ones that never fail.
+//! A shelf and a sink in memory that fail as planned, and ones that never fail.
 ghost use Rattle.std.specs.Prelude.{
   ◌≡◌,
   ◌≢◌,
@@ -52,9 +52,9 @@ use crate::{FetchFault, KeepFault, OpenFault, PieceFault, PutFault, Shelf, Sink}
 use std::alloc::{AllocError, Global};
 use std::marker::Model;
 
-/// A shelf in memory, which tells what it holds, and fails where it is told to.
+/// A shelf in memory, which reports its contents, and fails as planned.
 ///
-/// A fetch of a name that isn't there fails too, and so does an open.
+/// A fetch or an open of a name that is absent fails too.
 #[derive(Drop)]
 pub struct MemShelf {
     files: NamedBytes,
@@ -77,7 +77,7 @@ impl Model for MemShelf {
 }
 
 impl MemShelf {
-    /// A shelf that holds nothing and is told of no failure.
+    /// An empty shelf with no planned failure.
     pub fn new(alloc: Global) -> Self
         ensures { result ≡ empty_shelf }
     {
@@ -90,7 +90,7 @@ impl MemShelf {
         }
     }
 
-    /// Puts a copy of the bytes under the name, in place of what was there.
+    /// Puts a copy of the bytes under the name, instead of its old bytes.
     pub fn hold(&mut self, alloc: Global, name: &str, bytes: &[u8]) -> Result<(), AllocError>
         ensures ok { OnOk result (self.new ≡ record self.old { held = map.insert self.old.held name.now bytes.now }) }
         ensures err { OnErr result (self.new ≡ self.old) }
@@ -98,7 +98,8 @@ impl MemShelf {
         self.files.insert(alloc, name, bytes)
     }
 
-    /// Tells it of a call that is to fail, all calls that read or write counted together. Of two for one call the first counts.
+    /// Plans a call that fails, counting all calls that read or write. Of two plans for one call
+    /// the first counts.
     pub fn fail(&mut self, fail: Fail) -> Result<(), AllocError>
         ensures ok { OnOk result (self.new ≡ record self.old { plan = record self.old.plan { fails = self.old.plan.fails ++ fail ∷ [] } }) }
         ensures err { OnErr result (self.new ≡ self.old) }
@@ -231,14 +232,14 @@ impl Shelf for MemShelf {
     }
 }
 
-/// How many of so many bytes a fetch takes: one past the limit shows it that there are too many.
+/// How many of `there` bytes a fetch takes: one past the limit shows that there are too many.
 fn taken_by(there: usize, limit: u64) -> u64
     ensures { result ≡ min there (limit + 1) }
 {
     (there as u64).min(limit.saturating_add(1))
 }
 
-/// A copy of the bytes, where they are at most the limit.
+/// A copy of the bytes, if they are at most the limit.
 fn copy_within(alloc: Global, bytes: &[u8], limit: u64) -> Result<Vec<u8>, FetchFault>
     ensures bytes { IfOk result (λ copy. copy.items ≡ bytes.now) }
     ensures within { IfOk result (λ copy. length copy.items ≤ limit) }
@@ -255,7 +256,7 @@ fn copy_within(alloc: Global, bytes: &[u8], limit: u64) -> Result<Vec<u8>, Fetch
     }
 }
 
-/// A sink in memory, which tells what was written, and fails where it is told to.
+/// A sink in memory, which reports what was written, and fails as planned.
 #[derive(Drop)]
 pub struct MemSink {
     written: Vec<u8>,
@@ -272,7 +273,7 @@ impl Model for MemSink {
 }
 
 impl MemSink {
-    /// A sink to which nothing was put, and which is told of no failure.
+    /// A sink to which nothing was written, with no planned failure.
     pub fn new(alloc: Global) -> Self
         ensures { result ≡ empty_sink }
     {
@@ -283,7 +284,7 @@ impl MemSink {
         }
     }
 
-    /// Tells it of a put that is to fail. Of two for one call the first counts.
+    /// Plans a put that fails. Of two plans for one call the first counts.
     pub fn fail(&mut self, fail: Fail) -> Result<(), AllocError>
         ensures ok { OnOk result (self.new ≡ record self.old { plan = record self.old.plan { fails = self.old.plan.fails ++ fail ∷ [] } }) }
         ensures err { OnErr result (self.new ≡ self.old) }
@@ -291,7 +292,7 @@ impl MemSink {
         self.plan.add(fail)
     }
 
-    /// What was written, of all puts so far.
+    /// What all puts so far have written.
     pub fn written(&self) -> &[u8]
         ensures { result.now ≡ self.now.written }
     {
@@ -324,7 +325,7 @@ impl Sink for MemSink {
     }
 }
 
-/// Writes all of the bytes at the end of what was written.
+/// Appends all of the bytes to what was written.
 fn append(written: &mut Vec<u8>, bytes: &[u8]) -> Result<(), PutFault>
     ensures ok { OnOk result (written.new.items ≡ written.old.items ++ bytes.now) }
     ensures err { OnErr result (written.new.items ≡ written.old.items) }
@@ -336,7 +337,7 @@ fn append(written: &mut Vec<u8>, bytes: &[u8]) -> Result<(), PutFault>
     }
 }
 
-/// A shelf in memory that never fails: a name that isn't there reads as no bytes, also when it is opened.
+/// A shelf in memory that never fails: an absent name reads as no bytes, also when it is opened.
 #[derive(Drop)]
 pub struct SureShelf {
     files: NamedBytes,
@@ -357,7 +358,7 @@ impl Model for SureShelf {
 }
 
 impl SureShelf {
-    /// A shelf that holds nothing.
+    /// An empty shelf.
     pub fn new(alloc: Global) -> Self
         ensures { result ≡ empty_sure_shelf }
     {
@@ -368,7 +369,7 @@ impl SureShelf {
         }
     }
 
-    /// Puts a copy of the bytes under the name, in place of what was there.
+    /// Puts a copy of the bytes under the name, instead of its old bytes.
     pub fn hold(&mut self, alloc: Global, name: &str, bytes: &[u8]) -> Result<(), AllocError>
         ensures ok { OnOk result (self.new ≡ record self.old { held = map.insert self.old.held name.now bytes.now }) }
         ensures err { OnErr result (self.new ≡ self.old) }
@@ -422,7 +423,7 @@ impl Shelf for SureShelf {
     }
 }
 
-/// A sink in memory that never fails, and tells what was written.
+/// A sink in memory that never fails, and reports what was written.
 #[derive(Drop)]
 pub struct SureSink {
     written: Vec<u8>,
@@ -437,7 +438,7 @@ impl Model for SureSink {
 }
 
 impl SureSink {
-    /// A sink to which nothing was put.
+    /// A sink to which nothing was written.
     pub fn new(alloc: Global) -> Self
         ensures { result ≡ [] }
     {
@@ -446,7 +447,7 @@ impl SureSink {
         }
     }
 
-    /// What was written, of all puts so far.
+    /// What all puts so far have written.
     pub fn written(&self) -> &[u8]
         ensures { result.now ≡ self.now }
     {

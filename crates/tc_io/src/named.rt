@@ -44,14 +44,14 @@ impl NamedBytes {
         }
     }
 
-    /// The bytes under a name, and none where it isn't there.
+    /// The bytes under a name; none if the name is absent.
     pub fn bytes(&self, name: &str) -> &[u8]
         ensures { result.now ≡ bytes_at self.now name.now }
     {
         self.get(name).unwrap_or(&[])
     }
 
-    /// Puts a copy of the bytes under the name, in place of what was there.
+    /// Puts a copy of the bytes under the name, instead of its old bytes.
     pub fn insert(&mut self, alloc: Global, name: &str, bytes: &[u8]) -> Result<(), AllocError>
         ensures ok { OnOk result (self.new ≡ map.insert self.old name.now bytes.now) }
         ensures err { OnErr result (self.new ≡ self.old) }

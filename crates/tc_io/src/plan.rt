@@ -1,11 +1,11 @@
-//! Which calls of a shelf or a sink are to fail.
+//! Plans: which calls of a shelf or a sink fail.
 ghost use Rattle.std.specs.Prelude.{◌≡◌, ◌++◌, ◌∷◌, [], OnOk, OnErr};
 ghost use Rattle.tc_io.specs.Plan.{no_plan, with_call, told_at};
 
 use std::alloc::{AllocError, Global};
 use std::marker::Model;
 
-/// A call that is to fail.
+/// A call that fails.
 #[derive(Clone, Copy, Debug, PartialEq, Eq)]
 pub struct Fail {
     /// The number of the call, from 1.
@@ -14,7 +14,7 @@ pub struct Fail {
     pub after: usize,
 }
 
-/// The number of calls so far, and those that are to fail.
+/// The number of calls so far, and the calls that fail.
 #[derive(Drop)]
 pub struct Plan {
     calls: u64,
@@ -39,7 +39,7 @@ impl Plan {
         }
     }
 
-    /// Of two for one call the first counts.
+    /// Adds a call that fails; of two entries for one call, the first counts.
     pub fn add(&mut self, fail: Fail) -> Result<(), AllocError>
         ensures ok { OnOk result (self.new ≡ record self.old { fails = self.old.fails ++ fail ∷ [] }) }
         ensures err { OnErr result (self.new ≡ self.old) }
@@ -48,7 +48,7 @@ impl Plan {
         Ok(())
     }
 
-    /// Counts a call, and tells after how many bytes it is to fail, if it is to.
+    /// Counts a call, and returns after how many bytes it fails, if it fails.
     pub fn call(&mut self) -> Option<usize>
         ensures counted { self.new ≡ with_call self.old }
         ensures told { result ≡ told_at self.new }

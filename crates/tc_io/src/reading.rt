@@ -4,7 +4,7 @@ ghost use Rattle.tc_io.specs.Readings.{new_reading};
 
 use std::marker::Model;
 
-/// An open reading: its name, and how many of the bytes under the name it gave.
+/// An open reading: its name, and how many of the name's bytes it has given.
 #[derive(Drop)]
 pub struct Reading {
     name: String,
@@ -21,7 +21,7 @@ impl Model for Reading {
 }
 
 impl Reading {
-    /// A reading that gave nothing yet.
+    /// A reading that has given nothing yet.
     pub fn new(name: String) -> Self
         ensures { result ≡ new_reading (string_bytes name) }
     {
@@ -40,7 +40,7 @@ impl Reading {
         self.name
     }
 
-    /// Puts the next of the bytes under its name in front of the buffer, as many as fit, and says how many.
+    /// Puts the name's next bytes in front of the buffer, as many as fit, and returns how many.
     pub fn give(&mut self, bytes: &[u8], buf: &mut [u8]) -> usize
         ensures count { result ≡ min (length (drop self.old.given bytes.now)) (length buf.old) }
         ensures bytes { take result buf.new ≡ take result (drop self.old.given bytes.now) }

@@ -5,7 +5,7 @@ use Rattle.std.specs.List.{count_by, prefix_len, suffix_len}
 use Rattle.std.proofs.lemmas.Bool.{cases_Bool, cond-true, cond-false, not_from_true, not_from_false}
 use Rattle.std.proofs.lemmas.List.{append-nil, reverse-append}
 use Rattle.std.proofs.lemmas.List.Sums.{sum_by-append, count_by-le-length, suffix_len-le-length}
-use Rattle.tc_base.specs.declared.place.Place.{Place}
+use Rattle.tc_lexer.specs.declared.place.Place.{Place}
 use Rattle.tc_lexer.specs.Pieces.{is_line_feed}
 use Rattle.tc_lexer.specs.Places.{place_after}
 use Rattle.tc_lexer.specs.helpers.Reading.{next_place, place_from}

@@ -3,7 +3,7 @@ use Rattle.std.proofs.Common.{◌≡◌, ◌+◌, ◌<◌, ◌≤◌, ℕ, zero,
 use Rattle.std.proofs.Common.{append_assoc, length-append, length-take, length-drop}
 use Rattle.std.specs.Prelude.{option_map, ◌-◌}
 use Rattle.std.proofs.lemmas.List.{append-nil, take_all, take_at, drop_at, take-append-drop, append_cancel_right, nil_from_length}
-use Rattle.tc_base.specs.declared.place.Place.{Place}
+use Rattle.tc_lexer.specs.declared.place.Place.{Place}
 use Rattle.tc_lexer.specs.declared.token.TokenKind.{TokenKind}
 use Rattle.tc_lexer.specs.declared.token.Token.{Token as SpannedToken}
 use Rattle.tc_lexer.specs.Tokens.{spelling}

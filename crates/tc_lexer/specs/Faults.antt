@@ -1,11 +1,11 @@
--- What is said of a text that has no tokens.
+-- The message for a text that has no tokens.
 use Rattle.std.specs.Prelude.{List, ℕ, ◌++◌, codes}
 use Rattle.std.specs.Fmt.{decimal}
-use Rattle.tc_base.specs.declared.place.Place.{Place}
+use Rattle.tc_lexer.specs.declared.place.Place.{Place}
 use Rattle.tc_lexer.specs.declared.fault.LexFault.{LexFault}
 use Rattle.tc_lexer.specs.declared.fault.LexFault.TheVariants.{BadByte, Number, OpenComment, Memory}
 
--- what is wrong, and the line and column where
+-- what is wrong, and at which line and column
 abbrev pub at_place : List ℕ → Place → List ℕ
 at_place kind place = kind ++ (codes " at " ++ (decimal place.line ++ (codes ":" ++ decimal place.col)))
 

@@ -1,7 +1,7 @@
 -- The tokens of a text, and the fault of a text that has none.
 use Rattle.std.specs.Prelude.{◌≡◌, ℕ, ◌+◌, ◌<◌, ◌≤◌, Bool, false, if◌then◌else◌, nat_eq, List, [], ◌∷◌, ◌++◌, length, take, slice_range, codes}
 use Rattle.std.specs.List.{starts_with}
-use Rattle.tc_base.specs.declared.place.Place.{Place}
+use Rattle.tc_lexer.specs.declared.place.Place.{Place}
 use Rattle.tc_lexer.specs.declared.token.TokenKind.{TokenKind}
 use Rattle.tc_lexer.specs.declared.token.TokenKind.TheVariants as kind
 use Rattle.tc_lexer.specs.declared.token.Token.{Token as SpannedToken}
@@ -19,17 +19,17 @@ kind_of (plain.Number n) = kind.Number n
 kind_of (plain.Keyword k) = kind.Keyword k
 kind_of (plain.Sign s) = kind.Sign s
 
--- a token, where these bytes stand before it
+-- a token, placed after the bytes `before`
 abbrev pub token_after : List ℕ → PlainToken → SpannedToken
 token_after before t = record { kind = kind_of t; start = length before; end = length before + length (spelling t); place = place_after before }
 
--- the tokens among some pieces, where these bytes stand before them
+-- the tokens among some pieces, placed after the bytes `before`
 abbrev pub tokens_after : List ℕ → List Piece → List SpannedToken
 tokens_after before [] = []
 tokens_after before (Token t ∷ ps) = token_after before t ∷ tokens_after (before ++ spelling t) ps
 tokens_after before (p ∷ ps) = tokens_after (before ++ written p) ps
 
--- the text is pieces, of which these are the tokens
+-- the text is a sequence of pieces, and these are its tokens
 pub record AreTokens (language : ℕ) (text : List ℕ) (tokens : List SpannedToken) : Type 0 where
   pub pieces : List Piece
   pub whole : ArePieces language text pieces []
@@ -39,11 +39,11 @@ abbrev pub begins_with_digit : List ℕ → Bool
 begins_with_digit [] = false
 begins_with_digit (b ∷ _) = is_digit b
 
--- what is wrong with bytes that no piece begins
+-- the fault of bytes that begin with no piece
 abbrev pub fault_at : Place → List ℕ → LexFault
 fault_at place bytes = if starts_with nat_eq bytes (codes "/*") then OpenComment place else (if begins_with_digit bytes then Number place else BadByte place)
 
--- the first byte at which no piece begins, and what is wrong there
+-- the fault of a text: the first byte where no piece begins, and what is wrong there
 pub record IsFault (language : ℕ) (text : List ℕ) (fault : LexFault) : Type 0 where
   pub before : List ℕ
   pub rest : List ℕ
@@ -54,7 +54,7 @@ pub record IsFault (language : ℕ) (text : List ℕ) (fault : LexFault) : Type 
   pub none : (p : Piece) (after : List ℕ) → Begins language rest p after → ⊥
   pub fault_is : fault ≡ fault_at (place_after before) rest
 
--- the token is a span of the text, in which it is written
+-- the token has its spelling at its span of the text, and the place of that span
 pub record IsSpan (language : ℕ) (text : List ℕ) (t : SpannedToken) : Type 0 where
   pub some : t.start < t.end
   pub within : t.end ≤ length text

@@ -1,5 +1,5 @@
--- Tokens as the grammar knows them, what they are and not where they stand, and how they are written.
--- The languages are numbered: 2 has the signs `/ % << >>` more than 1, and 3 the keywords `swap cas stbar` more than 2.
+-- Tokens as the grammar sees them, without their places, and how they are spelled.
+-- Languages are numbered: 2 adds the signs `/ % << >>`, and 3 the keywords `swap cas stbar`.
 use Rattle.std.specs.Prelude.{◌≡◌, ℕ, ℤ, pos, negsuc, ◌^◌, ◌<◌, ◌≤◌, Bool, false, ◌&&◌, ◌||◌, ◌==◌, nat_le, IsTrue, List, [], ◌∷◌, map, slice_range, codes}
 use Rattle.std.specs.List.{list_all}
 use Rattle.std.specs.Fmt.{decimal}
@@ -21,14 +21,14 @@ pub data PlainToken : Type 0 where
   Keyword : (keyword : AnyKeyword) → PlainToken
   Sign : (sign : AnySign) → PlainToken
 
--- the token of this kind that these bytes write
+-- the token of this kind that these bytes spell
 abbrev pub plain_kind : List ℕ → TokenKind → PlainToken
 plain_kind text kind.Name = Name text
 plain_kind text (kind.Number n) = Number n
 plain_kind text (kind.Keyword k) = Keyword k
 plain_kind text (kind.Sign s) = Sign s
 
--- what a token of a text is
+-- a token of a text without its place
 abbrev pub plain_token : List ℕ → Token → PlainToken
 plain_token source t = plain_kind (slice_range source t.start t.end) t.kind
 
@@ -116,7 +116,7 @@ sign_since ShiftLeft = 2
 sign_since ShiftRight = 2
 sign_since _ = 1
 
--- how a token is written; a number has no leading zero
+-- how a token is spelled; a number has no leading zero
 abbrev pub spelling : PlainToken → List ℕ
 spelling (Name word) = word
 spelling (Number (pos n)) = decimal n
@@ -124,13 +124,13 @@ spelling (Number (negsuc _)) = []
 spelling (Keyword k) = keyword_text k
 spelling (Sign s) = sign_text s
 
--- a letter, then letters and digits, and no keyword
+-- a name: a letter, then letters and digits, and not a keyword of the language
 pub record IsName (language : ℕ) (word : List ℕ) : Type 0 where
   pub letter : IsTrue (begins_with_letter word)
   pub all : IsTrue (list_all is_word word)
   pub no_keyword : (k : AnyKeyword) → keyword_since k ≤ language → keyword_text k ≡ word → ⊥
 
--- the tokens of a language: names by their rule, numbers that are an `int`, and its keywords and signs
+-- the tokens of a language: its names, keywords and signs, and the numbers that fit `int`
 abbrev pub IsToken : ℕ → PlainToken → Type 0
 IsToken language (Name word) = IsName language word
 IsToken language (Number (pos n)) = n < 2 ^ 31
@@ -138,7 +138,7 @@ IsToken language (Number (negsuc _)) = ⊥
 IsToken language (Keyword k) = keyword_since k ≤ language
 IsToken language (Sign s) = sign_since s ≤ language
 
--- whether this byte right after a sign makes another sign or a comment of it
+-- whether this byte, directly after a sign, turns it into another sign or a comment
 abbrev pub sign_continues : ℕ → AnySign → ℕ → Bool
 sign_continues language Assign b = b == 61
 sign_continues language Bang b = b == 61
@@ -149,7 +149,7 @@ sign_continues language Or b = b == 124
 sign_continues language Slash b = b == 47 || b == 42
 sign_continues language _ b = false
 
--- whether this byte right after a token would belong to it, or makes another one of it
+-- whether this byte, directly after a token, would extend or change the token
 abbrev pub token_continues : ℕ → PlainToken → ℕ → Bool
 token_continues language (Sign s) b = sign_continues language s b
 token_continues language _ b = is_word b

@@ -1,2 +1,2 @@
--- How the reader goes over a text. No promise of a public function speaks of what is below.
+-- Helpers, in no public contract: how the lexer reads a text.
 pub mod Reading

@@ -1,23 +1,23 @@
 //! Why a text has no tokens.
 
+use crate::Place;
 use std::error::Error;
 use std::fmt;
-use tc_base::Place;
 
 /// Why a text has no tokens: the first byte at which no token and no blank begins.
 #[derive(Clone, Copy, Debug, PartialEq, Eq)]
 pub enum LexFault {
     /// A byte that begins no token.
     BadByte(Place),
-    /// Letters, digits and `_` that begin with a digit and are no number from 0 to the greatest `int`.
+    /// Letters, digits and `_` that begin with a digit, but aren't a number that fits `int`.
     Number(Place),
-    /// A `/*` that no `*/` ends.
+    /// A `/*` without its `*/`.
     OpenComment(Place),
-    /// There is no memory.
+    /// Memory ran out.
     Memory,
 }
 
-/// What is wrong, and the line and column where.
+/// What is wrong, and at which line and column.
 impl fmt::Display for LexFault {
     ghost use Rattle.std.specs.Prelude.{Some};
     ghost use Rattle.tc_lexer.specs.Faults.{lex_fault_text};

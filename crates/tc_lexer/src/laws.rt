@@ -7,7 +7,7 @@ ghost use Rattle.tc_lexer.specs.Pieces.{Piece, written, IsPiece, Begins};
 ghost use Rattle.tc_lexer.specs.Text.{AreTokens, IsFault, IsSpan};
 ghost use Rattle.tc_lexer.specs.Languages.{have_no_shift, HaveNoKeywordOf};
 
-/// A text has one list of tokens at most.
+/// A text has at most one list of tokens.
 pub fn tokens_are_one()
     ensures { (language : ℕ) (text : List ℕ) (these those : List OneToken)
         → AreTokens language text these → AreTokens language text those → these ≡ those }
@@ -24,27 +24,28 @@ pub fn faults_are_one()
         → AreTokens language text tokens → IsFault language text fault → ⊥ }
 {}
 
-/// A token or a blank of a text is the longest that can stand there.
+/// Each token and each blank of a text is the longest that is possible there.
 pub fn pieces_are_longest()
     ensures { (language : ℕ) (bytes : List ℕ) (p : Piece) (rest : List ℕ) (q : Piece) (after : List ℕ)
         → Begins language bytes p rest → IsPiece language q → bytes ≡ written q ++ after
         → length (written q) ≤ length (written p) }
 {}
 
-/// Each token is a span of its text, and is written there.
+/// Each token has its spelling at its span of the text.
 pub fn tokens_are_spans()
     ensures { (language : ℕ) (text : List ℕ) (tokens : List OneToken)
         → AreTokens language text tokens → All (IsSpan language text) tokens }
 {}
 
-/// The tokens of a text in language 1 are its tokens in language 2, where no `<` stands before `<` or `<=`,
-/// and no `>` before `>` or `>=`.
+/// The tokens of a text in language 1 are its tokens in language 2, if no `<` comes directly before
+/// `<` or `<=`, and no `>` before `>` or `>=`.
 pub fn language_2_has_the_tokens_of_1()
     ensures { (text : List ℕ) (tokens : List OneToken)
         → AreTokens 1 text tokens → IsTrue (have_no_shift (plain_tokens text tokens)) → AreTokens 2 text tokens }
 {}
 
-/// The tokens of a text in language 2 are its tokens in language 3, where `swap`, `cas` and `stbar` are no names of it.
+/// The tokens of a text in language 2 are its tokens in language 3, if `swap`, `cas` and `stbar`
+/// aren't names in it.
 pub fn language_3_has_the_tokens_of_2()
     ensures { (text : List ℕ) (tokens : List OneToken)
         → AreTokens 2 text tokens → HaveNoKeywordOf 3 (plain_tokens text tokens) → AreTokens 3 text tokens }

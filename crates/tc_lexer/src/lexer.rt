@@ -1,21 +1,21 @@
 //! From a text to its tokens.
 ghost use Rattle.std.specs.Prelude.{◌≡◌, ◌≢◌, ◌<◌, ◌≤◌, ◌^◌, length, IfOk, IfErr};
 ghost use Rattle.tc_lexer.specs.declared.fault.LexFault.TheVariants as lex_fault;
-ghost use Rattle.tc_base.specs.declared.limits.TheConstants.{PROGRAM_BYTES};
+ghost use Rattle.tc_limits.specs.declared.limits.TheConstants.{PROGRAM_BYTES};
 ghost use Rattle.tc_lexer.specs.Text.{AreTokens, IsFault, fault_at, begins_with_digit};
 
+use crate::Place;
 use crate::fault::LexFault;
 use crate::piece::piece_at;
 use crate::place::place_from;
 use crate::token::Token;
 use crate::tokens::Tokens;
 use std::alloc::Global;
-use tc_base::Place;
 
 /// The tokens of a program's text, in language 3, which has all keywords and signs.
 ///
-/// A text has either one list of tokens or one fault, so the answer is the only one that there is, but for
-/// `Memory` where there is none. The time grows linearly with the text.
+/// A text has either one list of tokens or one fault, so only one answer is right, except that
+/// memory may run out. The time grows linearly with the text.
 pub fn lex(alloc: Global, text: &[u8]) -> Result<Tokens, LexFault>
     requires { length text.now ≤ PROGRAM_BYTES }
     ensures found { IfOk result (λ tokens. AreTokens 3 text.now tokens) }
@@ -45,7 +45,7 @@ pub fn lex(alloc: Global, text: &[u8]) -> Result<Tokens, LexFault>
     Ok(Tokens::from_vec(tokens))
 }
 
-/// What is wrong at this place, where these bytes stand there, which begin no piece.
+/// The fault at this place, where the rest of the text begins with no piece.
 fn fault_at(place: Place, rest: &[u8]) -> LexFault
     ensures { result ≡ fault_at place rest.now }
 {

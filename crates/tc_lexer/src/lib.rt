@@ -16,6 +16,6 @@ pub use laws::{
     pieces_are_longest, tokens_are_one, tokens_are_spans,
 };
 pub use lexer::lex;
-pub use place::place_after;
+pub use place::{Place, place_after};
 pub use token::{Keyword, Sign, Token, TokenKind};
 pub use tokens::Tokens;

@@ -1,4 +1,4 @@
-//! The pieces of a text: its tokens, and the blanks round them.
+//! The pieces of a text: its tokens, and the blanks around them.
 ghost use Rattle.std.specs.Prelude.{◌≡◌, ◌+◌, ◌<◌, ◌≤◌, ◌^◌, pos, not, length, option_map, Option, IsTrue, IfSome};
 ghost use Rattle.std.specs.List.{prefix_len};
 ghost use Rattle.tc_lexer.specs.Tokens.{is_letter, is_word, begins_with_letter};
@@ -51,7 +51,7 @@ pub(crate) fn piece_at(text: &[u8]) -> Option<Piece>
     mark_at(text)
 }
 
-/// The word at the front, where its bytes are at the front.
+/// The word at the front, if the text begins with bytes of a word.
 fn word_at(text: &[u8]) -> Option<Piece>
     requires { 0 < prefix_len is_word text.now }
     ensures { result ≡ option_map shape_of (reading.word_piece 3 text.now) }
@@ -61,7 +61,7 @@ fn word_at(text: &[u8]) -> Option<Piece>
     Some(Piece::token(kind, len))
 }
 
-/// How many bytes at the front are those of a word.
+/// How many bytes at the front belong to a word.
 fn word_len(text: &[u8]) -> usize
     ensures len { result ≡ prefix_len is_word text.now }
     ensures within { result ≤ length text.now }
@@ -84,7 +84,7 @@ fn mark_at(text: &[u8]) -> Option<Piece>
     Some(Piece::token(TokenKind::Sign(sign), sign.text().len()))
 }
 
-/// How many bytes stand before the line feed or the end.
+/// How many bytes come before the line feed or the end.
 fn line_len(text: &[u8]) -> usize
     ensures len { result ≡ prefix_len (λ b. not (is_line_feed b)) text.now }
     ensures within { result ≤ length text.now }
@@ -92,7 +92,7 @@ fn line_len(text: &[u8]) -> usize
     text.iter().take_while(|b| **b != b'\n').count()
 }
 
-/// How many bytes stand before the first `*/`.
+/// How many bytes come before the first `*/`.
 fn close_at(text: &[u8]) -> Option<usize>
     ensures close { result ≡ option_map length (reading.before_close text.now) }
     ensures within { IfSome result (λ len. len ≤ length text.now) }

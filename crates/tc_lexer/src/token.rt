@@ -1,10 +1,10 @@
-//! A token: what it is, and where it stands.
+//! A token: what it is, and where it is.
 ghost use Rattle.std.specs.Prelude.{◌≡◌, ◌≤◌, length, slice_range};
 ghost use Rattle.tc_lexer.specs.Tokens.{keyword_text, sign_text};
 
-use tc_base::Place;
+use crate::Place;
 
-/// The words that are no names.
+/// The words that aren't names.
 #[derive(Clone, Copy, Debug, PartialEq, Eq)]
 pub enum Keyword {
     /// `int`
@@ -52,7 +52,7 @@ pub enum Keyword {
 }
 
 impl Keyword {
-    /// How it is written.
+    /// Its spelling.
     pub fn text(&self) -> &'static [u8]
         ensures { result.now ≡ keyword_text self.now }
     {
@@ -146,7 +146,7 @@ pub enum Sign {
 }
 
 impl Sign {
-    /// How it is written.
+    /// Its spelling.
     pub fn text(&self) -> &'static [u8]
         ensures { result.now ≡ sign_text self.now }
     {
@@ -184,10 +184,10 @@ impl Sign {
     }
 }
 
-/// What a token is. The name that a `Name` is stands in the text, at the token's span.
+/// What a token is. The text of a `Name` is at the token's span.
 #[derive(Clone, Copy, Debug, PartialEq, Eq)]
 pub enum TokenKind {
-    /// A name: a letter or `_`, then letters, digits and `_`, and no keyword.
+    /// A name: a letter or `_`, then letters, digits and `_`, and not a keyword.
     Name,
     /// A number from 0 to the greatest `int`, without leading zeros.
     Number(i32),
@@ -197,21 +197,21 @@ pub enum TokenKind {
     Sign(Sign),
 }
 
-/// A token where it stands in its text.
+/// A token with its place in its text.
 #[derive(Clone, Copy, Debug, PartialEq, Eq)]
 pub struct Token {
     /// What it is.
     pub kind: TokenKind,
-    /// How many bytes of the text stand before it.
+    /// How many bytes of the text come before it.
     pub start: usize,
-    /// How many bytes of the text stand before its end.
+    /// How many bytes of the text come before its end.
     pub end: usize,
     /// The place of its first byte.
     pub place: Place,
 }
 
 impl Token {
-    /// The token's own bytes in the text that it is a token of, which `tokens_are_spans` says to be there.
+    /// The token's own bytes in its text; by `tokens_are_spans` they are there.
     pub fn text<'a>(&self, source: &'a [u8]) -> &'a [u8]
         requires begins { self.now.start ≤ self.now.end }
         requires ends { self.now.end ≤ length source.now }

@@ -20,7 +20,7 @@ impl Model for Tokens {
 }
 
 impl Tokens {
-    /// The list of these.
+    /// The list of these tokens.
     pub fn from_vec(tokens: Vec<Token>) -> Self
         ensures { result ≡ tokens.items }
     {
@@ -35,7 +35,7 @@ impl Tokens {
         tokens
     }
 
-    /// All of them.
+    /// All tokens, in order.
     pub fn as_slice(&self) -> &[Token]
         ensures { result.now ≡ self.now }
     {

@@ -1,4 +1,4 @@
-//! The keywords and the signs, by how they are written.
+//! The keywords and the signs, by their spelling.
 ghost use Rattle.std.specs.Prelude.{◌≡◌};
 ghost use Rattle.tc_lexer.specs.helpers.Reading.{keyword_of, sign_at};
 
@@ -61,7 +61,7 @@ static SIGNS: [Sign; 29] = [
     Sign::Or,
 ];
 
-/// The keyword that is written so.
+/// The keyword with this spelling.
 pub(crate) fn keyword_of(word: &[u8]) -> Option<Keyword>
     ensures { result ≡ keyword_of 3 word.now }
 {

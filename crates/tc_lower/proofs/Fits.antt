@@ -1,6 +1,6 @@
 -- What a program's words leave room for.
 use Rattle.std.proofs.Common.{ℕ, ◌+◌, ◌*◌, ◌≤◌, List, [], ◌∷◌, length, arith}
-use Rattle.tc_base.specs.declared.limits.TheConstants.{PROGRAM_BYTES}
+use Rattle.tc_limits.specs.declared.limits.TheConstants.{PROGRAM_BYTES}
 use Rattle.tc_tree.specs.declared.expression.Name.{Name}
 use Rattle.tc_tree.specs.declared.program.Global.{Global}
 use Rattle.tc_tree.specs.declared.program.Global.TheVariants.{Int, Array, Mutex, Condition}

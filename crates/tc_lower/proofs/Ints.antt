@@ -4,11 +4,11 @@ use Rattle.std.proofs.Common.{slice_get, subst}
 use Rattle.std.specs.List.{All}
 use Rattle.std.proofs.lemmas.List.Elements.{All-nil, All-cons, All-append, All-replicate}
 use Rattle.std.proofs.lemmas.Option.{none-some, same_Some}
-use Rattle.tc_base.specs.Arith.{IsInt, negated}
-use Rattle.tc_base.specs.declared.arith.BinOp.{BinOp}
-use Rattle.tc_base.specs.declared.arith.BinOp.TheVariants as binary
-use Rattle.tc_base.specs.declared.arith.UnOp.TheVariants.{Neg}
-use Rattle.tc_base.proofs.Ints.{unary_int}
+use Rattle.int_ops.specs.Arith.{IsInt, negated}
+use Rattle.int_ops.specs.declared.arith.BinOp.{BinOp}
+use Rattle.int_ops.specs.declared.arith.BinOp.TheVariants as binary
+use Rattle.int_ops.specs.declared.arith.UnOp.TheVariants.{Neg}
+use Rattle.int_ops.proofs.Ints.{unary_int}
 use Rattle.tc_code.specs.Expr as code_expr
 use Rattle.tc_code.specs.Expr.{Expr, HasInts}
 use Rattle.tc_code.specs.Lawful.{exprs_of}

@@ -34,8 +34,8 @@ use Rattle.std.specs.List.{list_all}
 use Rattle.std.specs.Option.{option_map_or}
 use Rattle.std.specs.Prelude.{◌==◌}
 use Rattle.std.proofs.lemmas.Bool.Decides.{nat_tests}
-use Rattle.tc_base.specs.declared.arith.BinOp.{BinOp}
-use Rattle.tc_base.specs.declared.arith.BinOp.TheVariants as binary
+use Rattle.int_ops.specs.declared.arith.BinOp.{BinOp}
+use Rattle.int_ops.specs.declared.arith.BinOp.TheVariants as binary
 use Rattle.tc_code.specs.Expr as code_expr
 use Rattle.tc_code.specs.Expr.{Expr, names_slots, names_slot}
 use Rattle.tc_code.specs.declared.instr.Instr.{Instr}

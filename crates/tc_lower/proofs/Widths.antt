@@ -1,7 +1,7 @@
 -- Code is no longer than three instructions for each word of its program.
 use Rattle.std.proofs.Common.{ℕ, ◌+◌, ◌*◌, ◌≤◌, Bool, true, false, cond, nat_eq, List, [], ◌∷◌, ◌++◌, length, Option, Some, None, arith, length-append}
-use Rattle.tc_base.specs.declared.arith.BinOp.{BinOp}
-use Rattle.tc_base.specs.declared.arith.BinOp.TheVariants as binary
+use Rattle.int_ops.specs.declared.arith.BinOp.{BinOp}
+use Rattle.int_ops.specs.declared.arith.BinOp.TheVariants as binary
 use Rattle.tc_code.specs.Expr.{Expr}
 use Rattle.tc_code.specs.Expr as code_expr
 use Rattle.tc_code.specs.declared.instr.Instr.{Instr}

@@ -1,11 +1,11 @@
--- Things of the kinds that the rules on names speak of.
+-- Things of the kinds in the rules for names.
 use Rattle.std.specs.Prelude.{◌≡◌, Option, Some, None}
 use Rattle.tc_names.specs.declared.scope.Meaning.{Meaning}
 use Rattle.tc_names.specs.declared.scope.Meaning.TheVariants as meaning
 use Rattle.tc_lower.specs.declared.things.Thing.{Thing}
 use Rattle.tc_lower.specs.declared.things.Thing.TheVariants.{Cell, Array, Mutex, Condition, Function, Slot, Handle}
 
--- what a name means is what it stands for: a thread is a function with its parameters, a parameter and an int of the body are slots
+-- the thing is of the kind that the name means; parameters and ints of a body are slots
 abbrev pub IsOfKind : Meaning → Thing → Type 0
 IsOfKind meaning.Global (Cell c) = Unit {0}
 IsOfKind meaning.Array (Array a n) = Unit {0}
@@ -17,7 +17,7 @@ IsOfKind meaning.Local (Slot k) = Unit {0}
 IsOfKind meaning.Handle (Handle h) = Unit {0}
 IsOfKind _ _ = ⊥
 
--- a name that means something stands for a thing of that kind, and one that means nothing for nothing
+-- a name with a meaning stands for a thing of that kind, and any other name for nothing
 abbrev pub Agree : Option Meaning → Option Thing → Type 0
 Agree None None = Unit {0}
 Agree (Some m) (Some t) = IsOfKind m t

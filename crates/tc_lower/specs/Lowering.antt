@@ -1,6 +1,6 @@
 -- The code of a program.
 use Rattle.std.specs.Prelude.{ℕ, ◌+◌, ℤ, pos, List, [], ◌∷◌, ◌++◌, length, map, replicate, codes}
-use Rattle.tc_base.specs.Arith.{negated}
+use Rattle.int_ops.specs.Arith.{negated}
 use Rattle.tc_code.specs.declared.instr.Instr.TheVariants.{Exit}
 use Rattle.tc_code.specs.Code.{Code}
 use Rattle.tc_code.specs.declared.code.Func.{Func}
@@ -21,7 +21,7 @@ initial_value Zero = pos 0
 initial_value (Plain n) = n.value
 initial_value (Negated n) = negated n.value
 
--- what each cell begins with
+-- the initial value of each cell
 abbrev pub memory_of : List Global → List ℤ
 memory_of [] = []
 memory_of (Int x i ∷ gs) = initial_value i ∷ memory_of gs
@@ -29,7 +29,7 @@ memory_of (Array a n ∷ gs) = replicate (elements n.value) (pos 0) ++ memory_of
 memory_of (Mutex m ∷ gs) = memory_of gs
 memory_of (Condition c ∷ gs) = memory_of gs
 
--- a body's statements, and then the exit, at the line of its closing brace
+-- the function of a body: its statements, then an exit on the line of its closing brace
 abbrev pub function_of : List ℕ → List Named → List ℕ → List Name → Body → Func
 function_of source all name parameters b =
     let own = own_things parameters b.locals in

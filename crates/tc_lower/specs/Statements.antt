@@ -50,7 +50,7 @@ pub record Lowered : Type 0 where
 abbrev pub on_line : ℕ → Written → Lowered
 on_line line w = record { instrs = w.instrs; lines = replicate (length w.instrs) line; free = w.free }
 
--- ---- what a statement does with its values. The rules on names leave no other things
+-- ---- what a statement does with its values; the rules for names exclude other things
 
 abbrev pub assignment : Option Thing → Expr → List Instr
 assignment (Some (Slot k)) e = instr.Set k e ∷ []
@@ -65,12 +65,12 @@ abbrev pub store : Option Thing → Expr → Expr → List Instr
 store (Some (Array first len)) i e = instr.StoreAt first len i e ∷ []
 store _ i e = []
 
--- a thread has as many parameters as it is given arguments
+-- a create, if the thread has as many parameters as there are arguments
 abbrev pub creation : Option Thing → Option Thing → List Expr → List Instr
 creation (Some (Handle h)) (Some (Function f parameters)) es = if nat_eq parameters (length es) then instr.Create h f es ∷ [] else []
 creation _ _ es = []
 
--- a new slot takes what the cell had, and the int of the body takes it from there
+-- a swap: a new slot takes the cell's old value, and the int of the body takes that
 abbrev pub swap : Option Thing → Option Thing → ℕ → Expr → List Instr
 swap (Some (Slot k)) (Some (Cell c)) free e = instr.Swap free c e ∷ instr.Set k (code.Slot free) ∷ []
 swap _ _ free e = instr.Set free e ∷ []
@@ -95,7 +95,7 @@ abbrev pub barrier : Barrier → Instr
 barrier Fence = instr.Fence
 barrier Stores = instr.Stbar
 
--- ---- statements without statements inside, from a place and a free slot on
+-- ---- statements without inner statements, from a place and a free slot on
 
 abbrev pub assigned : (Name → Option Thing) → ℕ → ℕ → Name → Expression → Written
 assigned scope at free x e =
@@ -130,9 +130,9 @@ asserted scope at free e =
     let v = evaluated scope at free e in
     record { instrs = v.instrs ++ instr.Assert v.value ∷ []; free = v.free }
 
--- ---- statements of statements
+-- ---- statements with inner statements
 
--- a loop that begins at a place: its test, its body, and back
+-- a loop that begins at a place: its test, its body, and the jump back
 abbrev pub looped : ℕ → ℕ → Evaluated → Lowered → Lowered
 looped line at test body =
     let end = at + length test.instrs + 1 + length body.instrs + 1 in
@@ -142,22 +142,22 @@ looped line at test body =
       free = body.free;
     }
 
--- whether anything stands after the body of an `if`
+-- whether anything follows the body of an `if`
 abbrev pub goes_on : Otherwise → Bool
 goes_on Nothing = false
 goes_on (Else b q) = true
 goes_on (ElseIf p c b q o) = true
 
--- the jump past what stands there
+-- the jump past what follows, if anything does
 abbrev pub passing : Bool → ℕ → List Instr
 passing false end = []
 passing true end = instr.Goto end ∷ []
 
--- the place after a test that begins at a place, its body and the jump
+-- the place after a test that begins at place `at`, its body and the jump
 abbrev pub after_body : ℕ → Evaluated → Lowered → Bool → ℕ
 after_body at test body more = at + length test.instrs + 1 + length body.instrs + length (passing more 0)
 
--- a test that begins at a place, its body, and what stands after it
+-- a test that begins at a place, its body, and what follows it
 abbrev pub branched : ℕ → ℕ → Evaluated → Lowered → Bool → Lowered → Lowered
 branched line at test body more others =
     let next = after_body at test body more in
@@ -168,7 +168,7 @@ branched line at test body more others =
       free = others.free;
     }
 
--- a statement whose instructions begin at a place, with a next free slot
+-- a statement lowered from a place and a next free slot
 abbrev mutual
   pub lowered : (Name → Option Thing) → ℕ → ℕ → Statement → Lowered
   lowered scope at free (Assign x e) = on_line x.place.line (assigned scope at free x e)

@@ -16,12 +16,12 @@ use Rattle.tc_lower.specs.declared.things.Thing.TheVariants as thing
 abbrev pub named : Name → Thing → Named
 named x t = record { name = x; thing = t }
 
--- what a name of this text stands for: the first that has it
+-- what a name of this text stands for: the first thing with that name
 abbrev pub thing_in : List ℕ → List Named → Name → Option Thing
 thing_in source [] x = None
 thing_in source (n ∷ ns) x = if bytes_eq (name_text source n.name) (name_text source x) then Some n.thing else thing_in source ns x
 
--- a body's own name, and else the program's
+-- the body's own thing if there is one, otherwise the program's
 abbrev pub own_first : Option Thing → Option Thing → Option Thing
 own_first (Some t) other = Some t
 own_first None other = other
@@ -30,21 +30,21 @@ own_first None other = other
 abbrev pub scope : List ℕ → List Named → List Named → Name → Option Thing
 scope source own all x = own_first (thing_in source own x) (thing_in source all x)
 
--- the thing that a global declares, after so many cells, mutexes and conditions: an int is the next cell, an array as many as its length
+-- the thing of a global, after these counts: an int is the next cell, an array the next few
 abbrev pub global_thing : Numbers → Global → Named
 global_thing n (Int x i) = named x (thing.Cell n.cells)
 global_thing n (Array a size) = named a (thing.Array n.cells (elements size.value))
 global_thing n (Mutex m) = named m (thing.Mutex n.mutexes)
 global_thing n (Condition c) = named c (thing.Condition n.conditions)
 
--- the numbers after a global
+-- the counts after a global
 abbrev pub past_global : Numbers → Global → Numbers
 past_global n (Int x i) = record n { cells = n.cells + 1 }
 past_global n (Array a size) = record n { cells = n.cells + elements size.value }
 past_global n (Mutex m) = record n { mutexes = n.mutexes + 1 }
 past_global n (Condition c) = record n { conditions = n.conditions + 1 }
 
--- globals, in order
+-- the things of the globals, in order
 abbrev pub globals_from : Numbers → List Global → List Named
 globals_from n [] = []
 globals_from n (g ∷ gs) = global_thing n g ∷ globals_from (past_global n g) gs
@@ -52,17 +52,17 @@ globals_from n (g ∷ gs) = global_thing n g ∷ globals_from (past_global n g) 
 abbrev pub no_numbers : Numbers
 no_numbers = record { cells = 0; mutexes = 0; conditions = 0 }
 
--- threads are functions, in order
+-- the things of the threads, in order: functions
 abbrev pub threads_from : ℕ → List Thread → List Named
 threads_from function [] = []
 threads_from function (t ∷ ts) = named t.name (thing.Function function (length t.parameters)) ∷ threads_from (function + 1) ts
 
--- parameters are slots, in order
+-- the things of the parameters, in order: slots
 abbrev pub parameters_from : ℕ → List Name → List Named
 parameters_from slot [] = []
 parameters_from slot (x ∷ xs) = named x (thing.Slot slot) ∷ parameters_from (slot + 1) xs
 
--- and so are the ints of a body, where so many slots and thread variables come before
+-- the things of a body's declarations, from this slot and this thread variable on
 abbrev pub locals_from : ℕ → ℕ → List Local → List Named
 locals_from slot handle [] = []
 locals_from slot handle (LocalInt x ∷ ls) = named x (thing.Slot slot) ∷ locals_from (slot + 1) handle ls

@@ -1,8 +1,8 @@
--- Expressions as instructions and an expression over slots.
+-- Expressions lowered to instructions, and to an expression over slots.
 use Rattle.std.specs.Prelude.{ℕ, ◌+◌, ℤ, pos, List, [], ◌∷◌, ◌++◌, length, Option, Some, None}
-use Rattle.tc_base.specs.declared.arith.BinOp.{BinOp}
-use Rattle.tc_base.specs.declared.arith.BinOp.TheVariants as binary
-use Rattle.tc_base.specs.declared.arith.UnOp.TheVariants.{Not}
+use Rattle.int_ops.specs.declared.arith.BinOp.{BinOp}
+use Rattle.int_ops.specs.declared.arith.BinOp.TheVariants as binary
+use Rattle.int_ops.specs.declared.arith.UnOp.TheVariants.{Not}
 use Rattle.tc_code.specs.Expr as code
 use Rattle.tc_code.specs.Expr.{Expr}
 use Rattle.tc_code.specs.declared.instr.Instr.{Instr}
@@ -33,19 +33,19 @@ use Rattle.tc_tree.specs.Grammar.{Expression, Number, Variable, Element, Paren, 
 use Rattle.tc_lower.specs.declared.things.Thing.{Thing}
 use Rattle.tc_lower.specs.declared.things.Thing.TheVariants.{Cell, Array, Slot}
 
--- the instructions that find a value, what then stands for it, and the next free slot
+-- the instructions that compute a value, the expression that then has it, and the next free slot
 pub record Evaluated : Type 0 where
   pub instrs : List Instr
   pub value : Expr
   pub free : ℕ
 
--- an int of the body is its slot; one of all threads is loaded into the next free slot. The rules on names leave nothing else
+-- a variable: an int of the body is its slot; a global is loaded into the next free slot
 abbrev pub variable : Option Thing → ℕ → Evaluated
 variable (Some (Slot k)) free = record { instrs = []; value = code.Slot k; free = free }
 variable (Some (Cell c)) free = record { instrs = Load free c ∷ []; value = code.Slot free; free = free + 1 }
 variable _ free = record { instrs = []; value = code.Number (pos 0); free = free }
 
--- an index is tested, and then the element is loaded into the next free slot
+-- an element: its index is tested, then it is loaded into the next free slot
 abbrev pub element : Option Thing → Expr → ℕ → Evaluated
 element (Some (Array first len)) i free = record {
   instrs = Inside len i ∷ LoadAt free first len i ∷ [];
@@ -54,11 +54,11 @@ element (Some (Array first len)) i free = record {
 }
 element _ i free = record { instrs = []; value = i; free = free }
 
--- instructions, and then those that find a value
+-- instructions, followed by those that compute a value
 abbrev pub after : List Instr → Evaluated → Evaluated
 after is v = record { instrs = is ++ v.instrs; value = v.value; free = v.free }
 
--- what an operator tests of its right side: a divisor isn't 0, and a distance is one
+-- the test of an operator's right side: a divisor isn't 0, a shift distance is valid
 abbrev pub tested : BinOp → Expr → List Instr
 tested binary.Div e = Nonzero e ∷ []
 tested binary.Rem e = Nonzero e ∷ []
@@ -66,7 +66,7 @@ tested binary.Shl e = InRange e ∷ []
 tested binary.Shr e = InRange e ∷ []
 tested _ e = []
 
--- an operator over what both sides leave
+-- an operator after its two sides and the test of the right one
 abbrev pub over : BinOp → Evaluated → Evaluated → Evaluated
 over op p q = record { instrs = p.instrs ++ q.instrs ++ tested op q.value; value = code.Binary op p.value q.value; free = q.free }
 
@@ -74,7 +74,7 @@ over op p q = record { instrs = p.instrs ++ q.instrs ++ tested op q.value; value
 abbrev pub isnt_zero : Expr → Expr
 isnt_zero e = code.Binary binary.Ne e (code.Number (pos 0))
 
--- the operator over the values of both sides; `&&` and `||` are none, since they may leave the right side alone
+-- the operator on the values of both sides; none for `&&` and `||`, which may skip the right side
 abbrev pub over_both : Operator → Option BinOp
 over_both Multiply = Some binary.Mul
 over_both Divide = Some binary.Div
@@ -95,17 +95,17 @@ over_both BitOr = Some binary.Or
 over_both And = None
 over_both Or = None
 
--- what the left side of `&&` or `||` decides alone
+-- the result of `&&` or `||` if the left side decides it alone
 abbrev pub decided : Operator → ℤ
 decided And = pos 0
 decided _ = pos 1
 
--- what is 0 where it does so
+-- an expression that is 0 if the left side decides the result alone
 abbrev pub undecided : Operator → Expr → Expr
 undecided And e = e
 undecided _ e = code.Unary Not e
 
--- a new slot takes what the left side decides alone, and where it doesn't, whether the right side isn't 0
+-- `&&` or `||`: a new slot takes the left side's decision, or else whether the right side isn't 0
 abbrev pub choice : Operator → ℕ → Evaluated → Evaluated → Evaluated
 choice op at p q =
     let end = at + length p.instrs + 2 + length q.instrs + 1 in
@@ -115,12 +115,12 @@ choice op at p q =
       free = q.free;
     }
 
--- both sides of an operator, the right one from its place and its next free slot on
+-- an operator on both sides, the right one lowered from its own place and next free slot
 abbrev pub joined : Option BinOp → Operator → ℕ → Evaluated → (ℕ → ℕ → Evaluated) → Evaluated
 joined (Some o) op at p right = over o p (right (at + length p.instrs) p.free)
 joined None op at p right = choice op at p (right (at + length p.instrs + 2) (p.free + 1))
 
--- an expression whose instructions begin at a place, with a next free slot
+-- an expression lowered from a place and a next free slot
 abbrev pub evaluated : (Name → Option Thing) → ℕ → ℕ → Expression → Evaluated
 evaluated scope at free (Number n) = record { instrs = []; value = code.Number n.value; free = free }
 evaluated scope at free (Variable x) = variable (scope x) free
@@ -133,7 +133,7 @@ evaluated scope at free (Unary op e) =
     record { instrs = v.instrs; value = code.Unary op v.value; free = v.free }
 evaluated scope at free (Binary op a b) = joined (over_both op) op at (evaluated scope at free a) (λ then slot. evaluated scope then slot b)
 
--- several, one after another
+-- several expressions, lowered one after another
 pub record Arguments : Type 0 where
   pub instrs : List Instr
   pub values : List Expr

@@ -1,4 +1,4 @@
--- Helpers that no promise speaks of.
+-- Helpers, which no public contract mentions.
 pub mod Seen
 pub mod Bodies
 pub mod Programs

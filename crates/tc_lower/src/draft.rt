@@ -58,7 +58,7 @@ impl Draft {
         Ok(place)
     }
 
-    /// Writes an instruction where room was left.
+    /// Writes an instruction into the room that was left.
     #[tactic(auto, using(crate::proofs::Lists::rows))]
     pub(crate) fn put(&mut self, place: usize, instr: Instr)
         requires { place < length self.old }

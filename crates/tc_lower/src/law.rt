@@ -1,6 +1,6 @@
 //! What holds of the code of every program, and of its names.
 ghost use Rattle.std.specs.Prelude.{ℕ, ◌≤◌, ◌++◌, List};
-ghost use Rattle.tc_base.specs.declared.limits.TheConstants.{CELLS};
+ghost use Rattle.tc_limits.specs.declared.limits.TheConstants.{CELLS};
 ghost use Rattle.tc_code.specs.Lawful.{IsLawful};
 ghost use Rattle.tc_names.specs.Names.{meaning_in, own_declarations, program_declarations};
 ghost use Rattle.tc_tree.specs.Counts.{cells};
@@ -11,13 +11,14 @@ ghost use Rattle.tc_lower.specs.Kinds.{Agree};
 ghost use Rattle.tc_lower.specs.Lowering.{code_of};
 ghost use Rattle.tc_lower.specs.Things.{scope, own_things, program_things};
 
-/// The code of a program whose globals are few enough, and whose numbers are ints, is lawful, whatever its names.
+/// The code of a program whose cells fit and whose numbers are ints is lawful, whatever its names.
 pub fn code_is_lawful()
     ensures { (source : List ℕ) (p : Program) → cells p.globals ≤ CELLS → HasInts p → IsLawful (code_of source p) }
 {}
 
-/// A name in a body stands for a thing of the kind that the rules on names give it, and for nothing where it has no
-/// declaration. So where those rules are kept, each use of a name has its code.
+/// A name in a body stands for a thing of the kind that the rules for names give it, and for
+/// nothing without a declaration. So if a program keeps those rules, each use of a name has its
+/// code.
 pub fn names_stand_for_what_they_mean()
     ensures { (source : List ℕ) (p : Program) (parameters : List Name) (b : Body) (x : Name)
         → Agree (meaning_in source (own_declarations parameters b.locals ++ program_declarations p) x)

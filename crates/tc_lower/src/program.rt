@@ -1,6 +1,6 @@
 //! Programs as code.
 ghost use Rattle.std.specs.Prelude.{◌≡◌, ℤ, pos, ◌+◌, ◌<◌, ◌≤◌, ◌^◌, ◌++◌, ◌∷◌, [], length, map, codes, OnOk, IfOk};
-ghost use Rattle.tc_base.specs.declared.limits.TheConstants.{CELLS, PROGRAM_BYTES};
+ghost use Rattle.tc_limits.specs.declared.limits.TheConstants.{CELLS, PROGRAM_BYTES};
 ghost use Rattle.tc_tree.specs.Counts as count;
 ghost use Rattle.tc_tree.specs.Numbers.{HasInts};
 ghost use Rattle.tc_tree.specs.Grammar.{program_words};
@@ -13,16 +13,16 @@ use crate::statement::Body as Code;
 use crate::tables::{ProgramThings, elements, own_things, program_things};
 use crate::things::{Named, Scope};
 use crate::value::Writer;
+use int_ops::{UnOp, arith};
 use std::alloc::{AllocError, Global as Heap};
-use tc_base::{UnOp, arith};
 use tc_code::{Func, FuncName, Instr, Lines};
 use tc_tree::{Body, Global, Initial, Name, Program, Thread, Tree};
 
 /// The code of a program: each thread is a function, and main is the last.
 ///
-/// It takes what is known of each tree that was read: its cells fit, its tokens are no more than a text may have bytes,
-/// and its numbers are ints. A name that has no declaration, or one of another kind, has no code: the rules on names
-/// keep it out.
+/// It relies on what is known of each tree that was read: its cells fit, it has no more tokens than
+/// a text may have bytes, and its numbers are ints. A name without a declaration or of a wrong kind
+/// has no code: the rules for names exclude it.
 pub fn lower(alloc: Heap, tree: &Tree) -> Result<tc_code::Code, AllocError>
     requires cells { count.cells (program_of tree.now.program).globals ≤ CELLS }
     requires few { length (program_words (program_of tree.now.program)) ≤ PROGRAM_BYTES }
@@ -110,7 +110,7 @@ fn name_of(alloc: Heap, text: &[u8]) -> Result<FuncName, AllocError>
     Ok(FuncName::new(bytes))
 }
 
-/// What each cell begins with.
+/// The initial value of each cell.
 fn memory_of(alloc: Heap, globals: &[Global]) -> Result<Vec<i32>, AllocError>
     requires { count.cells globals.now ≤ CELLS }
     ensures { IfOk result (λ memory. memory.items ≡ spec.memory_of globals.now) }

@@ -1,4 +1,4 @@
-//! Statements without statements inside, as instructions.
+//! Statements without inner statements, as instructions.
 ghost use Rattle.std.specs.Prelude.{◌≡◌, ◌++◌, [], ◌∷◌, OnOk, IfOk, length};
 ghost use Rattle.tc_lower.specs.Statements as spec;
 ghost use Rattle.tc_lower.specs.helpers.Seen.{arguments_by, plain_scope, HasRoom, IsAdded};

@@ -1,6 +1,6 @@
 //! Statements as instructions, each with its line.
 ghost use Rattle.std.specs.Prelude.{◌≡◌, [], ◌+◌, ◌-◌, ◌<◌, ◌≤◌, ◌^◌, ◌∷◌, ◌++◌, OnOk, IfOk, length, map, drop, option_map, replicate, slice_set};
-ghost use Rattle.tc_base.specs.declared.limits.TheConstants.{PROGRAM_BYTES};
+ghost use Rattle.tc_limits.specs.declared.limits.TheConstants.{PROGRAM_BYTES};
 ghost use Rattle.tc_code.specs.declared.instr.Instr.TheVariants as flat;
 ghost use Rattle.tc_tree.specs.Seen.{statement_of, block_of, branch_of, otherwise_of};
 ghost use Rattle.tc_lower.specs.Statements as spec;
@@ -27,12 +27,12 @@ pub(crate) struct Body {
 #[derive(Drop)]
 struct Test {
     condition: Expr,
-    /// Where room is left for the branch.
+    /// The place of the branch, which isn't written yet.
     branch: usize,
 }
 
 impl Body {
-    /// Nothing so far, after so many slots.
+    /// An empty body, whose first `slots` slots are taken.
     pub(crate) fn new(alloc: Global, slots: u32) -> Body
         ensures draft { result.code.draft ≡ [] }
         ensures free { result.code.free ≡ slots }
@@ -47,7 +47,7 @@ impl Body {
         }
     }
 
-    /// The function of the body, which ends in an exit on this line.
+    /// The function of the body, which ends with an exit on this line.
     pub(crate) fn finish(
         self,
         name: FuncName,
@@ -168,7 +168,7 @@ impl Body {
         }
     }
 
-    /// Gives the line to the instructions that have none.
+    /// Gives this line to the instructions that have none.
     #[tactic(auto, using(crate::proofs::Lists::rows))]
     fn mark(&mut self, line: u32) -> Result<(), AllocError>
         requires { length self.old.lines.items ≤ length self.old.code.draft }
@@ -180,7 +180,7 @@ impl Body {
         Ok(())
     }
 
-    /// A `while`: its test, its body, and back.
+    /// A `while`: its test, its body, and the jump back.
     #[cycle(statements)]
     fn write_loop(&mut self, alloc: Global, scope: Scope, branch: &Branch) -> Result<(), AllocError>
         requires even { length self.old.lines.items ≡ length self.old.code.draft }
@@ -199,7 +199,7 @@ impl Body {
         Ok(())
     }
 
-    /// What stands at the end of a chain.
+    /// The `else` at the end of a chain, if there is one.
     #[cycle(statements)]
     fn write_last(
         &mut self,
@@ -220,7 +220,7 @@ impl Body {
         }
     }
 
-    /// A test and its body, and where more stands after it, room for the jump past that.
+    /// A test and its body, and, if more follows, room for the jump past that.
     #[cycle(statements)]
     fn write_branch(
         &mut self,
@@ -249,7 +249,7 @@ impl Body {
         Ok(())
     }
 
-    /// Leaves room for a jump to the end, where more stands after a body.
+    /// Leaves room for a jump to the end, if more follows the body.
     fn leave_jump(&mut self, more: bool, jumps: &mut Vec<usize>) -> Result<(), AllocError>
         ensures draft { OnOk result (self.new.code.draft ≡ self.old.code.draft ++ spec.passing more 0) }
         ensures jumps { OnOk result (jumps.new.items ≡ jumps.old.items ++ jump_place more (length self.old.code.draft)) }
@@ -262,7 +262,7 @@ impl Body {
         Ok(())
     }
 
-    /// Finds the value of a condition, and leaves room for its branch.
+    /// Computes the value of a condition, and leaves room for its branch.
     #[tactic(auto, using(crate::proofs::Lists::lined))]
     fn begin(&mut self, alloc: Global, scope: Scope, branch: &Branch) -> Result<Test, AllocError>
         requires even { length self.old.lines.items ≡ length self.old.code.draft }
@@ -311,7 +311,7 @@ impl Body {
     }
 }
 
-/// Whether anything stands after a body, where so many other branches come before.
+/// Whether anything follows the body of a branch, given how many other branches come first.
 #[tactic(auto, using(crate::proofs::Chains::mores))]
 fn goes_on(others: &[Branch], before: usize, last: &Option<Block>) -> bool
     ensures { result ≡ spec.goes_on (otherwise_of (map branch_of (drop before others.now)) (option_map block_of last.now)) }

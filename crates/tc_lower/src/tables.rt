@@ -1,6 +1,6 @@
 //! What declarations stand for: tables of names.
 ghost use Rattle.std.specs.Prelude.{◌≡◌, List, ◌∷◌, ◌+◌, ◌<◌, ◌≤◌, ◌^◌, ◌++◌, [], length, map, OnOk, IfOk};
-ghost use Rattle.tc_base.specs.declared.limits.TheConstants.{CELLS, PROGRAM_BYTES};
+ghost use Rattle.tc_limits.specs.declared.limits.TheConstants.{CELLS, PROGRAM_BYTES};
 ghost use Rattle.tc_tree.specs.Counts as count;
 ghost use Rattle.tc_tree.specs.declared.program.Local.{Local};
 ghost use Rattle.tc_tree.specs.Seen.{thread_of};
@@ -18,7 +18,7 @@ pub(crate) struct Numbers {
     pub(crate) conditions: u32,
 }
 
-/// What the names of a program stand for, and how much they number.
+/// What the names of a program stand for, and how many cells, mutexes and conditions there are.
 #[derive(Drop)]
 pub(crate) struct ProgramThings {
     pub(crate) names: Vec<Named>,
@@ -95,7 +95,7 @@ impl Numbers {
     }
 }
 
-/// The elements of an array of this length: no text has a negative one.
+/// The number of elements of an array of this length; in a text, lengths are never negative.
 pub(crate) fn elements(length: i32) -> u32
     ensures { result ≡ count.elements length }
 {
@@ -117,7 +117,7 @@ fn add_threads(names: &mut Vec<Named>, threads: &[Thread]) -> Result<(), AllocEr
     Ok(())
 }
 
-/// What the names of a body stand for, and how many slots and thread variables those are.
+/// What the names of a body stand for, and how many slots and thread variables it has.
 #[derive(Drop)]
 pub(crate) struct OwnThings {
     pub(crate) names: Vec<Named>,

@@ -8,15 +8,15 @@ use tc_tree::Name;
 /// What a name stands for.
 #[derive(Clone, Copy, Debug, PartialEq, Eq)]
 pub(crate) enum Thing {
-    /// An int of all threads: its cell.
+    /// A global int: its cell.
     Cell(u32),
-    /// An array: its first cell, and how many it has.
+    /// An array: its first cell, and how many cells it has.
     Array(u32, u32),
     /// A mutex.
     Mutex(u32),
     /// A condition.
     Condition(u32),
-    /// A thread: its function, and how many parameters that has.
+    /// A thread: its function, and how many parameters the function has.
     Function(u32, usize),
     /// A parameter or an int of the body: its slot.
     Slot(u32),
@@ -42,11 +42,11 @@ impl Named {
 /// What names stand for in a body.
 #[derive(Clone, Copy, Debug)]
 pub(crate) struct Scope<'t, 'o, 's> {
-    /// The text that the names stand in.
+    /// The text that the names are in.
     pub(crate) source: &'t [u8],
-    /// The body's own.
+    /// The body's own things.
     pub(crate) own: &'o [Named],
-    /// The program's.
+    /// The program's things.
     pub(crate) all: &'s [Named],
 }
 

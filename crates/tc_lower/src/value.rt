@@ -1,6 +1,6 @@
-//! Expressions as instructions and an expression over slots.
+//! Expressions lowered to instructions, and to an expression over slots.
 ghost use Rattle.std.specs.Prelude.{◌≡◌, ◌+◌, ◌<◌, ◌≤◌, ◌^◌, [], ◌∷◌, ◌++◌, length, Ok, OnOk, IfOk, Some, None, slice_set};
-ghost use Rattle.tc_base.specs.declared.limits.TheConstants.{PROGRAM_BYTES};
+ghost use Rattle.tc_limits.specs.declared.limits.TheConstants.{PROGRAM_BYTES};
 ghost use Rattle.tc_code.specs.Expr as plain;
 ghost use Rattle.tc_code.specs.declared.instr.Instr.TheVariants as flat;
 ghost use Rattle.tc_lower.specs.Values as spec;
@@ -8,8 +8,8 @@ ghost use Rattle.tc_lower.specs.helpers.Seen.{evaluated_by};
 
 use crate::draft::Draft;
 use crate::things::{Scope, Thing, thing_of};
+use int_ops::{BinOp, UnOp};
 use std::alloc::{AllocError, Global};
-use tc_base::{BinOp, UnOp};
 use tc_code::{Expr, Instr, Node as Part};
 use tc_tree::{Expression, Node, Operator};
 
@@ -20,19 +20,19 @@ pub(crate) struct Writer {
     pub(crate) free: u32,
 }
 
-/// What `&&` or `||` leaves open until its right side is written.
+/// What is open of an `&&` or `||` until its right side is written.
 #[derive(Drop)]
 struct Choice {
     /// The slot that takes its value.
     slot: u32,
-    /// What is 0 where the left side decides alone.
+    /// An expression that is 0 if the left side decides the result alone.
     undecided: Expr,
-    /// Where room is left for the branch past the right side.
+    /// The place of the branch past the right side, which isn't written yet.
     branch: usize,
 }
 
 impl Writer {
-    /// Writes an expression's instructions, and gives what then stands for its value.
+    /// Writes an expression's instructions, and returns the expression that then has its value.
     #[tactic(auto, using(crate::proofs::Lists::choices))]
     pub(crate) fn evaluate(
         &mut self,
@@ -111,7 +111,7 @@ impl Writer {
         }
     }
 
-    /// The value of an array's element, once its index was found.
+    /// The value of an array's element, given the value of its index.
     fn read_element(
         &mut self,
         alloc: Global,
@@ -141,7 +141,7 @@ impl Writer {
         Ok(Expr::slot(slot))
     }
 
-    /// An operator over two values, once what it asks of the right one is tested.
+    /// An operator on two values, after the test of the right one.
     fn join(
         &mut self,
         alloc: Global,
@@ -165,7 +165,8 @@ impl Writer {
         Expr::binary(alloc, op, left, right)
     }
 
-    /// Writes what the left side of `&&` or `||` decides alone, and leaves room for the branch past the right side.
+    /// Writes the result if the left side of `&&` or `||` decides alone, and leaves room for the
+    /// branch past the right side.
     fn begin_choice(
         &mut self,
         alloc: Global,
@@ -193,7 +194,7 @@ impl Writer {
         })
     }
 
-    /// Writes what the right side decides, and the branch past that.
+    /// Writes the result of the right side, and the branch past it.
     fn end_choice(&mut self, alloc: Global, choice: Choice, right: Expr) -> Result<(), AllocError>
         requires room { length self.old.draft < 2 ^ 31 }
         requires branch { choice.branch < length self.old.draft }
@@ -219,7 +220,7 @@ impl Writer {
     }
 }
 
-/// The operator over the values of both sides: `&&` and `||` are none, since they may leave the right side alone.
+/// The operator on the values of both sides; none for `&&` and `||`, which may skip the right side.
 fn over_both(op: Operator) -> Option<BinOp>
     ensures { result ≡ spec.over_both op }
 {
@@ -244,7 +245,7 @@ fn over_both(op: Operator) -> Option<BinOp>
     }
 }
 
-/// What the left side of `&&` or `||` decides alone.
+/// The result of `&&` or `||` if the left side decides it alone.
 fn decided(op: Operator) -> i32
     ensures { result ≡ spec.decided op }
 {
@@ -254,7 +255,7 @@ fn decided(op: Operator) -> i32
     }
 }
 
-/// What is 0 where the left side does so.
+/// An expression that is 0 if the left side decides the result alone.
 fn undecided(alloc: Global, op: Operator, left: Expr) -> Result<Expr, AllocError>
     ensures { IfOk result (λ e. e ≡ spec.undecided op left) }
 {
@@ -264,7 +265,7 @@ fn undecided(alloc: Global, op: Operator, left: Expr) -> Result<Expr, AllocError
     }
 }
 
-/// The same expression once more.
+/// A copy of the expression.
 pub(crate) fn copy(alloc: Global, e: &Expr) -> Result<Expr, AllocError>
     ensures { IfOk result (λ same. same ≡ e.now) }
 {

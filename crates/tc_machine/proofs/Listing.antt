@@ -13,7 +13,7 @@ use Rattle.std.proofs.lemmas.Map.Views.{Contains-from_any}
 use Rattle.std.proofs.lemmas.Option.{none-some, same_Some, option_and_then_some, cond_some}
 use Rattle.tc_base.specs.Names.{Name, ByName}
 use Rattle.tc_base.specs.Buffers.{BufferOps}
-use Rattle.tc_base.specs.declared.model.Model.{Model}
+use Rattle.memory_models.specs.declared.model.Model.{Model}
 use Rattle.store_buffers.specs.Pending.{Binding}
 use Rattle.store_buffers.specs.Laws.{Laws, AreForms}
 use Rattle.tc_base.specs.States.{Thread, State}

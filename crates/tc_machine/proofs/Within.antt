@@ -34,7 +34,7 @@ use Rattle.std.proofs.lemmas.Option.{none-some, same_Some, option_and_then_some,
 use Rattle.tc_base.specs.Names.{Name, ByName, main, child}
 use Rattle.tc_base.specs.Buffers.{BufferOps, Entry}
 use Rattle.tc_base.specs.States.{Thread, State}
-use Rattle.tc_base.specs.declared.model.Model.{Model}
+use Rattle.memory_models.specs.declared.model.Model.{Model}
 use Rattle.tc_base.specs.declared.moves.Move.{Move}
 use Rattle.tc_base.specs.declared.moves.Move.TheVariants as move
 use Rattle.tc_base.specs.declared.request.Request.{Request}

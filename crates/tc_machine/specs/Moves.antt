@@ -1,4 +1,4 @@
--- The moves that are enabled in a state, in the order in which they are listed.
+-- The enabled moves of a state, in the order in which they are listed.
 use Rattle.std.specs.Prelude.{List, ◌∷◌, ◌++◌, length, map, Bool, is_some, Some, None, filter}
 use Rattle.std.specs.List.{flat_map, range_with_len}
 use Rattle.std.specs.FinMap as fin
@@ -12,7 +12,7 @@ use Rattle.tc_machine.specs.declared.choice.Choice.TheVariants as choice
 use Rattle.tc_code.specs.Code.{Code}
 use Rattle.tc_code.specs.Step.{step}
 
--- the move that names which are lent tell
+-- the move of a choice, whose names are borrowed
 abbrev pub move_of : Choice → Move
 move_of (choice.Run n) = Run n.now
 move_of (choice.Wake n u) = Wake n.now u.now
@@ -22,18 +22,18 @@ module _ {B : Type 0} (ops : BufferOps B) (code : Code) (s : State B) where
   abbrev pub is_enabled : Move → Bool
   is_enabled m = is_some (step ops code s m)
 
-  -- the steps that a thread might take: to run, or to wake one of the threads, by their names
+  -- a thread's possible steps: to run, or to wake one of the threads, in order of names
   abbrev pub steps_of : Name → List Move
   steps_of n = Run n ∷ map (λ u. Wake n u) (fin.keys s.threads)
 
-  -- the drains of its buffer: of its oldest store, or of its oldest to a cell, by rising cell
+  -- a thread's possible drains: of its oldest store, or of its oldest to a cell, in order of cells
   abbrev pub drains_of : Name → List Move
   drains_of n = Drain n None ∷ map (λ c. Drain n (Some c)) (range_with_len 0 (length s.memory))
 
-  -- the enabled ones of these
+  -- a thread's enabled moves
   abbrev pub moves_of : Name → List Move
   moves_of n = filter is_enabled (steps_of n ++ drains_of n)
 
-  -- the enabled moves, by the names of the threads that make them
+  -- all enabled moves, in order of the names of their threads
   abbrev pub enabled_moves : List Move
   enabled_moves = flat_map moves_of (fin.keys s.threads)

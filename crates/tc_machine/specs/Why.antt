@@ -19,7 +19,7 @@ use Rattle.tc_machine.specs.declared.fault.StepFault.TheVariants.{NotEnabled, Me
 use Rattle.tc_machine.specs.declared.why.Why.{Why}
 use Rattle.tc_machine.specs.declared.why.Why.TheVariants.{Stopped, NoThread, Exited, NotDrained, NotWoken, Held, NotEnded, WaiterNeeded, WrongWaiter, NoEntry}
 
--- the reason's name
+-- the name of a reason
 abbrev pub why_text : Why → List ℕ
 why_text Stopped = codes "Stopped"
 why_text NoThread = codes "NoThread"
@@ -33,11 +33,11 @@ why_text WrongWaiter = codes "WrongWaiter"
 why_text NoEntry = codes "NoEntry"
 
 module _ {B : Type 0} where
-  -- a mutex that has an owner, which may be the thread itself
+  -- why a mutex can't be acquired: it has an owner, maybe the thread itself
   abbrev pub why_taken : State B → ℕ → Option Why
   why_taken s m = if is_free s m then None else Some Held
 
-  -- what the other threads don't let be
+  -- why mutexes, waiters or children don't allow a request
   abbrev pub why_let : State B → Name → Request → Option Why
   why_let s n (Acquire m) = why_taken s m
   why_let s n (EndWait c m) = if set.contains (waiting_on s c) n then Some NotWoken else why_taken s m
@@ -45,20 +45,20 @@ module _ {B : Type 0} where
   why_let s n (Await k) = if child_has_exited s n k then None else Some NotEnded
   why_let s n _ = None
 
-  -- a thread that is to be woken, and doesn't wait on the condition
+  -- why a thread can't be woken: it doesn't wait on the condition
   abbrev pub why_not_there : State B → Name → ℕ → Option Why
   why_not_there s u c = if set.contains (waiting_on s c) u then None else Some WrongWaiter
 
 module _ {B : Type 0} (ops : BufferOps B) where
-  -- of the thread of a name, if there is one
+  -- the reason for the named thread, or that there is no such thread
   abbrev pub why_at : State B → Name → (Thread B → Option Why) → Option Why
   why_at s n reason = option_map_or reason (map.get s.threads n) (Some NoThread)
 
-  -- of that thread and the instruction that it does next, if there is one
+  -- the reason for the named thread and its next instruction, or that it has exited
   abbrev pub why_doing : Code → State B → Name → (Thread B → Instr → Option Why) → Option Why
   why_doing code s n reason = why_at s n (λ t. option_map_or (reason t) (instr_of code t.local) (Some Exited))
 
-  -- why a request can't be met now: most wait first for an empty buffer
+  -- why a request can't be met now; most requests first wait for an empty buffer
   abbrev pub why_unmet : State B → Name → Thread B → Request → Option Why
   why_unmet s n t r = if drains_first r && not (ops.is_empty t.buffer) then Some NotDrained else why_let s n r
 
@@ -71,17 +71,17 @@ module _ {B : Type 0} (ops : BufferOps B) where
   abbrev pub why_undrained : Option ℕ → Thread B → Option Why
   why_undrained form t = if ops.may_drain t.buffer form then None else Some NoEntry
 
-  -- where no thread has failed yet
+  -- why a move isn't enabled, in a state without a failure
   abbrev pub why_not : Code → State B → Move → Option Why
   why_not code s (Run n) = why_doing code s n (λ t i. why_unmet s n t (request t.local i))
   why_not code s (Wake n u) = why_doing code s n (why_unwoken s u)
   why_not code s (Drain n form) = why_at s n (why_undrained form)
 
-  -- the first reason for which the move isn't enabled, and none where it is; after a failure no move is
+  -- why a move isn't enabled, and none if it is; after a failure no move is enabled
   abbrev pub why : Code → State B → Move → Option Why
   why code s m = if is_some s.failed then Some Stopped else why_not code s m
 
--- the reason for which a move wasn't made, and none where there was no memory for it
+-- why a move wasn't made, and none if memory ran out
 abbrev pub reason_of : StepFault → Option Why
 reason_of (NotEnabled w) = Some w
 reason_of Memory = None

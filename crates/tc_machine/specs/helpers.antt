@@ -1,3 +1,3 @@
--- No promise speaks of what stands in this folder.
+-- No promise uses the definitions in this folder.
 pub mod CanDo
 pub mod Movers

@@ -10,7 +10,7 @@ use std::alloc::AllocError;
 pub enum StepFault {
     /// It isn't enabled, for this first reason.
     NotEnabled(Why),
-    /// There is no memory.
+    /// Memory ran out.
     Memory,
 }
 

@@ -1,4 +1,4 @@
-//! Laws of the machine, over every buffer. Each function's clause is a law, and its body does nothing.
+//! Laws of the machine, for every buffer. Each function states a law, and its body does nothing.
 ghost use Rattle.std.specs.Prelude.{◌↔◌, IsSome, IsNone};
 ghost use Rattle.tc_base.specs.Buffers.{BufferOps};
 ghost use Rattle.tc_base.specs.States.{State};
@@ -7,7 +7,7 @@ ghost use Rattle.tc_code.specs.Code.{Code};
 ghost use Rattle.tc_code.specs.Step.{step};
 ghost use Rattle.tc_machine.specs.Why.{why};
 
-/// A move is enabled exactly where there is no reason against it.
+/// A move is enabled if and only if there is no reason against it.
 #[tactic(auto)]
 pub fn no_reason_where_enabled<B>()
     ensures { (ops : BufferOps B) (code : Code) (s : State B) (m : Move)

@@ -1,4 +1,4 @@
-//! The moves that are enabled in a state.
+//! The enabled moves of a state.
 ghost use Rattle.std.specs.Prelude.{◌≡◌, [], ◌∷◌, ◌++◌, map, filter, false, Contains, IsSome, Some, IfOk, OnOk};
 ghost use Rattle.std.specs.Bool.{OnFalse};
 ghost use Rattle.std.specs.FinMap as fin;
@@ -18,8 +18,8 @@ use tc_base::{Move, ThreadName};
 use tc_code::{Code, Instr};
 use tc_threads::Thread;
 
-/// The enabled moves, by the names of the threads. Each thread's are to run or, at a signal on which others wait, to
-/// wake one of these, by their names; then the drains of its buffer, those of named cells by rising cell.
+/// The enabled moves, in order of thread names: for each thread its run or, at a signal with
+/// waiters, its wakes in order of names; then its drains in order of cells.
 pub fn moves<M: MemoryModel>(
     alloc: Global,
     code: &Code,
@@ -38,7 +38,7 @@ pub fn moves<M: MemoryModel>(
     Ok(found)
 }
 
-/// The enabled moves as `moves` lists them, by names that the state lends.
+/// The enabled moves as `moves` lists them, with names borrowed from the state.
 pub fn choices<'a, M: MemoryModel>(
     alloc: Global,
     code: &Code,
@@ -94,7 +94,7 @@ fn push_steps<'a, M: MemoryModel>(
     Ok(())
 }
 
-/// Whether a thread signals next. If not, it wakes nobody.
+/// Whether a thread's next instruction is a signal. If not, the thread can't wake another.
 fn signals<M: MemoryModel>(
     code: &Code,
     state: &State<M>,
@@ -107,7 +107,7 @@ fn signals<M: MemoryModel>(
     matches!(thread.instr(code), Some(Instr::Signal { .. }))
 }
 
-/// Adds the enabled moves in which a thread wakes another.
+/// Adds the enabled moves by which a thread wakes another.
 fn push_wakes<'a, M: MemoryModel>(
     found: &mut Vec<Choice<'a>>,
     code: &Code,
@@ -148,7 +148,7 @@ fn push_drains<'a, M: MemoryModel>(
     Ok(())
 }
 
-/// Adds a move of a thread, where it is enabled.
+/// Adds a move of a thread, if it is enabled.
 #[tactic(auto, using(crate::proofs::Reasons::reasons))]
 fn push_enabled<'a, M: MemoryModel>(
     found: &mut Vec<Choice<'a>>,

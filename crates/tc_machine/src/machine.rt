@@ -23,7 +23,7 @@ use tc_base::{Move, Request, ThreadName};
 use tc_code::{Code, Instr};
 use tc_threads::{Thread, drains_first};
 
-/// Whether a move is enabled, and the first reason why not.
+/// Whether a move is enabled, or the first reason why not.
 pub fn enabled<M: MemoryModel>(code: &Code, state: &State<M>, m: &Move) -> Result<(), Why>
     requires reached { IsReached M.ops code.now state.now }
     ensures { MatchResult result
@@ -45,7 +45,7 @@ pub fn enabled<M: MemoryModel>(code: &Code, state: &State<M>, m: &Move) -> Resul
     Ok(())
 }
 
-/// Whether a move of this thread is enabled, and the first reason why not.
+/// Whether a move of this thread is enabled, or the first reason why not.
 pub(crate) fn allowed<M: MemoryModel>(
     code: &Code,
     state: &State<M>,
@@ -73,7 +73,7 @@ pub(crate) fn allowed<M: MemoryModel>(
     Ok(())
 }
 
-/// The instruction at a thread's place and what it asks, where the thread can do it.
+/// A thread's next instruction and its request, if the thread can do it.
 fn may_run<'a, M: MemoryModel>(
     code: &'a Code,
     state: &State<M>,
@@ -97,7 +97,7 @@ fn may_run<'a, M: MemoryModel>(
     Ok((instr, request))
 }
 
-/// The signal at a thread's place and its condition, where the thread can wake another.
+/// The signal that a thread does next and its condition, if the thread can wake the waiter.
 fn may_wake<'a, M: MemoryModel>(
     code: &'a Code,
     state: &State<M>,
@@ -146,7 +146,7 @@ fn may_drain<M: MemoryModel>(
     }
 }
 
-/// The thread of a name, if there is one.
+/// The named thread, if it exists.
 fn find<'a, M: MemoryModel>(state: &'a State<M>, name: &ThreadName) -> Result<&'a Thread<M>, Why>
     ensures thread { IfOk result (λ t. map.get state.now.threads name.now ≡ Some t.now) }
     ensures err { IfErr result (λ w. (reason : states.Thread M.Buffer → Option Why)
@@ -155,7 +155,7 @@ fn find<'a, M: MemoryModel>(state: &'a State<M>, name: &ThreadName) -> Result<&'
     state.thread(name).ok_or(Why::NoThread)
 }
 
-/// The instruction that a thread does next, if there is one.
+/// A thread's next instruction, if there is one.
 fn next<'a, M: MemoryModel>(
     code: &'a Code,
     state: &State<M>,
@@ -170,7 +170,7 @@ fn next<'a, M: MemoryModel>(
     thread.instr(code).ok_or(Why::Exited)
 }
 
-/// Does a move that is enabled. Where memory is refused, the state stays as it was.
+/// Does an enabled move. If memory runs out, the state is unchanged.
 pub fn step<M: MemoryModel>(
     alloc: Global,
     code: &Code,
@@ -190,7 +190,7 @@ pub fn step<M: MemoryModel>(
     }
 }
 
-/// Does a move, where it is enabled. Where it isn't, or memory is refused, the state stays as it was.
+/// Does a move if it is enabled. If it isn't, or memory runs out, the state is unchanged.
 pub fn try_step<M: MemoryModel>(
     alloc: Global,
     code: &Code,
@@ -201,7 +201,7 @@ pub fn try_step<M: MemoryModel>(
     requires counters { CountersAreBelowLast state.old }
     ensures ok { OnOk result (step M.ops code.now state.old m.now ≡ Some state.new) }
     ensures err { OnErr result (state.new ≡ state.old) }
-    // Memory is refused only where there is no reason against the move.
+    // Memory can run out only if there is no reason against the move.
     ensures why { IfErr result (λ fault. why M.ops code.now state.old m.now ≡ reason_of fault) }
 {
     if state.failed().is_some() {
@@ -214,7 +214,7 @@ pub fn try_step<M: MemoryModel>(
     }
 }
 
-/// A thread does the instruction at its place, where it can.
+/// Does a thread's next instruction, if the thread can do it.
 #[tactic(auto, using(crate::proofs::Reasons::reasons))]
 fn run<M: MemoryModel>(
     alloc: Global,
@@ -233,7 +233,7 @@ fn run<M: MemoryModel>(
     Ok(state.perform(alloc, code, name, instr, request)?)
 }
 
-/// A thread signals, and wakes another, where it can.
+/// Does a thread's signal, which wakes another thread, if that is possible.
 #[tactic(auto, using(crate::proofs::Reasons::reasons))]
 fn wake<M: MemoryModel>(
     code: &Code,
@@ -252,7 +252,7 @@ fn wake<M: MemoryModel>(
     Ok(state.wake(name, waiter, instr, condition)?)
 }
 
-/// A buffered store of a thread reaches memory, where it can.
+/// Moves a buffered store of a thread to memory, if that is possible.
 #[tactic(auto, using(crate::proofs::Reasons::reasons))]
 fn drain<M: MemoryModel>(
     code: &Code,
@@ -272,7 +272,7 @@ fn drain<M: MemoryModel>(
     Ok(())
 }
 
-/// A code is lawful by its type: so each buffered store is to a cell that is there.
+/// A code is lawful by its type, so each buffered store is to a cell that exists.
 pub(crate) fn recall_lawful(code: &Code)
     ensures { IsLawful code.now }
 {

@@ -49,7 +49,7 @@ impl<M: MemoryModel> Model for State<M> {
     } };
 }
 
-/// The state that a run begins in: main alone, at its first instruction.
+/// The initial state of a run: main alone, at its first instruction.
 pub fn start<M: MemoryModel>(alloc: Global, code: &Code) -> Result<State<M>, AllocError>
     ensures { IfOk result (λ s. s ≡ opening M.ops code.now) }
 {
@@ -66,7 +66,7 @@ pub fn start<M: MemoryModel>(alloc: Global, code: &Code) -> Result<State<M>, All
     })
 }
 
-/// So many mutexes, all free.
+/// The owners of `count` mutexes, all free.
 fn no_owners(alloc: Global, count: u32) -> Result<Vec<Option<ThreadName>>, AllocError>
     ensures { IfOk result (λ owners. owners.items ≡ replicate count None) }
 {
@@ -77,7 +77,7 @@ fn no_owners(alloc: Global, count: u32) -> Result<Vec<Option<ThreadName>>, Alloc
     Ok(owners)
 }
 
-/// So many conditions, on which nobody waits.
+/// The wait sets of `count` conditions, all empty.
 fn no_waiters(alloc: Global, count: u32) -> Result<Vec<WaitSet>, AllocError>
     ensures { IfOk result (λ waiters. waiters.items ≡ replicate count set.empty) }
 {
@@ -89,7 +89,7 @@ fn no_waiters(alloc: Global, count: u32) -> Result<Vec<WaitSet>, AllocError>
 }
 
 impl<M: MemoryModel> State<M> {
-    /// The thread whose assertion failed.
+    /// The thread that failed, if any.
     pub fn failed(&self) -> Option<&ThreadName>
         ensures { option_map (λ n. n.now) result ≡ self.now.failed }
     {
@@ -103,7 +103,7 @@ impl<M: MemoryModel> State<M> {
         self.threads.names()
     }
 
-    /// How many instructions a thread has done, one that failed included.
+    /// The number of steps of a thread, a failing one included.
     pub fn steps_of(&self, name: &ThreadName) -> Option<u32>
         ensures { result ≡ option_map (λ t. t.local.steps) (map.get self.now.threads name.now) }
     {
@@ -126,7 +126,7 @@ impl<M: MemoryModel> State<M> {
         names.iter().all(|name| self.has_exited(name))
     }
 
-    /// Whether a thread is there and has exited.
+    /// Whether a thread exists and has exited.
     fn has_exited(&self, name: &ThreadName) -> bool
         ensures { result ≡ has_exited self.now name.now }
     {
@@ -136,7 +136,7 @@ impl<M: MemoryModel> State<M> {
         }
     }
 
-    /// The function that a thread runs, and the instruction there that it does next, by their numbers.
+    /// The indices of a thread's function and of its next instruction there.
     pub fn place_of(&self, name: &ThreadName) -> Option<(usize, usize)>
         ensures { result
             ≡ option_map (λ t. (t.local.function, t.local.instruction)) (map.get self.now.threads name.now) }
@@ -166,7 +166,7 @@ impl<M: MemoryModel> State<M> {
         &self.waiters[condition as usize]
     }
 
-    /// What the other threads don't let be.
+    /// Whether mutexes, waiters and children allow a request, or why not.
     pub(crate) fn lets(&self, name: &ThreadName, request: Request) -> Result<(), Why>
         requires { AsksIn self.now request }
         ensures { MatchResult result
@@ -199,7 +199,7 @@ impl<M: MemoryModel> State<M> {
         }
     }
 
-    /// Whether a mutex has no owner.
+    /// Whether a mutex is free, or why not.
     fn check_free(&self, mutex: u32) -> Result<(), Why>
         requires { mutex < length self.now.owners }
         ensures { MatchResult result
@@ -212,7 +212,7 @@ impl<M: MemoryModel> State<M> {
         }
     }
 
-    /// A thread does an instruction, whose request may be met.
+    /// Does a thread's instruction, whose request may be met.
     pub(crate) fn perform(
         &mut self,
         alloc: Global,
@@ -265,7 +265,8 @@ impl<M: MemoryModel> State<M> {
         Ok(())
     }
 
-    /// What a load of a thread takes: its own newest store to the cell, and else memory.
+    /// What a thread's load returns: its newest pending store to the cell, else the value in
+    /// memory.
     fn loaded(&self, name: &ThreadName, cell: u32) -> i32
         requires { cell < length self.now.memory }
         ensures { IfSome (map.get self.now.threads name.now) (λ t. result ≡ loaded M.ops self.now t cell) }
@@ -277,7 +278,7 @@ impl<M: MemoryModel> State<M> {
         own.unwrap_or(self.memory[cell as usize])
     }
 
-    /// A thread's store goes to memory, or into its buffer where the model has buffers.
+    /// Puts a thread's store into its buffer, or into memory if the model has no buffers.
     fn store(
         &mut self,
         name: &ThreadName,
@@ -302,7 +303,7 @@ impl<M: MemoryModel> State<M> {
         Ok(())
     }
 
-    /// A thread fails, at its place.
+    /// Makes a thread fail at its place.
     fn fail(&mut self, name: &ThreadName) -> Result<(), AllocError>
         requires { IfSome (map.get self.old.threads name.now) (λ t. HasRoom t.local) }
         ensures ok { OnOk result (IfSome (map.get self.old.threads name.now)
@@ -315,7 +316,7 @@ impl<M: MemoryModel> State<M> {
         Ok(())
     }
 
-    /// A thread takes a mutex.
+    /// Acquires a mutex for a thread.
     fn take(&mut self, name: &ThreadName, instr: &Instr, mutex: u32) -> Result<(), AllocError>
         requires can { CanAdvance self.old.threads name.now instr.now }
         requires there { mutex < length self.old.owners }
@@ -329,7 +330,7 @@ impl<M: MemoryModel> State<M> {
         Ok(())
     }
 
-    /// A thread leaves a mutex, and waits on a condition.
+    /// Releases a thread's mutex and makes the thread wait on a condition.
     fn sleep(
         &mut self,
         name: &ThreadName,
@@ -355,7 +356,7 @@ impl<M: MemoryModel> State<M> {
         Ok(())
     }
 
-    /// A thread creates a child, which does the function.
+    /// Creates a child of a thread, which runs the function.
     fn create(
         &mut self,
         alloc: Global,
@@ -380,7 +381,7 @@ impl<M: MemoryModel> State<M> {
         self.threads.create(name, instr, child, thread)
     }
 
-    /// A thread signals, and wakes a thread that waits on the condition.
+    /// Does a thread's signal, which wakes a thread that waits on the condition.
     pub(crate) fn wake(
         &mut self,
         name: &ThreadName,
@@ -400,7 +401,7 @@ impl<M: MemoryModel> State<M> {
         Ok(())
     }
 
-    /// A buffered store of a thread reaches memory.
+    /// Moves a buffered store of a thread to memory.
     pub(crate) fn drain(&mut self, name: &ThreadName, form: Option<u32>)
         requires can { IsSomeAnd (map.get self.old.threads name.now) (λ t. M.ops.may_drain t.buffer form ≡ true) }
         requires within { IfSome (map.get self.old.threads name.now)

@@ -9,24 +9,24 @@ use std::fmt;
 pub enum Why {
     /// A thread has failed, and the run has ended.
     Stopped,
-    /// There is no thread of that name.
+    /// There is no thread with this name.
     NoThread,
     /// The thread has no instruction left to do.
     Exited,
-    /// The instruction needs the thread's store buffer to be empty, and it isn't.
+    /// The instruction needs an empty store buffer, and the thread's isn't empty.
     NotDrained,
     /// The thread waits, and no signal has woken it.
     NotWoken,
     /// A thread holds the mutex, this one or another.
     Held,
-    /// The thread that is joined hasn't ended.
+    /// The thread to join hasn't exited.
     NotEnded,
-    /// Threads wait on the condition, and the move doesn't say which of them wakes.
+    /// Threads wait on the condition, and the move doesn't say which one to wake.
     WaiterNeeded,
-    /// The waiter that the thread should wake doesn't wait there. Where the thread isn't at a signal this comes
+    /// The thread to wake doesn't wait there. If the waking thread isn't at a signal, this comes
     /// before `NotDrained`.
     WrongWaiter,
-    /// There is no such store to drain.
+    /// There is no store that may drain by this form.
     NoEntry,
 }
 

@@ -1,6 +1,6 @@
 -- The rules on names tell of no want of memory.
 use Rattle.std.proofs.Common.{ℕ, Bool, true, false, if◌then◌else◌, List, [], ◌∷◌, ◌++◌, length, map, nat_eq, Option, Some, None}
-use Rattle.tc_base.specs.declared.place.Place.{Place}
+use Rattle.tc_lexer.specs.declared.place.Place.{Place}
 use Rattle.tc_names.specs.declared.fault.NameFault.{NameFault}
 use Rattle.tc_names.specs.declared.fault.NameFault.TheVariants.{Unknown, Twice, Kind, Arguments, Memory}
 use Rattle.tc_names.specs.declared.scope.Declaration.{Declaration}

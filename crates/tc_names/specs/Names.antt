@@ -1,6 +1,6 @@
--- The rules on names: the first token of a program, in the order of its text, that breaks one.
+-- The rules for names: the first token of a program, in the order of its text, that breaks one.
 use Rattle.std.specs.Prelude.{ℕ, ℤ, pos, nat_eq, Bool, true, false, List, [], ◌∷◌, ◌++◌, length, map, Option, Some, None, bytes_eq, slice_range, if◌then◌else◌}
-use Rattle.tc_base.specs.declared.place.Place.{Place}
+use Rattle.tc_lexer.specs.declared.place.Place.{Place}
 use Rattle.tc_tree.specs.declared.statement.Action.{Action}
 use Rattle.tc_tree.specs.declared.statement.Action.TheVariants.{Join, Lock, Unlock, Signal, Broadcast}
 use Rattle.tc_names.specs.declared.fault.NameFault.{NameFault}
@@ -45,17 +45,17 @@ use Rattle.tc_tree.specs.Grammar.{
   Program,
 }
 
--- the first of two faults in the order of the text
+-- the first fault if there is one, otherwise the later one
 infixr 5 ◌then◌
 abbrev pub ◌then◌ : Option NameFault → Option NameFault → Option NameFault
 Some f then later = Some f
 None then later = later
 
--- the bytes of a name of this text
+-- the bytes of a name in this text
 abbrev pub name_text : List ℕ → Name → List ℕ
 name_text source x = slice_range source x.start x.end
 
--- what a name means: its first declaration
+-- the meaning of a name: that of its first declaration
 abbrev pub meaning_in : List ℕ → List Declaration → Name → Option Meaning
 meaning_in source [] x = None
 meaning_in source (d ∷ ds) x = if bytes_eq (name_text source d.name) (name_text source x) then Some d.meaning else meaning_in source ds x
@@ -69,7 +69,7 @@ use_fault (Some m) fits p = if fits m then None else Some (Kind p)
 abbrev pub name_fault : (Meaning → Bool) → (Name → Option Meaning) → Name → Option NameFault
 name_fault fits scope x = use_fault (scope x) fits x.place
 
--- exactly this
+-- whether two meanings are the same
 abbrev pub is_meaning : Meaning → Meaning → Bool
 is_meaning meaning.Global meaning.Global = true
 is_meaning meaning.Array meaning.Array = true
@@ -81,14 +81,14 @@ is_meaning meaning.Local meaning.Local = true
 is_meaning meaning.Handle meaning.Handle = true
 is_meaning _ _ = false
 
--- an int of all threads, a parameter or an int of the body
+-- whether the meaning is an int: a global, a parameter or an int of the body
 abbrev pub is_int : Meaning → Bool
 is_int meaning.Global = true
 is_int meaning.Parameter = true
 is_int meaning.Local = true
 is_int _ = false
 
--- a thread has as many parameters as it is given arguments
+-- the fault of a create: its name is unknown, no thread, or has another number of parameters
 abbrev pub thread_use_fault : Option Meaning → ℕ → Place → Option NameFault
 thread_use_fault None n p = Some (Unknown p)
 thread_use_fault (Some (meaning.Thread parameters)) n p = if nat_eq parameters n then None else Some (Arguments p)
@@ -143,7 +143,7 @@ abbrev mutual
 
 -- ---- declarations
 
--- the name has no earlier declaration in its scope
+-- the fault of a declared name that has an earlier declaration in its scope
 abbrev pub twice_fault : List ℕ → List Declaration → Name → Option NameFault
 twice_fault source earlier x = elim (meaning_in source earlier x) [ Some m ↦ Some (Twice x.place) | None ↦ None ]
 
@@ -179,7 +179,7 @@ local_meaning (Handle x) = meaning.Handle
 abbrev pub local_declaration : Local → Declaration
 local_declaration l = record { name = local_name l; meaning = local_meaning l }
 
--- an array has an element
+-- whether a length is 0, which no array may have
 abbrev pub is_nought : ℤ → Bool
 is_nought (pos n) = nat_eq n 0
 is_nought _ = false
@@ -188,28 +188,28 @@ abbrev pub size_fault : Global → Option NameFault
 size_fault (Array x n) = if is_nought n.value then Some (Kind n.place) else None
 size_fault _ = None
 
--- each of these is declared once, after those
+-- the first fault of these globals, which come after the earlier declarations
 abbrev pub globals_fault : List ℕ → List Declaration → List Global → Option NameFault
 globals_fault source earlier [] = None
 globals_fault source earlier (g ∷ gs) = twice_fault source earlier (global_name g) then size_fault g
     then globals_fault source (earlier ++ global_declaration g ∷ []) gs
 
--- a body's own declarations are its parameters and then its locals
+-- a body's own declarations: its parameters, then its locals
 abbrev pub own_declarations : List Name → List Local → List Declaration
 own_declarations parameters locals = map parameter_declaration parameters ++ map local_declaration locals
 
--- each is declared once, after those
+-- the first fault of these declarations, which come after the earlier ones
 abbrev pub declarations_fault : List ℕ → List Declaration → List Declaration → Option NameFault
 declarations_fault source earlier [] = None
 declarations_fault source earlier (d ∷ ds) = twice_fault source earlier d.name then declarations_fault source (earlier ++ d ∷ []) ds
 
 -- ---- programs
 
--- the global declarations and the threads, which are known in the whole program
+-- the declarations of the whole program: its globals and its threads
 abbrev pub program_declarations : Program → List Declaration
 program_declarations p = map global_declaration p.globals ++ map thread_declaration p.threads
 
--- a name means what the body's own declarations make of it, and else what the program's do
+-- the first fault of a body, whose own declarations shadow those of the program
 abbrev pub body_fault : List ℕ → List Declaration → List Name → Body → Option NameFault
 body_fault source all parameters b =
     let own = own_declarations parameters b.locals in

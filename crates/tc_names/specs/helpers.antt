@@ -1,2 +1,2 @@
--- Helpers that no promise speaks of.
+-- Helpers, which no public contract mentions.
 pub mod Answers

@@ -1,20 +1,20 @@
 //! What is wrong with a name.
 
 use std::alloc::{AllocError, AllocFailed};
-use tc_base::Place;
+use tc_lexer::Place;
 
-/// What is wrong with a name, and where it stands.
+/// What is wrong with a name, and where.
 #[derive(Clone, Copy, Debug, PartialEq, Eq)]
 pub enum NameFault {
-    /// It has no declaration.
+    /// The name has no declaration.
     Unknown(Place),
-    /// It declares a name that was declared earlier in its scope.
+    /// The name was declared earlier in its scope.
     Twice(Place),
-    /// It is of another kind than its use asks for, or the number is the length 0 of an array.
+    /// The name is of another kind than its use needs, or the length of an array is 0.
     Kind(Place),
     /// The thread has another number of parameters.
     Arguments(Place),
-    /// There is no memory.
+    /// Memory ran out.
     Memory,
 }
 

@@ -1,4 +1,4 @@
-//! The rules on names: each is declared once in its scope, and used as what it is.
+//! The rules for names: each is declared once in its scope, and used as what it is.
 #![tactic(auto)]
 
 mod fault;

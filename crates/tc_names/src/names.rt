@@ -23,7 +23,7 @@ use crate::uses::check_statements;
 use std::alloc::{AllocError, Global as Heap};
 use tc_tree::{Body, Global, Local, Name, Program, Thread, Tree};
 
-/// Refuses a program at the first token that breaks the rules on names.
+/// Rejects a program at the first token that breaks the rules for names.
 pub fn check_names(alloc: Heap, tree: &Tree) -> Result<(), NameFault>
     ensures { TellsUnlessMemory result (names_fault tree.now.text.now (program_of tree.now.program)) }
 {
@@ -86,7 +86,7 @@ fn global_declaration(global: &Global) -> Declaration
     }
 }
 
-/// The globals, of which these are the first declarations.
+/// Checks the globals, which are the first of these declarations.
 fn check_globals(source: &[u8], all: &[Declaration], globals: &[Global]) -> Result<(), NameFault>
     requires { all.now ≡ map rules.global_declaration globals.now ++ drop (length globals.now) all.now }
     ensures { Tells result (globals_fault source.now [] globals.now) }
@@ -119,7 +119,7 @@ fn check_global(source: &[u8], earlier: &[Declaration], global: &Global) -> Resu
     }
 }
 
-/// The threads, declared after so many globals.
+/// Checks the threads, which are declared after the globals.
 fn check_threads(
     alloc: Heap,
     source: &[u8],
@@ -147,7 +147,7 @@ fn check_threads(
     Ok(())
 }
 
-/// The parameters and the declarations of a body, then its statements.
+/// Checks the parameters and the declarations of a body, then its statements.
 fn check_body(
     alloc: Heap,
     source: &[u8],
@@ -206,7 +206,7 @@ fn local_declaration(local: &Local) -> Declaration
     }
 }
 
-/// Refuses the first of a body's own declarations whose name was declared before it.
+/// Rejects the first of a body's own declarations whose name was declared before it.
 fn check_own(source: &[u8], own: &[Declaration]) -> Result<(), NameFault>
     ensures { Tells result (declarations_fault source.now [] own.now) }
 {

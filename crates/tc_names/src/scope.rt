@@ -18,7 +18,7 @@ pub enum Meaning {
     Mutex,
     /// A condition.
     Condition,
-    /// A thread with so many parameters.
+    /// A thread, with its number of parameters.
     Thread(usize),
     /// A parameter.
     Parameter,
@@ -33,22 +33,22 @@ pub enum Meaning {
 pub struct Declaration {
     /// The name, where it is declared.
     pub name: Name,
-    /// What the declaration makes of it.
+    /// What the declaration says that it means.
     pub meaning: Meaning,
 }
 
 /// What names mean in a body.
 #[derive(Clone, Copy, Debug)]
 pub(crate) struct Scope<'t, 'o, 's> {
-    /// The text that the names stand in.
+    /// The text that the names are in.
     pub(crate) source: &'t [u8],
     /// The body's own declarations.
     pub(crate) own: &'o [Declaration],
-    /// The program's.
+    /// The program's declarations.
     pub(crate) all: &'s [Declaration],
 }
 
-/// What the first declaration of the name makes of it.
+/// The meaning of a name by its first declaration.
 fn find(source: &[u8], declarations: &[Declaration], name: &Name) -> Option<Meaning>
     ensures { result ≡ meaning_in source.now declarations.now name.now }
 {
@@ -63,7 +63,7 @@ fn find(source: &[u8], declarations: &[Declaration], name: &Name) -> Option<Mean
     None
 }
 
-/// What a name means, where it has a declaration.
+/// What a name means, if it has a declaration.
 pub(crate) fn meaning_of(scope: Scope, name: &Name) -> Result<Meaning, NameFault>
     ensures { MatchResult result
         (λ m. plain_scope scope.entry name.now ≡ Some m)
@@ -78,7 +78,7 @@ pub(crate) fn meaning_of(scope: Scope, name: &Name) -> Result<Meaning, NameFault
     }
 }
 
-/// Refuses a declaration of a name that was declared earlier.
+/// Rejects a declaration of a name that was declared earlier.
 pub(crate) fn check_first(
     source: &[u8],
     earlier: &[Declaration],

@@ -19,7 +19,7 @@ use crate::fault::NameFault;
 use crate::scope::{Meaning, Scope, meaning_of};
 use tc_tree::{Action, Block, Branch, Expression, Name, Node, Statement};
 
-/// Refuses a name of another meaning.
+/// Rejects a name with another meaning.
 fn check_meaning(scope: Scope, name: &Name, wanted: Meaning) -> Result<(), NameFault>
     ensures { Tells result (name_fault (is_meaning wanted) (plain_scope scope.entry) name.now) }
 {
@@ -30,7 +30,7 @@ fn check_meaning(scope: Scope, name: &Name, wanted: Meaning) -> Result<(), NameF
     }
 }
 
-/// Refuses a name that is no int.
+/// Rejects a name that isn't an int.
 fn check_int(scope: Scope, name: &Name) -> Result<(), NameFault>
     ensures { Tells result (name_fault is_int (plain_scope scope.entry) name.now) }
 {
@@ -40,7 +40,7 @@ fn check_int(scope: Scope, name: &Name) -> Result<(), NameFault>
     }
 }
 
-/// Refuses a name that is no thread, or one with another number of parameters.
+/// Rejects a name that isn't a thread, or is one with another number of parameters.
 fn check_thread(scope: Scope, name: &Name, arguments: usize) -> Result<(), NameFault>
     ensures { Tells result (thread_fault (plain_scope scope.entry) name.now arguments) }
 {

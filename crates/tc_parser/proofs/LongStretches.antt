@@ -5,7 +5,7 @@ use Rattle.std.specs.Prelude.{nat_lt}
 use Rattle.std.specs.List.{slice_split, onto_first, find}
 use Rattle.std.proofs.lemmas.Bool.{cases_Bool, cond-true, cond-false}
 use Rattle.std.proofs.lemmas.List.Splits.{slice_split-cons_yes, slice_split-cons_no}
-use Rattle.tc_base.specs.declared.limits.TheConstants.{STRETCH}
+use Rattle.tc_limits.specs.declared.limits.TheConstants.{STRETCH}
 use Rattle.tc_lexer.specs.declared.token.Token.{Token}
 use Rattle.tc_parser.specs.Programs.{ends_stretch, long_stretch}
 

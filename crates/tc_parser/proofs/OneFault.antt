@@ -31,7 +31,7 @@ use Rattle.std.specs.Prelude.{nat_lt}
 use Rattle.std.proofs.lemmas.Bool.{cases_lt, cond-true, cond-false, lt-ltb, le-ltb}
 use Rattle.std.proofs.lemmas.List.{drop_more}
 use Rattle.std.proofs.lemmas.Option.{none-some, same_Some}
-use Rattle.tc_base.specs.declared.limits.TheConstants.{BRACKETS, CELLS, MUTEXES, CONDITIONS}
+use Rattle.tc_limits.specs.declared.limits.TheConstants.{BRACKETS, CELLS, MUTEXES, CONDITIONS}
 use Rattle.tc_lexer.specs.declared.token.Token.{Token}
 use Rattle.tc_lexer.specs.Places.{place_after}
 use Rattle.tc_lexer.specs.Text.{AreTokens, tokens_after, fault_at}

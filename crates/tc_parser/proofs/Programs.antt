@@ -19,7 +19,7 @@ use Rattle.tc_tree.specs.Grammar.{Program, global_then, globals_then, threads_th
 use Rattle.tc_tree.specs.Words.{word_of, words_of}
 use Rattle.tc_syntax.specs.Faults.{IsStop}
 use Rattle.tc_syntax.specs.declared.reader.Stop.TheVariants.{Left}
-use Rattle.tc_base.specs.declared.place.Place.{Place}
+use Rattle.tc_lexer.specs.declared.place.Place.{Place}
 use Rattle.tc_names.specs.declared.fault.NameFault.{NameFault}
 use Rattle.tc_names.specs.declared.fault.NameFault.TheVariants as name
 use Rattle.tc_names.specs.Names.{names_fault}

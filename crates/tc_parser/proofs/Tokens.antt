@@ -4,7 +4,7 @@ use Rattle.std.proofs.Common.{inl, inr}
 use Rattle.std.proofs.lemmas.Bool.{cases_lt}
 use Rattle.std.proofs.lemmas.List.{take_all, take_more}
 use Rattle.std.proofs.lemmas.List.Sums.{fold-append}
-use Rattle.tc_base.specs.declared.limits.TheConstants.{BRACKETS}
+use Rattle.tc_limits.specs.declared.limits.TheConstants.{BRACKETS}
 use Rattle.tc_lexer.specs.declared.token.Token.{Token}
 use Rattle.tc_parser.specs.Programs.{open_after_kind, open_after, IsNested, IsTooDeep}
 

@@ -1,7 +1,7 @@
--- What a program may have only so many of, and what is said of a text that is no program.
+-- The limits of a program, and the messages for texts that aren't programs.
 use Rattle.std.specs.Prelude.{ℕ, List, ◌++◌, codes}
 use Rattle.std.specs.Fmt.{decimal}
-use Rattle.tc_base.specs.declared.limits.TheConstants.{BRACKETS, STRETCH, CELLS, MUTEXES, CONDITIONS}
+use Rattle.tc_limits.specs.declared.limits.TheConstants.{BRACKETS, STRETCH, CELLS, MUTEXES, CONDITIONS}
 use Rattle.tc_lexer.specs.Faults.{at_place, lex_fault_text}
 use Rattle.tc_parser.specs.declared.fault.ParseFault.{ParseFault}
 use Rattle.tc_parser.specs.declared.fault.ParseFault.TheVariants.{Count, Syntax, Unknown, Twice, Kind, Arguments, Memory}
@@ -10,7 +10,7 @@ use Rattle.tc_parser.specs.declared.fault.TextFault.TheVariants.{Lex, Parse}
 use Rattle.tc_parser.specs.declared.fault.What.{What}
 use Rattle.tc_parser.specs.declared.fault.What.TheVariants.{Brackets, Stretch, Cells, Mutexes, Conditions}
 
--- how many of each a program may have
+-- how many of this a program may have
 abbrev pub limit_of : What → ℕ
 limit_of Brackets = BRACKETS
 limit_of Stretch = STRETCH
@@ -18,7 +18,7 @@ limit_of Cells = CELLS
 limit_of Mutexes = MUTEXES
 limit_of Conditions = CONDITIONS
 
--- what the lines of the command call it
+-- its name in the lines that the command prints
 abbrev pub name_of : What → List ℕ
 name_of Brackets = codes "Brackets"
 name_of Stretch = codes "Stretch"

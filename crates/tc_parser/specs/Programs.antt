@@ -1,7 +1,7 @@
--- Texts of programs, and the one fault of a text that is none. The language is told by its number.
+-- Texts of programs, and the one fault of any other text. A language is given by its number.
 use Rattle.std.specs.Prelude.{◌≡◌, ℕ, zero, suc, ◌+◌, ◌-◌, ◌<◌, ◌≤◌, Bool, true, false, nat_lt, List, [], ◌∷◌, length, map, take, fold, Option, Some, None}
 use Rattle.std.specs.List.{slice_split, find}
-use Rattle.tc_base.specs.declared.place.Place.{Place}
+use Rattle.tc_lexer.specs.declared.place.Place.{Place}
 use Rattle.tc_lexer.specs.declared.token.Sign.{Sign}
 use Rattle.tc_lexer.specs.declared.token.Sign.TheVariants.{OpenParen, CloseParen, OpenBracket, CloseBracket, OpenBrace, CloseBrace, Semicolon}
 use Rattle.tc_lexer.specs.declared.token.Token.{Token}
@@ -24,7 +24,7 @@ use Rattle.tc_parser.specs.Faults.{limit_of}
 
 -- ---- counts of tokens
 
--- how many brackets are open after one sign more: a closing one closes the last, whatever its shape, and nothing where none is open
+-- the number of open brackets after a sign; a closing one of any shape closes the last, if any
 abbrev pub open_after_sign : ℕ → Sign → ℕ
 open_after_sign n OpenParen = n + 1
 open_after_sign n OpenBracket = n + 1
@@ -38,15 +38,15 @@ abbrev pub open_after_kind : ℕ → TokenKind → ℕ
 open_after_kind n (kind.Sign s) = open_after_sign n s
 open_after_kind n _ = n
 
--- how many brackets are open after these tokens
+-- the number of open brackets after these tokens
 abbrev pub open_after : List Token → ℕ
 open_after tokens = fold (λ n t. open_after_kind n t.kind) 0 tokens
 
--- at each token no more brackets are open than a program may have
+-- the brackets never nest deeper than the limit
 abbrev pub IsNested : List Token → Type 0
 IsNested tokens = (k : ℕ) → open_after (take k tokens) ≤ limit_of Brackets
 
--- at some token more are
+-- at some token, the brackets nest deeper than the limit
 abbrev pub IsTooDeep : List Token → Type 0
 IsTooDeep tokens = (k : ℕ) × (limit_of Brackets < open_after (take k tokens))
 
@@ -56,19 +56,19 @@ ends_stretch (kind.Sign OpenBrace) = true
 ends_stretch (kind.Sign CloseBrace) = true
 ends_stretch _ = false
 
--- how many tokens the first part between `;`, `{` and `}` has that has too many
+-- the length of the first stretch between `;`, `{` and `}` that is too long, if there is one
 abbrev pub long_stretch : List Token → Option ℕ
 long_stretch tokens = find (λ n. nat_lt (limit_of Stretch) n) (map length (slice_split (λ t. ends_stretch t.kind) tokens))
 
 -- ---- programs
 
--- the tokens are the program's, nested no deeper and parted as often as they have to be
+-- the tokens spell the program, and keep the limits of nesting and of stretches
 pub record AreOfProgram (language : ℕ) (tokens : List Token) (p : Program) : Type 0 where
   pub nested : IsNested tokens
   pub parted : long_stretch tokens ≡ None
   pub spelled : IsSpelled language (words_of tokens) p
 
--- the text is the program's: its tokens are, each name is declared and used as it may be, and no more is declared than may be
+-- the text is this program: its tokens spell it, and it keeps the rules for names and the limits
 pub record IsProgram (language : ℕ) (text : List ℕ) (p : Program) : Type 0 where
   pub tokens : List Token
   pub read : AreTokens language text tokens
@@ -80,24 +80,24 @@ pub record IsProgram (language : ℕ) (text : List ℕ) (p : Program) : Type 0 w
 
 -- ---- faults
 
--- where the k-th of these tokens stands, or the text ends
+-- the place of the k-th token, or of the end of the text
 abbrev pub place_at : List ℕ → List Token → ℕ → Place
 place_at text [] k = place_after text
 place_at text (t ∷ ts) zero = t.place
 place_at text (t ∷ ts) (suc k) = place_at text ts k
 
--- the tokens are a program's, in which this is the first fault of a name
+-- the tokens spell a program, and this is its first fault of a name
 pub record HasNameFault (language : ℕ) (text : List ℕ) (tokens : List Token) (fault : NameFault) : Type 0 where
   pub program : Program
   pub are_of : AreOfProgram language tokens program
   pub is : names_fault text program ≡ Some fault
 
--- the tokens are the program's, and no name has a fault
+-- the tokens spell the program, and no name has a fault
 pub record AreNamed (language : ℕ) (text : List ℕ) (tokens : List Token) (p : Program) : Type 0 where
   pub are_of : AreOfProgram language tokens p
   pub names : names_fault text p ≡ None
 
--- the fault of the tokens of this text; each comes only where none before it does
+-- the fault of the tokens of this text; each kind occurs only if none before it does
 abbrev pub IsTokensFault : ℕ → List ℕ → List Token → ParseFault → Type 0
 IsTokensFault language text tokens (Count Brackets n) = IsTooDeep tokens × (n ≡ limit_of Brackets + 1)
 IsTokensFault language text tokens (Count Stretch n) = IsNested tokens × (long_stretch tokens ≡ Some n)

@@ -1,10 +1,10 @@
 //! How many brackets are open at once.
 ghost use Rattle.std.specs.Prelude.{◌≡◌, ◌≤◌, MatchBool};
-ghost use Rattle.tc_base.specs.declared.limits.TheConstants.{BRACKETS};
+ghost use Rattle.tc_limits.specs.declared.limits.TheConstants.{BRACKETS};
 ghost use Rattle.tc_parser.specs.Programs.{open_after_kind, IsNested, IsTooDeep};
 
-use tc_base::limits::BRACKETS;
 use tc_lexer::{Sign, Token, TokenKind};
+use tc_limits::limits::BRACKETS;
 
 /// Whether at some token more brackets are open than a program may have.
 pub(crate) fn is_too_deep(tokens: &[Token]) -> bool

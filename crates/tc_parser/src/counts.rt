@@ -1,6 +1,6 @@
-//! What a program may have only so many of.
+//! The limits of a program.
 ghost use Rattle.std.specs.Prelude.{◌≡◌, ◌≤◌, ◌<◌, List, length, MatchResult, ℕ, None};
-ghost use Rattle.tc_base.specs.declared.limits.TheConstants.{PROGRAM_BYTES};
+ghost use Rattle.tc_limits.specs.declared.limits.TheConstants.{PROGRAM_BYTES};
 ghost use Rattle.tc_tree.specs.Counts as count;
 ghost use Rattle.tc_parser.specs.declared.fault.ParseFault.TheVariants.{Count};
 ghost use Rattle.tc_parser.specs.Faults.{limit_of};
@@ -10,11 +10,11 @@ ghost use Rattle.tc_parser.specs.helpers.Parts.{HaveRoom, IsCountFault};
 use crate::brackets::is_too_deep;
 use crate::fault::{ParseFault, What};
 use crate::stretches::long_stretch;
-use tc_base::limits::BRACKETS;
 use tc_lexer::Token;
+use tc_limits::limits::BRACKETS;
 use tc_tree::Global;
 
-/// Refuses tokens with too many brackets open at once, or in too long a stretch.
+/// Rejects tokens with too many brackets open at once, or with too long a stretch.
 pub(crate) fn check_tokens(tokens: &[Token]) -> Result<(), ParseFault>
     ensures { MatchResult result
         (λ _. IsNested tokens.now × (long_stretch tokens.now ≡ None))
@@ -29,7 +29,7 @@ pub(crate) fn check_tokens(tokens: &[Token]) -> Result<(), ParseFault>
     }
 }
 
-/// Refuses declarations of too many cells, mutexes or conditions.
+/// Rejects declarations of too many cells, mutexes or conditions.
 pub(crate) fn check_globals(globals: &[Global]) -> Result<(), ParseFault>
     requires { length globals.now ≤ PROGRAM_BYTES }
     ensures { MatchResult result (λ _. HaveRoom globals.now) (IsCountFault globals.now) }
@@ -39,7 +39,7 @@ pub(crate) fn check_globals(globals: &[Global]) -> Result<(), ParseFault>
     check_count(What::Conditions, conditions(globals) as u64)
 }
 
-/// Refuses more than a program may have.
+/// Rejects more of something than a program may have.
 fn check_count(what: What, n: u64) -> Result<(), ParseFault>
     ensures { MatchResult result
         (λ _. n ≤ limit_of what)
@@ -52,7 +52,7 @@ fn check_count(what: What, n: u64) -> Result<(), ParseFault>
     }
 }
 
-/// How many cells the declarations make.
+/// How many cells are declared.
 fn cells(globals: &[Global]) -> u64
     requires { length globals.now ≤ PROGRAM_BYTES }
     ensures { result ≡ count.cells globals.now }

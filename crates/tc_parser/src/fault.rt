@@ -1,16 +1,15 @@
-//! Why a text is no program.
+//! Why a text isn't a program.
 ghost use Rattle.std.specs.Prelude.{◌≡◌};
 ghost use Rattle.tc_parser.specs.Faults.{limit_of, name_of};
 
 use std::alloc::AllocError;
 use std::error::Error;
 use std::fmt;
-use tc_base::Place;
-use tc_base::limits::{BRACKETS, CELLS, CONDITIONS, MUTEXES, STRETCH};
-use tc_lexer::LexFault;
+use tc_lexer::{LexFault, Place};
+use tc_limits::limits::{BRACKETS, CELLS, CONDITIONS, MUTEXES, STRETCH};
 use tc_names::NameFault;
 
-/// What a program may have only so many of.
+/// The limits of a program.
 #[derive(Clone, Copy, Debug, PartialEq, Eq)]
 pub enum What {
     /// Brackets that are open at once.
@@ -26,7 +25,7 @@ pub enum What {
 }
 
 impl What {
-    /// What the lines of the command call it.
+    /// Its name in the lines that the command prints.
     pub fn name(&self) -> &'static str
         ensures { result.now ≡ name_of self.now }
     {
@@ -39,7 +38,7 @@ impl What {
         }
     }
 
-    /// How many a program may have.
+    /// How many of this a program may have.
     pub fn limit(&self) -> usize
         ensures { result ≡ limit_of self.now }
     {
@@ -53,35 +52,35 @@ impl What {
     }
 }
 
-/// Why the tokens of a text are no program.
+/// Why the tokens of a text aren't a program.
 #[derive(Clone, Copy, Debug, PartialEq, Eq)]
 pub enum ParseFault {
-    /// There are so many of this, more than a program may have. Of brackets it is always one more.
+    /// There are this many, more than a program may have. For brackets it is the limit plus 1.
     Count(What, u64),
-    /// The first token with which no program goes on, or the text's end where the program doesn't end.
+    /// The first token with which no program continues, or the end of a text that ends too early.
     Syntax(Place),
     /// A name without a declaration.
     Unknown(Place),
     /// A declaration of a name that was declared earlier in its scope.
     Twice(Place),
-    /// A name of another kind than its use asks for, or the length 0 of an array.
+    /// A name of another kind than its use needs, or the length 0 of an array.
     Kind(Place),
-    /// A thread that is given another number of arguments than it has parameters.
+    /// A thread with another number of parameters than it is given arguments.
     Arguments(Place),
-    /// There is no memory.
+    /// Memory ran out.
     Memory,
 }
 
-/// Why a text is no program.
+/// Why a text isn't a program.
 #[derive(Clone, Copy, Debug, PartialEq, Eq)]
 pub enum TextFault {
-    /// It has no tokens.
+    /// The text has no tokens.
     Lex(LexFault),
-    /// Its tokens are no program.
+    /// The tokens of the text aren't a program.
     Parse(ParseFault),
 }
 
-/// What is wrong, and the line and column where; or how many there are of how many.
+/// What is wrong, and at which line and column; or how many there are, and the limit.
 impl fmt::Display for ParseFault {
     ghost use Rattle.std.specs.Prelude.{Some};
     ghost use Rattle.tc_parser.specs.Faults.{parse_fault_text};
@@ -106,7 +105,7 @@ impl fmt::Display for ParseFault {
 
 impl Error for ParseFault {}
 
-/// What is wrong, and the line and column where; or how many there are of how many.
+/// What is wrong, and at which line and column; or how many there are, and the limit.
 impl fmt::Display for TextFault {
     ghost use Rattle.std.specs.Prelude.{Some};
     ghost use Rattle.tc_parser.specs.Faults.{text_fault_text};

@@ -9,13 +9,13 @@ ghost use Rattle.tc_tree.specs.Numbers.{HasInts};
 ghost use Rattle.tc_parser.specs.declared.fault.TextFault.{TextFault as OneFault};
 ghost use Rattle.tc_parser.specs.Programs.{IsProgram, IsTextFault};
 
-/// A text is one program at most.
+/// A text is at most one program.
 pub fn programs_are_one()
     ensures { (language : ℕ) (text : List ℕ) (this that : OneProgram)
         → IsProgram language text this → IsProgram language text that → this ≡ that }
 {}
 
-/// In each language a text is a program or has a fault, never both, and it has one fault at most.
+/// In each language, a text is a program or has exactly one fault, and never both.
 pub fn faults_are_one()
     ensures some { (language : ℕ) (text : List ℕ) → 1 ≤ language
         → ((program : OneProgram) × IsProgram language text program) ⊎ ((fault : OneFault) × IsTextFault language text fault) }
@@ -30,12 +30,13 @@ pub fn numbers_are_ints()
     ensures { (language : ℕ) (text : List ℕ) (program : OneProgram) → IsProgram language text program → HasInts program }
 {}
 
-/// A program of language 1 is the same text's program in language 2.
+/// A text that is a program in language 1 is the same program in language 2.
 pub fn language_2_has_the_programs_of_1()
     ensures { (text : List ℕ) (program : OneProgram) → IsProgram 1 text program → IsProgram 2 text program }
 {}
 
-/// A program of language 2 is the same text's program in language 3, where `swap`, `cas` and `stbar` are no names of it.
+/// A text that is a program in language 2 is the same program in language 3, if `swap`, `cas` and
+/// `stbar` aren't names in it.
 pub fn language_3_has_the_programs_of_2()
     ensures { (text : List ℕ) (tokens : List OneToken) (program : OneProgram)
         → AreTokens 2 text tokens → HaveNoKeywordOf 3 (plain_tokens text tokens)

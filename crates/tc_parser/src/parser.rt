@@ -1,6 +1,6 @@
 //! From a text to its tree.
 ghost use Rattle.std.specs.Prelude.{◌≡◌, ◌≢◌, ◌≤◌, length, IfOk, IfErr, MatchResult};
-ghost use Rattle.tc_base.specs.declared.limits.TheConstants.{PROGRAM_BYTES};
+ghost use Rattle.tc_limits.specs.declared.limits.TheConstants.{PROGRAM_BYTES};
 ghost use Rattle.tc_lexer.specs.Text.{AreTokens};
 ghost use Rattle.tc_lexer.specs.declared.fault.LexFault.TheVariants as lex_fault;
 ghost use Rattle.tc_tree.specs.Grammar.{IsSpelled};
@@ -14,17 +14,16 @@ ghost use Rattle.tc_parser.specs.helpers.Parts.{IsReadFault};
 use crate::counts::{check_globals, check_tokens};
 use crate::fault::{ParseFault, TextFault};
 use std::alloc::{AllocError, Global};
-use tc_base::Place;
-use tc_lexer::{Token, Tokens, lex, place_after};
+use tc_lexer::{Place, Token, Tokens, lex, place_after};
 use tc_names::check_names;
 use tc_syntax::{Stop, read_program};
 use tc_tree::{Program, Tree, Word};
 
-/// The program that a text's tokens are.
+/// The program that the tokens of a text spell.
 ///
-/// The text has one tree at most, and else exactly one fault, so the answer is the only one that there is, but for
-/// `Memory` where there is none. The time grows linearly with the text, look-ups of names aside. Brackets and stretches
-/// are counted before the tree is read, which bounds how deep the reader's calls go.
+/// The text has exactly one tree or one fault, so only one answer is right, except that memory may
+/// run out. Look-ups of names aside, the time grows linearly with the text. Brackets and stretches
+/// are counted before the tree is read, which bounds how deep the reader's calls nest.
 pub fn parse<'a>(alloc: Global, text: &'a [u8], tokens: &Tokens) -> Result<Tree<'a>, ParseFault>
     requires size { length text.now ≤ PROGRAM_BYTES }
     requires tokens { AreTokens 3 text.now tokens.now }
@@ -40,7 +39,7 @@ pub fn parse<'a>(alloc: Global, text: &'a [u8], tokens: &Tokens) -> Result<Tree<
     Ok(tree)
 }
 
-/// The tree of some tokens, without a look at its names.
+/// The tree of some tokens; its names aren't checked.
 fn read_tree(alloc: Global, text: &[u8], tokens: &[Token]) -> Result<Program, ParseFault>
     requires { length text.now ≤ PROGRAM_BYTES }
     ensures { MatchResult result
@@ -65,7 +64,7 @@ fn words_of(alloc: Global, tokens: &[Token]) -> Result<Vec<Word>, AllocError>
     tokens.iter().map(Word::new).collect(alloc)
 }
 
-/// Where the k-th token stands, or the text ends.
+/// The place of the k-th token, or of the end of the text.
 fn place_at(text: &[u8], tokens: &[Token], k: usize) -> Place
     requires { length text.now ≤ PROGRAM_BYTES }
     ensures { result ≡ place_at text.now tokens.now k }
@@ -76,9 +75,10 @@ fn place_at(text: &[u8], tokens: &[Token], k: usize) -> Place
     }
 }
 
-/// The program that a text is.
+/// The program of a text.
 ///
-/// A text is a program or has exactly one fault, so the answer is the only one that there is, but for want of memory.
+/// A text is a program or has exactly one fault, so only one answer is right, except that memory
+/// may run out.
 pub fn read<'a>(alloc: Global, text: &'a [u8]) -> Result<Tree<'a>, TextFault>
     requires { length text.now ≤ PROGRAM_BYTES }
     ensures found { IfOk result (λ tree. (tree.text.now ≡ text.now) × IsProgram 3 text.now (program_of tree.program)) }

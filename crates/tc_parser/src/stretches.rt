@@ -2,10 +2,10 @@
 ghost use Rattle.std.specs.Prelude.{◌≡◌};
 ghost use Rattle.tc_parser.specs.Programs.{ends_stretch, long_stretch};
 
-use tc_base::limits::STRETCH;
 use tc_lexer::{Sign, Token, TokenKind};
+use tc_limits::limits::STRETCH;
 
-/// How many tokens the first stretch has that is too long.
+/// The length of the first stretch that is too long, if there is one.
 pub(crate) fn long_stretch(tokens: &[Token]) -> Option<usize>
     ensures { result ≡ long_stretch tokens.now }
 {

@@ -1,8 +1,8 @@
 -- From what holds of a run and its log to what holds of what is answered.
 use Rattle.std.proofs.Common.{Result, Ok, Err, List, inl, inr, subst, sym}
-use Rattle.tc_base.specs.declared.model.Model.{Model}
+use Rattle.memory_models.specs.declared.model.Model.{Model}
 use Rattle.tc_base.specs.declared.moves.Move.{Move}
-use Rattle.path_log.specs.Texts.{StoredLog}
+use Rattle.run_log.specs.Logs.{StoredLog}
 use Rattle.tc_code.specs.Code.{Code}
 use Rattle.tc_record.specs.declared.seeded.Recorded.{Recorded}
 use Rattle.tc_record.specs.declared.seeded.Recorded.TheVariants.{Failed, Finished, Deadlock, StepLimit}

@@ -8,10 +8,10 @@ use Rattle.std.specs.FinMap as fin
 use Rattle.std.proofs.lemmas.Bool.{ltb-false, lt-ltb, le-leb, and_parts, and_from}
 use Rattle.std.proofs.lemmas.List.{length_push, length-map}
 use Rattle.tc_base.specs.Names.{Name}
-use Rattle.tc_base.specs.declared.limits.TheConstants.{THREADS, DEPTH, STEPS}
+use Rattle.tc_limits.specs.declared.limits.TheConstants.{THREADS, DEPTH, STEPS}
 use Rattle.tc_base.specs.Buffers.{BufferOps}
 use Rattle.tc_base.specs.States.{Local, Thread, State}
-use Rattle.tc_base.specs.Logs.{Path, ThreadPath}
+use Rattle.tc_base.specs.Paths.{Path, ThreadPath}
 use Rattle.tc_base.specs.declared.request.Request.{Request}
 use Rattle.tc_base.specs.declared.request.Request.TheVariants.{Read, Exchange, CompareExchange, Fail}
 use Rattle.tc_code.specs.declared.instr.Instr.{Instr}

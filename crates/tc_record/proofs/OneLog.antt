@@ -11,13 +11,13 @@ use Rattle.std.proofs.lemmas.Bool.{and_parts, cases_order, ltb-true}
 use Rattle.std.proofs.lemmas.Option.{none-some, same_Some, slice_get_cases}
 use Rattle.tc_base.specs.Names.{Name, by_name}
 use Rattle.tc_base.specs.States.{State}
-use Rattle.tc_base.specs.Logs.{Path, ThreadPath, path_under, place_in}
+use Rattle.tc_base.specs.Paths.{Path, ThreadPath, path_under, place_in}
 use Rattle.tc_base.specs.declared.failing.Failing.{Failing}
 use Rattle.tc_base.specs.declared.failing.Failing.TheVariants as failing
-use Rattle.tc_base.specs.declared.model.Model.{Model}
+use Rattle.memory_models.specs.declared.model.Model.{Model}
 use Rattle.tc_base.proofs.Names.{itself, not_itself, same_name, same_true, turned}
-use Rattle.path_log.specs.Texts.{StoredLog, rises_from, is_there}
-use Rattle.path_log.proofs.Rising.{lesser_is_older, none_under, not_under, rise, rises_behind, rising, under_first}
+use Rattle.run_log.specs.Logs.{StoredLog, rises_from, is_there}
+use Rattle.run_log.proofs.Rising.{lesser_is_older, none_under, not_under, rise, rises_behind, rising, under_first}
 use Rattle.run_laws.specs.Alone.{same}
 use Rattle.run_laws.proofs.Names.{tells_names}
 use Rattle.run_laws.proofs.Basics.{some_is}

@@ -7,10 +7,12 @@ use Rattle.std.specs.Bool.{beq}
 use Rattle.std.proofs.lemmas.Bool.{leb-true, ltb-true, and_parts, eqb-true}
 use Rattle.std.proofs.lemmas.List.{length-append}
 use Rattle.byteorder.specs.Endian.{big_bytes}
-use Rattle.tc_base.specs.declared.limits.TheConstants.{THREADS, DEPTH}
-use Rattle.tc_base.specs.Logs.{Log, ThreadPath}
-use Rattle.tc_base.specs.declared.model.Model.{Model}
-use Rattle.path_log.specs.Texts.{runs_behind, runs_text, thread_text, head_text, ending_code, log_text, is_thread, is_of_format, is_digest}
+use Rattle.tc_limits.specs.declared.limits.TheConstants.{THREADS, DEPTH}
+use Rattle.run_log.specs.Logs.{Log}
+use Rattle.tc_base.specs.Paths.{ThreadPath}
+use Rattle.memory_models.specs.declared.model.Model.{Model}
+use Rattle.path_log.specs.Texts.{runs_behind, runs_text, thread_text, head_text, ending_code, log_text, is_thread, is_of_format}
+use Rattle.run_log.specs.Logs.{is_digest}
 use Rattle.tc_record.specs.Logged.{is_small, most_log_bytes}
 
 one_more : (b : Bool) (n k : ℕ) (xs ys : List ℕ) → length xs ≤ k → length ys ≤ k → length (cond b xs (n ∷ ys)) ≤ k + 1

@@ -1,13 +1,14 @@
 -- Logs of states.
 use Rattle.std.specs.Prelude.{◌≡◌, ℕ, None, Bool, ◌&&◌, nat_le, length, IsTrue}
 use Rattle.std.specs.List.{list_all}
-use Rattle.tc_base.specs.declared.limits.TheConstants.{THREADS, DEPTH}
+use Rattle.tc_limits.specs.declared.limits.TheConstants.{THREADS, DEPTH}
 use Rattle.tc_base.specs.Names.{Name}
 use Rattle.tc_base.specs.States.{State}
-use Rattle.tc_base.specs.Logs.{Log, failing_of, path_under}
-use Rattle.tc_base.specs.declared.model.Model.{Model}
+use Rattle.run_log.specs.Logs.{Log, failing_of}
+use Rattle.tc_base.specs.Paths.{path_under}
+use Rattle.memory_models.specs.declared.model.Model.{Model}
 use Rattle.tc_code.specs.Run.{path_in}
-use Rattle.path_log.specs.Texts.{StoredLog, is_log}
+use Rattle.run_log.specs.Logs.{StoredLog, is_log}
 
 -- the log of a state: the thread that failed, if one did, and each thread's path, ordered by name
 pub record IsLogOf {B : Type 0} (under : Model) (s : State B) (stored : StoredLog) : Type 0 where
@@ -17,10 +18,10 @@ pub record IsLogOf {B : Type 0} (under : Model) (s : State B) (stored : StoredLo
   pub failing : failing_of stored.log ≡ s.failed
   pub paths : (n : Name) → path_in s n ≡ path_under n stored.log.threads
 
--- the log has at most so many threads as a run may have, to none of which more creates lead than may
+-- whether a log is within the limits on threads and depth
 abbrev pub is_small : Log → Bool
 is_small log = nat_le (length log.threads) THREADS && list_all (λ t. nat_le (length t.name) DEPTH) log.threads
 
--- the most bytes that the text of such a log has: 39 of the head, two counts, and 131,084 of each thread
+-- the most bytes that such a log's text has: 39 for the head, 2 for counts, 131,084 for each thread
 abbrev pub most_log_bytes : ℕ
 most_log_bytes = 2097385

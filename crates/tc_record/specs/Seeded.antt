@@ -5,11 +5,11 @@ use Rattle.rand_core.specs.Steps.{first_words}
 use Rattle.rand_xoshiro.specs.SplitMix64.{mix_u64}
 use Rattle.tc_base.specs.Buffers.{BufferOps}
 use Rattle.tc_base.specs.States.{State}
-use Rattle.tc_base.specs.declared.model.Model.{Model}
+use Rattle.memory_models.specs.declared.model.Model.{Model}
 use Rattle.tc_base.specs.declared.moves.Move.{Move}
 use Rattle.tc_code.specs.Code.{Code}
 use Rattle.tc_code.specs.Step.{step, opening}
-use Rattle.path_log.specs.Texts.{StoredLog}
+use Rattle.run_log.specs.Logs.{StoredLog}
 use Rattle.tc_machine.specs.Moves.{enabled_moves}
 use Rattle.tc_record.specs.declared.end.End.{End}
 use Rattle.tc_record.specs.declared.end.End.TheVariants as end
@@ -29,41 +29,41 @@ pub record Ended (B : Type 0) : Type 0 where
   pub state : State B
   pub end : End
 
--- it ends at a state, before any move
+-- a run that ends in a state before any move
 abbrev pub ended : {B : Type 0} → State B → End → Ended B
 ended s e = record { moves = []; state = s; end = e }
 
--- some moves more, before its own
+-- a run with more moves in front
 abbrev pub behind : {B : Type 0} → List Move → Ended B → Ended B
 behind ms run = record run { moves = ms ++ run.moves }
 
--- the first words of the generator of a seed, which is SplitMix64
+-- the first n words of SplitMix64 with this seed
 abbrev pub seed_words : (seed n : ℕ) → List ℕ
 seed_words seed n = first_words mix_u64 n seed
 
 module _ {B : Type 0} (ops : BufferOps B) (code : Code) where
-  -- the move that a word chooses, where one is enabled
+  -- the move that a word chooses, if any is enabled
   abbrev pub chosen : State B → ℕ → Option Move
   chosen s word = slice_get (enabled_moves ops code s) (word % length (enabled_moves ops code s))
 
-  -- a move is made from a state, and then a test ends the run, or it goes on
+  -- the run that makes a move and then ends by a test or goes on
   abbrev pub making : State B → (State B → Ended B) → Move → Ended B
   making s on m = option_map_or (λ u. behind (m ∷ []) (option_map_or (ended u) (end_at u) (on u))) (step ops code s m) (ended s end.StepLimit)
 
-  -- the run that words choose from a state on: each makes a move, until the run ends or the words are used up
+  -- the run that words choose from a state: one move for each, until it ends or no word is left
   abbrev pub seeded_from : State B → List ℕ → Ended B
   seeded_from s [] = ended s end.StepLimit
   seeded_from s (word ∷ words) = option_map_or (making s (λ u. seeded_from u words)) (chosen s word) (ended s (end_without_moves s))
 
-  -- the run of a seed: it has as many words as moves may be made
+  -- the run of a seed with at most this many moves
   abbrev pub seeded_run : (seed steps : ℕ) → Ended B
   seeded_run seed steps = seeded_from (opening ops code) (seed_words seed steps)
 
--- the run failed or came to a deadlock, and so has a log: that of its last state
+-- the run has a log, that of its last state: it failed or came to a deadlock
 abbrev pub HasLog : {B : Type 0} → Ended B → Type 0
 HasLog run = (run.end ≡ end.Failed) ⊎ (run.end ≡ end.Deadlock)
 
--- what is answered of a run that ended
+-- an answer that matches the run: its end, its moves, and its log if it has one
 abbrev pub IsAnswer : {B : Type 0} → Model → Ended B → Result Seeded SeededFault → Type 0
 IsAnswer model run (Ok (Failed log moves)) = (run.end ≡ end.Failed) × (moves.items ≡ run.moves) × IsLogOf model run.state log
 IsAnswer model run (Ok (Finished moves)) = (run.end ≡ end.Finished) × (moves.items ≡ run.moves)
@@ -72,7 +72,7 @@ IsAnswer model run (Ok (StepLimit moves)) = (run.end ≡ end.StepLimit) × (move
 IsAnswer model run (Err (Limit which found most)) = (run.end ≡ end.Over which) × (found ≡ limit_of which + 1) × (most ≡ limit_of which)
 IsAnswer model run (Err Memory) = Unit {0}
 
--- the same with the line of a failure
+-- the same for an answer with the line of a failure
 abbrev pub IsRecordOf : {B : Type 0} → Model → Code → Ended B → Result Recorded SeededFault → Type 0
 IsRecordOf model code run (Ok (recorded.Failed log moves line)) =
     (run.end ≡ end.Failed) × (moves.items ≡ run.moves) × IsLogOf model run.state log × (failing_line code run.state ≡ Some line)
@@ -82,7 +82,7 @@ IsRecordOf model code run (Ok (recorded.StepLimit moves)) = (run.end ≡ end.Ste
 IsRecordOf model code run (Err (Limit which found most)) = (run.end ≡ end.Over which) × (found ≡ limit_of which + 1) × (most ≡ limit_of which)
 IsRecordOf model code run (Err Memory) = Unit {0}
 
--- a fact of the log and the moves of a run that has a log: it failed, or came to a deadlock
+-- P holds of the log and the moves, if the answer is a failure or a deadlock
 abbrev pub IfLogged : Result Seeded SeededFault → (StoredLog → List Move → Type 0) → Type 0
 IfLogged (Ok (Failed log moves)) P = P log moves.items
 IfLogged (Ok (Deadlock log moves)) P = P log moves.items

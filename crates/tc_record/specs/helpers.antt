@@ -1,4 +1,4 @@
--- No promise speaks of what stands in this folder.
+-- No promise uses the definitions in this folder.
 pub mod Paths
 pub mod Recorded
 pub mod Turns

@@ -4,22 +4,22 @@ ghost use Rattle.tc_record.specs.Ends as ends;
 ghost use Rattle.tc_record.specs.Ends.{limit_of};
 
 use store_buffers::MemoryModel;
-use tc_base::limits::{DEPTH, STEPS, THREADS};
+use tc_limits::limits::{DEPTH, STEPS, THREADS};
 use tc_machine::State;
 
 /// A limit of recorded runs.
 #[derive(Clone, Copy, Debug, PartialEq, Eq)]
 pub enum Which {
-    /// How many threads there are.
+    /// The number of threads.
     Threads,
-    /// How many creates lead from main to a thread.
+    /// The number of creates that lead from main to a thread.
     Depth,
-    /// How many instructions a thread has done.
+    /// The number of steps of a thread.
     Steps,
 }
 
 impl Which {
-    /// The most that a run may have.
+    /// The most that is allowed.
     pub fn limit(self) -> u64
         ensures { result ≡ limit_of self }
     {
@@ -31,10 +31,10 @@ impl Which {
     }
 }
 
-/// How a run ends.
+/// What ends a run.
 #[derive(Clone, Copy)]
 pub enum End {
-    /// It has one more of these than it may have.
+    /// The run exceeds this limit by one.
     Over(Which),
     /// A thread has failed.
     Failed,
@@ -42,11 +42,11 @@ pub enum End {
     Finished,
     /// No move is enabled, and not every thread has exited.
     Deadlock,
-    /// It has made as many moves as it may make.
+    /// The run has made as many moves as it may make.
     StepLimit,
 }
 
-/// What ends a run after a move: the first test that stands.
+/// What ends a run after a move, if anything: the first limit that is exceeded, or a failure.
 pub(crate) fn end_at<M: MemoryModel>(state: &State<M>) -> Option<End>
     ensures { result ≡ ends.end_at state.now }
 {
@@ -63,7 +63,7 @@ pub(crate) fn end_at<M: MemoryModel>(state: &State<M>) -> Option<End>
     }
 }
 
-/// Whether more creates than may lead from main to some thread.
+/// Whether some thread is deeper than the limit.
 fn some_is_deep<M: MemoryModel>(state: &State<M>) -> bool
     ensures { result ≡ ends.some_is_deep state.now }
 {
@@ -71,7 +71,7 @@ fn some_is_deep<M: MemoryModel>(state: &State<M>) -> bool
     names.iter().any(|name| name.children().len() > DEPTH)
 }
 
-/// Whether some thread has done more instructions than it may.
+/// Whether some thread has done more steps than the limit.
 fn some_has_many_steps<M: MemoryModel>(state: &State<M>) -> bool
     ensures { result ≡ ends.some_has_many_steps state.now }
 {
@@ -83,7 +83,7 @@ fn some_has_many_steps<M: MemoryModel>(state: &State<M>) -> bool
     false
 }
 
-/// What ends a run where no move is enabled.
+/// What ends a run when no move is enabled.
 pub(crate) fn end_without_moves<M: MemoryModel>(state: &State<M>) -> End
     ensures { result ≡ ends.end_without_moves state.now }
 {

@@ -1,4 +1,4 @@
-//! Seeded runs: a program is run by moves that a generator chooses, and the log of a run that fails is made.
+//! Seeded runs: a generator chooses the moves of a program's run, and a run that fails gives a log.
 #![tactic(auto)]
 
 mod end;

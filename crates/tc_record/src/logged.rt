@@ -5,13 +5,13 @@ ghost use Rattle.tc_record.specs.Ends.{has_many_steps};
 ghost use Rattle.tc_record.specs.Logged.{IsLogOf};
 ghost use Rattle.tc_record.specs.helpers.Paths.{named_path, EndsBy, HasThreads, IsWithin};
 
-use path_log::{Log, ThreadPath};
+use run_log::{Log, ThreadPath};
 use std::alloc::{AllocError, Global};
 use store_buffers::MemoryModel;
 use tc_base::{Failing, ThreadName};
 use tc_machine::State;
 
-/// The log of the state at which a run ended: a thread has failed, or nothing can go on.
+/// The log of the state in which a run ended, by a failure or a deadlock.
 pub(crate) fn log_of<M: MemoryModel>(alloc: Global, state: &State<M>) -> Result<Log, AllocError>
     requires within { IsWithin state.now }
     requires there { HasThreads state.now }
@@ -61,7 +61,7 @@ fn ending<M: MemoryModel>(state: &State<M>) -> Failing
     }
 }
 
-/// The place of a thread, in the order of the names.
+/// The index of a thread, in the order of the names.
 fn index_of<M: MemoryModel>(state: &State<M>, thread: &ThreadName) -> usize
     requires { IsSome (fin.get state.now.threads thread.now) }
     ensures { slice_get (fin.keys state.now.threads) result ≡ Some thread.now }

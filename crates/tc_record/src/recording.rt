@@ -21,11 +21,12 @@ use tc_base::Move;
 use tc_code::Code;
 use tc_machine::{State, choices, start, step};
 
-/// Runs a program under a memory model, and makes at most so many moves.
+/// Runs a program under a memory model, with at most `steps` moves.
 ///
-/// SplitMix64 is made of the seed by `seed_from_u64`. In each turn one of its words, modulo the number of the enabled
-/// moves, is the place of the one that is made, as `tc_machine::moves` lists them. So a run is the same each time. It
-/// ends where no move is enabled, and after the first move that brings it past a limit, that fails or that is the last.
+/// The generator is SplitMix64, seeded by `seed_from_u64`. In each turn one word, modulo the number
+/// of enabled moves, is the index of the next move in the list of `tc_machine::moves`. So a run is
+/// the same each time. It ends when no move is enabled, or after the first move that exceeds a
+/// limit, fails or is the last.
 pub fn run_seeded<M: MemoryModel>(
     alloc: Global,
     code: &Code,
@@ -33,18 +34,19 @@ pub fn run_seeded<M: MemoryModel>(
     steps: u32,
 ) -> Result<Seeded, SeededFault>
     ensures answer { IsAnswer M.MODEL (seeded_run M.ops code.now seed steps) result }
-    // The log of a run that fails or comes to a deadlock is reproduced by the moves that were made, and a text has room for it.
+    // The moves that were made reproduce the log of a failure or a deadlock, and the log fits the
+    // text format.
     ensures reproduced { IfLogged result (λ stored moves. Reproduces M.ops code.now stored.log moves) }
     ensures of_format { IfLogged result (λ stored moves. IsTrue (is_of_format stored.log)) }
-    // It is within the limits of recorded runs.
+    // The log is within the limits of recorded runs.
     ensures small { IfLogged result (λ stored moves. IsTrue (is_small stored.log)) }
-    // It fits the code.
+    // The log fits the code.
     ensures fits { IfLogged result (λ stored moves. Fits code.now stored.log) }
 {
     drop_line(record_run::<M>(alloc, code, seed, steps))
 }
 
-/// What is told of a run, but for the line of its failure.
+/// The result of a run without the line of its failure.
 fn drop_line(recorded: Result<Recorded, SeededFault>) -> Result<Seeded, SeededFault>
     ensures { result ≡ without_line recorded }
 {
@@ -57,7 +59,7 @@ fn drop_line(recorded: Result<Recorded, SeededFault>) -> Result<Seeded, SeededFa
     }
 }
 
-/// Runs a program as [`run_seeded`] does, and gives the line of a failure too.
+/// Runs a program as [`run_seeded`] does, and also returns the line of a failure.
 pub fn record_run<M: MemoryModel>(
     alloc: Global,
     code: &Code,
@@ -65,15 +67,16 @@ pub fn record_run<M: MemoryModel>(
     steps: u32,
 ) -> Result<Recorded, SeededFault>
     ensures answer { IsRecordOf M.MODEL code.now (seeded_run M.ops code.now seed steps) result }
-    // The log of a run that fails or comes to a deadlock is reproduced by the moves that were made, and a text has room for it.
+    // The moves that were made reproduce the log of a failure or a deadlock, and the log fits the
+    // text format.
     ensures reproduced { IfRecorded result (λ stored moves. Reproduces M.ops code.now stored.log moves) }
     ensures of_format { IfRecorded result (λ stored moves. IsTrue (is_of_format stored.log)) }
-    // It is within the limits of recorded runs.
+    // The log is within the limits of recorded runs.
     ensures small { IfRecorded result (λ stored moves. IsTrue (is_small stored.log)) }
-    // It fits the code.
+    // The log fits the code.
     ensures fits { IfRecorded result (λ stored moves. Fits code.now stored.log) }
 {
-    // A code is lawful by its type, so what runs of it leave fits it.
+    // A code is lawful by its type, so the logs of its runs fit it.
     let _ = code.functions();
     let mut rng = SplitMix64::seed_from_u64(seed);
     let mut state = start::<M>(alloc, code)?;
@@ -87,7 +90,7 @@ pub fn record_run<M: MemoryModel>(
     Ok(Recorded::StepLimit(made))
 }
 
-/// Makes the move that a word chooses, and tells what ends the run, if it ends.
+/// Makes the move that a word chooses, and returns what ends the run, if anything.
 fn turn<M: MemoryModel>(
     alloc: Global,
     code: &Code,
@@ -109,7 +112,7 @@ fn turn<M: MemoryModel>(
     Ok(end_at(state))
 }
 
-/// The move that a word chooses, where one is enabled.
+/// The move that a word chooses, if any is enabled.
 fn chosen<M: MemoryModel>(
     alloc: Global,
     code: &Code,
@@ -127,7 +130,7 @@ fn chosen<M: MemoryModel>(
     Ok(Some(choices[place as usize].to_move()?))
 }
 
-/// The answer of a run that ended so.
+/// The result of a run with this end.
 fn answer<M: MemoryModel>(
     alloc: Global,
     code: &Code,

@@ -1,9 +1,9 @@
-//! What is told of a seeded run.
+//! The results of seeded runs.
 ghost use Rattle.std.specs.Prelude.{◌≡◌};
 ghost use Rattle.tc_record.specs.declared.seeded.SeededFault.TheVariants.{Memory};
 
 use crate::end::Which;
-use path_log::Log;
+use run_log::Log;
 use std::alloc::{AllocError, AllocFailed};
 use tc_base::Move;
 
@@ -14,31 +14,34 @@ pub enum Seeded {
     Failed(Log, Vec<Move>),
     /// Every thread exited.
     Finished(Vec<Move>),
-    /// No move was enabled, and not every thread had exited. The log, which the moves reproduce, has no digest.
+    /// No move was enabled, but some thread had not exited. The log, which the moves reproduce, has
+    /// no digest.
     Deadlock(Log, Vec<Move>),
-    /// It made as many moves as it might.
+    /// The run made as many moves as it may make.
     StepLimit(Vec<Move>),
 }
 
-/// How a seeded run ended, with the line of its failure too.
+/// How a seeded run ended, with the line of a failure.
 #[derive(Debug, Drop)]
 pub enum Recorded {
-    /// A thread failed, at the instruction of that line. The log, which the moves reproduce, has no digest.
+    /// A thread failed at an instruction of this line. The log, which the moves reproduce, has no
+    /// digest.
     Failed(Log, Vec<Move>, u32),
     /// Every thread exited.
     Finished(Vec<Move>),
-    /// No move was enabled, and not every thread had exited. The log, which the moves reproduce, has no digest.
+    /// No move was enabled, but some thread had not exited. The log, which the moves reproduce, has
+    /// no digest.
     Deadlock(Log, Vec<Move>),
-    /// It made as many moves as it might.
+    /// The run made as many moves as it may make.
     StepLimit(Vec<Move>),
 }
 
-/// Why a seeded run has no log and isn't told.
+/// Why a seeded run has no result.
 #[derive(Clone, Copy, Debug, PartialEq, Eq)]
 pub enum SeededFault {
-    /// It came past a limit: which, how many it had, and the most that it might have.
+    /// The run exceeded a limit: which limit, the count, and the most that is allowed.
     Limit(Which, u64, u64),
-    /// There is no memory.
+    /// Memory ran out.
     Memory,
 }
 

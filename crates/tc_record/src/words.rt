@@ -1,4 +1,4 @@
-//! The words of the generator by which seeded runs are chosen.
+//! The words of the generator that chooses seeded runs.
 ghost use Rattle.std.specs.Prelude.{◌≡◌, length, IfOk};
 ghost use Rattle.tc_record.specs.Seeded.{seed_words};
 

@@ -34,7 +34,7 @@ use Rattle.std.proofs.Common.{
 }
 use Rattle.std.proofs.lemmas.List.{append-nil}
 use Rattle.std.proofs.Math.Seq.{take-append_seam, take-append-add}
-use Rattle.tc_base.specs.declared.place.Place.{Place}
+use Rattle.tc_lexer.specs.declared.place.Place.{Place}
 use Rattle.tc_lexer.specs.Tokens.{keyword_since, sign_since}
 use Rattle.tc_lexer.specs.declared.token.Keyword.{Keyword}
 use Rattle.tc_lexer.specs.declared.token.Keyword.TheVariants as keyword

@@ -1,8 +1,8 @@
 -- What may stand where these are expected.
 use Rattle.std.proofs.Common.{◌≡◌, ◌≤◌, nat_eq, List, [], ◌∷◌, ◌++◌, Option, Some, None, Bool, true, false, refl, sym, ap, subst, ◌∙◌, append_assoc, arith}
-use Rattle.tc_base.specs.declared.place.Place.{Place}
-use Rattle.tc_base.specs.declared.arith.UnOp.{UnOp}
-use Rattle.tc_base.specs.declared.arith.UnOp.TheVariants.{Neg, Not, Inv}
+use Rattle.tc_lexer.specs.declared.place.Place.{Place}
+use Rattle.int_ops.specs.declared.arith.UnOp.{UnOp}
+use Rattle.int_ops.specs.declared.arith.UnOp.TheVariants.{Neg, Not, Inv}
 use Rattle.tc_lexer.specs.declared.token.Keyword.TheVariants as keyword
 use Rattle.tc_lexer.specs.declared.token.Sign.{Sign as AnySign}
 use Rattle.tc_lexer.specs.declared.token.Sign.TheVariants as sign

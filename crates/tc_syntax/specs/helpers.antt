@@ -1,3 +1,3 @@
--- Helpers that no promise speaks of.
+-- Helpers, which no public contract mentions.
 pub mod Reading
 pub mod Read

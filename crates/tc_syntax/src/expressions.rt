@@ -9,12 +9,12 @@ ghost use Rattle.tc_syntax.specs.helpers.Reading as reading;
 ghost use Rattle.tc_syntax.specs.helpers.Read.{Stops, IsRead, IsTight, IsOperand};
 
 use crate::reader::{Read, Stop, past};
+use int_ops::UnOp;
 use std::alloc::Global;
-use tc_base::UnOp;
 use tc_lexer::Sign;
 use tc_tree::{Expression, Name, Operator, Word};
 
-/// An expression, as long as it can be, and the words after it.
+/// The longest expression at the front, and the words after it.
 #[cycle(expression)]
 pub(crate) fn read_expression<'w>(alloc: Global, words: &'w [Word]) -> Read<'w, Expression>
     ensures { MatchResult result
@@ -25,7 +25,7 @@ pub(crate) fn read_expression<'w>(alloc: Global, words: &'w [Word]) -> Read<'w, 
     Ok((expression, rest))
 }
 
-/// An expression of operators that bind at least so tightly, as long as it can be, and the words after it.
+/// The longest expression whose operators bind at least this tightly, and the words after it.
 #[cycle(expression)]
 fn read_tight<'w>(alloc: Global, words: &'w [Word], least: u8) -> Read<'w, Expression>
     requires least { (1 ≤ least) × (least ≤ 11) }
@@ -88,7 +88,7 @@ fn read_paren<'w>(alloc: Global, words: &'w [Word]) -> Read<'w, Expression>
     Ok((Expression::paren(alloc, inside)?, rest))
 }
 
-/// The operand of an operator that stands before it, and the words after it.
+/// The operand of a prefix operator, and the words after it.
 #[cycle(expression)]
 fn read_unary<'w>(alloc: Global, operator: UnOp, words: &'w [Word]) -> Read<'w, Expression>
     ensures { MatchResult result
@@ -99,7 +99,7 @@ fn read_unary<'w>(alloc: Global, operator: UnOp, words: &'w [Word]) -> Read<'w, 
     Ok((Expression::unary(alloc, operator, operand)?, rest))
 }
 
-/// Expressions between commas, as many as stand there, and the words after the parenthesis that closes them.
+/// The expressions of an argument list, and the words after its closing parenthesis.
 pub(crate) fn read_arguments<'w>(alloc: Global, words: &'w [Word]) -> Read<'w, Vec<Expression>>
     ensures { MatchResult result
         (λ x. IsRead (λ es rest. list_then es (ASign sign.CloseParen ∷ rest)) AreGrouped [] (Arguments ∷ Just sign.CloseParen ∷ []) words.now
@@ -121,7 +121,7 @@ pub(crate) fn read_arguments<'w>(alloc: Global, words: &'w [Word]) -> Read<'w, V
     Ok((found, rest))
 }
 
-/// The operator that is next, where it binds at least so tightly, and the words after it.
+/// The next operator, if it binds at least this tightly, and the words after it.
 fn next_operator<'w>(words: &'w [Word], least: u8) -> Option<(Operator, &'w [Word])>
     requires { 1 ≤ least }
     ensures { MatchOption result (next_level words.now < least)
@@ -136,7 +136,7 @@ fn next_operator<'w>(words: &'w [Word], least: u8) -> Option<(Operator, &'w [Wor
     }
 }
 
-/// The operator that the sign is between two operands.
+/// The operator that the sign means between two operands.
 fn operator_of(sign: Sign) -> Option<Operator>
     ensures { result ≡ reading.operator_of sign }
 {

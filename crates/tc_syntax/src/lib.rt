@@ -1,4 +1,4 @@
-//! Reads the words of a program as a tree, or tells the first word with which no program goes on.
+//! Reads the words of a program as a tree, or finds the first word with which no program continues.
 #![tactic(auto)]
 
 mod expressions;

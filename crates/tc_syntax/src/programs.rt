@@ -30,7 +30,7 @@ use std::alloc::Global as Heap;
 use tc_lexer::{Keyword, Sign};
 use tc_tree::{Block, Body, Global, Initial, Local, Name, Program, Thread, Word};
 
-/// The program that the words are.
+/// The program that the words spell.
 pub fn read_program(alloc: Heap, words: &[Word]) -> Result<Program, Stop>
     ensures { MatchResult result
         (λ program. IsSpelled 3 words.now (program_of program))
@@ -42,7 +42,7 @@ pub fn read_program(alloc: Heap, words: &[Word]) -> Result<Program, Stop>
     }
 }
 
-/// Declarations, threads and main, up to the end.
+/// Global declarations, threads and main, up to the end of the words.
 fn read_all(alloc: Heap, words: &[Word]) -> Result<Program, Stop>
     ensures { MatchResult result
         (λ program. (words.now ≡ program_words (program_of program)) × IsWellProgram (program_of program))
@@ -75,7 +75,7 @@ fn read_main<'w>(alloc: Heap, words: &'w [Word]) -> Read<'w, Body>
     }
 }
 
-/// Global declarations, as many as stand there, and the words after them.
+/// As many global declarations as there are, and the words after them.
 fn read_globals<'w>(alloc: Heap, words: &'w [Word]) -> Read<'w, Vec<Global>>
     ensures { MatchResult result
         (λ x. IsPassed globals_then IsAny Globals Threads words.now x.0.items x.1.now)
@@ -150,7 +150,7 @@ fn read_int<'w>(words: &'w [Word]) -> Read<'w, Global>
     }
 }
 
-/// What an int begins with, after the `=`, and the words after its semicolon.
+/// The initial value of an int, after the `=`, and the words after its semicolon.
 fn read_initial<'w>(words: &'w [Word]) -> Read<'w, Initial>
     ensures { MatchResult result
         (λ x. IsRead initial_ends IsAny (ASign sign.Assign ∷ []) (AnInitial ∷ []) words.now x.0 x.1.now)
@@ -170,7 +170,7 @@ fn read_initial<'w>(words: &'w [Word]) -> Read<'w, Initial>
     }
 }
 
-/// Threads, as many as stand there, and the words after them.
+/// As many threads as there are, and the words after them.
 fn read_threads<'w>(alloc: Heap, words: &'w [Word]) -> Read<'w, Vec<Thread>>
     ensures { MatchResult result
         (λ x. IsPassed threads_then AreWellThreads Threads Threads words.now (map thread_of x.0.items) x.1.now
@@ -208,7 +208,7 @@ fn read_thread<'w>(alloc: Heap, words: &'w [Word]) -> Read<'w, Thread>
     ))
 }
 
-/// Parameters, as many as stand there, and the words after them.
+/// As many parameters as there are, and the words after them.
 fn read_parameters<'w>(alloc: Heap, words: &'w [Word]) -> Read<'w, Vec<Name>>
     ensures { MatchResult result
         (λ x. IsRead parameters_then IsAny [] (Parameters ∷ []) words.now x.0.items x.1.now)
@@ -243,7 +243,7 @@ fn read_body<'w>(alloc: Heap, words: &'w [Word]) -> Read<'w, Body>
     Ok((Body { locals, block }, rest))
 }
 
-/// Declarations of a body, as many as stand there, and the words after them.
+/// As many declarations of a body as there are, and the words after them.
 fn read_locals<'w>(alloc: Heap, words: &'w [Word]) -> Read<'w, Vec<Local>>
     ensures { MatchResult result
         (λ x. IsRead locals_then IsAny [] (Locals ∷ []) words.now x.0.items x.1.now)

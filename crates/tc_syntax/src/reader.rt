@@ -1,6 +1,6 @@
-//! One word at a time.
+//! Reads one word at a time.
 ghost use Rattle.std.specs.Prelude.{◌≡◌, List, ◌∷◌, [], MatchOption, MatchResult};
-ghost use Rattle.tc_base.specs.declared.place.Place.{Place as PlainPlace};
+ghost use Rattle.tc_lexer.specs.declared.place.Place.{Place as PlainPlace};
 ghost use Rattle.tc_lexer.specs.declared.token.Keyword.TheVariants as keyword;
 ghost use Rattle.tc_tree.specs.declared.word.Word.TheVariants.{Sign as ASign, Name as AName, Number as ANumber, If as AnIf, Keyword as AKeyword, End as AnEnd};
 ghost use Rattle.tc_tree.specs.declared.word.Word.{Word as GrammarWord};
@@ -8,16 +8,15 @@ ghost use Rattle.tc_syntax.specs.helpers.Reading.{Just, AnyName, AnyNumber, AnIn
 ghost use Rattle.tc_syntax.specs.helpers.Read.{Stops, Moves};
 
 use std::alloc::{AllocError, AllocFailed};
-use tc_base::Place;
-use tc_lexer::{Keyword, Sign};
+use tc_lexer::{Keyword, Place, Sign};
 use tc_tree::{Name, Number, Word};
 
 /// Why a reader stopped.
 #[derive(Clone, Copy, Debug, PartialEq, Eq)]
 pub enum Stop {
-    /// There is no memory.
+    /// Memory ran out.
     Memory,
-    /// So many words were left.
+    /// This many words were left.
     Left(usize),
 }
 
@@ -56,7 +55,7 @@ pub(crate) fn past<'w>(words: &'w [Word], wanted: Sign) -> Result<&'w [Word], St
     }
 }
 
-/// The words after this keyword, where it is next.
+/// The words after this keyword, if it is next.
 pub(crate) fn past_keyword<'w>(words: &'w [Word], wanted: Keyword) -> Option<&'w [Word]>
     ensures { MatchOption result
         ((rest : List GrammarWord) → words.now ≡ AKeyword wanted ∷ rest → ⊥)
@@ -68,7 +67,7 @@ pub(crate) fn past_keyword<'w>(words: &'w [Word], wanted: Keyword) -> Option<&'w
     }
 }
 
-/// The place of an `if` and the words after it, where one is next.
+/// The place of an `if` and the words after it, if one is next.
 pub(crate) fn past_if<'w>(words: &'w [Word]) -> Option<(Place, &'w [Word])>
     ensures { MatchOption result
         ((place : PlainPlace) (rest : List GrammarWord) → words.now ≡ AnIf place ∷ rest → ⊥)

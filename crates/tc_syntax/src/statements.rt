@@ -23,14 +23,13 @@ ghost use Rattle.tc_syntax.specs.helpers.Read as reads;
 use crate::expressions::{read_arguments, read_expression};
 use crate::reader::{Read, Stop, past, past_end, past_if, past_keyword, past_name};
 use std::alloc::Global;
-use tc_base::Place;
-use tc_lexer::{Keyword, Sign};
+use tc_lexer::{Keyword, Place, Sign};
 use tc_tree::{Action, Barrier, Block, Branch, Name, Statement, Word};
 
-/// What stands after the first branch of an `if`.
+/// What follows the first branch of an `if`.
 type Otherwise = (Vec<Branch>, Option<Block>);
 
-/// Statements, as many as stand there, and the words after them.
+/// As many statements as there are, and the words after them.
 #[cycle(statements)]
 pub(crate) fn read_statements<'w>(alloc: Global, words: &'w [Word]) -> Read<'w, Vec<Statement>>
     ensures { MatchResult result
@@ -86,7 +85,7 @@ fn read_statement<'w>(alloc: Global, words: &'w [Word]) -> Read<'w, Statement>
     }
 }
 
-/// A statement that begins with a name, after it, and the words after it.
+/// The rest of a statement that begins with a name, and the words after it.
 fn read_named<'w>(alloc: Global, name: Name, words: &'w [Word]) -> Read<'w, Statement>
     ensures { MatchResult result
         (λ x. IsRead statement_then IsWell (AName name ∷ []) (AfterName ∷ []) words.now (statement_of x.0) x.1.now)
@@ -267,7 +266,7 @@ fn read_if<'w>(alloc: Global, place: Place, words: &'w [Word]) -> Read<'w, State
     Ok((Statement::If(branch, others, last), rest))
 }
 
-/// The branches after the first, as many as stand there, and the words after them.
+/// As many branches after the first as there are, and the words after them.
 #[cycle(statements)]
 fn read_otherwise<'w>(alloc: Global, words: &'w [Word]) -> Read<'w, Otherwise>
     ensures { MatchResult result

@@ -5,7 +5,7 @@ use Rattle.tc_base.specs.Names.{Name, ByName}
 use Rattle.tc_base.specs.States.{Local, Thread}
 use Rattle.tc_code.specs.declared.instr.Instr.{Instr}
 use Rattle.tc_code.specs.declared.instr.Instr.TheVariants.{Branch}
-use Rattle.tc_base.specs.declared.limits.TheConstants.{CELLS}
+use Rattle.tc_limits.specs.declared.limits.TheConstants.{CELLS}
 use Rattle.tc_code.specs.Code.{Code}
 use Rattle.tc_code.specs.Lawful.{names_what_is}
 use Rattle.tc_code.specs.declared.code.Func.{Func}
@@ -15,11 +15,11 @@ use Rattle.tc_code.specs.Step.{ints_of, arguments_of}
 use Rattle.run_laws.specs.Counters.{IsBelowLast}
 use Rattle.run_laws.specs.Whole.{IndexIsWithin}
 
--- a function with as many slots and handles as the thread has
+-- the function, resized to the thread's slots and handles
 abbrev pub sized : Func → Local → Func
 sized f t = record f { ints = length t.slots; handles = length t.handles }
 
--- what the instruction names is there, and the index of its access is inside the array
+-- everything that the instruction names exists, and its index is inside its array
 pub record CanAsk (code : Code) (t : Local) (i : Instr) : Type 0 where
   pub function : Func
   pub names : IsTrue (names_what_is code (sized function t) i)
@@ -27,7 +27,7 @@ pub record CanAsk (code : Code) (t : Local) (i : Instr) : Type 0 where
   pub cells : length code.memory ≤ CELLS
   pub index : IndexIsWithin t i
 
--- there is room for its next place, its next count, and one more child
+-- the thread's next place, next step count and next child number fit
 pub record HasRoom (t : Local) : Type 0 where
   pub place : t.instruction + 1 < 2 ^ 64
   pub counters : IsBelowLast t
@@ -40,12 +40,12 @@ abbrev pub is_branch : Instr → Bool
 is_branch (Branch e to) = true
 is_branch _ = false
 
--- a function that is to be started is there, and takes the arguments
+-- a function to be started exists and has room for the arguments
 abbrev pub Starts : Code → Local → Instr → Request → Type 0
 Starts code t i (Start f) = (f < length code.functions) × (length (arguments_of t i) ≤ ints_of code f)
 Starts code t i _ = Unit {0}
 
 module _ {B : Type 0} where
-  -- the thread of a name can do the instruction
+  -- the named thread, if it exists, can do the instruction
   abbrev pub CanAdvance : ByName (Thread B) → Name → Instr → Type 0
   CanAdvance threads n i = IfSome (fin.get threads n) (λ t. (code : Code) × CanDo code t.local i)

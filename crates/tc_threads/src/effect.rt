@@ -1,12 +1,12 @@
-//! What an instruction does beside its own thread's variables.
+//! The effects of instructions on memory and store buffers.
 
-/// What a thread takes from memory as it does an instruction, or puts into its store buffer.
+/// What a thread reads or puts into its store buffer when it does an instruction.
 #[derive(Clone, Copy, Debug, PartialEq, Eq)]
 pub enum Effect {
-    /// It takes a value, if it takes any.
+    /// It reads this value, if it reads any.
     Takes(i32),
-    /// It puts in a store, of a cell and a value.
+    /// It buffers a store of this value to this cell.
     Issues(u32, i32),
-    /// It puts in a bar.
+    /// It buffers a bar.
     Bars,
 }

@@ -1,4 +1,5 @@
-//! The threads of the machine: what each has to itself, its store buffer, and what an instruction asks and does there.
+//! The threads of the machine: local state, store buffer, and the requests and effects of
+//! instructions.
 #![tactic(auto)]
 
 mod effect;

@@ -1,7 +1,8 @@
-//! What a thread has to itself, but for its store buffer, and what an instruction asks and does there.
+//! The local state of a thread, without its store buffer, and what an instruction asks and does
+//! there.
 ghost use Rattle.std.specs.Prelude.{◌≡◌, ℕ, ◌+◌, ◌<◌, ◌≤◌, ◌^◌, length, slice_set, map, true, IsTrue, IfOk, OnOk, OnErr, OnSome, option_map};
 ghost use Rattle.std.specs.List.{list_all};
-ghost use Rattle.tc_base.specs.Buffers.{no_buffer};
+ghost use Rattle.store_buffers.specs.Buffers.{no_buffer};
 ghost use Rattle.tc_base.specs.declared.handle.Handle.{Handle};
 ghost use Rattle.tc_code.specs.Code as flat;
 ghost use Rattle.tc_code.specs.Lawful.{IsLawful};
@@ -16,7 +17,7 @@ use std::marker::Model;
 use tc_base::{Handle, Request};
 use tc_code::{Code, Expr, Instr, value};
 
-/// What a thread has to itself, but for its store buffer.
+/// The local state of a thread, without its store buffer.
 #[derive(Debug, Drop)]
 pub struct Local {
     function: usize,
@@ -52,7 +53,8 @@ impl Model for Local {
 }
 
 impl Local {
-    /// A thread at the start of a function: its first slots are the arguments, and all else is 0, unset and free.
+    /// A thread at the start of a function: the first slots are the arguments, all else is 0, unset
+    /// and free.
     pub fn at_start(
         alloc: Global,
         code: &Code,
@@ -79,42 +81,42 @@ impl Local {
         })
     }
 
-    /// The function and the instruction that it does next.
+    /// The thread's function and the index of its next instruction.
     pub fn place(&self) -> (usize, usize)
         ensures { result ≡ (self.now.function, self.now.instruction) }
     {
         (self.function, self.instruction)
     }
 
-    /// How many instructions it has done.
+    /// The number of steps done.
     pub fn steps(&self) -> u32
         ensures { result ≡ self.now.steps }
     {
         self.steps
     }
 
-    /// The outcomes of its branches.
+    /// The outcomes of the branches, in order.
     pub fn outcomes(&self) -> &Outcomes
         ensures { result.now ≡ self.now.outcomes }
     {
         &self.outcomes
     }
 
-    /// How many threads it has created.
+    /// The number of threads created.
     pub fn children(&self) -> u32
         ensures { result ≡ self.now.children }
     {
         self.children
     }
 
-    /// Whether it has exited.
+    /// Whether the thread has exited.
     pub fn has_exited(&self) -> bool
         ensures { result ≡ self.now.has_exited }
     {
         self.has_exited
     }
 
-    /// The instruction that it does next, and none once it has exited.
+    /// The thread's next instruction; none after its exit.
     pub fn instr<'a>(&self, code: &'a Code) -> Option<&'a Instr>
         ensures next { option_map (λ i. i.now) result ≡ plain.instr_of code.now self.now }
         ensures lawful { OnSome result (IsLawful code.now) }
@@ -126,7 +128,7 @@ impl Local {
         code.instr(self.function, self.instruction)
     }
 
-    /// What an instruction asks.
+    /// The request of an instruction.
     pub fn request(&self, instr: &Instr) -> Request
         requires { (code : flat.Code) × CanAsk code self.now instr.now }
         ensures { result ≡ plain.request self.now instr.now }
@@ -180,7 +182,7 @@ impl Local {
         }
     }
 
-    /// The values that a create hands to the child.
+    /// The values that a create passes to the child.
     pub fn arguments(&self, alloc: Global, instr: &Instr) -> Result<Vec<i32>, AllocError>
         requires { (code : flat.Code) × CanAsk code self.now instr.now }
         ensures { IfOk result (λ v. v.items ≡ plain.arguments_of self.now instr.now) }
@@ -191,8 +193,8 @@ impl Local {
         }
     }
 
-    /// Does an instruction that doesn't fail, `taken` being what it takes from memory, if it takes anything. Only the outcome of a branch takes
-    /// memory, before anything changes.
+    /// Does an instruction that doesn't fail; `taken` is the value that it reads, if any. Only a
+    /// branch allocates, for its outcome, before anything changes.
     pub fn advance(&mut self, instr: &Instr, taken: i32) -> Result<(), AllocError>
         requires { (code : flat.Code) × CanDo code self.old instr.now }
         ensures ok { OnOk result (self.new ≡ plain.local_after self.old instr.now taken) }
@@ -252,7 +254,7 @@ impl Local {
         self.count_step();
     }
 
-    /// Goes on after a branch, and keeps its outcome.
+    /// Goes on after a branch, and records its outcome.
     fn branch(&mut self, outcome: bool, target: u32) -> Result<(), AllocError>
         requires { HasRoom self.old }
         ensures ok { OnOk result (self.new ≡ plain.branched self.old outcome target) }
@@ -267,7 +269,7 @@ impl Local {
         Ok(())
     }
 
-    /// A slot takes a value.
+    /// Sets a slot.
     fn set(&mut self, slot: u32, value: i32)
         requires room { HasRoom self.old }
         requires there { slot < length self.old.slots }
@@ -277,7 +279,7 @@ impl Local {
         self.go_on();
     }
 
-    /// Takes a mutex, or leaves it.
+    /// Acquires or releases a mutex.
     fn hold(&mut self, mutex: u32, holds: bool)
         requires room { HasRoom self.old }
         requires there { mutex < length self.old.held }
@@ -287,7 +289,7 @@ impl Local {
         self.go_on();
     }
 
-    /// A handle takes a new child.
+    /// Puts a new child into a handle.
     fn create(&mut self, handle: u32)
         requires room { HasRoom self.old }
         requires there { handle < length self.old.handles }
@@ -301,7 +303,7 @@ impl Local {
         self.handles[handle as usize] = Handle::Child(self.children);
     }
 
-    /// The child of a handle is joined.
+    /// Marks the child of a handle as joined.
     fn join(&mut self, handle: u32)
         requires room { HasRoom self.old }
         requires there { handle < length self.old.handles }
@@ -314,7 +316,7 @@ impl Local {
         self.go_on();
     }
 
-    /// Ends.
+    /// Exits.
     fn exit(&mut self)
         requires { HasRoom self.old }
         ensures { self.new ≡ record (plain.next self.old) { has_exited = true } }
@@ -323,7 +325,7 @@ impl Local {
         self.go_on();
     }
 
-    /// Counts a step, at the same place.
+    /// Counts a step that stays at its place.
     pub fn count_step(&mut self)
         requires { self.old.steps + 1 < 2 ^ 32 }
         ensures { self.new ≡ plain.stepped self.old }
@@ -332,7 +334,7 @@ impl Local {
     }
 }
 
-/// The values of expressions, over these slots.
+/// The values of expressions over these slots.
 fn values(alloc: Global, arguments: &[Expr], slots: &[i32]) -> Result<Vec<i32>, AllocError>
     requires { IsTrue (list_all (names_slots (length slots.now)) arguments.now) }
     ensures { IfOk result (λ v. v.items ≡ map (λ e. value_of e slots.now) arguments.now) }

@@ -19,7 +19,7 @@ impl Model for Outcomes {
 }
 
 impl Outcomes {
-    /// None yet.
+    /// The empty list.
     pub fn new(alloc: Global) -> Outcomes
         ensures { result ≡ [] }
     {
@@ -28,7 +28,7 @@ impl Outcomes {
         }
     }
 
-    /// One more, at the end.
+    /// Appends an outcome.
     pub fn push(&mut self, outcome: bool) -> Result<(), AllocError>
         ensures ok { OnOk result (self.new ≡ self.old ++ outcome ∷ []) }
         ensures err { OnErr result (self.new ≡ self.old) }
@@ -37,21 +37,21 @@ impl Outcomes {
         Ok(())
     }
 
-    /// The outcomes, one after another.
+    /// The outcomes as a slice.
     pub fn as_slice(&self) -> &[bool]
         ensures { result.now ≡ self.now }
     {
         self.outcomes.as_slice()
     }
 
-    /// How many branches there were.
+    /// The number of outcomes.
     pub fn len(&self) -> usize
         ensures { result ≡ length self.now }
     {
         self.outcomes.len()
     }
 
-    /// Whether there was none.
+    /// Whether there is no outcome.
     pub fn is_empty(&self) -> bool
         ensures { result ≡ (length self.now == 0) }
     {

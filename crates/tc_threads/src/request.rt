@@ -1,11 +1,11 @@
-//! What the requests of instructions are made of.
+//! The parts that requests of instructions are made of.
 ghost use Rattle.std.specs.Prelude.{◌≡◌, ◌+◌, ◌<◌, ◌^◌, unsigned_abs};
-ghost use Rattle.tc_base.specs.Arith.{is_distance};
+ghost use Rattle.int_ops.specs.Arith.{is_distance};
 ghost use Rattle.tc_code.specs.Step as plain;
 
 use tc_base::{Handle, Request};
 
-/// A site asks for nothing where it is true.
+/// The request of a site: nothing if the test holds.
 pub fn site(holds: bool) -> Request
     ensures { result ≡ plain.site holds }
 {
@@ -16,21 +16,21 @@ pub fn site(holds: bool) -> Request
     }
 }
 
-/// Whether an index is inside a length.
+/// Whether an index is inside an array of this length.
 pub fn is_within(length: u32, index: i32) -> bool
     ensures { result ≡ plain.is_within length index }
 {
     0 <= index && i64::from(index) < i64::from(length)
 }
 
-/// Whether a number is the distance of a shift.
+/// Whether a number is a valid shift distance.
 pub fn is_distance(number: i32) -> bool
     ensures { result ≡ is_distance number }
 {
     0 <= number && number < 32
 }
 
-/// The cell at an index of the array that begins at a cell.
+/// The cell at an index of the array that begins at cell `first`.
 pub fn cell_at(first: u32, index: i32) -> u32
     requires { first + unsigned_abs index < 2 ^ 32 }
     ensures { result ≡ plain.cell_at first index }
@@ -45,7 +45,7 @@ pub fn can_be_joined(handle: Handle) -> bool
     matches!(handle, Handle::Child(_))
 }
 
-/// The number of a child that hasn't been joined, and 0, which no child has, where it is none.
+/// The number of a child that hasn't been joined, else 0, which no child has.
 pub fn child_number(handle: Handle) -> u32
     ensures { result ≡ plain.child_number handle }
 {
@@ -55,7 +55,7 @@ pub fn child_number(handle: Handle) -> u32
     }
 }
 
-/// Whether a request can only be met once all stores of the thread are in memory.
+/// Whether a request can be met only after all stores of the thread have drained.
 pub fn drains_first(request: Request) -> bool
     ensures { result ≡ plain.drains_first request }
 {

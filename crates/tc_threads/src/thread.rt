@@ -1,4 +1,4 @@
-//! A thread: what it has to itself, and its store buffer.
+//! A thread: its local state and its store buffer.
 ghost use Rattle.std.specs.Prelude.{◌≡◌, ◌+◌, ◌<◌, ◌≤◌, ◌^◌, length, true, IfOk, OnOk, OnErr, OnSome, option_map};
 ghost use Rattle.store_buffers.specs.Laws.{AreForms};
 ghost use Rattle.tc_code.specs.Code as flat;
@@ -15,7 +15,7 @@ use store_buffers::MemoryModel;
 use tc_base::Request;
 use tc_code::{Code, Instr};
 
-/// A thread.
+/// A thread: its local state and its store buffer.
 #[derive(Drop)]
 #[derive_where(Debug)]
 pub struct Thread<M: MemoryModel> {
@@ -33,8 +33,8 @@ impl<M: MemoryModel> Model for Thread<M> {
 }
 
 impl<M: MemoryModel> Thread<M> {
-    /// A thread at the start of a function: its first slots are the arguments, all else is 0, unset and free, and its
-    /// buffer is empty.
+    /// A thread at the start of a function: its first slots are the arguments, all else is 0, unset
+    /// and free, and its buffer is empty.
     pub fn at_start(
         alloc: Global,
         code: &Code,
@@ -51,14 +51,14 @@ impl<M: MemoryModel> Thread<M> {
         })
     }
 
-    /// What it has to itself, but for its buffer.
+    /// The thread's state without its buffer.
     pub fn local(&self) -> &Local
         ensures { result.now ≡ self.now.local }
     {
         &self.local
     }
 
-    /// The instruction that it does next, and none once it has exited.
+    /// The thread's next instruction; none after its exit.
     pub fn instr<'a>(&self, code: &'a Code) -> Option<&'a Instr>
         ensures next { option_map (λ i. i.now) result ≡ plain.instr_of code.now self.now.local }
         ensures lawful { OnSome result (IsLawful code.now) }
@@ -67,7 +67,7 @@ impl<M: MemoryModel> Thread<M> {
         self.local.instr(code)
     }
 
-    /// What an instruction asks.
+    /// The request of an instruction.
     pub fn request(&self, instr: &Instr) -> Request
         requires { (code : flat.Code) × CanAsk code self.now.local instr.now }
         ensures { result ≡ plain.request self.now.local instr.now }
@@ -75,14 +75,14 @@ impl<M: MemoryModel> Thread<M> {
         self.local.request(instr)
     }
 
-    /// The value of its newest store to a cell that hasn't reached memory.
+    /// The value of the thread's newest pending store to a cell, if any.
     pub fn forward(&self, cell: u32) -> Option<i32>
         ensures { result ≡ M.ops.forward self.now.buffer cell }
     {
         M::forward(&self.buffer, cell)
     }
 
-    /// Whether all its stores have reached memory.
+    /// Whether all its stores have drained.
     pub fn is_drained(&self) -> bool
         ensures { result ≡ M.ops.is_empty self.now.buffer }
     {
@@ -96,14 +96,15 @@ impl<M: MemoryModel> Thread<M> {
         M::may_drain(&self.buffer, form)
     }
 
-    /// The forms by which its stores may drain, in order.
+    /// The forms by which the thread's stores may drain, in order.
     pub fn forms(&self, alloc: Global) -> Result<Vec<Option<u32>>, AllocError>
         ensures { IfOk result (λ forms. AreForms M.ops self.now.buffer forms.items) }
     {
         M::forms(alloc, &self.buffer)
     }
 
-    /// Does an instruction that doesn't fail, with this effect. Memory is taken before anything changes.
+    /// Does an instruction that doesn't fail, with this effect. It allocates before anything
+    /// changes.
     pub fn advance(&mut self, instr: &Instr, effect: Effect) -> Result<(), AllocError>
         requires can { (code : flat.Code) × CanDo code self.old.local instr.now }
         requires may { MayHave M.ops instr.now effect }
@@ -124,7 +125,7 @@ impl<M: MemoryModel> Thread<M> {
         }
     }
 
-    /// Takes out the store that drains by this form: its cell and value.
+    /// Removes the store that drains by this form, and returns its cell and value.
     pub fn drain(&mut self, form: Option<u32>) -> (u32, i32)
         requires { M.ops.may_drain self.old.buffer form ≡ true }
         ensures cell { result.0 ≡ (M.ops.drain self.old.buffer form).entry.cell }
@@ -137,7 +138,7 @@ impl<M: MemoryModel> Thread<M> {
         store
     }
 
-    /// Counts a step, at the same place.
+    /// Counts a step that stays at its place.
     pub fn count_step(&mut self)
         requires { self.old.local.steps + 1 < 2 ^ 32 }
         ensures { self.new ≡ record self.old { local = plain.stepped self.old.local } }

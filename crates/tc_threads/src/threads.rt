@@ -19,7 +19,7 @@ use store_buffers::MemoryModel;
 use tc_base::ThreadName;
 use tc_code::Instr;
 
-/// Threads by name, and the list of their names.
+/// Threads by name, with the list of their names.
 #[derive(Drop)]
 #[derive_where(Debug)]
 pub struct Threads<M: MemoryModel> {
@@ -47,7 +47,7 @@ impl<M: MemoryModel> Model for Threads<M> {
 }
 
 impl<M: MemoryModel> Threads<M> {
-    /// Main alone.
+    /// The threads at the start of a run: main alone.
     pub fn of_main(alloc: Global, thread: Thread<M>) -> Result<Threads<M>, AllocError>
         ensures { IfOk result (λ threads. threads ≡ map.insert map.empty main thread) }
     {
@@ -64,7 +64,7 @@ impl<M: MemoryModel> Threads<M> {
         &self.names
     }
 
-    /// The thread of a name, if there is one.
+    /// The named thread, if it exists.
     pub fn get(&self, name: &ThreadName) -> Option<&Thread<M>>
         ensures { option_map (λ t. t.now) result ≡ map.get self.now name.now }
     {
@@ -79,7 +79,7 @@ impl<M: MemoryModel> Threads<M> {
         self.by_name.iter()
     }
 
-    /// The thread does an instruction that doesn't fail, with this effect.
+    /// Does a thread's instruction, which doesn't fail, with this effect.
     pub fn advance(
         &mut self,
         name: &ThreadName,
@@ -99,7 +99,7 @@ impl<M: MemoryModel> Threads<M> {
         }
     }
 
-    /// One thread more.
+    /// Adds a thread.
     pub fn add(&mut self, name: ThreadName, thread: Thread<M>) -> Result<(), AllocError>
         requires { map.get self.old name ≡ None }
         ensures ok { OnOk result (self.new ≡ map.insert self.old name thread) }
@@ -115,7 +115,7 @@ impl<M: MemoryModel> Threads<M> {
         }
     }
 
-    /// A thread creates a child, by an instruction that is no branch.
+    /// Creates a child of a thread, by an instruction that is no branch.
     pub fn create(
         &mut self,
         name: &ThreadName,
@@ -136,7 +136,7 @@ impl<M: MemoryModel> Threads<M> {
         self.advance(name, instr, Effect::Takes(0))
     }
 
-    /// Whether a thread's child of that number has exited.
+    /// Whether a thread's child with this number has exited.
     pub fn child_has_exited(&self, parent: &ThreadName, number: u32) -> bool
         ensures { result ≡ option_map_or (λ t. t.local.has_exited) (map.get self.now (child parent.now number)) false }
     {
@@ -148,7 +148,7 @@ impl<M: MemoryModel> Threads<M> {
         false
     }
 
-    /// The thread stays where it failed.
+    /// Counts the failing step of a thread, which stays at its place.
     pub fn stop(&mut self, name: &ThreadName)
         requires { IfSome (map.get self.old name.now) (λ t. t.local.steps + 1 < 2 ^ 32) }
         ensures { IfSome (map.get self.old name.now)
@@ -159,7 +159,7 @@ impl<M: MemoryModel> Threads<M> {
         }
     }
 
-    /// Takes out the store of a thread that drains by this form: its cell and value.
+    /// Removes the store that a thread drains by this form, and returns its cell and value.
     pub fn drain(&mut self, name: &ThreadName, form: Option<u32>) -> (u32, i32)
         requires { IsSomeAnd (map.get self.old name.now) (λ t. M.ops.may_drain t.buffer form ≡ true) }
         ensures { IfSome (map.get self.old name.now) (λ t. DrainsTo M.ops self.old name.now t form result self.new) }
@@ -171,7 +171,7 @@ impl<M: MemoryModel> Threads<M> {
     }
 }
 
-/// Whether a name is that of a thread's child of that number.
+/// Whether a name is that of a thread's child with this number.
 fn is_child(name: &ThreadName, parent: &ThreadName, number: u32) -> bool
     ensures { IsTrue result ↔ (child parent.now number ≡ name.now) }
 {

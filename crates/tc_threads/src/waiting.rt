@@ -27,7 +27,7 @@ impl Model for WaitSet {
 }
 
 impl WaitSet {
-    /// Nobody.
+    /// The empty set.
     pub fn new(alloc: Global) -> WaitSet
         ensures { result ≡ set.empty }
     {
@@ -36,21 +36,21 @@ impl WaitSet {
         }
     }
 
-    /// Whether a thread is one of them.
+    /// Whether a thread is in the set.
     pub fn contains(&self, name: &ThreadName) -> bool
         ensures { result ≡ set.contains self.now name.now }
     {
         self.names.contains(name)
     }
 
-    /// Whether there is none.
+    /// Whether the set is empty.
     pub fn is_empty(&self) -> bool
         ensures { result ≡ (set.len self.now == 0) }
     {
         self.names.is_empty()
     }
 
-    /// One more, and whether it is new.
+    /// Adds a thread, and returns whether it is new.
     pub fn insert(&mut self, name: ThreadName) -> Result<bool, AllocError>
         ensures added { IfOk result (λ added. added ≡ not (set.contains self.old name)) }
         ensures ok { OnOk result (self.new ≡ set.insert self.old name) }
@@ -59,14 +59,14 @@ impl WaitSet {
         Ok(self.names.insert(name)?)
     }
 
-    /// One less, if it is there.
+    /// Removes a thread, if it is there.
     pub fn remove(&mut self, name: &ThreadName)
         ensures { self.new ≡ set.remove self.old name.now }
     {
         self.names.remove(name);
     }
 
-    /// All of them leave.
+    /// Removes all threads.
     pub fn clear(&mut self)
         ensures { self.new ≡ set.empty }
     {

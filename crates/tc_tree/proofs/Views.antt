@@ -1,6 +1,6 @@
 -- Statements of the tree as the grammar has them.
 use Rattle.std.proofs.Common.{◌≡◌, Vec, Global, map, option_map, Option, Some, None, sym, ap, ◌∙◌}
-use Rattle.tc_base.specs.declared.place.Place.{Place}
+use Rattle.tc_lexer.specs.declared.place.Place.{Place}
 use Rattle.tc_tree.specs.Grammar.{Expression}
 use Rattle.tc_tree.specs.declared.expression.Name.{Name}
 use Rattle.tc_tree.specs.declared.statement.Action.{Action}

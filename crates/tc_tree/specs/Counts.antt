@@ -1,9 +1,9 @@
--- How many of each thing the global declarations of a program make.
+-- How many cells, mutexes and conditions the global declarations of a program make.
 use Rattle.std.specs.Prelude.{ℕ, ◌+◌, ℤ, pos, List, [], ◌∷◌}
 use Rattle.tc_tree.specs.declared.program.Global.{Global}
 use Rattle.tc_tree.specs.declared.program.Global.TheVariants.{Int, Array, Mutex, Condition}
 
--- a length as a natural number; no text has a negative one
+-- a length as a natural number; in a text, lengths are never negative
 abbrev pub elements : ℤ → ℕ
 elements (pos n) = n
 elements _ = 0
@@ -14,7 +14,7 @@ cells_of (Array a n) = elements n.value
 cells_of (Mutex m) = 0
 cells_of (Condition c) = 0
 
--- an int takes one cell, and an array one for each element
+-- the number of cells: one for each int, and one for each element of an array
 abbrev pub cells : List Global → ℕ
 cells [] = 0
 cells (g ∷ gs) = cells_of g + cells gs

@@ -1,8 +1,8 @@
--- Programs as plain trees, and their tokens, each with the tokens that stand after it.
+-- Programs as plain trees, and the tokens that spell them, followed by given tokens.
 use Rattle.std.specs.Prelude.{◌≡◌, ℕ, ◌+◌, ◌<◌, ◌≤◌, List, [], ◌∷◌, ◌++◌, length, take}
-use Rattle.tc_base.specs.declared.place.Place.{Place}
-use Rattle.tc_base.specs.declared.arith.UnOp.{UnOp}
-use Rattle.tc_base.specs.declared.arith.UnOp.TheVariants.{Neg, Not, Inv}
+use Rattle.tc_lexer.specs.declared.place.Place.{Place}
+use Rattle.int_ops.specs.declared.arith.UnOp.{UnOp}
+use Rattle.int_ops.specs.declared.arith.UnOp.TheVariants.{Neg, Not, Inv}
 use Rattle.tc_lexer.specs.declared.token.Keyword.TheVariants as keyword
 use Rattle.tc_lexer.specs.declared.token.Sign.{Sign as AnySign}
 use Rattle.tc_lexer.specs.declared.token.Sign.TheVariants as sign
@@ -118,13 +118,13 @@ level BitOr = 3
 level And = 2
 level Or = 1
 
--- how tightly an expression holds together
+-- the precedence of an expression: that of its outermost operator, or 12 without one
 abbrev pub tightness : Expression → ℕ
 tightness (Binary op a b) = level op
 tightness (Unary op e) = 11
 tightness _ = 12
 
--- each operand holds together at least as tightly as its place asks: the left one as the operator, the right one more, one after a unary operator as that
+-- each operand binds tightly enough for its operator; binary operators associate to the left
 abbrev pub IsGrouped : Expression → Type 0
 IsGrouped (Number n) = Unit {0}
 IsGrouped (Variable x) = Unit {0}
@@ -137,7 +137,7 @@ abbrev pub AreGrouped : List Expression → Type 0
 AreGrouped [] = Unit {0}
 AreGrouped (e ∷ es) = IsGrouped e × AreGrouped es
 
--- each after a comma
+-- the expressions, each after a comma
 abbrev pub others_then : List Expression → List Word → List Word
 others_then [] rest = rest
 others_then (e ∷ es) rest = ASign sign.Comma ∷ expression_then e (others_then es rest)
@@ -166,7 +166,7 @@ mutual
     Nil : Statements
     Cons : (first : Statement) (others : Statements) → Statements
 
-  -- what stands after the body of an `if`
+  -- what follows the body of an `if`
   pub data Otherwise : Type 0 where
     Nothing : Otherwise
     Else : (body : Statements) (end : Place) → Otherwise
@@ -269,7 +269,7 @@ locals_then (l ∷ ls) rest = local_then l (locals_then ls rest)
 abbrev pub body_then : Body → List Word → List Word
 body_then b rest = ASign sign.OpenBrace ∷ locals_then b.locals (statements_then b.statements (AnEnd b.end ∷ rest))
 
--- each after a comma
+-- the parameters, each after a comma
 abbrev pub other_parameters_then : List Name → List Word → List Word
 other_parameters_then [] rest = rest
 other_parameters_then (x ∷ xs) rest = ASign sign.Comma ∷ AKeyword keyword.Int ∷ AName x ∷ other_parameters_then xs rest
@@ -293,7 +293,7 @@ abbrev pub AreWellThreads : List Thread → Type 0
 AreWellThreads [] = Unit {0}
 AreWellThreads (t ∷ ts) = AreWell t.body.statements × AreWellThreads ts
 
--- each expression of the program is grouped as its precedence asks
+-- every expression of the program is grouped according to precedence
 abbrev pub IsWellProgram : Program → Type 0
 IsWellProgram p = AreWellThreads p.threads × AreWell p.main.statements
 
@@ -303,19 +303,19 @@ AreOf language (w ∷ ws) = (word_since w ≤ language) × AreOf language ws
 
 -- ---- the grammar of a language, by its number
 
--- the words are the program's
+-- the words spell the program, in this language
 pub record IsSpelled (language : ℕ) (words : List Word) (p : Program) : Type 0 where
   pub spelled : words ≡ program_words p
   pub grouped : IsWellProgram p
   pub language_has : AreOf language words
 
--- some program's words begin with these
+-- some program begins with these words
 pub record Begins (language : ℕ) (words : List Word) : Type 0 where
   pub program : Program
   pub more : List Word
   pub is : IsSpelled language (words ++ more) program
 
--- the first k words begin some program's, and with one more they begin none; or all begin one and are none
+-- the first k words begin a program, with one more they don't, and the whole isn't a program
 pub record IsSyntaxFault (language : ℕ) (words : List Word) (k : ℕ) : Type 0 where
   pub within : k ≤ length words
   pub before : Begins language (take k words)

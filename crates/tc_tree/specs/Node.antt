@@ -1,4 +1,4 @@
--- What an expression of the program is seen as.
+-- The plain expression that an expression in memory represents.
 use Rattle.tc_tree.specs.Grammar as plain
 use Rattle.tc_tree.specs.declared.expression.Node.{Node}
 use Rattle.tc_tree.specs.declared.expression.Node.TheVariants.{Number, Variable, Element, Paren, Unary, Binary}

@@ -1,6 +1,6 @@
 -- The numbers of a program.
 use Rattle.std.specs.Prelude.{List, [], ◌∷◌}
-use Rattle.tc_base.specs.Arith.{IsInt}
+use Rattle.int_ops.specs.Arith.{IsInt}
 use Rattle.tc_tree.specs.declared.word.Word.{Word}
 use Rattle.tc_tree.specs.declared.word.Word.TheVariants.{Number}
 use Rattle.tc_tree.specs.Grammar.{Program, program_words}

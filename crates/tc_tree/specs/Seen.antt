@@ -1,6 +1,6 @@
--- What trees are, without where they lie in memory.
+-- Trees as plain data, apart from memory.
 use Rattle.std.specs.Prelude.{List, [], ◌∷◌, map, Option, Some, None}
-use Rattle.tc_base.specs.declared.place.Place.{Place}
+use Rattle.tc_lexer.specs.declared.place.Place.{Place}
 use Rattle.tc_tree.specs.declared.statement.Statement.{Statement as TreeStatement, fold-Statement}
 use Rattle.tc_tree.specs.declared.statement.Statement.TheOpen.{Statement-F, Block-F, Branch-F}
 use Rattle.tc_tree.specs.declared.statement.Block.{Block, fold-Block}
@@ -15,7 +15,7 @@ abbrev pub statements_of : List Statement → Statements
 statements_of [] = grammar.Nil
 statements_of (s ∷ ss) = grammar.Cons s (statements_of ss)
 
--- statements and the place of the brace that ends them
+-- statements, and the place of their closing brace
 pub record SeenBlock : Type 0 where
   pub statements : Statements
   pub end : Place
@@ -25,7 +25,7 @@ pub record SeenBranch : Type 0 where
   pub condition : grammar.Expression
   pub body : SeenBlock
 
--- the branches of a chain, and what stands at its end
+-- the `else if` branches of a chain, and the `else` at its end
 abbrev pub otherwise_of : List SeenBranch → Option SeenBlock → Otherwise
 otherwise_of [] None = grammar.Nothing
 otherwise_of [] (Some b) = grammar.Else b.statements b.end

@@ -1,6 +1,6 @@
 -- Tokens as the grammar sees them.
 use Rattle.std.specs.Prelude.{ℕ, List, map}
-use Rattle.tc_base.specs.declared.place.Place.{Place}
+use Rattle.tc_lexer.specs.declared.place.Place.{Place}
 use Rattle.tc_lexer.specs.declared.token.Keyword.{Keyword as AnyKeyword}
 use Rattle.tc_lexer.specs.declared.token.Keyword.TheVariants as keyword
 use Rattle.tc_lexer.specs.declared.token.Sign.{Sign as AnySign}
@@ -26,7 +26,7 @@ use Rattle.tc_tree.specs.declared.word.Word.TheVariants.{
   End as AnEnd,
 }
 
--- a keyword, with its place where it begins a statement
+-- a keyword as a word; it keeps its place if it begins a statement
 abbrev pub keyword_word : AnyKeyword → Place → Word
 keyword_word keyword.If p = AnIf p
 keyword_word keyword.While p = AWhile p
@@ -45,7 +45,7 @@ abbrev pub sign_word : AnySign → Place → Word
 sign_word sign.CloseBrace p = AnEnd p
 sign_word s p = ASign s
 
--- a token of this kind and span, at this place
+-- the word of a token with this kind, span and place
 abbrev pub kind_word : TokenKind → ℕ → ℕ → Place → Word
 kind_word kind.Name start end p = AName (record { start = start; end = end; place = p })
 kind_word (kind.Number n) start end p = ANumber (record { value = n; place = p })

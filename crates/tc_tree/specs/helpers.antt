@@ -1,4 +1,4 @@
--- No promise of a program's text speaks of what is below: parts of trees, and how the checker sees a tree of boxes.
+-- Helpers, in no public contract: parts of trees, and how the checker sees boxed trees.
 pub mod Size
 pub mod Falls
 pub mod CodedExpression

@@ -2,23 +2,24 @@
 ghost use Rattle.std.specs.Prelude.{◌≡◌, slice_range, IfOk};
 ghost use Rattle.tc_tree.specs.Grammar as plain;
 
+use int_ops::UnOp;
 use std::alloc::{AllocError, Global};
 use std::marker::Model;
-use tc_base::{Place, UnOp};
+use tc_lexer::Place;
 
-/// A name, told by where it stands in its text.
+/// A name, known by its span in its text.
 #[derive(Clone, Copy, Debug, PartialEq, Eq)]
 pub struct Name {
-    /// How many bytes of the text stand before it.
+    /// How many bytes of the text come before it.
     pub start: usize,
-    /// How many bytes of the text stand before its end.
+    /// How many bytes of the text come before its end.
     pub end: usize,
     /// The place of its first byte.
     pub place: Place,
 }
 
 impl Name {
-    /// The bytes of the name, in the text that it stands in.
+    /// The bytes of the name in its text.
     pub fn text<'a>(&self, source: &'a [u8]) -> &'a [u8]
         ensures { result.now ≡ slice_range source.now self.now.start self.now.end }
     {
@@ -27,16 +28,16 @@ impl Name {
     }
 }
 
-/// A number where it stands in its text.
+/// A number with its place in its text.
 #[derive(Clone, Copy, Debug, PartialEq, Eq)]
 pub struct Number {
-    /// What it is, never negative.
+    /// Its value, never negative.
     pub value: i32,
     /// The place of its first digit.
     pub place: Place,
 }
 
-/// An operator between two operands, as C has them.
+/// An operator between two operands, as in C.
 #[derive(Clone, Copy, Debug, PartialEq, Eq)]
 pub enum Operator {
     /// `*`
@@ -71,13 +72,13 @@ pub enum Operator {
     BitXor,
     /// `|`
     BitOr,
-    /// `&&`, which leaves its right side alone where the left one is 0
+    /// `&&`, which skips its right side if the left one is 0
     And,
-    /// `||`, which leaves its right side alone where the left one isn't 0
+    /// `||`, which skips its right side if the left one isn't 0
     Or,
 }
 
-/// An expression, which keeps its parentheses.
+/// An expression, with its parentheses.
 #[cycle(expression)]
 #[derive(Debug, Drop)]
 pub struct Expression {

@@ -1,4 +1,4 @@
-//! Programs as trees, and the tokens that they are written with.
+//! Programs as trees, and the tokens that spell them.
 //!
 //! A tree keeps the parentheses of its program, so its tokens are a function of it.
 #![tactic(auto)]

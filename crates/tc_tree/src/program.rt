@@ -3,10 +3,10 @@
 use crate::expression::{Name, Number};
 use crate::statement::Block;
 
-/// What a global variable begins with.
+/// The initial value of a global variable.
 #[derive(Clone, Copy, Debug, PartialEq, Eq)]
 pub enum Initial {
-    /// Nothing is written: 0.
+    /// Nothing is written, which means 0.
     Zero,
     /// `= n`
     Plain(Number),
@@ -27,7 +27,7 @@ pub enum Global {
     Condition(Name),
 }
 
-/// A declaration of a body.
+/// A declaration in a body.
 #[derive(Clone, Copy, Debug, PartialEq, Eq)]
 pub enum Local {
     /// `int r;`
@@ -67,7 +67,7 @@ pub struct Program {
     pub main: Body,
 }
 
-/// A program and the text that its names stand in.
+/// A program and the text that its names are in.
 #[derive(Debug, Drop)]
 pub struct Tree<'a> {
     /// The text.

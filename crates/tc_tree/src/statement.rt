@@ -1,9 +1,9 @@
 //! Statements.
 
 use crate::expression::{Expression, Name};
-use tc_base::Place;
+use tc_lexer::Place;
 
-/// What a statement of one name does.
+/// What a statement with one name does.
 #[derive(Clone, Copy, Debug, PartialEq, Eq)]
 pub enum Action {
     /// `join(h);`
@@ -65,7 +65,7 @@ pub struct Block {
     pub end: Place,
 }
 
-/// A condition and what is done under it.
+/// A condition, and what is done if it holds.
 #[derive(Debug, Drop)]
 #[cycle(tree)]
 pub struct Branch {
@@ -73,6 +73,6 @@ pub struct Branch {
     pub place: Place,
     /// The condition.
     pub condition: Expression,
-    /// What is done where it isn't 0.
+    /// What is done if the condition isn't 0.
     pub body: Block,
 }

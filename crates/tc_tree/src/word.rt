@@ -5,10 +5,9 @@ ghost use Rattle.tc_tree.specs.Words as words;
 
 use crate::expression::{Name, Number};
 use crate::statement::{Action, Barrier};
-use tc_base::Place;
-use tc_lexer::{Keyword, Sign, Token, TokenKind};
+use tc_lexer::{Keyword, Place, Sign, Token, TokenKind};
 
-/// A token as the grammar sees it, with its place where a tree keeps it.
+/// A token as the grammar sees it, with its place if a tree keeps that.
 #[derive(Clone, Copy, Debug, PartialEq, Eq)]
 pub enum Word {
     /// A name.
@@ -29,7 +28,7 @@ pub enum Word {
     Assert(Place),
     /// Another keyword.
     Keyword(Keyword),
-    /// Another sign than `}`.
+    /// A sign other than `}`.
     Sign(Sign),
     /// `}`
     End(Place),
@@ -55,7 +54,7 @@ impl Word {
     }
 }
 
-/// A keyword at a place.
+/// The word of a keyword at a place.
 fn keyword_word(keyword: Keyword, place: Place) -> Word
     ensures { result ≡ words.keyword_word keyword place }
 {

@@ -1,6 +1,6 @@
 -- Texts and paths of workers, one after the other.
 use Rattle.std.proofs.Common.{◌≡◌, ◌∙◌, ap, sym, arith, append_assoc, append-nil, ℕ, zero, suc, ◌+◌, ◌-◌, ◌<◌, List, [], ◌∷◌, ◌++◌}
-use Rattle.tc_base.specs.Logs.{ThreadPath}
+use Rattle.tc_base.specs.Paths.{ThreadPath}
 use Rattle.tc_workload.specs.Workload.{each, straight, worker_paths}
 
 module _ (text : ℕ → List ℕ) (first count : ℕ) where

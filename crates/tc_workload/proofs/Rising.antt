@@ -7,7 +7,7 @@ use Rattle.std.specs.Ordering.{is_lt, nat_cmp, ordering_then}
 use Rattle.std.specs.Prelude.{IsTrue}
 use Rattle.std.proofs.lemmas.Bool.{lt-ltb}
 use Rattle.std.specs.declared.cmp.Ordering.TheVariants.{Less, Equal}
-use Rattle.path_log.specs.Texts.{is_above, is_log, rises_from}
+use Rattle.run_log.specs.Logs.{is_above, is_log, rises_from}
 use Rattle.tc_workload.specs.Workload.{worker_paths, workload_log}
 
 next_above : (worker : ℕ) → is_above (Some (worker ∷ [])) ((worker + 1) ∷ []) ≡ true

@@ -5,7 +5,7 @@ use Rattle.std.specs.Fmt.{decimal}
 use Rattle.std.proofs.Math.Nat.{mod-lt}
 use Rattle.std.proofs.lemmas.Fmt.{length-decimal-le_succ}
 use Rattle.std.proofs.lemmas.List.{length-append}
-use Rattle.tc_base.specs.declared.limits.TheConstants.{PROGRAM_BYTES}
+use Rattle.tc_limits.specs.declared.limits.TheConstants.{PROGRAM_BYTES}
 use Rattle.tc_workload.specs.Workload.{cell_read, worker_line, worker_lines, each, declares, creates, joins, adds, workload_text}
 use Rattle.tc_workload.specs.declared.program.TheConstants.{WORKERS}
 

@@ -1,4 +1,5 @@
-//! Programs that are made of words, each with a log: workers that write their own cells and read one another's.
+//! Programs generated from words, each with a log: workers write their own cells and read each
+//! other's.
 #![tactic(auto)]
 
 mod log;

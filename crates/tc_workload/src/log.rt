@@ -4,11 +4,13 @@ ghost use Rattle.tc_workload.specs.Workload as spec;
 ghost use Rattle.tc_workload.specs.Workload.{straight};
 ghost use Rattle.tc_workload.specs.declared.program.TheConstants.{WORKERS};
 
-use path_log::{Log, ThreadPath};
+use memory_models::Model;
+use run_log::{Log, ThreadPath};
 use std::alloc::{AllocError, Global};
-use tc_base::{Failing, Model, ThreadName};
+use tc_base::{Failing, ThreadName};
 
-/// The log of a run of the program of so many workers that fails: each worker reads, and main tests what they have read.
+/// The log of a failing run of the program with this many workers: each worker reads, and main
+/// tests what they have read.
 pub fn workload_log(alloc: Global, workers: u16) -> Result<Log, AllocError>
     requires { workers ≤ WORKERS }
     ensures { IfOk result (λ log. log ≡ record { digest = None; log = spec.workload_log workers }) }

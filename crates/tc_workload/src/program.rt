@@ -1,6 +1,6 @@
 //! The texts of the programs.
 ghost use Rattle.std.specs.Prelude.{◌≡◌, ◌≤◌, ◌<◌, ◌+◌, length, IfOk, string_bytes};
-ghost use Rattle.tc_base.specs.declared.limits.TheConstants.{PROGRAM_BYTES};
+ghost use Rattle.tc_limits.specs.declared.limits.TheConstants.{PROGRAM_BYTES};
 ghost use Rattle.tc_workload.specs.Workload as spec;
 ghost use Rattle.tc_workload.specs.Workload.{cell_read, each, whole_text, worker_lines, worker_line};
 ghost use Rattle.tc_workload.specs.declared.program.TheConstants.{WORKERS};
@@ -11,7 +11,7 @@ use std::alloc::{AllocError, Global};
 /// The most workers of a program.
 pub const WORKERS: usize = 12;
 
-/// What is written of each worker in main.
+/// A kind of text that main has for each worker.
 #[derive(Clone, Copy)]
 enum Piece {
     /// The line that declares its thread variable.
@@ -20,11 +20,11 @@ enum Piece {
     Creates,
     /// The line that joins it.
     Joins,
-    /// What it has read, as a further term of the sum that is tested.
+    /// The term for what it has read, in the sum that main tests.
     Adds,
 }
 
-/// The text of the program of these words: it has as many workers as there are words.
+/// The text of the program with one worker for each word.
 pub fn workload_text(alloc: Global, words: &[u64]) -> Result<Vec<u8>, AllocError>
     requires some { 1 ≤ length words.now }
     requires few { length words.now ≤ WORKERS }
@@ -48,7 +48,7 @@ pub fn workload_text(alloc: Global, words: &[u64]) -> Result<Vec<u8>, AllocError
     Ok(text.into_bytes())
 }
 
-/// The text with these lines of the workers' threads, of main, and with these terms behind the first.
+/// The text with these worker threads, these lines of main, and these terms after the first.
 fn whole_text(
     alloc: Global,
     threads: &str,
@@ -64,7 +64,7 @@ fn whole_text(
     )
 }
 
-/// The lines of the workers' threads.
+/// The lines of the worker threads.
 fn threads(alloc: Global, words: &[u64]) -> Result<String, AllocError>
     requires few { length words.now ≤ WORKERS }
     ensures { IfOk result (λ text. string_bytes text ≡ worker_lines (length words.now) 1 words.now) }
@@ -96,7 +96,7 @@ fn cell_read(workers: usize, worker: usize, word: u64) -> u64
     if rest < worker as u64 { rest } else { rest + 1 }
 }
 
-/// What is written of so many workers, from the first of these on.
+/// The texts of this kind for `count` workers, from `first` on.
 fn each(alloc: Global, piece: Piece, first: usize, count: usize) -> Result<String, AllocError>
     requires { first + count ≤ 99 }
     ensures { IfOk result (λ text. string_bytes text ≡ each (written piece) first count) }
@@ -109,7 +109,7 @@ fn each(alloc: Global, piece: Piece, first: usize, count: usize) -> Result<Strin
     Ok(text)
 }
 
-/// What is written of a worker.
+/// The text of this kind for a worker.
 fn written(alloc: Global, piece: Piece, worker: usize) -> Result<String, AllocError>
     ensures { IfOk result (λ text. string_bytes text ≡ written piece worker) }
 {

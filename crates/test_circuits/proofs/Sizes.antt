@@ -1,9 +1,9 @@
 -- The circuit of an operator fits, whichever it is.
 use Rattle.std.proofs.Common.{ℕ, ◌≤◌, arith}
-use Rattle.tc_base.specs.declared.arith.UnOp.{UnOp}
-use Rattle.tc_base.specs.declared.arith.UnOp.TheVariants as un
-use Rattle.tc_base.specs.declared.arith.BinOp.{BinOp}
-use Rattle.tc_base.specs.declared.arith.BinOp.TheVariants as bin
+use Rattle.int_ops.specs.declared.arith.UnOp.{UnOp}
+use Rattle.int_ops.specs.declared.arith.UnOp.TheVariants as un
+use Rattle.int_ops.specs.declared.arith.BinOp.{BinOp}
+use Rattle.int_ops.specs.declared.arith.BinOp.TheVariants as bin
 use Rattle.bit_ops.specs.Sizes.{unary_size, binary_size}
 
 pub unary_most : (op : UnOp) → unary_size op ≤ 28_868

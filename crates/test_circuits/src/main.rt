@@ -14,10 +14,10 @@ use anyhow::{Result, bail};
 use bit_blast::extend_values;
 use bit_ops::{Word, binary, unary};
 use cnf_core::{Assignment, Cnf, Lit, satisfies};
+use int_ops::{BinOp, UnOp, arith};
 use rand_core::{Rng, SeedableRng};
 use rand_xoshiro::SplitMix64;
 use std::alloc::Global;
-use tc_base::{BinOp, UnOp, arith};
 
 const EDGES: [i32; 20] = [
     0,

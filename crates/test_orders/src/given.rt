@@ -1,16 +1,17 @@
 //! What is given to a row.
 ghost use Rattle.std.specs.Prelude.{◌≤◌, length, IfOk};
-ghost use Rattle.tc_base.specs.declared.limits.TheConstants.{PROGRAM_BYTES};
+ghost use Rattle.tc_limits.specs.declared.limits.TheConstants.{PROGRAM_BYTES};
 
 use anyhow::{Context, Result, bail};
 use clap_solve::{Posed, pose};
 use clap_system::{BuildFault, System, build};
-use path_log::{Log, read_log};
+use path_log::read_log;
+use run_log::Log;
 use std::alloc::Global;
 use store_buffers::{PsoModel, Sc, TsoModel};
-use tc_base::limits::PROGRAM_BYTES;
 use tc_code::Code;
 use tc_compile::compile;
+use tc_limits::limits::PROGRAM_BYTES;
 
 /// What stands before the next ` : `, and what stands behind it.
 pub(crate) fn split(given: &str) -> Result<(&str, &str)> {

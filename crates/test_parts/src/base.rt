@@ -1,11 +1,12 @@
 //! Arithmetic, names and the generator of seeded runs.
 use anyhow::{Context, Result, bail};
+use int_ops::arith::{binary, unary};
+use int_ops::{BinOp, UnOp};
 use rand_core::{Rng, SeedableRng};
 use rand_xoshiro::SplitMix64;
 use std::alloc::Global;
 use std::fmt::Write;
-use tc_base::arith::{binary, unary};
-use tc_base::{BinOp, ThreadName, UnOp};
+use tc_base::ThreadName;
 
 /// The operator over one value that is written so.
 pub(crate) fn unary_of(sign: &str) -> Result<UnOp> {

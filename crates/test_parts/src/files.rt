@@ -1,6 +1,7 @@
 //! Schedules and logs.
 use anyhow::{Context, Result, bail};
-use path_log::{Log, LogFault, ThreadPath, program_digest, read_log, write_log};
+use path_log::{LogFault, program_digest, read_log, write_log};
+use run_log::{Log, ThreadPath};
 use schedule_file::{Schedule, ScheduleFault, read_schedule, write_schedule};
 use std::alloc::{AllocError, Global};
 use std::fmt::Write;

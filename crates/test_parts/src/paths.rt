@@ -1,20 +1,21 @@
 //! The paths of the threads of logs, and their symbolic execution.
 ghost use Rattle.std.specs.Prelude.{◌≤◌, length, IfOk};
-ghost use Rattle.tc_base.specs.declared.limits.TheConstants.{THREADS};
+ghost use Rattle.tc_limits.specs.declared.limits.TheConstants.{THREADS};
 
 use crate::execution::Told;
 use crate::files::hex_bytes;
 use crate::text::code_of;
 use anyhow::{Context, Result, bail};
-use path_log::{Log, read_log};
+use path_log::read_log;
 use path_walk::{Blocked, Event, Link, Paths, Region, Sleep, Walk, walk};
+use run_log::Log;
 use std::alloc::{AllocError, Global};
 use std::fmt::Write;
 use sym_exec::{Symbolic, execute};
 use sym_terms::Terms;
 use tc_base::Failing;
-use tc_base::limits::THREADS;
 use tc_code::Code;
+use tc_limits::limits::THREADS;
 
 /// The log and the program of a row.
 fn parts_of(alloc: Global, given: &str) -> Result<(Log, Code)>

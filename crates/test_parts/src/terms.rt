@@ -3,9 +3,9 @@ ghost use Rattle.std.specs.Prelude.{◌<◌, length, IfOk};
 
 use crate::base::{binary_of, unary_of};
 use anyhow::{Context, Result, bail};
+use int_ops::BinOp;
 use std::alloc::Global;
 use sym_terms::{Id, Terms, Values, value};
-use tc_base::BinOp;
 
 /// The term of an earlier step.
 fn term_of(terms: &Terms, ids: &[Id], step: usize) -> Result<Id>

@@ -1,16 +1,16 @@
 //! Texts of programs: tokens, places, faults and trees.
 ghost use Rattle.std.specs.Prelude.{◌≤◌, length, IfOk};
-ghost use Rattle.tc_base.specs.declared.limits.TheConstants.{PROGRAM_BYTES};
+ghost use Rattle.tc_limits.specs.declared.limits.TheConstants.{PROGRAM_BYTES};
 
 use anyhow::{Result, bail};
+use int_ops::UnOp;
 use std::alloc::Global;
 use std::fmt::Write;
 use std::str;
-use tc_base::limits::PROGRAM_BYTES;
-use tc_base::{Place, UnOp};
 use tc_code::Code;
 use tc_compile::compile;
-use tc_lexer::{Token, TokenKind, lex, place_after};
+use tc_lexer::{Place, Token, TokenKind, lex, place_after};
+use tc_limits::limits::PROGRAM_BYTES;
 use tc_parser::read;
 use tc_tree::{Expression, Node, Operator, Statement};
 

@@ -1,4 +1,4 @@
--- What may end the sleeps on a condition, in a world in which any event may end any sleep.
+-- What may end the sleeps on a condition, in a world where any event may end any sleep.
 use Rattle.std.specs.Prelude.{◌≡◌, ◌⊎◌, ℕ, Some}
 use Rattle.path_walk.specs.Paths.{Paths}
 use Rattle.path_walk.specs.declared.event.Sleep.{Sleep}
@@ -7,7 +7,7 @@ use Rattle.lawful_order.specs.Conditions.{IsBroadcast, IsSignal, IsSleep}
 use Rattle.lawful_order.specs.Events.{Of, ender_of}
 
 module _ (paths : Paths) (w : World) where
-  -- its signals and broadcasts alone end them, and its signals end no other sleep
+  -- only its signals and broadcasts end them, and its signals end no other sleep
   pub record EnderRule (c : ℕ) : Type 0 where
     pub own : (s g : ℕ) (x : Of Sleep) → IsSleep paths w s x c → ender_of w s ≡ Some g
         → IsSignal paths w g c ⊎ IsBroadcast paths w g c

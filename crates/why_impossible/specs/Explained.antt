@@ -1,9 +1,9 @@
--- What a derivation shows of a log, with its reasons.
+-- What a derivation proves about a log, with its reasons.
 use Rattle.std.specs.Prelude.{◌≡◌, ◌≢◌, ◌⊎◌, ℕ, true, false, List, [], ◌∷◌, length, map, Some}
 use Rattle.std.specs.List.{All, AllPairs, Contains}
-use Rattle.tc_base.specs.Arith.{IsInt}
+use Rattle.int_ops.specs.Arith.{IsInt}
 use Rattle.tc_base.specs.Buffers.{BufferOps}
-use Rattle.tc_base.specs.Logs.{Log}
+use Rattle.run_log.specs.Logs.{Log}
 use Rattle.tc_code.specs.Code.{Code}
 use Rattle.store_buffers.specs.Pending.{Binding}
 use Rattle.order_formula.specs.Worlds.{IsWorld, World}
@@ -23,15 +23,15 @@ use Rattle.why_impossible.specs.declared.explained.Explained.{Explained}
 use Rattle.why_impossible.specs.declared.explained.Explained.TheVariants.{Closed, Open}
 use Rattle.why_impossible.specs.declared.reason.Reason.{Reason}
 
--- reasons tell the groups of rules whose clauses a derivation reaches, each once and in order, by
--- the names of threads that are there; the paths aren't dead
+-- the reasons name the groups of rules whose clauses a derivation reaches, each once and in order,
+-- by names of existing threads; the paths aren't dead
 pub record TellsGroups (p : Posed) (lines : List Line) (reasons : List Reason) : Type 0 where
   pub lives : p.paths.dead ≡ false
   pub groups : List Group
   pub reached : AreReachedGroups p.formula p.blasted lines groups
   pub told : map (reason_of p.paths) groups ≡ map Some reasons
 
--- the one reason tells the first cause of dead paths
+-- the only reason is the first cause of dead paths
 pub record TellsCause (code : Code) (log : Log) (p : Posed) (reasons : List Reason) : Type 0 where
   pub dead : p.paths.dead ≡ true
   pub told : reasons ≡ cause_reason (cause_of code log) ∷ []
@@ -40,8 +40,8 @@ module _ {B : Type 0} (ops : BufferOps B) (bound : Binding) (code : Code) (log :
   abbrev p : Posed
   p = posed_of ops.buffered bound code log
 
-  -- a world of the log's paths, whose loads take ints, meets the rules of groups; what may end the
-  -- sleeps on a condition is a rule of that condition's group
+  -- a world of the log's paths, with int loads, meets the rules of groups; what may end the sleeps
+  -- on a condition is a rule of that condition's group
   pub record MeetsRules (groups : List Group) (w : World) : Type 0 where
     pub is : IsWorld w
     pub events : length w.positions ≡ length (all_events p.paths)
@@ -52,13 +52,13 @@ module _ {B : Type 0} (ops : BufferOps B) (bound : Binding) (code : Code) (log :
     pub enders : (c : ℕ) → Contains groups (Condition c) → EnderRule p.paths w c
 
   module _ (lines : List Line) where
-    -- no world meets the rules of all the groups that are told
+    -- no world meets the rules of all the named groups
     pub record RestsOn (reasons : List Reason) : Type 0 where
       pub tells : TellsGroups p lines reasons
       pub never : (w : World) → MeetsRules tells.groups w → ⊥
 
-    -- the derivation is closed on the log's clauses, these are its reasons, no two of which have the
-    -- same line, and no moves reproduce the log
+    -- the derivation is closed on the log's clauses, these are its reasons, each with a line of its
+    -- own, and no moves reproduce the log
     pub record IsClosedFor (reasons : List Reason) : Type 0 where
       pub closed : IsClosed p.blasted.clauses lines
       pub rests : RestsOn reasons ⊎ TellsCause code log p reasons

@@ -1,4 +1,4 @@
--- Reasons, by the names of threads, and the text of each.
+-- Reasons, by names of threads, and their text.
 use Rattle.std.specs.Prelude.{ℕ, List, ◌++◌, codes, flat_map, length, Option, Some, option_map, slice_get}
 use Rattle.std.specs.Fmt.{decimal}
 use Rattle.tc_base.specs.Names.{Name, name_text}
@@ -9,11 +9,11 @@ use Rattle.dead_paths.specs.Causes.{Cause}
 use Rattle.why_impossible.specs.declared.reason.Reason.{Reason}
 use Rattle.why_impossible.specs.declared.reason.Reason.TheVariants.{Own, Child, Read, Mutex, Condition, Test, Stuck, Dead}
 
--- the name of the thread at a place among those of paths, if there is one
+-- the name of the thread at an index among the paths, if there is one
 abbrev pub name_at : Paths → ℕ → Option Name
 name_at paths t = option_map (λ w. w.name) (slice_get paths.threads t)
 
--- the reason of a group, if the thread that it names is there
+-- the reason of a group, if the thread that it names exists
 abbrev pub reason_of : Paths → Group → Option Reason
 reason_of paths (group.Own t) = option_map Own (name_at paths t)
 reason_of paths (group.Child t) = option_map Child (name_at paths t)
@@ -44,6 +44,6 @@ reason_text (Dead name line) = codes "dead " ++ at_line name line
 abbrev pub reason_line : Reason → List ℕ
 reason_line reason = reason_text reason ++ codes "\n"
 
--- how many there are, and a line for each
+-- the number of reasons, and a line for each
 abbrev pub reasons_text : List Reason → List ℕ
 reasons_text reasons = codes "reasons " ++ (decimal (length reasons) ++ (codes "\n" ++ flat_map reason_line reasons))

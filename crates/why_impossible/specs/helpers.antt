@@ -1,3 +1,3 @@
--- No promise speaks of what stands in this folder: private contracts alone cite it.
+-- No promise refers to the definitions of this folder; only private contracts do.
 pub mod Posed
 pub mod There

@@ -1,4 +1,4 @@
-//! What a derivation shows of a log, with its reasons.
+//! What a derivation proves about a log, with its reasons.
 ghost use Rattle.std.specs.Prelude.{◌≡◌, false, length, IfOk, IfErr, OnOk, Ok};
 ghost use Rattle.std.specs.List.{All};
 ghost use Rattle.path_walk.specs.Paths.{paths_of};
@@ -14,28 +14,28 @@ use crate::Reasons;
 use crate::naming::{caused, named};
 use clap_solve::{CheckImpossibleFault, Posed, pose};
 use dead_paths::cause_of;
-use path_log::Log;
 use reached_groups::reached_groups;
 use refute_check::{Checked, Derivation, check};
+use run_log::Log;
 use std::alloc::{AllocError, Global};
 use std::mem::drop;
 use store_buffers::MemoryModel;
 use tc_code::Code;
 
-/// What a derivation shows over the clauses of a log.
+/// What a derivation proves over the clauses of a log.
 #[derive(Debug, Drop)]
 pub enum Explained {
-    /// It is closed, and these are its reasons: the groups of rules that it reaches, each once and in order, or, where the paths alone
-    /// tell that no run goes so, the first cause of that.
+    /// The derivation is closed, for these reasons: the groups of rules that it reaches, each once
+    /// and in order, or the first cause if the paths alone are contradictory.
     Closed(Reasons),
-    /// It is open.
+    /// The derivation is open.
     Open,
 }
 
-/// What a derivation shows over the clauses of a log, whoever made it, and on which rules that rests. Another derivation may rest on
-/// others.
+/// What a derivation proves over the clauses of a log, whoever made it, and by which rules. Another
+/// derivation may use other rules.
 ///
-/// It takes what [`check_impossible`](clap_solve::check_impossible) takes.
+/// Fails if [`check_impossible`](clap_solve::check_impossible) does.
 pub fn why<M: MemoryModel>(
     alloc: Global,
     code: &Code,
@@ -52,7 +52,7 @@ pub fn why<M: MemoryModel>(
     explained
 }
 
-/// What it shows over the clauses that were posed.
+/// What a derivation proves over the clauses of a log.
 fn checked<M: MemoryModel>(
     alloc: Global,
     code: &Code,
@@ -70,7 +70,7 @@ fn checked<M: MemoryModel>(
     Ok(explain(alloc, code, log, posed, derivation, checked)?)
 }
 
-/// What a derivation shows over a log's clauses, by its verdict.
+/// What a derivation proves over a log's clauses, from its verdict.
 fn explain(
     alloc: Global,
     code: &Code,

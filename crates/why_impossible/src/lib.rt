@@ -1,4 +1,4 @@
-//! What an impossibility rests on: the rules, by the names of a program's threads, that no run meets together.
+//! The reasons of an impossibility: the rules, with threads by name, that no run meets together.
 #![tactic(auto)]
 
 mod explained;

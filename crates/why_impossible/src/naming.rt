@@ -1,4 +1,4 @@
-//! Groups of rules by the names of threads.
+//! Names of threads for groups of rules.
 ghost use Rattle.std.specs.Prelude.{◌≡◌, ◌<◌, [], ◌∷◌, length, map, IfOk, Some};
 ghost use Rattle.std.specs.List.{All};
 ghost use Rattle.why_impossible.specs.Reasons.{cause_reason, name_at, reason_of};
@@ -24,7 +24,7 @@ pub(crate) fn named(alloc: Global, paths: &Paths, groups: &[Group]) -> Result<Re
     Ok(Reasons::new(reasons))
 }
 
-/// The cause of dead paths alone.
+/// The cause of dead paths as the only reason.
 pub(crate) fn caused(alloc: Global, cause: &Cause) -> Result<Reasons, AllocError>
     ensures { IfOk result (λ reasons. reasons ≡ cause_reason cause.now ∷ []) }
 {
@@ -51,7 +51,7 @@ fn reason_of(paths: &Paths, group: Group) -> Result<Reason, AllocError>
     }
 }
 
-/// The name of the thread at a place among the threads of paths.
+/// The name of the thread at an index among the paths.
 fn name_at(paths: &Paths, thread: usize) -> Result<ThreadName, AllocError>
     requires { thread < length paths.now.threads }
     ensures { IfOk result (λ name. name_at paths.now thread ≡ Some name) }

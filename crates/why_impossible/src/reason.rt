@@ -6,21 +6,21 @@ use tc_base::ThreadName;
 /// A reason why no run reproduces a log: the rules that all its runs meet of one kind and one thread, mutex, condition or line.
 #[derive(Debug, Drop)]
 pub enum Reason {
-    /// The order of a thread's own events, and where they stand to the failing one.
+    /// The order of a thread's own events, and their place relative to the failing one.
     Own(ThreadName),
-    /// The events of a thread come after its create, and its exit comes before the join.
+    /// A thread's events come after its creation, and its exit comes before the join.
     Child(ThreadName),
-    /// The values that a thread's loads of a line take.
+    /// The values that a thread's loads at a line take.
     Read(ThreadName, u32),
-    /// No two threads have the mutex at once.
+    /// No two threads hold the mutex at once.
     Mutex(u32),
     /// The sleeps on the condition, and what ends them.
     Condition(u32),
-    /// The outcomes of branches, the sites that are passed and the one that fails, of a thread at a line.
+    /// The outcomes of branches, and the sites passed and failed, of a thread at a line.
     Test(ThreadName, u32),
     /// A thread can't go on at the end of a deadlock.
     Stuck(ThreadName),
-    /// The paths alone tell it: by its own steps a thread can't do what stands at that line.
+    /// The paths alone are contradictory: by its own steps a thread can't do what is at this line.
     Dead(ThreadName, u32),
 }
 

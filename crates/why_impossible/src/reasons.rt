@@ -1,4 +1,4 @@
-//! Some reasons, and their text.
+//! A list of reasons, and its text.
 ghost use Rattle.std.specs.Prelude.{◌≡◌, IfOk, string_bytes};
 ghost use Rattle.why_impossible.specs.Reasons.{reason_line, reasons_text};
 
@@ -6,7 +6,7 @@ use crate::Reason;
 use std::alloc::{AllocError, Global};
 use std::marker::Model;
 
-/// Reasons, which contracts see as a list.
+/// A list of reasons. Contracts see it as a list.
 #[derive(Debug, Drop)]
 pub struct Reasons {
     reasons: Vec<Reason>,
@@ -22,7 +22,7 @@ impl Model for Reasons {
 }
 
 impl Reasons {
-    /// These reasons.
+    /// Wraps these reasons.
     pub(crate) fn new(reasons: Vec<Reason>) -> Reasons
         ensures { result ≡ reasons.items }
     {
@@ -36,7 +36,7 @@ impl Reasons {
         self.reasons.as_slice()
     }
 
-    /// How many there are, and a line for each.
+    /// The number of reasons, and a line for each.
     pub fn text(&self, alloc: Global) -> Result<String, AllocError>
         ensures { IfOk result (λ text. string_bytes text ≡ reasons_text self.now) }
     {

@@ -1,9 +1,9 @@
--- The moves that a world tells of, from the paths and the values that its loads take.
+-- The moves of a world, from the paths and the values of its loads.
 use Rattle.std.specs.Prelude.{ℕ, zero, suc, ◌+◌, ◌-◌, ◌==◌, max, Bool, ◌&&◌, List, [], ◌∷◌, ◌++◌, fold, length, replicate, slice_get, slice_set}
 use Rattle.std.specs.Prelude.{slice_index_or, Option, if◌then◌else◌}
 use Rattle.std.specs.List.{enumerate_from, find, range_with_len}
 use Rattle.std.specs.Option.{option_map_or}
-use Rattle.tc_base.specs.Logs.{place_in}
+use Rattle.tc_base.specs.Paths.{place_in}
 use Rattle.tc_base.specs.Names.{Name}
 use Rattle.tc_base.specs.declared.moves.Move.{Move}
 use Rattle.tc_base.specs.declared.moves.Move.TheVariants as move
@@ -20,7 +20,7 @@ use Rattle.lawful_order.specs.Events.{Of, all_events}
 use Rattle.lawful_order.specs.Memory.{cell_of, is_store}
 use Rattle.world_plan.specs.Plan.{is_failure, is_failing, woken_by}
 
--- how many steps of each thread are done, and by which moves
+-- the number of steps that each thread has done, and all moves so far
 pub record Made : Type 0 where
   pub steps : List ℕ
   pub moves : List Move
@@ -28,20 +28,20 @@ pub record Made : Type 0 where
 abbrev pub steps_of : Made → ℕ → ℕ
 steps_of m t = slice_index_or m.steps t 0
 
--- the moves of a thread until it has done so many steps
+-- the moves of a thread until it has done k steps
 abbrev pub runs_to : Made → (thread : ℕ) → Name → ℕ → List Move
 runs_to m t n k = replicate (k - steps_of m t) (move.Run n)
 
--- moves more, by which a thread has done so many steps
+-- appends moves, after which a thread has done at least k steps
 abbrev pub with_moves : Made → (thread steps : ℕ) → List Move → Made
 with_moves m t k more = record { steps = slice_set m.steps t (max (steps_of m t) k); moves = m.moves ++ more }
 
--- all steps of a thread that are left
+-- appends the remaining steps of a thread
 abbrev pub with_rest : Paths → Made → (thread : ℕ) → Made
 with_rest paths m t =
     option_map_or (λ (q : Walk). with_moves m t (length q.places) (runs_to m t q.name (length q.places))) (slice_get paths.threads t) m
 
--- those of a thread that doesn't fail
+-- appends the remaining steps of a thread, unless it is the failing one
 abbrev pub with_passing : Paths → Made → (thread : ℕ) → Made
 with_passing paths m t = if is_failing paths t then m else with_rest paths m t
 
@@ -54,22 +54,21 @@ module _ (paths : Paths) (w : World) where
   abbrev pub past_all : ℕ
   past_all = fold (λ n p. max n (p + 1)) 0 w.positions
 
-  -- the position of the event that fails, and where none does one past all
+  -- the position of the failing event, or one past all positions if none fails
   abbrev pub last_place : ℕ
   last_place = option_map_or (λ e. position w e.0) (find (λ e. is_failure e.1.it.kind) (enumerate_from 0 (all_events paths))) past_all
 
-  -- the move of an event that its thread's step does: a signal wakes the thread whose sleep it ends, if it ends one
+  -- the move of an event's own step; a signal wakes the thread whose sleep it ends, if any
   abbrev pub own_move : (event : ℕ) → Name → EventKind → Move
   own_move g n (kind.Signal c) = option_map_or (move.Wake n) (woken_by paths w g) (move.Run n)
   own_move g n _ = move.Run n
 
 module _ (buffered : Bool) (bound : Binding) (paths : Paths) (symbolic : Symbolic) (nodes : List Node) (w : World) where
-  -- the drain of the store of a thread's step
+  -- the drain of the store in a thread's step
   abbrev pub drains_of : (thread : ℕ) → Name → (step : ℕ) → List Move
   drains_of t n k = option_map_or (λ c. move.Drain n (form_of bound (cell_by nodes w.loads c)) ∷ []) (cell_of symbolic t k) []
 
-  -- an event, when its turn comes: its thread's steps up to it and its own; or, of a store that waits in a buffer, its drain,
-  -- after its own step if that isn't done yet
+  -- appends an event: its thread's steps up to and including it, and the drain of a buffered store
   abbrev pub with_event : Made → (number thread : ℕ) → Walk → Event → Made
   with_event m g t q x =
       if buffered && is_store x.kind
@@ -79,12 +78,12 @@ module _ (buffered : Bool) (bound : Binding) (paths : Paths) (symbolic : Symboli
   abbrev pub with_number : Made → ℕ × Of Event → Made
   with_number m e = option_map_or (λ (q : Walk). with_event m e.0 e.1.thread q e.1.it) (slice_get paths.threads e.1.thread) m
 
-  -- the events at the first so many positions
+  -- the moves for the events at the first p positions
   abbrev pub made_to : ℕ → Made
   made_to zero = record { steps = replicate (length paths.threads) 0; moves = [] }
   made_to (suc p) = option_map_or (with_number (made_to p)) (event_here paths w p) (made_to p)
 
-  -- and then what is left to the threads, to the one that fails last
+  -- then the remaining steps of all threads except the failing one, and at last of that one
   abbrev pub made_passing : Made
   made_passing = fold (with_passing paths) (made_to (last_place paths w)) (range_with_len 0 (length paths.threads))
 

@@ -1,4 +1,4 @@
--- What the events of a world need so that their moves can be told.
+-- What a world's events must satisfy so that their moves can be computed.
 use Rattle.std.specs.Prelude.{◌≡◌, ◌<◌, ◌^◌, ◌+◌, ℕ, Bool, true, ◌&&◌, List, length, Some}
 use Rattle.std.specs.Option.{IfSome}
 use Rattle.path_walk.specs.Paths.{Paths}
@@ -13,17 +13,17 @@ use Rattle.lawful_order.specs.Events.{Of}
 use Rattle.lawful_order.specs.Memory.{cell_of, is_store}
 use Rattle.world_moves.specs.Moves.{event_here, last_place}
 
--- the terms of a cell are there, and it has a number
+-- a cell's terms exist, and its number fits in 32 bits
 pub record IsNumbered (nodes : List Node) (w : World) (c : Cell) : Type 0 where
   pub terms : CellIsOf (length nodes) c
   pub number : cell_by nodes w.loads c < 2 ^ 32
 
--- there is a step after the event's, and the cell of a store has a number
+-- the next step's number fits in 64 bits, and the cell of a store in a buffer is numbered
 pub record IsTellable (buffered : Bool) (symbolic : Symbolic) (nodes : List Node) (w : World) (thread : ℕ) (x : Event) : Type 0 where
   pub next : x.step + 1 < 2 ^ 64
   pub cell : (buffered && is_store x.kind) ≡ true → IfSome (cell_of symbolic thread x.step) (IsNumbered nodes w)
 
--- so is each event before the failing one
+-- each event before the failing one satisfies this
 abbrev pub AreTellable : Bool → Paths → Symbolic → List Node → World → Type 0
 AreTellable buffered paths symbolic nodes w =
     (p : ℕ) (e : ℕ × Of Event) → p < last_place paths w → event_here paths w p ≡ Some e

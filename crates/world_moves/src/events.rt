@@ -17,14 +17,14 @@ use sym_exec::{Access, Cell, Symbolic};
 use sym_terms::{Terms, Values, value};
 use tc_base::ThreadName;
 
-/// Whether it ends the run.
+/// Whether an event is a failure, which ends the run.
 fn is_failure(kind: EventKind) -> bool
     ensures { result ≡ plan.is_failure kind }
 {
     matches!(kind, EventKind::Fail)
 }
 
-/// Whether it is a store and no load.
+/// Whether an event is a plain store, not an exchange.
 pub(crate) fn is_store(kind: EventKind) -> bool
     ensures { result ≡ memory.is_store kind }
 {
@@ -49,7 +49,7 @@ pub(crate) fn event_at<'a>(
     None
 }
 
-/// The position of the event that fails, and where none does one past all.
+/// The position of the failing event, or one past all positions if none fails.
 pub(crate) fn last_place(events: &Events, world: &World) -> usize
     ensures { result ≡ option_map_or (λ e. place world.now e.0) (find (λ e. plan.is_failure e.1.it.kind) (enumerate_from 0 events.now))
         (fold (λ n p. max n (p + 1)) 0 world.now.positions) }
@@ -75,7 +75,7 @@ fn past_all(world: &World) -> usize
     past
 }
 
-/// The thread whose sleep an event ends, if it ends one.
+/// The thread whose sleep an event ends, if any.
 pub(crate) fn woken_by<'a>(
     paths: &'a Paths,
     sleeps: &Sleeps,
@@ -89,7 +89,7 @@ pub(crate) fn woken_by<'a>(
     Some(paths.threads().get(thread)?.name())
 }
 
-/// The place of that thread among those of the paths.
+/// The index of the thread whose sleep an event ends, if any.
 fn sleeper_of(sleeps: &Sleeps, world: &World, event: u32) -> Option<usize>
     ensures { result ≡ option_map (λ s. s.1.thread) (find (λ s. is_ended world.now s.0 event) (enumerate_from 0 sleeps.now)) }
 {
@@ -101,7 +101,7 @@ fn sleeper_of(sleeps: &Sleeps, world: &World, event: u32) -> Option<usize>
     None
 }
 
-/// Whether a sleep is ended by an event.
+/// Whether an event ends a sleep.
 fn is_ended(world: &World, sleep: usize, by: u32) -> bool
     ensures { result ≡ is_ended world.now sleep by }
 {
@@ -111,7 +111,7 @@ fn is_ended(world: &World, sleep: usize, by: u32) -> bool
     }
 }
 
-/// The cell of a thread's step, if that has one.
+/// The cell of a thread's step, if it has one.
 pub(crate) fn cell_of(symbolic: &Symbolic, thread: usize, step: usize) -> Option<Cell>
     ensures { result ≡ memory.cell_of symbolic.now thread step }
 {
@@ -126,7 +126,7 @@ fn access_at(accesses: &[Access], step: usize) -> Option<&Access>
     accesses.iter().find(|access| access.step == step)
 }
 
-/// The number of a cell, by the values of the loads.
+/// The number of a cell, given the values of the loads.
 pub(crate) fn cell_number(terms: &Terms, cell: Cell, world: &World, values: &mut Values) -> u32
     requires cell { IsNumbered terms.now world.now cell }
     requires table { Serves terms.now world.now values.old }

@@ -1,4 +1,4 @@
-//! The moves of lawful worlds: from one order of all events to the moves of a run.
+//! The moves of lawful worlds: turns an order of all events into the moves of a run.
 #![tactic(auto)]
 
 mod events;

@@ -1,4 +1,4 @@
-//! Moves in the making, and how far each thread is.
+//! The moves made so far, and how far each thread is.
 ghost use Rattle.std.specs.Prelude.{◌≡◌, ◌<◌, ◌++◌, ◌∷◌, [], length, max, replicate, slice_set, IfOk, OnOk};
 ghost use Rattle.tc_base.specs.declared.moves.Move.TheVariants.{Run};
 ghost use Rattle.world_moves.specs.Moves as spec;
@@ -7,7 +7,7 @@ use std::alloc::{AllocError, Global};
 use std::marker::Model;
 use tc_base::{Move, ThreadName};
 
-/// How many steps of each thread are done, and by which moves.
+/// The moves so far, and the number of steps that each thread has done.
 #[derive(Debug, Drop)]
 pub(crate) struct Made {
     steps: Vec<usize>,
@@ -23,7 +23,7 @@ impl Model for Made {
 }
 
 impl Made {
-    /// Nothing is done yet by so many threads.
+    /// No moves, with `threads` threads at their start.
     pub fn nothing(alloc: Global, threads: usize) -> Result<Made, AllocError>
         ensures { IfOk result (λ made. made ≡ record { steps = replicate threads 0; moves = [] }) }
     {
@@ -40,14 +40,15 @@ impl Made {
         self.moves
     }
 
-    /// A move more.
+    /// Appends a move.
     pub fn push(&mut self, made: Move) -> Result<(), AllocError>
         ensures { OnOk result (self.new ≡ record { steps = self.old.steps; moves = self.old.moves ++ made ∷ [] }) }
     {
         Ok(self.moves.push(made)?)
     }
 
-    /// A thread goes on by moves of its own till it has done so many steps; `reach` tells that.
+    /// Appends moves by which a thread does its steps up to `steps`. It doesn't count them; `reach`
+    /// does.
     pub fn run_to(
         &mut self,
         thread: usize,
@@ -65,7 +66,7 @@ impl Made {
         )
     }
 
-    /// A thread has done so many steps, if it hasn't done more.
+    /// Records that a thread has done at least this many steps.
     pub fn reach(&mut self, thread: usize, steps: usize)
         requires { thread < length self.old.steps }
         ensures { self.new ≡ record { steps = slice_set self.old.steps thread (max (spec.steps_of self.old thread) steps); moves = self.old.moves } }
@@ -74,7 +75,7 @@ impl Made {
     }
 }
 
-/// So many moves more by which a thread goes on.
+/// Appends `count` moves of a thread.
 fn push_runs(moves: &mut Vec<Move>, name: &ThreadName, count: usize) -> Result<(), AllocError>
     ensures { OnOk result (moves.new.items ≡ moves.old.items ++ replicate count (Run name.now)) }
 {

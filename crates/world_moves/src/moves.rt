@@ -2,7 +2,7 @@
 ghost use Rattle.std.specs.Prelude.{◌≡◌, ◌<◌, ◌≤◌, ◌+◌, ◌^◌, ◌++◌, ◌∷◌, [], fold, true, length, IfOk, OnOk};
 ghost use Rattle.std.specs.List.{range_with_len};
 ghost use Rattle.std.specs.Option.{IfSome, option_map_or};
-ghost use Rattle.tc_base.specs.declared.limits.TheConstants.{EVENTS};
+ghost use Rattle.tc_limits.specs.declared.limits.TheConstants.{EVENTS};
 ghost use Rattle.order_formula.specs.Truth.{Serves};
 ghost use Rattle.store_buffers.specs.Pending.{form_of};
 ghost use Rattle.lawful_order.specs.Events.{all_events, all_sleeps};
@@ -22,8 +22,8 @@ use sym_exec::Symbolic;
 use sym_terms::{Terms, Values};
 use tc_base::{Failing, Move, ThreadName};
 
-/// The moves of a world under a memory model: by them each event of the world comes in its turn, up to the one that fails if one
-/// does, and then each thread goes to the end of its path.
+/// The moves of a world under a memory model: each event of the world takes its turn, up to the
+/// failing one if there is one, and then each thread goes to the end of its path.
 pub fn moves_of<M: MemoryModel>(
     alloc: Global,
     paths: &Paths,
@@ -51,7 +51,7 @@ pub fn moves_of<M: MemoryModel>(
     Ok(made.into_moves())
 }
 
-/// What is left to the threads that don't fail.
+/// Appends the remaining steps of the threads that don't fail.
 fn add_passing(made: &mut Made, paths: &Paths) -> Result<(), AllocError>
     requires { length made.old.steps ≡ length paths.now.threads }
     ensures made { OnOk result (made.new ≡ fold (spec.with_passing paths.now) made.old (range_with_len 0 (length paths.now.threads))) }
@@ -63,7 +63,7 @@ fn add_passing(made: &mut Made, paths: &Paths) -> Result<(), AllocError>
     Ok(())
 }
 
-/// What is left to a thread, unless it fails.
+/// Appends the remaining steps of a thread, unless it is the failing one.
 fn add_if_passing(made: &mut Made, paths: &Paths, thread: usize) -> Result<(), AllocError>
     requires { length made.old.steps ≡ length paths.now.threads }
     ensures made { OnOk result (made.new ≡ spec.with_passing paths.now made.old thread) }
@@ -75,7 +75,7 @@ fn add_if_passing(made: &mut Made, paths: &Paths, thread: usize) -> Result<(), A
     add_rest(made, paths, thread)
 }
 
-/// Whether it is the thread that fails.
+/// Whether a thread is the failing one.
 fn is_failing(paths: &Paths, thread: usize) -> bool
     ensures { result ≡ plan.is_failing paths.now thread }
 {
@@ -85,7 +85,7 @@ fn is_failing(paths: &Paths, thread: usize) -> bool
     }
 }
 
-/// What is left to a thread.
+/// Appends the remaining steps of a thread.
 fn add_rest(made: &mut Made, paths: &Paths, thread: usize) -> Result<(), AllocError>
     requires { length made.old.steps ≡ length paths.now.threads }
     ensures made { OnOk result (made.new ≡ spec.with_rest paths.now made.old thread) }
@@ -98,7 +98,7 @@ fn add_rest(made: &mut Made, paths: &Paths, thread: usize) -> Result<(), AllocEr
     Ok(())
 }
 
-/// How a cell's stores drain.
+/// The form in which stores to a cell drain.
 fn form<M: MemoryModel>(cell: u32) -> Option<u32>
     ensures { result ≡ form_of M.bound cell }
 {
@@ -109,7 +109,7 @@ fn form<M: MemoryModel>(cell: u32) -> Option<u32>
     }
 }
 
-/// A world, with what tells its moves.
+/// A world, with everything that determines its moves.
 #[derive(Clone, Copy, Debug)]
 struct Told<'a> {
     paths: &'a Paths,
@@ -120,7 +120,7 @@ struct Told<'a> {
 }
 
 impl Told<'_> {
-    /// The events before the one that fails.
+    /// The moves for the events before the failing one.
     fn events_made<M: MemoryModel>(&self, alloc: Global) -> Result<Made, AllocError>
         requires sleeps { self.now.sleeps.now ≡ all_sleeps self.now.paths.now }
         requires events { length (all_events self.now.paths.now) ≤ EVENTS }
@@ -138,7 +138,7 @@ impl Told<'_> {
         Ok(made)
     }
 
-    /// The event at a position, if there is one.
+    /// Appends the moves for the event at a position, if there is one.
     fn add_at<M: MemoryModel>(
         &self,
         made: &mut Made,
@@ -163,7 +163,7 @@ impl Told<'_> {
         }
     }
 
-    /// An event whose turn has come.
+    /// Appends the moves for an event whose turn it is.
     fn add_event<M: MemoryModel>(
         &self,
         made: &mut Made,
@@ -190,7 +190,7 @@ impl Told<'_> {
         }
     }
 
-    /// A store that waits in a buffer: the steps of its thread up to it and it, if they aren't done yet, and its drain.
+    /// Appends a store in a buffer: its thread's steps up to and including it, and its drain.
     fn add_store<M: MemoryModel>(
         &self,
         made: &mut Made,
@@ -219,7 +219,7 @@ impl Told<'_> {
         Ok(())
     }
 
-    /// Any other event: the steps of its thread up to it, and its own.
+    /// Appends any other event: its thread's steps up to it, and its own.
     fn add_step(
         &self,
         made: &mut Made,
@@ -241,7 +241,7 @@ impl Told<'_> {
         Ok(())
     }
 
-    /// The move of the event of a number, which wakes the thread whose sleep it ends.
+    /// The move of the event `number`, which wakes the thread whose sleep it ends, if any.
     fn own_move(&self, number: u32, name: &ThreadName, kind: EventKind) -> Result<Move, AllocError>
         requires { self.now.sleeps.now ≡ all_sleeps self.now.paths.now }
         ensures { IfOk result (λ own. own ≡ spec.own_move self.now.paths.now self.now.world.now number name.now kind) }

@@ -1,16 +1,16 @@
--- A history that has gone so far in the order of a world.
+-- A history that follows the order of a world up to a position.
 use Rattle.std.specs.Prelude.{◌≡◌, ◌↔◌, ◌⊎◌, ℕ, ◌<◌, ◌≤◌, List, Bool, true, false, ◌&&◌, None, Some, slice_get}
 use Rattle.std.specs.List.{Contains}
 use Rattle.tc_base.specs.Buffers.{BufferOps}
-use Rattle.tc_base.specs.Logs.{Log}
-use Rattle.tc_base.specs.declared.model.Model.{Model}
+use Rattle.run_log.specs.Logs.{Log}
+use Rattle.memory_models.specs.declared.model.Model.{Model}
 use Rattle.tc_code.specs.Code.{Code}
 use Rattle.tc_code.specs.Lawful.{IsLawful}
 use Rattle.store_buffers.specs.Laws.{Laws}
 use Rattle.store_buffers.specs.Pending.{Binding}
 use Rattle.run_history.specs.History.{Deed, has_drained}
 use Rattle.run_history.specs.Told.{steps_in, failed_in}
-use Rattle.path_log.specs.Texts.{is_log}
+use Rattle.run_log.specs.Logs.{is_log}
 use Rattle.path_walk.specs.Fits.{Fits}
 use Rattle.path_walk.specs.Paths.{Walk, paths_of}
 use Rattle.path_walk.specs.declared.event.Event.{Event}
@@ -27,7 +27,7 @@ use Rattle.lawful_order.specs.Lawful.{IsWorldOf}
 use Rattle.lawful_order.specs.Memory.{is_store}
 use Rattle.world_plan.specs.Sights.{AreInOrder}
 
--- a lawful world of the paths of a log that fits, for a memory model that keeps its laws
+-- a lawful world of the paths of a log that fits, for a memory model that obeys its laws
 pub record IsLawfulWorld {B : Type 0} (ops : BufferOps B) (model : Model) (bound : Binding) (code : Code) (log : Log) (nodes : List Node) (w : World) : Type 0 where
   pub laws : Laws ops model bound
   pub code_is : IsLawful code
@@ -39,28 +39,27 @@ pub record IsLawfulWorld {B : Type 0} (ops : BufferOps B) (model : Model) (bound
   pub of : IsWorldOf (paths_of code log) (found code log nodes).symbolic w
   pub lawful : order.IsLawful ops.buffered bound code (paths_of code log) (found code log nodes).symbolic (found code log nodes).nodes w
 
--- a store whose place is that of its drain, where there are buffers
+-- whether an event is a store that waits in a buffer, and so has the position of its drain
 abbrev pub is_pending : Bool → Event → Bool
 is_pending buffered x = buffered && is_store x.kind
 
 module _ (code : Code) (log : Log) (w : World) where
-  -- where the world has an event of a thread
+  -- the position of a thread's event in the world
   abbrev pub place : (thread : ℕ) → Event → ℕ
   place t x = place_of (paths_of code log) w t x.step
 
-  -- the stores that wait in buffers have reached memory where their places are before a position, and no others
+  -- of the stores that wait in buffers, exactly those with positions before p have reached memory
   abbrev pub HaveDrained : Bool → ℕ → List Deed → Type 0
   HaveDrained buffered p h = (t : ℕ) (q : Walk) (x : Event) → IsThread code log t q → Contains q.events x → is_pending buffered x ≡ true
       → (has_drained h q.name x.step ≡ true) ↔ (place t x < p)
 
-  -- a sleep that has begun lasts until what ends it has come
+  -- a sleep that has begun lasts until the event that ends it
   abbrev pub SleepUntilEnded : ℕ → List Deed → Type 0
   SleepUntilEnded p h = (s : ℕ) (x : Of Sleep) (q : Walk) → slice_get (all_sleeps (paths_of code log)) s ≡ Some x → IsThread code log x.thread q
       → x.it.step < steps_in h q.name → IsAsleepIn h q.name x.it ↔ ((g : ℕ) → ender_of w s ≡ Some g → p ≤ position w g)
 
 module _ (buffered : Bool) (bound : Binding) (code : Code) (log : Log) (nodes : List Node) (w : World) where
-  -- a history has gone up to a position: it is along the paths, its loads took what the world says, and no thread has failed; the
-  -- events before the position have taken place, in their order, and no others, but stores may wait in buffers
+  -- a history along the paths, up to position p: exactly the events before p took place, in order
   pub record HasGone (p : ℕ) (h : List Deed) : Type 0 where
     pub along : IsAlongPaths buffered bound code log h
     pub agrees : AgreesWith (found code log nodes).symbolic w.loads h
@@ -72,7 +71,7 @@ module _ (buffered : Bool) (bound : Binding) (code : Code) (log : Log) (nodes : 
     pub sleeps : SleepUntilEnded code log w p h
     pub order : AreInOrder buffered (paths_of code log) w h
 
-  -- and a thread is about to do its event at the position
+  -- the history has gone up to p, where the thread t is about to do its event x
   pub record IsAtEvent (p : ℕ) (h : List Deed) (t : ℕ) (q : Walk) (x : Event) : Type 0 where
     pub gone : HasGone p h
     pub thread : IsThread code log t q

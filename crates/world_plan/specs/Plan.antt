@@ -1,9 +1,9 @@
--- The run that a world tells of: its events in their order, and before each the steps that lead its thread to it.
+-- The run of a world: its events in order, each after the steps that lead its thread to it.
 use Rattle.std.specs.Prelude.{ℕ, zero, suc, ◌+◌, ◌-◌, ◌==◌, max, Bool, true, false, not, ◌&&◌, List, [], ◌∷◌, ◌++◌, fold, length, slice_get}
 use Rattle.std.specs.Prelude.{Option, Some, None, option_map, option_and_then, if◌then◌else◌}
 use Rattle.std.specs.List.{enumerate_from, find, filter, range_with_len}
 use Rattle.std.specs.Option.{option_map_or}
-use Rattle.tc_base.specs.Logs.{place_in}
+use Rattle.tc_base.specs.Paths.{place_in}
 use Rattle.tc_base.specs.Names.{Name, child}
 use Rattle.tc_base.specs.declared.request.Request.{Request}
 use Rattle.tc_base.specs.declared.request.Request.TheVariants.{WakeOne, Start}
@@ -25,7 +25,7 @@ abbrev pub is_failure : EventKind → Bool
 is_failure kind.Fail = true
 is_failure _ = false
 
--- the thread whose sleep a world says that an event ends, if there is one
+-- the thread whose sleep the event g ends in the world, if any
 abbrev pub woken_by : Paths → World → ℕ → Option Name
 woken_by paths w g =
     option_and_then (λ s. option_map (λ (q : Walk). q.name) (slice_get paths.threads s.1.thread))
@@ -35,18 +35,18 @@ woken_by paths w g =
 abbrev pub event_at : Paths → World → ℕ → Option (Of Event)
 event_at paths w p = find (λ e. place_of paths w e.thread e.it.step == p) (all_events paths)
 
--- the position of the event that fails, and where none does one past all
+-- the position of the failing event, or one past all positions if none fails
 abbrev pub end_of : Paths → World → ℕ
 end_of paths w =
     option_map_or (λ e. place_of paths w e.thread e.it.step) (find (λ e. is_failure e.it.kind) (all_events paths))
     (fold (λ n p. max n (p + 1)) 0 w.positions)
 
--- the drain of what a thread has issued in a step, where that is a store
+-- the drain of an item that the thread n issued in the step k, if it is a store
 abbrev pub drain_of : Name → ℕ → Pending → List Deed
 drain_of n k (Store e) = Drained n k e.cell e.value ∷ []
 drain_of n k Bar = []
 
--- all threads, the one that fails last
+-- whether a thread is the failing one, and the list of all threads with that one last
 abbrev pub is_failing : Paths → ℕ → Bool
 is_failing paths t = option_map_or (λ k. k == t) (place_in paths.failing) false
 
@@ -55,33 +55,33 @@ threads_in_turn paths =
     filter (λ t. not (is_failing paths t)) (range_with_len 0 (length paths.threads))
     ++ filter (is_failing paths) (range_with_len 0 (length paths.threads))
 
--- the drain of a thread's store of a step, if that is pending
+-- the drain of the store that a thread issued in a step, if it is pending
 abbrev pub drains_next : Bool → List Deed → Name → (step : ℕ) → List Deed
 drains_next buffered h n k =
     option_map_or (λ (i : Issue). drain_of n i.number i.what) (find (λ (i : Issue). i.number == k) (pending_issues buffered h n)) []
 
--- the other thread of a step: the child that it creates, or the one that it wakes
+-- the other thread of a step: the child that it creates, or the thread that it wakes
 abbrev pub other_of : Paths → World → List Deed → (thread : ℕ) → Name → Request → Option Name
 other_of paths w h t n (Start f) = Some (child n (children_in h n + 1))
 other_of paths w h t n (WakeOne c) = woken_by paths w (number_of paths t (steps_in h n))
 other_of paths w h t n _ = None
 
 module _ (buffered : Bool) (code : Code) (paths : Paths) (w : World) where
-  -- the step that a thread does next, if it asks something
+  -- the next step of a thread, if it makes a request
   abbrev pub does_next : List Deed → (thread : ℕ) → Name → List Deed
   does_next h t n =
       option_map_or (λ r. Did n (steps_in h n) r (taken_in buffered code h n r) (other_of paths w h t n r) ∷ []) (asks_next code h n) []
 
-  -- so many steps more of a thread
+  -- the history after k more steps of a thread
   abbrev pub goes_on : ℕ → List Deed → (thread : ℕ) → Name → List Deed
   goes_on zero h t n = h
   goes_on (suc k) h t n = goes_on k (h ++ does_next h t n) t n
 
-  -- its steps until it has done so many
+  -- the history after a thread has done its first k steps
   abbrev pub goes_to : List Deed → (thread : ℕ) → Name → ℕ → List Deed
   goes_to h t n k = goes_on (k - steps_in h n) h t n
 
-  -- an event: the steps of its thread up to it, and a store that waits in a buffer reaches memory
+  -- appends an event: its thread's steps up to it, and the drain of a store that waits in a buffer
   abbrev pub with_drain : List Deed → Name → Event → List Deed
   with_drain h n x = if buffered && is_store x.kind then h ++ drains_next buffered h n x.step else h
 
@@ -89,15 +89,15 @@ module _ (buffered : Bool) (code : Code) (paths : Paths) (w : World) where
   with_event h e =
       option_map_or (λ (q : Walk). with_drain (goes_to h e.thread q.name (e.it.step + 1)) q.name e.it) (slice_get paths.threads e.thread) h
 
-  -- the events at the first so many positions
+  -- the history of the events at the first p positions
   abbrev pub up_to : ℕ → List Deed
   up_to zero = []
   up_to (suc p) = option_map_or (with_event (up_to p)) (event_at paths w p) (up_to p)
 
-  -- what is left to a thread
+  -- appends the remaining steps of a thread
   abbrev pub with_rest : List Deed → (thread : ℕ) → List Deed
   with_rest h t = option_map_or (λ (q : Walk). goes_to h t q.name (length q.places)) (slice_get paths.threads t) h
 
-  -- the events before the end, and what is left to all threads
+  -- the events before the end, and then the remaining steps of all threads
   abbrev pub plan : List Deed
   plan = fold with_rest (up_to (end_of paths w)) (threads_in_turn paths)

@@ -1,4 +1,4 @@
--- What other threads see of a history: its events, each when it takes place.
+-- What other threads see of a history: its events, in the order in which they take place.
 use Rattle.std.specs.Prelude.{◌≡◌, ℕ, Bool, ◌&&◌, Option, Some, None, option_and_then, List, ◌∷◌, ◌++◌, slice_get, if◌then◌else◌}
 use Rattle.tc_base.specs.Names.{Name}
 use Rattle.run_history.specs.History.{Deed, Did, Drained}
@@ -13,13 +13,13 @@ pub record Sight : Type 0 where
   pub thread : Name
   pub step : ℕ
 
--- the event that takes place by a deed, if one does: a store that waits in a buffer does so when it reaches memory
+-- the event that takes place by a deed, if any; a store that waits in a buffer does when it drains
 abbrev pub sight_of : Bool → Deed → Option Sight
 sight_of buffered (Did n k r took other) =
     option_and_then (λ kind. if buffered && is_store kind then None else Some (record { thread = n; step = k })) (kind_of r other)
 sight_of buffered (Drained n k c v) = Some (record { thread = n; step = k })
 
--- by a deed takes place what a thread of the paths does in a step
+-- the step k of the thread t takes place by the deed d
 pub record Shows (buffered : Bool) (paths : Paths) (d : Deed) (t k : ℕ) : Type 0 where
   pub walk : Walk
   pub there : slice_get paths.threads t ≡ Some walk

@@ -1,2 +1,2 @@
-//! The run that a lawful order of events tells of, and how far a history has gone in it: definitions alone.
+//! The run of a lawful order of events, and how far a history has followed it. Definitions only.
 #![tactic(auto)]

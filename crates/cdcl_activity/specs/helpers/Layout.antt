@@ -1,8 +1,8 @@
--- How activities lie in memory.
+-- How activities are stored in memory.
 use Rattle.std.specs.Prelude.{◌≡◌, ℕ, ◌^◌, ◌<◌, ◌≤◌, length, All}
 use Rattle.cdcl_activity.specs.declared.activity.Activity.TheInside.{Inside}
 
--- how many variables an order has
+-- the number of variables of an order by activity
 abbrev pub variables_of : Inside → ℕ
 variables_of a = length a.places.items
 

@@ -1,4 +1,4 @@
--- How clauses lie in memory.
+-- How clauses are stored in memory.
 use Rattle.std.specs.Prelude.{ℕ, ◌≤◌, List, map, length, slice_range, All}
 use Rattle.cdcl_clauses.specs.Clauses.{Clause}
 use Rattle.cdcl_clauses.specs.declared.clauses.Entry.{Entry}
@@ -11,7 +11,7 @@ clause_of literals e = record { literals = slice_range literals e.start e.end; f
 abbrev pub clauses_of : Inside → List Clause
 clauses_of a = map (clause_of a.literals.items) a.entries.items
 
--- the literals of an entry are there
+-- the range of an entry lies within the literals
 pub record IsThere (literals : List ℕ) (e : Entry) : Type 0 where
   pub rises : e.start ≤ e.end
   pub within : e.end ≤ length literals

@@ -1,4 +1,4 @@
--- A search and its answer as they lie in memory.
+-- How a search and its answer are stored in memory.
 use Rattle.std.specs.Prelude.{Bool, List, Option, Some, None}
 use Rattle.cdcl_core.specs.Searches.{Searched, IsSolution}
 use Rattle.cdcl_core.specs.helpers.States.{IsLive, HasEnded}
@@ -21,7 +21,7 @@ answer_of c = answer_at c.stage c.values.items
 abbrev pub searched_of : StagedSearch → Searched
 searched_of c = record { formula = c.state.formula; lines = c.state.derivation; answer = answer_of c }
 
--- what is kept at a stage
+-- the invariant at a stage
 abbrev pub IsAt : Stage → List Bool → State → Type 0
 IsAt Going values s = IsLive s
 IsAt Satisfied values s = IsLive s × IsSolution s.formula values

@@ -1,4 +1,4 @@
--- How a search lies in memory, and what it keeps from one conflict to the next.
+-- How a search is stored in memory, and its invariants from one conflict to the next.
 use Rattle.std.specs.Prelude.{◌≡◌, ◌≢◌, ℕ, ◌+◌, ◌*◌, ◌<◌, ◌≤◌, Bool, true, false, List, [], length, take, slice_index_or, slice_get, Contains, Some}
 use Rattle.std.specs.Prelude.{None, IfSome, AllPairs, count_by, All, ℤ}
 use Rattle.std.specs.List.{fold}
@@ -17,7 +17,7 @@ use Rattle.cdcl_steps.specs.declared.loading.Loaded.TheVariants.{Taken, Refuted}
 use Rattle.cdcl_lines.specs.Keeping.{Represents, KeepsAll}
 use Rattle.cdcl_lines.specs.Fresh.{AreFresh}
 use Rattle.cdcl_core.specs.Searches.{checked, adds, added_in, deleted_in, DeletesFew, IsSolution}
-use Rattle.tc_base.specs.declared.limits.TheConstants.{BUDGET}
+use Rattle.tc_limits.specs.declared.limits.TheConstants.{BUDGET}
 use Rattle.cdcl_core.specs.declared.state.State.{State}
 use Rattle.cdcl_core.specs.declared.turns.Step.{Step}
 use Rattle.cdcl_core.specs.declared.turns.Step.TheVariants as steps
@@ -27,18 +27,18 @@ pub record IsComplete (t : Trail) : Type 0 where
   pub full : IsFull t
   pub propagated : t.propagated ≡ length t.literals
 
--- so many lines added clauses and so many were deleted, that one more may be added; and the same once one more was
+-- after `n` added and `d` deleted clauses one more may be added; below, the bound once it was
 abbrev pub HasBound : ℕ → ℕ → ℕ → Type 0
 HasBound vars n d = n ≤ 2 * (d + vars + 4000) + 1
 
 abbrev pub HasNearlyBound : ℕ → ℕ → ℕ → Type 0
 HasNearlyBound vars n d = n ≤ 2 * (d + vars + 4001) + 1
 
--- how many clauses are kept
+-- the number of kept clauses
 abbrev pub kept_in : List Clause → ℕ
 kept_in cs = count_by (λ c. c.kept) cs
 
--- the clauses that are kept, the lines and their number belong together
+-- the kept clauses, the lines and the counts agree
 pub record BelongTogether (f : Formula) (cs : List Clause) (lines : List Line) (n d : ℕ) : Type 0 where
   pub few : f.vars < LIMIT
   pub given : length f.clauses < LIMIT
@@ -78,34 +78,34 @@ pub record Ended (f : Formula) (lines : List Line) (n : ℕ) : Type 0 where
 abbrev pub HasEnded : State → Type 0
 HasEnded s = Ended s.formula s.derivation s.added
 
--- the hints show the empty clause, by clauses that agree with the lines
+-- the hints prove the empty clause, from clauses that agree with the lines
 pub record CanConclude (s : State) (hints : List ℕ) : Type 0 where
   pub clauses : List Clause
   pub agree : BelongTogether s.formula clauses s.derivation s.added s.deleted
   pub bound : HasBound s.formula.vars s.added s.deleted
   pub shown : Shows clauses [] hints
 
--- the same lines
+-- the same formula, lines and counts
 pub record IsAsFar (s t : State) : Type 0 where
   pub formula : t.formula ≡ s.formula
   pub derivation : t.derivation ≡ s.derivation
   pub added : t.added ≡ s.added
   pub deleted : t.deleted ≡ s.deleted
 
--- the same clauses, and so many lines more that teach
+-- the same formula, and `n` more lines that add a clause
 pub record IsFurther (s t : State) (n : ℕ) : Type 0 where
   pub formula : t.formula ≡ s.formula
   pub derivation : take (length s.derivation) t.derivation ≡ s.derivation
   pub longer : length s.derivation ≤ length t.derivation
   pub added : t.added ≡ s.added + n
 
--- fewer lines more than so many
+-- fewer than `n` more lines that add a clause
 pub record IsShort (s t : State) (n : ℕ) : Type 0 where
   pub count : ℕ
   pub few : count < n
   pub further : IsFurther s t count
 
--- what so many turns come to
+-- what `n` turns of a search lead to
 abbrev pub ComesTo : State → State → ℕ → Step → Type 0
 ComesTo s t n steps.Learnt = IsLive t × IsFurther s t n
 ComesTo s t n steps.Closed = HasEnded t × IsShort s t n
@@ -119,7 +119,7 @@ HaveLiterals clauses = (k : ℕ) → IfSome (slice_get clauses k) (λ c. c ≢ [
 abbrev pub IsEmptyAt : List (List ℤ) → ℕ → Type 0
 IsEmptyAt clauses k = slice_get clauses k ≡ Some []
 
--- the first so many clauses are taken
+-- the first `n` clauses are loaded
 pub record IsLoaded (s : State) (n : ℕ) : Type 0 where
   pub sound : AreConsistent s.trail s.clauses s.watches
   pub start : IsAtStart s.trail
@@ -134,22 +134,22 @@ pub record IsLoaded (s : State) (n : ℕ) : Type 0 where
   pub none_added : s.added ≡ 0
   pub none_deleted : s.deleted ≡ 0
 
--- what is true stays true, and clauses stay; what becomes of one more
+-- true literals stay true, and clauses stay
 pub record Grows (s t : State) : Type 0 where
   pub literals : (x : ℕ) → Contains s.trail.literals x → Contains t.trail.literals x
   pub clauses : take (length s.clauses) t.clauses ≡ s.clauses
 
--- what becomes of the clause at a place: all is true by clauses of one literal, or it is false
+-- the clause at a place was taken, and unit clauses are still true; or it was refuted
 abbrev pub LoadsOne : State → State → ℕ → Loaded → Type 0
 LoadsOne s t place Taken = Grows s t × (AreRooted s.trail s.clauses → AreRooted t.trail t.clauses)
 LoadsOne s t place Refuted = Grows s t × Refutes t.clauses t.trail.literals place
 
--- a search at its beginning
+-- a search at its beginning, which may have ended already
 abbrev pub IsBegun : Bool → State → Type 0
 IsBegun true s = HasEnded s
 IsBegun false s = IsLive s
 
--- a clause that was learnt, is kept and is no reason
+-- a learnt clause that is kept and isn't a reason
 pub record MayGo (s : State) (k : ℕ) : Type 0 where
   pub learnt : length s.formula.clauses ≤ k
   pub kept : (at s.clauses k).kept ≡ true
@@ -160,7 +160,7 @@ pub record MayAllGo (s : State) (ks : List ℕ) : Type 0 where
   pub each : All (MayGo s) ks
   pub rise : AllPairs (λ i k. i < k) ks
 
--- each of so many clauses that is a reason is marked
+-- each of the `n` clauses that is a reason is marked
 pub record MarksReasons (t : Trail) (n : ℕ) (marks : List Bool) : Type 0 where
   pub size : length marks ≡ n
   pub few : count_by (λ b. b) marks ≤ length t.literals

@@ -9,17 +9,17 @@ use Rattle.cdcl_clauses.specs.Invariants.{IsConflict}
 use Rattle.cdcl_learn.specs.helpers.Analyses.{Tallies, Suffices}
 use Rattle.cdcl_learn.specs.declared.analysis.Analysis.{Analysis}
 
--- the conflict was met, and where what isn't propagated belongs to the last level, some of that is to be resolved
+-- the conflict is met; if the next literal to propagate is on the last level, a place there is open
 pub record IsStarted (t : Trail) (cs : List Clause) (conflict root base : ℕ) (a : Analysis) : Type 0 where
   pub tallies : Tallies t a.met.items a.pending root base a.literals.items
   pub suffices : Suffices t cs a.met.items a.hints.items
   pub some : IsConflict t cs conflict → base ≤ t.propagated → 0 < a.pending
 
--- the literals are false by places below the last level
+-- the literals are false by places of the trail below the last level
 abbrev pub AreLower : Trail → List ℕ → Type 0
 AreLower t ls = (x : ℕ) → Contains ls x → (p : ℕ) × (p < slice_index t.starts (length t.starts - 1)) × (x ≡ opposite_of (slice_index t.literals p))
 
--- none of the literals has a variable that stands higher
+-- `b` is the highest of these literals on the trail
 pub record IsHighest (t : Trail) (ls : List ℕ) (b : ℕ) : Type 0 where
   pub has : Contains ls b
   pub highest : (x p q : ℕ) → Contains ls x → p < length t.literals → q < length t.literals → slice_index t.literals p / 2 ≡ x / 2
@@ -31,7 +31,7 @@ pub record IsLevelAfter (t : Trail) (place level : ℕ) : Type 0 where
   pub after : place < slice_index t.starts level
   pub first : (i : ℕ) → i < level → slice_index t.starts i ≤ place
 
--- going back to a level, where these are the other literals
+-- backtracking to a level, where `ls` are the literals other than the asserted one
 pub record IsTurn (t : Trail) (ls : List ℕ) (a level asserted beside : ℕ) : Type 0 where
   pub same : asserted ≡ a
   pub within : level < length t.starts
@@ -41,7 +41,7 @@ pub record IsTurn (t : Trail) (ls : List ℕ) (a level asserted beside : ℕ) : 
   pub root : ls ≡ [] → level ≡ 0
   pub high : (i : ℕ) → i < level → Contains ls beside → Contains (take (slice_index t.starts i) t.literals) (opposite_of beside) → ⊥
 
--- what to do fits, where these are the other literals
+-- the backtracking fits, where `ls` are the literals other than the asserted one
 abbrev pub Turns : Trail → List ℕ → ℕ → Turn → Type 0
 Turns t ls a Closed = ⊥
 Turns t ls a (Back level asserted beside) = IsTurn t ls a level asserted beside

@@ -1,11 +1,11 @@
--- How a trail lies in memory.
+-- How a trail is stored in memory.
 use Rattle.std.specs.Prelude.{◌≡◌, ◌≢◌, ℕ, ◌*◌, ◌/◌, ◌^◌, ◌<◌, ◌≤◌, take, length, slice_index, slice_index_or}
 use Rattle.cdcl_trail.specs.Literals.{opposite_of}
 use Rattle.cdcl_trail.specs.Trail.{Trail}
 use Rattle.cdcl_trail.specs.declared.trail.Value.TheVariants.{Open, True, False}
 use Rattle.cdcl_trail.specs.declared.trail.Trail.TheInside.{Inside}
 
--- the trail that lies there
+-- the trail that is stored in memory
 abbrev pub trail_of : Inside → Trail
 trail_of a = record {
   variables = length a.places.items;
@@ -16,19 +16,19 @@ trail_of a = record {
   propagated = a.propagated;
 }
 
--- the literal at a place of the trail is true, its opposite is false, and its variable knows the place
+-- the literal at a place of the trail is true, its opposite is false, and the place is recorded
 pub record StandsAt (a : Inside) (k : ℕ) : Type 0 where
   pub within : slice_index a.literals.items k < 2 * length a.places.items
   pub true_there : slice_index_or a.values.items (slice_index a.literals.items k) Open ≡ True
   pub false_there : slice_index_or a.values.items (opposite_of (slice_index a.literals.items k)) Open ≡ False
   pub known : slice_index a.places.items (slice_index a.literals.items k / 2) ≡ k
 
--- the variable of a literal that isn't open stands where it says
+-- the variable of a literal that isn't open is on the trail, at its recorded place
 pub record IsPlaced (a : Inside) (l : ℕ) : Type 0 where
   pub on_trail : slice_index a.places.items (l / 2) < a.len
   pub there : slice_index a.literals.items (slice_index a.places.items (l / 2)) / 2 ≡ l / 2
 
--- a level begins after the levels before it, and no later than what is propagated
+-- a level begins after all earlier levels, and no later than the propagated part ends
 pub record StartsWell (a : Inside) (k : ℕ) : Type 0 where
   pub high : k ≤ slice_index a.starts.items k
   pub early : slice_index a.starts.items k ≤ a.propagated

@@ -1,4 +1,4 @@
--- What is answered to a fault of a call below.
+-- The answer to each fault of a called function.
 use Rattle.path_log.specs.declared.fault.LogFault.{LogFault}
 use Rattle.path_log.specs.declared.fault.LogFault.TheVariants as log
 use Rattle.path_walk.specs.declared.fault.WalkFault.{WalkFault}

@@ -1,7 +1,8 @@
--- A refutation that is read: what its lines so far were taken as, and what is made of them.
+-- A refutation while it is read: its lines so far, and the checker's state.
 use Rattle.std.specs.Prelude.{◌≡◌, ℕ, ◌≤◌, Bool, false, List, [], Option, Some, None, is_some, fold, Ok, Err, ⊤}
 use Rattle.tc_code.specs.Code.{Code}
-use Rattle.path_log.specs.Texts.{StoredLog, IsOfOther}
+use Rattle.run_log.specs.Logs.{StoredLog}
+use Rattle.path_log.specs.Texts.{IsOfOther}
 use Rattle.tc_io.specs.Outside.{ShelfTells, GaveReading, FailedReading}
 use Rattle.refute_check.specs.Laws.{whole_lines}
 use Rattle.refute_check.specs.Reading.{Reading, Reads, beginning, first_breach}
@@ -25,7 +26,7 @@ use Rattle.clap_debug_cli.specs.declared.check.Stage.{Stage}
 use Rattle.clap_debug_cli.specs.declared.check.Stage.TheVariants.{Begins, Refuses, Checks}
 use Rattle.clap_debug_cli.specs.declared.check.Incoming.{Incoming}
 
--- why the lines of a refutation aren't checked: the log is of another program, or has no clauses
+-- why a refutation's lines aren't checked: the log is of another program, or has no clauses
 abbrev pub IsWhyUnchecked : (program : List ℕ) → Code → StoredLog → Answer → Type 0
 IsWhyUnchecked program code run NoMemory = ⊤
 IsWhyUnchecked program code run (LogOver e) = IsStoredAnswer program run (IsLimitAnswer code run.log (λ _. ⊥)) (LogOver e)
@@ -34,13 +35,13 @@ IsWhyUnchecked program code run (LogRefused (Unfit name misfit)) =
     IsStoredAnswer program run (IsLimitAnswer code run.log (λ _. ⊥)) (LogRefused (Unfit name misfit))
 IsWhyUnchecked program code run _ = ⊥
 
--- a checker over the clauses of which this first line speaks, after these lines
+-- the state of a checker over the clauses of this header, after these lines
 pub record IsCheckedSo (program : List ℕ) (code : Code) (run : StoredLog) (head : Head) (lines : List Line) (checker : Checking) : Type 0 where
   pub recorded : IsOfOther program run → ⊥
   pub within : IsWithin code run.log
   pub is : checker ≡ fold after (start (head_clauses head code run.log)) lines
 
--- the lines that a checker took pass, and show this
+-- the checker's lines pass and prove this
 abbrev pub IsShown : Option ℕ → Checking → Shown → Type 0
 IsShown most checker x = (v : Checked) × (verdict checker ≡ Ok v) × (x ≡ shown most v)
 
@@ -50,12 +51,12 @@ IsWhyUnshown checker (LineRefused n) = (fault : CheckFault) × (verdict checker 
 IsWhyUnshown checker NoMemory = ⊤
 IsWhyUnshown checker _ = ⊥
 
--- whether what was taken is a first line that names a number of switches
+-- whether a line is a header that names a number of switches
 abbrev pub counts_switches : Taken → Bool
 counts_switches (Header head) = is_some head.switches
 counts_switches _ = false
 
--- what is made of another line
+-- the stage after another line
 abbrev pub stage_after : Stage → Line → Stage
 stage_after (Checks most checker) line = Checks most (after checker line)
 stage_after stage line = stage
@@ -66,24 +67,24 @@ HasRoom (Checks most checker) = checker.line ≤ LINES
 HasRoom _ = ⊤
 
 module _ (program : List ℕ) (code : Code) (run : StoredLog) where
-  -- what is made of the first line
+  -- the stage after the header
   abbrev pub IsBegun : Head → Stage → Type 0
   IsBegun head (Refuses a) = IsWhyUnchecked program code run a
   IsBegun head (Checks most checker) = (most ≡ head.switches) × IsCheckedSo program code run head [] checker
   IsBegun head Begins = ⊥
 
-  -- lines were taken so, and this is made of them
+  -- the stage after these lines
   abbrev pub IsStage : Reading → List Taken → Stage → Type 0
   IsStage text ts Begins = (first_breach text ≡ Some 1) × (text.fault ≡ None → ts ≡ [])
   IsStage text ts (Refuses a) = text.fault ≡ None → (h : Head) × (ls : List Line) × (ts ≡ whole_lines h ls) × IsWhyUnchecked program code run a
   IsStage text ts (Checks most c) = text.fault ≡ None
       → (h : Head) × (ls : List Line) × (ts ≡ whole_lines h ls) × (most ≡ h.switches) × IsCheckedSo program code run h ls c
 
-  -- these bytes were read
+  -- the stage after these bytes
   abbrev pub IsRead : Incoming → List ℕ → Type 0
   IsRead s bytes = (ts : List Taken) × Reads beginning bytes ts s.text × IsStage s.text ts s.stage
 
--- why a refutation of this name isn't accepted: it couldn't be read, there is no memory, or this is the answer to what it holds
+-- why a refutation isn't accepted: it couldn't be read, there is no memory, or this is its answer
 abbrev pub IsWhyUnaccepted : (program log name : List ℕ) → ShelfTells → ShelfTells → Answer → Type 0
 IsWhyUnaccepted program log name old new (ReadFault n) = (n ≡ name) × FailedReading old new name
 IsWhyUnaccepted program log name old new NoMemory = HeldStill old new

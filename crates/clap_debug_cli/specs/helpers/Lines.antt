@@ -2,6 +2,6 @@
 use Rattle.std.specs.Prelude.{ℕ, List, ◌++◌, codes}
 use Rattle.std.specs.Fmt.{decimal}
 
--- so many variables and clauses
+-- the line with the number of variables and clauses
 abbrev pub count_line : (variables clauses : ℕ) → List ℕ
 count_line variables clauses = codes "cnf " ++ (decimal variables ++ (codes " variables, " ++ (decimal clauses ++ codes " clauses\n")))

@@ -10,7 +10,7 @@ use Rattle.tc_code.specs.Code.{Code}
 use Rattle.tc_compile.specs.declared.fault.CompileFault.{CompileFault}
 use Rattle.tc_compile.specs.declared.fault.CompileFault.TheVariants as compile
 use Rattle.tc_io.specs.Outside.{ShelfTells, FailedToGive, KeptPart, WasTooLong, closed}
-use Rattle.clap_debug_show_cli.specs.Causes.{IsAnswerTo, IsFileRefusal}
+use Rattle.clap_debug_show_cli.specs.Causes.{IsAnswerTo, IsFileRefusal, IsHelpTo}
 use Rattle.clap_debug_show_cli.specs.Limits.{limit_of}
 use Rattle.clap_debug_show_cli.specs.declared.limits.What.{What}
 use Rattle.clap_debug_show_cli.specs.declared.answer.Answer.{Answer}
@@ -70,3 +70,8 @@ abbrev pub IsWhyNotShown : (program file : List ℕ) → Answer → Type 0
 IsWhyNotShown program file NoMemory = Unit {0}
 IsWhyNotShown program file (Shown _) = ⊥
 IsWhyNotShown program file a = IsAnswerTo program file a
+
+-- there is no memory, or this is said of the text
+abbrev pub IsHelpOrNone : (program : List ℕ) → Answer → Type 0
+IsHelpOrNone program NoMemory = Unit {0}
+IsHelpOrNone program a = IsHelpTo program a

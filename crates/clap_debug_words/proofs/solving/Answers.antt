@@ -2,7 +2,7 @@ use Rattle.std.proofs.Common.{◌≡◌, ◌∙◌, ap, codes}
 use Rattle.std.proofs.lemmas.Result.{IfOk-weaker}
 use Rattle.clap.specs.Words.{App, rule_of}
 use Rattle.clap.specs.declared.builder.value_parser.ValueParser.TheVariants as parser
-use Rattle.tc_base.specs.declared.limits.TheConstants.{BUDGET}
+use Rattle.tc_limits.specs.declared.limits.TheConstants.{BUDGET}
 use Rattle.clap_debug_words.specs.CommandLine as spec
 use Rattle.clap_debug_words.proofs.solving.Goals as goal
 

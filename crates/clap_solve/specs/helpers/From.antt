@@ -1,4 +1,4 @@
--- Faults of what is called as faults here.
+-- Faults of called functions as faults here.
 use Rattle.clap_system.specs.declared.fault.BuildFault.{BuildFault}
 use Rattle.clap_system.specs.declared.fault.BuildFault.TheVariants as build
 use Rattle.refute_check.specs.declared.verdict.CheckFault.{CheckFault}

@@ -1,13 +1,13 @@
--- What a search of a log's clauses comes to.
+-- The results of a search of a log's clauses.
 use Rattle.std.specs.Prelude.{◌≡◌, ◌<◌, ◌≤◌, ℕ, suc, Bool, true, false, IsTrue, List, length}
 use Rattle.tc_base.specs.Buffers.{BufferOps}
-use Rattle.tc_base.specs.Logs.{Log}
-use Rattle.tc_base.specs.declared.model.Model.{Model}
+use Rattle.run_log.specs.Logs.{Log}
+use Rattle.memory_models.specs.declared.model.Model.{Model}
 use Rattle.tc_base.specs.declared.moves.Move.{Move}
 use Rattle.tc_code.specs.Code.{Code}
 use Rattle.tc_code.specs.Run.{Reproduces}
 use Rattle.store_buffers.specs.Pending.{Binding}
-use Rattle.path_log.specs.Texts.{is_log}
+use Rattle.run_log.specs.Logs.{is_log}
 use Rattle.path_walk.specs.Fits.{Fits}
 use Rattle.path_walk.specs.Paths.{paths_of}
 use Rattle.cnf_core.specs.Clauses.{satisfies, value_in}
@@ -22,14 +22,14 @@ use Rattle.clap_solve.specs.declared.imported.Imported.{Imported}
 use Rattle.clap_solve.specs.declared.imported.Imported.TheVariants as imported
 
 module _ (buffered : Bool) (bound : Binding) (code : Code) (p : Posed) where
-  -- all this is of some log
+  -- the parts belong to some log
   pub record IsPosed : Type 0 where
     pub log : Log
     pub given : IsGiven code log
     pub posed : p ≡ posed_of buffered bound code log
     pub variables : p.paths.dead ≡ false → 0 < p.blasted.clauses.vars
 
-  -- and there is a value for each variable
+  -- and each variable has a value
   pub record IsAssigned (values : List Bool) : Type 0 where
     pub posed : IsPosed
     pub all : p.blasted.clauses.vars ≤ length values
@@ -40,31 +40,31 @@ module _ (buffered : Bool) (bound : Binding) (code : Code) (p : Posed) where
     pub all : p.blasted.clauses.vars ≤ length values
     pub satisfies : IsTrue (satisfies (value_in values) p.blasted.clauses.clauses)
 
-  -- so do those that a search found, if it found any
+  -- the values that a search found, if any, satisfy the clauses
   abbrev pub IsSearched : Solved → Type 0
   IsSearched (solved.Sat values) = IsSatisfied values
   IsSearched _ = Unit {0}
 
 module _ {B : Type 0} (ops : BufferOps B) (code : Code) (p : Posed) where
-  -- moves reproduce each log of these paths
+  -- the moves reproduce each log with these paths
   abbrev pub ReproduceEach : List Move → Type 0
   ReproduceEach moves = (log : Log) → is_log log ≡ true → Fits code log → paths_of code log ≡ p.paths → Reproduces ops code log moves
 
   module _ (model : Model) where
-    -- the answer that a search comes to: a schedule of such moves, or its own derivation
+    -- the answer from a search's result: a schedule of such moves, or the search's own derivation
     abbrev pub IsAnsweredOn : Solved → Answer → Type 0
     IsAnsweredOn (solved.Sat values) (Found schedule) = (schedule.model ≡ model) × ReproduceEach schedule.moves.items
     IsAnsweredOn (solved.Unsat lines) (Impossible own) = own ≡ lines
     IsAnsweredOn (solved.Spent lines) (Spent own) = own ≡ lines
     IsAnsweredOn _ _ = ⊥
 
-    -- the answer that some search of the clauses comes to, with such a budget
+    -- the answer from some search of the clauses with this budget
     pub record IsFoundOn (budget : ℕ) (answer : Answer) : Type 0 where
       pub solved : Solved
       pub solves : Solves p.blasted.clauses budget solved
       pub answers : IsAnsweredOn solved answer
 
-    -- what values come to: a schedule of such moves, where they satisfy the clauses; or the first clause that they leave false
+    -- values that satisfy the clauses give a schedule of such moves; others, the first false clause
     abbrev pub IsImportedOn : List Bool → Imported → Type 0
     IsImportedOn values (imported.Found schedule) =
         IsTrue (satisfies (value_in values) p.blasted.clauses.clauses) × (schedule.model ≡ model) × ReproduceEach schedule.moves.items

@@ -1,4 +1,4 @@
--- A fault of the walk as one of the system.
+-- Faults of the walk, as faults of the system.
 use Rattle.path_walk.specs.declared.fault.WalkFault.{WalkFault}
 use Rattle.path_walk.specs.declared.fault.WalkFault.TheVariants as walk
 use Rattle.clap_system.specs.declared.fault.BuildFault.{BuildFault}

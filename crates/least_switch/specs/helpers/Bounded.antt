@@ -1,6 +1,6 @@
--- The clauses of a log with at most so many switches, and what a schedule is made of.
+-- The clauses of a log with at most `most` switches, and what a schedule is made from.
 use Rattle.std.specs.Prelude.{◌≡◌, ℕ, ◌≤◌, Bool, false}
-use Rattle.tc_base.specs.Logs.{Log}
+use Rattle.run_log.specs.Logs.{Log}
 use Rattle.tc_code.specs.Code.{Code}
 use Rattle.store_buffers.specs.Pending.{Binding}
 use Rattle.path_walk.specs.Paths.{paths_of}

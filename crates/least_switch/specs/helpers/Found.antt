@@ -1,11 +1,11 @@
--- What a search comes to.
+-- The results of a search.
 use Rattle.std.specs.Prelude.{◌≡◌, ℕ, ◌<◌, ◌≤◌, Bool, true, false, IsTrue, List, length}
 use Rattle.tc_base.specs.Buffers.{BufferOps}
-use Rattle.tc_base.specs.Logs.{Log}
-use Rattle.tc_base.specs.declared.model.Model.{Model}
+use Rattle.run_log.specs.Logs.{Log}
+use Rattle.memory_models.specs.declared.model.Model.{Model}
 use Rattle.tc_code.specs.Code.{Code}
 use Rattle.store_buffers.specs.Pending.{Binding}
-use Rattle.path_log.specs.Texts.{is_log}
+use Rattle.run_log.specs.Logs.{is_log}
 use Rattle.path_walk.specs.Fits.{Fits}
 use Rattle.path_walk.specs.Paths.{Paths, paths_of}
 use Rattle.order_formula.specs.Worlds.{World}
@@ -24,7 +24,7 @@ use Rattle.least_switch.specs.declared.stages.Found.TheVariants as found
 use Rattle.least_switch.specs.helpers.Bounded.{IsBounded}
 
 module _ {B : Type 0} (ops : BufferOps B) (model : Model) (code : Code) where
-  -- the schedule is that of a world, for each log of these paths
+  -- the schedule comes from a world, for each log of these paths
   pub record IsOfWorld (paths : Paths) (w : World) (b : Best) : Type 0 where
     pub has : (log : Log) → is_log log ≡ true → Fits code log → paths_of code log ≡ paths → HasSwitches ops model code log b.schedule b.switches
     pub count : b.switches ≡ world_switches paths w
@@ -36,7 +36,7 @@ module _ {B : Type 0} (ops : BufferOps B) (model : Model) (code : Code) where
     abbrev pub IsBestUpTo : ℕ → Best → Type 0
     IsBestUpTo most b = IsBest b × (b.switches ≤ most)
 
--- values satisfy the clauses of a log
+-- the values satisfy the clauses of a log
 pub record IsFirst (buffered : Bool) (bound : Binding) (code : Code) (log : Log) (p : Posed) (values : List Bool) : Type 0 where
   pub given : IsGiven code log
   pub posed : p ≡ posed_of buffered bound code log
@@ -44,38 +44,38 @@ pub record IsFirst (buffered : Bool) (bound : Binding) (code : Code) (log : Log)
   pub satisfies : IsTrue (satisfies (value_in values) p.blasted.clauses.clauses)
   pub all : p.blasted.clauses.vars ≤ length values
 
--- or those with at most so many switches
+-- the values satisfy the clauses of a log with at most `most` switches
 pub record IsSaid (buffered : Bool) (bound : Binding) (code : Code) (log : Log) (most : ℕ) (b : Bounded) (values : List Bool) : Type 0 where
   pub given : IsGiven code log
   pub bounded : IsBounded buffered bound code log most b
   pub satisfies : IsTrue (satisfies (value_in values) b.clauses.clauses)
   pub all : b.clauses.vars ≤ length values
 
--- something holds of the values that a search found, if it found any
+-- a property of the values that a search found, if any
 abbrev pub IfSat : (List Bool → Type 0) → Solved → Type 0
 IfSat P (solved.Sat values) = P values
 IfSat P _ = Unit {0}
 
--- what a search comes to: such a schedule, or its own derivation
+-- the result of a search: a schedule with this property, or the search's own derivation
 abbrev pub IsFoundBy : (Best → Type 0) → Solved → Found → Type 0
 IsFoundBy Is (solved.Sat values) (found.Best b) = Is b
 IsFoundBy Is (solved.Unsat lines) (found.Impossible own) = own ≡ lines
 IsFoundBy Is (solved.Spent lines) (found.Spent own) = own ≡ lines
 IsFoundBy Is _ _ = ⊥
 
--- what a search over some clauses comes to: such a schedule, or what it shows without one
+-- the result of a search over some clauses: a schedule with this property, or what else it proves
 abbrev pub IsFoundOn : Formula → (Best → Type 0) → ℕ → Found → Type 0
 IsFoundOn f Is budget (found.Best b) = Is b
 IsFoundOn f Is budget (found.Impossible lines) = Solves f budget (solved.Unsat lines)
 IsFoundOn f Is budget (found.Spent lines) = Solves f budget (solved.Spent lines)
 
--- the clauses of a log, with all that they are made of
+-- the clauses of a log, with everything that they are made from
 pub record IsPosedFor (buffered : Bool) (bound : Binding) (code : Code) (log : Log) (p : Posed) : Type 0 where
   pub given : IsGiven code log
   pub is : p ≡ posed_of buffered bound code log
   pub variables : p.paths.dead ≡ false → 0 < p.blasted.clauses.vars
 
--- what the search over the clauses of a log comes to
+-- the result of the search over the clauses of a log
 pub record IsFirstFound {B : Type 0} (ops : BufferOps B) (model : Model) (buffered : Bool) (bound : Binding) (code : Code) (log : Log) (budget : ℕ)
     (x : Found) : Type 0 where
   pub given : IsGiven code log

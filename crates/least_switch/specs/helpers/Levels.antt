@@ -1,7 +1,7 @@
--- Clauses of a formula with at most so many switches.
+-- The clauses of a formula with a bound on switches.
 use Rattle.std.specs.Prelude.{◌≡◌, ℕ, ◌+◌, ◌<◌, ◌≤◌, true, false, List, length}
 use Rattle.std.specs.List.{All}
-use Rattle.tc_base.specs.declared.limits.TheConstants.{EVENTS}
+use Rattle.tc_limits.specs.declared.limits.TheConstants.{EVENTS}
 use Rattle.path_walk.specs.Paths.{Paths}
 use Rattle.sym_terms.specs.declared.node.Node.{Node}
 use Rattle.order_formula.specs.Formulas.{IsOf}
@@ -19,17 +19,17 @@ use Rattle.switch_order.specs.Sizes.{size_of}
 use Rattle.switch_runs.specs.Worlds.{failing_of, threads_of}
 use Rattle.switch_clauses.specs.Clauses.{asked_of_all}
 
--- clauses have the variables of their order
+-- the clauses have at least the variables of their order
 pub record StandsOnOrder (b : Blasted) : Type 0 where
   pub more : (ordered b.layout).vars ≤ b.clauses.vars
 
--- clauses with levels up to a number, and their layout
+-- clauses with levels up to `most`, and their layout
 pub record AreLevelled (paths : Paths) (b : Blasted) (most : ℕ) (made : Layout × Formula) : Type 0 where
   pub layout : made.0 ≡ b.layout
   pub clauses : made.1 ≡ levelled b.layout (threads_of paths) (failing_of paths) most b.clauses
   pub variables : (base made.0).vars ≤ made.1.vars
 
--- a formula over an order that can be asked of every two events of the paths
+-- a formula over an order that can ask about every two events of the paths
 pub record IsAskable (paths : Paths) (nodes : List Node) (formula : List Conjunct) (order : Order) (loads : ℕ) : Type 0 where
   pub terms : IsOf (length nodes) formula
   pub within : All (ConjunctIsIn order) formula
@@ -38,7 +38,7 @@ pub record IsAskable (paths : Paths) (nodes : List Node) (formula : List Conjunc
   pub stands : StandsOnOrder (blast nodes formula (asked_of_all order) loads)
   pub room : whole_size (record { order = order; loads = loads }) nodes formula + size_of EVENTS 255 < LIMIT
 
--- where the paths aren't dead, its clauses with levels up to a number
+-- the clauses with levels up to `most`, unless the paths are dead
 pub record AreBounded (paths : Paths) (nodes : List Node) (formula : List Conjunct) (order : Order) (loads most : ℕ) (made : Layout × Formula) : Type 0 where
   pub lives : paths.dead ≡ false → AreLevelled paths (blast nodes formula (asked_of_all order) loads) most made
   pub dead : paths.dead ≡ true → made.1 ≡ impossible.clauses

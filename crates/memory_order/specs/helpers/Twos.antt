@@ -1,4 +1,4 @@
--- Two events as the code has them.
+-- Two events, as the code represents them.
 use Rattle.path_walk.specs.declared.event.Event.{Event}
 use Rattle.memory_order.specs.Twos.{Two}
 use Rattle.memory_order.specs.declared.kept.Two.{Two as SeenTwo}

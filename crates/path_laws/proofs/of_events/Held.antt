@@ -4,10 +4,11 @@ use Rattle.std.proofs.Common.{Option, sym, ap, subst, arith, slice_index_or}
 use Rattle.std.specs.Prelude.{unwrap_or}
 use Rattle.std.proofs.lemmas.List.{length-map, length-replicate, take-map}
 use Rattle.tc_base.specs.Buffers.{BufferOps}
-use Rattle.tc_base.specs.Logs.{Log, Path}
+use Rattle.run_log.specs.Logs.{Log}
+use Rattle.tc_base.specs.Paths.{Path}
 use Rattle.tc_base.specs.Names.{Name}
 use Rattle.tc_base.specs.States.{Local, Thread}
-use Rattle.tc_base.specs.declared.model.Model.{Model}
+use Rattle.memory_models.specs.declared.model.Model.{Model}
 use Rattle.tc_code.specs.Code.{Code}
 use Rattle.tc_code.specs.Lawful.{IsLawful}
 use Rattle.tc_code.specs.Step.{holds, stepped}
@@ -15,7 +16,7 @@ use Rattle.tc_code.proofs.Facts.{at_its_place}
 use Rattle.store_buffers.specs.Laws.{Laws}
 use Rattle.store_buffers.specs.Pending.{Binding}
 use Rattle.run_laws.proofs.Basics.{index_or-replicate}
-use Rattle.path_log.specs.Texts.{is_log}
+use Rattle.run_log.specs.Logs.{is_log}
 use Rattle.path_walk.specs.Fits.{fails_in, Fits}
 use Rattle.path_walk.specs.Marks.{unmarked, marks_after, has_mutex}
 use Rattle.path_walk.specs.Paths.{Walk}

@@ -7,10 +7,10 @@ use Rattle.std.specs.List.{Contains, cons_option}
 use Rattle.std.proofs.lemmas.Bool.{false≢true, eqb-true}
 use Rattle.std.proofs.lemmas.Option.{none-some, same_Some}
 use Rattle.tc_base.specs.Buffers.{BufferOps}
-use Rattle.tc_base.specs.Logs.{Log}
+use Rattle.run_log.specs.Logs.{Log}
 use Rattle.tc_base.specs.Names.{Name}
 use Rattle.tc_base.specs.States.{Thread}
-use Rattle.tc_base.specs.declared.model.Model.{Model}
+use Rattle.memory_models.specs.declared.model.Model.{Model}
 use Rattle.tc_base.specs.declared.request.Request.{Request}
 use Rattle.tc_base.specs.declared.request.Request.TheVariants.{Silent, Acquire, Release, BeginWait, EndWait}
 use Rattle.tc_code.specs.Code.{Code}
@@ -26,7 +26,7 @@ use Rattle.run_history.specs.Told.{owner_by, owner_in, steps_in}
 use Rattle.run_history.proofs.Last.{owners_are_last}
 use Rattle.run_follows.proofs.of_deeds.Cells.{next_within}
 use Rattle.run_history.proofs.of_pending.In.{In}
-use Rattle.path_log.specs.Texts.{is_log}
+use Rattle.run_log.specs.Logs.{is_log}
 use Rattle.path_walk.specs.Events.{takes, left_at, regions_of}
 use Rattle.path_walk.specs.Fits.{fails_in, Fits}
 use Rattle.path_walk.specs.Marks.{unmarked, marks_after}

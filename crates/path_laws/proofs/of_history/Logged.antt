@@ -6,10 +6,11 @@ use Rattle.std.specs.FinMap as fin
 use Rattle.std.proofs.lemmas.List.{length-append, take_all}
 use Rattle.std.proofs.lemmas.Option.{none-some, same_Some, slice_get_within, option_and_then_some}
 use Rattle.tc_base.specs.Buffers.{BufferOps}
-use Rattle.tc_base.specs.Logs.{Log, Path, path_under}
+use Rattle.run_log.specs.Logs.{Log}
+use Rattle.tc_base.specs.Paths.{Path, path_under}
 use Rattle.tc_base.specs.Names.{Name, child}
 use Rattle.tc_base.specs.States.{Thread, State}
-use Rattle.tc_base.specs.declared.model.Model.{Model}
+use Rattle.memory_models.specs.declared.model.Model.{Model}
 use Rattle.tc_base.specs.declared.moves.Move.{Move}
 use Rattle.tc_base.proofs.Names.{parent_of}
 use Rattle.tc_code.specs.Code.{Code}
@@ -23,7 +24,7 @@ use Rattle.run_laws.proofs.Main.{main_is_there}
 use Rattle.run_history.specs.History.{Deed, history}
 use Rattle.run_history.specs.Told.{is_thread_in, steps_in}
 use Rattle.run_follows.specs.Logged.{path_by, path_told, EndsAsIn, GoesAsLogged}
-use Rattle.path_log.specs.Texts.{is_log}
+use Rattle.run_log.specs.Logs.{is_log}
 use Rattle.path_walk.specs.Fits.{started, places_in, child_function, function_of, Fits}
 use Rattle.path_walk.specs.Paths.{Walk}
 use Rattle.path_walk.specs.Steps.{places_from, steps_at}

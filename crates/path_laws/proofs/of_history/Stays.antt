@@ -11,10 +11,11 @@ use Rattle.std.proofs.lemmas.List.Elements.{filter_map-append}
 use Rattle.std.proofs.lemmas.List.Sums.{fold-append}
 use Rattle.std.proofs.lemmas.Option.{none-some, same_Some}
 use Rattle.tc_base.specs.Buffers.{BufferOps}
-use Rattle.tc_base.specs.Logs.{Log, Path, path_under}
+use Rattle.run_log.specs.Logs.{Log}
+use Rattle.tc_base.specs.Paths.{Path, path_under}
 use Rattle.tc_base.specs.Names.{Name, ByName, child, by_name}
 use Rattle.tc_base.specs.States.{Local}
-use Rattle.tc_base.specs.declared.model.Model.{Model}
+use Rattle.memory_models.specs.declared.model.Model.{Model}
 use Rattle.tc_base.specs.declared.request.Request.{Request}
 use Rattle.tc_base.specs.declared.request.Request.TheVariants.{Silent, Start, Fail}
 use Rattle.tc_base.proofs.Names.{same_refl}
@@ -33,8 +34,8 @@ use Rattle.run_history.proofs.Lists.{last_of-push}
 use Rattle.run_history.proofs.Threads.{steps_by}
 use Rattle.run_follows.specs.Follow.{MayFollow}
 use Rattle.run_follows.proofs.Follows.{nothing_follows, follow_push}
-use Rattle.path_log.specs.Texts.{is_log}
-use Rattle.path_log.proofs.Lists.{split_at, get_seam}
+use Rattle.run_log.specs.Logs.{is_log}
+use Rattle.list_laws.proofs.Lists.{split_at, get_seam}
 use Rattle.path_walk.specs.Fits.{starts, started, ending_of, fails_in, child_function, function_of, Fits}
 use Rattle.path_walk.specs.Paths.{Walk}
 use Rattle.path_walk.specs.Steps.{Step, is_failing, ended, places_from, places_of, step_at, steps_at}

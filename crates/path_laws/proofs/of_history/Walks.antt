@@ -9,10 +9,11 @@ use Rattle.std.proofs.lemmas.Bool.{false_from_ne_true}
 use Rattle.std.proofs.lemmas.List.Folds.{list_any_at}
 use Rattle.std.proofs.lemmas.Option.{none-some, same_Some, slice_get-map, slice_get_within, get_or_from_slice_get}
 use Rattle.tc_base.specs.Buffers.{BufferOps}
-use Rattle.tc_base.specs.Logs.{Log, Path, ThreadPath, path_under}
+use Rattle.run_log.specs.Logs.{Log}
+use Rattle.tc_base.specs.Paths.{Path, ThreadPath, path_under}
 use Rattle.tc_base.specs.Names.{Name}
 use Rattle.tc_base.specs.States.{Thread}
-use Rattle.tc_base.specs.declared.model.Model.{Model}
+use Rattle.memory_models.specs.declared.model.Model.{Model}
 use Rattle.tc_code.specs.Code.{Code}
 use Rattle.tc_code.specs.Lawful.{IsLawful}
 use Rattle.store_buffers.specs.Laws.{Laws}
@@ -20,7 +21,7 @@ use Rattle.store_buffers.specs.Pending.{Binding}
 use Rattle.run_history.specs.History.{Deed}
 use Rattle.run_history.specs.Told.{is_thread_in, steps_in}
 use Rattle.run_history.proofs.Threads.{none_done}
-use Rattle.path_log.specs.Texts.{is_log}
+use Rattle.run_log.specs.Logs.{is_log}
 use Rattle.path_walk.specs.Events.{events_of, regions_of, sleeps_of, is_impossible}
 use Rattle.path_walk.specs.Fits.{ending_of, fails_in, places_in, function_of, Fits}
 use Rattle.path_walk.specs.Marks.{unmarked, marks_after, marked_steps}

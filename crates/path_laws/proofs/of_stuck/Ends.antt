@@ -6,7 +6,8 @@ use Rattle.std.specs.List.{filter_map, cons_option}
 use Rattle.std.specs.Option.{option_map_or}
 use Rattle.std.proofs.lemmas.List.{length-map, map-append}
 use Rattle.std.proofs.lemmas.Option.{none-some, same_Some}
-use Rattle.tc_base.specs.Logs.{Log, Path}
+use Rattle.run_log.specs.Logs.{Log}
+use Rattle.tc_base.specs.Paths.{Path}
 use Rattle.tc_code.specs.Code.{Code, instr_at, line_at}
 use Rattle.tc_code.specs.Lawful.{IsLawful, is_bound, target}
 use Rattle.tc_code.specs.declared.code.Func.{Func}
@@ -14,7 +15,7 @@ use Rattle.tc_code.specs.declared.instr.Instr.{Instr}
 use Rattle.tc_code.specs.declared.instr.Instr.TheVariants.{Branch, Goto, Sleep, Wake, Exit}
 use Rattle.tc_code.proofs.Facts.{placed}
 use Rattle.run_history.proofs.Lists.{filter_map-push}
-use Rattle.path_log.proofs.Lists.{get_seam}
+use Rattle.list_laws.proofs.Lists.{get_seam}
 use Rattle.path_walk.specs.Events.{asks, event_of, events_of, sleep_by, sleeps_of, last_sleep, blocked_at}
 use Rattle.path_walk.specs.Fits.{ending_of, fails_in}
 use Rattle.path_walk.specs.Marks.{Marks, Marked, unmarked, marks_after, marked_from, marked_steps}

@@ -11,7 +11,7 @@ use Rattle.path_walk.specs.declared.event.Region.{Region}
 use Rattle.path_walk.specs.declared.event.Sleep.{Sleep}
 use Rattle.path_laws.specs.Deeds.{kind_of}
 
--- a thread's step of a number is done, and asks this
+-- the history has step number k of the thread, and it is an event of this kind
 pub record IsDoneIn (h : List Deed) (n : Name) (k : ℕ) (asked : EventKind) : Type 0 where
   pub older : List Deed
   pub newer : List Deed
@@ -21,7 +21,7 @@ pub record IsDoneIn (h : List Deed) (n : Name) (k : ℕ) (asked : EventKind) : T
   pub there : h ≡ older ++ Did n k request took other ∷ newer
   pub asks : kind_of request other ≡ Some asked
 
--- a region is open after so many steps: one of them takes its mutex, and none of them leaves it
+-- a region is open after k steps: they have acquired its mutex and not released it
 pub record IsOpenAfter (k : ℕ) (r : Region) : Type 0 where
   pub begun : r.«from» < k
   pub lasts : (j : ℕ) → r.to ≡ Some j → k ≤ j

@@ -1,7 +1,7 @@
 -- Histories along the paths of a log.
 use Rattle.std.specs.Prelude.{◌≡◌, ℕ, Bool, true, Some, List, length, slice_get}
 use Rattle.std.specs.FinMap as fin
-use Rattle.tc_base.specs.Logs.{Log}
+use Rattle.run_log.specs.Logs.{Log}
 use Rattle.tc_base.specs.Names.{Name}
 use Rattle.tc_base.specs.States.{Local}
 use Rattle.tc_code.specs.Code.{Code}
@@ -13,20 +13,20 @@ use Rattle.run_follows.specs.Follow.{AllFollow}
 use Rattle.path_walk.specs.Paths.{Walk, paths_of}
 use Rattle.path_laws.specs.Prefixes.{IsOnPath}
 
--- all threads of a history have gone the first parts of their paths in a log
+-- every thread of a history has followed a prefix of its path in a log
 abbrev pub AreOnPathsIn : Code → Log → List Deed → Type 0
 AreOnPathsIn code log h = (n : Name) (t : Local) → fin.get (locals_in code h) n ≡ Some t → IsOnPath log (failed_in h) n t
 
--- a history along the paths: each deed may come after those before it, and no thread leaves its path
+-- a history along the paths: each deed may follow those before it, and no thread leaves its path
 pub record IsAlongPaths (buffered : Bool) (bound : Binding) (code : Code) (log : Log) (h : List Deed) : Type 0 where
   pub follow : AllFollow buffered bound code h
   pub on : AreOnPathsIn code log h
 
--- a thread of the paths, at a place
+-- w is the walk at index j of the log's paths
 abbrev pub IsThread : Code → Log → ℕ → Walk → Type 0
 IsThread code log j w = slice_get (paths_of code log).threads j ≡ Some w
 
--- a name is that of a thread of the paths
+-- the name belongs to a thread of the paths
 pub record IsNameOfThread (code : Code) (log : Log) (n : Name) : Type 0 where
   pub place : ℕ
   pub walk : Walk
@@ -37,10 +37,10 @@ pub record IsNameOfThread (code : Code) (log : Log) (n : Name) : Type 0 where
 abbrev pub HasDoneAll : List Deed → Walk → Type 0
 HasDoneAll h w = steps_in h w.name ≡ length w.places
 
--- so have all of them
+-- every thread of the paths has done all its steps
 abbrev pub AllHaveDone : Code → Log → List Deed → Type 0
 AllHaveDone code log h = (j : ℕ) (w : Walk) → IsThread code log j w → HasDoneAll h w
 
--- and each is there
+-- every thread of the paths exists in the history
 abbrev pub AllAreThere : Code → Log → List Deed → Type 0
 AllAreThere code log h = (j : ℕ) (w : Walk) → IsThread code log j w → is_thread_in h w.name ≡ true

@@ -1,7 +1,7 @@
 -- The next step of a thread on its path.
 use Rattle.std.specs.Prelude.{◌≡◌, ℕ, ◌+◌, ◌==◌, Bool, false, not, ◌&&◌, List, ◌++◌, length, Option, Some, None, slice_get, if◌then◌else◌}
 use Rattle.std.specs.FinMap as fin
-use Rattle.tc_base.specs.Logs.{Log}
+use Rattle.run_log.specs.Logs.{Log}
 use Rattle.tc_base.specs.Names.{Name}
 use Rattle.tc_base.specs.States.{Local}
 use Rattle.tc_code.specs.Code.{Code, instr_at}
@@ -19,11 +19,11 @@ use Rattle.path_walk.specs.Paths.{Walk}
 abbrev pub fails_next : Log → List Deed → Walk → Bool
 fails_next log h w = fails_in log w.name && steps_in h w.name + 1 == length w.places
 
--- and the thread that fails by it, if it does
+-- the thread, if its next step is the one that fails
 abbrev pub failing_next : Log → List Deed → Walk → Option Name
 failing_next log h w = if fails_next log h w then Some w.name else None
 
--- a thread is to do the instruction at the next place of its path
+-- a thread's next instruction is the one at the next place of its path
 pub record IsNextOnPath (code : Code) (h : List Deed) (w : Walk) : Type 0 where
   pub local : Local
   pub there : fin.get (locals_in code h) w.name ≡ Some local
@@ -33,18 +33,17 @@ pub record IsNextOnPath (code : Code) (h : List Deed) (w : Walk) : Type 0 where
   pub instr : Instr
   pub at : instr_at code w.function local.instruction ≡ Some instr
   pub next : instr_of code local ≡ Some instr
-  -- it went by the first of the outcomes
+  -- the thread has used a prefix of its outcomes
   pub later : List Bool
   pub outcomes : w.outcomes ≡ local.outcomes ++ later
 
--- what the path alone tells of an instruction comes out as it is wanted: a site of a mutex or a thread variable passes unless
--- it is to fail, and a mutex that is locked isn't held
+-- a site of a mutex or a thread variable passes unless it should fail; a mutex to lock isn't held
 abbrev pub IsAsWanted : (fails : Bool) → Local → Instr → Type 0
 IsAsWanted fails t (Holds m) = holds t m ≡ not fails
 IsAsWanted fails t (Ready v) = can_be_joined (handle_of t v) ≡ not fails
 IsAsWanted fails t (Lock m) = holds t m ≡ false
 IsAsWanted fails t _ = Unit {0}
 
--- a branch goes by the next outcome of the path
+-- a branch takes the next outcome of the path
 abbrev pub BranchesAlong : Walk → Local → Instr → Type 0
 BranchesAlong w t i = (e : Expr) (to : ℕ) → i ≡ Branch e to → slice_get w.outcomes (length t.outcomes) ≡ Some (is_nonzero (value_in t e))

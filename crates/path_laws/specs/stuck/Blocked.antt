@@ -1,4 +1,4 @@
--- What a path says that its thread is blocked at in a deadlock.
+-- What blocks a thread in a deadlock, by its path.
 use Rattle.std.specs.Prelude.{◌≡◌, ℕ, ◌+◌, ◌-◌, List, length, Some, None, slice_get}
 use Rattle.tc_base.specs.declared.request.Request.{Request}
 use Rattle.tc_base.specs.declared.request.Request.TheVariants.{Acquire, EndWait, Await}
@@ -11,19 +11,19 @@ use Rattle.path_walk.specs.declared.event.Blocked.{Blocked}
 use Rattle.path_walk.specs.declared.event.Blocked.TheVariants.{Lock, Wake, Join}
 use Rattle.path_walk.specs.declared.event.Sleep.{Sleep}
 
--- what the thread asks there
+-- the request of a blocked thread
 abbrev pub asked_at : Blocked → Request
 asked_at (Lock m) = Acquire m
 asked_at (Wake c m k) = EndWait c m
 asked_at (Join k) = Await k
 
--- it asks that next, and it is blocked
+-- the walk says what blocks the thread; the thread has that request next, and it is blocked
 pub record IsBlockedAt (code : Code) (h : List Deed) (w : Walk) (b : Blocked) : Type 0 where
   pub is : w.blocked ≡ Some b
   pub asks : asks_next code h w.name ≡ Some (asked_at b)
   pub blocked : IsBlockedIn h w.name (asked_at b)
 
--- the last sleep of a path, with which the path ends
+-- the last step of a path is number k, a sleep on condition c with mutex m
 pub record IsLastSleep (w : Walk) (c m k : ℕ) : Type 0 where
   pub sleep : Sleep
   pub last : slice_get w.sleeps (length w.sleeps - 1) ≡ Some sleep

@@ -1,7 +1,7 @@
--- What is told of one thread.
+-- The account of one thread of a log.
 use Rattle.std.specs.Prelude.{◌≡◌, ℕ, List, ◌++◌, drop, map, sum, Bool, Result, Ok, Err}
 use Rattle.std.specs.List.{list_any}
-use Rattle.tc_base.specs.Logs.{ThreadPath}
+use Rattle.tc_base.specs.Paths.{ThreadPath}
 use Rattle.tc_code.specs.Code.{Code}
 use Rattle.path_walk.specs.Steps.{Onward, is_failing, steps_at}
 use Rattle.path_walk.specs.Fits.{started}
@@ -14,26 +14,26 @@ use Rattle.path_walk.specs.declared.follow.FollowFault.{FollowFault}
 use Rattle.path_walk.specs.declared.follow.FollowFault.TheVariants.{Unfit, Memory}
 use Rattle.path_walk.specs.declared.follow.Position.{Position}
 
--- a function failed as a definition does, unless memory ran out
+-- a function fails as the definition does, unless memory ran out
 abbrev pub Fails : {Y : Type 0} → FollowFault → Result Y Misfit → Type 0
 Fails (Unfit m) given = given ≡ Err m
 Fails Memory given = Unit {0}
 
--- what a function gave is what a definition gives, unless memory ran out
+-- a function returns what the definition gives, unless memory ran out
 abbrev pub Gives : {X Y : Type 0} → (X → Y) → Result X FollowFault → Result Y Misfit → Type 0
 Gives view (Ok x) given = given ≡ Ok (view x)
 Gives view (Err e) given = Fails e given
 
--- places before those that are given
+-- places in front of the places found, or the fault
 abbrev pub prefixed : List ℕ → Result (List ℕ) Misfit → Result (List ℕ) Misfit
 prefixed front (Ok places) = Ok (front ++ places)
 prefixed front (Err e) = Err e
 
--- a position, with the outcomes that are left
+-- a position as a place and the remaining outcomes
 abbrev pub position_of : List Bool → Position → Onward
 position_of outcomes at = record { place = at.place; outcomes = drop at.used outcomes }
 
--- what is told of one thread
+-- the account of one thread: its walk, its children's functions and its counts
 pub record Account : Type 0 where
   pub walk : Walk
   -- the functions of the children that it creates

@@ -1,13 +1,14 @@
--- What is told of the first threads of a log.
+-- The draft of a log's paths: its first threads.
 use Rattle.std.specs.Prelude.{◌≡◌, ℕ, ◌+◌, ◌<◌, ◌≤◌, ◌*◌, zero, suc, List, [], ◌∷◌, ◌++◌, take, map, sum, length, get_or, slice_get}
 use Rattle.std.specs.Prelude.{Bool, true, false, ◌||◌, if◌then◌else◌, Result, Ok, Err, Option, Some, None, IfSome, IsSome, option_and_then}
 use Rattle.std.specs.List.{list_any}
 use Rattle.std.specs.Ordering.{is_lt}
 use Rattle.tc_base.specs.Names.{Name, child, by_name}
-use Rattle.tc_base.specs.Logs.{Log, ThreadPath, path_under}
+use Rattle.run_log.specs.Logs.{Log}
+use Rattle.tc_base.specs.Paths.{ThreadPath, path_under}
 use Rattle.tc_base.specs.declared.failing.Failing.{Failing}
 use Rattle.tc_code.specs.Code.{Code}
-use Rattle.path_log.specs.Texts.{rises_from}
+use Rattle.run_log.specs.Logs.{rises_from}
 use Rattle.path_walk.specs.Fits.{started, function_of, misfit_of}
 use Rattle.path_walk.specs.Paths.{Walk, Paths, counted, have_exited, walk_of, steps_in, operators_in, is_dead}
 use Rattle.path_walk.specs.declared.fault.Misfit.{Misfit}
@@ -16,24 +17,24 @@ use Rattle.path_walk.specs.declared.fault.WalkFault.{WalkFault}
 use Rattle.path_walk.specs.declared.fault.WalkFault.TheVariants.{Unfit}
 use Rattle.path_walk.specs.helpers.Accounts.{Account}
 
--- what is told of the first threads of a log
+-- what is known after the first threads of a log
 pub record Draft : Type 0 where
   pub threads : List Walk
-  -- for each of them the functions of the children that it creates
+  -- for each thread, the functions of the children that it creates
   pub started : List (List ℕ)
   pub events : ℕ
   pub operators : ℕ
   pub dead : Bool
-  -- the least name of a child that they create and that isn't in the log, if there is one
+  -- the least name of a created child that isn't in the log, if any
   pub missing : Option Name
 
--- the lesser of two names, if there are any
+-- the lesser of two names, either of which may be absent
 abbrev pub least : Option Name → Option Name → Option Name
 least None b = b
 least (Some a) None = Some a
 least (Some a) (Some b) = if is_lt (by_name b a) then Some b else Some a
 
--- a draft with one more thread, and the least of its children that aren't in the log
+-- a draft with one more thread, given the least of its children that isn't in the log
 abbrev pub added : Draft → Account → Option Name → Draft
 added d c found = record {
   threads = d.threads ++ c.walk ∷ [];
@@ -47,34 +48,34 @@ added d c found = record {
 abbrev pub no_draft : Draft
 no_draft = record { threads = []; started = []; events = 0; operators = 0; dead = false; missing = None }
 
--- a name isn't less than that of an option, which is there
+-- the option has a name, and n isn't less than it
 abbrev pub IsAtLeast : Option Name → Name → Type 0
 IsAtLeast None n = ⊥
 IsAtLeast (Some q) n = is_lt (by_name n q) ≡ false
 
--- a child, one of the first so many of a thread, that isn't in the log
+-- one of the parent's first `count` children, and it isn't in the log
 pub record IsAbsentChild (log : Log) (parent : Name) (count : ℕ) (n : Name) : Type 0 where
   pub number : ℕ
   pub within : number < count
   pub name : n ≡ child parent (number + 1)
   pub absent : path_under n log.threads ≡ None
 
--- the first of so many children of a thread that isn't in the log, if there is one
+-- the first of the parent's first `count` children that isn't in the log, if any
 pub record IsFirstAbsent (log : Log) (parent : Name) (count : ℕ) (found : Option Name) : Type 0 where
   pub absent : IfSome found (IsAbsentChild log parent count)
   pub first : (j : ℕ) → j < count → path_under (child parent (j + 1)) log.threads ≡ None → IsAtLeast found (child parent (j + 1))
 
--- the fault of a thread, or that of a lesser child that isn't in the log
+-- the fault of a thread, unless a missing child has a lesser name: then that fault
 abbrev pub first_fault : Option Name → Name → Misfit → WalkFault
 first_fault None n m = Unfit n m
 first_fault (Some q) n m = if is_lt (by_name q n) then Unfit q Missing else Unfit n m
 
--- the thread at a place of the log
+-- t is the thread at index k of the log
 pub record IsNext (log : Log) (k : ℕ) (t : ThreadPath) : Type 0 where
   pub within : k < length log.threads
   pub there : t ≡ get_or log.threads k t
 
--- a name is a child that one of some threads creates, and isn't in the log
+-- the name is a child that one of the threads creates, and it isn't in the log
 pub record IsMissing (code : Code) (log : Log) (threads : List ThreadPath) (n : Name) : Type 0 where
   pub parent : Name
   pub number : ℕ
@@ -83,7 +84,7 @@ pub record IsMissing (code : Code) (log : Log) (threads : List ThreadPath) (n : 
   pub created : IsSome (function_of code log n)
   pub absent : path_under n log.threads ≡ None
 
--- the draft of the first threads of a log, with which nothing is wrong
+-- d is the draft of the first threads of a log, and none of these has a fault
 pub record IsDraft (code : Code) (log : Log) (d : Draft) : Type 0 where
   pub rises : rises_from None log.threads ≡ true
   pub main : IsSome (path_under [] log.threads)
@@ -97,12 +98,12 @@ pub record IsDraft (code : Code) (log : Log) (d : Draft) : Type 0 where
   pub missing : IfSome d.missing (IsMissing code log (take (length d.threads) log.threads))
   pub least : (n : Name) → IsMissing code log (take (length d.threads) log.threads) n → IsAtLeast d.missing n
 
--- the function of the child of a number, from 1, of the thread at a place
+-- the function of a child, counted from 1, of the thread at an index
 abbrev pub started_at : List (List ℕ) → ℕ → ℕ → Option ℕ
 started_at started place zero = None
 started_at started place (suc k) = option_and_then (λ functions. slice_get functions k) (slice_get started place)
 
--- the paths of a whole draft
+-- the paths that a complete draft gives
 abbrev pub paths_by : Draft → Failing → Paths
 paths_by d failing = record {
   failing = failing;
@@ -112,7 +113,7 @@ paths_by d failing = record {
   dead = d.dead || have_exited failing d.threads;
 }
 
--- they, or the fault of the least child that isn't in the log
+-- the paths of a draft, or the fault of the least missing child
 abbrev pub finished_by : Option Name → Draft → Failing → Result Paths WalkFault
 finished_by None d failing = Ok (paths_by d failing)
 finished_by (Some n) d failing = Err (Unfit n Missing)

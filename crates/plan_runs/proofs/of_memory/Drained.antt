@@ -8,9 +8,9 @@ use Rattle.std.proofs.lemmas.Bool.{true≢false, and_parts, and_from, eqb-true, 
 use Rattle.std.proofs.lemmas.List.Folds.{list_any-append}
 use Rattle.std.proofs.lemmas.Option.{same_Some}
 use Rattle.tc_base.specs.Buffers.{BufferOps}
-use Rattle.tc_base.specs.Logs.{Log}
+use Rattle.run_log.specs.Logs.{Log}
 use Rattle.tc_base.specs.Names.{Name}
-use Rattle.tc_base.specs.declared.model.Model.{Model}
+use Rattle.memory_models.specs.declared.model.Model.{Model}
 use Rattle.tc_base.specs.declared.request.Request.{Request}
 use Rattle.tc_code.specs.Code.{Code}
 use Rattle.store_buffers.specs.Pending.{Binding}

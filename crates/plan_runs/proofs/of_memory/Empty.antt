@@ -3,8 +3,8 @@ use Rattle.std.proofs.Common.{◌≡◌, ◌∙◌, ℕ, ◌<◌, ◌==◌, ◌&
 use Rattle.std.specs.List.{Contains}
 use Rattle.std.proofs.lemmas.Bool.{true≢false}
 use Rattle.tc_base.specs.Buffers.{BufferOps}
-use Rattle.tc_base.specs.Logs.{Log}
-use Rattle.tc_base.specs.declared.model.Model.{Model}
+use Rattle.run_log.specs.Logs.{Log}
+use Rattle.memory_models.specs.declared.model.Model.{Model}
 use Rattle.tc_code.specs.Code.{Code}
 use Rattle.store_buffers.specs.Pending.{Binding}
 use Rattle.run_history.specs.History.{Deed, has_drained}

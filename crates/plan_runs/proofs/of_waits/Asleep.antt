@@ -7,9 +7,9 @@ use Rattle.std.specs.List.{Contains, filter_map, cons_option, last_or}
 use Rattle.std.proofs.lemmas.Bool.{false≢true, true≢false, cases_lt, and_parts, eqb-true, eq-eqb}
 use Rattle.std.proofs.lemmas.Option.{none-some, same_Some}
 use Rattle.tc_base.specs.Buffers.{BufferOps}
-use Rattle.tc_base.specs.Logs.{Log}
+use Rattle.run_log.specs.Logs.{Log}
 use Rattle.tc_base.specs.Names.{Name}
-use Rattle.tc_base.specs.declared.model.Model.{Model}
+use Rattle.memory_models.specs.declared.model.Model.{Model}
 use Rattle.tc_base.specs.declared.request.Request.{Request}
 use Rattle.tc_base.specs.declared.request.Request.TheVariants.{Silent, BeginWait, WakeOne, WakeAll, Start}
 use Rattle.tc_code.specs.Code.{Code}

@@ -6,14 +6,15 @@ use Rattle.std.specs.List.{cons_option}
 use Rattle.std.proofs.lemmas.Bool.{false≢true, false_from_ne_true}
 use Rattle.std.proofs.lemmas.List.{length-map}
 use Rattle.std.proofs.lemmas.Option.{none-some, same_Some, slice_get-map, slice_get_within, option_and_then_some}
-use Rattle.tc_base.specs.Logs.{Log, path_under}
+use Rattle.run_log.specs.Logs.{Log}
+use Rattle.tc_base.specs.Paths.{path_under}
 use Rattle.tc_base.specs.Names.{Name, main, child}
 use Rattle.tc_base.proofs.Names.{parent_of}
 use Rattle.tc_code.specs.Code.{Code, instr_at}
 use Rattle.tc_code.specs.declared.instr.Instr.{Instr}
 use Rattle.tc_code.specs.declared.instr.Instr.TheVariants.{Create, Exit}
 use Rattle.run_history.proofs.of_pending.In.{In}
-use Rattle.path_log.specs.Texts.{is_log}
+use Rattle.run_log.specs.Logs.{is_log}
 use Rattle.path_walk.specs.Events.{asks, kind_with}
 use Rattle.path_walk.specs.Fits.{starts, started, fails_in, places_in, child_function, function_of, Fits}
 use Rattle.path_walk.specs.Marks.{Marks, unmarked, marked, marks_after}

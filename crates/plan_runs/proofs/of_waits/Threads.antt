@@ -7,12 +7,12 @@ use Rattle.std.proofs.Math.Bool.{and-false, or-true}
 use Rattle.std.proofs.lemmas.Bool.{false≢true}
 use Rattle.std.proofs.lemmas.Option.{none-some, same_Some}
 use Rattle.tc_base.specs.Buffers.{BufferOps}
-use Rattle.tc_base.specs.Logs.{Log}
+use Rattle.run_log.specs.Logs.{Log}
 use Rattle.tc_base.specs.Names.{Name, main, child}
 use Rattle.tc_base.specs.States.{Local}
 use Rattle.tc_base.specs.declared.handle.Handle.{Handle}
 use Rattle.tc_base.specs.declared.handle.Handle.TheVariants.{Unset, Child, Joined}
-use Rattle.tc_base.specs.declared.model.Model.{Model}
+use Rattle.memory_models.specs.declared.model.Model.{Model}
 use Rattle.tc_base.specs.declared.request.Request.{Request}
 use Rattle.tc_base.specs.declared.request.Request.TheVariants.{Silent, Start}
 use Rattle.tc_code.specs.Code.{Code}

@@ -5,7 +5,7 @@ use Rattle.order_formula.specs.declared.group.Group.{Group}
 use Rattle.bit_blast.specs.Blasted.{Blasted, root_of}
 
 module _ (b : Blasted) (marks : List Bool) where
-  -- of conjuncts from a number on
+  -- the groups of the marked conjuncts, which are numbered from `number` on
   abbrev pub marked_from : ℕ → List Conjunct → List Group
   marked_from number [] = []
   marked_from number (c ∷ cs) =

@@ -1,4 +1,4 @@
--- A checker as it lies in memory.
+-- How a checker is stored in memory.
 use Rattle.std.specs.Prelude.{◌≡◌, ◌≢◌, ℕ, ◌+◌, ◌<◌, ◌≤◌, [], Some, IfSome, IsTrue}
 use Rattle.std.specs.FinMap.{get}
 use Rattle.cnf_core.specs.declared.cnf.TheConstants.{LIMIT}
@@ -13,7 +13,7 @@ use Rattle.refute_check.specs.declared.verdict.CheckFault.TheVariants.{Memory}
 abbrev pub checking_of : Inside → Checking
 checking_of c = record { line = c.line; vars = c.vars; kept = c.kept; next = c.next; closed = c.closed; fault = c.fault }
 
--- each clause that is kept is over the first `vars` variables
+-- each kept clause is over the first `vars` variables
 abbrev pub AreWithin : ℕ → KeptClauses → Type 0
 AreWithin vars kept = (n : ℕ) → IfSome (get kept n) (λ c. IsTrue (is_within vars c))
 

@@ -1,4 +1,4 @@
--- What a reader takes the bytes of a line for, before it compares them with the text.
+-- The line that a reader guesses from some bytes, before it compares its text with them.
 use Rattle.std.specs.Prelude.{
   ℕ,
   ◌+◌,
@@ -28,13 +28,13 @@ use Rattle.std.specs.Prelude.{
 use Rattle.std.specs.List.{fold}
 use Rattle.std.specs.Option.{option_map_or}
 use Rattle.cnf_core.specs.Clauses.{var_of, is_clause}
-use Rattle.tc_base.specs.Buffers.{is_nil}
-use Rattle.tc_base.specs.declared.model.Model.TheVariants.{Sc, Tso, Pso}
+use Rattle.list_laws.specs.Lists.{is_nil}
+use Rattle.memory_models.specs.declared.model.Model.TheVariants.{Sc, Tso, Pso}
 use Rattle.refute_check.specs.declared.head.Head.{Head}
 use Rattle.refute_check.specs.declared.line.Line.{Line}
 use Rattle.refute_check.specs.declared.line.Line.TheVariants.{Add, Delete}
 
--- the numbers before the one that is being read, its size and its sign
+-- the numbers read so far, and the size and the sign of the number being read
 pub record Reader : Type 0 where
   pub done : List ℤ
   pub size : ℕ
@@ -43,15 +43,15 @@ pub record Reader : Type 0 where
 abbrev pub no_number : Reader
 no_number = record { done = []; size = 0; negative = false }
 
--- the number that is being read
+-- the number being read
 abbrev pub number_of : ℕ → Bool → ℤ
 number_of size negative = if negative then neg_ℤ (pos size) else pos size
 
--- all numbers so far
+-- all numbers so far, including the one being read
 abbrev pub numbers_of : Reader → List ℤ
 numbers_of r = r.done ++ number_of r.size r.negative ∷ []
 
--- one byte more: a space ends a number, a minus sign negates it, and any other byte is a digit
+-- reads one byte: a space ends a number, a minus sign negates it, any other byte is a digit
 abbrev pub read_byte : Reader → ℕ → Reader
 read_byte r b =
     if b == 32
@@ -62,16 +62,16 @@ read_byte r b =
 abbrev pub guessed : List ℕ → List ℤ
 guessed bytes = numbers_of (fold read_byte no_number bytes)
 
--- a number that is a literal
+-- whether a number is a literal
 abbrev pub is_literal : ℤ → Bool
 is_literal z = nat_lt 0 (var_of z) && nat_lt (var_of z) 2147483648
 
--- a number that can be a clause's
+-- whether a number can be the number of a clause
 abbrev pub is_clause_number : ℤ → Bool
 is_clause_number (pos n) = nat_lt 0 n && nat_lt n 4294967296
 is_clause_number (negsuc n) = false
 
--- what is in front of some numbers, up to the first that gives nothing
+-- the results of `f` on a list, up to the first number without one
 abbrev pub front : {A : Type 0} → (ℤ → Option A) → List ℤ → List A
 front f [] = []
 front f (z ∷ zs) = option_map_or (λ x. x ∷ front f zs) (f z) []
@@ -88,15 +88,15 @@ literals_in zs = front literal_of zs
 abbrev pub clause_numbers_in : List ℤ → List ℕ
 clause_numbers_in zs = front clause_number_of zs
 
--- the line that adds a clause, by its numbers
+-- the line that adds a clause, from its numbers
 abbrev pub add_of : List ℤ → Option Line
 add_of zs = if is_clause (literals_in zs) then Some (Add (literals_in zs) (clause_numbers_in (drop (length (literals_in zs) + 1) zs))) else None
 
--- the line that deletes, by its numbers
+-- the line that deletes clauses, from its numbers
 abbrev pub delete_of : List ℤ → Option Line
 delete_of zs = if is_nil (clause_numbers_in zs) then None else Some (Delete (clause_numbers_in zs))
 
--- a line by its letter and its numbers
+-- a line, from its letter and its numbers
 abbrev pub line_by : ℕ → List ℤ → Option Line
 line_by letter zs = if letter == 97 then add_of zs else (if letter == 100 then delete_of zs else None)
 
@@ -105,19 +105,19 @@ abbrev pub line_guess : List ℕ → Option Line
 line_guess [] = None
 line_guess (b ∷ bs) = line_by b (drop 1 (guessed bs))
 
--- one digit more of a number of 8 bits
+-- an 8-bit number with one more digit
 abbrev pub with_digit : ℕ → ℕ → ℕ
 with_digit n b = (n * 10 + b % 16) % 256
 
--- a number of 8 bits in some digits
+-- the 8-bit number of some digits
 abbrev pub small_number : List ℕ → ℕ
 small_number digits = fold with_digit 0 digits
 
--- what comes after a first line's model, where it isn't empty, is ` switches ` and a number
+-- the number of switches after the header's model: ` switches ` and a number, or no bytes
 abbrev pub switches_in : List ℕ → Option ℕ
 switches_in bytes = if is_nil bytes then None else Some (small_number (drop 10 bytes))
 
--- the first line by its model's first letter and the bytes from there on
+-- the header, from its model's first letter and the bytes from there on
 abbrev pub head_by : ℕ → List ℕ → Option Head
 head_by letter bytes =
     if letter == 115
@@ -130,6 +130,6 @@ abbrev pub head_from : List ℕ → Option Head
 head_from [] = None
 head_from (b ∷ bs) = head_by b (b ∷ bs)
 
--- the first line that some bytes may be
+-- the header that some bytes may be
 abbrev pub head_guess : List ℕ → Option Head
 head_guess bytes = head_from (drop 18 bytes)

@@ -1,8 +1,8 @@
--- Marks of clauses, of which more are set.
+-- Marks of clauses, after more of them are set.
 use Rattle.std.specs.Prelude.{◌≡◌, ◌⊎◌, ℕ, ◌+◌, List, length, get_or, Bool, true, false}
 use Rattle.std.specs.List.{Contains}
 
--- the marks with those of some clauses, whose numbers are from 1
+-- the new marks are the old ones and those of some clauses, whose numbers count from 1
 pub record AreMarked (old : List Bool) (numbers : List ℕ) (new : List Bool) : Type 0 where
   pub all : length new ≡ length old
   pub before : (place : ℕ) → get_or old place false ≡ true → get_or new place false ≡ true

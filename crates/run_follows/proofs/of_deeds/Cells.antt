@@ -3,7 +3,7 @@ use Rattle.std.proofs.Common.{◌≡◌, ℕ, ◌<◌, ℤ, List, ◌∷◌, ◌
 use Rattle.std.proofs.lemmas.Option.{none-some, same_Some}
 use Rattle.tc_base.specs.Buffers.{BufferOps}
 use Rattle.tc_base.specs.Names.{Name}
-use Rattle.tc_base.specs.declared.model.Model.{Model}
+use Rattle.memory_models.specs.declared.model.Model.{Model}
 use Rattle.tc_base.specs.declared.request.Request.{Request}
 use Rattle.tc_base.specs.declared.request.Request.TheVariants.{Silent, Read, Write, Exchange, CompareExchange}
 use Rattle.tc_code.specs.Code.{Code}

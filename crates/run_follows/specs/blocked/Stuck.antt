@@ -1,8 +1,8 @@
--- What blocks threads where nothing may come after a history.
+-- What blocks the threads when no deed may come after a history.
 use Rattle.std.specs.Prelude.{◌≡◌, ◌⊎◌, ℕ, ℤ, Bool, true, false, Option, Some, None, IsSome, IsTrue, List}
 use Rattle.std.specs.FinSet as set
 use Rattle.tc_base.specs.Names.{Name, child}
-use Rattle.tc_base.specs.Buffers.{is_nil}
+use Rattle.list_laws.specs.Lists.{is_nil}
 use Rattle.tc_base.specs.declared.request.Request.{Request}
 use Rattle.tc_base.specs.declared.request.Request.TheVariants.{Acquire, EndWait, Await}
 use Rattle.tc_code.specs.Code.{Code}
@@ -24,14 +24,14 @@ AllDrained buffered h = (n : Name) → HasDrained buffered h n
 abbrev pub NoStepFollows : Bool → Binding → Code → List Deed → Name → Type 0
 NoStepFollows buffered bound code h n = (k : ℕ) (r : Request) (took : ℤ) (other : Option Name) → MayFollow buffered bound code h (Did n k r took other) → ⊥
 
--- a request is blocked: of a mutex that somebody owns; of the end of a wait, while the thread waits or somebody owns the mutex; of a child that hasn't exited
+-- a request is blocked: its mutex has an owner, its wait isn't over, or its child has not exited
 abbrev pub IsBlockedIn : List Deed → Name → Request → Type 0
 IsBlockedIn h n (Acquire m) = IsSome (owner_in h m)
 IsBlockedIn h n (EndWait c m) = IsTrue (set.contains (waiting_in h c) n) ⊎ IsSome (owner_in h m)
 IsBlockedIn h n (Await k) = has_exited_in h (child n k) ≡ false
 IsBlockedIn h n _ = ⊥
 
--- what a thread asks next is blocked
+-- the thread's next request is blocked
 pub record IsBlockedNext (code : Code) (h : List Deed) (n : Name) : Type 0 where
   pub request : Request
   pub asks : asks_next code h n ≡ Some request
@@ -41,7 +41,7 @@ pub record IsBlockedNext (code : Code) (h : List Deed) (n : Name) : Type 0 where
 abbrev pub AllAreBlocked : Code → List Deed → Type 0
 AllAreBlocked code h = (n : Name) → IsLeftIn h n → IsBlockedNext code h n
 
--- a deadlock, by what blocks the threads: no thread has failed, no store is pending, some thread hasn't exited, and each such is blocked
+-- a deadlock: no failure, no pending store, some thread not exited, and all such threads blocked
 pub record IsDeadlockIn (buffered : Bool) (code : Code) (h : List Deed) : Type 0 where
   pub unfailed : failed_in h ≡ None
   pub drained : AllDrained buffered h

@@ -1,9 +1,9 @@
--- The cells of requests.
+-- The cells that requests access.
 use Rattle.std.specs.Prelude.{ℕ, Option, Some, None}
 use Rattle.tc_base.specs.declared.request.Request.{Request}
 use Rattle.tc_base.specs.declared.request.Request.TheVariants.{Read, Write, Exchange, CompareExchange}
 
--- the cell that a request asks for, if it asks for one
+-- the cell that a request accesses, if any
 abbrev pub cell_of : Request → Option ℕ
 cell_of (Read c) = Some c
 cell_of (Write c v) = Some c

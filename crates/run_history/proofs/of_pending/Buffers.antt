@@ -12,7 +12,7 @@ use Rattle.std.proofs.lemmas.Option.{none-some, same_Some}
 use Rattle.tc_base.specs.Names.{Name, main, by_name}
 use Rattle.tc_base.specs.Buffers.{BufferOps, Entry}
 use Rattle.tc_base.specs.States.{Thread, State}
-use Rattle.tc_base.specs.declared.model.Model.{Model}
+use Rattle.memory_models.specs.declared.model.Model.{Model}
 use Rattle.tc_base.specs.declared.request.Request.{Request}
 use Rattle.tc_base.specs.declared.request.Request.TheVariants.{Silent, Write, Bar, WakeOne}
 use Rattle.tc_code.specs.declared.instr.Instr.{Instr}

@@ -2,9 +2,11 @@
 use Rattle.std.proofs.Common.{◌≡◌, ◌∙◌, false, Some, ap}
 use Rattle.std.specs.FinMap as fin
 use Rattle.tc_base.specs.Names.{Name}
-use Rattle.tc_base.specs.Buffers.{BufferOps, newest, is_nil}
+use Rattle.tc_base.specs.Buffers.{BufferOps}
+use Rattle.store_buffers.specs.Buffers.{newest}
+use Rattle.list_laws.specs.Lists.{is_nil}
 use Rattle.tc_base.specs.States.{Thread, State}
-use Rattle.tc_base.specs.declared.model.Model.{Model}
+use Rattle.memory_models.specs.declared.model.Model.{Model}
 use Rattle.tc_code.specs.Code.{Code}
 use Rattle.tc_code.specs.Run.{IsReached}
 use Rattle.store_buffers.specs.Pending.{Binding}

@@ -6,8 +6,10 @@ use Rattle.std.specs.List.{filter, filter_map, cons_option, last_or}
 use Rattle.std.proofs.lemmas.Bool.{false≢true, and_parts, true_from_ne_false}
 use Rattle.std.proofs.lemmas.Option.{none-some, cond_some}
 use Rattle.tc_base.specs.Names.{Name}
-use Rattle.tc_base.proofs.Options.{or_none}
-use Rattle.tc_base.specs.Buffers.{Entry, newest, is_nil}
+use Rattle.list_laws.proofs.Options.{or_none}
+use Rattle.tc_base.specs.Buffers.{Entry}
+use Rattle.store_buffers.specs.Buffers.{newest}
+use Rattle.list_laws.specs.Lists.{is_nil}
 use Rattle.tc_base.specs.declared.request.Request.TheVariants.{Silent, Write, Bar}
 use Rattle.store_buffers.specs.Pending.{Pending, Store, Bar as barred, stores}
 use Rattle.run_history.specs.History.{Deed, Did, Drained, Issue, same, issue_of, has_drained, pending_issues, pending}

@@ -8,9 +8,9 @@ use Rattle.std.proofs.lemmas.Bool.{false≢true, true≢false, and_parts, eq-eqb
 use Rattle.run_laws.proofs.Names.{same_self}
 use Rattle.std.proofs.lemmas.Option.{same_Some, slice_get_cases, slice_get_within}
 use Rattle.tc_base.specs.Buffers.{BufferOps}
-use Rattle.tc_base.specs.Logs.{Log}
+use Rattle.run_log.specs.Logs.{Log}
 use Rattle.tc_base.specs.Names.{Name}
-use Rattle.tc_base.specs.declared.model.Model.{Model}
+use Rattle.memory_models.specs.declared.model.Model.{Model}
 use Rattle.tc_base.specs.declared.moves.Move.{Move}
 use Rattle.tc_base.specs.declared.request.Request.{Request}
 use Rattle.tc_base.specs.declared.request.Request.TheVariants.{Write, Fail}
@@ -25,7 +25,7 @@ use Rattle.run_history.specs.pending.Deeds.{IsIssuedIn, DrainsAreOfStores, MayDr
 use Rattle.run_history.proofs.of_pending.In.{In, in_at, in_left, in_any, in_mapped, one_of_name}
 use Rattle.run_history.proofs.of_pending.Own.{stores_have_drained}
 use Rattle.run_follows.specs.Follow.{AllFollow}
-use Rattle.path_log.specs.Texts.{is_log}
+use Rattle.run_log.specs.Logs.{is_log}
 use Rattle.path_walk.specs.Paths.{Walk, Paths, paths_of}
 use Rattle.path_walk.specs.declared.event.Event.{Event}
 use Rattle.path_walk.specs.declared.event.EventKind.{EventKind}

@@ -4,9 +4,9 @@ use Rattle.std.specs.List.{Contains}
 use Rattle.std.proofs.lemmas.Bool.{true≢false, eq-eqb}
 use Rattle.std.proofs.lemmas.Option.{same_Some}
 use Rattle.tc_base.specs.Buffers.{BufferOps}
-use Rattle.tc_base.specs.Logs.{Log}
+use Rattle.run_log.specs.Logs.{Log}
 use Rattle.tc_base.specs.Names.{Name}
-use Rattle.tc_base.specs.declared.model.Model.{Model}
+use Rattle.memory_models.specs.declared.model.Model.{Model}
 use Rattle.tc_base.specs.declared.moves.Move.{Move}
 use Rattle.tc_base.specs.declared.request.Request.TheVariants.{Write}
 use Rattle.tc_code.specs.Code.{Code}
@@ -17,7 +17,7 @@ use Rattle.store_buffers.specs.Pending.{Binding}
 use Rattle.run_laws.proofs.Names.{same_self}
 use Rattle.run_history.specs.History.{Deed, Did, Drained, drains, has_drained}
 use Rattle.run_history.proofs.of_pending.In.{In, in_at, in_any, one_of_name}
-use Rattle.path_log.specs.Texts.{is_log}
+use Rattle.run_log.specs.Logs.{is_log}
 use Rattle.path_walk.specs.Paths.{Walk, Paths}
 use Rattle.path_walk.specs.declared.event.Event.{Event}
 use Rattle.path_walk.specs.declared.event.EventKind.{EventKind}

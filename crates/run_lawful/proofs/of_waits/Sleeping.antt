@@ -9,11 +9,12 @@ use Rattle.std.proofs.lemmas.Bool.{false≢true, true≢false, and_parts, or_par
 use Rattle.std.proofs.lemmas.List.Elements.{filter_map-append}
 use Rattle.std.proofs.lemmas.List.Folds.{list_any-append}
 use Rattle.std.proofs.lemmas.Option.{none-some, same_Some}
-use Rattle.tc_base.specs.Buffers.{BufferOps, is_nil}
-use Rattle.tc_base.specs.Logs.{Log}
+use Rattle.tc_base.specs.Buffers.{BufferOps}
+use Rattle.list_laws.specs.Lists.{is_nil}
+use Rattle.run_log.specs.Logs.{Log}
 use Rattle.tc_base.specs.Names.{Name}
 use Rattle.tc_base.specs.States.{Local, Thread}
-use Rattle.tc_base.specs.declared.model.Model.{Model}
+use Rattle.memory_models.specs.declared.model.Model.{Model}
 use Rattle.tc_base.specs.declared.moves.Move.{Move}
 use Rattle.tc_base.specs.declared.request.Request.{Request}
 use Rattle.tc_base.specs.declared.request.Request.TheVariants.{Silent, BeginWait, EndWait, WakeOne, WakeAll}
@@ -30,7 +31,7 @@ use Rattle.run_history.specs.Locals.{asks_next}
 use Rattle.run_history.specs.Told.{is_step_of, steps_in, waiting_in, owner_in}
 use Rattle.run_follows.proofs.of_deeds.Cells.{next_within}
 use Rattle.run_follows.specs.Follow.{MayFollow, may_do_in}
-use Rattle.path_log.specs.Texts.{is_log}
+use Rattle.run_log.specs.Logs.{is_log}
 use Rattle.path_walk.specs.Fits.{Fits}
 use Rattle.path_walk.specs.Paths.{Walk, Paths}
 use Rattle.path_walk.specs.declared.event.EventKind.TheVariants as kind

@@ -7,11 +7,12 @@ use Rattle.std.specs.List.{Contains}
 use Rattle.std.proofs.lemmas.Bool.{true≢false, and_parts, ltb-true}
 use Rattle.std.proofs.lemmas.Option.{none-some, same_Some, slice_get_cases}
 use Rattle.tc_base.specs.Buffers.{BufferOps}
-use Rattle.tc_base.specs.Logs.{Log, ThreadPath, place_in}
+use Rattle.run_log.specs.Logs.{Log}
+use Rattle.tc_base.specs.Paths.{ThreadPath, place_in}
 use Rattle.tc_base.specs.Names.{Name, child}
 use Rattle.tc_base.specs.declared.failing.Failing.{Failing}
 use Rattle.tc_base.specs.declared.failing.Failing.TheVariants.{Thread, Deadlock}
-use Rattle.tc_base.specs.declared.model.Model.{Model}
+use Rattle.memory_models.specs.declared.model.Model.{Model}
 use Rattle.tc_base.specs.declared.moves.Move.{Move}
 use Rattle.tc_code.specs.Code.{Code}
 use Rattle.tc_code.specs.Lawful.{IsLawful}
@@ -23,7 +24,7 @@ use Rattle.run_laws.proofs.Basics.{some_value}
 use Rattle.run_history.specs.History.{Deed}
 use Rattle.run_history.specs.Told.{owner_in, waiting_in, has_exited_in, steps_in}
 use Rattle.run_follows.specs.blocked.Stuck.{IsBlockedIn}
-use Rattle.path_log.specs.Texts.{rises_from, is_there, is_log}
+use Rattle.run_log.specs.Logs.{rises_from, is_there, is_log}
 use Rattle.path_walk.specs.Fits.{Fits, ending_by}
 use Rattle.path_walk.specs.Marks.{Marks, unmarked, marks_after}
 use Rattle.path_walk.specs.Paths.{Walk, Paths, blocked_after}

@@ -1,9 +1,9 @@
 -- What is told of the history of moves that reproduce a log.
 use Rattle.std.proofs.Common.{◌≡◌, ℕ, ℤ, true, List, length, Option, Some, refl, sym, subst, arith}
 use Rattle.tc_base.specs.Buffers.{BufferOps}
-use Rattle.tc_base.specs.Logs.{Log}
+use Rattle.run_log.specs.Logs.{Log}
 use Rattle.tc_base.specs.Names.{Name}
-use Rattle.tc_base.specs.declared.model.Model.{Model}
+use Rattle.memory_models.specs.declared.model.Model.{Model}
 use Rattle.tc_base.specs.declared.moves.Move.{Move}
 use Rattle.tc_base.specs.declared.request.Request.{Request}
 use Rattle.tc_base.specs.declared.request.Request.TheVariants.{Write}
@@ -16,7 +16,7 @@ use Rattle.run_history.specs.History.{Deed, Did, Drained, history}
 use Rattle.run_history.specs.Told.{steps_in}
 use Rattle.run_history.proofs.of_pending.In.{In, in_at, in_split}
 use Rattle.run_follows.proofs.Follows.{AllTold}
-use Rattle.path_log.specs.Texts.{is_log}
+use Rattle.run_log.specs.Logs.{is_log}
 use Rattle.path_walk.specs.Fits.{Fits}
 use Rattle.path_walk.specs.Paths.{Walk, Paths, paths_of}
 use Rattle.path_walk.specs.declared.event.Event.{Event}

@@ -6,8 +6,8 @@ use Rattle.std.proofs.lemmas.Bool.{and_parts, eqb-true, eq-eqb}
 use Rattle.std.proofs.lemmas.List.{length-map}
 use Rattle.std.proofs.lemmas.Option.{same_Some, slice_get-get_or}
 use Rattle.tc_base.specs.Buffers.{BufferOps}
-use Rattle.tc_base.specs.Logs.{Log}
-use Rattle.tc_base.specs.declared.model.Model.{Model}
+use Rattle.run_log.specs.Logs.{Log}
+use Rattle.memory_models.specs.declared.model.Model.{Model}
 use Rattle.tc_base.specs.declared.moves.Move.{Move}
 use Rattle.tc_code.specs.Code.{Code}
 use Rattle.tc_code.specs.Lawful.{IsLawful}
@@ -15,7 +15,7 @@ use Rattle.tc_code.specs.Run.{Reproduces}
 use Rattle.store_buffers.specs.Laws.{Laws}
 use Rattle.store_buffers.specs.Pending.{Binding}
 use Rattle.run_history.specs.History.{Deed, history}
-use Rattle.path_log.specs.Texts.{is_log}
+use Rattle.run_log.specs.Logs.{is_log}
 use Rattle.path_walk.specs.Paths.{Walk, Paths, paths_of}
 use Rattle.path_walk.specs.declared.event.Event.{Event}
 use Rattle.path_walk.specs.declared.event.EventKind.TheVariants as kind

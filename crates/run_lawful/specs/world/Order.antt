@@ -1,4 +1,4 @@
--- When the events of paths take place in a history, and that a world has them in that order.
+-- The order in which the paths' events take place in a history, and worlds with that order.
 use Rattle.std.specs.Prelude.{◌≡◌, ℕ, ◌<◌, Bool, true, false, ◌&&◌, List, ◌∷◌, ◌++◌, Some, slice_get}
 use Rattle.std.specs.List.{list_any}
 use Rattle.path_walk.specs.Paths.{Walk, Paths}
@@ -13,7 +13,7 @@ use Rattle.world_plan.specs.Sights.{Shows, AreInOrder}
 use Rattle.run_lawful.specs.world.WorldOf.{is_step, ends_wait}
 
 module _ (buffered : Bool) (paths : Paths) (h : List Deed) where
-  -- a thread's step takes place
+  -- the step k of the thread t takes place
   pub record TakesPlace (t k : ℕ) : Type 0 where
     pub older : List Deed
     pub deed : Deed
@@ -21,7 +21,7 @@ module _ (buffered : Bool) (paths : Paths) (h : List Deed) where
     pub there : h ≡ older ++ deed ∷ newer
     pub shows : Shows buffered paths deed t k
 
-  -- and that of another after it
+  -- the step k of the thread t takes place before the step j of the thread u
   pub record TakesPlaceBefore (t k u j : ℕ) : Type 0 where
     pub older : List Deed
     pub first : Deed
@@ -33,19 +33,19 @@ module _ (buffered : Bool) (paths : Paths) (h : List Deed) where
     pub shows_second : Shows buffered paths second u j
 
   pub record IsOrderOf (w : World) : Type 0 where
-    -- what takes place first is first in the world, and the other way round
+    -- what takes place earlier comes earlier in the world, and vice versa
     pub order : AreInOrder buffered paths w h
     pub back : (t k u j : ℕ) → HasStep paths t k → TakesPlace u j → IsBefore paths w t k u j → TakesPlaceBefore t k u j
-    -- nothing takes place twice, and only events do
+    -- nothing takes place twice, and only events take place
     pub once : (older between newer : List Deed) (d e : Deed) (t k : ℕ) → h ≡ (older ++ d ∷ between) ++ e ∷ newer
         → Shows buffered paths d t k → Shows buffered paths e t k → ⊥
     pub events : (t k : ℕ) → TakesPlace t k → HasStep paths t k
-    -- all do but stores that wait in buffers for good: these come after the others, and those of a thread in the order of its path
+    -- only stores in buffers may never take place; those come last, each thread's in program order
     pub done : (t : ℕ) (x : Event) → HasEvent paths t x → (buffered && is_store x.kind) ≡ false → TakesPlace t x.step
     pub never : (t k u j : ℕ) → TakesPlace t k → HasStep paths u j → (TakesPlace u j → ⊥) → IsBefore paths w t k u j
     pub rest : (t k j : ℕ) → HasStep paths t k → HasStep paths t j → (TakesPlace t k → ⊥) → (TakesPlace t j → ⊥) → k < j → IsBefore paths w t k t j
 
-  -- a sleep is ended by the event of a number: its deed is the first after the sleep that ends the thread's wait
+  -- the event g ends the sleep s: its deed is the first after s that ends the thread's wait
   pub record IsEndedBy (s : Of Sleep) (g : ℕ) : Type 0 where
     pub sleeper : Walk
     pub sleeps : slice_get paths.threads s.thread ≡ Some sleeper

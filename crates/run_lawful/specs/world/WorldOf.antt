@@ -1,4 +1,4 @@
--- The world of a history: the order in which the events of paths take place, what loads take, and what ends sleeps.
+-- The world of a history: the order of events, the values of loads, and the events that end sleeps.
 use Rattle.std.specs.Prelude.{ℕ, ◌+◌, ◌==◌, Bool, false, not, ◌&&◌, Option, option_map, option_and_then, List, map, drop, slice_get}
 use Rattle.std.specs.List.{find, position_or_len}
 use Rattle.std.specs.Option.{option_map_or}
@@ -15,7 +15,7 @@ use Rattle.lawful_order.specs.Events.{Of, all_events, all_sleeps}
 use Rattle.bit_ranks.specs.Ranks.{ranks_of}
 use Rattle.world_plan.specs.Sights.{sight_of}
 
--- the deeds after a thread's step
+-- whether a deed is the step k of the thread n, and the deeds after that step
 abbrev pub is_step : Name → ℕ → Deed → Bool
 is_step n k (Did q j r took other) = same n q && k == j
 is_step n k _ = false
@@ -34,17 +34,17 @@ module _ (buffered : Bool) (paths : Paths) where
       option_map_or (λ (q : Walk). option_map_or (λ s. same q.name s.thread && e.it.step == s.step) (sight_of buffered d) false)
       (slice_get paths.threads e.thread) false
 
-  -- by which deed of a history it does; what never does comes after all
+  -- the index of the deed by which an event takes place, or the history's length if none
   abbrev pub place_in : List Deed → Of Event → ℕ
   place_in h e = position_or_len (is_shown e) h
 
-  -- the event that ends a sleep: the first after it that wakes its thread
+  -- the event that ends a sleep, if any: the first one after it that wakes its thread
   abbrev pub ender_in : List Deed → Of Sleep → Option ℕ
   ender_in h s =
       option_and_then (λ (q : Walk). option_map (λ d. position_or_len (λ e. is_shown e d) (all_events paths))
       (find (ends_wait s.it.condition q.name) (after_step h q.name s.it.step))) (slice_get paths.threads s.thread)
 
-  -- events by the ranks of their places, those that never take place by their numbers
+  -- the world of a history; events that never take place come last, in the order of their numbers
   abbrev pub world_in : Symbolic → List Deed → World
   world_in symbolic h = record {
     positions = ranks_of (map (place_in h) (all_events paths));

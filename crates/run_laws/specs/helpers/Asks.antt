@@ -1,10 +1,10 @@
--- What a request asks for is there.
+-- Requests for cells, mutexes and conditions that exist.
 use Rattle.std.specs.Prelude.{ℕ, ◌<◌}
 use Rattle.tc_base.specs.declared.request.Request.{Request}
 use Rattle.tc_base.specs.declared.request.Request.TheVariants.{Read, Write, Exchange, CompareExchange, Acquire, Release}
 use Rattle.tc_base.specs.declared.request.Request.TheVariants.{BeginWait, EndWait, WakeOne, WakeAll}
 
--- where there are so many cells, mutexes and conditions
+-- the request names only cells, mutexes and conditions below these counts
 abbrev pub AsksWithin : (cells mutexes conditions : ℕ) → Request → Type 0
 AsksWithin cells mutexes conditions (Read c) = c < cells
 AsksWithin cells mutexes conditions (Write c v) = c < cells

@@ -3,11 +3,13 @@ use Rattle.std.proofs.Common.{◌≡◌, ◌⊎◌, inl, inr, ℕ, ℤ, ◌==◌
 use Rattle.std.proofs.Common.{refl, sym, ap, ◌∙◌}
 use Rattle.std.specs.Option.{option_or}
 use Rattle.std.proofs.lemmas.Bool.{false≢true}
-use Rattle.tc_base.specs.Buffers.{Entry, BufferOps, newest, is_nil}
+use Rattle.tc_base.specs.Buffers.{Entry, BufferOps}
+use Rattle.store_buffers.specs.Buffers.{newest}
+use Rattle.list_laws.specs.Lists.{is_nil}
 use Rattle.store_buffers.specs.Pending.{Pending, Store, Bar, stores, Binding, waits, Stands, put}
 use Rattle.std.proofs.lemmas.List.Sums.{fold-append}
 use Rattle.std.specs.Cmp.{nat_eq_equiv}
-use Rattle.tc_base.proofs.Options.{or_none}
+use Rattle.list_laws.proofs.Options.{or_none}
 
 pub stores-append : (ps qs : List Pending) → stores (ps ++ qs) ≡ stores ps ++ stores qs
 stores-append [] qs = refl
@@ -40,7 +42,7 @@ first_store (Bar ∷ ps) =
       | inr none ↦ inr none
     ]
 
--- where no store is pending, nothing waits
+-- if no store is pending, nothing waits
 pub waits_for_none : (bound : Binding) (ps : List Pending) (c : ℕ) → stores ps ≡ [] → waits bound ps c ≡ false
 waits_for_none bound [] c none = refl
 waits_for_none bound (Store e ∷ ps) c none = cc
@@ -49,7 +51,7 @@ waits_for_none bound (Bar ∷ ps) c none = waits_for_none bound ps c none
 pub store_there : (older : List Pending) (e : Entry) (newer : List Pending) → stores (older ++ Store e ∷ newer) ≡ [] → ⊥
 store_there older e newer none = not_nil (stores older) e (stores newer) (sym (stores-append older (Store e ∷ newer)) ∙ none)
 
--- a list that a buffer stands for, with one more
+-- after an issue, the buffer stands for its list with one more store
 pub store_last : {B : Type 0} (ops : BufferOps B) (b : B) (ps : List Pending) (c : ℕ) (v : ℤ) → ops.buffered ≡ true → Stands ops b ps
     → Stands ops (ops.issue b c v) (ps ++ Store (record { cell = c; value = v }) ∷ [])
 store_last ops b ps c v buffered s = record {
@@ -75,7 +77,7 @@ newest-append [] fs c = sym (or_none (newest fs c))
 newest-append (e ∷ es) fs c = ap (λ o. option_or o (if e.cell == c then Some e.value else None)) (newest-append es fs c)
     ∙ or_assoc (newest fs c) (newest es c) (if e.cell == c then Some e.value else None)
 
--- the newest store to its cell is the last
+-- a store at the end of the list is the newest to its cell
 pub newest_last : (ps : List Pending) (c : ℕ) (v : ℤ) → newest (stores (ps ++ Store (record { cell = c; value = v }) ∷ [])) c ≡ Some v
 newest_last ps c v =
     ap (λ es. newest es c) (stores-append ps (Store (record { cell = c; value = v }) ∷ []))

@@ -1,4 +1,4 @@
--- Partial store order meets the laws.
+-- Partial store order obeys the laws.
 use Rattle.std.proofs.Common.{
   ◌≡◌,
   ℕ,
@@ -35,25 +35,13 @@ use Rattle.std.specs.Option.{option_or}
 use Rattle.std.specs.FinMap as fin
 use Rattle.std.proofs.lemmas.Bool.{false≢true, not-true, or_parts, eqb-true}
 use Rattle.std.specs.Cmp.{nat_eq_equiv}
-use Rattle.tc_base.specs.Buffers.{
-  Entry,
-  Segment,
-  values_to,
-  with_values,
-  has_no_store,
-  issue_last,
-  last_value,
-  first_values,
-  drop_first,
-  may_drain_cell,
-  cell_buffer,
-  newest,
-  is_nil,
-}
-use Rattle.tc_base.specs.declared.model.Model.TheVariants.{Pso}
+use Rattle.tc_base.specs.Buffers.{Entry}
+use Rattle.store_buffers.specs.Buffers.{Segment, values_to, with_values, has_no_store, issue_last, last_value, first_values, drop_first, may_drain_cell, cell_buffer, newest}
+use Rattle.list_laws.specs.Lists.{is_nil}
+use Rattle.memory_models.specs.declared.model.Model.TheVariants.{Pso}
 use Rattle.store_buffers.specs.Pending.{Pending, Store, Bar, stores, has_bar, binds_cells, waits, Stands, put}
 use Rattle.store_buffers.specs.Laws.{Laws, SomeDrains, TakesOut}
-use Rattle.tc_base.proofs.Options.{or_none}
+use Rattle.list_laws.proofs.Options.{or_none}
 use Rattle.store_buffers.specs.helpers.Lists.{or_assoc}
 use Rattle.store_buffers.specs.helpers.Segments.{
   IsTidy,
@@ -75,7 +63,7 @@ use Rattle.store_buffers.specs.helpers.Segments.{
   with_last-with_first,
 }
 
--- the segments that a list makes: the first, and those behind its first bar
+-- the segments that a list makes: the first, and those after its first bar
 first : List Pending → Segment
 first [] = fin.empty
 first (Store e ∷ ps) = with_first e.cell e.value (first ps)
@@ -129,7 +117,7 @@ made_of_segments : (qs : List Pending) → fold (put cell_buffer) (fin.empty ∷
 unfolding first rest
 made_of_segments qs = put_all [] qs
 
--- a buffer that stands for a list is the segments that the list makes
+-- a buffer that stands for a list consists of the segments that the list makes
 are_segments : (b : List Segment) (ps : List Pending) → Stands cell_buffer b ps → b ≡ segments ps
 are_segments b ps s = s.made ∙ made_of_segments ps
 
@@ -150,7 +138,7 @@ last_after : {A : Type 0} (x : A) (xs : List A) → last_or (Some x) xs ≡ opti
 last_after x [] = refl
 last_after x (y ∷ xs) = last_after y xs ∙ some_either (last_or None xs) y x ∙ ap (λ o. option_or o (Some x)) (sym (last_after y xs))
 
--- one more store before the others counts where it is to that cell and there is no other
+-- a store put before the others is forwarded only if it is to that cell and no other store is
 pub forward_behind : (s : Segment) (o : Option ℤ) (d : ℕ) (w : ℤ) (c : ℕ) (b : Bool) → (d == c) ≡ b
     → option_or o (last_or None (values_to (with_first d w s) c)) ≡ option_or (option_or o (last_or None (values_to s c))) (cond b (Some w) None)
 forward_behind s o d w c true e =
@@ -171,7 +159,7 @@ forward_law (Store e ∷ ps) c =
     ∙ ap (λ o. option_or o (cond (e.cell == c) (Some e.value) None)) (forward_law ps c)
 forward_law (Bar ∷ ps) c = ap (λ vs. option_or (last_value (segments ps) c) (last_or None vs)) (values-empty c) ∙ or_none _ ∙ forward_law ps c
 
--- a store to the cell with no bar and no other store to the cell before it
+-- a store to the cell, with no bar and no other store to the cell before it
 record IsFirst (ps : List Pending) (c : ℕ) : Type 0 where
   older : List Pending
   store : Entry
@@ -200,7 +188,7 @@ is_first_by d ps c false e some behind =
       is_free = waits_not d f.older c e f.no_bar f.is_free;
     }
 
--- a value in the first segment is that of such a store
+-- if the first segment has values to a cell, there is such a store
 is_first : (ps : List Pending) (c : ℕ) → is_nil (values_to (first ps) c) ≡ false → IsFirst ps c
 unfolding first
 is_first [] c some = absurd (false≢true (sym some ∙ ap is_nil (values-empty c)))
@@ -233,7 +221,7 @@ may_drain : (ps : List Pending) (form : Option ℕ) → may_drain_cell (segments
 may_drain ps None may = absurd (false≢true may)
 may_drain ps (Some c) may = some_drains ps c may
 
--- with no bar before it a store is in the first segment
+-- a store with no bar before it is in the first segment
 in_first_segment : (older : List Pending) (e : Entry) (newer : List Pending) → has_bar older ≡ false
     → is_nil (values_to (first (older ++ Store e ∷ newer)) e.cell) ≡ false
 unfolding first

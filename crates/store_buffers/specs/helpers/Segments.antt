@@ -1,4 +1,4 @@
--- Segments, by the values that they have to each cell.
+-- Segments, compared by their values to each cell.
 use Rattle.std.proofs.Common.{
   ◌≡◌,
   ℕ,
@@ -28,9 +28,10 @@ use Rattle.std.specs.FinMap.{get-empty, get-insert, get-remove, len-empty, empty
 use Rattle.std.specs.Ordering.{nat_cmp}
 use Rattle.std.specs.Cmp.{nat_cmp_total, unsigned_tied, nat_eq_equiv}
 use Rattle.std.proofs.lemmas.Bool.{false≢true, eqb-true}
-use Rattle.tc_base.specs.Buffers.{Segment, values_to, with_values, has_no_store, first_values, drop_first, is_nil}
+use Rattle.store_buffers.specs.Buffers.{Segment, values_to, with_values, has_no_store, first_values, drop_first}
+use Rattle.list_laws.specs.Lists.{is_nil}
 
--- a map has a queue only where it has values
+-- the entry of a cell with these values: None if there are none
 abbrev pub some_values : List ℤ → Option (List ℤ)
 some_values [] = None
 some_values (v ∷ vs) = Some (v ∷ vs)
@@ -82,7 +83,7 @@ has_store_by s c false none some = refl
 pub has_store : (s : Segment) (c : ℕ) → is_nil (values_to s c) ≡ false → has_no_store s ≡ false
 has_store s c some = has_store_by s c _ refl some
 
--- where the first segment has no store the others count, and else it alone
+-- only the first segment counts if it has a store; otherwise the later ones do
 pub first_values-store : (s : Segment) (ss : List Segment) (c : ℕ) → has_no_store s ≡ false → first_values (s ∷ ss) c ≡ values_to s c
 first_values-store s ss c e = ap (λ b. cond b (first_values ss c) (values_to s c)) e
 
@@ -96,7 +97,7 @@ first_values-past ss c = ap (λ b. cond b (first_values ss c) (values_to fin.emp
 pub drop_first-past : (ss : List Segment) (c : ℕ) → drop_first (fin.empty ∷ ss) c ≡ fin.empty ∷ drop_first ss c
 drop_first-past ss c = ap (λ b. cond b (fin.empty ∷ drop_first ss c) (with_values fin.empty c (drop 1 (values_to fin.empty c)) ∷ ss)) no_store-empty
 
--- one more store before those of a segment
+-- the segment with one more store in front
 abbrev pub with_first : ℕ → ℤ → Segment → Segment
 with_first c v s = with_values s c (v ∷ values_to s c)
 
@@ -116,7 +117,7 @@ cond_back : {A : Type 0} (b : Bool) (f : ℕ → A) (c d : ℕ) (x : A) → (d =
 cond_back true f c d x e = ap f (sym (eqb-true d c e))
 cond_back false f c d x e = refl
 
--- what was put in is taken back by what was there
+-- putting back the old values of a cell undoes a change
 pub with_values-back : (s : Segment) (c : ℕ) (vs : List ℤ) → IsTidy s → with_values (with_values s c vs) c (values_to s c) ≡ s
 with_values-back s c vs t = same_values _ s (tidy-with_values _ c _ (tidy-with_values s c vs t)) t (λ d.
     values-with_values (with_values s c vs) c (values_to s c) d
@@ -131,7 +132,7 @@ either_first false b x y z e = refl
 not_both : (x c d : ℕ) → (c == d) ≡ false → (x == c) ≡ true → (x == d) ≡ true → ⊥
 not_both x c d other p q = false≢true (sym other ∙ ap (λ y. y == d) (sym (eqb-true x c p)) ∙ q)
 
--- values to one cell, and a first store to another
+-- setting the values to one cell commutes with a first store to another
 pub with_values-with_first : (s : Segment) (c : ℕ) (vs : List ℤ) (d : ℕ) (w : ℤ) → (c == d) ≡ false → IsTidy s
     → with_values (with_first d w s) c vs ≡ with_first d w (with_values s c vs)
 with_values-with_first s c vs d w other t =
@@ -145,11 +146,11 @@ with_values-with_first s c vs d w other t =
     ∙ ap (λ b. cond b vs (values_to s d)) (nat_eq_equiv.symm d c ∙ other))
     ∙ ap (cond (x == d) (w ∷ values_to s d)) (values-with_values s c vs x)))
 
--- one more store after those of a segment
+-- the segment with one more store at the end
 abbrev pub with_last : ℕ → ℤ → Segment → Segment
 with_last c v s = with_values s c (values_to s c ++ v ∷ [])
 
--- a first store and a last one to one cell
+-- a first store and a last store to one cell commute
 with_last-with_first-same : (s : Segment) (c : ℕ) (v w : ℤ) → IsTidy s → with_last c v (with_first c w s) ≡ with_first c w (with_last c v s)
 with_last-with_first-same s c v w t =
     same_values _ _ (tidy-with_values _ c _ (tidy-with_first c w s t)) (tidy-with_first c w _ (tidy-with_values s c _ t)) (λ x.
@@ -175,6 +176,6 @@ by_cell s c v d w false e t =
     ap (λ us. with_values (with_first d w s) c (us ++ v ∷ [])) (values-with_first-other d w s c e)
     ∙ with_values-with_first s c _ d w e t
 
--- a first store and a last one may be put in either way round
+-- a first store and a last store commute
 pub with_last-with_first : (s : Segment) (c : ℕ) (v : ℤ) (d : ℕ) (w : ℤ) → IsTidy s → with_last c v (with_first d w s) ≡ with_first d w (with_last c v s)
 with_last-with_first s c v d w t = by_cell s c v d w _ refl t

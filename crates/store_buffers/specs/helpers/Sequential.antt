@@ -1,8 +1,9 @@
--- Sequential consistency meets the laws.
+-- Sequential consistency obeys the laws.
 use Rattle.std.proofs.Common.{refl, sym, ap, ◌∙◌}
 use Rattle.std.proofs.lemmas.Bool.{false≢true}
-use Rattle.tc_base.specs.Buffers.{no_buffer, newest, is_nil}
-use Rattle.tc_base.specs.declared.model.Model.TheVariants.{Sc}
+use Rattle.store_buffers.specs.Buffers.{no_buffer, newest}
+use Rattle.list_laws.specs.Lists.{is_nil}
+use Rattle.memory_models.specs.declared.model.Model.TheVariants.{Sc}
 use Rattle.store_buffers.specs.Pending.{stores, binds_all}
 use Rattle.store_buffers.specs.Laws.{Laws}
 use Rattle.store_buffers.specs.helpers.Lists.{store_there}

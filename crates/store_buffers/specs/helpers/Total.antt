@@ -1,4 +1,4 @@
--- Total store order meets the laws.
+-- Total store order obeys the laws.
 use Rattle.std.proofs.Common.{
   ◌≡◌,
   ℕ,
@@ -26,8 +26,10 @@ use Rattle.std.proofs.Common.{
   append-nil,
 }
 use Rattle.std.proofs.lemmas.Bool.{false≢true}
-use Rattle.tc_base.specs.Buffers.{Entry, fifo_buffer, newest, no_entry, is_nil}
-use Rattle.tc_base.specs.declared.model.Model.TheVariants.{Tso}
+use Rattle.tc_base.specs.Buffers.{Entry}
+use Rattle.store_buffers.specs.Buffers.{fifo_buffer, newest, no_entry}
+use Rattle.list_laws.specs.Lists.{is_nil}
+use Rattle.memory_models.specs.declared.model.Model.TheVariants.{Tso}
 use Rattle.store_buffers.specs.Pending.{Pending, Store, Bar, stores, binds_all, waits, Stands, put}
 use Rattle.store_buffers.specs.Laws.{Laws, SomeDrains, TakesOut}
 use Rattle.store_buffers.specs.helpers.Lists.{stores-append}
@@ -37,14 +39,14 @@ put_all b [] = sym (append-nil b)
 put_all b (Store e ∷ ps) = put_all (b ++ e ∷ []) ps ∙ append_assoc b (e ∷ []) (stores ps)
 put_all b (Bar ∷ ps) = put_all b ps
 
--- the queue is the stores of each list that it stands for
+-- the queue is the stores of any list that it stands for
 queue : (b : List Entry) (ps : List Pending) → Stands fifo_buffer b ps → b ≡ stores ps
 queue b ps s = s.made ∙ put_all [] ps
 
 stands : (ps : List Pending) → Stands fifo_buffer (stores ps) ps
 stands ps = record { made = sym (put_all [] ps); issued = λ e. absurd (false≢true (sym e)) }
 
--- nothing older than a store that may drain is a store
+-- no store is older than one that may drain
 no_older : (older : List Pending) (c : ℕ) → waits binds_all older c ≡ false → stores older ≡ []
 no_older [] c e = refl
 no_older (Store d ∷ older) c e = absurd (false≢true (sym e))

@@ -1,4 +1,4 @@
--- What the code's steps pass to one another.
+-- The states that the code's steps pass to each other.
 use Rattle.std.specs.Prelude.{ℕ, List, Bool, true, ◌&&◌, nat_lt}
 use Rattle.std.specs.List.{All, list_all}
 use Rattle.tc_code.specs.Expr.{names_slots}
@@ -9,7 +9,7 @@ use Rattle.sym_exec.specs.Executed.{Executed}
 use Rattle.sym_exec.specs.Thread.{Doing, HandsOf}
 use Rattle.sym_exec.specs.declared.thread.Thread.{Thread}
 
--- a thread's execution with the nodes of the terms
+-- a thread of the code, with its nodes, as an execution
 abbrev pub seen : Thread → List Node → Doing
 seen t nodes = record {
   nodes = nodes;
@@ -22,11 +22,11 @@ seen t nodes = record {
   creates = t.creates.items;
 }
 
--- all terms that threads hand to children are of the nodes
+-- all terms that threads hand to children are indexes into the nodes
 abbrev pub HaveTerms : Executed → Type 0
 HaveTerms x = All (λ c. All (HandsOf x.nodes) c.creates) x.symbolic.threads
 
--- whether all slots that an instruction names are among the first so many
+-- whether all slots that an instruction names are less than n
 abbrev pub names_within : ℕ → Instr → Bool
 names_within n (Set k e) = nat_lt k n && names_slots n e
 names_within n (Load k c) = nat_lt k n

@@ -10,9 +10,10 @@ use Rattle.std.proofs.lemmas.Bool.{and_parts}
 use Rattle.std.proofs.lemmas.List.Sums.{fold-append}
 use Rattle.std.proofs.lemmas.Option.{same_Some, slice_get_within, get_or_from_slice_get}
 use Rattle.tc_base.specs.Buffers.{BufferOps}
-use Rattle.tc_base.specs.Logs.{Log, ThreadPath}
+use Rattle.run_log.specs.Logs.{Log}
+use Rattle.tc_base.specs.Paths.{ThreadPath}
 use Rattle.tc_base.specs.States.{Local, Thread}
-use Rattle.tc_base.specs.declared.model.Model.{Model}
+use Rattle.memory_models.specs.declared.model.Model.{Model}
 use Rattle.tc_code.specs.Code.{Code, instr_at}
 use Rattle.tc_code.specs.Expr.{Expr, names_slots, value_of as expr_value_of}
 use Rattle.tc_code.specs.Lawful.{Array, keeps_apart, IsLawful}
@@ -28,7 +29,7 @@ use Rattle.run_history.specs.History.{Deed, Did, history}
 use Rattle.run_history.specs.Told.{steps_in, failed_in}
 use Rattle.run_history.proofs.Ints.{models_pass_ints}
 use Rattle.run_history.proofs.of_pending.In.{In, in_append}
-use Rattle.path_log.specs.Texts.{is_log}
+use Rattle.run_log.specs.Logs.{is_log}
 use Rattle.path_walk.specs.Fits.{Fits}
 use Rattle.path_walk.specs.Paths.{Walk, walk_of, paths_of}
 use Rattle.path_laws.specs.history.Along.{IsAlongPaths, IsThread}

@@ -1,7 +1,7 @@
--- What the accesses of paths ask of cells in a history.
+-- The accesses of paths in a history.
 use Rattle.std.specs.Prelude.{◌≡◌, ◌⊎◌, ℕ, ◌<◌, ℤ, Option, Some, None, List, [], ◌∷◌, ◌++◌, slice_get}
 use Rattle.std.specs.List.{Contains}
-use Rattle.tc_base.specs.Logs.{Log}
+use Rattle.run_log.specs.Logs.{Log}
 use Rattle.tc_base.specs.Names.{Name}
 use Rattle.tc_base.specs.declared.request.Request.{Request}
 use Rattle.tc_code.specs.Code.{Code}
@@ -16,7 +16,7 @@ use Rattle.sym_exec.specs.Executed.{Course}
 use Rattle.sym_exec.specs.declared.symbolic.Access.{Access}
 use Rattle.sym_laws.specs.Valued.{found}
 
--- a thread's step of a number is done, and asks this of a cell
+-- the step k of the thread n is done, and makes the access `asked`
 pub record IsAskedIn (h : List Deed) (n : Name) (k : ℕ) (asked : Asked) : Type 0 where
   pub older : List Deed
   pub newer : List Deed
@@ -26,7 +26,7 @@ pub record IsAskedIn (h : List Deed) (n : Name) (k : ℕ) (asked : Asked) : Type
   pub there : h ≡ older ++ Did n k request took other ∷ newer
   pub asks : asked_by took request ≡ asked ∷ []
 
--- an access of a thread of the paths is done, or is the thread's next step, where none has failed
+-- the access a of the thread t is done, or is its next step while no thread has failed
 pub record IsReachedIn (code : Code) (log : Log) (nodes : List Node) (h : List Deed) (t : ℕ) (a : Access) : Type 0 where
   pub walk : Walk
   pub course : Course

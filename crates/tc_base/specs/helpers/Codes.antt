@@ -1,4 +1,4 @@
--- No promise speaks of this file: states as stored data, by which a proof tells two of them apart.
+-- Helpers for proofs, in no public contract: states as stored data, so that they can be compared.
 use Rattle.std.specs.Prelude.{◌≡◌, ℕ, ℤ, Bool, true, false, List, Option, Some, None, refl}
 use Rattle.std.specs.Ordering.{nat_cmp}
 use Rattle.std.specs.Cmp.Lexicographic.{slice_cmp}

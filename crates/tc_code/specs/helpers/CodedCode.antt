@@ -1,4 +1,4 @@
--- No promise speaks of this file: code as stored data.
+-- Helpers for proofs, in no public contract: code as stored data.
 use Rattle.std.specs.Prelude.{ℕ, ℤ, List, refl}
 use Rattle.std.specs.Coded.{Coded, code_by, coded_ℕ, coded_ℤ, coded_list, coded×}
 use Rattle.tc_code.specs.declared.instr.Instr.{Instr}

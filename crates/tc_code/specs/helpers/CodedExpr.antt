@@ -1,14 +1,14 @@
--- No promise speaks of this file: an expression as stored data, the list of its parts, each operator after its operands.
+-- Helpers for proofs, in no public contract: an expression as stored data, in postfix order.
 use Rattle.std.specs.Prelude.{◌≡◌, ℕ, ℤ, List, [], ◌∷◌, ◌++◌, refl, ◌⊎◌}
 use Rattle.std.proofs.Common.{ap, ◌∙◌, inl, inr}
 use Rattle.std.specs.Coded.{Coded, code_by, coded_ℕ, coded_ℤ, coded_list, coded⊎}
-use Rattle.tc_base.specs.declared.arith.BinOp.{BinOp}
-use Rattle.tc_base.specs.declared.arith.UnOp.{UnOp}
-use Rattle.tc_base.specs.contracts.arith.BinOp as binary
-use Rattle.tc_base.specs.contracts.arith.UnOp as unary
+use Rattle.int_ops.specs.declared.arith.BinOp.{BinOp}
+use Rattle.int_ops.specs.declared.arith.UnOp.{UnOp}
+use Rattle.int_ops.specs.contracts.arith.BinOp as binary
+use Rattle.int_ops.specs.contracts.arith.UnOp as unary
 use Rattle.tc_code.specs.Expr.{Expr, Number, Slot, Unary, Binary}
 
--- a number, a slot, an operator over the one value that stands before, or one over the two
+-- a postfix part: a number, a slot, or a unary or binary operator
 abbrev Part : Type 0
 Part = (ℤ ⊎ ℕ) ⊎ (UnOp ⊎ BinOp)
 
@@ -18,7 +18,7 @@ parts (Slot k) = inl (inr k) ∷ []
 parts (Unary op a) = parts a ++ inr (inl op) ∷ []
 parts (Binary op a b) = parts a ++ parts b ++ inr (inr op) ∷ []
 
--- one part, over the trees that are open
+-- the stack of trees after one more part
 abbrev close : List Expr → Part → List Expr
 close trees (inl (inl n)) = Number n ∷ trees
 close trees (inl (inr k)) = Slot k ∷ trees

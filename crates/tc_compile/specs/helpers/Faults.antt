@@ -1,4 +1,4 @@
--- Helpers: the fault of a text as a reason why it has no code.
+-- Helpers: the fault of a text as the reason why it has no code.
 use Rattle.tc_lexer.specs.declared.fault.LexFault.TheVariants as lex
 use Rattle.tc_parser.specs.declared.fault.ParseFault.TheVariants as parse
 use Rattle.tc_parser.specs.declared.fault.TextFault.{TextFault}

@@ -1,6 +1,6 @@
 -- Helpers: bodies that are being written.
 use Rattle.std.specs.Prelude.{◌≡◌, ℕ, ◌+◌, ◌<◌, ◌≤◌, ◌^◌, Bool, true, false, [], ◌∷◌, ◌++◌, List, length, set, replicate}
-use Rattle.tc_base.specs.declared.limits.TheConstants.{PROGRAM_BYTES}
+use Rattle.tc_limits.specs.declared.limits.TheConstants.{PROGRAM_BYTES}
 use Rattle.tc_code.specs.declared.instr.Instr.{Instr}
 use Rattle.tc_code.specs.declared.instr.Instr.TheVariants.{Branch, Goto}
 use Rattle.tc_tree.specs.Grammar as grammar
@@ -12,7 +12,7 @@ use Rattle.tc_lower.specs.Statements.{Lowered, all_lowered, passing, after_body}
 use Rattle.tc_lower.specs.Values.{Evaluated, evaluated}
 use Rattle.tc_lower.specs.helpers.Seen.{plain_scope}
 
--- each instruction has its line, and these fit
+-- each instruction has its line, and there is room for these
 pub record IsReady (b : Body) (all : Lowered) : Type 0 where
   pub even : length b.lines.items ≡ length b.code.draft
   pub room : b.code.free ≤ length b.code.draft + PROGRAM_BYTES
@@ -57,7 +57,7 @@ open_branch line at test body more = record {
   free = body.free;
 }
 
--- where that jump will be
+-- the place of that jump, if there will be one
 abbrev pub jump_place : Bool → ℕ → List ℕ
 jump_place false place = []
 jump_place true place = place ∷ []
@@ -67,7 +67,7 @@ abbrev pub Below : ℕ → List ℕ → Type 0
 Below n [] = Unit {0}
 Below n (k ∷ ks) = (k < n) × Below n ks
 
--- each of these places has the jump to the end
+-- the instructions with a jump to the end at each of these places
 abbrev pub filled : ℕ → List ℕ → List Instr → List Instr
 filled end [] is = is
 filled end (k ∷ ks) is = filled end ks (set is k (Goto end))

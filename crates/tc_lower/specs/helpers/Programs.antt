@@ -1,13 +1,13 @@
--- Helpers: what leaves room for the code of a program.
+-- Helpers: when there is room for the code of a program.
 use Rattle.std.specs.Prelude.{ℕ, ◌+◌, ◌<◌, ◌≤◌, ◌^◌, List, [], ◌∷◌, length}
-use Rattle.tc_base.specs.declared.limits.TheConstants.{PROGRAM_BYTES}
+use Rattle.tc_limits.specs.declared.limits.TheConstants.{PROGRAM_BYTES}
 use Rattle.tc_tree.specs.declared.expression.Name.{Name}
 use Rattle.tc_tree.specs.Grammar.{Body, Thread}
 use Rattle.tc_lower.specs.declared.things.Named.{Named}
 use Rattle.tc_lower.specs.Things.{scope, own_things, ints}
 use Rattle.tc_lower.specs.Statements.{all_lowered}
 
--- a body has few slots, and few instructions
+-- the slots and the instructions of a body fit
 pub record BodyFits (source : List ℕ) (all : List Named) (parameters : List Name) (b : Body) : Type 0 where
   pub slots : length parameters + length b.locals ≤ PROGRAM_BYTES
   pub instrs : length (all_lowered (scope source (own_things parameters b.locals) all) 0 (length parameters + ints b.locals) b.statements).instrs < 2 ^ 18

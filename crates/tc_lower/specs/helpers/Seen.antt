@@ -1,6 +1,6 @@
--- Helpers: the parts of the lowering as the definitions have them.
+-- Helpers: the parts of the lowering as plain data.
 use Rattle.std.specs.Prelude.{◌≡◌, ◌+◌, ◌<◌, ◌≤◌, ◌^◌, ◌++◌, List, Option, length}
-use Rattle.tc_base.specs.declared.limits.TheConstants.{PROGRAM_BYTES}
+use Rattle.tc_limits.specs.declared.limits.TheConstants.{PROGRAM_BYTES}
 use Rattle.tc_code.specs.declared.instr.Instr.{Instr}
 use Rattle.tc_tree.specs.Grammar.{Expression}
 use Rattle.tc_tree.specs.declared.expression.Name.{Name}
@@ -15,14 +15,14 @@ use Rattle.tc_lower.specs.Values.{Evaluated, evaluated, Arguments, arguments}
 abbrev pub plain_scope : Scope → Name → Option Thing
 plain_scope s = scope s.source.now s.own.now s.all.now
 
--- an expression that is written next
+-- the lowering of an expression that is written next
 abbrev pub evaluated_by : Scope → Writer → Expression → Evaluated
 evaluated_by s w e = evaluated (plain_scope s) (length w.draft) w.free e
 
 abbrev pub arguments_by : Scope → Writer → List Expression → Arguments
 arguments_by s w es = arguments (plain_scope s) (length w.draft) w.free es
 
--- these instructions fit
+-- the writer has room for these instructions
 pub record HasRoom (w : Writer) (is : List Instr) : Type 0 where
   pub room : w.free ≤ length w.draft + PROGRAM_BYTES
   pub fits : length w.draft + length is < 2 ^ 18

@@ -1,4 +1,4 @@
--- No promise speaks of this file: what a state needs for a thread to do an instruction.
+-- What a state needs for a thread to do an instruction. No promise uses this file.
 use Rattle.std.specs.Prelude.{◌≡◌, ◌+◌, ◌<◌, ◌^◌, length, IsTrue, Some, None}
 use Rattle.std.specs.FinMap as fin
 use Rattle.tc_base.specs.Names.{Name, child}
@@ -12,19 +12,19 @@ use Rattle.tc_code.specs.Step.{instr_of}
 use Rattle.run_laws.specs.helpers.Asks.{AsksWithin}
 use Rattle.tc_threads.specs.CanDo.{CanDo, Starts, is_branch}
 
--- lawful code has the instruction at the thread's place, and a place after it
+-- the code is lawful, i is the thread's next instruction, and the place after it is below 2^64
 pub record DoesNext (code : Code) (t : Local) (i : Instr) : Type 0 where
   pub lawful : IsLawful code
   pub at : instr_of code t ≡ Some i
   pub room : t.instruction + 1 < 2 ^ 64
 
 module _ {B : Type 0} where
-  -- what is asked for is there
+  -- what the request asks for exists
   abbrev pub AsksIn : State B → Request → Type 0
   AsksIn s r = AsksWithin (length s.memory) (length s.owners) (length s.waiters) r
 
-  -- the thread of a name can do the instruction, what that asks for is there, a branch asks for nothing, and the name
-  -- of its next child is new
+  -- n can do the instruction, whose request names what exists and is silent for a branch, and n's
+  -- next child has a new name
   pub record CanPerform (code : Code) (s : State B) (n : Name) (i : Instr) (r : Request) (t : Thread B) : Type 0 where
     pub thread : CanDo code t.local i
     pub asked : AsksIn s r

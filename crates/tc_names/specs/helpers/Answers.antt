@@ -1,4 +1,4 @@
--- Helpers: what the parts of the check answer.
+-- Helpers: the results of the parts of the check.
 use Rattle.std.specs.Prelude.{◌≡◌, List, [], ◌∷◌, ◌++◌, Option, Some, None, Result, Ok, Err}
 use Rattle.tc_tree.specs.declared.expression.Name.{Name}
 use Rattle.tc_tree.specs.Seen.{SeenBranch}
@@ -7,12 +7,12 @@ use Rattle.tc_names.specs.declared.scope.Scope.{Scope}
 use Rattle.tc_names.specs.declared.scope.Meaning.{Meaning}
 use Rattle.tc_names.specs.Names.{expression_fault, statements_fault, ◌then◌, meaning_in}
 
--- the answer says whether there is a fault, and which
+-- the result is this fault, or success if there is none
 abbrev pub Tells : {A : Type 0} → Result A NameFault → Option NameFault → Type 0
 Tells (Ok a) fault = fault ≡ None
 Tells (Err f) fault = fault ≡ Some f
 
--- the body's own declarations and then the program's
+-- the scope of a body: its own declarations, then the program's
 abbrev pub plain_scope : Scope → Name → Option Meaning
 plain_scope s = meaning_in s.source.now (s.own.now ++ s.all.now)
 

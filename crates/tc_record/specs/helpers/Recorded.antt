@@ -1,4 +1,4 @@
--- What is told of a run, but for the line of its failure.
+-- The record of a run without the line of its failure.
 use Rattle.std.specs.Prelude.{Result, Ok, Err}
 use Rattle.tc_record.specs.declared.seeded.Recorded.{Recorded}
 use Rattle.tc_record.specs.declared.seeded.Recorded.TheVariants as recorded

@@ -12,14 +12,14 @@ use Rattle.tc_record.specs.Seeded.{ended, behind, seeded_from}
 use Rattle.tc_record.specs.helpers.Paths.{IsWithin}
 
 module _ {B : Type 0} (ops : BufferOps B) (code : Code) where
-  -- what is known of the state at which a run ends so, or from which it goes on
+  -- what is known of a state in which a run ends this way, or from which it goes on
   abbrev pub IsEndAt : State B → Option End → Type 0
   IsEndAt s None = IsWithin s × (s.failed ≡ None)
   IsEndAt s (Some end.Failed) = IsWithin s × IsSome s.failed
   IsEndAt s (Some end.Deadlock) = IsWithin s × IsStuck ops code s
   IsEndAt s _ = Unit {0}
 
-  -- After a turn with a word the run that it began ends so, or goes on so, whatever words follow.
+  -- a turn with a word ends the run this way, or takes it from s to u, whatever words follow
   abbrev pub IsTurn : (s u : State B) (before after : List Move) → ℕ → Option End → Type 0
   IsTurn s u before after word end = (words : List ℕ) → behind before (seeded_from ops code s (word ∷ words))
       ≡ option_map_or (λ e. behind after (ended u e)) end (behind after (seeded_from ops code u words))

@@ -1,6 +1,6 @@
--- Helpers: what the readers answer.
+-- Helpers: the results of the readers.
 use Rattle.std.specs.Prelude.{◌≡◌, ℕ, ◌<◌, ◌≤◌, List, [], ◌∷◌, ◌++◌, length, Option, Some, None, Bool, true, false}
-use Rattle.tc_base.specs.declared.place.Place.{Place}
+use Rattle.tc_lexer.specs.declared.place.Place.{Place}
 use Rattle.tc_lexer.specs.declared.token.Keyword.TheVariants.{Int, Mutex, Cond, Tid}
 use Rattle.tc_lexer.specs.declared.token.Sign.TheVariants.{OpenParen, CloseParen, OpenBrace, Semicolon}
 use Rattle.tc_tree.specs.declared.program.Initial.{Initial}
@@ -12,21 +12,21 @@ use Rattle.tc_syntax.specs.declared.reader.Stop.{Stop}
 use Rattle.tc_syntax.specs.declared.reader.Stop.TheVariants.{Memory, Left}
 use Rattle.tc_syntax.specs.helpers.Reading.{Expected, Operand, Operators, Statements as MoreStatements, Globals, fault, next_level, statement}
 
--- where these are expected, and whatever after them, the first unexpected word is where the reader stopped
+-- if `es` and then anything is expected, the reader stopped at the first unexpected word
 abbrev pub Stops : List Expected → List Word → Stop → Type 0
 Stops es ws Memory = Unit {0}
 Stops es ws (Left n) = (s : List Expected) → fault (Some (es ++ s)) ws ≡ Some n
 
--- where these are expected, and whatever after them, that is expected at the rest
+-- if `es` and then anything is expected at `ws`, that anything is expected at `rest`
 abbrev pub Moves : List Expected → List Word → List Word → Type 0
 Moves es ws rest = (s : List Expected) → fault (Some (es ++ s)) ws ≡ fault (Some s) rest
 
--- the first unexpected word of a program is where the reader stopped
+-- the reader stopped at the first unexpected word of a program
 abbrev pub Ends : List Word → Stop → Type 0
 Ends ws Memory = Unit {0}
 Ends ws (Left n) = fault (Some (Globals ∷ [])) ws ≡ Some n
 
--- what stands where these are expected, after some words that stand before it
+-- a reader of `es` found a: `front` and the words up to `rest` spell it
 pub record IsRead {A : Type 0} (spell : A → List Word → List Word) (IsGood : A → Type 0) (front : List Word) (es : List Expected) (ws : List Word)
     (a : A) (rest : List Word) : Type 0 where
   pub spelled : front ++ ws ≡ spell a rest
@@ -34,7 +34,7 @@ pub record IsRead {A : Type 0} (spell : A → List Word → List Word) (IsGood :
   pub moves : Moves es ws rest
   pub shorter : length rest ≤ length ws
 
--- an expression of operators that bind so tightly, as long as it can be
+-- the longest expression whose operators bind at least this tightly
 pub record IsTight (least : ℕ) (ws : List Word) (e : Expression) (rest : List Word) : Type 0 where
   pub spelled : ws ≡ expression_then e rest
   pub grouped : IsGrouped e
@@ -43,7 +43,7 @@ pub record IsTight (least : ℕ) (ws : List Word) (e : Expression) (rest : List 
   pub moves : (s : List Expected) → fault (Some (Operand ∷ Operators ∷ s)) ws ≡ fault (Some (Operators ∷ s)) rest
   pub shorter : length rest < length ws
 
--- an operand
+-- an operand: `front` and the words up to `rest` spell it
 pub record IsOperand (front : List Word) (es : List Expected) (ws : List Word) (e : Expression) (rest : List Word) : Type 0 where
   pub spelled : front ++ ws ≡ expression_then e rest
   pub grouped : IsGrouped e
@@ -51,7 +51,7 @@ pub record IsOperand (front : List Word) (es : List Expected) (ws : List Word) (
   pub moves : Moves es ws rest
   pub shorter : length rest < length (front ++ ws)
 
--- whether a statement is next
+-- whether an option has a value
 abbrev pub is_some : {A : Type 0} → Option A → Bool
 is_some (Some a) = true
 is_some None = false
@@ -62,7 +62,7 @@ begins_statement (w ∷ ws) = is_some (statement w)
 
 -- ---- statements
 
--- a statement where one begins
+-- a statement that the words begin with
 pub record IsStatement (ws : List Word) (a : Statement) (rest : List Word) : Type 0 where
   pub spelled : ws ≡ statement_then a rest
   pub good : IsWell a
@@ -86,7 +86,7 @@ IsWellBranch place b = (b.place ≡ place) × IsGrouped b.condition × AreWell b
 abbrev pub IsAny : {A : Type 0} → A → Type 0
 IsAny a = Unit {0}
 
--- what stands where more of the same may stand
+-- what a reader found while `before` was expected; afterwards, `after` is
 pub record IsPassed {A : Type 0} (spell : A → List Word → List Word) (IsGood : A → Type 0) (before after : Expected) (ws : List Word) (a : A)
     (rest : List Word) : Type 0 where
   pub spelled : ws ≡ spell a rest
@@ -111,6 +111,6 @@ IsWellBody b = AreWell b.statements
 abbrev pub IsWellThread : Thread → Type 0
 IsWellThread t = AreWell t.body.statements
 
--- what an int begins with, with the semicolon
+-- an initial value and its semicolon
 abbrev pub initial_ends : Initial → List Word → List Word
 initial_ends i rest = initial_then i (ASign Semicolon ∷ rest)

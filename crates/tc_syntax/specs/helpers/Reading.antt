@@ -1,4 +1,4 @@
--- Helpers: what may follow, as a stack of what is still expected. What the parser finds is said without it, by program_words.
+-- Helpers: what may follow, as a stack of what is expected. Public contracts use program_words.
 use Rattle.std.specs.Prelude.{ℕ, suc, nat_eq, List, [], ◌∷◌, ◌++◌, length, Bool, true, false, Option, Some, None, option_map}
 use Rattle.tc_lexer.specs.declared.token.Keyword.TheVariants as keyword
 use Rattle.tc_lexer.specs.declared.token.Sign.{Sign as AnySign}
@@ -127,12 +127,12 @@ operator_of AndAnd = Some operator.And
 operator_of OrOr = Some operator.Or
 operator_of _ = None
 
--- the operator that the word is
+-- the binary operator that a word is, if any
 abbrev pub infix_of : Word → Option Operator
 infix_of (ASign s) = operator_of s
 infix_of _ = None
 
--- a condition and a block
+-- a condition in parentheses and a block
 abbrev pub guarded : List Expected
 guarded = Just OpenParen ∷ Operand ∷ Operators ∷ Just CloseParen ∷ Just OpenBrace ∷ Statements ∷ End ∷ []
 
@@ -174,7 +174,7 @@ abbrev pub same : Bool → Option (List Expected)
 same true = Some []
 same false = None
 
--- what is expected in its place after a word, where it begins so
+-- what replaces an expected part after its first word, or None if it can't begin with that
 abbrev pub first : Expected → Word → Option (List Expected)
 first (Just k) (ASign s) = same (nat_eq (sign_code k) (sign_code s))
 first (Just k) _ = None
@@ -231,7 +231,7 @@ first Initial (ASign Minus) = Some (AnyNumber ∷ Just Semicolon ∷ [])
 first Initial (ANumber n) = Some (Just Semicolon ∷ [])
 first Initial _ = None
 
--- whether nothing may stand there
+-- whether an expected part may be empty
 abbrev pub skips : Expected → Bool
 skips Subscript = true
 skips Operators = true
@@ -244,12 +244,12 @@ skips Parameters = true
 skips OtherParameters = true
 skips _ = false
 
--- what is expected after a word, where it is one that was
+-- what is expected after a word, or None if the word wasn't expected
 abbrev pub step : List Expected → Word → Option (List Expected)
 step [] w = None
 step (x ∷ s) w = elim (first x w) [ Some es ↦ Some (es ++ s) | None ↦ elim (skips x) [ true ↦ step s w | false ↦ None ] ]
 
--- whether the text may end
+-- whether the text may end here
 abbrev pub may_end : List Expected → Bool
 may_end [] = true
 may_end (x ∷ s) = elim (skips x) [ true ↦ may_end s | false ↦ false ]
@@ -258,13 +258,13 @@ abbrev pub at_end : Bool → Option ℕ
 at_end true = None
 at_end false = Some 0
 
--- how many words are left at the first that isn't expected, or 0 where the text may not end; None after a text that was
+-- how many words are left at the first unexpected one, or 0 for an early end; None without a fault
 abbrev pub fault : Option (List Expected) → List Word → Option ℕ
 fault None ws = Some (suc (length ws))
 fault (Some s) [] = at_end (may_end s)
 fault (Some s) (w ∷ ws) = fault (step s w) ws
 
--- how tightly the operator binds that is next, or 0 where none is
+-- how tightly an operator binds, or 0 without one
 abbrev pub level_of : Option Operator → ℕ
 level_of (Some op) = level op
 level_of None = 0

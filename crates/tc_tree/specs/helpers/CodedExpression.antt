@@ -1,9 +1,9 @@
--- An expression as stored data: the list of its parts, each after what it stands over.
+-- An expression as stored data: its parts in postfix order.
 use Rattle.std.specs.Prelude.{◌≡◌, pos, Option, Some, None, List, [], ◌∷◌, ◌++◌, refl, ◌⊎◌}
 use Rattle.std.proofs.Common.{ap, ◌∙◌, inl, inr}
 use Rattle.std.specs.Coded.{Coded, code_by, coded_list, coded⊎, coded_option}
-use Rattle.tc_base.specs.declared.arith.UnOp.{UnOp}
-use Rattle.tc_base.specs.contracts.arith.UnOp as unary
+use Rattle.int_ops.specs.declared.arith.UnOp.{UnOp}
+use Rattle.int_ops.specs.contracts.arith.UnOp as unary
 use Rattle.tc_tree.specs.declared.expression.Name.{Name}
 use Rattle.tc_tree.specs.declared.expression.Number.{Number as AnyNumber}
 use Rattle.tc_tree.specs.declared.expression.Operator.{Operator}
@@ -12,7 +12,7 @@ use Rattle.tc_tree.specs.contracts.expression.Number as number
 use Rattle.tc_tree.specs.contracts.expression.Operator as operator
 use Rattle.tc_tree.specs.Grammar.{Expression, Number, Variable, Element, Paren, Unary, Binary}
 
--- a number, a variable, an element at the one expression that stands before, one in parentheses, an operator over one, or one over two
+-- a postfix part: a number, a variable, an element, parentheses, or a unary or binary operator
 abbrev Part : Type 0
 Part = (AnyNumber ⊎ Name) ⊎ (Option Name ⊎ (UnOp ⊎ Operator))
 
@@ -24,7 +24,7 @@ parts (Paren e) = parts e ++ inr (inl None) ∷ []
 parts (Unary op a) = parts a ++ inr (inr (inl op)) ∷ []
 parts (Binary op a b) = parts a ++ parts b ++ inr (inr (inr op)) ∷ []
 
--- one part, over the trees that are open
+-- the stack of trees after one more part
 abbrev close : List Expression → Part → List Expression
 close trees (inl (inl n)) = Number n ∷ trees
 close trees (inl (inr x)) = Variable x ∷ trees

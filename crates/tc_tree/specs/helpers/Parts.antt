@@ -13,6 +13,6 @@ statements_seen ss = statements_of (map statement_of ss)
 abbrev pub otherwise_seen : List Branch → Option Block → Otherwise
 otherwise_seen others last = otherwise_of (map branch_of others) (option_map block_of last)
 
--- an `if` of this test and body, and what stands after it
+-- an `if` of this test and body, and what follows it
 abbrev pub if_of : SeenBranch → Otherwise → grammar.Statement
 if_of b o = grammar.If b.place b.condition b.body.statements b.body.end o

@@ -1,4 +1,4 @@
--- What is written of each worker in main.
+-- The text that main has for each worker.
 use Rattle.std.specs.Prelude.{ℕ, List}
 use Rattle.tc_workload.specs.Workload.{declares, creates, joins, adds}
 use Rattle.tc_workload.specs.declared.program.Piece.{Piece}

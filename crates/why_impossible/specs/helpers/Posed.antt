@@ -1,7 +1,7 @@
--- What a derivation shows over clauses that are posed.
+-- What a derivation proves over the clauses of a log.
 use Rattle.std.specs.Prelude.{List}
 use Rattle.std.specs.List.{All}
-use Rattle.tc_base.specs.Logs.{Log}
+use Rattle.run_log.specs.Logs.{Log}
 use Rattle.tc_code.specs.Code.{Code}
 use Rattle.refute_check.specs.Refutations.{IsClosed, IsOpen}
 use Rattle.refute_check.specs.declared.line.Line.{Line}
@@ -13,7 +13,7 @@ use Rattle.why_impossible.specs.declared.reason.Reason.{Reason}
 use Rattle.why_impossible.specs.helpers.There.{IsSmall}
 
 module _ (code : Code) (log : Log) (p : Posed) (lines : List Line) where
-  -- the reasons tell groups, or the cause of dead paths
+  -- the reasons name groups, or the cause of dead paths
   pub data AreReasonsOn (reasons : List Reason) : Type 0 where
     Groups : TellsGroups p lines reasons → All IsSmall reasons → AreReasonsOn reasons
     Cause : TellsCause code log p reasons → AreReasonsOn reasons

@@ -1,6 +1,6 @@
 use Rattle.std.proofs.Common.{◌≡◌, subst, sym, IfOk}
 use Rattle.refute_check.specs.Refutations.{start}
-use Rattle.tc_base.specs.Buffers.{buffer_of}
+use Rattle.store_buffers.specs.Buffers.{buffer_of}
 use Rattle.clap_solve.specs.Clauses.{bound_of}
 use Rattle.switch_clauses.specs.Clauses.{switch_clauses}
 use Rattle.clap_debug_cli.proofs.check.start_up_to.Goals as goal

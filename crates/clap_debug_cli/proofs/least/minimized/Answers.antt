@@ -1,5 +1,5 @@
 use Rattle.std.proofs.Common.{◌∙◌, ap, refl, unwrap_or}
-use Rattle.tc_base.specs.Buffers.{buffer_of}
+use Rattle.store_buffers.specs.Buffers.{buffer_of}
 use Rattle.clap_solve.specs.Clauses.{bound_of}
 use Rattle.clap_debug_cli.proofs.Causes.{err_of, other_minimize, unbuilt_answer, unbuilt_minimize}
 use Rattle.clap_debug_cli.proofs.Below.{has_byte_below}

@@ -1,5 +1,5 @@
 use Rattle.std.proofs.Common.{subst, sym, IfOk}
-use Rattle.tc_base.specs.Buffers.{buffer_of}
+use Rattle.store_buffers.specs.Buffers.{buffer_of}
 use Rattle.schedule_replay.specs.Verdicts.{IsVerdict}
 use Rattle.clap_debug_cli.proofs.replay.replay_under.Goals as goal
 

@@ -1,5 +1,5 @@
 use Rattle.std.proofs.Common.{subst, sym, IfOk}
-use Rattle.tc_base.specs.Buffers.{buffer_of}
+use Rattle.store_buffers.specs.Buffers.{buffer_of}
 use Rattle.clap_solve.specs.Clauses.{bound_of}
 use Rattle.clap_solve.specs.Solved.{IsSolved}
 use Rattle.clap_debug_cli.proofs.solve.solve_under.Goals as goal

@@ -1,5 +1,5 @@
 use Rattle.std.proofs.Common.{subst}
-use Rattle.tc_base.specs.Buffers.{buffer_of}
+use Rattle.store_buffers.specs.Buffers.{buffer_of}
 use Rattle.clap_solve.specs.Clauses.{bound_of}
 use Rattle.why_impossible.specs.Explained.{IsExplained}
 use Rattle.clap_debug_cli.proofs.Causes.{err_of}

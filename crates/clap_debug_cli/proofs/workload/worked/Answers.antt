@@ -1,6 +1,6 @@
 use Rattle.std.proofs.Common.{◌≡◌, ◌∙◌, ap, subst}
 use Rattle.tc_compile.specs.Programs.{IsCodeOf, IsWhyNoCode}
-use Rattle.path_log.specs.Texts.{StoredLog}
+use Rattle.run_log.specs.Logs.{StoredLog}
 use Rattle.tc_workload.specs.Workload.{workload_text}
 use Rattle.clap_solve.specs.Solved.{IsWithin}
 use Rattle.clap_debug_cli.specs.Worked.{seeded_text}

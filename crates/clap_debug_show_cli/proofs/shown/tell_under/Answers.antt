@@ -1,6 +1,6 @@
 use Rattle.std.proofs.Common.{subst, sym, IfOk}
-use Rattle.tc_base.specs.Buffers.{buffer_of}
-use Rattle.tc_base.specs.declared.model.Model.{Model}
+use Rattle.store_buffers.specs.Buffers.{buffer_of}
+use Rattle.memory_models.specs.declared.model.Model.{Model}
 use Rattle.show_rows.specs.Rows.{AreTold}
 use Rattle.show_rows.specs.declared.told.Told.{Told}
 use Rattle.clap_debug_show_cli.proofs.shown.tell_under.Goals as goal

@@ -1,17 +1,17 @@
-use Rattle.std.proofs.Common.{◌≡◌, ◌∙◌, ◌⊎◌, inl, inr, ap, sym, refl, subst, Bool, true, false, cond, List, [], ◌∷◌, Option, Some, None}
+use Rattle.std.proofs.Common.{◌≡◌, ◌∙◌, ◌⊎◌, inl, inr, ap, sym, refl, subst, Bool, true, false, cond, List, [], ◌∷◌, Option, None}
 use Rattle.clap.specs.Words.{App, IsAmong, Kinds, Row, Text, app_of, fault_of, is_simple, is_simple_and_free, matches_of}
 use Rattle.clap.specs.Walk.{is_empty}
 use Rattle.clap.specs.declared.error.kind.ErrorKind.{ErrorKind}
 use Rattle.clap.specs.declared.error.kind.ErrorKind.TheVariants.{OutOfMemory}
 use Rattle.clap.proofs.SimpleLemmas.{is_nil}
-use Rattle.clap_debug_show_cli.specs.Calls.{Shows, call_in, call_of, command_line, words_taken}
+use Rattle.clap_debug_show_cli.specs.Calls.{Asked, call_in, call_of, command_line, words_taken}
 use Rattle.clap_debug_show_cli.proofs.words.call_of.Goals as goal
 
-taken : (ks : Kinds) (o : Option Shows) → ks ≡ [] → cond (is_empty ks) o None ≡ o
+taken : (ks : Kinds) (o : Option Asked) → ks ≡ [] → cond (is_empty ks) o None ≡ o
 taken [] o e = refl
 taken (k ∷ ks) o e = cc
 
-refused : (b : Bool) (o : Option Shows) → (b ≡ true → ⊥) → None ≡ cond b o None
+refused : (b : Bool) (o : Option Asked) → (b ≡ true → ⊥) → None ≡ cond b o None
 refused true o bad = absurd (bad refl)
 refused false o bad = refl
 
@@ -22,10 +22,10 @@ fails (x ∷ xs) k bad h none = cc
 
 -- words at which the command has no fault give the call of its matches
 made : (a : App) (words : List Text) (rows : List Row) → a ≡ command_line → fault_of a words ≡ [] → rows ≡ matches_of a words
-    → Some (call_in rows) ≡ call_of words
+    → call_in rows ≡ call_of words
 made a words rows app quiet are =
     let free : fault_of command_line words ≡ [] = subst (λ x. fault_of x words ≡ []) app quiet in
-    ap (λ r. Some (call_in r)) (are ∙ ap (λ x. matches_of x words) app) ∙ sym (taken (fault_of command_line words) _ free)
+    ap call_in (are ∙ ap (λ x. matches_of x words) app) ∙ sym (taken (fault_of command_line words) _ free)
 
 -- words at which it has another fault than want of memory give none
 no_call : (a : App) (words : List Text) (k : ErrorKind) → a ≡ command_line → (k ≡ OutOfMemory → ⊥)
@@ -38,7 +38,7 @@ pub returns-in-Ok : goal.returns-in-Ok
 returns-in-Ok c =
     let app_is : app_of c.in_ok-command_line.field-0 ≡ command_line = c.in_ok-command_line.ensures in
     let got = c.in-Ok.ensures.matches (ap is_simple app_is) in
-    ap Some c.call_in.ensures
+    c.call_in.ensures
     ∙ made (app_of c.in_ok-command_line.field-0) _ _ app_is (c.in-Ok.ensures.kinds (ap is_simple_and_free app_is)) got.0
 
 pub returns : goal.returns

@@ -1,6 +1,6 @@
 use Rattle.std.proofs.Common.{◌≤◌, ap, length, subst, sym}
 use Rattle.std.proofs.lemmas.Result.{IfOk-weaker}
-use Rattle.tc_base.specs.declared.limits.TheConstants.{EVENTS}
+use Rattle.tc_limits.specs.declared.limits.TheConstants.{EVENTS}
 use Rattle.path_walk.specs.Paths.{Paths}
 use Rattle.lawful_order.specs.Events.{all_events}
 use Rattle.cnf_core.specs.Clauses.{Formula}

@@ -1,7 +1,7 @@
 use Rattle.std.proofs.Common.{◌≤◌, ◌∙◌, List, ap, subst}
 use Rattle.std.specs.List.{All}
-use Rattle.tc_base.specs.Logs.{ThreadPath}
-use Rattle.tc_base.specs.declared.limits.TheConstants.{STEPS}
+use Rattle.tc_base.specs.Paths.{ThreadPath}
+use Rattle.tc_limits.specs.declared.limits.TheConstants.{STEPS}
 use Rattle.clap_system.specs.Systems.{system_by}
 use Rattle.clap_system.proofs.building.build.Goals as goal
 

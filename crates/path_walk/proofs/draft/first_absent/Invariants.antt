@@ -1,7 +1,7 @@
 use Rattle.std.proofs.Common.{ℕ, ◌+◌, ◌<◌}
 use Rattle.std.specs.Prelude.{IsSome}
 use Rattle.tc_base.specs.Names.{child}
-use Rattle.tc_base.specs.Logs.{path_under}
+use Rattle.tc_base.specs.Paths.{path_under}
 use Rattle.path_walk.proofs.draft.first_absent.Given as goal
 
 abbrev pub invariant-loop-number : goal.invariant-loop-number

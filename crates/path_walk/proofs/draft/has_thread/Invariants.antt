@@ -1,6 +1,6 @@
 use Rattle.std.proofs.Common.{◌≡◌, drop}
 use Rattle.std.specs.Prelude.{is_some}
-use Rattle.tc_base.specs.Logs.{path_under}
+use Rattle.tc_base.specs.Paths.{path_under}
 use Rattle.path_walk.proofs.draft.has_thread.Given as goal
 
 abbrev pub invariant-loop-thread : goal.invariant-loop-thread

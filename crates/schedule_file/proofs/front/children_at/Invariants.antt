@@ -1,5 +1,5 @@
 use Rattle.std.proofs.Common.{length}
-use Rattle.tc_base.specs.declared.limits.TheConstants.{DEPTH}
+use Rattle.tc_limits.specs.declared.limits.TheConstants.{DEPTH}
 use Rattle.schedule_file.specs.helpers.Reading.{children_at}
 use Rattle.schedule_file.proofs.Fronts.{ChildrenSoFar}
 use Rattle.schedule_file.proofs.front.children_at.Given as goal

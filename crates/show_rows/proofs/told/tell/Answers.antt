@@ -51,9 +51,10 @@ loop-m-preserved g c =
     let here = rw c.deref-m-items.ensures.value at c.m-item.is in
     let lt = rw c.deref-m-items.ensures.value at c.loop-m-test.true in
     told_on g.M.MemoryModel.ops c.args.code.now c.args.schedule.now.moves.items c.loop-m.m-index c.m-item.result c.loop-m.state c.loop-m.telling lt here
-    c.loop-m.invariant c.step.new.state c.take.new.self _ c.in_ok-step.ensures.ok c.in_ok-row.ensures c.in_ok-take.ensures.rows
+    c.loop-m.invariant c.step.new.state c.take.new.self _ c.in_ok-step.ensures.ok c.in_ok-row.ensures.did c.in_ok-take.ensures.rows
     (c.in_ok-take.ensures.seen
     ∙ ap (λ b. seen_after b c.loop-m.telling.seen (plain_deed c.in_ok-row.row.deed)) (c.BUFFERED.ensures ∙ g.met.M.MemoryModel.buffered))
+    c.in_ok-row.ensures.at
 
 pub returns : goal.returns
 returns g c =

@@ -1,7 +1,7 @@
 use Rattle.std.proofs.Common.{◌≡◌}
 use Rattle.std.specs.Option.{option_or}
 use Rattle.std.specs.VecDeque.Iter.{deque_iter_rest}
-use Rattle.tc_base.specs.Buffers.{last_value}
+use Rattle.store_buffers.specs.Buffers.{last_value}
 use Rattle.store_buffers.proofs.segments.last_of.Given as goal
 
 -- the last value of all is that of those to come, or else what was found

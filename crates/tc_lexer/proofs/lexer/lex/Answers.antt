@@ -3,7 +3,7 @@ use Rattle.std.proofs.Common.{Global, length-take}
 use Rattle.std.specs.Prelude.{◌-◌}
 use Rattle.std.proofs.lemmas.Bool.{cond-true}
 use Rattle.std.proofs.lemmas.List.{append-nil}
-use Rattle.tc_base.specs.declared.place.Place.{Place}
+use Rattle.tc_lexer.specs.declared.place.Place.{Place}
 use Rattle.tc_lexer.specs.declared.token.Token.{Token}
 use Rattle.tc_lexer.specs.Text.{IsFault, fault_at}
 use Rattle.tc_lexer.proofs.Places.{place_after-col}

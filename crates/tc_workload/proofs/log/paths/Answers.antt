@@ -1,5 +1,5 @@
 use Rattle.std.proofs.Common.{◌≡◌, ◌∙◌, ◌+◌, ◌-◌, ◌++◌, List, [], ◌∷◌, ap}
-use Rattle.tc_base.specs.Logs.{ThreadPath}
+use Rattle.tc_base.specs.Paths.{ThreadPath}
 use Rattle.tc_workload.specs.Workload.{straight, worker_paths}
 use Rattle.tc_workload.proofs.Lists.{paths_next}
 use Rattle.tc_workload.proofs.log.paths.Goals as goal

@@ -1,9 +1,9 @@
 use Rattle.std.proofs.Common.{sym, subst, List}
 use Rattle.std.specs.Prelude.{IsTrue}
-use Rattle.tc_base.specs.Logs.{ThreadPath}
+use Rattle.tc_base.specs.Paths.{ThreadPath}
 use Rattle.tc_base.specs.declared.failing.Failing.TheVariants.{Thread}
-use Rattle.tc_base.specs.declared.model.Model.TheVariants.{Tso}
-use Rattle.path_log.specs.Texts.{is_log}
+use Rattle.memory_models.specs.declared.model.Model.TheVariants.{Tso}
+use Rattle.run_log.specs.Logs.{is_log}
 use Rattle.tc_workload.proofs.Rising.{workload_is_log}
 use Rattle.tc_workload.proofs.log.workload_log.Goals as goal
 

@@ -1,5 +1,5 @@
 use Rattle.std.proofs.Common.{◌≡◌, ◌≤◌, ◌∙◌, ◌-◌, ap, length, sym, subst}
-use Rattle.tc_base.specs.declared.limits.TheConstants.{PROGRAM_BYTES}
+use Rattle.tc_limits.specs.declared.limits.TheConstants.{PROGRAM_BYTES}
 use Rattle.tc_workload.specs.Workload.{adds, creates, declares, each, joins, whole_text, worker_lines}
 use Rattle.tc_workload.proofs.Sizes.{workload-short}
 use Rattle.tc_workload.proofs.program.workload_text.Goals as goal

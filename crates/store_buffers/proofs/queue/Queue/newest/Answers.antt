@@ -1,6 +1,6 @@
 use Rattle.std.proofs.Common.{◌∙◌, None, ap}
 use Rattle.std.specs.List.{last_or}
-use Rattle.tc_base.specs.Buffers.{newest, values_to}
+use Rattle.store_buffers.specs.Buffers.{newest, values_to}
 use Rattle.store_buffers.proofs.Queues.{by_cell-newest}
 use Rattle.store_buffers.proofs.queue.Queue.newest.Goals as goal
 

@@ -1,5 +1,5 @@
 use Rattle.std.proofs.Common.{◌∙◌, drop, ap, map}
-use Rattle.tc_base.specs.Buffers.{values_to, with_values}
+use Rattle.store_buffers.specs.Buffers.{values_to, with_values}
 use Rattle.store_buffers.specs.helpers.Seen.{entry_of, stores_by_cell}
 use Rattle.store_buffers.proofs.Queues.{by_cell-rest}
 use Rattle.store_buffers.proofs.queue.Queue.pop.Goals as goal

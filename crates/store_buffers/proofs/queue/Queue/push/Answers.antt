@@ -1,6 +1,6 @@
 use Rattle.std.proofs.Common.{◌∙◌, [], ◌∷◌, ◌++◌, ap, map, sym, w32, to_z, of_z}
 use Rattle.std.proofs.lemmas.List.{map-append}
-use Rattle.tc_base.specs.Buffers.{values_to, with_values}
+use Rattle.store_buffers.specs.Buffers.{values_to, with_values}
 use Rattle.store_buffers.specs.helpers.Seen.{entry_of, stores_by_cell}
 use Rattle.store_buffers.proofs.Queues.{by_cell-end}
 use Rattle.store_buffers.proofs.queue.Queue.push.Goals as goal

@@ -1,5 +1,5 @@
 use Rattle.std.proofs.Common.{refl, sym, subst}
-use Rattle.tc_base.specs.Buffers.{no_buffer}
+use Rattle.store_buffers.specs.Buffers.{no_buffer}
 use Rattle.store_buffers.specs.Laws.{AreForms}
 use Rattle.store_buffers.proofs.Forms.{no_forms}
 use Rattle.store_buffers.proofs.sc.ScMemoryModel.forms.Goals as goal

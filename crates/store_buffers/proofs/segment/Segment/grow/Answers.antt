@@ -5,7 +5,8 @@ use Rattle.std.specs.BTreeMap.{get_by}
 use Rattle.std.proofs.lemmas.Bool.{false≢true}
 use Rattle.std.proofs.lemmas.Result.{on_ok_weaker, on_err_weaker}
 use Rattle.std.proofs.lemmas.Int.{to_z-of_z}
-use Rattle.tc_base.specs.Buffers.{with_values, is_nil}
+use Rattle.store_buffers.specs.Buffers.{with_values}
+use Rattle.list_laws.specs.Lists.{is_nil}
 use Rattle.store_buffers.specs.helpers.Segments.{IsTidy}
 use Rattle.store_buffers.proofs.ByCell.{entry_values, put_values, tidy_put, some_after, with_values-same}
 use Rattle.store_buffers.proofs.segment.Segment.grow.Goals as goal

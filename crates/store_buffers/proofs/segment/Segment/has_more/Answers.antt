@@ -1,6 +1,6 @@
 use Rattle.std.proofs.Common.{◌∙◌, sym, ap, not, drop, List, ℤ}
 use Rattle.std.specs.Option.{option_copied}
-use Rattle.tc_base.specs.Buffers.{is_nil}
+use Rattle.list_laws.specs.Lists.{is_nil}
 use Rattle.store_buffers.proofs.ByCell.{entry_values}
 use Rattle.store_buffers.proofs.segment.Segment.has_more.Goals as goal
 

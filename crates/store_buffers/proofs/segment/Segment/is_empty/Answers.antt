@@ -1,5 +1,5 @@
 use Rattle.std.proofs.Common.{◌∙◌, ap, sym}
-use Rattle.tc_base.specs.Buffers.{has_no_store}
+use Rattle.store_buffers.specs.Buffers.{has_no_store}
 use Rattle.store_buffers.proofs.ByCell.{no_entry-none, tested}
 use Rattle.store_buffers.proofs.segment.Segment.is_empty.Goals as goal
 

@@ -1,5 +1,5 @@
 use Rattle.std.proofs.Common.{◌∙◌, sym, ap, [], List, ℤ, slice_get}
-use Rattle.tc_base.specs.Buffers.{with_values}
+use Rattle.store_buffers.specs.Buffers.{with_values}
 use Rattle.store_buffers.proofs.ByCell.{entry_values, out_values, tidy_put}
 use Rattle.store_buffers.specs.helpers.Lists.{nil_is}
 use Rattle.store_buffers.proofs.segment.Segment.pop_last.Goals as goal

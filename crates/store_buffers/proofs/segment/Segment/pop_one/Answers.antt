@@ -3,7 +3,8 @@ use Rattle.std.specs.Ordering.{nat_cmp}
 use Rattle.std.specs.Option.{option_copied_mut, IsSome}
 use Rattle.std.specs.BTreeMap.{get_by}
 use Rattle.std.proofs.lemmas.Bool.{false≢true}
-use Rattle.tc_base.specs.Buffers.{values_to, with_values, is_nil}
+use Rattle.store_buffers.specs.Buffers.{values_to, with_values}
+use Rattle.list_laws.specs.Lists.{is_nil}
 use Rattle.store_buffers.proofs.ByCell.{entry_values, put_values, tidy_put}
 use Rattle.store_buffers.proofs.segment.Segment.pop_one.Goals as goal
 use Rattle.store_buffers.proofs.segment.Segment.pop_one.Goals.{in-Some, in-None}

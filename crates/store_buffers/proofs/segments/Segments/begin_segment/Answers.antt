@@ -1,5 +1,5 @@
 use Rattle.std.proofs.Common.{◌≡◌, ◌+◌, ◌∷◌, ◌++◌, [], ◌∙◌, sym, ap, subst, length, length-append, List, false, arith}
-use Rattle.tc_base.specs.Buffers.{Segment}
+use Rattle.store_buffers.specs.Buffers.{Segment}
 use Rattle.store_buffers.specs.helpers.Seen.{begins_empty}
 use Rattle.store_buffers.proofs.Skips.{begins_after, segment_count}
 use Rattle.store_buffers.proofs.segments.Segments.begin_segment.Goals as goal

@@ -1,6 +1,6 @@
 use Rattle.std.proofs.Common.{◌∙◌, sym, ap}
 use Rattle.std.specs.Option.{option_or}
-use Rattle.tc_base.specs.Buffers.{last_value}
+use Rattle.store_buffers.specs.Buffers.{last_value}
 use Rattle.store_buffers.proofs.Skips.{forwarded, some_or, none_or}
 use Rattle.store_buffers.proofs.segments.Segments.forward.Goals as goal
 

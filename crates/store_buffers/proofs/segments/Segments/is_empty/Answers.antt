@@ -1,5 +1,5 @@
 use Rattle.std.proofs.Common.{◌∙◌, ◌&&◌, sym, ap}
-use Rattle.tc_base.specs.Buffers.{has_no_store}
+use Rattle.store_buffers.specs.Buffers.{has_no_store}
 use Rattle.store_buffers.proofs.Skips.{all_empty, nil_test}
 use Rattle.store_buffers.proofs.segments.Segments.is_empty.Goals as goal
 

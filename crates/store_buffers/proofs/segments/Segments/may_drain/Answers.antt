@@ -1,5 +1,5 @@
 use Rattle.std.proofs.Common.{◌∙◌, sym, ap, not, List, ℤ}
-use Rattle.tc_base.specs.Buffers.{is_nil}
+use Rattle.list_laws.specs.Lists.{is_nil}
 use Rattle.store_buffers.proofs.segments.Segments.may_drain.Goals as goal
 
 pub returns : goal.returns

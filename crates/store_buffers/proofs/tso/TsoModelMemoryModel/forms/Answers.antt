@@ -1,5 +1,5 @@
 use Rattle.std.proofs.Common.{◌∷◌, [], ◌++◌, None, sym, subst, ap, ◌∙◌}
-use Rattle.tc_base.specs.Buffers.{fifo_buffer}
+use Rattle.store_buffers.specs.Buffers.{fifo_buffer}
 use Rattle.store_buffers.specs.Laws.{AreForms}
 use Rattle.store_buffers.proofs.Forms.{empty_forms, queue_forms}
 use Rattle.store_buffers.proofs.tso.TsoModelMemoryModel.forms.Goals as goal

@@ -1,0 +1,157 @@
+#!/usr/bin/env python3
+"""Writes rows of test_find: the paths that the threads of programs may take, in order.
+
+  thread_paths.py [--examples] > ROWS    of the programs below; with --examples, of the programs of examples/ instead
+
+All prefixes of paths are made, each is judged by what docs and definitions say of a path that may be taken, and those that
+may are sorted: outcomes decide first, a false before a true and fewer before more, and then steps.
+"""
+import glob
+import os
+import re
+import sys
+
+import machine
+
+TOP = os.path.dirname(os.path.dirname(os.path.abspath(__file__)))
+USED = {"store", "storeat", "swap", "cas", "unlock", "sleep", "signal", "broadcast", "create"}
+BLOCKING = {"lock", "wake", "join"}
+LONGEST = 3000
+
+HEAD = "int x; int a[2]; mutex m; cond c; "
+PROGRAMS = {
+    "kept ends": [
+        "main { int r; r = x; x = 1; r = swap(x, 2); r = cas(x, 0, 1); a[1] = 3; fence(); stbar(); }",
+        "thread f() { lock(m); x = 1; wait(c, m); unlock(m); signal(c); broadcast(c); } main { tid t; t = create f(); join(t); }",
+    ],
+    "failing ends": [
+        "main { x = a[x + 2]; }",
+        "main { x = 1 / x; x = 1 << (x - 1); assert(x); }",
+    ],
+    "what a path tells by itself": [
+        "main { unlock(m); }",
+        "main { lock(m); unlock(m); unlock(m); }",
+        "main { lock(m); lock(m); x = 1; }",
+        "main { tid t; join(t); x = 1; }",
+        "thread f() { } main { tid t; t = create f(); join(t); join(t); x = 1; }",
+        "main { lock(m); wait(c, m); unlock(m); x = 1; }",
+    ],
+    "branches and loops": [
+        "main { x = 1; if (x) { x = 2; } assert(x); }",
+        "main { int r; while (x) { r = r + 1; } assert(r); }",
+        "main { int r; while (r < 3) { x = r; r = r + 1; } }",
+        "main { if (x) { if (a[0]) { x = 1; } else { x = 2; } } else { lock(m); } }",
+    ],
+}
+AIMS = [("exit", False), ("used", False), ("open", True), ("rest", False)]
+
+
+class Own:
+    """What a thread's own steps make of its mutexes and thread variables."""
+
+    def __init__(self):
+        self.held, self.joinable = set(), set()
+
+    def excludes(self, i, fails):
+        if i[0] == "lock":
+            return i[1] in self.held
+        if i[0] == "holds":
+            return (i[1] in self.held) == fails
+        if i[0] == "ready":
+            return (i[1] in self.joinable) == fails
+        return False
+
+    def apply(self, i):
+        if i[0] == "lock":
+            self.held.add(i[1])
+        elif i[0] == "wake":
+            self.held.add(i[2])
+        elif i[0] == "unlock":
+            self.held.discard(i[1])
+        elif i[0] == "sleep":
+            self.held.discard(i[2])
+        elif i[0] == "create":
+            self.joinable.add(i[1])
+        elif i[0] == "join":
+            self.joinable.discard(i[1])
+
+
+def is_possible(steps, failing):
+    own = Own()
+    for number, i in enumerate(steps):
+        if own.excludes(i, failing and number + 1 == len(steps)):
+            return False
+        own.apply(i)
+    return True
+
+
+def may_take(instrs, end, may_fail, steps, place):
+    failing = may_fail and bool(steps) and steps[-1][0] in machine.SITES
+    if not is_possible(steps, failing):
+        return False
+    if failing:
+        return True
+    last = steps[-1][0] if steps else None
+    if end == "exit":
+        return last == "exit"
+    if end == "used":
+        return last in USED
+    if end == "open":
+        return not steps or last in USED
+    return place >= len(instrs) or instrs[place][0] in BLOCKING
+
+
+def prefixes(instrs, most):
+    """Each way of at most so many outcomes: the place behind it, its outcomes and its instructions."""
+    ways = [(0, (), ())]
+    while ways:
+        place, outcomes, steps = ways.pop()
+        yield place, outcomes, steps
+        if place >= len(instrs) or len(steps) >= LONGEST:
+            continue
+        i = instrs[place]
+        if i[0] != "branch":
+            ways.append((i[1] if i[0] == "goto" else place + 1, outcomes, steps + (i,)))
+        elif len(outcomes) < most:
+            ways.append((place + 1, outcomes + (1,), steps + (i,)))
+            ways.append((i[2], outcomes + (0,), steps + (i,)))
+
+
+def paths(instrs, end, may_fail, most):
+    """The paths, in order, and whether some are left out since they have too many outcomes."""
+    found, cut = [], False
+    for place, outcomes, steps in prefixes(instrs, most):
+        if may_take(instrs, end, may_fail, steps, place):
+            found.append((outcomes, len(steps)))
+        at_branch = place < len(instrs) and instrs[place][0] == "branch"
+        cut = cut or at_branch and len(outcomes) == most and is_possible(steps, False)
+    return sorted(found), cut
+
+
+def rows(text, bounds):
+    code = machine.Code(text)
+    flat = " ".join(re.sub(r"//[^\n]*", "", text).split())
+    for f, function in enumerate(code.functions):
+        for end, may_fail in AIMS:
+            for most in bounds:
+                found, cut = paths(function.instrs, end, may_fail, most)
+                shown = [f"{steps}:" + "".join(map(str, outcomes)) for outcomes, steps in found]
+                words = shown + ["outcomes"] * cut + ["end"]
+                yield f"thread-paths {f} {end} {most}{' fails' * may_fail} : {flat} => {' '.join(words)}"
+
+
+def main():
+    if sys.argv[1:] == ["--examples"]:
+        print("group paths of the threads of examples")
+        for name in sorted(glob.glob(f"{TOP}/examples/*/*.tc")):
+            print("\n".join(rows(open(name).read(), [0, 2, 4])))
+        return
+    for group, programs in PROGRAMS.items():
+        print(f"group {group}")
+        for program in programs:
+            print("\n".join(rows(HEAD + program, [0, 3])))
+        print()
+
+
+if __name__ == "__main__":
+    main()

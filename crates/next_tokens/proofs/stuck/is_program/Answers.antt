@@ -1,0 +1,5 @@
+use Rattle.next_tokens.proofs.Stops.{program_by}
+use Rattle.next_tokens.proofs.stuck.is_program.Goals as goal
+
+pub returns : goal.returns
+returns c = program_by c.args.words.now c.in_ok-left.left c.is_none.result c.is_none.ensures c.in_ok-left.ensures

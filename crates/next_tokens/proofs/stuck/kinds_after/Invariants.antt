@@ -1,0 +1,11 @@
+use Rattle.std.proofs.Common.{length}
+use Rattle.next_tokens.specs.Next.{GoesOnWith, all_kinds}
+use Rattle.next_tokens.proofs.Picks.{IsSoFar}
+use Rattle.next_tokens.proofs.stuck.kinds_after.Given as goal
+
+-- what is picked of the rest completes what was found
+abbrev pub invariant-loop-kind : goal.invariant-loop-kind
+invariant-loop-kind l = IsSoFar (GoesOnWith l.before) all_kinds l.found.items l.rest
+
+abbrev pub decreases-loop-kind : goal.decreases-loop-kind
+decreases-loop-kind l = length l.rest

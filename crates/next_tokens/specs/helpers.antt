@@ -1,0 +1,2 @@
+-- Helpers that no promise speaks of.
+pub mod Searched

@@ -1,0 +1,23 @@
+-- Helpers: what a search of a text for its syntax fault finds.
+use Rattle.std.specs.Prelude.{ℕ, ◌-◌, ◌≤◌, List, length, Option, MatchOption}
+use Rattle.tc_lexer.specs.declared.token.Token.{Token}
+use Rattle.tc_lexer.specs.Text.{AreTokens}
+use Rattle.tc_tree.specs.Grammar.{IsSyntaxFault}
+use Rattle.tc_tree.specs.Words.{words_of}
+use Rattle.tc_tree.specs.declared.word.Word.{Word}
+use Rattle.next_tokens.specs.Next.{AreProgram, IsStuck}
+use Rattle.next_tokens.specs.declared.stuck.Stuck.{Stuck}
+
+-- the text has tokens of which this holds
+abbrev pub HasTokens : (text : List ℕ) → (List Token → Type 0) → Type 0
+HasTokens text P = (tokens : List Token) × AreTokens 3 text tokens × P tokens
+
+-- where the tokens of a text stop being a program's, or nothing where they are one
+abbrev pub IsSearched : (text : List ℕ) → Option Stuck → Type 0
+IsSearched text stuck = MatchOption stuck
+    (HasTokens text (λ tokens. AreProgram (words_of tokens)))
+    (λ s. HasTokens text (λ tokens. IsStuck (words_of tokens) s))
+
+-- so many words are left at the fault of words, or nothing where they are a program
+abbrev pub IsLeft : List Word → Option ℕ → Type 0
+IsLeft words left = MatchOption left (AreProgram words) (λ n. (n ≤ length words) × IsSyntaxFault 3 words (length words - n))

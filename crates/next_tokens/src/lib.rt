@@ -1,0 +1,10 @@
+//! Where the words of a text stop being a program's, and which kinds of tokens could stand there.
+#![tactic(auto)]
+
+mod kinds;
+mod stuck;
+mod texts;
+
+pub use kinds::ALL_KINDS;
+pub use stuck::{Stuck, find_stuck};
+pub use texts::stuck_of;

@@ -1,0 +1,178 @@
+//! What could stand at a place, in the words of a person.
+
+use next_tokens::Stuck;
+use std::alloc::{AllocError, Global};
+use std::str;
+use tc_lexer::{Keyword, Sign, TokenKind};
+
+/// Kinds of tokens for which a person has one word.
+#[derive(Clone, Copy)]
+enum Group {
+    /// The declarations of globals.
+    Global,
+    /// The declarations of a body.
+    Local,
+    /// What begins a statement.
+    Statement,
+    /// What begins an expression.
+    Expression,
+    /// The operators between two operands.
+    Operator,
+}
+
+/// The groups, in the order in which kinds are put into them: a name that begins a statement begins no expression.
+static GROUPS: [Group; 5] = [
+    Group::Global,
+    Group::Local,
+    Group::Statement,
+    Group::Expression,
+    Group::Operator,
+];
+
+impl Group {
+    /// Whether it has this kind.
+    fn has(self, kind: TokenKind) -> bool {
+        match kind {
+            TokenKind::Name => matches!(self, Group::Statement | Group::Expression),
+            TokenKind::Number(_) => matches!(self, Group::Expression),
+            TokenKind::Keyword(keyword) => self.has_keyword(keyword),
+            TokenKind::Sign(sign) => self.has_sign(sign),
+        }
+    }
+
+    fn has_keyword(self, keyword: Keyword) -> bool {
+        match self {
+            Group::Global => matches!(keyword, Keyword::Int | Keyword::Mutex | Keyword::Cond),
+            Group::Local => matches!(keyword, Keyword::Int | Keyword::Tid),
+            Group::Statement => begins_statement(keyword),
+            Group::Expression | Group::Operator => false,
+        }
+    }
+
+    fn has_sign(self, sign: Sign) -> bool {
+        match self {
+            Group::Expression => matches!(
+                sign,
+                Sign::OpenParen | Sign::Minus | Sign::Bang | Sign::Tilde
+            ),
+            Group::Operator => is_operator(sign),
+            Group::Global | Group::Local | Group::Statement => false,
+        }
+    }
+
+    /// How many kinds it has.
+    fn size(self) -> usize {
+        match self {
+            Group::Global => 3,
+            Group::Local => 2,
+            Group::Statement => 12,
+            Group::Expression => 6,
+            Group::Operator => 18,
+        }
+    }
+
+    fn words(self) -> &'static str {
+        match self {
+            Group::Global => "the declaration of a global (`int`, `mutex`, `cond`)",
+            Group::Local => "a declaration (`int`, `tid`)",
+            Group::Statement => "a statement",
+            Group::Expression => "an expression",
+            Group::Operator => "an operator",
+        }
+    }
+
+    /// Whether all its kinds are among these.
+    fn is_whole(self, kinds: &[TokenKind]) -> bool {
+        kinds.iter().filter(|kind| self.has(**kind)).count() == self.size()
+    }
+}
+
+fn begins_statement(keyword: Keyword) -> bool {
+    matches!(
+        keyword,
+        Keyword::If
+            | Keyword::While
+            | Keyword::Join
+            | Keyword::Lock
+            | Keyword::Unlock
+            | Keyword::Wait
+            | Keyword::Signal
+            | Keyword::Broadcast
+            | Keyword::Fence
+            | Keyword::Stbar
+            | Keyword::Assert
+    )
+}
+
+fn is_operator(sign: Sign) -> bool {
+    !matches!(
+        sign,
+        Sign::OpenParen
+            | Sign::CloseParen
+            | Sign::OpenBracket
+            | Sign::CloseBracket
+            | Sign::OpenBrace
+            | Sign::CloseBrace
+            | Sign::Comma
+            | Sign::Semicolon
+            | Sign::Assign
+            | Sign::Bang
+            | Sign::Tilde
+    )
+}
+
+/// What could stand there: groups that are there whole, then the other kinds, and the end of the text.
+pub(crate) fn expected_words(alloc: Global, stuck: &Stuck) -> Result<String, AllocError> {
+    let kinds = stuck.kinds.as_slice();
+    let mut words = Vec::new(alloc);
+    for group in GROUPS.iter() {
+        if group.is_whole(kinds) {
+            words.push(String::from_str(alloc, group.words())?)?;
+        }
+    }
+    for kind in kinds {
+        if !is_in_group(kinds, *kind) {
+            words.push(kind_words(alloc, *kind)?)?;
+        }
+    }
+    if stuck.may_end {
+        words.push(String::from_str(alloc, "the end of the text")?)?;
+    }
+    joined(alloc, words.as_slice())
+}
+
+/// Whether a kind is in a group that is there whole.
+fn is_in_group(kinds: &[TokenKind], kind: TokenKind) -> bool {
+    GROUPS
+        .iter()
+        .any(|group| group.has(kind) && group.is_whole(kinds))
+}
+
+/// A kind of tokens.
+fn kind_words(alloc: Global, kind: TokenKind) -> Result<String, AllocError> {
+    match kind {
+        TokenKind::Name => String::from_str(alloc, "a name"),
+        TokenKind::Number(_) => String::from_str(alloc, "a number"),
+        TokenKind::Keyword(keyword) => quoted(alloc, keyword.text()),
+        TokenKind::Sign(sign) => quoted(alloc, sign.text()),
+    }
+}
+
+/// A word as it is written.
+fn quoted(alloc: Global, word: &[u8]) -> Result<String, AllocError> {
+    let word = str::from_utf8(word).unwrap_or("");
+    format!(in alloc; "`{word}`")
+}
+
+/// The words with commas between them, and `or` before the last.
+fn joined(alloc: Global, words: &[String]) -> Result<String, AllocError> {
+    let mut out = String::new(alloc);
+    for (i, word) in words.iter().enumerate() {
+        if i > 0 {
+            let is_last = i.saturating_add(1) == words.len();
+            out.push_str(if is_last { " or " } else { ", " })?;
+        }
+        out.push_str(word.as_str())?;
+    }
+    Ok(out)
+}

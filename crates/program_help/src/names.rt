@@ -1,0 +1,184 @@
+//! What is wrong with a name.
+
+use crate::foreign::foreign_hint;
+use crate::meanings::{meaning_words, wanted_at};
+use crate::scopes::{Known, Scope, known_names, scope_at};
+use crate::source::{Source, word_of};
+use std::alloc::{AllocError, Global};
+use strsim::levenshtein;
+use tc_lexer::Place;
+use tc_names::Meaning;
+use tc_tree::{Name, Program};
+
+/// A name that breaks a rule: the number of its token, and the program's names.
+#[derive(Drop)]
+pub(crate) struct Fault<'a> {
+    source: Source<'a>,
+    number: usize,
+    place: Place,
+    scope: Scope,
+    known: Vec<Known>,
+}
+
+impl<'a> Fault<'a> {
+    /// The name at a place of a program.
+    pub(crate) fn at(
+        alloc: Global,
+        source: Source<'a>,
+        program: &Program,
+        place: Place,
+    ) -> Result<Fault<'a>, AllocError> {
+        Ok(Fault {
+            source,
+            number: source.number_at(place),
+            place,
+            scope: scope_at(program, place),
+            known: known_names(alloc, program)?,
+        })
+    }
+
+    /// The name.
+    fn name(&self) -> &'a str {
+        self.source.word(self.number)
+    }
+
+    /// Whether a declaration is of this name.
+    fn is_named(&self, known: &Known) -> bool {
+        known.name.text(self.source.text) == self.name().as_bytes()
+    }
+
+    /// What the name means in a scope alone.
+    fn known_in(&self, scope: Scope) -> Option<Known> {
+        self.known
+            .iter()
+            .find(|known| self.is_named(known) && known.scope == scope)
+            .copied()
+    }
+
+    /// A name without a declaration.
+    pub(crate) fn unknown(&self, alloc: Global) -> Result<String, AllocError> {
+        let name = self.name();
+        let mut lines = format!(in alloc; "found: the name `{name}`, which isn't declared\n")?;
+        if let Some(hint) = foreign_hint(self.source.word(self.number)) {
+            lines.push_str(format!(in alloc; "hint: {hint}\n")?.as_str())?;
+        } else if let Some(other) = self.known.iter().find(|known| self.is_named(known)) {
+            let line = other.name.place.line;
+            let owner = self.owner(alloc, other.scope)?;
+            let hint = format!(in alloc;
+                "hint: the `{name}` of line {line} is known only in {owner}\n"
+            )?;
+            lines.push_str(hint.as_str())?;
+        } else if let Some(near) = self.nearest(alloc, name)? {
+            lines.push_str(format!(in alloc; "hint: did you mean `{near}`?\n")?.as_str())?;
+        }
+        Ok(lines)
+    }
+
+    /// A scope in words.
+    fn owner(&self, alloc: Global, scope: Scope) -> Result<String, AllocError> {
+        match scope {
+            Scope::Whole => String::from_str(alloc, "the program"),
+            Scope::Main => String::from_str(alloc, "main"),
+            Scope::Thread(name) => {
+                let thread = word_of(self.source.text, &name);
+                format!(in alloc; "thread {thread}")
+            }
+        }
+    }
+
+    /// The known name that is written most like this one, if one is.
+    fn nearest(&self, alloc: Global, name: &str) -> Result<Option<&'a str>, AllocError> {
+        let mut best = None;
+        let mut least = (name.len() / 4).saturating_add(1);
+        for known in self.known.iter() {
+            if known.scope != Scope::Whole && known.scope != self.scope {
+                continue;
+            }
+            let other = word_of(self.source.text, &known.name);
+            let distance = levenshtein(alloc, name, other)?;
+            if distance <= least {
+                least = distance.saturating_sub(1);
+                best = Some(other);
+            }
+        }
+        Ok(best)
+    }
+
+    /// A name that is declared twice.
+    pub(crate) fn twice(&self, alloc: Global) -> Result<String, AllocError> {
+        let name = self.name();
+        let mut scope = Scope::Whole;
+        for known in self.known.iter() {
+            if known.name.place == self.place {
+                scope = known.scope;
+            }
+        }
+        match self.known_in(scope) {
+            Some(first) => {
+                let line = first.name.place.line;
+                let meaning = meaning_words(alloc, first.meaning)?;
+                format!(in alloc;
+                    "found: the name `{name}`, already declared in line {line}, as {meaning}\n"
+                )
+            }
+            None => format!(in alloc; "found: the name `{name}`, already declared\n"),
+        }
+    }
+
+    /// A name of another kind than its use asks for, or the length 0.
+    pub(crate) fn kind(&self, alloc: Global) -> Result<String, AllocError> {
+        let Some(known) = self.known_in(self.scope).or(self.known_in(Scope::Whole)) else {
+            return String::from_str(alloc, "found: the length 0\nexpected: a number from 1 on\n");
+        };
+        let wanted = wanted_at(self.source, self.number);
+        let is = self.declared(alloc, known)?;
+        let words = wanted.words();
+        let mut lines = format!(in alloc; "found: {is}\nexpected: {words}\n")?;
+        if let Some(hint) = wanted.hint(known.meaning) {
+            lines.push_str(format!(in alloc; "hint: {hint}\n")?.as_str())?;
+        }
+        Ok(lines)
+    }
+
+    /// A thread with another number of arguments than it has parameters.
+    pub(crate) fn arguments(&self, alloc: Global) -> Result<String, AllocError> {
+        let Some(known) = self.known_in(Scope::Whole) else {
+            return Ok(String::new(alloc));
+        };
+        let given = self.given();
+        let is = self.declared(alloc, known)?;
+        let plural = if given == 1 { "" } else { "s" };
+        format!(in alloc; "found: {given} argument{plural} for {is}\n")
+    }
+
+    /// A name, what it means, and where it is declared.
+    fn declared(&self, alloc: Global, known: Known) -> Result<String, AllocError> {
+        let name = self.name();
+        let meaning = meaning_words(alloc, known.meaning)?;
+        let line = known.name.place.line;
+        format!(in alloc; "`{name}`, {meaning}, declared in line {line}")
+    }
+
+    /// How many arguments stand in the parentheses after the name.
+    fn given(&self) -> usize {
+        if self.source.after(self.number, 2) == ")" {
+            return 0;
+        }
+        let mut open: usize = 0;
+        let mut commas: usize = 0;
+        for i in self.number.saturating_add(1)..self.source.tokens.len() {
+            let word = self.source.word(i);
+            if word == "(" || word == "[" {
+                open = open.saturating_add(1);
+            } else if word == ")" || word == "]" {
+                open = open.saturating_sub(1);
+            } else if word == "," && open == 1 {
+                commas = commas.saturating_add(1);
+            }
+            if open == 0 {
+                break;
+            }
+        }
+        commas.saturating_add(1)
+    }
+}

@@ -1,0 +1,208 @@
+//! Why a text is no program.
+ghost use Rattle.std.specs.Prelude.{◌≤◌, length};
+ghost use Rattle.tc_limits.specs.declared.limits.TheConstants.{PROGRAM_BYTES};
+
+use crate::bytes::{bytes_hint, kind_of_file};
+use crate::counts::{count_hint, count_token};
+use crate::expected::expected_words;
+use crate::habits::syntax_hint;
+use crate::names::Fault;
+use crate::quote::{legible, push_quote, rest_at};
+use crate::source::Source;
+use next_tokens::Stuck;
+use std::alloc::{AllocError, Global};
+use tc_lexer::{LexFault, Place, Token, TokenKind, lex};
+use tc_parser::{ParseFault, TextFault, What};
+use tc_syntax::read_program;
+use tc_tree::{Program, Word};
+
+/// What is said of a text that is no program by this fault: the line with a caret, what was found, what could stand there, and
+/// what people mean who write so. Of a syntax fault it is known where words stop being a program's.
+pub fn explain(
+    alloc: Global,
+    text: &[u8],
+    fault: &TextFault,
+    stuck: Option<&Stuck>,
+) -> Result<String, AllocError>
+    requires { length text.now ≤ PROGRAM_BYTES }
+{
+    match fault {
+        TextFault::Lex(fault) => lex_lines(alloc, text, fault),
+        TextFault::Parse(fault) => {
+            let Ok(tokens) = lex(alloc, text) else {
+                return Err(AllocError);
+            };
+            let source = Source {
+                text,
+                tokens: tokens.as_slice(),
+            };
+            parse_lines(alloc, source, fault, stuck)
+        }
+    }
+}
+
+/// Of a text without tokens.
+fn lex_lines(alloc: Global, text: &[u8], fault: &LexFault) -> Result<String, AllocError> {
+    let place = match fault {
+        LexFault::BadByte(place) | LexFault::Number(place) | LexFault::OpenComment(place) => *place,
+        LexFault::Memory => return Err(AllocError),
+    };
+    let rest = rest_at(text, place);
+    let mut out = String::from_str(alloc, "\n")?;
+    push_quote(alloc, &mut out, text, place)?;
+    push_line(
+        alloc,
+        &mut out,
+        "found",
+        found_bytes(alloc, fault, rest)?.as_str(),
+    )?;
+    push_hint(
+        alloc,
+        &mut out,
+        kind_of_file(text).or(bytes_hint(fault, rest)),
+    )?;
+    Ok(out)
+}
+
+/// What no token begins with.
+fn found_bytes(alloc: Global, fault: &LexFault, rest: &[u8]) -> Result<String, AllocError> {
+    let count = match fault {
+        LexFault::Number(_) => word_length(rest),
+        LexFault::OpenComment(_) => 2,
+        _ => 1,
+    };
+    match rest {
+        [byte @ (0..=31 | 127..=255), ..] => format!(in alloc; "a byte of value {byte}"),
+        _ => {
+            let word = legible(alloc, rest.get(..count).unwrap_or(rest))?;
+            format!(in alloc; "`{word}`")
+        }
+    }
+}
+
+/// How many letters and digits stand at the front.
+fn word_length(rest: &[u8]) -> usize {
+    rest.iter()
+        .take_while(|byte| byte.is_ascii_alphanumeric() || **byte == b'_')
+        .count()
+}
+
+/// Of a text whose tokens are no program.
+fn parse_lines(
+    alloc: Global,
+    source: Source,
+    fault: &ParseFault,
+    stuck: Option<&Stuck>,
+) -> Result<String, AllocError> {
+    let mut out = String::from_str(alloc, "\n")?;
+    match fault {
+        ParseFault::Syntax(place) => {
+            push_quote(alloc, &mut out, source.text, *place)?;
+            push_stuck(alloc, &mut out, source, stuck)?;
+        }
+        ParseFault::Count(what, _) => push_count(alloc, &mut out, source, *what)?,
+        ParseFault::Unknown(place)
+        | ParseFault::Twice(place)
+        | ParseFault::Kind(place)
+        | ParseFault::Arguments(place) => {
+            push_quote(alloc, &mut out, source.text, *place)?;
+            push_name(alloc, &mut out, source, fault, *place)?;
+        }
+        ParseFault::Memory => return Err(AllocError),
+    }
+    Ok(out)
+}
+
+/// Adds what stands where no program goes on, and what could stand there.
+fn push_stuck(
+    alloc: Global,
+    out: &mut String,
+    source: Source,
+    stuck: Option<&Stuck>,
+) -> Result<(), AllocError> {
+    let Some(stuck) = stuck else {
+        return Ok(());
+    };
+    let found = found_token(alloc, source, stuck.place)?;
+    push_line(alloc, out, "found", found.as_str())?;
+    push_line(
+        alloc,
+        out,
+        "expected",
+        expected_words(alloc, stuck)?.as_str(),
+    )?;
+    push_hint(
+        alloc,
+        out,
+        kind_of_file(source.text).or(syntax_hint(source, stuck)),
+    )
+}
+
+/// A token in words.
+fn found_token(alloc: Global, source: Source, number: usize) -> Result<String, AllocError> {
+    let Some(token) = source.tokens.get(number) else {
+        return String::from_str(alloc, "the end of the text");
+    };
+    let word = source.word(number);
+    match token.kind {
+        TokenKind::Name => format!(in alloc; "the name `{word}`"),
+        TokenKind::Number(_) => format!(in alloc; "the number {word}"),
+        TokenKind::Keyword(_) | TokenKind::Sign(_) => format!(in alloc; "`{word}`"),
+    }
+}
+
+/// Adds where there is too much of something.
+fn push_count(
+    alloc: Global,
+    out: &mut String,
+    source: Source,
+    what: What,
+) -> Result<(), AllocError> {
+    if let Some(token) = count_token(source, what) {
+        push_quote(alloc, out, source.text, token.place)?;
+    }
+    push_hint(alloc, out, Some(count_hint(what)))
+}
+
+/// Adds what is wrong with the name at a place.
+fn push_name(
+    alloc: Global,
+    out: &mut String,
+    source: Source,
+    fault: &ParseFault,
+    place: Place,
+) -> Result<(), AllocError> {
+    let Some(program) = program_of(alloc, source.tokens)? else {
+        return Ok(());
+    };
+    let name = Fault::at(alloc, source, &program, place)?;
+    let lines = match fault {
+        ParseFault::Unknown(_) => name.unknown(alloc)?,
+        ParseFault::Twice(_) => name.twice(alloc)?,
+        ParseFault::Kind(_) => name.kind(alloc)?,
+        _ => name.arguments(alloc)?,
+    };
+    out.push_str(lines.as_str())
+}
+
+/// The program that tokens are, without a look at its names.
+fn program_of(alloc: Global, tokens: &[Token]) -> Result<Option<Program>, AllocError> {
+    let words: Vec<Word> = tokens.iter().map(Word::new).collect(alloc)?;
+    match read_program(alloc, words.as_slice()) {
+        Ok(program) => Ok(Some(program)),
+        Err(_) => Ok(None),
+    }
+}
+
+/// Adds a line with its head.
+fn push_line(alloc: Global, out: &mut String, head: &str, words: &str) -> Result<(), AllocError> {
+    out.push_str(format!(in alloc; "{head}: {words}\n")?.as_str())
+}
+
+/// Adds what people mean who write so, where it is known.
+fn push_hint(alloc: Global, out: &mut String, hint: Option<&str>) -> Result<(), AllocError> {
+    match hint {
+        Some(hint) => push_line(alloc, out, "hint", hint),
+        None => Ok(()),
+    }
+}

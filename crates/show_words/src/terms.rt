@@ -1,0 +1,279 @@
+//! Expressions of the code, as the text of the program has them.
+ghost use Rattle.std.specs.Prelude.{◌≡◌};
+ghost use Rattle.tc_code.specs.Expr.{value_of};
+
+use crate::program::Program;
+use int_ops::{BinOp, UnOp, arith};
+use show_rows::Row;
+use std::alloc::{AllocError, Global};
+use tc_code::{Expr, Instr, Node};
+
+/// How a name is written.
+#[derive(Clone, Copy, PartialEq, Eq)]
+enum Form {
+    /// As it is.
+    Name,
+    /// As the value that it has.
+    Value,
+}
+
+/// Where an expression stands: it may name what the instructions before that one have found.
+#[derive(Clone, Copy)]
+struct At<'a> {
+    program: Program<'a>,
+    row: &'a Row,
+    form: Form,
+}
+
+/// More operators and names than an expression has within each other: a statement has at most 512 tokens.
+const DEPTH: u32 = 4096;
+
+/// How tightly an operator before its operand binds.
+const UNARY: u32 = 11;
+
+/// An expression of a row's instruction, with the names of the text.
+pub(crate) fn named(
+    alloc: Global,
+    program: Program<'_>,
+    row: &Row,
+    e: &Expr,
+) -> Result<String, AllocError> {
+    written(alloc, program, row, e, Form::Name)
+}
+
+/// An expression of a row's instruction, with the values that its names had. Of a side of `&&` or `||` that isn't looked at
+/// there stands `..`.
+pub(crate) fn valued(
+    alloc: Global,
+    program: Program<'_>,
+    row: &Row,
+    e: &Expr,
+) -> Result<String, AllocError> {
+    written(alloc, program, row, e, Form::Value)
+}
+
+/// An expression of a row's instruction.
+fn written(
+    alloc: Global,
+    program: Program<'_>,
+    row: &Row,
+    e: &Expr,
+    form: Form,
+) -> Result<String, AllocError> {
+    let at = At { program, row, form };
+    let mut out = String::new(alloc);
+    at.push(&mut out, e, 0, DEPTH)?;
+    Ok(out)
+}
+
+/// The value of an expression over the slots, where a slot that isn't there has 0.
+pub(crate) fn value_over(slots: &[i32], e: &Expr) -> i32
+    ensures { result ≡ value_of e.now slots.now }
+{
+    match &e.node {
+        Node::Number(n) => *n,
+        Node::Slot(k) => match slots.get(*k as usize) {
+            Some(value) => *value,
+            None => 0,
+        },
+        Node::Unary(op, operand) => arith::unary(*op, value_over(slots, operand)),
+        Node::Binary(op, left, right) => arith::binary(
+            *op,
+            value_over(slots, left),
+            value_over(slots, right),
+        ),
+    }
+}
+
+impl<'a> At<'a> {
+    /// Adds an expression, in parentheses where it binds less tightly than is wanted.
+    #[cycle(terms)]
+    fn push(&self, out: &mut String, e: &Expr, level: u32, depth: u32) -> Result<(), AllocError> {
+        let Some(depth) = depth.checked_sub(1) else {
+            return out.push_str("..");
+        };
+        let alloc = *out.allocator();
+        match &e.node {
+            Node::Number(n) => out.push_str(format!(in alloc; "{n}")?.as_str()),
+            Node::Slot(slot) => self.push_slot(out, *slot, level, depth),
+            Node::Unary(op, operand) => {
+                out.push_str(unary_text(*op))?;
+                self.push(out, operand, UNARY, depth)
+            }
+            Node::Binary(op, left, right) => {
+                let (own, sign) = binary_text(*op);
+                push_if(out, own < level, "(")?;
+                self.push(out, left, own, depth)?;
+                out.push_str(sign)?;
+                self.push(out, right, own.saturating_add(1), depth)?;
+                push_if(out, own < level, ")")
+            }
+        }
+    }
+
+    /// Adds what a slot stands for.
+    #[cycle(terms)]
+    fn push_slot(
+        &self,
+        out: &mut String,
+        slot: u32,
+        level: u32,
+        depth: u32,
+    ) -> Result<(), AllocError> {
+        let Some(depth) = depth.checked_sub(1) else {
+            return out.push_str("..");
+        };
+        let function = self.row.function;
+        let names = self.program.names;
+        if let Some(place) = self.choice_of(slot) {
+            return self.push_choice(out, slot, place, level, depth);
+        }
+        if self.form == Form::Value {
+            return push_value(
+                out,
+                value_over(self.row.slots.as_slice(), &Expr::slot(slot)),
+                level,
+            );
+        }
+        if let Some(name) = names.int(function, slot) {
+            return out.push_str(name);
+        }
+        match self.writer_of(slot) {
+            Some(Instr::Load { cell, .. }) => out.push_str(names.cell(*cell)),
+            Some(Instr::LoadAt { first, index, .. }) => {
+                out.push_str(names.array(*first))?;
+                out.push('[')?;
+                self.push(out, index, 0, depth)?;
+                out.push(']')
+            }
+            _ => out.push('?'),
+        }
+    }
+
+    /// Adds the `&&` or `||` whose slot is first set at a place.
+    #[cycle(terms)]
+    fn push_choice(
+        &self,
+        out: &mut String,
+        slot: u32,
+        place: usize,
+        level: u32,
+        depth: u32,
+    ) -> Result<(), AllocError> {
+        let Some(depth) = depth.checked_sub(1) else {
+            return out.push_str("..");
+        };
+        let Some(choice) = self.program.choice(self.row.function, place) else {
+            return out.push('?');
+        };
+        let (own, sign) = if choice.is_or {
+            (1, " || ")
+        } else {
+            (2, " && ")
+        };
+        push_if(out, own < level, "(")?;
+        self.push(out, choice.left, own, depth)?;
+        out.push_str(sign)?;
+        let is_true = value_over(self.row.slots.as_slice(), choice.left) != 0;
+        match self.right_of(slot) {
+            Some(right) if self.form == Form::Name || is_true != choice.is_or => {
+                self.push(out, right, own.saturating_add(1), depth)?;
+            }
+            _ => out.push_str("..")?,
+        }
+        push_if(out, own < level, ")")
+    }
+
+    /// The first instruction that sets a slot, if that is a `&&`'s or a `||`'s.
+    fn choice_of(&self, slot: u32) -> Option<usize> {
+        let function = self.row.function;
+        for place in 0..self.row.instruction {
+            if is_set(self.program.code.instr(function, place), slot) {
+                self.program.choice(function, place)?;
+                return Some(place);
+            }
+        }
+        None
+    }
+
+    /// The right side of the `&&` or `||` of a slot.
+    fn right_of(&self, slot: u32) -> Option<&'a Expr> {
+        let function = self.row.function;
+        for place in (0..self.row.instruction).rev() {
+            if is_set(self.program.code.instr(function, place), slot) {
+                return self.program.right_side(function, place);
+            }
+        }
+        None
+    }
+
+    /// The instruction that loads a slot.
+    fn writer_of(&self, slot: u32) -> Option<&'a Instr> {
+        let function = self.row.function;
+        for place in (0..self.row.instruction).rev() {
+            let instr = self.program.code.instr(function, place);
+            match instr {
+                Some(Instr::Load { slot: to, .. } | Instr::LoadAt { slot: to, .. })
+                    if *to == slot => {
+                    return instr;
+                }
+                _ => {}
+            }
+        }
+        None
+    }
+}
+
+/// Whether an instruction sets a slot.
+fn is_set(instr: Option<&Instr>, slot: u32) -> bool {
+    matches!(instr, Some(Instr::Set { slot: to, .. }) if *to == slot)
+}
+
+/// Adds a value, in parentheses where it has a sign and stands behind one.
+fn push_value(out: &mut String, value: i32, level: u32) -> Result<(), AllocError> {
+    let alloc = *out.allocator();
+    let is_signed = value < 0 && level >= UNARY;
+    push_if(out, is_signed, "(")?;
+    out.push_str(format!(in alloc; "{value}")?.as_str())?;
+    push_if(out, is_signed, ")")
+}
+
+/// Adds a text where it is wanted.
+fn push_if(out: &mut String, is_wanted: bool, text: &str) -> Result<(), AllocError> {
+    if is_wanted {
+        out.push_str(text)
+    } else {
+        Ok(())
+    }
+}
+
+/// An operator before its operand.
+fn unary_text(op: UnOp) -> &'static str {
+    match op {
+        UnOp::Neg => "-",
+        UnOp::Not => "!",
+        UnOp::Inv => "~",
+    }
+}
+
+/// How tightly an operator between its operands binds, and its text.
+fn binary_text(op: BinOp) -> (u32, &'static str) {
+    match op {
+        BinOp::Or => (3, " | "),
+        BinOp::Xor => (4, " ^ "),
+        BinOp::And => (5, " & "),
+        BinOp::Eq => (6, " == "),
+        BinOp::Ne => (6, " != "),
+        BinOp::Lt => (7, " < "),
+        BinOp::Le => (7, " <= "),
+        BinOp::Gt => (7, " > "),
+        BinOp::Ge => (7, " >= "),
+        BinOp::Shl => (8, " << "),
+        BinOp::Shr => (8, " >> "),
+        BinOp::Add => (9, " + "),
+        BinOp::Sub => (9, " - "),
+        BinOp::Mul => (10, " * "),
+        BinOp::Div => (10, " / "),
+        BinOp::Rem => (10, " % "),
+    }
+}

@@ -1,0 +1,4 @@
+//! The limits of a debugging session.
+#![tactic(auto)]
+
+pub mod limits;

@@ -1,0 +1,5 @@
+pub mod Outcomes
+pub mod Nodes
+pub mod Steps
+pub mod Searches
+pub mod Taken

@@ -1,0 +1,58 @@
+-- Which paths a thread may take through its function.
+use Rattle.std.specs.Prelude.{◌≡◌, ℕ, ◌-◌, ◌==◌, List, length, Bool, true, false, ◌&&◌, ◌||◌, Ok, slice_get}
+use Rattle.std.specs.List.{list_any}
+use Rattle.std.specs.Option.{option_map_or}
+use Rattle.tc_base.specs.Paths.{Path}
+use Rattle.tc_code.specs.Code.{Code}
+use Rattle.tc_code.specs.declared.instr.Instr.{Instr}
+use Rattle.tc_code.specs.declared.instr.Instr.TheVariants as instr
+use Rattle.path_walk.specs.Events.{is_impossible}
+use Rattle.path_walk.specs.Marks.{marked_steps}
+use Rattle.path_walk.specs.Steps.{step_at, steps_at, places_from, ends_at_site, can_block, standing}
+use Rattle.thread_paths.specs.declared.aim.Aim.{Aim}
+use Rattle.thread_paths.specs.declared.aim.End.{End}
+use Rattle.thread_paths.specs.declared.aim.End.TheVariants.{Exit, Used, Open, Rest}
+
+-- whether it is an exit
+abbrev pub is_exit : Instr → Bool
+is_exit instr.Exit = true
+is_exit _ = false
+
+-- whether another thread may have a use for what an instruction does
+abbrev pub is_used : Instr → Bool
+is_used (instr.Store c e) = true
+is_used (instr.StoreAt first len i e) = true
+is_used (instr.Swap k c e) = true
+is_used (instr.Cas k c e new) = true
+is_used (instr.Unlock m) = true
+is_used (instr.Sleep c m) = true
+is_used (instr.Signal c) = true
+is_used (instr.Broadcast c) = true
+is_used (instr.Create h f es) = true
+is_used _ = false
+
+module _ (code : Code) (f : ℕ) where
+  -- whether there is a step, and the last is of a kind
+  abbrev pub last_is : (Instr → Bool) → List ℕ → Bool
+  last_is kind places =
+      option_map_or (λ k. kind (step_at code f k).instr) (slice_get places (length places - 1)) false
+
+  -- whether the path to these places ends as it should, where the thread doesn't fail
+  abbrev pub has_end : End → Path → List ℕ → Bool
+  has_end Exit p places = last_is is_exit places
+  has_end Used p places = last_is is_used places
+  has_end Open p places = p.steps == 0 || last_is is_used places
+  has_end Rest p places = option_map_or can_block (standing code f p) true
+
+  -- a thread that may fail does so where its path ends at a site: no other path ends there
+  abbrev pub fails_at_end : Aim → List ℕ → Bool
+  fails_at_end aim places = aim.may_fail && ends_at_site code f places
+
+  -- a thread that does the function may take a path
+  pub record MayTake (aim : Aim) (p : Path) : Type 0 where
+    pub places : List ℕ
+    pub along : places_from code f p.steps 0 p.outcomes ≡ Ok places
+    -- the path doesn't tell by itself that no run goes so
+    pub possible : list_any is_impossible
+        (marked_steps code f (fails_at_end aim places) (steps_at code f places)) ≡ false
+    pub ends : (fails_at_end aim places || has_end aim.end p places) ≡ true

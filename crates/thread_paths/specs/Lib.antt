@@ -1,0 +1,4 @@
+pub mod Order
+pub mod Ends
+pub mod Search
+pub mod helpers

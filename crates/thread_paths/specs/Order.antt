@@ -1,0 +1,17 @@
+-- The order in which the paths of a thread are gone through.
+use Rattle.std.specs.Prelude.{ℕ, Bool, true, false, nat_le, List, [], ◌∷◌}
+use Rattle.tc_base.specs.Paths.{Path}
+
+-- whether outcomes and steps are those of a position or come after it: a false comes before a true,
+-- fewer outcomes before more of them, and with the same outcomes fewer steps before more
+abbrev pub is_from : List Bool → ℕ → List Bool → ℕ → Bool
+is_from [] least [] steps = nat_le least steps
+is_from [] least (_ ∷ _) steps = true
+is_from (_ ∷ _) least [] steps = false
+is_from (false ∷ at) least (true ∷ outcomes) steps = true
+is_from (true ∷ at) least (false ∷ outcomes) steps = false
+is_from (_ ∷ at) least (_ ∷ outcomes) steps = is_from at least outcomes steps
+
+-- whether a path is this one or comes after it
+abbrev pub comes_from : Path → Path → Bool
+comes_from p q = is_from p.outcomes p.steps q.outcomes q.steps

@@ -1,0 +1,168 @@
+//! One way down from outcomes: they are followed, and behind them each branch is false, until a path may end or none goes on.
+ghost use Rattle.std.specs.Prelude.{◌≡◌, ℕ, List, Bool, true, false, ◌&&◌, ◌≤◌, ◌<◌, ◌+◌, ◌^◌, length, IfOk, []};
+ghost use Rattle.tc_limits.specs.declared.limits.TheConstants.{STEPS};
+ghost use Rattle.path_walk.specs.Marks.{Marks};
+ghost use Rattle.thread_marks.specs.Own.{own_of};
+ghost use Rattle.thread_paths.specs.Order.{is_from};
+ghost use Rattle.thread_paths.specs.helpers.Descents.{is_branch, takes, at_after, is_end, IsOpened, IsNode, IsAdvance, IsDescent};
+
+use crate::aim::Scope;
+use crate::leads::{is_branch, is_last, place_after};
+use std::alloc::{AllocError, Global};
+use tc_code::{Code, Instr};
+use tc_limits::limits::STEPS;
+use thread_marks::Own;
+
+/// Why a way down leads to no path.
+#[derive(Clone, Copy, Debug)]
+pub enum Reason {
+    /// No path goes on.
+    Dead,
+    /// A branch comes after as many outcomes as there may be.
+    TooMany,
+    /// There are as many steps as a log holds.
+    TooLong,
+}
+
+/// How a way down ends.
+#[derive(Clone, Copy, Debug)]
+pub enum Descent {
+    /// With a path of so many steps.
+    Found(u16),
+    /// With none.
+    Spent(Reason),
+}
+
+/// Where a thread is on its way down.
+#[derive(Clone, Copy)]
+pub struct At {
+    place: usize,
+    /// How many of the outcomes it has followed.
+    used: usize,
+    /// How many steps a path has at least that ends with these outcomes.
+    least: usize,
+}
+
+/// A step further, or an end.
+pub enum Advance {
+    On(At),
+    Ends(Descent),
+}
+
+/// Where the thread is with an outcome for its next instruction: behind all of them comes a false. There is none where it has
+/// as many as it may have.
+fn with_outcome(
+    most: u16,
+    instr: &Instr,
+    at: At,
+    outcomes: &mut Vec<bool>,
+) -> Result<Option<At>, AllocError>
+    ensures { IfOk result (IsOpened most instr.now at outcomes.old.items outcomes.new.items) }
+{
+    if !is_branch(instr) {
+        return Ok(Some(at));
+    }
+    if at.used < outcomes.len() {
+        return Ok(Some(at));
+    }
+    if outcomes.len() >= usize::from(most) {
+        return Ok(None);
+    }
+    outcomes.push(false)?;
+    Ok(Some(At { least: 0, ..at }))
+}
+
+/// Where a thread is after an instruction.
+fn after(instr: &Instr, at: At, outcomes: &[bool]) -> At
+    requires place { at.place + 1 < 2 ^ 64 }
+    requires outcome { is_branch instr.now ≡ true → at.used < length outcomes.now }
+    ensures { result ≡ at_after at instr.now outcomes.now }
+{
+    let outcome = outcomes.get(at.used).copied().unwrap_or(false);
+    let place = place_after(instr, at.place, outcome);
+    if is_branch(instr) {
+        At {
+            place,
+            used: at.used + 1,
+            least: at.least,
+        }
+    } else {
+        At { place, ..at }
+    }
+}
+
+/// Whether a path may end after an instruction, with so many steps.
+fn is_end(
+    code: &Code,
+    scope: Scope,
+    steps: usize,
+    own: &Own,
+    instr: &Instr,
+    to: At,
+    outcomes: &[bool],
+) -> bool
+    ensures { (t : Marks) → own.now ≡ own_of t → result ≡ is_end code.now scope steps t instr.now to outcomes.now }
+{
+    to.used == outcomes.len()
+        && to.least <= steps
+        && is_last(code, scope.function, scope.aim, own, instr, to.place)
+}
+
+/// One step further, after so many.
+fn go_on(
+    code: &Code,
+    scope: Scope,
+    steps: usize,
+    at: At,
+    own: &mut Own,
+    outcomes: &mut Vec<bool>,
+) -> Result<Advance, AllocError>
+    requires steps { steps < STEPS }
+    requires used { at.used ≤ length outcomes.old.items }
+    ensures { (start : List Bool) (first : ℕ) → IsNode code.now scope start first steps at outcomes.old.items own.old
+        → IfOk result (IsAdvance code.now scope start first steps outcomes.new.items own.new) }
+{
+    let Some(instr) = code.instr(scope.function, at.place) else {
+        return Ok(Advance::Ends(Descent::Spent(Reason::Dead)));
+    };
+    let Some(at) = with_outcome(scope.most, instr, at, outcomes)? else {
+        return Ok(Advance::Ends(Descent::Spent(Reason::TooMany)));
+    };
+    let to = after(instr, at, outcomes);
+    if is_end(code, scope, steps + 1, own, instr, to, outcomes) {
+        return Ok(Advance::Ends(Descent::Found(steps as u16 + 1)));
+    }
+    if own.excludes(instr, false) {
+        return Ok(Advance::Ends(Descent::Spent(Reason::Dead)));
+    }
+    own.apply(instr);
+    Ok(Advance::On(to))
+}
+
+/// The way down by these outcomes, which it adds to: to the first path of at least so many steps, if any begins so. A path of
+/// no steps isn't looked at.
+pub fn descend(
+    alloc: Global,
+    code: &Code,
+    scope: Scope,
+    outcomes: &mut Vec<bool>,
+    least: usize,
+) -> Result<Descent, AllocError>
+    requires few { length outcomes.old.items ≤ scope.most }
+    requires steps { (takes code.now scope [] 0 && is_from outcomes.old.items least [] 0) ≡ false }
+    ensures { IfOk result (IsDescent code.now scope outcomes.old.items least outcomes.new.items) }
+{
+    let mut own = Own::at_start(alloc, code, scope.function)?;
+    let mut at = At {
+        place: 0,
+        used: 0,
+        least,
+    };
+    for steps in 0..STEPS as usize {
+        match go_on(code, scope, steps, at, &mut own, outcomes)? {
+            Advance::On(to) => at = to,
+            Advance::Ends(descent) => return Ok(descent),
+        }
+    }
+    Ok(Descent::Spent(Reason::TooLong))
+}

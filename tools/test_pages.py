@@ -1,0 +1,112 @@
+#!/usr/bin/env python3
+"""Tries tools/pages on small pages, right and spoilt, in a folder of their own.
+
+usage: tools/test_pages.py"""
+import shutil
+import subprocess
+import tempfile
+import unittest
+from pathlib import Path
+
+SCRIPT = Path(__file__).resolve().parent / "pages"
+RIGHT = """# A page
+
+[The other](other.md), [a heading](other.md#two-words), [this one](#a-page), [elsewhere](https://example.org/x).
+
+<!-- file a.txt -->
+
+```
+one
+two
+```
+
+```
+$ cat a.txt
+one
+two
+$ echo three; echo four; echo five >&2
+three
+...
+five
+```
+
+```
+$ true
+```
+
+<!-- not run: it never ends -->
+
+```
+$ sleep 1000
+```
+"""
+OTHER = "# Other\n\n## Two words\n\n```\n# no heading\n```\n"
+
+
+class Pages(unittest.TestCase):
+    def setUp(self):
+        folder = tempfile.TemporaryDirectory()
+        self.addCleanup(folder.cleanup)
+        self.top = Path(folder.name)
+        (self.top / "tools").mkdir()
+        (self.top / "docs").mkdir()
+        shutil.copy(SCRIPT, self.top / "tools")
+        (self.top / "docs" / "other.md").write_text(OTHER)
+        self.page = self.top / "docs" / "page.md"
+
+    def tried(self, text, *words):
+        """The status of the script on a page, and what it prints."""
+        self.page.write_text(text)
+        script = [self.top / "tools" / "pages", "--program", "/bin/true", "--show", "/bin/true"]
+        ran = subprocess.run([*script, *words, self.page], stdout=subprocess.PIPE, text=True, check=False)
+        return ran.returncode, ran.stdout
+
+    def spoilt(self, before, after, said):
+        """The right page with one change is refused, and the script says this."""
+        self.assertEqual(RIGHT.count(before), 1)
+        status, text = self.tried(RIGHT.replace(before, after))
+        self.assertEqual(status, 1, text)
+        self.assertIn(said, text)
+
+    def test_right(self):
+        counts = "1 pages: 3 links, 0 wrong; 3 commands, 0 print something else; 1 blocks with commands aren't run\n"
+        self.assertEqual(self.tried(RIGHT), (0, counts))
+
+    def test_links_alone(self):
+        self.assertEqual(self.tried(RIGHT.replace("three", "four"), "--links"), (0, "1 pages: 3 links, 0 wrong\n"))
+
+    def test_dead_link(self):
+        self.spoilt("(other.md)", "(none.md)", "docs/page.md: none.md leads nowhere")
+
+    def test_link_out_of_the_repository(self):
+        self.spoilt("(other.md)", "(../../../etc)", "../../../etc leads nowhere")
+
+    def test_dead_anchor(self):
+        self.spoilt("#two-words", "#no-heading", "docs/page.md: other.md#no-heading names no heading")
+
+    def test_other_output(self):
+        self.spoilt("\none\ntwo\n$ echo", "\none\n$ echo", "+two")
+
+    def test_missing_output(self):
+        self.spoilt("\nfive\n", "\nsix\n", "-six")
+
+    def test_failing_command(self):
+        self.spoilt("$ true", "$ false", "$ false\nends with status 1")
+
+    def test_no_command(self):
+        self.spoilt("$ cat a.txt", "$ ./nothing", "ends with status 127")
+
+    def test_comment_without_commands(self):
+        self.spoilt("$ sleep 1000", "sleep 1000", "docs/page.md:")
+
+    def test_missing_program(self):
+        status, text = self.tried(RIGHT.replace("$ true", "$ no_such_program"))
+        self.assertEqual((status, text.split("\n")[0]), (0, "docs/page.md:22: not run, there is no no_such_program"))
+
+    def test_rewrite(self):
+        status, _ = self.tried(RIGHT.replace("\none\ntwo\n$ echo", "\nnine\n$ echo"), "--rewrite")
+        self.assertEqual((status, self.page.read_text()), (1, RIGHT))
+
+
+if __name__ == "__main__":
+    unittest.main()
