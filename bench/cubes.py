@@ -1,5 +1,5 @@
 #!/usr/bin/env python3
-"""Decides logs by cubes, beside cadical alone on the same list: a row of bench/results/cubes.md for each.
+"""Decides logs by cubes, beside cadical alone on the same list: a row of bench/results/solvers.md for each.
 
   cubes.py [--alone N] [--seconds N] [--cube N] [--depth N] [--clap-debug PROGRAM] FOLDER NAME..
 
