@@ -1,19 +1,16 @@
 -- The first step that no run does, found step by step.
-use Rattle.std.proofs.Common.{◌≡◌, ◌∙◌, ℕ, zero, suc, ◌+◌, ◌-◌, ◌<◌, ◌≤◌, ◌&&◌, ◌==◌, Bool, true, false, cond, List, [], ◌∷◌, length, map, drop, get_or, replicate, Option, Some, None}
+use Rattle.std.proofs.Common.{◌≡◌, ◌∙◌, ℕ, zero, suc, ◌+◌, ◌-◌, ◌<◌, ◌≤◌, ◌&&◌, ◌==◌, Bool, true, false, cond, List, [], ◌∷◌, length, map, drop, get_or, Option, Some, None}
 use Rattle.std.proofs.Common.{add-one, ap, refl, sym, subst, arith}
-use Rattle.std.specs.Prelude.{option_map, unwrap_or, slice_set}
+use Rattle.std.specs.Prelude.{option_map, unwrap_or}
 use Rattle.std.specs.List.{find}
 use Rattle.std.specs.Option.{option_map_or}
 use Rattle.std.proofs.lemmas.Bool.{ne_eqb}
-use Rattle.std.proofs.lemmas.List.{drop_more, length-drop, length-map, map-set}
+use Rattle.std.proofs.lemmas.List.{drop_more, length-drop, length-map}
 use borrow.Author.Tests.{eq-eqb}
 use Rattle.run_log.specs.Logs.{Log}
 use Rattle.tc_base.specs.Paths.{ThreadPath}
 use Rattle.tc_base.specs.Names.{Name}
-use Rattle.tc_base.specs.declared.handle.Handle.{Handle}
-use Rattle.tc_base.specs.declared.handle.Handle.TheVariants.{Unset}
 use Rattle.tc_code.specs.Code.{Code, instr_at, line_at}
-use Rattle.tc_code.specs.Step.{can_be_joined, handles_of}
 use Rattle.tc_code.specs.declared.instr.Instr.TheVariants.{Exit}
 use Rattle.path_walk.specs.Events.{excludes, is_impossible}
 use Rattle.path_walk.specs.Marks.{Marks, Marked, marked, marked_from, marked_steps, unmarked}
@@ -21,17 +18,14 @@ use Rattle.path_walk.specs.Fits.{fails_in}
 use Rattle.path_walk.specs.Paths.{Walk, walk_of}
 use Rattle.path_walk.specs.Steps.{Step, step_at, steps_at}
 use Rattle.dead_paths.specs.Causes.{Cause, first_cause, line_in, line_of}
-use Rattle.dead_paths.specs.helpers.Own.{Own, nothing_own, own_of}
+use Rattle.thread_marks.specs.Own.{Own, nothing_own, own_of}
+use Rattle.thread_marks.proofs.Owning.{none_marked}
 
 drop_past : (ps : List ℕ) (j : ℕ) → length ps ≤ j → drop j ps ≡ []
 drop_past [] zero past = refl
 drop_past [] (suc j) past = refl
 drop_past (p ∷ ps) zero past = absurd (omega (arith, past))
 drop_past (p ∷ ps) (suc j) past = drop_past ps j (omega (arith, past))
-
-none_joined : (n : ℕ) → map can_be_joined (replicate n Unset) ≡ replicate n false
-none_joined zero = refl
-none_joined (suc n) = ap (λ bs. false ∷ bs) (none_joined n)
 
 module _ (code : Code) (f : ℕ) (fails : Bool) (places : List ℕ) where
   -- the steps from a number on, of a function's places
@@ -47,9 +41,7 @@ module _ (code : Code) (f : ℕ) (fails : Bool) (places : List ℕ) where
   pub followed_none : (own : Own) → own ≡ nothing_own code f → IsFollowed 0 own
   followed_none own is = record {
     marks = unmarked code f;
-    is = is
-        ∙ ap (λ (joinable : List Bool). let new : Own = record { held = replicate code.mutexes false; joinable = joinable } in new)
-        (sym (none_joined (handles_of code f)));
+    is = is ∙ none_marked code f;
     same = refl;
   }
 
@@ -109,14 +101,6 @@ module _ (code : Code) (f : ℕ) (fails : Bool) (places : List ℕ) where
   pub followed_all : (k : ℕ) (own : Own) → IsFollowed k own → length places ≤ k → None ≡ line_in code f fails (steps_at code f places)
   followed_all k own are past = sym (ap (option_map (line_of code f)) (are.same ∙ ap (λ ps. find is_impossible (marked_from fails k are.marks (steps_at code f ps)))
       (drop_past places k past)))
-
--- another state of a thread variable
-pub changed : (o : Own) (t : Marks) (h : ℕ) (x : Handle) (b : Bool) → o ≡ own_of t → can_be_joined x ≡ b
-    → (let new : Own = record o { joinable = slice_set o.joinable h b } in new) ≡ own_of (record t { handles = slice_set t.handles h x })
-changed o t h x b is same =
-    ap (λ (p : Own). let new : Own = record p { joinable = slice_set p.joinable h b } in new) is
-    ∙ ap (λ (joinable : List Bool). let new : Own = record { held = t.held; joinable = joinable } in new)
-    (ap (slice_set (map can_be_joined t.handles) h) (sym same) ∙ sym (map-set can_be_joined t.handles h x))
 
 module _ (code : Code) (log : Log) where
   -- the line of a thread's first such step, by its way

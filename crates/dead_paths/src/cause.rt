@@ -5,13 +5,13 @@ ghost use Rattle.path_walk.specs.Paths.{paths_of};
 ghost use Rattle.path_walk.specs.Steps.{steps_at};
 ghost use Rattle.dead_paths.specs.Causes.{cause_of, exit_line, first_cause, line_in};
 
-use crate::own::Own;
 use path_walk::Paths;
 use run_log::Log;
 use std::alloc::{AllocError, Global};
 use std::marker::Model;
 use tc_base::ThreadName;
 use tc_code::Code;
+use thread_marks::Own;
 
 /// A line that a thread reaches on its path, and at which the path alone rules out every run.
 #[derive(Debug, Drop)]

@@ -2,6 +2,5 @@
 #![tactic(auto)]
 
 mod cause;
-mod own;
 
 pub use cause::{Cause, cause_of};

@@ -1,2 +1,0 @@
--- No promise uses the definitions in this folder; only private contracts do.
-pub mod Own
