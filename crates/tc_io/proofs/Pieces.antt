@@ -1,21 +1,14 @@
--- Pieces of an open reading.
+-- Pieces of an open file.
 use Rattle.std.proofs.Common.{
   ◌≡◌,
-  ◌+◌,
   ◌<◌,
   ◌≤◌,
-  ◌∙◌,
   ℕ,
   List,
   [],
-  ◌++◌,
-  min,
   length,
   length-take,
   take,
-  drop,
-  take-append-drop,
-  drop-drop,
   Option,
   Some,
   None,
@@ -23,61 +16,22 @@ use Rattle.std.proofs.Common.{
   option_map,
   refl,
   ap,
-  ap₂,
   sym,
-  subst,
   subst₂,
   arith,
 }
-use Rattle.std.proofs.lemmas.List.{nil_from_length}
 use Rattle.std.specs.Io.KnownBytes.{Consumes, IsAtEnd}
-use Rattle.tc_io.specs.Faults.{PlainFaults}
 use Rattle.tc_io.specs.Files.{PlainOpen, ReadOn}
-use Rattle.tc_io.specs.Mem.{tells_with}
-use Rattle.tc_io.specs.Outside.{Files, GavePiece, bytes_at, counted_on}
-use Rattle.tc_io.specs.Readings.{PlainReading}
 
--- a reading of which a name is told is open
+-- a reading that has a name is open
 pub is_open : {X Y : Type 0} (f : X → Y) (o : Option X) → IsSome (option_map f o) → IsSome o
 is_open f None h = h
 is_open f (Some x) h = refl
 
-none_taken : (count : ℕ) (buf : List ℕ) → count ≤ length buf → take count buf ≡ [] → count ≡ 0
+pub none_taken : (count : ℕ) (buf : List ℕ) → count ≤ length buf → take count buf ≡ [] → count ≡ 0
 none_taken count buf fits none = omega (arith, length-take count buf, ap length none, fits)
 
--- in memory the bytes in the buffer are those that come next
-module _ (held : Files) (taken now : ℕ) (faults : PlainFaults) (r later : PlainReading) (bytes buf : List ℕ) (count : ℕ) where
-  from_open : bytes ≡ bytes_at held r.name → 0 < length buf → count ≡ min (length (drop r.given bytes)) (length buf)
-      → take count buf ≡ take count (drop r.given bytes) → later ≡ record r { given = r.given + count } → now ≡ counted_on taken count
-      → GavePiece (tells_with held taken faults (Some r)) (tells_with held now faults (Some later)) (take count buf)
-  from_open all some counted same moved added =
-      let fits : length (take count buf) ≡ count = length-take count buf ∙ omega (arith, counted) in
-      let rest : drop (r.given + count) bytes ≡ drop later.given (bytes_at held later.name) =
-      ap (drop (r.given + count)) all ∙ ap (λ (l : PlainReading). drop l.given (bytes_at held l.name)) (sym moved) in
-      let split : drop r.given (bytes_at held r.name) ≡ take count buf ++ drop later.given (bytes_at held later.name) =
-      sym (ap (drop r.given) all) ∙ sym (take-append-drop count (drop r.given bytes))
-      ∙ ap₂ (λ (a b : List ℕ). a ++ b) (sym same) (drop-drop count r.given bytes ∙ rest) in
-      let kept : later.name ≡ r.name = ap (λ (l : PlainReading). l.name) moved in (
-        ap₂ (λ (n : ℕ) (name : List ℕ). record (tells_with held n faults (Some later)) { open_name = Some name })
-            (added ∙ ap (counted_on taken) (sym fits)) kept,
-        ap Some split,
-        λ none.
-            let zero = none_taken count buf (omega (arith, counted)) none in
-            let gone : length (drop r.given bytes) ≡ 0 = omega (arith, zero, counted, some) in
-            nil_from_length _ (ap length (sym rest) ∙ ap (λ n. length (drop n bytes)) (omega (arith, zero)) ∙ gone),
-      )
-
-  -- the same, from what the parts are
-  pub gave_piece : (reading : Option PlainReading) (files : Files) (as_before : PlainFaults) → files ≡ held → as_before ≡ faults → reading ≡ Some r
-      → bytes ≡ bytes_at files r.name → 0 < length buf → count ≡ min (length (drop r.given bytes)) (length buf)
-      → take count buf ≡ take count (drop r.given bytes) → later ≡ record r { given = r.given + count } → now ≡ counted_on taken count
-      → GavePiece (tells_with held taken faults reading) (tells_with files now as_before (Some later)) (take count buf)
-  gave_piece reading files as_before same_files same_faults is_r all some counted same moved added =
-      subst₂ (λ f x. GavePiece (tells_with held taken faults reading) (tells_with f now x (Some later)) (take count buf)) (sym same_files) (sym same_faults)
-      (subst (λ o. GavePiece (tells_with held taken faults o) (tells_with held now faults (Some later)) (take count buf)) (sym is_r)
-      (from_open (all ∙ ap (λ f. bytes_at f r.name) same_files) some counted same moved added))
-
--- and of a file those that it gave
+-- the bytes in the buffer are those that a file gave
 module _ {F : Type 0} (remaining : F → Option (List ℕ)) (reading : Option (PlainOpen F)) (was : PlainOpen F) (now : F) (buf : List ℕ) (count : ℕ) where
   pub read_on : (name : List ℕ) → name ≡ was.name → reading ≡ Some was → count ≤ length buf → 0 < length buf
       → Consumes (remaining was.file) (remaining now) (take count buf) → (count ≡ 0 → 0 < length buf → IsAtEnd (remaining now))

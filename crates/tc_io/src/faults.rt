@@ -29,6 +29,7 @@ impl Model for Faults {
 }
 
 impl Faults {
+    /// No failed call.
     pub fn new() -> Self
         ensures { result ≡ no_faults }
     {

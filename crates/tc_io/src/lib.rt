@@ -2,8 +2,8 @@
 //!
 //! A shelf gives the bytes of a name as a whole (a fetch), or piece by piece (an open reading).
 //!
-//! Module `mem` has shelves and sinks in memory, which fail as a test plans or never. Module
-//! `files` has the system's files and its writers, and is trusted.
+//! Module `files` has the system's files and its writers, and is trusted. Module `faults` counts the
+//! failed calls of a shelf. Shelves and sinks in memory are in `test_shelves`.
 #![tactic(auto)]
 
 ghost use Rattle.std.specs.Prelude.{◌≡◌, ◌≤◌, ◌<◌, length, take, is_some, IsSome, IfOk, OnOk, IsErrOf};
@@ -25,12 +25,8 @@ ghost use Rattle.tc_io.specs.Outside.{
   WrotePart,
 };
 
-mod faults;
+pub mod faults;
 pub mod files;
-pub mod mem;
-mod named;
-mod plan;
-mod reading;
 
 use std::alloc::Global;
 

@@ -2,14 +2,14 @@
 #![tactic(auto)]
 
 ghost use Rattle.std.specs.Prelude.{◌≡◌, ◌≢◌, ◌≤◌, map, string_bytes, Some, IsSomeAnd};
-ghost use Rattle.tc_io.specs.Mem.{sure_shelf_tells, sure_sink_tells};
+ghost use Rattle.test_shelves.specs.Mem.{sure_shelf_tells, sure_sink_tells};
 ghost use Rattle.clap_debug_cli.specs.Call.{IfTold, CallAnswers, ToldAnswers, CommandAnswers};
 ghost use Rattle.clap_debug_words.specs.Calls.{call_of};
 ghost use Rattle.clap_debug_cli.specs.Inputs.{HasEntire, inputs_of, no_limit, texts_under};
 
 use clap_debug_cli::clap_debug;
 use std::alloc::Global;
-use tc_io::mem::{SureShelf, SureSink};
+use test_shelves::mem::{SureShelf, SureSink};
 
 /// The top call over a shelf and a sink that never fail: no device fault is answered, but that more bytes come than can be
 /// counted, and all else as ever.

@@ -5,8 +5,8 @@ use crate::clap_debug_surely;
 use clap_debug_cli::clap_debug;
 use std::alloc::Global;
 use std::test::Fail;
-use tc_io::mem::{Fail as ShelfFail, MemShelf, MemSink, SureShelf, SureSink};
 use tc_io::{FetchFault, KeepFault, OpenFault, PieceFault, PutFault, Shelf, Sink};
+use test_shelves::mem::{Fail as ShelfFail, MemShelf, MemSink, SureShelf, SureSink};
 
 /// A shelf of whose calls so many find memory, and those after them none.
 #[derive(Drop)]
@@ -33,7 +33,7 @@ impl ScantShelf {
 
 impl Shelf for ScantShelf {
     ghost use Rattle.std.specs.Prelude.{if◌then◌else◌};
-    ghost use Rattle.tc_io.specs.Mem.{sure_shelf_tells};
+    ghost use Rattle.test_shelves.specs.Mem.{sure_shelf_tells};
     ghost use Rattle.tc_io.specs.Outside.{closed};
 
     ghost tells = { λ s. if s.reading then sure_shelf_tells s.shelf else closed (sure_shelf_tells s.shelf) };
@@ -78,7 +78,7 @@ struct LateSink {
 }
 
 impl Sink for LateSink {
-    ghost use Rattle.tc_io.specs.Mem.{sure_sink_tells};
+    ghost use Rattle.test_shelves.specs.Mem.{sure_sink_tells};
 
     ghost tells = { λ s. sure_sink_tells s.sink };
 

@@ -11,8 +11,8 @@ use std::rt::Files;
 use std::time::SystemTime;
 use std::{env, fs, test};
 use tc_io::files::{FileShelf, StdSink, read_up_to};
-use tc_io::mem::{Fail, MemShelf, SureShelf};
 use tc_io::{FetchFault, KeepFault, OpenFault, PieceFault, PutFault, Shelf, Sink};
+use test_shelves::mem::{Fail, MemShelf, SureShelf};
 
 /// The name and the limit of a fetch, and what it is to answer: a text, or a fault.
 type Case<'a> = (&'a str, u64, Result<&'a str, FetchFault>);

@@ -25,7 +25,7 @@ use anyhow::{Context, Result, bail};
 use std::alloc::Global;
 use std::collections::BTreeMap;
 use std::fmt::Write;
-use tc_io::mem::{Fail, MemShelf};
+use test_shelves::mem::{Fail, MemShelf};
 
 /// Calls, one after another: the files of the shelf, its calls that are to fail; and what must stand there afterwards.
 #[derive(Clone, Drop)]

@@ -9,7 +9,7 @@ use anyhow::{Context, Result};
 use std::alloc::Global;
 use std::env::Env;
 use tc_io::Shelf;
-use tc_io::mem::{MemShelf, MemSink};
+use test_shelves::mem::{MemShelf, MemSink};
 
 /// What comes of a call.
 fn answer<F>(alloc: Global, call: &Call, shelf: &mut MemShelf, program: &F) -> Result<Answer>

@@ -5,7 +5,7 @@ use anyhow::{Context, Result};
 use std::alloc::Global;
 use std::fmt::Write;
 use tc_io::Shelf;
-use tc_io::mem::{Fail, MemShelf, MemSink};
+use test_shelves::mem::{Fail, MemShelf, MemSink};
 
 /// A call, or what becomes of a file between two calls.
 #[derive(Clone, Drop)]

@@ -1,5 +1,5 @@
 use Rattle.std.proofs.Common.{refl, inl, inr}
-use Rattle.tc_io.specs.Mem.{sure_sink_tells}
+use Rattle.test_shelves.specs.Mem.{sure_sink_tells}
 use Rattle.clap_debug_cli.proofs.Faults.{fetch_counts, keep_counts_one}
 use Rattle.test_cli.proofs.Surely.{never_fails, never_fails_to_put, surely_else}
 use Rattle.test_cli.proofs.clap_debug_surely.Goals as goal

@@ -1,8 +1,8 @@
 use Rattle.std.proofs.Common.{ap, sym, ◌∙◌, option_map, Some}
 use Rattle.std.specs.Option.{option_copied}
 use Rattle.std.specs.FinMap as map
-use Rattle.tc_io.proofs.ByName.{get_text}
-use Rattle.tc_io.proofs.named.NamedBytes.get.Goals as goal
+use Rattle.test_shelves.proofs.ByName.{get_text}
+use Rattle.test_shelves.proofs.named.NamedBytes.get.Goals as goal
 
 pub returns-in-Some : goal.returns-in-Some
 returns-in-Some c =

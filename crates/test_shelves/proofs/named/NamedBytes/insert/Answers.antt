@@ -1,6 +1,6 @@
 use Rattle.std.proofs.Common.{rules}
-use Rattle.tc_io.proofs.ByName.{put_text}
-use Rattle.tc_io.proofs.named.NamedBytes.insert.Goals as goal
+use Rattle.test_shelves.proofs.ByName.{put_text}
+use Rattle.test_shelves.proofs.named.NamedBytes.insert.Goals as goal
 
 pub returns-clause-ok : goal.returns-clause-ok
 returns-clause-ok c =

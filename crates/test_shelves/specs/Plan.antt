@@ -1,6 +1,6 @@
 -- Plans: which calls fail.
 use Rattle.std.specs.Prelude.{ℕ, List, [], find, ◌==◌, Option, option_map}
-use Rattle.tc_io.specs.declared.plan.Fail.{Fail}
+use Rattle.test_shelves.specs.declared.plan.Fail.{Fail}
 use Rattle.tc_io.specs.Outside.{counted_on}
 
 -- the number of calls so far, and the calls that fail

@@ -1,6 +1,6 @@
 use Rattle.std.proofs.Common.{rules, Some}
-use Rattle.tc_io.proofs.Kept.{holds_front}
-use Rattle.tc_io.proofs.mem.MemShelfShelf.keep.Goals as goal
+use Rattle.test_shelves.proofs.Kept.{holds_front}
+use Rattle.test_shelves.proofs.mem.MemShelfShelf.keep.Goals as goal
 
 pub returns-clause-failed : goal.returns-clause-failed
 returns-clause-failed c _ =

@@ -1,6 +1,6 @@
 //! Plans: which calls of a shelf or a sink fail.
 ghost use Rattle.std.specs.Prelude.{◌≡◌, ◌++◌, ◌∷◌, [], OnOk, OnErr};
-ghost use Rattle.tc_io.specs.Plan.{no_plan, with_call, told_at};
+ghost use Rattle.test_shelves.specs.Plan.{no_plan, with_call, told_at};
 
 use std::alloc::{AllocError, Global};
 use std::marker::Model;
@@ -22,7 +22,7 @@ pub struct Plan {
 }
 
 impl Model for Plan {
-    ghost use Rattle.tc_io.specs.Plan.{PlainPlan};
+    ghost use Rattle.test_shelves.specs.Plan.{PlainPlan};
 
     ghost Value = { PlainPlan };
 

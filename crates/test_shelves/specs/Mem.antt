@@ -3,8 +3,8 @@ use Rattle.std.specs.Prelude.{ℕ, ◌+◌, List, [], length, min, unwrap_or, Op
 use Rattle.std.specs.FinMap.{empty}
 use Rattle.tc_io.specs.Outside.{Files, ShelfTells, SinkTells, bytes_at, counted_on}
 use Rattle.tc_io.specs.Faults.{PlainFaults, no_faults}
-use Rattle.tc_io.specs.Plan.{PlainPlan, no_plan, told_at}
-use Rattle.tc_io.specs.Readings.{PlainReading, name_of, rest_of}
+use Rattle.test_shelves.specs.Plan.{PlainPlan, no_plan, told_at}
+use Rattle.test_shelves.specs.Readings.{PlainReading, name_of, rest_of}
 
 -- a shelf: its contents, its plan, how many bytes were taken, its faults, and any open reading
 pub record PlainShelf : Type 0 where

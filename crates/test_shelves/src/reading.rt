@@ -1,6 +1,6 @@
 //! Readings of bytes in memory.
 ghost use Rattle.std.specs.Prelude.{◌≡◌, ◌+◌, length, min, take, drop, string_bytes};
-ghost use Rattle.tc_io.specs.Readings.{new_reading};
+ghost use Rattle.test_shelves.specs.Readings.{new_reading};
 
 use std::marker::Model;
 
@@ -13,7 +13,7 @@ pub struct Reading {
 
 impl Model for Reading {
     ghost use Rattle.std.specs.Prelude.{string_bytes};
-    ghost use Rattle.tc_io.specs.Readings.{PlainReading};
+    ghost use Rattle.test_shelves.specs.Readings.{PlainReading};
 
     ghost Value = { PlainReading };
 

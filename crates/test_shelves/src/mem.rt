@@ -25,7 +25,7 @@ ghost use Rattle.std.specs.Prelude.{
   ◌↔◌,
 };
 ghost use Rattle.std.specs.FinMap as map;
-ghost use Rattle.tc_io.specs.Mem.{empty_shelf, empty_sink, empty_sure_shelf, mem_tells, sink_tells, taken_after, taken_after_piece};
+ghost use Rattle.test_shelves.specs.Mem.{empty_shelf, empty_sink, empty_sure_shelf, mem_tells, sink_tells, taken_after, taken_after_piece};
 ghost use Rattle.tc_io.specs.Outside.{
   Gave,
   FailedToGive,
@@ -41,16 +41,16 @@ ghost use Rattle.tc_io.specs.Outside.{
   WrotePart,
   closed,
 };
-ghost use Rattle.tc_io.specs.Plan.{told_at, with_call};
+ghost use Rattle.test_shelves.specs.Plan.{told_at, with_call};
 
-use crate::faults::{Access, Faults};
 use crate::named::NamedBytes;
 pub use crate::plan::Fail;
 use crate::plan::Plan;
 use crate::reading::Reading;
-use crate::{FetchFault, KeepFault, OpenFault, PieceFault, PutFault, Shelf, Sink};
 use std::alloc::{AllocError, Global};
 use std::marker::Model;
+use tc_io::faults::{Access, Faults};
+use tc_io::{FetchFault, KeepFault, OpenFault, PieceFault, PutFault, Shelf, Sink};
 
 /// A shelf in memory, which reports its contents, and fails as planned.
 ///
@@ -66,8 +66,8 @@ pub struct MemShelf {
 
 impl Model for MemShelf {
     ghost use Rattle.std.specs.Coded.{codes};
-    ghost use Rattle.tc_io.specs.contracts.named.NamedBytes as named;
-    ghost use Rattle.tc_io.specs.Mem.{PlainShelf};
+    ghost use Rattle.test_shelves.specs.contracts.named.NamedBytes as named;
+    ghost use Rattle.test_shelves.specs.Mem.{PlainShelf};
 
     ghost Value = { PlainShelf };
 
@@ -109,7 +109,7 @@ impl MemShelf {
 }
 
 impl Shelf for MemShelf {
-    ghost use Rattle.tc_io.specs.Mem.{mem_tells};
+    ghost use Rattle.test_shelves.specs.Mem.{mem_tells};
 
     ghost tells = { mem_tells };
 
@@ -265,7 +265,7 @@ pub struct MemSink {
 }
 
 impl Model for MemSink {
-    ghost use Rattle.tc_io.specs.Mem.{PlainSink};
+    ghost use Rattle.test_shelves.specs.Mem.{PlainSink};
 
     ghost Value = { PlainSink };
 
@@ -301,7 +301,7 @@ impl MemSink {
 }
 
 impl Sink for MemSink {
-    ghost use Rattle.tc_io.specs.Mem.{sink_tells};
+    ghost use Rattle.test_shelves.specs.Mem.{sink_tells};
 
     ghost tells = { sink_tells };
 
@@ -347,8 +347,8 @@ pub struct SureShelf {
 
 impl Model for SureShelf {
     ghost use Rattle.std.specs.Coded.{codes};
-    ghost use Rattle.tc_io.specs.contracts.named.NamedBytes as named;
-    ghost use Rattle.tc_io.specs.Mem.{PlainSureShelf};
+    ghost use Rattle.test_shelves.specs.contracts.named.NamedBytes as named;
+    ghost use Rattle.test_shelves.specs.Mem.{PlainSureShelf};
 
     ghost Value = { PlainSureShelf };
 
@@ -379,7 +379,7 @@ impl SureShelf {
 }
 
 impl Shelf for SureShelf {
-    ghost use Rattle.tc_io.specs.Mem.{sure_shelf_tells};
+    ghost use Rattle.test_shelves.specs.Mem.{sure_shelf_tells};
 
     ghost tells = { sure_shelf_tells };
 
@@ -456,7 +456,7 @@ impl SureSink {
 }
 
 impl Sink for SureSink {
-    ghost use Rattle.tc_io.specs.Mem.{sure_sink_tells};
+    ghost use Rattle.test_shelves.specs.Mem.{sure_sink_tells};
 
     ghost tells = { sure_sink_tells };
 

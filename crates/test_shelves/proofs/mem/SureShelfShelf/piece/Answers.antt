@@ -1,8 +1,8 @@
 use Rattle.std.proofs.Common.{rules, refl, ap}
-use Rattle.tc_io.proofs.Pieces.{gave_piece}
+use Rattle.test_shelves.proofs.Pieces.{gave_piece}
 use Rattle.tc_io.specs.Faults.{no_faults}
-use Rattle.tc_io.specs.Mem.{PlainSureShelf}
-use Rattle.tc_io.proofs.mem.SureShelfShelf.piece.Goals as goal
+use Rattle.test_shelves.specs.Mem.{PlainSureShelf}
+use Rattle.test_shelves.proofs.mem.SureShelfShelf.piece.Goals as goal
 
 pub returns-clause-ok : goal.returns-clause-ok
 returns-clause-ok c =

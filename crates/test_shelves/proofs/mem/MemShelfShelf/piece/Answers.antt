@@ -1,8 +1,9 @@
 use Rattle.std.proofs.Common.{rules, sym, ◌∙◌, ap, subst, IsSome}
-use Rattle.tc_io.proofs.Pieces.{gave_piece, is_open}
-use Rattle.tc_io.specs.Mem.{PlainShelf}
-use Rattle.tc_io.specs.Readings.{name_of}
-use Rattle.tc_io.proofs.mem.MemShelfShelf.piece.Goals as goal
+use Rattle.tc_io.proofs.Pieces.{is_open}
+use Rattle.test_shelves.proofs.Pieces.{gave_piece}
+use Rattle.test_shelves.specs.Mem.{PlainShelf}
+use Rattle.test_shelves.specs.Readings.{name_of}
+use Rattle.test_shelves.proofs.mem.MemShelfShelf.piece.Goals as goal
 
 pub unwrap-reading-requires : goal.unwrap-reading-requires
 unwrap-reading-requires c =

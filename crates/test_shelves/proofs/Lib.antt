@@ -1,0 +1,3 @@
+pub mod ByName
+pub mod Kept
+pub mod Pieces
