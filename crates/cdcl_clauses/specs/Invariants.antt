@@ -1,6 +1,6 @@
 -- The invariants of a search: of its trail, its clauses and its watches.
 use Rattle.std.specs.Prelude.{◌≡◌, ◌≢◌, ℕ, ◌*◌, ◌<◌, ◌≤◌, true, List, [], ◌∷◌, None, MatchOption, length, take, slice_index, slice_index_or, Contains, All}
-use Rattle.cdcl_trail.specs.Literals.{opposite_of}
+use Rattle.cdcl_literals.specs.Literals.{opposite_of}
 use Rattle.cdcl_trail.specs.Trail.{Trail, IsTrail}
 use Rattle.cdcl_clauses.specs.Clauses.{Clause, at, watches, listed}
 use Rattle.cdcl_clauses.specs.declared.watches.Watch.{Watch}

@@ -6,7 +6,7 @@ use Rattle.std.proofs.lemmas.Bool.Decides.{nat_tests}
 use Rattle.std.proofs.lemmas.List.{get_or_default, length-take, length-take-le, take-take, take_all}
 use Rattle.cnf_core.specs.Clauses.{Formula}
 use Rattle.refute_check.specs.declared.line.TheConstants.{LINES}
-use Rattle.cdcl_trail.specs.Literals.{opposite_of}
+use Rattle.cdcl_literals.specs.Literals.{opposite_of}
 use Rattle.cdcl_trail.specs.Trail.{Trail, IsTrail, cut_to}
 use Rattle.cdcl_clauses.specs.Clauses.{Clause, listed}
 use Rattle.cdcl_clauses.specs.declared.watches.Watch.{Watch}

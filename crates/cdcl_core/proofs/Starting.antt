@@ -10,7 +10,7 @@ use Rattle.std.proofs.lemmas.Option.{slice_get_past}
 use Rattle.cnf_core.specs.Clauses.{Formula, is_clause, are_clauses, rises_above, var_of}
 use Rattle.cnf_core.specs.declared.cnf.TheConstants.{LIMIT}
 use Rattle.refute_check.specs.Refutations.{Checking, opening, keep, start, after}
-use Rattle.cdcl_trail.specs.Literals.{opposite_of}
+use Rattle.cdcl_literals.specs.Literals.{opposite_of}
 use Rattle.cdcl_trail.specs.Trail.{Trail, IsTrail, empty}
 use Rattle.cdcl_clauses.specs.Clauses.{Clause, at, no_clause, listed}
 use Rattle.cdcl_clauses.specs.declared.watches.Watch.{Watch}

@@ -9,7 +9,8 @@ use crate::state::{Restarts, State};
 use cdcl_activity::Activity;
 use cdcl_clauses::{Clauses, Watches};
 use cdcl_learn::close;
-use cdcl_lines::codes;
+use cdcl_lines::to_literals;
+use cdcl_literals::ClauseId;
 use cdcl_steps::{Loaded, load_clause};
 use cdcl_trail::Trail;
 use cnf_core::Cnf;
@@ -64,11 +65,11 @@ impl State {
         ensures none { self.new.added ≡ self.old.added }
     {
         let _len = self.formula.len();
-        self.conclude(alloc, &[place as u32])
+        self.conclude(alloc, &[ClauseId::new(place as u32)])
     }
 
     /// Closes the derivation because the only literal of a clause is false.
-    fn close_by_unit(&mut self, alloc: Global, conflict: u32) -> Result<(), AllocError>
+    fn close_by_unit(&mut self, alloc: Global, conflict: ClauseId) -> Result<(), AllocError>
         requires loaded { IsLoaded self.old (length self.old.formula.clauses) }
         requires refutes { Refutes self.old.clauses self.old.trail.literals conflict }
         ensures over { OnOk result (HasEnded self.new) }
@@ -110,7 +111,7 @@ impl State {
     }
 
     /// Loads all clauses, or returns one whose only literal is false.
-    fn load_all(&mut self, alloc: Global) -> Result<Option<u32>, AllocError>
+    fn load_all(&mut self, alloc: Global) -> Result<Option<ClauseId>, AllocError>
         requires loaded { IsLoaded self.old 0 }
         requires rooted { AreRooted self.old.trail self.old.clauses }
         requires literals { HaveLiterals self.old.formula.clauses }
@@ -123,7 +124,7 @@ impl State {
         for place in 0..self.formula.len() {
             match self.load(alloc, place)? {
                 Loaded::Taken => {}
-                Loaded::Refuted => conflict = Some(place as u32),
+                Loaded::Refuted => conflict = Some(ClauseId::new(place as u32)),
             }
         }
         Ok(conflict)
@@ -138,7 +139,7 @@ impl State {
         ensures loaded { OnOk result (IsLoaded self.new (place + 1)) }
         ensures one { IfOk result (LoadsOne self.old self.new place) }
     {
-        let literals = codes(alloc, self.formula.clause(place))?;
+        let literals = to_literals(alloc, self.formula.clause(place))?;
         load_clause(
             &mut self.trail,
             &mut self.clauses,

@@ -6,11 +6,12 @@ ghost use Rattle.cdcl_clauses.specs.Invariants.{AreConsistent, AreRooted};
 ghost use Rattle.cdcl_clauses.specs.declared.watches.Watch.{Watch};
 ghost use Rattle.cdcl_clauses.specs.Clauses.{dropped};
 ghost use Rattle.cdcl_core.specs.helpers.States.{MarksReasons, HasBound, NoneMayGo};
-ghost use Rattle.cdcl_trail.specs.Trail.{IsNoReason};
+ghost use Rattle.cdcl_trail.specs.Trail.{Trail, IsNoReason};
 
 use crate::state::State;
 use cdcl_clauses::Clauses;
 use cdcl_lines::delete_line;
+use cdcl_literals::ClauseId;
 use cdcl_steps::forget;
 use cdcl_trail::Trail;
 use std::alloc::{AllocError, Global};
@@ -41,7 +42,7 @@ impl State {
     }
 
     /// Half of the clauses that may be deleted, but at most `most`.
-    fn choose(&self, alloc: Global, most: usize) -> Result<Vec<u32>, AllocError>
+    fn choose(&self, alloc: Global, most: usize) -> Result<Vec<ClauseId>, AllocError>
         requires live { IsLive self.now }
         requires some { 0 < most }
         ensures may { IfOk result (λ chosen. MayAllGo self.now chosen.items) }
@@ -69,7 +70,7 @@ impl State {
         alloc: Global,
         reasons: &Vec<bool>,
         most: usize,
-    ) -> Result<Vec<u32>, AllocError>
+    ) -> Result<Vec<ClauseId>, AllocError>
         requires live { IsLive self.now }
         requires reasons { MarksReasons self.now.trail (length self.now.clauses) reasons.now.items }
         ensures may { IfOk result (λ chosen. MayAllGo self.now chosen.items) }
@@ -77,7 +78,8 @@ impl State {
     {
         let threshold = self.threshold(alloc, reasons, most)?;
         let mut chosen = Vec::new(alloc);
-        for clause in self.formula.len() as u32..self.clauses.len() as u32 {
+        for number in self.formula.len() as u32..self.clauses.len() as u32 {
+            let clause = ClauseId::new(number);
             if chosen.len() < most
                 && self.may_go(reasons, clause)
                 && self.worth(clause) < threshold
@@ -89,12 +91,13 @@ impl State {
     }
 
     /// The first clause that may be deleted.
-    fn first_to_go(&self, reasons: &Vec<bool>) -> Option<u32>
+    fn first_to_go(&self, reasons: &Vec<bool>) -> Option<ClauseId>
         requires live { IsLive self.now }
         requires reasons { MarksReasons self.now.trail (length self.now.clauses) reasons.now.items }
         ensures { MatchOption result (NoneMayGo self.now reasons.now.items) (MayGo self.now) }
     {
-        for clause in self.formula.len() as u32..self.clauses.len() as u32 {
+        for number in self.formula.len() as u32..self.clauses.len() as u32 {
+            let clause = ClauseId::new(number);
             if self.may_go(reasons, clause) {
                 return Some(clause);
             }
@@ -108,7 +111,8 @@ impl State {
         requires reasons { MarksReasons self.now.trail (length self.now.clauses) reasons.now.items }
     {
         let mut worths = Vec::new(alloc);
-        for clause in self.formula.len() as u32..self.clauses.len() as u32 {
+        for number in self.formula.len() as u32..self.clauses.len() as u32 {
+            let clause = ClauseId::new(number);
             if self.may_go(reasons, clause) {
                 worths.push(self.worth(clause))?;
             }
@@ -119,7 +123,7 @@ impl State {
     }
 
     /// Whether a learnt clause is kept and isn't a reason.
-    fn may_go(&self, reasons: &Vec<bool>, clause: u32) -> bool
+    fn may_go(&self, reasons: &Vec<bool>, clause: ClauseId) -> bool
         requires live { IsLive self.now }
         requires reasons { MarksReasons self.now.trail (length self.now.clauses) reasons.now.items }
         requires learnt { length self.now.formula.clauses ≤ clause }
@@ -127,14 +131,14 @@ impl State {
         ensures may { IsTrue result → MayGo self.now clause }
         ensures exactly { result ≡ ((at self.now.clauses clause).kept && not (slice_index_or reasons.now.items clause false)) }
     {
-        self.clauses.is_kept(clause) && !reasons[clause as usize]
+        self.clauses.is_kept(clause) && !reasons[clause.index()]
     }
 
     /// The worth of a clause: when it was last used, and the most with one or two literals.
-    fn worth(&self, clause: u32) -> u64
+    fn worth(&self, clause: ClauseId) -> u64
         requires { clause < length self.now.clauses }
     {
-        let used = u64::from(self.clauses.used(clause)) << 32 | u64::from(clause);
+        let used = u64::from(self.clauses.used(clause)) << 32 | clause.index() as u64;
         if self.clauses.literals(clause).len() > 2 {
             used
         } else {
@@ -143,7 +147,7 @@ impl State {
     }
 
     /// Drops these clauses, and writes the line that deletes them.
-    fn drop_all(&mut self, alloc: Global, chosen: &[u32]) -> Result<(), AllocError>
+    fn drop_all(&mut self, alloc: Global, chosen: &[ClauseId]) -> Result<(), AllocError>
         requires live { IsLive self.old }
         requires some { 0 < length chosen.now }
         requires may { MayAllGo self.old chosen.now }
@@ -154,7 +158,7 @@ impl State {
     {
         let line = delete_line(alloc, chosen)?;
         self.derivation.push(line)?;
-        forget_all(&self.trail, &mut self.clauses, chosen);
+        forget_all(&mut self.clauses, chosen);
         self.deleted += chosen.len() as u32;
         Ok(())
     }
@@ -168,31 +172,30 @@ fn reasons_of(alloc: Global, trail: &Trail, clauses: usize) -> Result<Vec<bool>,
     let mut marks = vec![in alloc; false; clauses]?;
     for place in 0..trail.len() {
         if let Some(reason) = trail.reason(place) {
-            marks[reason as usize] = true;
+            marks[reason.index()] = true;
         }
     }
     Ok(marks)
 }
 
-/// Drops these clauses.
-fn forget_all(trail: &Trail, clauses: &mut Clauses, chosen: &[u32])
-    requires there { All (λ k. k < length clauses.old) chosen.now }
-    requires no_reasons { All (IsNoReason trail.now) chosen.now }
+/// Drops these clauses, which mustn't be reasons.
+fn forget_all(clauses: &mut Clauses, chosen: &[ClauseId])
+    requires { All (λ k. k < length clauses.old) chosen.now }
     ensures after { clauses.new ≡ fold dropped clauses.old chosen.now }
-    ensures sound { (ws : List (List Watch)) → AreConsistent trail.now clauses.old ws → AreConsistent trail.now clauses.new ws }
-    ensures rooted { AreRooted trail.now clauses.old → AreRooted trail.now clauses.new }
+    ensures sound { (t : Trail) (ws : List (List Watch)) → All (IsNoReason t) chosen.now → AreConsistent t clauses.old ws → AreConsistent t clauses.new ws }
+    ensures rooted { (t : Trail) → AreRooted t clauses.old → AreRooted t clauses.new }
 {
     for clause in chosen {
-        forget(trail, clauses, *clause);
+        forget(clauses, *clause);
     }
 }
 
 /// Records that these clauses are used.
-pub(crate) fn touch_all(clauses: &mut Clauses, used: &[u32], now: u32)
+pub(crate) fn touch_all(clauses: &mut Clauses, used: &[ClauseId], now: u32)
     ensures { clauses.new ≡ clauses.old }
 {
     for clause in used {
-        if (*clause as usize) < clauses.len() {
+        if clause.index() < clauses.len() {
             clauses.touch(*clause, now);
         }
     }

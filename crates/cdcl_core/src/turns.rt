@@ -17,6 +17,7 @@ use crate::reducing::touch_all;
 use crate::state::State;
 use cdcl_learn::{Lesson, Turn, analyze, close};
 use cdcl_lines::{add_line, assignment_of, sort_lesson};
+use cdcl_literals::{ClauseId, Literal};
 use cdcl_steps::{attach, detach, go_back, to_conflict};
 use refute_check::Derivation;
 use std::alloc::{AllocError, Global};
@@ -86,7 +87,7 @@ impl State {
     }
 
     /// Decides until there is a conflict, or no variable is open.
-    fn descend(&mut self) -> Result<Option<u32>, AllocError>
+    fn descend(&mut self) -> Result<Option<ClauseId>, AllocError>
         requires { IsLive self.old }
         ensures live { IsLive self.new }
         ensures same { IsAsFar self.old self.new }
@@ -114,7 +115,7 @@ impl State {
     }
 
     /// The lesson of a conflict.
-    fn lesson(&mut self, alloc: Global, conflict: u32) -> Result<Lesson, AllocError>
+    fn lesson(&mut self, alloc: Global, conflict: ClauseId) -> Result<Lesson, AllocError>
         requires live { IsLive self.old }
         requires conflict { IsConflict self.old.trail self.old.clauses conflict }
         ensures same { self.new ≡ self.old }
@@ -128,7 +129,7 @@ impl State {
     }
 
     /// The lesson of a conflict, unsorted.
-    fn study(&mut self, alloc: Global, conflict: u32) -> Result<Lesson, AllocError>
+    fn study(&mut self, alloc: Global, conflict: ClauseId) -> Result<Lesson, AllocError>
         requires live { IsLive self.old }
         requires conflict { IsConflict self.old.trail self.old.clauses conflict }
         ensures same { self.new ≡ self.old }
@@ -164,9 +165,14 @@ impl State {
         ensures err_live { OnErr result (IsLive self.new) }
         ensures err_same { OnErr result (IsAsFar self.old self.new) }
     {
-        match lesson.turn {
+        let Lesson {
+            literals,
+            hints,
+            turn,
+        } = lesson;
+        match turn {
             Turn::Closed => {
-                self.conclude(alloc, lesson.hints.as_slice())?;
+                self.conclude(alloc, hints.as_slice())?;
                 Ok(Step::Closed)
             }
             Turn::Back {
@@ -177,8 +183,8 @@ impl State {
                 self.back(level);
                 self.learn(
                     alloc,
-                    lesson.literals.as_slice(),
-                    lesson.hints.as_slice(),
+                    literals.as_slice(),
+                    hints.as_slice(),
                     asserted,
                     beside,
                 )?;
@@ -189,7 +195,7 @@ impl State {
     }
 
     /// Writes the line that closes the derivation.
-    pub(crate) fn conclude(&mut self, alloc: Global, hints: &[u32]) -> Result<(), AllocError>
+    pub(crate) fn conclude(&mut self, alloc: Global, hints: &[ClauseId]) -> Result<(), AllocError>
         requires { CanConclude self.old hints.now }
         ensures over { OnOk result (HasEnded self.new) }
         ensures further { OnOk result (IsFurther self.old self.new 0) }
@@ -214,10 +220,10 @@ impl State {
     fn learn(
         &mut self,
         alloc: Global,
-        literals: &[u32],
-        hints: &[u32],
-        asserted: u32,
-        beside: u32,
+        literals: &[Literal],
+        hints: &[ClauseId],
+        asserted: Literal,
+        beside: Literal,
     ) -> Result<(), AllocError>
         requires live { IsLive self.old }
         requires room { self.old.added < BUDGET }
@@ -230,7 +236,7 @@ impl State {
         ensures err { OnErr result (IsAsFar self.old self.new) }
     {
         let line = add_line(alloc, literals, hints)?;
-        let clause = self.clauses.len() as u32;
+        let clause = self.clauses.next_id();
         attach(
             &mut self.clauses,
             &mut self.watches,
@@ -273,8 +279,8 @@ impl State {
 pub(crate) fn write_line(
     alloc: Global,
     derivation: &mut Derivation,
-    literals: &[u32],
-    hints: &[u32],
+    literals: &[Literal],
+    hints: &[ClauseId],
 ) -> Result<(), AllocError>
     requires rise { Rise literals.now }
     requires within { All (λ l. l < 2 * LIMIT) literals.now }

@@ -29,7 +29,7 @@ use Rattle.std.specs.Prelude.{Contains}
 use Rattle.std.proofs.lemmas.Bool.{cases_lt}
 use Rattle.std.proofs.lemmas.List.{get_or-map, length-map, get_or_default, length-take}
 use Rattle.std.proofs.lemmas.List.Elements.{Contains-push, Contains-push_cases, Contains-append_left, Contains-get_or}
-use Rattle.cdcl_trail.specs.Literals.{opposite_of}
+use Rattle.cdcl_literals.specs.Literals.{opposite_of}
 use Rattle.cdcl_trail.specs.Trail.{Trail, IsTrail}
 use Rattle.cdcl_clauses.specs.Clauses.{Clause}
 use Rattle.cdcl_learn.specs.Shown.{Shows}
@@ -38,7 +38,7 @@ use Rattle.cdcl_learn.specs.helpers.Analyses.{Suffices, Tallies, IsCleared, IsLa
 use Rattle.cdcl_learn.specs.helpers.Starts.{AreLower, IsTurn, Turns}
 use Rattle.cdcl_learn.specs.declared.lesson.Turn.{Turn}
 use Rattle.cdcl_learn.specs.declared.lesson.Turn.TheVariants.{Closed, Back}
-use Rattle.cdcl_trail.proofs.Opposites.{opposite_of-opposite_of}
+use Rattle.cdcl_literals.proofs.Opposites.{opposite_of-opposite_of}
 
 contains_map : (f : ℕ → ℕ) (xs : List ℕ) (y : ℕ) → Contains (map f xs) y → (x : ℕ) × Contains xs x × (f x ≡ y)
 contains_map f xs y (k, kl, e) =

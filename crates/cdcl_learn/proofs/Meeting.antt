@@ -5,8 +5,9 @@ use Rattle.std.proofs.lemmas.Bool.{cases_eq, cases_lt, some_since}
 use Rattle.std.proofs.lemmas.List.{take_more, reverse-append, length-take, get_or_default, get_or_past}
 use Rattle.std.proofs.lemmas.List.Elements.{Contains-push, Contains-push_cases, Contains-append_left, Contains-get_or}
 use Rattle.std.proofs.lemmas.Option.{MatchOption-at_some}
-use Rattle.cdcl_trail.specs.Literals.{opposite_of}
-use Rattle.cdcl_trail.proofs.Opposites.{opposite_of-half, not-both}
+use Rattle.cdcl_literals.specs.Literals.{opposite_of}
+use Rattle.cdcl_literals.proofs.Opposites.{opposite_of-half}
+use Rattle.cdcl_trail.proofs.Opposites.{not-both}
 use Rattle.cdcl_trail.specs.Trail.{Trail, IsTrail}
 use Rattle.cdcl_clauses.specs.Clauses.{Clause, at}
 use Rattle.cdcl_clauses.specs.Invariants.{IsReason, BeginsAt, AreReasoned}

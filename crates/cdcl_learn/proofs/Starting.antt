@@ -3,14 +3,14 @@ use Rattle.std.proofs.Common.{◌≡◌, ℕ, ◌<◌, ◌≤◌, Bool, true, fa
 use Rattle.std.specs.Prelude.{Contains}
 use Rattle.std.proofs.lemmas.Bool.{cases_lt}
 use Rattle.std.proofs.lemmas.List.{get_or-replicate, get_or_past, length-replicate}
-use Rattle.cdcl_trail.specs.Literals.{opposite_of}
+use Rattle.cdcl_literals.specs.Literals.{opposite_of}
 use Rattle.cdcl_trail.specs.Trail.{Trail}
 use Rattle.cdcl_clauses.specs.Clauses.{Clause, at}
 use Rattle.cdcl_clauses.specs.Invariants.{IsConflict}
 use Rattle.cdcl_learn.specs.Shown.{Leads}
 use Rattle.cdcl_learn.specs.helpers.Analyses.{IsMet, Meets, Suffices, Tallies, IsCleared}
 use Rattle.cdcl_learn.proofs.Counting.{open_none, open_some}
-use Rattle.cdcl_trail.proofs.Opposites.{opposite_of-half}
+use Rattle.cdcl_literals.proofs.Opposites.{opposite_of-half}
 use Rattle.cdcl_learn.proofs.Meeting.{met_within}
 
 unmet : (n : ℕ) (met : List Bool) → met ≡ replicate n false → (q : ℕ) → IsMet met q → ⊥

@@ -30,10 +30,10 @@ use Rattle.std.proofs.Common.{
 use Rattle.std.specs.Prelude.{Contains, MatchOption}
 use Rattle.std.proofs.lemmas.List.{take_more, take_all, nil_from_length, get_or_default, length-take, length-take-le}
 use Rattle.std.proofs.lemmas.List.Elements.{Contains-push, Contains-push_cases, Contains-append_left}
-use Rattle.cdcl_trail.specs.Literals.{opposite_of}
+use Rattle.cdcl_literals.specs.Literals.{opposite_of}
 use Rattle.cdcl_trail.specs.Trail.{Trail, IsTrail}
 use Rattle.cdcl_learn.specs.helpers.Starts.{AreLower, IsHighest, IsLevelAfter, IsTurn}
-use Rattle.cdcl_trail.proofs.Opposites.{opposite_of-half, opposite_of-opposite_of, opposite_of-within}
+use Rattle.cdcl_literals.proofs.Opposites.{opposite_of-half, opposite_of-opposite_of, opposite_of-within}
 
 -- where the variable of a lower literal stands
 pub record StandsLow (t : Trail) (x : ℕ) : Type 0 where

@@ -1,6 +1,6 @@
 -- What a conflict teaches.
 use Rattle.std.specs.Prelude.{◌≡◌, ◌≢◌, ℕ, ◌<◌, List, [], ◌∷◌, length, take, slice_index, Contains, All}
-use Rattle.cdcl_trail.specs.Literals.{opposite_of}
+use Rattle.cdcl_literals.specs.Literals.{opposite_of}
 use Rattle.cdcl_trail.specs.Trail.{Trail}
 use Rattle.cdcl_clauses.specs.Clauses.{Clause}
 use Rattle.cdcl_learn.specs.Shown.{Shows}

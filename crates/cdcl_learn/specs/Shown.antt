@@ -1,6 +1,6 @@
 -- How unit propagation through other clauses, in order, proves a clause.
 use Rattle.std.specs.Prelude.{◌≡◌, ◌≢◌, ℕ, ◌<◌, true, List, [], ◌∷◌, ◌++◌, length, map, Contains}
-use Rattle.cdcl_trail.specs.Literals.{opposite_of}
+use Rattle.cdcl_literals.specs.Literals.{opposite_of}
 use Rattle.cdcl_clauses.specs.Clauses.{Clause, at}
 
 -- the clause is kept, and all its literals are false

@@ -1,13 +1,14 @@
 //! The state of a conflict analysis.
 ghost use Rattle.std.specs.Prelude.{◌≡◌, ℕ, ◌*◌, ◌<◌, ◌≤◌, ◌⊎◌, [], ◌∷◌, ◌++◌, true, None, IsSome, OnOk, IfOk, Contains, All, length, slice_index_or};
-ghost use Rattle.cdcl_trail.specs.Literals.{opposite_of};
+ghost use Rattle.cdcl_literals.specs.Literals.{opposite_of};
 ghost use Rattle.cdcl_trail.specs.Trail.{IsTrail};
 ghost use Rattle.cdcl_clauses.specs.Clauses.{at};
 ghost use Rattle.cdcl_clauses.specs.Invariants.{IsClause, AreReasoned, BeginsAt};
 
 use cdcl_activity::Activity;
 use cdcl_clauses::Clauses;
-use cdcl_trail::{Trail, opposite, variable};
+use cdcl_literals::{ClauseId, Literal};
+use cdcl_trail::Trail;
 use std::alloc::AllocError;
 
 /// The places of the trail that were met and aren't resolved, how many are on the last level, the
@@ -16,8 +17,8 @@ use std::alloc::AllocError;
 pub(crate) struct Analysis {
     pub(crate) met: Vec<bool>,
     pub(crate) pending: usize,
-    pub(crate) literals: Vec<u32>,
-    pub(crate) hints: Vec<u32>,
+    pub(crate) literals: Vec<Literal>,
+    pub(crate) hints: Vec<ClauseId>,
 }
 
 /// Where the first level begins, and where the last does.
@@ -44,7 +45,7 @@ impl Analysis {
         if place >= bounds.base {
             self.pending += 1;
         } else if place >= bounds.root {
-            self.literals.push(opposite(trail.literal(place)))?;
+            self.literals.push(trail.literal(place).opposite())?;
         }
         self.met[place] = true;
         Ok(())
@@ -56,7 +57,7 @@ impl Analysis {
         trail: &Trail,
         clauses: &Clauses,
         activity: &mut Activity,
-        clause: u32,
+        clause: ClauseId,
         bounds: Bounds,
     ) -> Result<(), AllocError>
         requires lawful { IsTrail trail.now }
@@ -72,7 +73,7 @@ impl Analysis {
     {
         for literal in clauses.literals(clause) {
             let place = trail.place(*literal);
-            activity.bump(variable(*literal));
+            activity.bump(literal.variable());
             self.mark(trail, place, bounds)?;
         }
         self.hints.push(clause)?;

@@ -11,7 +11,8 @@ use crate::analysis::{Analysis, Bounds};
 use crate::lesson::{Lesson, Turn};
 use cdcl_activity::Activity;
 use cdcl_clauses::Clauses;
-use cdcl_trail::{Trail, opposite};
+use cdcl_literals::{ClauseId, Literal};
+use cdcl_trail::Trail;
 use std::alloc::{AllocError, Global};
 
 /// Begins the analysis of a conflict.
@@ -20,7 +21,7 @@ fn start(
     trail: &Trail,
     clauses: &Clauses,
     activity: &mut Activity,
-    conflict: u32,
+    conflict: ClauseId,
     bounds: Bounds,
 ) -> Result<Analysis, AllocError>
     requires lawful { IsTrail trail.now }
@@ -47,7 +48,7 @@ pub fn close(
     trail: &Trail,
     clauses: &Clauses,
     activity: &mut Activity,
-    conflict: u32,
+    conflict: ClauseId,
 ) -> Result<Lesson, AllocError>
     requires lawful { IsTrail trail.now }
     requires clauses { (k : ℕ) → k < length clauses.now → (at clauses.now k).kept ≡ true → IsClause trail.now.variables (at clauses.now k) }
@@ -81,7 +82,7 @@ pub fn analyze(
     trail: &Trail,
     clauses: &Clauses,
     activity: &mut Activity,
-    conflict: u32,
+    conflict: ClauseId,
 ) -> Result<Lesson, AllocError>
     requires lawful { IsTrail trail.now }
     requires clauses { (k : ℕ) → k < length clauses.now → (at clauses.now k).kept ≡ true → IsClause trail.now.variables (at clauses.now k) }
@@ -99,7 +100,7 @@ pub fn analyze(
     let mut analysis = start(alloc, trail, clauses, activity, conflict, bounds)?;
     let uip = analysis.uip(trail, clauses, activity, bounds)?;
     analysis.clear_root(trail, clauses, activity, bounds)?;
-    let asserted = opposite(trail.literal(uip));
+    let asserted = trail.literal(uip).opposite();
     let Analysis {
         mut literals,
         mut hints,
@@ -116,7 +117,7 @@ pub fn analyze(
 }
 
 /// Where to backtrack, given the other literals of the clause.
-fn turn(trail: &Trail, literals: &[u32], asserted: u32) -> Turn
+fn turn(trail: &Trail, literals: &[Literal], asserted: Literal) -> Turn
     requires lawful { IsTrail trail.now }
     requires levels { 0 < length trail.now.starts }
     requires lower { AreLower trail.now literals.now }
@@ -137,7 +138,7 @@ fn turn(trail: &Trail, literals: &[u32], asserted: u32) -> Turn
 }
 
 /// The literal whose variable is highest on the trail.
-fn highest(trail: &Trail, literals: &[u32]) -> Option<u32>
+fn highest(trail: &Trail, literals: &[Literal]) -> Option<Literal>
     requires lawful { IsTrail trail.now }
     requires levels { 0 < length trail.now.starts }
     requires lower { AreLower trail.now literals.now }

@@ -1,12 +1,14 @@
 //! What was learnt.
 
+use cdcl_literals::{ClauseId, Literal};
+
 /// A learnt clause, its proof, and what to do next.
 #[derive(Debug, Drop)]
 pub struct Lesson {
     /// The literals of the clause, sorted.
-    pub literals: Vec<u32>,
+    pub literals: Vec<Literal>,
     /// The clauses that prove it by unit propagation, in order; the last one becomes false.
-    pub hints: Vec<u32>,
+    pub hints: Vec<ClauseId>,
     /// What to do next.
     pub turn: Turn,
 }
@@ -19,7 +21,7 @@ pub enum Turn {
     /// Undo the levels from this one on and assert the literal that is open then, which is watched.
     Back {
         level: usize,
-        asserted: u32,
-        beside: u32,
+        asserted: Literal,
+        beside: Literal,
     },
 }

@@ -11,7 +11,7 @@ use Rattle.refute_check.specs.Literals.{is_among}
 use Rattle.refute_check.specs.Kept.{KeptClauses}
 use Rattle.refute_check.specs.Refutations.{Checking, start, after}
 use Rattle.refute_check.specs.declared.line.Line.{Line}
-use Rattle.cdcl_trail.specs.Literals.{opposite_of}
+use Rattle.cdcl_literals.specs.Literals.{opposite_of}
 use Rattle.cdcl_trail.specs.Trail.{Trail, IsTrail}
 use Rattle.cdcl_trail.proofs.Opposites.{not-both}
 use Rattle.cdcl_clauses.specs.Clauses.{Clause, at, watches}

@@ -35,8 +35,8 @@ use Rattle.std.specs.List.{list_all}
 use Rattle.std.proofs.lemmas.Bool.{eq-eqb, ne_eqb, cond-true, cond-false, and_parts, and_from, lt-ltb, ltb-true, le-leb, leb-true}
 use Rattle.std.proofs.lemmas.List.Elements.{All-cons, All-head, All-tail, All-nil}
 use Rattle.cnf_core.specs.Clauses.{var_of, rises_above, is_within}
-use Rattle.cdcl_trail.specs.Literals.{opposite_of}
-use Rattle.cdcl_trail.proofs.Opposites.{opposite_of-cases}
+use Rattle.cdcl_literals.specs.Literals.{opposite_of}
+use Rattle.cdcl_literals.proofs.Opposites.{opposite_of-cases}
 use Rattle.cdcl_lines.specs.Literals.{literal_of, code_of, clause_of, numbers_of}
 use Rattle.cdcl_lines.proofs.Members.{contains-here, contains-there, contains-cases, all-pairs-head}
 

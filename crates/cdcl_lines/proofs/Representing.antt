@@ -40,7 +40,7 @@ use Rattle.refute_check.specs.Refutations.{Checking, keep, judged, passed, line_
 use Rattle.refute_check.specs.declared.line.Line.{Line}
 use Rattle.refute_check.specs.declared.verdict.CheckFault.TheVariants.{NoVariable, NoClause}
 use Rattle.cnf_core.specs.Clauses.{is_within}
-use Rattle.cdcl_trail.specs.Literals.{opposite_of}
+use Rattle.cdcl_literals.specs.Literals.{opposite_of}
 use Rattle.cdcl_clauses.specs.Clauses.{Clause, at, no_clause}
 use Rattle.cdcl_clauses.specs.Invariants.{AreSame}
 use Rattle.cdcl_learn.specs.Shown.{Shows}

@@ -3,9 +3,9 @@ use Rattle.std.proofs.Common.{◌≡◌, ℕ, zero, suc, ◌*◌, ◌/◌, ◌<�
 use Rattle.std.specs.Prelude.{Contains, slice_get, IfSome}
 use Rattle.std.proofs.lemmas.Bool.{cases_eq, and_from, or_left, or_right}
 use Rattle.cnf_core.specs.Clauses.{Valuation, literal_true, clause_true, satisfies, value_in}
-use Rattle.cdcl_trail.specs.Literals.{opposite_of}
+use Rattle.cdcl_literals.specs.Literals.{opposite_of}
 use Rattle.cdcl_trail.specs.Trail.{Trail, IsOpen}
-use Rattle.cdcl_trail.proofs.Opposites.{opposite_of-cases, opposite_of-opposite_of}
+use Rattle.cdcl_literals.proofs.Opposites.{opposite_of-cases, opposite_of-opposite_of}
 use Rattle.cdcl_clauses.specs.Clauses.{at}
 use Rattle.cdcl_clauses.specs.Invariants.{IsClause}
 use Rattle.std.proofs.lemmas.List.Elements.{All-contains}

@@ -1,22 +1,14 @@
--- The number of a literal in memory, and back.
-use Rattle.std.proofs.Common.{◌≡◌, ℕ, suc, ◌+◌, ◌-◌, ◌*◌, ◌/◌, ◌%◌, ℤ, pos, negsuc, inl, inr, refl, sym, ◌∙◌, ap, arith}
+-- A search's literal for one of a formula, and back.
+use Rattle.std.proofs.Common.{◌≡◌, ℕ, suc, ◌+◌, ◌/◌, ◌%◌, ℤ, pos, negsuc, inl, inr, sym, ◌∙◌, ap, arith}
 use Rattle.std.specs.Prelude.{◌<ℤ◌}
 use Rattle.std.proofs.lemmas.Bool.{cases_eq}
 use Rattle.std.proofs.lemmas.Int.{ints}
 use Rattle.cnf_core.specs.Clauses.{var_of}
 use Rattle.cdcl_lines.specs.Literals.{literal_of, code_of}
-use Rattle.cdcl_lines.proofs.Numbers.{even-literal, odd-literal}
+use Rattle.cdcl_lines.proofs.Numbers.{even-literal, odd-literal, code-literal}
 
 not-below : (n : ℕ) → pos n <ℤ pos 0 → ⊥
 not-below n h = grind (arith, ints)
-
-pub code-negative : (z : ℤ) → z <ℤ pos 0 → 2 * (var_of z - 1) + 1 ≡ code_of z
-code-negative (pos n) h = absurd (not-below n h)
-code-negative (negsuc n) h = omega arith
-
-pub code-positive : (z : ℤ) → (z <ℤ pos 0 → ⊥) → 2 * (var_of z - 1) ≡ code_of z
-code-positive (pos n) h = refl
-code-positive (negsuc n) h = absurd (h (record { lt = tt }))
 
 pub literal-from : (z : ℤ) (l : ℕ) → var_of z ≡ l / 2 + 1 → (z <ℤ pos 0 → l % 2 ≡ 1) → (l % 2 ≡ 1 → z <ℤ pos 0) → z ≡ literal_of l
 literal-from (pos n) l v f g =
@@ -25,3 +17,6 @@ literal-from (pos n) l v f g =
       | inr e ↦ (let w : n ≡ suc (l / 2) = omega (arith, v) in ap pos w ∙ sym (even-literal l (omega (arith, e))))
     ]
 literal-from (negsuc n) l v f g = let w : n ≡ l / 2 = omega (arith, v) in ap negsuc w ∙ sym (odd-literal l (f (record { lt = tt })))
+
+pub code-from : (z : ℤ) (l : ℕ) → z ≡ literal_of l → l ≡ code_of z
+code-from z l e = sym (code-literal l) ∙ ap code_of (sym e)

@@ -32,10 +32,10 @@ use Rattle.std.specs.Prelude.{Contains}
 use Rattle.std.proofs.lemmas.Bool.{cases_lt}
 use Rattle.std.proofs.lemmas.List.{get_or_at, get_or_append_left, length_push}
 use Rattle.cnf_core.specs.Clauses.{literal_true, value_in}
-use Rattle.cdcl_trail.specs.Literals.{opposite_of}
+use Rattle.cdcl_literals.specs.Literals.{opposite_of}
 use Rattle.cdcl_trail.specs.Trail.{Trail, IsTrail, Is}
 use Rattle.cdcl_trail.specs.declared.trail.Value.TheVariants.{Open, True, False}
-use Rattle.cdcl_trail.proofs.Opposites.{opposite_of-cases}
+use Rattle.cdcl_literals.proofs.Opposites.{opposite_of-cases}
 use Rattle.cdcl_lines.specs.Models.{Agrees}
 use Rattle.cdcl_lines.proofs.Numbers.{even-literal, odd-literal}
 use Rattle.cdcl_lines.proofs.Freshness.{trail-within}

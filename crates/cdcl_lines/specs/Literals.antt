@@ -1,10 +1,11 @@
 -- A search's literals and clauses in the form that a checker uses.
-use Rattle.std.specs.Prelude.{ℕ, suc, ◌+◌, ◌-◌, ◌*◌, ◌/◌, ◌%◌, ◌==◌, if◌then◌else◌, List, map, ℤ, pos, negsuc, IsTrue}
+use Rattle.std.specs.Prelude.{ℕ, suc, ◌+◌, ◌-◌, ◌*◌, ◌%◌, ◌==◌, if◌then◌else◌, List, map, ℤ, pos, negsuc, IsTrue}
 use Rattle.cnf_core.specs.Clauses.{is_clause}
+use Rattle.cdcl_literals.specs.Literals.{variable_of}
 
 -- the literal of a number: variables count from 1, and odd numbers are negated literals
 abbrev pub literal_of : ℕ → ℤ
-literal_of l = if l % 2 == 0 then pos (suc (l / 2)) else negsuc (l / 2)
+literal_of l = if l % 2 == 0 then pos (suc (variable_of l)) else negsuc (variable_of l)
 
 -- the number of a literal
 abbrev pub code_of : ℤ → ℕ

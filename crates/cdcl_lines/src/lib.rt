@@ -15,5 +15,5 @@ pub use keeping::{
 };
 pub use lessons::{false_are_apart, false_are_within, sort_lesson, sort_literals};
 pub use lines::{add_line, delete_line};
-pub use literals::{code, codes, lit};
+pub use literals::{to_lit, to_literal, to_literals};
 pub use models::{assignment_of, full_satisfies};

@@ -5,13 +5,14 @@ ghost use Rattle.refute_check.specs.Refutations.{is_line};
 ghost use Rattle.cdcl_lines.specs.Literals.{clause_of, numbers_of, Rise};
 ghost use Rattle.cdcl_lines.specs.Lines.{added, deleted};
 
-use crate::lit;
+use crate::to_lit;
+use cdcl_literals::{ClauseId, Literal};
 use cnf_core::{Clause, Lit};
 use refute_check::{Line, Numbers};
 use std::alloc::{AllocError, Global};
 
 /// The line that adds a clause, proved by the clauses at these indexes in order.
-pub fn add_line(alloc: Global, literals: &[u32], hints: &[u32]) -> Result<Line, AllocError>
+pub fn add_line(alloc: Global, literals: &[Literal], hints: &[ClauseId]) -> Result<Line, AllocError>
     requires rise { Rise literals.now }
     requires within { All (λ l. l < 2 * LIMIT) literals.now }
     requires hints { All (λ h. h + 1 < 2 ^ 32) hints.now }
@@ -24,7 +25,7 @@ pub fn add_line(alloc: Global, literals: &[u32], hints: &[u32]) -> Result<Line, 
 }
 
 /// The line that deletes the clauses at these indexes, at least one.
-pub fn delete_line(alloc: Global, clauses: &[u32]) -> Result<Line, AllocError>
+pub fn delete_line(alloc: Global, clauses: &[ClauseId]) -> Result<Line, AllocError>
     requires some { clauses.now ≢ [] }
     requires clauses { All (λ k. k + 1 < 2 ^ 32) clauses.now }
     ensures line { IfOk result (λ line. line ≡ deleted clauses.now) }
@@ -33,26 +34,26 @@ pub fn delete_line(alloc: Global, clauses: &[u32]) -> Result<Line, AllocError>
     Ok(Line::Delete(numbers(alloc, clauses)?))
 }
 
-/// The literals of these numbers.
-fn lits(alloc: Global, literals: &[u32]) -> Result<Vec<Lit>, AllocError>
+/// The formula's literals for these of the search.
+fn lits(alloc: Global, literals: &[Literal]) -> Result<Vec<Lit>, AllocError>
     requires { All (λ l. l < 2 * LIMIT) literals.now }
     ensures { IfOk result (λ lits. lits.items ≡ clause_of literals.now) }
 {
     let mut lits = Vec::with_capacity(alloc, literals.len())?;
     for literal in literals {
-        lits.push(lit(*literal))?;
+        lits.push(to_lit(*literal))?;
     }
     Ok(lits)
 }
 
 /// The numbers of the clauses at these indexes.
-fn numbers(alloc: Global, clauses: &[u32]) -> Result<Numbers, AllocError>
+fn numbers(alloc: Global, clauses: &[ClauseId]) -> Result<Numbers, AllocError>
     requires { All (λ k. k + 1 < 2 ^ 32) clauses.now }
     ensures { IfOk result (λ numbers. numbers ≡ numbers_of clauses.now) }
 {
     let mut numbers = Vec::with_capacity(alloc, clauses.len())?;
     for clause in clauses {
-        numbers.push(*clause + 1)?;
+        numbers.push(clause.index() as u32 + 1)?;
     }
     Ok(Numbers::new(numbers))
 }

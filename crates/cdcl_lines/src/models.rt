@@ -4,6 +4,7 @@ ghost use Rattle.cdcl_trail.specs.Trail.{IsTrail};
 ghost use Rattle.cdcl_steps.specs.Descents.{IsFull};
 ghost use Rattle.cdcl_lines.specs.Models.{Agrees, FullSatisfies};
 
+use cdcl_literals::Variable;
 use cdcl_trail::{Trail, Value};
 use cnf_core::Assignment;
 use std::alloc::{AllocError, Global};
@@ -16,8 +17,9 @@ pub fn assignment_of(alloc: Global, trail: &Trail, variables: u32) -> Result<Ass
     ensures { IfOk result (λ values. Agrees trail.now values) }
 {
     let mut values = Vec::with_capacity(alloc, variables as usize)?;
-    for variable in 0..variables {
-        values.push(trail.value(2 * variable) == Value::True)?;
+    for number in 0..variables {
+        let literal = Variable::new(number).positive();
+        values.push(trail.value(literal) == Value::True)?;
     }
     Ok(Assignment::new(values))
 }

@@ -2,7 +2,7 @@
 use Rattle.std.proofs.Common.{ℕ, List, inl, inr, sym, subst}
 use Rattle.std.specs.Prelude.{Contains}
 use Rattle.std.proofs.lemmas.Bool.{cases_eq}
-use Rattle.cdcl_trail.specs.Literals.{opposite_of}
+use Rattle.cdcl_literals.specs.Literals.{opposite_of}
 use Rattle.cdcl_trail.specs.Trail.{Trail}
 use Rattle.cdcl_propagate.specs.helpers.Looks.{AllFalseBut}
 

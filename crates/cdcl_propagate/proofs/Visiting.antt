@@ -40,8 +40,8 @@ use Rattle.std.proofs.lemmas.Bool.{cases_eq}
 use Rattle.std.proofs.lemmas.Bool.Decides.{nat_tests}
 use Rattle.std.proofs.lemmas.List.{get_or_default, get_or_read}
 use Rattle.std.proofs.lemmas.List.Elements.{Contains-push, All-contains}
-use Rattle.cdcl_trail.specs.Literals.{opposite_of}
-use Rattle.cdcl_trail.proofs.Opposites.{opposite_of-opposite_of, opposite_of-within}
+use Rattle.cdcl_literals.specs.Literals.{opposite_of}
+use Rattle.cdcl_literals.proofs.Opposites.{opposite_of-opposite_of, opposite_of-within}
 use Rattle.cdcl_trail.specs.Trail.{Trail, IsTrail, pushed}
 use Rattle.cdcl_clauses.specs.Clauses.{Clause, at, no_clause, watches, beside, listed, without_place}
 use Rattle.cdcl_clauses.specs.Invariants.{AreConsistent, IsClause, IsWatch, IsListed, IsConflict, HasTrue, AreLinked, AreSame, Extends}

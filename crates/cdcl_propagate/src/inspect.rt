@@ -4,7 +4,8 @@ ghost use Rattle.cdcl_clauses.specs.Clauses.{at};
 ghost use Rattle.cdcl_clauses.specs.Invariants.{IsWatch, IsClause};
 ghost use Rattle.cdcl_propagate.specs.helpers.Looks.{Finds, AllFalseBut, IsFound};
 
-use cdcl_clauses::{Clauses, Watch, Watches};
+use cdcl_clauses::{Clauses, Watch};
+use cdcl_literals::{ClauseId, Literal};
 use cdcl_trail::{Trail, Value};
 
 /// The outcome of a look.
@@ -15,15 +16,22 @@ pub enum Look {
     /// The clause doesn't watch the literal any more, or isn't kept.
     Gone,
     /// The clause also watches `other`, and can watch `next`, which isn't false.
-    Moves { clause: u32, other: u32, next: u32 },
+    Moves {
+        clause: ClauseId,
+        other: Literal,
+        next: Literal,
+    },
     /// All literals except `other`, which is open, are false.
-    Forces { clause: u32, other: u32 },
+    Forces {
+        clause: ClauseId,
+        other: Literal,
+    },
     /// All literals are false.
-    Conflict(u32),
+    Conflict(ClauseId),
 }
 
 /// Looks at a watch of a literal that has become false.
-pub fn look_at(trail: &Trail, clauses: &Clauses, watch: Watch, fallen: u32) -> Look
+pub fn look_at(trail: &Trail, clauses: &Clauses, watch: Watch, fallen: Literal) -> Look
     requires watch { IsWatch trail.now.variables clauses.now watch }
     requires clause { (at clauses.now watch.clause).kept ≡ true → IsClause trail.now.variables (at clauses.now watch.clause) }
     ensures { Finds trail.now clauses.now fallen watch result }
@@ -54,7 +62,7 @@ pub fn look_at(trail: &Trail, clauses: &Clauses, watch: Watch, fallen: u32) -> L
 }
 
 /// A literal that isn't false and isn't `beside`.
-fn not_false(trail: &Trail, literals: &[u32], beside: u32) -> Option<u32>
+fn not_false(trail: &Trail, literals: &[Literal], beside: Literal) -> Option<Literal>
     requires { All (λ l. l < 2 * trail.now.variables) literals.now }
     ensures { MatchOption result (AllFalseBut trail.now literals.now beside) (IsFound trail.now literals.now beside) }
 {

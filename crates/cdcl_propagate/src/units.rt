@@ -1,6 +1,6 @@
 //! Unit propagation to the end.
 ghost use Rattle.std.specs.Prelude.{◌≡◌, ℕ, ◌<◌, IfOk, IfSome, IsNone, OnErr, OnOk, Contains, true, length, slice_index};
-ghost use Rattle.cdcl_trail.specs.Literals.{opposite_of};
+ghost use Rattle.cdcl_literals.specs.Literals.{opposite_of};
 ghost use Rattle.cdcl_trail.specs.Trail.{IsOpen};
 ghost use Rattle.cdcl_clauses.specs.Clauses.{at, watches, listed};
 ghost use Rattle.cdcl_clauses.specs.Invariants.{AreConsistent, IsConflict, AreLinked};
@@ -9,7 +9,8 @@ ghost use Rattle.cdcl_propagate.specs.Propagation.{Propagates};
 
 use crate::inspect::{Look, look_at};
 use cdcl_clauses::{Clauses, Watch, Watches};
-use cdcl_trail::{Trail, opposite};
+use cdcl_literals::{ClauseId, Literal};
+use cdcl_trail::Trail;
 use std::alloc::AllocError;
 
 /// Propagates until nothing is pending, or returns a clause whose literals are all false.
@@ -17,14 +18,14 @@ pub fn propagate(
     trail: &mut Trail,
     clauses: &mut Clauses,
     watches: &mut Watches,
-) -> Result<Option<u32>, AllocError>
+) -> Result<Option<ClauseId>, AllocError>
     requires { AreConsistent trail.old clauses.old watches.old }
     ensures keeps { Propagates trail.old clauses.old trail.new clauses.new watches.new }
     ensures none { IfOk result (λ found. IsNone found → trail.new.propagated ≡ length trail.new.literals) }
     ensures conflict { IfOk result (λ found. IfSome found (IsConflict trail.new clauses.new)) }
 {
     while let Some(literal) = trail.pending() {
-        if let Some(conflict) = visit(trail, clauses, watches, opposite(literal))? {
+        if let Some(conflict) = visit(trail, clauses, watches, literal.opposite())? {
             return Ok(Some(conflict));
         }
         trail.advance();
@@ -37,8 +38,8 @@ fn visit(
     trail: &mut Trail,
     clauses: &mut Clauses,
     watches: &mut Watches,
-    fallen: u32,
-) -> Result<Option<u32>, AllocError>
+    fallen: Literal,
+) -> Result<Option<ClauseId>, AllocError>
     requires sound { AreConsistent trail.old clauses.old watches.old }
     requires pending { trail.old.propagated < length trail.old.literals }
     requires fallen { fallen ≡ opposite_of (slice_index trail.old.literals trail.old.propagated) }
@@ -74,9 +75,9 @@ fn visit(
 fn move_watch(
     clauses: &mut Clauses,
     watches: &mut Watches,
-    clause: u32,
-    other: u32,
-    next: u32,
+    clause: ClauseId,
+    other: Literal,
+    next: Literal,
 ) -> Result<(), AllocError>
     requires clause { clause < length clauses.old }
     requires next { next < length watches.old }

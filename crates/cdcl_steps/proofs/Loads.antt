@@ -4,7 +4,7 @@ use Rattle.std.specs.Prelude.{Contains}
 use Rattle.std.proofs.lemmas.Bool.{cases_eq}
 use Rattle.std.proofs.lemmas.List.{get_or_at, length_push, take_all}
 use Rattle.std.proofs.lemmas.List.Elements.{Contains-get_or}
-use Rattle.cdcl_trail.specs.Literals.{opposite_of}
+use Rattle.cdcl_literals.specs.Literals.{opposite_of}
 use Rattle.cdcl_trail.specs.Trail.{Trail, IsTrail, pushed}
 use Rattle.cdcl_clauses.specs.Clauses.{Clause, at, no_clause, kept_clause}
 use Rattle.cdcl_clauses.specs.Invariants.{IsClause, AreGuarded, IsReason, AreConsistent, AreRooted, root_of}

@@ -4,7 +4,7 @@ use Rattle.std.specs.Prelude.{Contains, All}
 use Rattle.std.proofs.lemmas.Bool.{cases_lt}
 use Rattle.std.proofs.lemmas.List.{get_or_at, get_or_append_left, length_push, take-append-le}
 use Rattle.std.proofs.lemmas.List.Elements.{All-push, All-contains, Contains-push}
-use Rattle.cdcl_trail.specs.Literals.{opposite_of}
+use Rattle.cdcl_literals.specs.Literals.{opposite_of}
 use Rattle.cdcl_trail.specs.Trail.{Trail, IsTrail, pushed}
 use Rattle.cdcl_clauses.specs.Clauses.{Clause, at, no_clause, watches, listed, kept_clause}
 use Rattle.cdcl_clauses.specs.Invariants.{Guards, IsClause, IsListed, IsWatch, AreLinked, AreGuarded, IsReason, AreReasoned, AreConsistent, BeginsAt}

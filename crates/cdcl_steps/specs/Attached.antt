@@ -1,6 +1,6 @@
 -- How one more clause is attached.
 use Rattle.std.specs.Prelude.{◌≡◌, ◌≢◌, ℕ, ◌*◌, ◌<◌, List, [], ◌∷◌, ◌++◌, length, take, slice_index, slice_set, Contains, All}
-use Rattle.cdcl_trail.specs.Literals.{opposite_of}
+use Rattle.cdcl_literals.specs.Literals.{opposite_of}
 use Rattle.cdcl_trail.specs.Trail.{Trail, IsOpen}
 use Rattle.cdcl_clauses.specs.Clauses.{Clause, kept_clause, listed}
 use Rattle.cdcl_clauses.specs.declared.watches.Watch.{Watch}

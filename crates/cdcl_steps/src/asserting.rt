@@ -6,6 +6,7 @@ ghost use Rattle.cdcl_steps.specs.Attached.{WasAttached, CanAssert};
 
 use crate::attaching::attach;
 use cdcl_clauses::{Clauses, Watches};
+use cdcl_literals::Literal;
 use cdcl_trail::Trail;
 use std::alloc::AllocError;
 
@@ -14,9 +15,9 @@ pub fn assert_clause(
     trail: &mut Trail,
     clauses: &mut Clauses,
     watches: &mut Watches,
-    literals: &[u32],
-    asserted: u32,
-    beside: u32,
+    literals: &[Literal],
+    asserted: Literal,
+    beside: Literal,
 ) -> Result<(), AllocError>
     requires sound { AreConsistent trail.old clauses.old watches.old }
     requires few { length clauses.old < 2 ^ 32 }
@@ -29,7 +30,7 @@ pub fn assert_clause(
     ensures err_clauses { OnErr result (clauses.new ≡ clauses.old) }
     ensures err_watches { OnErr result (watches.new ≡ watches.old) }
 {
-    let clause = clauses.len() as u32;
+    let clause = clauses.next_id();
     attach(clauses, watches, literals, asserted, beside)?;
     trail.imply(asserted, clause);
     Ok(())

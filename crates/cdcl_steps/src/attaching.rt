@@ -5,15 +5,16 @@ ghost use Rattle.cdcl_clauses.specs.declared.watches.Watch.{Watch};
 ghost use Rattle.cdcl_steps.specs.Attached.{WasAttached, both_listed};
 
 use cdcl_clauses::{Clauses, Watch, Watches};
+use cdcl_literals::{ClauseId, Literal};
 use std::alloc::AllocError;
 
 /// Adds a clause to the watch lists of the two literals that it watches; or changes nothing.
 pub fn attach(
     clauses: &mut Clauses,
     watches: &mut Watches,
-    literals: &[u32],
-    first: u32,
-    second: u32,
+    literals: &[Literal],
+    first: Literal,
+    second: Literal,
 ) -> Result<(), AllocError>
     requires few { length clauses.old < 2 ^ 32 }
     requires first { first < length watches.old }
@@ -22,7 +23,7 @@ pub fn attach(
     ensures err_clauses { OnErr result (clauses.new ≡ clauses.old) }
     ensures err_watches { OnErr result (watches.new ≡ watches.old) }
 {
-    let clause = clauses.len() as u32;
+    let clause = clauses.next_id();
     clauses.push(literals, first, second)?;
     if let Err(error) = stand(watches, clause, first, second) {
         clauses.pop();
@@ -32,7 +33,7 @@ pub fn attach(
 }
 
 /// Removes the last clause, which is last in both watch lists.
-pub fn detach(clauses: &mut Clauses, watches: &mut Watches, first: u32, second: u32)
+pub fn detach(clauses: &mut Clauses, watches: &mut Watches, first: Literal, second: Literal)
     requires first { first < length watches.old }
     requires second { second < length watches.old }
     ensures { (cs : List Clause) (ws : List (List Watch)) (literals : List ℕ)
@@ -44,7 +45,12 @@ pub fn detach(clauses: &mut Clauses, watches: &mut Watches, first: u32, second: 
 }
 
 /// Adds a clause to both watch lists; or changes nothing.
-fn stand(watches: &mut Watches, clause: u32, first: u32, second: u32) -> Result<(), AllocError>
+fn stand(
+    watches: &mut Watches,
+    clause: ClauseId,
+    first: Literal,
+    second: Literal,
+) -> Result<(), AllocError>
     requires first { first < length watches.old }
     requires second { second < length watches.old }
     ensures ok { OnOk result (watches.new ≡ both_listed watches.old clause first second) }

@@ -3,10 +3,11 @@ ghost use Rattle.std.specs.Prelude.{◌≡◌, ◌^◌, ◌<◌, MatchOption};
 ghost use Rattle.cdcl_steps.specs.Descents.{IsFull, IsChosen};
 
 use cdcl_activity::Activity;
+use cdcl_literals::Variable;
 use cdcl_trail::{Trail, Value};
 
 /// The most active open variable, or one that the heap has lost; `None` if no variable is open.
-pub fn next_open(trail: &Trail, activity: &mut Activity, variables: u32) -> Option<u32>
+pub fn next_open(trail: &Trail, activity: &mut Activity, variables: u32) -> Option<Variable>
     requires variables { variables ≡ trail.now.variables }
     requires activity { activity.old ≡ variables }
     requires few { variables < 2 ^ 31 }
@@ -17,7 +18,7 @@ pub fn next_open(trail: &Trail, activity: &mut Activity, variables: u32) -> Opti
         match activity.pop() {
             None => break,
             Some(variable) => {
-                if trail.value(2 * variable) == Value::Open {
+                if trail.value(variable.positive()) == Value::Open {
                     return Some(variable);
                 }
             }
@@ -27,13 +28,14 @@ pub fn next_open(trail: &Trail, activity: &mut Activity, variables: u32) -> Opti
 }
 
 /// The first open variable.
-fn first_open(trail: &Trail, variables: u32) -> Option<u32>
+fn first_open(trail: &Trail, variables: u32) -> Option<Variable>
     requires variables { variables ≡ trail.now.variables }
     requires few { variables < 2 ^ 31 }
     ensures { MatchOption result (IsFull trail.now) (IsChosen trail.now) }
 {
-    for variable in 0..variables {
-        if trail.value(2 * variable) == Value::Open {
+    for number in 0..variables {
+        let variable = Variable::new(number);
+        if trail.value(variable.positive()) == Value::Open {
             return Some(variable);
         }
     }

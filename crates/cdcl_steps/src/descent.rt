@@ -6,6 +6,7 @@ ghost use Rattle.cdcl_steps.specs.Descents.{IsFull, Descends};
 use crate::choice::next_open;
 use cdcl_activity::Activity;
 use cdcl_clauses::{Clauses, Watches};
+use cdcl_literals::ClauseId;
 use cdcl_propagate::propagate;
 use cdcl_trail::Trail;
 use std::alloc::AllocError;
@@ -17,7 +18,7 @@ pub fn to_conflict(
     watches: &mut Watches,
     activity: &mut Activity,
     variables: u32,
-) -> Result<Option<u32>, AllocError>
+) -> Result<Option<ClauseId>, AllocError>
     requires sound { AreConsistent trail.old clauses.old watches.old }
     requires variables { variables ≡ trail.old.variables }
     requires activity { activity.old ≡ variables }

@@ -6,6 +6,7 @@ ghost use Rattle.cdcl_steps.specs.helpers.Watched.{AreWatched};
 
 use crate::attaching::attach;
 use cdcl_clauses::{Clauses, Watches};
+use cdcl_literals::Literal;
 use cdcl_trail::{Trail, Value};
 use std::alloc::AllocError;
 
@@ -24,7 +25,7 @@ pub fn load_clause(
     trail: &mut Trail,
     clauses: &mut Clauses,
     watches: &mut Watches,
-    literals: &[u32],
+    literals: &[Literal],
 ) -> Result<Loaded, AllocError>
     requires sound { AreConsistent trail.old clauses.old watches.old }
     requires start { IsAtStart trail.old }
@@ -38,7 +39,7 @@ pub fn load_clause(
     ensures loads { IfOk result (Loads trail.old clauses.old trail.new clauses.new literals.now) }
 {
     let (first, second) = watched(literals);
-    let clause = clauses.len() as u32;
+    let clause = clauses.next_id();
     attach(clauses, watches, literals, first, second)?;
     if literals.len() > 1 {
         return Ok(Loaded::Taken);
@@ -54,7 +55,7 @@ pub fn load_clause(
 }
 
 /// The literals that a clause watches: its first two, or its only one twice.
-fn watched(literals: &[u32]) -> (u32, u32)
+fn watched(literals: &[Literal]) -> (Literal, Literal)
     requires { 0 < length literals.now }
     ensures { AreWatched literals.now result.0 result.1 }
 {

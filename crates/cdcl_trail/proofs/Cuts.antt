@@ -35,13 +35,13 @@ use Rattle.std.specs.Prelude.{Vec}
 use Rattle.std.specs.declared.alloc.Global.{Global}
 use Rattle.std.proofs.lemmas.List.{length_push, take_more_set, get_or_past, take-take}
 use Rattle.std.proofs.lemmas.Bool.{cases_eq, cases_lt}
-use Rattle.cdcl_trail.specs.Literals.{opposite_of}
+use Rattle.cdcl_literals.specs.Literals.{opposite_of}
 use Rattle.cdcl_trail.specs.Trail.{Trail, pushed, decided, cut_to}
 use Rattle.cdcl_trail.specs.helpers.Layout.{trail_of, IsLaidOut, StandsAt, IsPlaced, StartsWell}
 use Rattle.cdcl_trail.specs.declared.trail.Value.{Value}
 use Rattle.cdcl_trail.specs.declared.trail.Value.TheVariants.{Open}
 use Rattle.cdcl_trail.specs.declared.trail.Trail.TheInside.{Inside}
-use Rattle.cdcl_trail.proofs.Opposites.{opposite_of-half, same_half}
+use Rattle.cdcl_literals.proofs.Opposites.{opposite_of-half, same_half}
 use Rattle.cdcl_trail.proofs.Trails.{at_take, pair_other, places_apart}
 
 -- a trail whose next level begins at a place

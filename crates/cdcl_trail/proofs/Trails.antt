@@ -46,13 +46,13 @@ use Rattle.std.proofs.lemmas.Bool.{cases_eq}
 use Rattle.std.proofs.lemmas.Bool.Decides.{eqb_tells}
 use Rattle.std.proofs.lemmas.Map.Keys.{IsDistinct-from_apart}
 use Rattle.std.proofs.lemmas.Map.Steps.{length-le_from_distinct_below}
-use Rattle.cdcl_trail.specs.Literals.{opposite_of}
+use Rattle.cdcl_literals.specs.Literals.{opposite_of}
 use Rattle.cdcl_trail.specs.Trail.{Trail, Is, IsOpen, IsTrail, pushed}
 use Rattle.cdcl_trail.specs.helpers.Layout.{trail_of, IsLaidOut, StandsAt, IsPlaced}
 use Rattle.cdcl_trail.specs.declared.trail.Value.{Value}
 use Rattle.cdcl_trail.specs.declared.trail.Value.TheVariants.{Open, True, False}
 use Rattle.cdcl_trail.specs.declared.trail.Trail.TheInside.{Inside}
-use Rattle.cdcl_trail.proofs.Opposites.{opposite_of-within, opposite_of-half, opposite_of-apart, opposite_of-opposite_of, same_half}
+use Rattle.cdcl_literals.proofs.Opposites.{opposite_of-within, opposite_of-half, opposite_of-apart, opposite_of-opposite_of, same_half}
 
 pub at_take : {X : Type 0} (xs : List X) (n k : ℕ) (d e : X) → n ≤ length xs → k < n → get_or (take n xs) k d ≡ get_or xs k e
 at_take xs n k d e h l = get_or-take n xs k d l ∙ get_or_default xs k d e (omega arith)

@@ -1,6 +1,6 @@
 -- The trail of a search.
-use Rattle.std.specs.Prelude.{◌≡◌, ◌≢◌, ℕ, ◌*◌, ◌/◌, ◌<◌, ◌≤◌, Option, None, Some, List, [], ◌∷◌, ◌++◌, length, take, slice_index, slice_index_or, Contains}
-use Rattle.cdcl_trail.specs.Literals.{opposite_of}
+use Rattle.std.specs.Prelude.{◌≡◌, ◌≢◌, ℕ, ◌*◌, ◌<◌, ◌≤◌, Option, None, Some, List, [], ◌∷◌, ◌++◌, length, take, slice_index, slice_index_or, Contains}
+use Rattle.cdcl_literals.specs.Literals.{variable_of, opposite_of}
 use Rattle.cdcl_trail.specs.declared.trail.Value.{Value}
 use Rattle.cdcl_trail.specs.declared.trail.Value.TheVariants.{Open, True, False}
 
@@ -55,7 +55,7 @@ pub record IsTrail (t : Trail) : Type 0 where
   pub few : length t.literals ≤ t.variables
   pub reasons_fit : length t.reasons ≡ length t.literals
   pub within : (k : ℕ) → k < length t.literals → slice_index t.literals k < 2 * t.variables
-  pub apart : (i k : ℕ) → i < length t.literals → k < length t.literals → slice_index t.literals i / 2 ≡ slice_index t.literals k / 2 → i ≡ k
+  pub apart : (i k : ℕ) → i < length t.literals → k < length t.literals → variable_of (slice_index t.literals i) ≡ variable_of (slice_index t.literals k) → i ≡ k
   pub propagated_fits : t.propagated ≤ length t.literals
   pub starts_early : (k : ℕ) → k < length t.starts → slice_index t.starts k ≤ t.propagated
   pub starts_proper : (k : ℕ) → k < length t.starts → slice_index t.starts k < length t.literals

@@ -4,7 +4,6 @@ ghost use Rattle.std.specs.Prelude.{
   ℕ,
   ◌+◌,
   ◌*◌,
-  ◌/◌,
   ◌^◌,
   ◌<◌,
   ◌≤◌,
@@ -22,9 +21,9 @@ ghost use Rattle.std.specs.Prelude.{
   slice_index_or,
   slice_get,
 };
-ghost use Rattle.cdcl_trail.specs.Literals.{opposite_of};
+ghost use Rattle.cdcl_literals.specs.Literals.{variable_of, opposite_of};
 
-use crate::{opposite, variable};
+use cdcl_literals::{ClauseId, Literal, Variable};
 use std::alloc::{AllocError, Global};
 use std::marker::Model;
 
@@ -45,8 +44,8 @@ pub struct Trail {
     /// Each variable's place on the trail, if it is there.
     places: Vec<u32>,
     /// The true literals; entries past `len` are unspecified.
-    literals: Vec<u32>,
-    reasons: Vec<Option<u32>>,
+    literals: Vec<Literal>,
+    reasons: Vec<Option<ClauseId>>,
     len: usize,
     /// The length of the trail when each level began; entries past `levels` are unspecified.
     starts: Vec<u32>,
@@ -78,7 +77,7 @@ impl Trail {
         let n = variables as usize;
         let values = vec![in alloc; Value::Open; 2 * n]?;
         let places = vec![in alloc; 0; n]?;
-        let literals = vec![in alloc; 0; n]?;
+        let literals = vec![in alloc; Variable::new(0).positive(); n]?;
         let reasons = vec![in alloc; None; n]?;
         let starts = vec![in alloc; 0; n]?;
         Ok(Trail {
@@ -94,11 +93,11 @@ impl Trail {
     }
 
     /// The value of a literal.
-    pub fn value(&self, literal: u32) -> Value
+    pub fn value(&self, literal: Literal) -> Value
         requires { literal < 2 * self.now.variables }
         ensures { Is self.now literal result }
     {
-        self.values[literal as usize]
+        self.values[literal.index()]
     }
 
     /// The number of true literals.
@@ -110,7 +109,7 @@ impl Trail {
     }
 
     /// The literal at a place.
-    pub fn literal(&self, place: usize) -> u32
+    pub fn literal(&self, place: usize) -> Literal
         requires { place < length self.now.literals }
         ensures { result ≡ slice_index self.now.literals place }
     {
@@ -118,7 +117,7 @@ impl Trail {
     }
 
     /// The reason of the literal at a place.
-    pub fn reason(&self, place: usize) -> Option<u32>
+    pub fn reason(&self, place: usize) -> Option<ClauseId>
         requires { place < length self.now.literals }
         ensures { result ≡ slice_index_or self.now.reasons place None }
     {
@@ -126,13 +125,13 @@ impl Trail {
     }
 
     /// The place of a literal or of its opposite, whichever is true.
-    pub fn place(&self, literal: u32) -> usize
+    pub fn place(&self, literal: Literal) -> usize
         requires within { literal < 2 * self.now.variables }
         requires there { Contains self.now.literals literal ⊎ Contains self.now.literals (opposite_of literal) }
         ensures within { result < length self.now.literals }
-        ensures there { slice_index self.now.literals result / 2 ≡ literal / 2 }
+        ensures there { variable_of (slice_index self.now.literals result) ≡ variable_of literal }
     {
-        self.places[variable(literal) as usize] as usize
+        self.places[literal.variable().index()] as usize
     }
 
     /// The number of levels that have begun.
@@ -151,7 +150,7 @@ impl Trail {
     }
 
     /// The first literal that isn't propagated yet, if any.
-    pub fn pending(&self) -> Option<u32>
+    pub fn pending(&self) -> Option<Literal>
         ensures some { IfSome result (λ l. (self.now.propagated < length self.now.literals) × (l ≡ slice_index self.now.literals self.now.propagated)) }
         ensures none { IsNone result → self.now.propagated ≡ length self.now.literals }
     {
@@ -172,7 +171,7 @@ impl Trail {
     }
 
     /// Makes a literal true, with its reason.
-    pub fn imply(&mut self, literal: u32, reason: u32)
+    pub fn imply(&mut self, literal: Literal, reason: ClauseId)
         requires within { literal < 2 * self.old.variables }
         requires open { IsOpen self.old literal }
         ensures after { self.new ≡ pushed self.old literal (Some reason) }
@@ -182,7 +181,7 @@ impl Trail {
     }
 
     /// Begins a level with this literal, once all is propagated.
-    pub fn decide(&mut self, literal: u32)
+    pub fn decide(&mut self, literal: Literal)
         requires within { literal < 2 * self.old.variables }
         requires open { IsOpen self.old literal }
         requires propagated { self.old.propagated ≡ length self.old.literals }
@@ -196,15 +195,15 @@ impl Trail {
     }
 
     /// Makes a literal true.
-    fn push(&mut self, literal: u32, reason: Option<u32>)
+    fn push(&mut self, literal: Literal, reason: Option<ClauseId>)
         requires within { literal < 2 * self.old.variables }
         requires open { IsOpen self.old literal }
         ensures after { self.new ≡ pushed self.old literal reason }
         ensures lawful { IsTrail self.new }
     {
-        self.values[literal as usize] = Value::True;
-        self.values[opposite(literal) as usize] = Value::False;
-        self.places[variable(literal) as usize] = self.len as u32;
+        self.values[literal.index()] = Value::True;
+        self.values[literal.opposite().index()] = Value::False;
+        self.places[literal.variable().index()] = self.len as u32;
         self.literals[self.len] = literal;
         self.reasons[self.len] = reason;
         self.len += 1;
@@ -219,8 +218,8 @@ impl Trail {
         let start = self.starts[level] as usize;
         for place in start..self.len {
             let literal = self.literals[place];
-            self.values[literal as usize] = Value::Open;
-            self.values[opposite(literal) as usize] = Value::Open;
+            self.values[literal.index()] = Value::Open;
+            self.values[literal.opposite().index()] = Value::Open;
         }
         self.len = start;
         self.levels = level;

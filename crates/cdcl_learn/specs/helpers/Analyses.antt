@@ -1,6 +1,6 @@
 -- The state of a conflict analysis.
-use Rattle.std.specs.Prelude.{◌≡◌, ◌≢◌, ℕ, ◌<◌, ◌≤◌, ◌/◌, ◌⊎◌, Bool, true, false, List, length, drop, reverse, slice_index, slice_index_or, Contains, count_by}
-use Rattle.cdcl_trail.specs.Literals.{opposite_of}
+use Rattle.std.specs.Prelude.{◌≡◌, ◌≢◌, ℕ, ◌<◌, ◌≤◌, ◌⊎◌, Bool, true, false, List, length, drop, reverse, slice_index, slice_index_or, Contains, count_by}
+use Rattle.cdcl_literals.specs.Literals.{variable_of, opposite_of}
 use Rattle.cdcl_trail.specs.Trail.{Trail}
 use Rattle.cdcl_clauses.specs.Clauses.{Clause}
 use Rattle.cdcl_learn.specs.Shown.{Leads}
@@ -34,9 +34,9 @@ pub record Marks (old new : List Bool) (place : ℕ) : Type 0 where
 
 -- the places of all these literals are met
 pub record Meets (t : Trail) (old new : List Bool) (literals : List ℕ) : Type 0 where
-  pub all : (x p : ℕ) → Contains literals x → p < length t.literals → slice_index t.literals p / 2 ≡ x / 2 → IsMet new p
+  pub all : (x p : ℕ) → Contains literals x → p < length t.literals → variable_of (slice_index t.literals p) ≡ variable_of x → IsMet new p
   pub kept : (p : ℕ) → IsMet old p → IsMet new p
-  pub only : (p : ℕ) → IsMet new p → IsMet old p ⊎ ((x : ℕ) × Contains literals x × (slice_index t.literals p / 2 ≡ x / 2))
+  pub only : (p : ℕ) → IsMet new p → IsMet old p ⊎ ((x : ℕ) × Contains literals x × (variable_of (slice_index t.literals p) ≡ variable_of x))
 
 -- a place isn't met any more, and only places before it are newly met
 pub record Resolves (old new : List Bool) (place : ℕ) : Type 0 where

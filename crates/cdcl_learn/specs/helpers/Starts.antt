@@ -1,6 +1,6 @@
 -- The beginning and the end of an analysis.
-use Rattle.std.specs.Prelude.{◌≡◌, ℕ, ◌-◌, ◌/◌, ◌<◌, ◌≤◌, ◌⊎◌, List, [], length, take, slice_index, Contains}
-use Rattle.cdcl_trail.specs.Literals.{opposite_of}
+use Rattle.std.specs.Prelude.{◌≡◌, ℕ, ◌-◌, ◌<◌, ◌≤◌, ◌⊎◌, List, [], length, take, slice_index, Contains}
+use Rattle.cdcl_literals.specs.Literals.{variable_of, opposite_of}
 use Rattle.cdcl_learn.specs.declared.lesson.Turn.{Turn}
 use Rattle.cdcl_learn.specs.declared.lesson.Turn.TheVariants.{Closed, Back}
 use Rattle.cdcl_trail.specs.Trail.{Trail}
@@ -22,8 +22,8 @@ AreLower t ls = (x : ℕ) → Contains ls x → (p : ℕ) × (p < slice_index t.
 -- `b` is the highest of these literals on the trail
 pub record IsHighest (t : Trail) (ls : List ℕ) (b : ℕ) : Type 0 where
   pub has : Contains ls b
-  pub highest : (x p q : ℕ) → Contains ls x → p < length t.literals → q < length t.literals → slice_index t.literals p / 2 ≡ x / 2
-      → slice_index t.literals q / 2 ≡ b / 2 → p ≤ q
+  pub highest : (x p q : ℕ) → Contains ls x → p < length t.literals → q < length t.literals → variable_of (slice_index t.literals p) ≡ variable_of x
+      → variable_of (slice_index t.literals q) ≡ variable_of b → p ≤ q
 
 -- the first level that begins after a place
 pub record IsLevelAfter (t : Trail) (place level : ℕ) : Type 0 where

@@ -1,6 +1,6 @@
 -- What a look at a clause finds.
 use Rattle.std.specs.Prelude.{◌≡◌, ◌≢◌, ℕ, ◌<◌, true, false, List, length, slice_index_or, slice_set, Contains, [], ◌∷◌, ◌++◌}
-use Rattle.cdcl_trail.specs.Literals.{opposite_of}
+use Rattle.cdcl_literals.specs.Literals.{opposite_of}
 use Rattle.cdcl_trail.specs.Trail.{Trail, IsOpen}
 use Rattle.cdcl_clauses.specs.Clauses.{Clause, at, watches, beside, listed}
 use Rattle.cdcl_clauses.specs.Invariants.{HasTrue}

@@ -1,6 +1,6 @@
 -- How a trail is stored in memory.
-use Rattle.std.specs.Prelude.{◌≡◌, ◌≢◌, ℕ, ◌*◌, ◌/◌, ◌^◌, ◌<◌, ◌≤◌, take, length, slice_index, slice_index_or}
-use Rattle.cdcl_trail.specs.Literals.{opposite_of}
+use Rattle.std.specs.Prelude.{◌≡◌, ◌≢◌, ℕ, ◌*◌, ◌^◌, ◌<◌, ◌≤◌, take, length, slice_index, slice_index_or}
+use Rattle.cdcl_literals.specs.Literals.{variable_of, opposite_of}
 use Rattle.cdcl_trail.specs.Trail.{Trail}
 use Rattle.cdcl_trail.specs.declared.trail.Value.TheVariants.{Open, True, False}
 use Rattle.cdcl_trail.specs.declared.trail.Trail.TheInside.{Inside}
@@ -21,12 +21,12 @@ pub record StandsAt (a : Inside) (k : ℕ) : Type 0 where
   pub within : slice_index a.literals.items k < 2 * length a.places.items
   pub true_there : slice_index_or a.values.items (slice_index a.literals.items k) Open ≡ True
   pub false_there : slice_index_or a.values.items (opposite_of (slice_index a.literals.items k)) Open ≡ False
-  pub known : slice_index a.places.items (slice_index a.literals.items k / 2) ≡ k
+  pub known : slice_index a.places.items (variable_of (slice_index a.literals.items k)) ≡ k
 
 -- the variable of a literal that isn't open is on the trail, at its recorded place
 pub record IsPlaced (a : Inside) (l : ℕ) : Type 0 where
-  pub on_trail : slice_index a.places.items (l / 2) < a.len
-  pub there : slice_index a.literals.items (slice_index a.places.items (l / 2)) / 2 ≡ l / 2
+  pub on_trail : slice_index a.places.items (variable_of l) < a.len
+  pub there : variable_of (slice_index a.literals.items (slice_index a.places.items (variable_of l))) ≡ variable_of l
 
 -- a level begins after all earlier levels, and no later than the propagated part ends
 pub record StartsWell (a : Inside) (k : ℕ) : Type 0 where

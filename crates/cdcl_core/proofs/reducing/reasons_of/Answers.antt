@@ -16,6 +16,6 @@ loop-place-preserved c =
     elim c.match-reason.branch [
       | in-Some w ↦
           let e : get_or t.reasons p None ≡ Some w.in-Some.reason = sym c.reason.ensures ∙ w.in-Some.is in
-          rw w.marks-is (marks-more t n p c.loop-place.marks.items w.in-Some.reason inv e (c.requires p w.in-Some.reason pl e))
+          rw (w.marks-is, w.index.ensures.index) (marks-more t n p c.loop-place.marks.items w.in-Some.reason inv e (c.requires p w.in-Some.reason pl e))
       | in_default w ↦ rw w.marks-is (marks-none t n p c.loop-place.marks.items inv (sym c.reason.ensures ∙ w.in_default.is))
     ]

@@ -1,7 +1,7 @@
 use Rattle.std.proofs.Common.{◌≡◌, ◌-◌, ◌∙◌, ◌∷◌, [], ◌++◌, List, ℕ, length, get_or, reverse, ap, sym, subst}
 use Rattle.std.proofs.lemmas.List.Elements.{Contains-get_or}
 use Rattle.std.specs.Prelude.{Contains, All}
-use Rattle.cdcl_trail.specs.Literals.{opposite_of}
+use Rattle.cdcl_literals.specs.Literals.{opposite_of}
 use Rattle.cdcl_learn.specs.Shown.{Shows}
 use Rattle.cdcl_learn.specs.Lessons.{TurnFits}
 use Rattle.cdcl_learn.specs.helpers.Starts.{AreLower, Turns}

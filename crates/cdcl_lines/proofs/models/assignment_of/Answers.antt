@@ -13,15 +13,16 @@ is-value t v True u h = value-true t v h
 is-value t v False u h = value-false t v u h
 is-value t v Open u h = value-open t v h
 
-pub loop-variable-preserved : goal.loop-variable-preserved
-loop-variable-preserved c =
+pub loop-number-preserved : goal.loop-number-preserved
+loop-number-preserved c =
     let t : Trail = c.args.trail.now in
-    let v : ℕ = c.loop-variable.variable in
+    let v : ℕ = c.loop-number.number in
+    let known : Is t (2 * v) c.value.result = rw (c.positive-literal.ensures, c.new.ensures) at c.value.ensures in
     subst (λ (xs : List Bool). AgreesBelow t xs (v + 1)) (sym c.in_ok-push.ensures.items)
-    (agrees-more t c.loop-variable.values.items v c.eq.result c.loop-variable.invariant
-    (subst (λ (b : Bool). IsValue t v b) (sym c.eq.ensures) (is-value t v c.value.result c.requires.lawful c.value.ensures)))
+    (agrees-more t c.loop-number.values.items v c.eq.result c.loop-number.invariant
+    (subst (λ (b : Bool). IsValue t v b) (sym c.eq.ensures) (is-value t v c.value.result c.requires.lawful known)))
 
 pub returns : goal.returns
 returns c =
-    subst (λ (xs : List Bool). Agrees c.args.trail.now xs) (sym c.new.ensures)
-    (agrees-all c.args.trail.now c.loop-variable.values.items c.loop-variable.variable c.requires.lawful (omega arith) c.loop-variable.invariant)
+    subst (λ (xs : List Bool). Agrees c.args.trail.now xs) (sym c.new-2.ensures)
+    (agrees-all c.args.trail.now c.loop-number.values.items c.loop-number.number c.requires.lawful (omega arith) c.loop-number.invariant)

@@ -1,6 +1,6 @@
 use Rattle.std.proofs.Common.{refl, rules}
 use Rattle.std.specs.Prelude.{Contains}
-use Rattle.cdcl_trail.specs.Literals.{opposite_of}
+use Rattle.cdcl_literals.specs.Literals.{opposite_of}
 use Rattle.cdcl_clauses.specs.Clauses.{at}
 use Rattle.cdcl_propagate.specs.helpers.Looks.{AllFalseBut}
 use Rattle.cdcl_propagate.proofs.Looking.{all_false}

@@ -1,6 +1,6 @@
 use Rattle.std.proofs.Common.{ℕ, ◌<◌, ◌≢◌, get_or}
 use Rattle.std.specs.Prelude.{Contains}
-use Rattle.cdcl_trail.specs.Literals.{opposite_of}
+use Rattle.cdcl_literals.specs.Literals.{opposite_of}
 use Rattle.cdcl_propagate.proofs.inspect.not_false.Given as goal
 
 abbrev pub invariant-loop-literal : goal.invariant-loop-literal

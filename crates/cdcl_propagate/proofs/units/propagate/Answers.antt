@@ -1,11 +1,11 @@
 use Rattle.std.proofs.Common.{◌≡◌, ◌+◌, sym, ◌∙◌, ap, get_or}
 use Rattle.std.specs.Prelude.{is_some}
-use Rattle.cdcl_trail.specs.Literals.{opposite_of}
+use Rattle.cdcl_literals.specs.Literals.{opposite_of}
 use Rattle.cdcl_trail.specs.Trail.{Trail, IsTrail}
 use Rattle.cdcl_clauses.specs.Clauses.{at, watches}
 use Rattle.cdcl_clauses.specs.Invariants.{AreGuarded}
 use Rattle.cdcl_propagate.proofs.Guarding.{same-trans, extends-trans, extends-advanced, guarded-advanced, reasoned-advanced}
-use Rattle.cdcl_trail.proofs.Opposites.{opposite_of-opposite_of}
+use Rattle.cdcl_literals.proofs.Opposites.{opposite_of-opposite_of}
 use Rattle.cdcl_propagate.proofs.Visiting.{fallen-now}
 use Rattle.cdcl_propagate.proofs.units.propagate.Goals as goal
 

@@ -6,7 +6,7 @@ use Rattle.cdcl_steps.proofs.asserting.assert_clause.Goals as goal
 
 pub returns-clause-sound : goal.returns-clause-sound
 returns-clause-sound c =
-    let e : c.len-clause.result ≡ length c.args.clauses.now = c.len-clause.ensures in
+    let e : c.next_id-clause.result ≡ length c.args.clauses.now = c.next_id-clause.ensures in
     let after : c.imply.new.self ≡ pushed c.args.trail.now c.args.asserted (Some (length c.args.clauses.now)) = c.imply.ensures.after
     ∙ ap (λ (n : ℕ). pushed c.args.trail.now c.args.asserted (Some n)) e in
     let u : IsTrail (pushed c.args.trail.now c.args.asserted (Some (length c.args.clauses.now))) = rw after at c.imply.ensures.lawful in
@@ -16,7 +16,7 @@ returns-clause-sound c =
 
 pub returns-clause-rooted : goal.returns-clause-rooted
 returns-clause-rooted c = λ r.
-    let e : c.len-clause.result ≡ length c.args.clauses.now = c.len-clause.ensures in
+    let e : c.next_id-clause.result ≡ length c.args.clauses.now = c.next_id-clause.ensures in
     let after : c.imply.new.self ≡ pushed c.args.trail.now c.args.asserted (Some (length c.args.clauses.now)) = c.imply.ensures.after
     ∙ ap (λ (n : ℕ). pushed c.args.trail.now c.args.asserted (Some n)) e in
     rw (after, c.in_ok-attach.ensures.ok.clauses) (rooted-attach c.args.trail.now c.args.clauses.now c.args.literals.now c.args.asserted c.args.beside

@@ -46,7 +46,7 @@ returns-in-Open-clause-sound c =
     let a : ℕ = c.watched-first.result.0 in
     let b : ℕ = c.watched-first.result.1 in
     let ok = c.in_ok-attach.ensures.ok in
-    let after : c.imply.new.self ≡ pushed t a (Some (length cs)) = c.imply.ensures.after ∙ ap (λ (n : ℕ). pushed t a (Some n)) c.len-clause.ensures in
+    let after : c.imply.new.self ≡ pushed t a (Some (length cs)) = c.imply.ensures.after ∙ ap (λ (n : ℕ). pushed t a (Some n)) c.next_id-clause.ensures in
     let u : IsTrail (pushed t a (Some (length cs))) = rw after at c.imply.ensures.lawful in
     let single : length ls ≡ 1 = omega (arith, c.requires.literals.some, c.if-literals-gt1.false) in
     rw (after, ok.clauses, ok.lists) (sound-loaded_unit t cs c.args.watches.now c.requires.sound c.requires.start ls a b
@@ -57,6 +57,6 @@ returns-in-Open-clause-loads c =
     let t : Trail = c.args.trail.now in
     let cs : List Clause = c.args.clauses.now in
     let a : ℕ = c.watched-first.result.0 in
-    let after : c.imply.new.self ≡ pushed t a (Some (length cs)) = c.imply.ensures.after ∙ ap (λ (n : ℕ). pushed t a (Some n)) c.len-clause.ensures in
+    let after : c.imply.new.self ≡ pushed t a (Some (length cs)) = c.imply.ensures.after ∙ ap (λ (n : ℕ). pushed t a (Some n)) c.next_id-clause.ensures in
     λ r. rw (after, c.in_ok-attach.ensures.ok.clauses)
     (rooted-unit t cs c.args.literals.now a c.watched-first.result.1 (Some (length cs)) c.requires.start r)

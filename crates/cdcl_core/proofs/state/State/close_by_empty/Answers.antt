@@ -6,4 +6,4 @@ pub conclude-requires : goal.conclude-requires
 conclude-requires c =
     let s = c.args.self.now in
     let h : c.args.place < length s.formula.clauses = empty-within s.formula.clauses c.args.place c.requires.empty in
-    conclude-empty s c.requires.loaded c.len-len.ensures.clauses c.args.place c.requires.empty h
+    rw c.new.ensures (conclude-empty s c.requires.loaded c.len-len.ensures.clauses c.args.place c.requires.empty h)

@@ -17,11 +17,8 @@ delete_line-requires-clause-clauses c = λ k d h.
 pub push-requires-clause-room : goal.push-requires-clause-room
 push-requires-clause-room c = (has-room c.args.self.now c.requires.live).lines
 
-pub forget_all-requires-clause-there : goal.forget_all-requires-clause-there
-forget_all-requires-clause-there c = all-within c.args.self.now c.args.chosen.now c.requires.may
-
-pub forget_all-requires-clause-no_reasons : goal.forget_all-requires-clause-no_reasons
-forget_all-requires-clause-no_reasons c = λ k d h. (c.requires.may.each k d h).no_reason
+pub forget_all-requires : goal.forget_all-requires
+forget_all-requires c = all-within c.args.self.now c.args.chosen.now c.requires.may
 
 pub returns-clause-live : goal.returns-clause-live
 returns-clause-live c =
@@ -32,8 +29,8 @@ returns-clause-live c =
     let line : c.push.new.self ≡ s.derivation ++ deleted ks ∷ [] = c.in_ok-push.ensures.ok
     ∙ ap (λ (l : Line). s.derivation ++ l ∷ []) c.in_ok-line.ensures.line in
     record {
-      sound = f.sound s.watches live.sound;
-      rooted = f.rooted live.rooted;
+      sound = f.sound s.trail s.watches (λ k d h. (c.requires.may.each k d h).no_reason) live.sound;
+      rooted = f.rooted s.trail live.rooted;
       variables = live.variables;
       activity = live.activity;
       agree = rw (f.after, line) (agree-dropped s.formula s.clauses s.derivation s.added s.deleted live.agree ks (can-drop s ks c.requires.may)

@@ -25,8 +25,8 @@ pub add_line-requires-clause-hints : goal.add_line-requires-clause-hints
 add_line-requires-clause-hints c = hints-within c.args.self.now.clauses c.args.literals.now c.args.hints.now c.requires.shown
     (has-room c.args.self.now c.requires.live).clauses
 
-pub overflow_cast-clause : goal.overflow_cast-clause
-overflow_cast-clause c = omega (arith, c.len-clause.ensures, (has-room c.args.self.now c.requires.live).clauses)
+pub next_id-clause-requires : goal.next_id-clause-requires
+next_id-clause-requires c = omega (arith, (has-room c.args.self.now c.requires.live).clauses)
 
 pub attach-requires-clause-few : goal.attach-requires-clause-few
 attach-requires-clause-few c = omega (arith, (has-room c.args.self.now c.requires.live).clauses)
@@ -75,7 +75,7 @@ returns-in-Ok-clause-live c =
     let live = c.requires.live in
     let ok = c.in_ok-attach.ensures.ok in
     let after : c.imply.new.self ≡ pushed t a (Some (length cs)) = c.imply.ensures.after
-    ∙ ap (λ (n : ℕ). pushed t a (Some n)) c.len-clause.ensures in
+    ∙ ap (λ (n : ℕ). pushed t a (Some n)) c.next_id-clause.ensures in
     let u : IsTrail (pushed t a (Some (length cs))) = rw after at c.imply.ensures.lawful in
     let line : c.push.new.self ≡ s.derivation ++ added ls hs ∷ [] = c.in-Ok.ensures.ok
     ∙ ap (λ (l : Line). s.derivation ++ l ∷ []) c.in_ok-line.ensures.line in
@@ -111,7 +111,7 @@ returns-in-Err-clause-live c =
 pub touch-requires : goal.touch-requires
 touch-requires c = omega (
   arith,
-  c.len-clause.ensures,
+  c.next_id-clause.ensures,
   ap length c.in_ok-attach.ensures.ok.clauses,
   length_push c.args.self.now.clauses (kept_clause c.args.literals.now c.args.asserted c.args.beside),
 )

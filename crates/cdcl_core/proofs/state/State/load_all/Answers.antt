@@ -29,6 +29,6 @@ loop-place-preserved c =
       conflict = elim c.match-branch-2.branch [
         | in-Taken w ↦ rw w.conflict-is (found-taken s t c.loop-place.conflict c.loop-place.place
             (subst (λ (l : Loaded). LoadsOne s t c.loop-place.place l) w.in-Taken.is one) c.loop-place.invariant.conflict)
-        | in-Refuted w ↦ rw w.conflict-is ((subst (λ (l : Loaded). LoadsOne s t c.loop-place.place l) w.in-Refuted.is one).1)
+        | in-Refuted w ↦ rw (w.conflict-is, w.new.ensures) ((subst (λ (l : Loaded). LoadsOne s t c.loop-place.place l) w.in-Refuted.is one).1)
       ];
     }

@@ -1,6 +1,6 @@
 use Rattle.std.proofs.Common.{◌≡◌, ◌<◌, false, length, get_or, sym, ◌∙◌, ap, arith}
 use Rattle.std.proofs.lemmas.List.{get_or_read}
-use Rattle.cdcl_trail.specs.Literals.{opposite_of}
+use Rattle.cdcl_literals.specs.Literals.{opposite_of}
 use Rattle.cdcl_learn.proofs.Counting.{tallies_last, tallies_root, tallies_between}
 use Rattle.cdcl_learn.proofs.analysis.Analysis.mark.Goals as goal
 use Rattle.cdcl_learn.proofs.analysis.Analysis.mark.Goals.{

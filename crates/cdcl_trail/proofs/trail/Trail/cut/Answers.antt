@@ -17,7 +17,7 @@ loop-place-preserved c =
     let within : k < length c.self.inside.literals.items = omega (arith, c.loop-place-test.true, c.self.invariant.len_fits, c.self.invariant.literals_fit) in
     let e : c.index-literal.result.now ≡ get_or c.self.inside.literals.items k c.index-literal.result.now = c.index-literal.ensures
     ∙ ap (λ xs. get_or xs k c.index-literal.result.now) same in
-    record {
+    rw (c.index-in-loop-place.ensures.index, c.index-in-loop-place-2.ensures.index) (record {
       opens = opens_more c.self.inside.values.items c.loop-place.self-inside.values.items c.self.inside.literals.items c.index.result.now k
           c.index-literal.result.now c.opposite.result
           c.loop-place.auto.place (get_or_read c.self.inside.literals.items k c.index-literal.result.now within e 0) c.opposite.ensures inv.opens;
@@ -25,7 +25,7 @@ loop-place-preserved c =
         values = with_item (with_item c.loop-place.self-inside.values c.index-literal.result.now Open)
             c.opposite.result Open;
       }) inv.others;
-    }
+    })
 
 level : (c : goal.After-self-4-1) → c.args.level < c.self.inside.levels
 level c = level_within c.self.inside c.self.invariant c.args.self.now c.self.view_is c.args.level c.requires

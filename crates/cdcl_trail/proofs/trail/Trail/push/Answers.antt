@@ -21,7 +21,8 @@ pub invariant_of-self : goal.invariant_of-self
 invariant_of-self c =
     let w : c.args.literal < 2 * length c.self.inside.places.items = rw (← c.self.view_is) at c.requires.within in
     let o : IsOpen (trail_of c.self.inside) c.args.literal = rw (← c.self.view_is) at c.requires.open in
-    sound_pushed c.self.inside c.self.invariant c.args.literal c.opposite.result c.variable.result c.args.reason c.opposite.ensures c.variable.ensures w o
+    rw (c.index.ensures.index, c.index-2.ensures.index, c.index-3.ensures.index)
+    (sound_pushed c.self.inside c.self.invariant c.args.literal c.opposite.result c.variable.result c.args.reason c.opposite.ensures c.variable.ensures w o)
 
 pub returns-clause-after : goal.returns-clause-after
 returns-clause-after c =
