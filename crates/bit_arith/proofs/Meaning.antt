@@ -35,7 +35,7 @@ pub sum_means : (f : Formula) (xs ys : List ℤ) → AreOperands f xs ys
     → IsNumber f xs (plus_word f xs ys) (λ w. (value w xs + value w ys) % 2 ^ length xs)
 sum_means f xs ys o =
     let m : Walked Made = added f xs ys (constant false) in
-    let h = words-mean.add f xs ys (constant false) o.one o.first o.second (constant_of f.vars false o.one) o.lengths in
+    let h = words-mean.add f xs ys (constant false) o.first o.second (constant_of f.vars false o.one) o.lengths in
     record {
       word = h.word;
       number = λ w k.
@@ -51,7 +51,7 @@ pub difference_means : (f : Formula) (xs ys : List ℤ) → AreOperands f xs ys
     → IsNumber f xs (minus_word f xs ys) (λ w. (value w xs + (2 ^ length xs - value w ys)) % 2 ^ length xs)
 difference_means f xs ys o =
     let m : Walked Made = added f xs (inverted ys) (constant true) in
-    let h = words-mean.add f xs (inverted ys) (constant true) o.one o.first (all_inverted f.vars ys o.second) (constant_of f.vars true o.one)
+    let h = words-mean.add f xs (inverted ys) (constant true) o.first (all_inverted f.vars ys o.second) (constant_of f.vars true o.one)
     (length-map ys neg_ℤ ∙ o.lengths) in
     record {
       word = h.word;
@@ -68,19 +68,19 @@ pub record IsUpTo (f : Formula) (word : List ℤ) (m : Walked Formula) (meaning 
   pub same : IsWord f m.state word m.word
   pub number : (w : Valuation) → IsModel w m.state → (k : ℕ) × (value w m.word + 2 ^ length word * k ≡ meaning w)
 
-row_means : (f : Formula) (word xs : List ℤ) (b : ℤ) → 0 < f.vars → All (IsOf f.vars) word → All (IsOf f.vars) xs → IsOf f.vars b
+row_means : (f : Formula) (word xs : List ℤ) (b : ℤ) → All (IsOf f.vars) word → All (IsOf f.vars) xs → IsOf f.vars b
     → length word ≤ length xs → IsUpTo f word (with_row f word xs b) (λ w. value w word + digit (literal_true w b) * value w xs)
-row_means f word xs b one p q o le =
+row_means f word xs b p q o le =
     let n : ℕ = length word in
     let front : List ℤ = take n xs in
     let long : length front ≡ n = length-take n xs ∙ omega (arith, le) in
     let row : Walked Formula = gated_words And f front (replicate n b) in
-    let g = gated_words_mean And f front (replicate n b) one (All-take (IsOf f.vars) n xs q) (All-replicate (IsOf f.vars) n b o)
+    let g = gated_words_mean And f front (replicate n b) (All-take (IsOf f.vars) n xs q) (All-replicate (IsOf f.vars) n b o)
     (length-replicate n b ∙ sym long) in
     let more : f.vars ≤ row.state.vars = grown_more f row.state g.word.grown in
     let m : Walked Made = added row.state word row.word (constant false) in
-    let enough : 0 < row.state.vars = omega (arith, one, more) in
-    let h = words-mean.add row.state word row.word (constant false) enough (all_grown f row.state word g.word.grown p) g.word.literals
+    let enough : 0 < row.state.vars = omega (arith, o.0, o.1, more) in
+    let h = words-mean.add row.state word row.word (constant false) (all_grown f row.state word g.word.grown p) g.word.literals
     (constant_of row.state.vars false enough) (g.word.same_length ∙ long) in
     record {
       same = record {
@@ -99,25 +99,24 @@ row_means f word xs b one p q o le =
           );
     }
 
-product_more : (f : Formula) (xs : List ℤ) (bs word : List ℤ) → 0 < f.vars → All (IsOf f.vars) word → All (IsOf f.vars) xs → All (IsOf f.vars) bs
+product_more : (f : Formula) (xs : List ℤ) (bs word : List ℤ) → All (IsOf f.vars) word → All (IsOf f.vars) xs → All (IsOf f.vars) bs
     → length word ≤ length xs → length bs ≤ length word → IsUpTo f word (with_product f word xs bs) (λ w. value w word + value w xs * value w bs)
-product_more f xs [] word one p q r le short = record {
+product_more f xs [] word p q r le short = record {
   same = record { grown = grown_none f; literals = p; same_length = refl };
   number = λ w k. (0, (let a : 2 ^ length word * 0 ≡ 0 = mul-zero (2 ^ length word) in let b : value w xs * 0 ≡ 0 = mul-zero (value w xs) in omega (arith, a, b)));
 }
-product_more f xs (b ∷ bs) [] one p q r le short = absurd (omega (arith, short))
-product_more f xs (b ∷ bs) (x ∷ word) one p q r le short =
+product_more f xs (b ∷ bs) [] p q r le short = absurd (omega (arith, short))
+product_more f xs (b ∷ bs) (x ∷ word) p q r le short =
     let row : Walked Formula = with_row f (x ∷ word) xs b in
     let g : Formula = row.state in
-    let h = row_means f (x ∷ word) xs b one p q (All-head (IsOf f.vars) b bs r) le in
-    let more : f.vars ≤ g.vars = grown_more f g h.same.grown in
+    let h = row_means f (x ∷ word) xs b p q (All-head (IsOf f.vars) b bs r) le in
     let high : List ℤ = drop 1 row.word in
     let low : List ℤ = take 1 row.word in
     let long : length row.word ≡ suc (length word) = h.same.same_length in
     let len : length high ≡ length word = length-drop 1 row.word ∙ omega (arith, long) in
     let unit : length low ≡ 1 = length-take 1 row.word ∙ omega (arith, long) in
     let rest : Walked Formula = with_product g high xs bs in
-    let t = product_more g xs bs high (omega (arith, one, more)) (All-drop (IsOf g.vars) 1 row.word h.same.literals) (all_grown f g xs h.same.grown q)
+    let t = product_more g xs bs high (All-drop (IsOf g.vars) 1 row.word h.same.literals) (all_grown f g xs h.same.grown q)
     (all_grown f g bs h.same.grown (All-tail (IsOf f.vars) b bs r)) (omega (arith, len, le)) (omega (arith, len, short)) in
     record {
       same = record {
@@ -146,7 +145,7 @@ pub product_means : (f : Formula) (xs ys : List ℤ) → AreOperands f xs ys
 product_means f xs ys o =
     let m : Walked Formula = times_word f xs ys in
     let long : length (zeros (length xs)) ≡ length xs = length-replicate (length xs) (constant false) in
-    let h = product_more f xs ys (zeros (length xs)) o.one (All-replicate (IsOf f.vars) (length xs) (constant false) (constant_of f.vars false o.one))
+    let h = product_more f xs ys (zeros (length xs)) (All-replicate (IsOf f.vars) (length xs) (constant false) (constant_of f.vars false o.one))
     o.first o.second (omega (arith, long)) (omega (arith, long, o.lengths)) in
     record {
       word = record { grown = h.same.grown; literals = h.same.literals; same_length = h.same.same_length ∙ long };

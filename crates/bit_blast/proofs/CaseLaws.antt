@@ -17,7 +17,7 @@ use Rattle.cnf_core.proofs.GateLaws.{literal_true-neg}
 use Rattle.bit_gates.specs.Extended.{IsExtended}
 use Rattle.bit_gates.specs.Folded.{Made, constant, kept, opposite, both, either}
 use Rattle.bit_gates.specs.Laws.{IsModel, IsOf, IsBit}
-use Rattle.bit_gates.proofs.Blocks.{grown_none, grown_more, grown_twice, IsOf-grown, IsOf-opposite, model_before}
+use Rattle.bit_gates.proofs.Blocks.{grown_none, grown_twice, IsOf-grown, IsOf-opposite, model_before}
 use Rattle.bit_gates.proofs.Extended.{gates-extend}
 use Rattle.bit_gates.proofs.Meaning.{both_bit, either_bit, constant_of, constant_value}
 use Rattle.bit_arith.specs.Laws.{int_value}
@@ -56,14 +56,12 @@ bit_opposite f m meaning h = record {
 }
 
 -- a literal, and another that is made after it
-pub bit_both : (f : Formula) (m x : Made) (first second : Valuation → Bool) → 0 < f.vars → IsBit f m first → IsBit m.formula x second
+pub bit_both : (f : Formula) (m x : Made) (first second : Valuation → Bool) → IsBit f m first → IsBit m.formula x second
     → IsBit f (both x.formula m.literal x.literal) (λ w. first w && second w)
-bit_both f m x first second one a b =
+bit_both f m x first second a b =
     let g : Formula = m.formula in
     let k : Formula = x.formula in
-    let more : f.vars ≤ g.vars = grown_more f g a.grown in
-    let rise : g.vars ≤ k.vars = grown_more g k b.grown in
-    let h = both_bit k m.literal x.literal (omega (arith, one, more, rise)) (IsOf-grown g k m.literal b.grown a.literal) b.literal in
+    let h = both_bit k m.literal x.literal (IsOf-grown g k m.literal b.grown a.literal) b.literal in
     let out : Formula = (both k m.literal x.literal).formula in
     record {
       grown = grown_twice f k out (grown_twice f g k a.grown b.grown) h.grown;
@@ -73,14 +71,12 @@ bit_both f m x first second one a b =
           h.value w o ∙ ap (λ p. p && literal_true w x.literal) (a.value w (model_before w g k b.grown ok)) ∙ ap (λ p. first w && p) (b.value w ok);
     }
 
-pub bit_either : (f : Formula) (m x : Made) (first second : Valuation → Bool) → 0 < f.vars → IsBit f m first → IsBit m.formula x second
+pub bit_either : (f : Formula) (m x : Made) (first second : Valuation → Bool) → IsBit f m first → IsBit m.formula x second
     → IsBit f (either x.formula m.literal x.literal) (λ w. first w || second w)
-bit_either f m x first second one a b =
+bit_either f m x first second a b =
     let g : Formula = m.formula in
     let k : Formula = x.formula in
-    let more : f.vars ≤ g.vars = grown_more f g a.grown in
-    let rise : g.vars ≤ k.vars = grown_more g k b.grown in
-    let h = either_bit k m.literal x.literal (omega (arith, one, more, rise)) (IsOf-grown g k m.literal b.grown a.literal) b.literal in
+    let h = either_bit k m.literal x.literal (IsOf-grown g k m.literal b.grown a.literal) b.literal in
     let out : Formula = (either k m.literal x.literal).formula in
     record {
       grown = grown_twice f k out (grown_twice f g k a.grown b.grown) h.grown;
@@ -157,7 +153,7 @@ module _ (o : Order) (nodes : List Node) (world : Valuation → World) (parts : 
   literals_bit f m known [] t a h = bit_for f m known (λ v. known v && true) (λ w _. and_true (known w)) h
   literals_bit f m known (l ∷ ls) t a h =
       let here : Valuation → Bool = λ v. literal_at nodes (world v) l in
-      let next = bit_both f m (literal_made parts m.formula l) known here t.one h
+      let next = bit_both f m (literal_made parts m.formula l) known here h
       (literal_bit m.formula l (tells_grown f m known h t) (All-head (LiteralIsAsked o) l ls a)) in
       let r = literals_bit f (with_literal parts m l) (λ v. known v && here v) ls t (All-tail (LiteralIsAsked o) l ls a) next in
       bit_for f (fold (with_literal parts) (with_literal parts m l) ls) (λ v. (known v && here v) && list_all (literal_at nodes (world v)) ls)
@@ -171,7 +167,7 @@ module _ (o : Order) (nodes : List Node) (world : Valuation → World) (parts : 
   each_bit f m known [] t a h = bit_for f m known (λ v. known v || false) (λ w _. or_false (known w)) h
   each_bit f m known (c ∷ cs) t a h =
       let here : Valuation → Bool = λ v. case_at nodes (world v) c in
-      let next = bit_either f m (case_made parts m.formula c) known here t.one h
+      let next = bit_either f m (case_made parts m.formula c) known here h
       (case_bit m.formula c (tells_grown f m known h t) (All-head (All (LiteralIsAsked o)) c cs a)) in
       let r = each_bit f (with_case parts m c) (λ v. known v || here v) cs t (All-tail (All (LiteralIsAsked o)) c cs a) next in
       bit_for f (fold (with_case parts) (with_case parts m c) cs) (λ v. (known v || here v) || list_any (case_at nodes (world v)) cs)

@@ -57,7 +57,7 @@ module _ (o : Order) (nodes : List Node) (world : Valuation → World) (parts : 
   seen_bit f c t a =
       bit_both f (kept f (if c.earlier then constant true else parts.before c.event r.event))
       (option_map_or (λ test. some_of f (word_at parts.words test)) c.same_cell (kept f (constant true)))
-      (λ v. c.earlier || is_before (world v) c.event r.event) (λ v. option_map_or (passes_at nodes (world v)) c.same_cell true) t.one
+      (λ v. c.earlier || is_before (world v) c.event r.event) (λ v. option_map_or (passes_at nodes (world v)) c.same_cell true)
       (event_seen f c.event c.earlier t a) (cell_seen f c.same_cell t)
 
   -- of each of some writes

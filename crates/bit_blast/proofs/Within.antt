@@ -1,5 +1,5 @@
 -- Which variables the literals of an order and of its loads have.
-use Rattle.std.proofs.Common.{◌≡◌, ℕ, ◌+◌, ◌<◌, ◌≤◌, List, [], ◌∷◌, ℤ, ◌∙◌, arith, length}
+use Rattle.std.proofs.Common.{◌≡◌, ℕ, ◌+◌, ◌≤◌, List, [], ◌∷◌, ℤ, ◌∙◌, arith, length}
 use Rattle.std.specs.Prelude.{fold}
 use Rattle.std.specs.List.{All, range_with_len}
 use Rattle.std.proofs.lemmas.List.{length_push}
@@ -13,7 +13,6 @@ use Rattle.bit_words.specs.Words.{AreWithin, Walked}
 use Rattle.bit_order.specs.Comparators.{before_literal, ordered}
 use Rattle.bit_order.specs.Laws.{LiteralsMean}
 use Rattle.bit_order.specs.Layouts.{Layout, base, ends_literal, load_word}
-use Rattle.bit_order.proofs.Compared.{base_some}
 use Rattle.bit_order.proofs.Meaning.{literals-mean}
 use Rattle.bit_order.proofs.Three.{ordered-extended}
 use Rattle.bit_terms.specs.Terms.{Words, node_word, term_words, with_word}
@@ -42,9 +41,6 @@ module _ (y : Layout) (lawful : IsOrder y.order) where
 
   pub base_within : (base y).vars ≤ (ordered y).vars
   base_within = order.more
-
-  pub some_within : 0 < (ordered y).vars
-  some_within = let a : 0 < (base y).vars = base_some y in omega (arith, a, order.more)
 
   pub loads_within : All (AreWithin (ordered y).vars) (load_words y)
   loads_within =

@@ -12,11 +12,11 @@ ghost use Rattle.bit_blast.specs.Reads.{all_seen, last_clause, last_clauses, non
 ghost use Rattle.bit_blast.specs.Sizes.{read_size};
 ghost use Rattle.bit_blast.specs.helpers.Within.{ArePartsWithin, IsSourceWithin, AreSourcesWithin};
 
-use bit_gates::{and, constant};
+use bit_gates::Circuit;
 use bit_ops::Word;
 use bit_order::{Layout, add_clause};
 use bit_terms::nonzero;
-use cnf_core::{Cnf, Lit};
+use cnf_core::Lit;
 use order_formula::{Candidate, Read};
 use std::alloc::{AllocError, Global};
 use std::marker::Model;
@@ -42,55 +42,53 @@ impl Model for Source {
 /// The literal of "the load takes the value that it must".
 pub(crate) fn read_literal(
     alloc: Global,
-    cnf: &mut Cnf,
+    circuit: &mut Circuit,
     layout: &Layout,
     words: &[Word],
     read: &Read,
 ) -> Result<Lit, AllocError>
-    requires one { 0 < cnf.old.vars }
-    requires parts { ArePartsWithin cnf.old.vars (parts_of layout.now words.now) }
+    requires parts { ArePartsWithin circuit.old.vars (parts_of layout.now words.now) }
     requires terms { ReadIsOf (length words.now) read.now }
-    requires room { HasRoom (read_size (length read.now.candidates)) cnf.old }
-    ensures literal { IfOk result (λ l. l ≡ (read_made (parts_of layout.now words.now) cnf.old read.now).literal) }
-    ensures formula { OnOk result (cnf.new ≡ (read_made (parts_of layout.now words.now) cnf.old read.now).formula) }
-    ensures within { IfOk result (λ l. var_of l ≤ cnf.new.vars) }
-    ensures larger { OnOk result (IsLarger (read_size (length read.now.candidates)) cnf.old cnf.new) }
+    requires room { HasRoom (read_size (length read.now.candidates)) circuit.old }
+    ensures literal { IfOk result (λ l. l ≡ (read_made (parts_of layout.now words.now) circuit.old read.now).literal) }
+    ensures formula { OnOk result (circuit.new ≡ (read_made (parts_of layout.now words.now) circuit.old read.now).formula) }
+    ensures within { IfOk result (λ l. var_of l ≤ circuit.new.vars) }
+    ensures larger { OnOk result (IsLarger (read_size (length read.now.candidates)) circuit.old circuit.new) }
 {
-    let seen = all_seen(alloc, cnf, layout, words, read)?;
-    let holds = cnf.add_variable();
-    let start = cnf.add_variable();
-    let sources = sources_of(alloc, cnf, words, read.candidates(), seen.as_slice())?;
+    let seen = all_seen(alloc, circuit, layout, words, read)?;
+    let holds = circuit.add_variable();
+    let start = circuit.add_variable();
+    let sources = sources_of(alloc, circuit, words, read.candidates(), seen.as_slice())?;
     let sources = sources.as_slice();
     let takes = &words[read.takes().place()];
     let first = &words[read.start().place()];
-    add_some(alloc, cnf, start, sources)?;
-    add_none(alloc, cnf, start, sources)?;
-    add_value(alloc, cnf, holds, start, takes, first)?;
-    add_sources(alloc, cnf, layout, holds, takes, sources)?;
+    add_some(alloc, circuit, start, sources)?;
+    add_none(alloc, circuit, start, sources)?;
+    add_value(alloc, circuit, holds, start, takes, first)?;
+    add_sources(alloc, circuit, layout, holds, takes, sources)?;
     Ok(holds)
 }
 
 /// Whether the load sees each of its candidates at its cell.
 fn all_seen(
     alloc: Global,
-    cnf: &mut Cnf,
+    circuit: &mut Circuit,
     layout: &Layout,
     words: &[Word],
     read: &Read,
 ) -> Result<Vec<Lit>, AllocError>
-    requires one { 0 < cnf.old.vars }
-    requires parts { ArePartsWithin cnf.old.vars (parts_of layout.now words.now) }
+    requires parts { ArePartsWithin circuit.old.vars (parts_of layout.now words.now) }
     requires terms { All (CandidateIsOf (length words.now)) read.now.candidates }
-    requires room { HasRoom (99 * length read.now.candidates) cnf.old }
-    ensures literals { IfOk result (λ v. v.items ≡ (all_seen (parts_of layout.now words.now) read.now cnf.old read.now.candidates).word) }
-    ensures formula { OnOk result (cnf.new ≡ (all_seen (parts_of layout.now words.now) read.now cnf.old read.now.candidates).state) }
+    requires room { HasRoom (99 * length read.now.candidates) circuit.old }
+    ensures literals { IfOk result (λ v. v.items ≡ (all_seen (parts_of layout.now words.now) read.now circuit.old read.now.candidates).word) }
+    ensures formula { OnOk result (circuit.new ≡ (all_seen (parts_of layout.now words.now) read.now circuit.old read.now.candidates).state) }
     ensures count { IfOk result (λ v. length v.items ≡ length read.now.candidates) }
-    ensures within { IfOk result (λ v. AreWithin cnf.new.vars v.items) }
-    ensures larger { OnOk result (IsLarger (99 * length read.now.candidates) cnf.old cnf.new) }
+    ensures within { IfOk result (λ v. AreWithin circuit.new.vars v.items) }
+    ensures larger { OnOk result (IsLarger (99 * length read.now.candidates) circuit.old circuit.new) }
 {
     let mut seen = Vec::new(alloc);
     for candidate in read.candidates() {
-        let here = is_seen(cnf, layout, words, read, *candidate)?;
+        let here = is_seen(circuit, layout, words, read, *candidate)?;
         seen.push(here)?;
     }
     Ok(seen)
@@ -98,51 +96,50 @@ fn all_seen(
 
 /// Whether the load sees the write at its cell.
 fn is_seen(
-    cnf: &mut Cnf,
+    circuit: &mut Circuit,
     layout: &Layout,
     words: &[Word],
     read: &Read,
     candidate: Candidate,
 ) -> Result<Lit, AllocError>
-    requires one { 0 < cnf.old.vars }
-    requires parts { ArePartsWithin cnf.old.vars (parts_of layout.now words.now) }
+    requires parts { ArePartsWithin circuit.old.vars (parts_of layout.now words.now) }
     requires terms { CandidateIsOf (length words.now) candidate }
-    requires room { HasRoom 99 cnf.old }
-    ensures literal { IfOk result (λ l. l ≡ (seen_made (parts_of layout.now words.now) read.now cnf.old candidate).literal) }
-    ensures formula { OnOk result (cnf.new ≡ (seen_made (parts_of layout.now words.now) read.now cnf.old candidate).formula) }
-    ensures within { IfOk result (λ l. var_of l ≤ cnf.new.vars) }
-    ensures larger { OnOk result (IsLarger 99 cnf.old cnf.new) }
+    requires room { HasRoom 99 circuit.old }
+    ensures literal { IfOk result (λ l. l ≡ (seen_made (parts_of layout.now words.now) read.now circuit.old candidate).literal) }
+    ensures formula { OnOk result (circuit.new ≡ (seen_made (parts_of layout.now words.now) read.now circuit.old candidate).formula) }
+    ensures within { IfOk result (λ l. var_of l ≤ circuit.new.vars) }
+    ensures larger { OnOk result (IsLarger 99 circuit.old circuit.new) }
 {
     let cell = match candidate.same_cell {
-        Some(term) => nonzero(cnf, &words[term.place()])?,
-        None => constant(true),
+        Some(term) => nonzero(circuit, &words[term.place()])?,
+        None => circuit.constant(true),
     };
     let order = if candidate.earlier {
-        constant(true)
+        circuit.constant(true)
     } else {
         layout.before(candidate.event, read.event())
     };
-    and(cnf, order, cell)
+    circuit.and(order, cell)
 }
 
 /// The candidates with these literals, and a new variable for each.
 fn sources_of(
     alloc: Global,
-    cnf: &mut Cnf,
+    circuit: &mut Circuit,
     words: &[Word],
     candidates: &[Candidate],
     seen: &[Lit],
 ) -> Result<Vec<Source>, AllocError>
     requires count { length seen.now ≡ length candidates.now }
     requires terms { All (CandidateIsOf (length words.now)) candidates.now }
-    requires words { All (AreWithin cnf.old.vars) words.now }
-    requires seen { AreWithin cnf.old.vars seen.now }
-    requires room { HasRoom (length candidates.now) cnf.old }
-    ensures sources { IfOk result (λ v. v.items ≡ sources_of words.now cnf.old.vars candidates.now seen.now) }
+    requires words { All (AreWithin circuit.old.vars) words.now }
+    requires seen { AreWithin circuit.old.vars seen.now }
+    requires room { HasRoom (length candidates.now) circuit.old }
+    ensures sources { IfOk result (λ v. v.items ≡ sources_of words.now circuit.old.vars candidates.now seen.now) }
     ensures count { IfOk result (λ v. length v.items ≡ length candidates.now) }
-    ensures variables { OnOk result (cnf.new.vars ≡ cnf.old.vars + length candidates.now) }
-    ensures clauses { cnf.new.clauses ≡ cnf.old.clauses }
-    ensures within { IfOk result (λ v. AreSourcesWithin cnf.new.vars v.items) }
+    ensures variables { OnOk result (circuit.new.vars ≡ circuit.old.vars + length candidates.now) }
+    ensures clauses { circuit.new.clauses ≡ circuit.old.clauses }
+    ensures within { IfOk result (λ v. AreSourcesWithin circuit.new.vars v.items) }
 {
     let mut sources = Vec::with_capacity(alloc, candidates.len())?;
     for place in 0..candidates.len() {
@@ -150,7 +147,7 @@ fn sources_of(
         sources.push(Source {
             event: candidate.event,
             seen: seen[place],
-            taken: cnf.add_variable(),
+            taken: circuit.add_variable(),
             value: words[candidate.value.place()],
         })?;
     }
@@ -158,33 +155,43 @@ fn sources_of(
 }
 
 /// Adds the clause: the load takes the value at the start, or that of some write.
-fn add_some(alloc: Global, cnf: &mut Cnf, start: Lit, sources: &[Source]) -> Result<(), AllocError>
-    requires start { var_of start ≤ cnf.old.vars }
-    requires sources { AreSourcesWithin cnf.old.vars sources.now }
-    requires room { length cnf.old.clauses + 1 < LIMIT }
-    ensures formula { OnOk result (cnf.new ≡ with_clauses cnf.old ((start ∷ map (λ s. s.taken) sources.now) ∷ [])) }
-    ensures vars { OnOk result (cnf.new.vars ≡ cnf.old.vars) }
-    ensures count { OnOk result (length cnf.new.clauses ≤ length cnf.old.clauses + 1) }
+fn add_some(
+    alloc: Global,
+    circuit: &mut Circuit,
+    start: Lit,
+    sources: &[Source],
+) -> Result<(), AllocError>
+    requires start { var_of start ≤ circuit.old.vars }
+    requires sources { AreSourcesWithin circuit.old.vars sources.now }
+    requires room { length circuit.old.clauses + 1 < LIMIT }
+    ensures formula { OnOk result (circuit.new ≡ with_clauses circuit.old ((start ∷ map (λ s. s.taken) sources.now) ∷ [])) }
+    ensures vars { OnOk result (circuit.new.vars ≡ circuit.old.vars) }
+    ensures count { OnOk result (length circuit.new.clauses ≤ length circuit.old.clauses + 1) }
 {
     let mut clause = Vec::with_capacity(alloc, sources.len() + 1)?;
     clause.push(start)?;
     for source in sources {
         clause.push(source.taken)?;
     }
-    add_clause(alloc, cnf, clause.as_slice())
+    add_clause(alloc, circuit, clause.as_slice())
 }
 
 /// Adds clauses: if the load takes the value at the start, it sees no write.
-fn add_none(alloc: Global, cnf: &mut Cnf, start: Lit, sources: &[Source]) -> Result<(), AllocError>
-    requires start { var_of start ≤ cnf.old.vars }
-    requires sources { AreSourcesWithin cnf.old.vars sources.now }
-    requires room { length cnf.old.clauses + length sources.now < LIMIT }
-    ensures formula { OnOk result (cnf.new ≡ with_clauses cnf.old (none_clauses start sources.now)) }
-    ensures vars { OnOk result (cnf.new.vars ≡ cnf.old.vars) }
-    ensures count { OnOk result (length cnf.new.clauses ≤ length cnf.old.clauses + length sources.now) }
+fn add_none(
+    alloc: Global,
+    circuit: &mut Circuit,
+    start: Lit,
+    sources: &[Source],
+) -> Result<(), AllocError>
+    requires start { var_of start ≤ circuit.old.vars }
+    requires sources { AreSourcesWithin circuit.old.vars sources.now }
+    requires room { length circuit.old.clauses + length sources.now < LIMIT }
+    ensures formula { OnOk result (circuit.new ≡ with_clauses circuit.old (none_clauses start sources.now)) }
+    ensures vars { OnOk result (circuit.new.vars ≡ circuit.old.vars) }
+    ensures count { OnOk result (length circuit.new.clauses ≤ length circuit.old.clauses + length sources.now) }
 {
     for source in sources {
-        add_clause(alloc, cnf, &[start.opposite(), source.seen.opposite()])?;
+        add_clause(alloc, circuit, &[start.opposite(), source.seen.opposite()])?;
     }
     Ok(())
 }
@@ -192,26 +199,26 @@ fn add_none(alloc: Global, cnf: &mut Cnf, start: Lit, sources: &[Source]) -> Res
 /// Adds clauses: if the conjunct is true and the load takes a value, its word equals that.
 fn add_value(
     alloc: Global,
-    cnf: &mut Cnf,
+    circuit: &mut Circuit,
     holds: Lit,
     taken: Lit,
     takes: &Word,
     value: &Word,
 ) -> Result<(), AllocError>
-    requires holds { var_of holds ≤ cnf.old.vars }
-    requires taken { var_of taken ≤ cnf.old.vars }
-    requires takes { AreWithin cnf.old.vars takes.now }
-    requires value { AreWithin cnf.old.vars value.now }
-    requires room { length cnf.old.clauses + 64 < LIMIT }
-    ensures formula { OnOk result (cnf.new ≡ with_clauses cnf.old (value_clauses holds taken takes.now value.now)) }
-    ensures vars { OnOk result (cnf.new.vars ≡ cnf.old.vars) }
-    ensures count { OnOk result (length cnf.new.clauses ≤ length cnf.old.clauses + 64) }
+    requires holds { var_of holds ≤ circuit.old.vars }
+    requires taken { var_of taken ≤ circuit.old.vars }
+    requires takes { AreWithin circuit.old.vars takes.now }
+    requires value { AreWithin circuit.old.vars value.now }
+    requires room { length circuit.old.clauses + 64 < LIMIT }
+    ensures formula { OnOk result (circuit.new ≡ with_clauses circuit.old (value_clauses holds taken takes.now value.now)) }
+    ensures vars { OnOk result (circuit.new.vars ≡ circuit.old.vars) }
+    ensures count { OnOk result (length circuit.new.clauses ≤ length circuit.old.clauses + 64) }
 {
     let (no, other) = (holds.opposite(), taken.opposite());
     for place in 0..32 {
         let (a, b) = (takes[place], value[place]);
-        add_clause(alloc, cnf, &[no, other, a.opposite(), b])?;
-        add_clause(alloc, cnf, &[no, other, a, b.opposite()])?;
+        add_clause(alloc, circuit, &[no, other, a.opposite(), b])?;
+        add_clause(alloc, circuit, &[no, other, a, b.opposite()])?;
     }
     Ok(())
 }
@@ -219,22 +226,22 @@ fn add_value(
 /// Adds clauses: if the load takes a write, it sees it, and sees no later one.
 fn add_last(
     alloc: Global,
-    cnf: &mut Cnf,
+    circuit: &mut Circuit,
     layout: &Layout,
     sources: &[Source],
     source: &Source,
 ) -> Result<(), AllocError>
-    requires orders { (first second : ℕ) → var_of (before_literal layout.now first second) ≤ cnf.old.vars }
-    requires sources { AreSourcesWithin cnf.old.vars sources.now }
-    requires source { IsSourceWithin cnf.old.vars source.now }
-    requires room { length cnf.old.clauses + length sources.now + 1 < LIMIT }
-    ensures formula { OnOk result (cnf.new ≡ with_clauses cnf.old (last_clauses (before_literal layout.now) sources.now source.now)) }
-    ensures vars { OnOk result (cnf.new.vars ≡ cnf.old.vars) }
-    ensures count { OnOk result (length cnf.new.clauses ≤ length cnf.old.clauses + length sources.now + 1) }
+    requires orders { (first second : ℕ) → var_of (before_literal layout.now first second) ≤ circuit.old.vars }
+    requires sources { AreSourcesWithin circuit.old.vars sources.now }
+    requires source { IsSourceWithin circuit.old.vars source.now }
+    requires room { length circuit.old.clauses + length sources.now + 1 < LIMIT }
+    ensures formula { OnOk result (circuit.new ≡ with_clauses circuit.old (last_clauses (before_literal layout.now) sources.now source.now)) }
+    ensures vars { OnOk result (circuit.new.vars ≡ circuit.old.vars) }
+    ensures count { OnOk result (length circuit.new.clauses ≤ length circuit.old.clauses + length sources.now + 1) }
 {
-    add_clause(alloc, cnf, &[source.taken.opposite(), source.seen])?;
+    add_clause(alloc, circuit, &[source.taken.opposite(), source.seen])?;
     for other in sources {
-        add_later(alloc, cnf, layout, source, other)?;
+        add_later(alloc, circuit, layout, source, other)?;
     }
     Ok(())
 }
@@ -242,18 +249,18 @@ fn add_last(
 /// Adds the clause: if the load takes a write and sees another, the other comes before it.
 fn add_later(
     alloc: Global,
-    cnf: &mut Cnf,
+    circuit: &mut Circuit,
     layout: &Layout,
     source: &Source,
     other: &Source,
 ) -> Result<(), AllocError>
-    requires orders { (first second : ℕ) → var_of (before_literal layout.now first second) ≤ cnf.old.vars }
-    requires source { IsSourceWithin cnf.old.vars source.now }
-    requires other { IsSourceWithin cnf.old.vars other.now }
-    requires room { length cnf.old.clauses + 1 < LIMIT }
-    ensures formula { OnOk result (cnf.new ≡ with_clauses cnf.old (last_clause (before_literal layout.now) source.now other.now)) }
-    ensures vars { OnOk result (cnf.new.vars ≡ cnf.old.vars) }
-    ensures count { OnOk result (length cnf.new.clauses ≤ length cnf.old.clauses + 1) }
+    requires orders { (first second : ℕ) → var_of (before_literal layout.now first second) ≤ circuit.old.vars }
+    requires source { IsSourceWithin circuit.old.vars source.now }
+    requires other { IsSourceWithin circuit.old.vars other.now }
+    requires room { length circuit.old.clauses + 1 < LIMIT }
+    ensures formula { OnOk result (circuit.new ≡ with_clauses circuit.old (last_clause (before_literal layout.now) source.now other.now)) }
+    ensures vars { OnOk result (circuit.new.vars ≡ circuit.old.vars) }
+    ensures count { OnOk result (length circuit.new.clauses ≤ length circuit.old.clauses + 1) }
 {
     if other.event == source.event {
         return Ok(());
@@ -261,7 +268,7 @@ fn add_later(
     let before = layout.before(other.event, source.event);
     add_clause(
         alloc,
-        cnf,
+        circuit,
         &[source.taken.opposite(), other.seen.opposite(), before],
     )
 }
@@ -269,25 +276,25 @@ fn add_later(
 /// Adds both kinds of clauses for each write.
 fn add_sources(
     alloc: Global,
-    cnf: &mut Cnf,
+    circuit: &mut Circuit,
     layout: &Layout,
     holds: Lit,
     takes: &Word,
     sources: &[Source],
 ) -> Result<(), AllocError>
-    requires orders { (first second : ℕ) → var_of (before_literal layout.now first second) ≤ cnf.old.vars }
-    requires holds { var_of holds ≤ cnf.old.vars }
-    requires takes { AreWithin cnf.old.vars takes.now }
-    requires sources { AreSourcesWithin cnf.old.vars sources.now }
-    requires room { length cnf.old.clauses + length sources.now * (length sources.now + 65) < LIMIT }
-    ensures formula { OnOk result (cnf.new ≡ with_clauses cnf.old (flat_map
+    requires orders { (first second : ℕ) → var_of (before_literal layout.now first second) ≤ circuit.old.vars }
+    requires holds { var_of holds ≤ circuit.old.vars }
+    requires takes { AreWithin circuit.old.vars takes.now }
+    requires sources { AreSourcesWithin circuit.old.vars sources.now }
+    requires room { length circuit.old.clauses + length sources.now * (length sources.now + 65) < LIMIT }
+    ensures formula { OnOk result (circuit.new ≡ with_clauses circuit.old (flat_map
         (λ s. last_clauses (before_literal layout.now) sources.now s ++ value_clauses holds s.taken takes.now s.value) sources.now)) }
-    ensures vars { OnOk result (cnf.new.vars ≡ cnf.old.vars) }
-    ensures count { OnOk result (length cnf.new.clauses ≤ length cnf.old.clauses + length sources.now * (length sources.now + 65)) }
+    ensures vars { OnOk result (circuit.new.vars ≡ circuit.old.vars) }
+    ensures count { OnOk result (length circuit.new.clauses ≤ length circuit.old.clauses + length sources.now * (length sources.now + 65)) }
 {
     for source in sources {
-        add_last(alloc, cnf, layout, sources, source)?;
-        add_value(alloc, cnf, holds, source.taken, takes, &source.value)?;
+        add_last(alloc, circuit, layout, sources, source)?;
+        add_value(alloc, circuit, holds, source.taken, takes, &source.value)?;
     }
     Ok(())
 }

@@ -12,9 +12,10 @@ ghost use Rattle.bit_blast.specs.helpers.Within.{ArePartsWithin};
 
 use crate::cases::some_case;
 use crate::reads::read_literal;
+use bit_gates::Circuit;
 use bit_ops::Word;
 use bit_order::Layout;
-use cnf_core::{Cnf, Lit};
+use cnf_core::Lit;
 use order_formula::{Body, Formula};
 use std::alloc::{AllocError, Global};
 
@@ -22,45 +23,43 @@ use std::alloc::{AllocError, Global};
 /// literal of each conjunct, in order.
 pub(crate) fn add_formula(
     alloc: Global,
-    cnf: &mut Cnf,
+    circuit: &mut Circuit,
     layout: &Layout,
     words: &[Word],
     formula: &Formula,
 ) -> Result<(), AllocError>
-    requires one { 0 < cnf.old.vars }
-    requires parts { ArePartsWithin cnf.old.vars (parts_of layout.now words.now) }
+    requires parts { ArePartsWithin circuit.old.vars (parts_of layout.now words.now) }
     requires terms { IsOf (length words.now) formula.now }
-    requires room { HasRoom (size_of formula.now) cnf.old }
-    ensures formula { OnOk result (cnf.new ≡ blasted (parts_of layout.now words.now) cnf.old formula.now) }
-    ensures roots { OnOk result (length formula.now ≤ length cnf.new.clauses) }
-    ensures larger { OnOk result (IsLarger (size_of formula.now) cnf.old cnf.new) }
+    requires room { HasRoom (size_of formula.now) circuit.old }
+    ensures formula { OnOk result (circuit.new ≡ blasted (parts_of layout.now words.now) circuit.old formula.now) }
+    ensures roots { OnOk result (length formula.now ≤ length circuit.new.clauses) }
+    ensures larger { OnOk result (IsLarger (size_of formula.now) circuit.old circuit.new) }
 {
-    let roots = roots(alloc, cnf, layout, words, formula)?;
-    add_units(cnf, roots.as_slice())?;
+    let roots = roots(alloc, circuit, layout, words, formula)?;
+    add_units(circuit, roots.as_slice())?;
     Ok(())
 }
 
 /// The literals of all conjuncts, in order.
 fn roots(
     alloc: Global,
-    cnf: &mut Cnf,
+    circuit: &mut Circuit,
     layout: &Layout,
     words: &[Word],
     formula: &Formula,
 ) -> Result<Vec<Lit>, AllocError>
-    requires one { 0 < cnf.old.vars }
-    requires parts { ArePartsWithin cnf.old.vars (parts_of layout.now words.now) }
+    requires parts { ArePartsWithin circuit.old.vars (parts_of layout.now words.now) }
     requires terms { IsOf (length words.now) formula.now }
-    requires room { HasRoom (bodies_size formula.now) cnf.old }
-    ensures literals { IfOk result (λ v. v.items ≡ (roots (parts_of layout.now words.now) cnf.old formula.now).word) }
-    ensures formula { OnOk result (cnf.new ≡ (roots (parts_of layout.now words.now) cnf.old formula.now).state) }
+    requires room { HasRoom (bodies_size formula.now) circuit.old }
+    ensures literals { IfOk result (λ v. v.items ≡ (roots (parts_of layout.now words.now) circuit.old formula.now).word) }
+    ensures formula { OnOk result (circuit.new ≡ (roots (parts_of layout.now words.now) circuit.old formula.now).state) }
     ensures count { IfOk result (λ v. length v.items ≡ length formula.now) }
-    ensures within { IfOk result (λ v. AreWithin cnf.new.vars v.items) }
-    ensures larger { OnOk result (IsLarger (bodies_size formula.now) cnf.old cnf.new) }
+    ensures within { IfOk result (λ v. AreWithin circuit.new.vars v.items) }
+    ensures larger { OnOk result (IsLarger (bodies_size formula.now) circuit.old circuit.new) }
 {
     let mut roots = Vec::new(alloc);
     for conjunct in formula.conjuncts() {
-        let root = body_literal(alloc, cnf, layout, words, &conjunct.body)?;
+        let root = body_literal(alloc, circuit, layout, words, &conjunct.body)?;
         roots.push(root)?;
     }
     Ok(roots)
@@ -68,45 +67,44 @@ fn roots(
 
 fn body_literal(
     alloc: Global,
-    cnf: &mut Cnf,
+    circuit: &mut Circuit,
     layout: &Layout,
     words: &[Word],
     body: &Body,
 ) -> Result<Lit, AllocError>
-    requires one { 0 < cnf.old.vars }
-    requires parts { ArePartsWithin cnf.old.vars (parts_of layout.now words.now) }
+    requires parts { ArePartsWithin circuit.old.vars (parts_of layout.now words.now) }
     requires terms { BodyIsOf (length words.now) body.now }
-    requires room { HasRoom (body_size body.now) cnf.old }
-    ensures literal { IfOk result (λ l. l ≡ (body_made (parts_of layout.now words.now) cnf.old body.now).literal) }
-    ensures formula { OnOk result (cnf.new ≡ (body_made (parts_of layout.now words.now) cnf.old body.now).formula) }
-    ensures within { IfOk result (λ l. var_of l ≤ cnf.new.vars) }
-    ensures larger { OnOk result (IsLarger (body_size body.now) cnf.old cnf.new) }
+    requires room { HasRoom (body_size body.now) circuit.old }
+    ensures literal { IfOk result (λ l. l ≡ (body_made (parts_of layout.now words.now) circuit.old body.now).literal) }
+    ensures formula { OnOk result (circuit.new ≡ (body_made (parts_of layout.now words.now) circuit.old body.now).formula) }
+    ensures within { IfOk result (λ l. var_of l ≤ circuit.new.vars) }
+    ensures larger { OnOk result (IsLarger (body_size body.now) circuit.old circuit.new) }
 {
     match body {
-        Body::Any(cases) => some_case(cnf, layout, words, cases.as_slice()),
-        Body::Read(read) => read_literal(alloc, cnf, layout, words, read),
+        Body::Any(cases) => some_case(circuit, layout, words, cases.as_slice()),
+        Body::Read(read) => read_literal(alloc, circuit, layout, words, read),
     }
 }
 
 /// Adds a clause for each literal that asserts it.
-fn add_units(cnf: &mut Cnf, literals: &[Lit]) -> Result<(), AllocError>
-    requires literals { AreWithin cnf.old.vars literals.now }
-    requires room { length cnf.old.clauses + length literals.now < LIMIT }
-    ensures vars { OnOk result (cnf.new.vars ≡ cnf.old.vars) }
-    ensures clauses { OnOk result (cnf.new.clauses ≡ cnf.old.clauses ++ map (λ l. l ∷ []) literals.now) }
+fn add_units(circuit: &mut Circuit, literals: &[Lit]) -> Result<(), AllocError>
+    requires literals { AreWithin circuit.old.vars literals.now }
+    requires room { length circuit.old.clauses + length literals.now < LIMIT }
+    ensures vars { OnOk result (circuit.new.vars ≡ circuit.old.vars) }
+    ensures clauses { OnOk result (circuit.new.clauses ≡ circuit.old.clauses ++ map (λ l. l ∷ []) literals.now) }
 {
     for literal in literals {
-        add_unit(cnf, *literal)?;
+        add_unit(circuit, *literal)?;
     }
     Ok(())
 }
 
-fn add_unit(cnf: &mut Cnf, literal: Lit) -> Result<(), AllocError>
-    requires literal { var_of literal ≤ cnf.old.vars }
-    requires room { length cnf.old.clauses + 1 < LIMIT }
-    ensures vars { OnOk result (cnf.new.vars ≡ cnf.old.vars) }
-    ensures clauses { OnOk result (cnf.new.clauses ≡ cnf.old.clauses ++ (literal ∷ []) ∷ []) }
+fn add_unit(circuit: &mut Circuit, literal: Lit) -> Result<(), AllocError>
+    requires literal { var_of literal ≤ circuit.old.vars }
+    requires room { length circuit.old.clauses + 1 < LIMIT }
+    ensures vars { OnOk result (circuit.new.vars ≡ circuit.old.vars) }
+    ensures clauses { OnOk result (circuit.new.clauses ≡ circuit.old.clauses ++ (literal ∷ []) ∷ []) }
 {
     let _positive = literal.var();
-    cnf.push(&[literal])
+    circuit.push(&[literal])
 }

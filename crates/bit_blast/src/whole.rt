@@ -11,6 +11,7 @@ ghost use Rattle.bit_blast.specs.Sizes.{IsUpTo, size_of, whole_size};
 ghost use Rattle.bit_blast.specs.Whole.{load_words, whole};
 
 use crate::roots::add_formula;
+use bit_gates::Circuit;
 use bit_ops::Word;
 use bit_order::Layout;
 use bit_terms::term_words;
@@ -37,31 +38,31 @@ pub(crate) fn clauses(
     ensures roots { IfOk result (λ made. length formula.now ≤ length made.1.clauses) }
     ensures size { IfOk result (λ made. IsUpTo (whole_size (record { order = order; loads = loads }) terms.now formula.now) made.1) }
 {
-    let (layout, mut cnf) = Layout::clauses(alloc, order, loads)?;
-    add_system(alloc, &mut cnf, &layout, terms, formula)?;
-    Ok((layout, cnf))
+    let (layout, mut circuit) = Layout::clauses(alloc, order, loads)?;
+    add_system(alloc, &mut circuit, &layout, terms, formula)?;
+    Ok((layout, circuit.into_clauses()))
 }
 
 /// Adds the clauses of the terms and of the formula to those of the order.
 fn add_system(
     alloc: Global,
-    cnf: &mut Cnf,
+    circuit: &mut Circuit,
     layout: &Layout,
     terms: &Terms,
     formula: &Formula,
 ) -> Result<(), AllocError>
-    requires ordered { cnf.old ≡ ordered layout.now }
+    requires ordered { circuit.old ≡ ordered layout.now }
     requires lawful { IsOrder layout.now.order }
     requires terms { IsOf (length terms.now) formula.now }
-    requires room { HasRoom (terms_size terms.now + size_of formula.now) cnf.old }
-    ensures formula { OnOk result (cnf.new ≡ whole layout.now terms.now formula.now) }
-    ensures variables { OnOk result ((base layout.now).vars ≤ cnf.new.vars) }
-    ensures roots { OnOk result (length formula.now ≤ length cnf.new.clauses) }
-    ensures larger { OnOk result (IsLarger (terms_size terms.now + size_of formula.now) cnf.old cnf.new) }
+    requires room { HasRoom (terms_size terms.now + size_of formula.now) circuit.old }
+    ensures formula { OnOk result (circuit.new ≡ whole layout.now terms.now formula.now) }
+    ensures variables { OnOk result ((base layout.now).vars ≤ circuit.new.vars) }
+    ensures roots { OnOk result (length formula.now ≤ length circuit.new.clauses) }
+    ensures larger { OnOk result (IsLarger (terms_size terms.now + size_of formula.now) circuit.old circuit.new) }
 {
     let symbols = load_words(alloc, layout)?;
-    let words = term_words(alloc, cnf, terms, symbols.as_slice())?;
-    add_formula(alloc, cnf, layout, words.as_slice(), formula)?;
+    let words = term_words(alloc, circuit, terms, symbols.as_slice())?;
+    add_formula(alloc, circuit, layout, words.as_slice(), formula)?;
     Ok(())
 }
 

@@ -8,7 +8,7 @@ use Rattle.std.proofs.lemmas.List.Elements.{All-nil, All-cons, All-head, All-tai
 use Rattle.cnf_core.specs.Clauses.{Formula, Valuation, literal_true}
 use Rattle.bit_gates.specs.Folded.{Made, constant}
 use Rattle.bit_gates.specs.Laws.{IsGrown, IsModel, IsOf}
-use Rattle.bit_gates.proofs.Blocks.{grown_none, grown_more, grown_twice, IsOf-grown, model_before}
+use Rattle.bit_gates.proofs.Blocks.{grown_none, grown_twice, IsOf-grown, model_before}
 use Rattle.bit_gates.proofs.Meaning.{constant_of, constant_value}
 use Rattle.bit_words.specs.Words.{Walked, added, chosen_words, inverted}
 use Rattle.bit_words.specs.Laws.{values, digit, number_of, value, at_places}
@@ -53,9 +53,10 @@ record IsPlace (f : Formula) (rest : List ℤ) (bit : ℤ) (opposite : List ℤ)
       → 2 * d ≤ 2 ^ length rest
       → (digit (literal_true w bit) + 2 * value w rest ≡ digit (literal_true w m.state.literal) * d + value w m.word) × (value w m.word < d)
 
-place_means : (f : Formula) (rest : List ℤ) (bit : ℤ) (opposite : List ℤ) → 0 < f.vars → All (IsOf f.vars) rest → IsOf f.vars bit
+place_means : (f : Formula) (rest : List ℤ) (bit : ℤ) (opposite : List ℤ) → All (IsOf f.vars) rest → IsOf f.vars bit
     → All (IsOf f.vars) opposite → length opposite ≡ length rest → IsPlace f rest bit opposite (divided_place f rest bit opposite)
-place_means f rest bit opposite one r b o e =
+place_means f rest bit opposite r b o e =
+    let one : 0 < f.vars = omega (arith, b.0, b.1) in
     let n : ℕ = length rest in
     let next : List ℤ = shifted_in bit rest in
     let next_of : All (IsOf f.vars) next = All-take (IsOf f.vars) n (bit ∷ rest) (All-cons (IsOf f.vars) bit rest b r) in
@@ -63,11 +64,10 @@ place_means f rest bit opposite one r b o e =
     let less : Walked Made = added f next opposite (constant true) in
     let g : Formula = less.state.formula in
     let c : ℤ = less.state.literal in
-    let h = words-mean.add f next opposite (constant true) one next_of o (constant_of f.vars true one) (e ∙ sym long) in
-    let more : f.vars ≤ g.vars = grown_more f g h.word.grown in
+    let h = words-mean.add f next opposite (constant true) next_of o (constant_of f.vars true one) (e ∙ sym long) in
     let kept : Walked _ = chosen_words c g less.word next in
     let same : length next ≡ length less.word = sym h.word.same_length in
-    let k = chosen_words_mean c g less.word next (omega (arith, one, more)) h.out h.word.literals (all_grown f g next h.word.grown next_of) same in
+    let k = chosen_words_mean c g less.word next h.out h.word.literals (all_grown f g next h.word.grown next_of) same in
     record {
       grown = grown_twice f g kept.state h.word.grown k.word.grown;
       remainder = k.word.literals;
@@ -102,9 +102,9 @@ record IsDivided (f : Formula) (rest opposite xs : List ℤ) (m : Divided) : Typ
   number : (w : Valuation) → IsModel w m.formula → (d : ℕ) → value w opposite + d + 1 ≡ 2 ^ length rest → 0 < d → 2 * d ≤ 2 ^ length rest
       → (value w xs ≡ value w m.quotient * d + value w m.remainder) × (value w m.remainder < d)
 
-divided_means : (f : Formula) (rest opposite xs : List ℤ) → 0 < f.vars → All (IsOf f.vars) rest → All (IsOf f.vars) opposite → All (IsOf f.vars) xs
+divided_means : (f : Formula) (rest opposite xs : List ℤ) → All (IsOf f.vars) rest → All (IsOf f.vars) opposite → All (IsOf f.vars) xs
     → length opposite ≡ length rest → ((w : Valuation) → w 1 ≡ true → value w rest ≡ 0) → IsDivided f rest opposite xs (divided f rest opposite xs)
-divided_means f rest opposite [] one r o p e none = record {
+divided_means f rest opposite [] r o p e none = record {
   grown = grown_none f;
   quotient = All-nil (IsOf f.vars);
   quotient_length = refl;
@@ -112,13 +112,12 @@ divided_means f rest opposite [] one r o p e none = record {
   remainder_length = refl;
   number = λ w m d below fits half. let z : value w rest ≡ 0 = none w m.one in let y : 0 * d ≡ 0 = zero-mul d in (omega (arith, z, y), omega (arith, z, fits));
 }
-divided_means f rest opposite (x ∷ xs) one r o p e none =
+divided_means f rest opposite (x ∷ xs) r o p e none =
     let high : Divided = divided f rest opposite xs in
-    let h = divided_means f rest opposite xs one r o (All-tail (IsOf f.vars) x xs p) e none in
+    let h = divided_means f rest opposite xs r o (All-tail (IsOf f.vars) x xs p) e none in
     let g : Formula = high.formula in
-    let more : f.vars ≤ g.vars = grown_more f g h.grown in
     let here : Walked Made = divided_place g high.remainder x opposite in
-    let k = place_means g high.remainder x opposite (omega (arith, one, more)) h.remainder (IsOf-grown f g x h.grown (All-head (IsOf f.vars) x xs p))
+    let k = place_means g high.remainder x opposite h.remainder (IsOf-grown f g x h.grown (All-head (IsOf f.vars) x xs p))
     (all_grown f g opposite h.grown o) (e ∙ sym h.remainder_length) in
     let last : Formula = here.state.formula in
     record {
@@ -141,7 +140,7 @@ pub division-means : DivisionMeans
 division-means f xs ds one p q =
     let rest : List ℤ = zeros (length ds) in
     let long : length rest ≡ length ds = length-replicate (length ds) (constant false) in
-    let h = divided_means f rest (inverted ds) xs one (All-replicate (IsOf f.vars) (length ds) (constant false) (constant_of f.vars false one))
+    let h = divided_means f rest (inverted ds) xs (All-replicate (IsOf f.vars) (length ds) (constant false) (constant_of f.vars false one))
     (all_inverted f.vars ds q) p (length-map ds neg_ℤ ∙ sym long)
     (λ w o. value_zeros w (length ds) (constant_value w false o)) in
     record {

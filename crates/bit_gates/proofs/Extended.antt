@@ -1,10 +1,9 @@
 -- Formulas to which definitions are added, one after another.
-use Rattle.std.proofs.Common.{◌≡◌, ℕ, ◌<◌, ◌≤◌, List, [], ◌∷◌, refl, sym, subst, ◌∙◌, arith, true}
+use Rattle.std.proofs.Common.{◌≡◌, List, [], ◌∷◌, refl, sym, subst, ◌∙◌, arith, true}
 use Rattle.std.proofs.lemmas.Bool.{and_parts}
 use Rattle.cnf_core.specs.Clauses.{Formula, Valuation, satisfies}
-use Rattle.cnf_core.specs.Gates.{Agree, IsOver, Wired, is_block, after_gate, after_gates, extended}
+use Rattle.cnf_core.specs.Gates.{IsOver, Wired, is_block, after_gate, after_gates, extended}
 use Rattle.cnf_core.proofs.GateLaws.{IsOver-gate, gate_over, block-keeps}
-use Rattle.bit_gates.specs.Laws.{IsGrown, IsModel}
 use Rattle.bit_gates.specs.Extended.{IsExtended, GatesExtend}
 use Rattle.bit_gates.proofs.Blocks.{grown_more, model_before}
 

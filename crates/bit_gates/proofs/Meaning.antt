@@ -1,5 +1,5 @@
 -- What each gate means.
-use Rattle.std.proofs.Common.{◌≡◌, ℕ, ◌<◌, ◌≤◌, [], ◌∷◌, ℤ, neg_ℤ, refl, ap, sym, ◌∙◌, arith, Bool, true, false, not}
+use Rattle.std.proofs.Common.{◌≡◌, ℕ, ◌<◌, [], ◌∷◌, ℤ, neg_ℤ, refl, ap, sym, ◌∙◌, arith, Bool, true, false, not}
 use Rattle.std.specs.Prelude.{◌&&◌, ◌||◌, if◌then◌else◌}
 use Rattle.std.specs.Ordering.{int_eq}
 use Rattle.std.proofs.lemmas.Bool.{and_from}
@@ -11,7 +11,7 @@ use Rattle.cnf_core.specs.declared.gates.Gate.TheVariants.{And, Or, Xor}
 use Rattle.cnf_core.proofs.GateLaws.{literal_true-neg, gate-decides}
 use Rattle.bit_gates.specs.Folded.{Made, constant, kept, gated, both, either, differing, folded, chosen}
 use Rattle.bit_gates.specs.Laws.{IsModel, IsOf, IsBit, GatesMean}
-use Rattle.bit_gates.proofs.Blocks.{IsOf-opposite, is_over-of, grown_none, grown_more, grown_twice, IsOf-grown, model_before}
+use Rattle.bit_gates.proofs.Blocks.{IsOf-opposite, is_over-of, grown_none, grown_twice, IsOf-grown, model_before}
 
 choose_case : {A : Type 0} (P : A → Type 0) (c : Bool) (s t : A) → (c ≡ true → P s) → (c ≡ false → P t) → P (if c then s else t)
 choose_case P true s t f g = f refl
@@ -86,8 +86,9 @@ first_alone : (p q : Bool) → q ≡ true → p ≡ (p && q)
 first_alone true q h = sym h
 first_alone false q h = refl
 
-pub both_bit : (f : Formula) (a b : ℤ) → 0 < f.vars → IsOf f.vars a → IsOf f.vars b → IsBit f (both f a b) (λ w. literal_true w a && literal_true w b)
-both_bit f a b n p q =
+pub both_bit : (f : Formula) (a b : ℤ) → IsOf f.vars a → IsOf f.vars b → IsBit f (both f a b) (λ w. literal_true w a && literal_true w b)
+both_bit f a b p q =
+    let n : 0 < f.vars = omega (arith, p.0, p.1) in
     let meaning : Valuation → Bool = λ w. literal_true w a && literal_true w b in
     let P : Made → Type 0 = λ m. IsBit f m meaning in
     choose_case P (int_eq a (constant false) || int_eq b (constant false) || int_eq a (neg_ℤ b)) _ _
@@ -109,10 +110,10 @@ not_and true q = refl
 not_and false true = refl
 not_and false false = refl
 
-pub either_bit : (f : Formula) (a b : ℤ) → 0 < f.vars → IsOf f.vars a → IsOf f.vars b → IsBit f (either f a b) (λ w. literal_true w a || literal_true w b)
-either_bit f a b n p q =
+pub either_bit : (f : Formula) (a b : ℤ) → IsOf f.vars a → IsOf f.vars b → IsBit f (either f a b) (λ w. literal_true w a || literal_true w b)
+either_bit f a b p q =
     let made : Made = both f (neg_ℤ a) (neg_ℤ b) in
-    let h = both_bit f (neg_ℤ a) (neg_ℤ b) n (IsOf-opposite f.vars a p) (IsOf-opposite f.vars b q) in
+    let h = both_bit f (neg_ℤ a) (neg_ℤ b) (IsOf-opposite f.vars a p) (IsOf-opposite f.vars b q) in
     record {
       grown = h.grown;
       literal = IsOf-opposite made.formula.vars made.literal h.literal;
@@ -148,9 +149,10 @@ second_true : (p q : Bool) → q ≡ true → not p ≡ (if p then not q else q)
 second_true true q h = ap not (sym h)
 second_true false q h = sym h
 
-pub differing_bit : (f : Formula) (a b : ℤ) → 0 < f.vars → IsOf f.vars a → IsOf f.vars b
+pub differing_bit : (f : Formula) (a b : ℤ) → IsOf f.vars a → IsOf f.vars b
     → IsBit f (differing f a b) (λ w. if literal_true w a then not (literal_true w b) else literal_true w b)
-differing_bit f a b n p q =
+differing_bit f a b p q =
+    let n : 0 < f.vars = omega (arith, p.0, p.1) in
     let meaning : Valuation → Bool = λ w. if literal_true w a then not (literal_true w b) else literal_true w b in
     let P : Made → Type 0 = λ m. IsBit f m meaning in
     choose_case P (int_eq a b) _ _
@@ -184,19 +186,17 @@ if_same : (c p q : Bool) → p ≡ q → p ≡ (if c then p else q)
 if_same true p q h = refl
 if_same false p q h = h
 
-pub chosen_bit : (f : Formula) (c a b : ℤ) → 0 < f.vars → IsOf f.vars c → IsOf f.vars a → IsOf f.vars b
+pub chosen_bit : (f : Formula) (c a b : ℤ) → IsOf f.vars c → IsOf f.vars a → IsOf f.vars b
     → IsBit f (chosen f c a b) (λ w. if literal_true w c then literal_true w a else literal_true w b)
-chosen_bit f c a b n o p q =
+chosen_bit f c a b o p q =
     let meaning : Valuation → Bool = λ w. if literal_true w c then literal_true w a else literal_true w b in
     let P : Made → Type 0 = λ m. IsBit f m meaning in
     let x : Made = both f c a in
     let y : Made = both x.formula (neg_ℤ c) b in
-    let hx = both_bit f c a n o p in
-    let more : f.vars ≤ x.formula.vars = grown_more f x.formula hx.grown in
-    let hy = both_bit x.formula (neg_ℤ c) b (omega arith) (IsOf-opposite x.formula.vars c (IsOf-grown f x.formula c hx.grown o))
+    let hx = both_bit f c a o p in
+    let hy = both_bit x.formula (neg_ℤ c) b (IsOf-opposite x.formula.vars c (IsOf-grown f x.formula c hx.grown o))
     (IsOf-grown f x.formula b hx.grown q) in
-    let last : x.formula.vars ≤ y.formula.vars = grown_more x.formula y.formula hy.grown in
-    let hz = either_bit y.formula x.literal y.literal (omega arith) (IsOf-grown x.formula y.formula x.literal hy.grown hx.literal) hy.literal in
+    let hz = either_bit y.formula x.literal y.literal (IsOf-grown x.formula y.formula x.literal hy.grown hx.literal) hy.literal in
     let z : Made = either y.formula x.literal y.literal in
     choose_case P (int_eq a b) _ _
     (λ e. kept_bit f a meaning p (λ w m. if_same (literal_true w c) _ _ (is_same w a b e)))
@@ -212,11 +212,11 @@ chosen_bit f c a b n o p q =
           ∙ choice (literal_true w c) (literal_true w a) (literal_true w b);
     })
 
-pub folded_bit : (g : Gate) (f : Formula) (a b : ℤ) → 0 < f.vars → IsOf f.vars a → IsOf f.vars b
+pub folded_bit : (g : Gate) (f : Formula) (a b : ℤ) → IsOf f.vars a → IsOf f.vars b
     → IsBit f (folded g f a b) (λ w. gate_value g (literal_true w a) (literal_true w b))
-folded_bit And f a b n p q = both_bit f a b n p q
-folded_bit Or f a b n p q = either_bit f a b n p q
-folded_bit Xor f a b n p q = differing_bit f a b n p q
+folded_bit And f a b p q = both_bit f a b p q
+folded_bit Or f a b p q = either_bit f a b p q
+folded_bit Xor f a b p q = differing_bit f a b p q
 
 pub gates-mean : GatesMean
 gates-mean = record { gate = folded_bit; choose = chosen_bit }

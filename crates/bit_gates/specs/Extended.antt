@@ -1,5 +1,5 @@
 -- Formulas extended by definitions of new variables.
-use Rattle.std.specs.Prelude.{ℕ, ◌<◌, ◌≤◌}
+use Rattle.std.specs.Prelude.{◌<◌, ◌≤◌}
 use Rattle.cnf_core.specs.Clauses.{Formula, Valuation}
 use Rattle.cnf_core.specs.Gates.{Agree, IsOver}
 use Rattle.bit_gates.specs.Laws.{IsGrown, IsModel}

@@ -28,7 +28,7 @@ pub record IsBit (f : Formula) (m : Made) (meaning : Valuation → Bool) : Type 
 
 -- each gate, and each choice, has the right value
 pub record GatesMean : Type 0 where
-  pub gate : (g : Gate) (f : Formula) (a b : ℤ) → 0 < f.vars → IsOf f.vars a → IsOf f.vars b
+  pub gate : (g : Gate) (f : Formula) (a b : ℤ) → IsOf f.vars a → IsOf f.vars b
       → IsBit f (folded g f a b) (λ w. gate_value g (literal_true w a) (literal_true w b))
-  pub choose : (f : Formula) (c a b : ℤ) → 0 < f.vars → IsOf f.vars c → IsOf f.vars a → IsOf f.vars b
+  pub choose : (f : Formula) (c a b : ℤ) → IsOf f.vars c → IsOf f.vars a → IsOf f.vars b
       → IsBit f (chosen f c a b) (λ w. if literal_true w c then literal_true w a else literal_true w b)

@@ -8,15 +8,11 @@ use Rattle.std.proofs.Math.Nat.{zero-div, div-div-eq-div-mul}
 use Rattle.std.proofs.lemmas.Nat.{or_lt, xor_lt}
 use Rattle.std.proofs.lemmas.Nat.Bits.{bit_at_lowest, bit_at_and, bit_at_or, bit_at_xor, same_from_bits_below}
 use Rattle.std.proofs.lemmas.Bool.Decides.{nat_tests}
-use Rattle.std.proofs.lemmas.List.Elements.{All-cons, All-replicate}
-use Rattle.cnf_core.specs.Clauses.{var_of, Valuation, literal_true}
+use Rattle.cnf_core.specs.Clauses.{Valuation, literal_true}
 use Rattle.cnf_core.specs.Gates.{gate_value}
 use Rattle.cnf_core.specs.declared.gates.Gate.{Gate}
 use Rattle.cnf_core.specs.declared.gates.Gate.TheVariants.{And, Or, Xor}
-use Rattle.bit_gates.specs.Folded.{constant}
-use Rattle.bit_words.specs.Words.{AreWithin}
 use Rattle.bit_words.specs.Laws.{values, digit, number_of, value, at_places}
-use Rattle.bit_arith.specs.Sums.{zeros}
 use Rattle.bit_arith.proofs.Values.{digit_small, twice_pow}
 
 lowest : (p : Bool) (n : ℕ) → bit_at (digit p + 2 * n) 0 ≡ digit p
@@ -115,7 +111,3 @@ apart_number (p ∷ ps) (q ∷ qs) e = here p q _ (number_of ps) (number_of qs) 
 pub apart_values : (w : Valuation) (out : List ℤ) (ps qs : List Bool) → length qs ≡ length ps → values w out ≡ at_places (gate_value Xor) ps qs
     → list_any (literal_true w) out ≡ not (number_of ps == number_of qs)
 apart_values w out ps qs e h = any_values w out ∙ ap (list_any (λ p. p)) h ∙ apart_number ps qs e
-
-pub truth_within : (n : ℕ) (l : ℤ) → 0 < n → var_of l ≤ n → AreWithin n (l ∷ zeros 31)
-truth_within n l one h =
-    All-cons (λ k. var_of k ≤ n) l (zeros 31) h (All-replicate (λ k. var_of k ≤ n) 31 (constant false) (omega (arith, one)))

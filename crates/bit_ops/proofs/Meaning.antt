@@ -77,7 +77,7 @@ opposite_bit f m meaning h = record {
 
 pub some_bit : (f : Formula) (xs : List ℤ) → 0 < f.vars → All (IsOf f.vars) xs → IsBit f (some_of f xs) (λ w. not (value w xs == 0))
 some_bit f xs one p =
-    let h = any_bit (kept f (constant false)) xs one (constant_of f.vars false one) p in
+    let h = any_bit (kept f (constant false)) xs (constant_of f.vars false one) p in
     record {
       grown = h.grown;
       literal = h.literal;
@@ -87,10 +87,10 @@ some_bit f xs one p =
 differ_bit : (f : Formula) (xs ys : List ℤ) → AreOperands f xs ys → IsBit f (differ f xs ys) (λ w. not (value w xs == value w ys))
 differ_bit f xs ys o =
     let apart : Walked Formula = gated_words Xor f xs ys in
-    let g = gated_words_mean Xor f xs ys o.one o.first o.second o.lengths in
+    let g = gated_words_mean Xor f xs ys o.first o.second o.lengths in
     let more : f.vars ≤ apart.state.vars = grown_more f apart.state g.word.grown in
     let one : 0 < apart.state.vars = omega (arith, o.one, more) in
-    let h = any_bit (kept apart.state (constant false)) apart.word one (constant_of apart.state.vars false one) g.word.literals in
+    let h = any_bit (kept apart.state (constant false)) apart.word (constant_of apart.state.vars false one) g.word.literals in
     let last : Made = differ f xs ys in
     record {
       grown = grown_twice f apart.state last.formula g.word.grown h.grown;
@@ -119,18 +119,16 @@ where_int : (p : Bool) (n : ℕ) → cast_signed w32 (digit p * n) ≡ (if p the
 where_int true n = ap (cast_signed w32) (one-mul n)
 where_int false n = ap (cast_signed w32) (zero-mul n)
 
-has_where : (f : Formula) (before : Walked Formula) (xs : List ℤ) (m : Made) (condition : Valuation → Bool) (meaning : Valuation → ℤ) → 0 < f.vars
+has_where : (f : Formula) (before : Walked Formula) (xs : List ℤ) (m : Made) (condition : Valuation → Bool) (meaning : Valuation → ℤ)
     → IsWord f before.state xs before.word → length xs ≡ 32 → IsBit before.state m condition
     → ((w : Valuation) → IsModel w before.state → (if condition w then int_value w before.word else pos 0) ≡ meaning w)
     → HasInt f (kept_where before.word m) meaning
-has_where f before xs m condition meaning one h e b i =
+has_where f before xs m condition meaning h e b i =
     let word : List ℤ = before.word in
     let n : ℕ = length word in
     let g : Formula = m.formula in
-    let more : f.vars ≤ before.state.vars = grown_more f before.state h.grown in
-    let rise : before.state.vars ≤ g.vars = grown_more before.state g b.grown in
     let out : Walked Formula = kept_where word m in
-    let k = gated_words_mean And g word (replicate n m.literal) (omega (arith, one, more, rise)) (all_grown before.state g word b.grown h.literals)
+    let k = gated_words_mean And g word (replicate n m.literal) (all_grown before.state g word b.grown h.literals)
     (All-replicate (IsOf g.vars) n m.literal b.literal) (length-replicate n m.literal) in
     has_int f out meaning (grown_twice f g out.state (grown_twice f before.state g h.grown b.grown) k.word.grown) k.word.literals
     (k.word.same_length ∙ h.same_length ∙ e)
@@ -155,7 +153,7 @@ has_divided : (op : ℤ → ℤ → ℤ) (f : Formula) (m : Walked Formula) (xs 
     → HasInt f (where_some m ys) (λ w. op (int_value w xs) (int_value w ys))
 has_divided op f m xs ys one h e q none some =
     let more : f.vars ≤ m.state.vars = grown_more f m.state h.grown in
-    has_where f m xs (some_of m.state ys) (λ w. not (value w ys == 0)) (λ w. op (int_value w xs) (int_value w ys)) one h e
+    has_where f m xs (some_of m.state ys) (λ w. not (value w ys == 0)) (λ w. op (int_value w xs) (int_value w ys)) h e
     (some_bit m.state ys (omega (arith, one, more)) (all_grown f m.state ys h.grown q))
     (λ w k. by_divisor op (int_value w xs) (int_value w m.word) (value w ys) (none (int_value w xs)) (some w k))
 
@@ -180,12 +178,12 @@ has_shifted : (op : ℤ → ℤ → ℤ) (to : Direction) (bit : ℤ) (f : Formu
 has_shifted op to bit f xs ys o b e none near =
     let m : Walked Formula = shifted to bit 1 f xs (take 5 ys) in
     let ds : List ℤ = take 5 ys in
-    let h = shifts-mean.word to bit f xs ds (record { one = o.one; comes_in = b; word = o.first; distance = All-take (IsOf f.vars) 5 ys o.second }) in
+    let h = shifts-mean.word to bit f xs ds (record { comes_in = b; word = o.first; distance = All-take (IsOf f.vars) 5 ys o.second }) in
     let more : f.vars ≤ m.state.vars = grown_more f m.state h.grown in
     let long : length ys ≡ 32 = o.lengths ∙ e in
     let short : length ds ≡ 5 = length-take 5 ys ∙ omega (arith, long) in
     let far = some_bit m.state (drop 5 ys) (omega (arith, o.one, more)) (All-drop (IsOf m.state.vars) 5 ys (all_grown f m.state ys h.grown o.second)) in
-    has_where f m xs (opposite (some_of m.state (drop 5 ys))) (λ w. not (not (value w (drop 5 ys) == 0))) (λ w. op (int_value w xs) (int_value w ys)) o.one h e
+    has_where f m xs (opposite (some_of m.state (drop 5 ys))) (λ w. not (not (value w (drop 5 ys) == 0))) (λ w. op (int_value w xs) (int_value w ys)) h e
     (opposite_bit m.state (some_of m.state (drop 5 ys)) (λ w. not (value w (drop 5 ys) == 0)) far)
     (λ w k.
     let small : value w ds < 32 = subst (λ n. value w ds < 2 ^ n) short (value_below w ds) in
@@ -214,7 +212,7 @@ has_gates : (g : Gate) (f : Formula) (xs ys : List ℤ) → AreOperands f xs ys 
     → HasInt f (gated_words g f xs ys) (λ w. gate_int g (int_value w xs) (int_value w ys))
 has_gates g f xs ys o e =
     let m : Walked Formula = gated_words g f xs ys in
-    let h = gated_words_mean g f xs ys o.one o.first o.second o.lengths in
+    let h = gated_words_mean g f xs ys o.first o.second o.lengths in
     let long : length ys ≡ 32 = o.lengths ∙ e in
     of_word f m xs (λ w. gate_int g (int_value w xs) (int_value w ys)) h.word e
     (λ w k.
@@ -296,12 +294,12 @@ binary_means bin.Shl f xs ys one p q =
     let b = constant_of f.vars false one in
     let near : All (IsOf f.vars) (take 5 ys) = All-take (IsOf f.vars) 5 ys q.literals in
     has_shifted shifted_left Up (constant false) f xs ys (operands f xs ys one p q) b p.width not_left
-    (shifts-mean.left f xs (take 5 ys) (record { one = one; comes_in = b; word = p.literals; distance = near }) p.width)
+    (shifts-mean.left f xs (take 5 ys) (record { comes_in = b; word = p.literals; distance = near }) p.width)
 binary_means bin.Shr f xs ys one p q =
     let b = top_of f.vars xs p.literals (omega (arith, p.width)) in
     let near : All (IsOf f.vars) (take 5 ys) = All-take (IsOf f.vars) 5 ys q.literals in
     has_shifted shifted_right Down (top xs) f xs ys (operands f xs ys one p q) b p.width not_right
-    (shifts-mean.right f xs (take 5 ys) (record { one = one; comes_in = b; word = p.literals; distance = near }) p.width)
+    (shifts-mean.right f xs (take 5 ys) (record { comes_in = b; word = p.literals; distance = near }) p.width)
 
 inverted_int : (w : Valuation) (n : ℕ) (xs : List ℤ) → All (IsOf n) xs → length xs ≡ 32 → int_value w (inverted xs) ≡ bits_inverted (int_value w xs)
 inverted_int w n xs p e =

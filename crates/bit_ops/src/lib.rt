@@ -1,7 +1,7 @@
 //! The circuits of the operators of `int`, over words of 32 literals, the lowest bit first.
 #![tactic(auto)]
 
-ghost use Rattle.std.specs.Prelude.{◌≡◌, ◌<◌, ◌≤◌, ◌*◌, ◌∷◌, IfOk, OnOk, length, take};
+ghost use Rattle.std.specs.Prelude.{◌≡◌, ◌≤◌, ◌*◌, ◌∷◌, IfOk, OnOk, length, take};
 ghost use Rattle.cnf_core.specs.Clauses.{var_of};
 ghost use Rattle.bit_gates.specs.Folded.{HasRoom, IsLarger, kept};
 ghost use Rattle.bit_words.specs.Words.{AreWithin, gated_words};
@@ -12,11 +12,11 @@ ghost use Rattle.bit_ops.specs.Ops.{differ, kept_where, where_some, where_near, 
 ghost use Rattle.bit_ops.specs.Sizes.{unary_size, binary_size};
 
 use bit_arith::{minus, plus, times};
-use bit_gates::constant;
+use bit_gates::Circuit;
 use bit_shift::{Direction, shift};
 use bit_signed::{compare_signed, quotient, remainder, sign};
 use bit_words::{any, gate_by, gate_words, invert};
-use cnf_core::{Cnf, Gate, Lit};
+use cnf_core::{Gate, Lit};
 use int_ops::{BinOp, UnOp};
 use std::alloc::AllocError;
 
@@ -29,133 +29,126 @@ pub fn ops_mean()
 {}
 
 /// The word 1 if the literal is true, else 0.
-fn truth(cnf: &Cnf, lit: Lit) -> Word
-    requires one { 0 < cnf.now.vars }
-    requires lit { var_of lit ≤ cnf.now.vars }
+fn truth(circuit: &Circuit, lit: Lit) -> Word
+    requires { var_of lit ≤ circuit.now.vars }
     ensures word { result ≡ lit ∷ zeros 31 }
-    ensures within { AreWithin cnf.now.vars result }
+    ensures within { AreWithin circuit.now.vars result }
 {
-    let mut word = [constant(false); 32];
+    let mut word = [circuit.constant(false); 32];
     word[0] = lit;
     word
 }
 
 /// Keeps the word if the literal is true, else makes it 0.
-fn keep_where(cnf: &mut Cnf, word: &mut Word, lit: Lit) -> Result<(), AllocError>
-    requires one { 0 < cnf.old.vars }
-    requires word { AreWithin cnf.old.vars word.old }
-    requires lit { var_of lit ≤ cnf.old.vars }
-    requires room { HasRoom 128 cnf.old }
-    ensures word { OnOk result (word.new ≡ (kept_where word.old (kept cnf.old lit)).word) }
-    ensures formula { OnOk result (cnf.new ≡ (kept_where word.old (kept cnf.old lit)).state) }
-    ensures within { OnOk result (AreWithin cnf.new.vars word.new) }
-    ensures larger { OnOk result (IsLarger 128 cnf.old cnf.new) }
+fn keep_where(circuit: &mut Circuit, word: &mut Word, lit: Lit) -> Result<(), AllocError>
+    requires word { AreWithin circuit.old.vars word.old }
+    requires lit { var_of lit ≤ circuit.old.vars }
+    requires room { HasRoom 128 circuit.old }
+    ensures word { OnOk result (word.new ≡ (kept_where word.old (kept circuit.old lit)).word) }
+    ensures formula { OnOk result (circuit.new ≡ (kept_where word.old (kept circuit.old lit)).state) }
+    ensures within { OnOk result (AreWithin circuit.new.vars word.new) }
+    ensures larger { OnOk result (IsLarger 128 circuit.old circuit.new) }
 {
-    gate_by(cnf, Gate::And, word, lit)
+    gate_by(circuit, Gate::And, word, lit)
 }
 
 /// Whether the words differ.
-fn differ(cnf: &mut Cnf, a: &Word, b: &Word) -> Result<Lit, AllocError>
-    requires one { 0 < cnf.old.vars }
-    requires first { AreWithin cnf.old.vars a.now }
-    requires second { AreWithin cnf.old.vars b.now }
-    requires room { HasRoom 224 cnf.old }
-    ensures literal { IfOk result (λ l. l ≡ (differ cnf.old a.now b.now).literal) }
-    ensures formula { OnOk result (cnf.new ≡ (differ cnf.old a.now b.now).formula) }
-    ensures within { IfOk result (λ l. var_of l ≤ cnf.new.vars) }
-    ensures larger { OnOk result (IsLarger 224 cnf.old cnf.new) }
+fn differ(circuit: &mut Circuit, a: &Word, b: &Word) -> Result<Lit, AllocError>
+    requires first { AreWithin circuit.old.vars a.now }
+    requires second { AreWithin circuit.old.vars b.now }
+    requires room { HasRoom 224 circuit.old }
+    ensures literal { IfOk result (λ l. l ≡ (differ circuit.old a.now b.now).literal) }
+    ensures formula { OnOk result (circuit.new ≡ (differ circuit.old a.now b.now).formula) }
+    ensures within { IfOk result (λ l. var_of l ≤ circuit.new.vars) }
+    ensures larger { OnOk result (IsLarger 224 circuit.old circuit.new) }
 {
     let mut apart = *a;
-    gate_words(cnf, Gate::Xor, &mut apart, b)?;
-    any(cnf, constant(false), &apart)
+    gate_words(circuit, Gate::Xor, &mut apart, b)?;
+    any(circuit, &apart)
 }
 
 /// Applies a gate at each place.
-fn gates(cnf: &mut Cnf, gate: Gate, a: &Word, b: &Word) -> Result<Word, AllocError>
-    requires one { 0 < cnf.old.vars }
-    requires first { AreWithin cnf.old.vars a.now }
-    requires second { AreWithin cnf.old.vars b.now }
-    requires room { HasRoom 128 cnf.old }
-    ensures word { IfOk result (λ out. out ≡ (gated_words gate cnf.old a.now b.now).word) }
-    ensures formula { OnOk result (cnf.new ≡ (gated_words gate cnf.old a.now b.now).state) }
-    ensures within { IfOk result (λ out. AreWithin cnf.new.vars out) }
-    ensures larger { OnOk result (IsLarger 128 cnf.old cnf.new) }
+fn gates(circuit: &mut Circuit, gate: Gate, a: &Word, b: &Word) -> Result<Word, AllocError>
+    requires first { AreWithin circuit.old.vars a.now }
+    requires second { AreWithin circuit.old.vars b.now }
+    requires room { HasRoom 128 circuit.old }
+    ensures word { IfOk result (λ out. out ≡ (gated_words gate circuit.old a.now b.now).word) }
+    ensures formula { OnOk result (circuit.new ≡ (gated_words gate circuit.old a.now b.now).state) }
+    ensures within { IfOk result (λ out. AreWithin circuit.new.vars out) }
+    ensures larger { OnOk result (IsLarger 128 circuit.old circuit.new) }
 {
     let mut word = *a;
-    gate_words(cnf, gate, &mut word, b)?;
+    gate_words(circuit, gate, &mut word, b)?;
     Ok(word)
 }
 
 /// The word, or 0 if the divisor is 0.
-fn where_some(cnf: &mut Cnf, word: Word, divisor: &Word) -> Result<Word, AllocError>
-    requires one { 0 < cnf.old.vars }
-    requires word { AreWithin cnf.old.vars word }
-    requires divisor { AreWithin cnf.old.vars divisor.now }
-    requires room { HasRoom 224 cnf.old }
-    ensures word { IfOk result (λ out. out ≡ (where_some (record { state = cnf.old; word = word }) divisor.now).word) }
-    ensures formula { OnOk result (cnf.new ≡ (where_some (record { state = cnf.old; word = word }) divisor.now).state) }
-    ensures within { IfOk result (λ out. AreWithin cnf.new.vars out) }
-    ensures larger { OnOk result (IsLarger 224 cnf.old cnf.new) }
+fn where_some(circuit: &mut Circuit, word: Word, divisor: &Word) -> Result<Word, AllocError>
+    requires word { AreWithin circuit.old.vars word }
+    requires divisor { AreWithin circuit.old.vars divisor.now }
+    requires room { HasRoom 224 circuit.old }
+    ensures word { IfOk result (λ out. out ≡ (where_some (record { state = circuit.old; word = word }) divisor.now).word) }
+    ensures formula { OnOk result (circuit.new ≡ (where_some (record { state = circuit.old; word = word }) divisor.now).state) }
+    ensures within { IfOk result (λ out. AreWithin circuit.new.vars out) }
+    ensures larger { OnOk result (IsLarger 224 circuit.old circuit.new) }
 {
     let mut word = word;
-    let some = any(cnf, constant(false), divisor)?;
-    keep_where(cnf, &mut word, some)?;
+    let some = any(circuit, divisor)?;
+    keep_where(circuit, &mut word, some)?;
     Ok(word)
 }
 
 /// The shifted word, or 0 if the distance is 32 or more.
 fn shift_near(
-    cnf: &mut Cnf,
+    circuit: &mut Circuit,
     to: Direction,
     bit: Lit,
     a: &Word,
     distance: &[Lit],
 ) -> Result<Word, AllocError>
     requires wide { length distance.now ≡ 32 }
-    requires one { 0 < cnf.old.vars }
-    requires bit { var_of bit ≤ cnf.old.vars }
-    requires first { AreWithin cnf.old.vars a.now }
-    requires second { AreWithin cnf.old.vars distance.now }
-    requires room { HasRoom 1664 cnf.old }
-    ensures word { IfOk result (λ out. out ≡ (where_near (shifted to bit 1 cnf.old a.now (take 5 distance.now)) distance.now).word) }
-    ensures formula { OnOk result (cnf.new ≡ (where_near (shifted to bit 1 cnf.old a.now (take 5 distance.now)) distance.now).state) }
-    ensures within { IfOk result (λ out. AreWithin cnf.new.vars out) }
-    ensures larger { OnOk result (IsLarger 1664 cnf.old cnf.new) }
+    requires bit { var_of bit ≤ circuit.old.vars }
+    requires first { AreWithin circuit.old.vars a.now }
+    requires second { AreWithin circuit.old.vars distance.now }
+    requires room { HasRoom 1664 circuit.old }
+    ensures word { IfOk result (λ out. out ≡ (where_near (shifted to bit 1 circuit.old a.now (take 5 distance.now)) distance.now).word) }
+    ensures formula { OnOk result (circuit.new ≡ (where_near (shifted to bit 1 circuit.old a.now (take 5 distance.now)) distance.now).state) }
+    ensures within { IfOk result (λ out. AreWithin circuit.new.vars out) }
+    ensures larger { OnOk result (IsLarger 1664 circuit.old circuit.new) }
 {
-    let mut word = shift(cnf, to, bit, a, &distance[..5])?;
-    let far = any(cnf, constant(false), &distance[5..])?;
-    keep_where(cnf, &mut word, far.opposite())?;
+    let mut word = shift(circuit, to, bit, a, &distance[..5])?;
+    let far = any(circuit, &distance[5..])?;
+    keep_where(circuit, &mut word, far.opposite())?;
     Ok(word)
 }
 
 /// The negated number.
-fn negate<const W: usize>(cnf: &mut Cnf, a: &[Lit; W]) -> Result<[Lit; W], AllocError>
-    requires one { 0 < cnf.old.vars }
-    requires operand { AreWithin cnf.old.vars a.now }
-    requires room { HasRoom (17 * W) cnf.old }
-    ensures word { IfOk result (λ out. out ≡ (minus_word cnf.old (zeros W) a.now).word) }
-    ensures formula { OnOk result (cnf.new ≡ (minus_word cnf.old (zeros W) a.now).state) }
-    ensures within { IfOk result (λ out. AreWithin cnf.new.vars out) }
-    ensures larger { OnOk result (IsLarger (17 * W) cnf.old cnf.new) }
+fn negate<const W: usize>(circuit: &mut Circuit, a: &[Lit; W]) -> Result<[Lit; W], AllocError>
+    requires operand { AreWithin circuit.old.vars a.now }
+    requires room { HasRoom (17 * W) circuit.old }
+    ensures word { IfOk result (λ out. out ≡ (minus_word circuit.old (zeros W) a.now).word) }
+    ensures formula { OnOk result (circuit.new ≡ (minus_word circuit.old (zeros W) a.now).state) }
+    ensures within { IfOk result (λ out. AreWithin circuit.new.vars out) }
+    ensures larger { OnOk result (IsLarger (17 * W) circuit.old circuit.new) }
 {
-    minus(cnf, &[constant(false); W], a)
+    let zeros = [circuit.constant(false); W];
+    minus(circuit, &zeros, a)
 }
 
 /// The circuit of a unary operator.
-pub fn unary(cnf: &mut Cnf, op: UnOp, a: &Word) -> Result<Word, AllocError>
-    requires one { 0 < cnf.old.vars }
-    requires operand { AreWithin cnf.old.vars a.now }
-    requires room { HasRoom (unary_size op) cnf.old }
-    ensures word { IfOk result (λ out. out ≡ (unary_word op cnf.old a.now).word) }
-    ensures formula { OnOk result (cnf.new ≡ (unary_word op cnf.old a.now).state) }
-    ensures within { IfOk result (λ out. AreWithin cnf.new.vars out) }
-    ensures larger { OnOk result (IsLarger (unary_size op) cnf.old cnf.new) }
+pub fn unary(circuit: &mut Circuit, op: UnOp, a: &Word) -> Result<Word, AllocError>
+    requires operand { AreWithin circuit.old.vars a.now }
+    requires room { HasRoom (unary_size op) circuit.old }
+    ensures word { IfOk result (λ out. out ≡ (unary_word op circuit.old a.now).word) }
+    ensures formula { OnOk result (circuit.new ≡ (unary_word op circuit.old a.now).state) }
+    ensures within { IfOk result (λ out. AreWithin circuit.new.vars out) }
+    ensures larger { OnOk result (IsLarger (unary_size op) circuit.old circuit.new) }
 {
     match op {
-        UnOp::Neg => negate(cnf, a),
+        UnOp::Neg => negate(circuit, a),
         UnOp::Not => {
-            let some = any(cnf, constant(false), a)?;
-            Ok(truth(cnf, some.opposite()))
+            let some = any(circuit, a)?;
+            Ok(truth(circuit, some.opposite()))
         }
         UnOp::Inv => {
             let mut word = *a;
@@ -166,56 +159,56 @@ pub fn unary(cnf: &mut Cnf, op: UnOp, a: &Word) -> Result<Word, AllocError>
 }
 
 /// The circuit of a binary operator.
-pub fn binary(cnf: &mut Cnf, op: BinOp, a: &Word, b: &Word) -> Result<Word, AllocError>
-    requires one { 0 < cnf.old.vars }
-    requires first { AreWithin cnf.old.vars a.now }
-    requires second { AreWithin cnf.old.vars b.now }
-    requires room { HasRoom (binary_size op) cnf.old }
-    ensures word { IfOk result (λ out. out ≡ (binary_word op cnf.old a.now b.now).word) }
-    ensures formula { OnOk result (cnf.new ≡ (binary_word op cnf.old a.now b.now).state) }
-    ensures within { IfOk result (λ out. AreWithin cnf.new.vars out) }
-    ensures larger { OnOk result (IsLarger (binary_size op) cnf.old cnf.new) }
+pub fn binary(circuit: &mut Circuit, op: BinOp, a: &Word, b: &Word) -> Result<Word, AllocError>
+    requires first { AreWithin circuit.old.vars a.now }
+    requires second { AreWithin circuit.old.vars b.now }
+    requires room { HasRoom (binary_size op) circuit.old }
+    ensures word { IfOk result (λ out. out ≡ (binary_word op circuit.old a.now b.now).word) }
+    ensures formula { OnOk result (circuit.new ≡ (binary_word op circuit.old a.now b.now).state) }
+    ensures within { IfOk result (λ out. AreWithin circuit.new.vars out) }
+    ensures larger { OnOk result (IsLarger (binary_size op) circuit.old circuit.new) }
 {
+    let (no, yes) = (circuit.constant(false), circuit.constant(true));
     match op {
-        BinOp::Add => plus(cnf, a, b),
-        BinOp::Sub => minus(cnf, a, b),
-        BinOp::Mul => times(cnf, a, b),
-        BinOp::And => gates(cnf, Gate::And, a, b),
-        BinOp::Or => gates(cnf, Gate::Or, a, b),
-        BinOp::Xor => gates(cnf, Gate::Xor, a, b),
+        BinOp::Add => plus(circuit, a, b),
+        BinOp::Sub => minus(circuit, a, b),
+        BinOp::Mul => times(circuit, a, b),
+        BinOp::And => gates(circuit, Gate::And, a, b),
+        BinOp::Or => gates(circuit, Gate::Or, a, b),
+        BinOp::Xor => gates(circuit, Gate::Xor, a, b),
         BinOp::Eq => {
-            let apart = differ(cnf, a, b)?;
-            Ok(truth(cnf, apart.opposite()))
+            let apart = differ(circuit, a, b)?;
+            Ok(truth(circuit, apart.opposite()))
         }
         BinOp::Ne => {
-            let apart = differ(cnf, a, b)?;
-            Ok(truth(cnf, apart))
+            let apart = differ(circuit, a, b)?;
+            Ok(truth(circuit, apart))
         }
         BinOp::Lt => {
-            let less = compare_signed(cnf, constant(false), a, b)?;
-            Ok(truth(cnf, less))
+            let less = compare_signed(circuit, no, a, b)?;
+            Ok(truth(circuit, less))
         }
         BinOp::Le => {
-            let less = compare_signed(cnf, constant(true), a, b)?;
-            Ok(truth(cnf, less))
+            let less = compare_signed(circuit, yes, a, b)?;
+            Ok(truth(circuit, less))
         }
         BinOp::Gt => {
-            let less = compare_signed(cnf, constant(false), b, a)?;
-            Ok(truth(cnf, less))
+            let less = compare_signed(circuit, no, b, a)?;
+            Ok(truth(circuit, less))
         }
         BinOp::Ge => {
-            let less = compare_signed(cnf, constant(true), b, a)?;
-            Ok(truth(cnf, less))
+            let less = compare_signed(circuit, yes, b, a)?;
+            Ok(truth(circuit, less))
         }
         BinOp::Div => {
-            let word = quotient(cnf, a, b)?;
-            where_some(cnf, word, b)
+            let word = quotient(circuit, a, b)?;
+            where_some(circuit, word, b)
         }
         BinOp::Rem => {
-            let word = remainder(cnf, a, b)?;
-            where_some(cnf, word, b)
+            let word = remainder(circuit, a, b)?;
+            where_some(circuit, word, b)
         }
-        BinOp::Shl => shift_near(cnf, Direction::Up, constant(false), a, b),
-        BinOp::Shr => shift_near(cnf, Direction::Down, sign(a), a, b),
+        BinOp::Shl => shift_near(circuit, Direction::Up, no, a, b),
+        BinOp::Shr => shift_near(circuit, Direction::Down, sign(a), a, b),
     }
 }

@@ -47,7 +47,7 @@ compared_pair_bit f p one within =
     let xs : List ℤ = position_word p.lesser in
     let ys : List ℤ = position_word p.greater in
     let tie : Bool = nat_lt p.lesser p.greater in
-    let h = compared_bit (kept f (constant tie)) xs ys one (constant_of f.vars tie one) (position_within f.vars p.lesser within.lesser)
+    let h = compared_bit (kept f (constant tie)) xs ys (constant_of f.vars tie one) (position_within f.vars p.lesser within.lesser)
     (position_within f.vars p.greater within.greater) (length_word (position_start p.greater) 8 ∙ sym (length_word (position_start p.lesser) 8)) in
     record {
       grown = h.grown;

@@ -13,8 +13,8 @@ use crate::add_clause;
 use crate::choices::exclude;
 use crate::pairs::compare_pairs;
 use crate::words::word_from;
-use bit_gates::constant;
-use cnf_core::{Cnf, Lit};
+use bit_gates::{Circuit, constant};
+use cnf_core::Lit;
 use order_formula::{Order, Pair};
 use std::alloc::{AllocError, Global};
 use std::marker::Model;
@@ -40,18 +40,17 @@ impl Model for Layout {
 }
 
 /// The formula before any gate: its variables, variable 1 is true, and the exclusions.
-fn base(alloc: Global, order: &Order, loads: u32) -> Result<Cnf, AllocError>
+fn base(alloc: Global, order: &Order, loads: u32) -> Result<Circuit, AllocError>
     requires lawful { IsOrder order.now }
     requires small { asked_size (record { order = order.now; loads = loads }) < LIMIT }
-    ensures formula { IfOk result (λ cnf. cnf ≡ base (record { order = order.now; loads = loads })) }
-    ensures few { IfOk result (λ cnf. length cnf.clauses ≤ 1 + length order.now.choices * order.now.events) }
+    ensures formula { IfOk result (λ circuit. circuit ≡ base (record { order = order.now; loads = loads })) }
+    ensures few { IfOk result (λ circuit. length circuit.clauses ≤ 1 + length order.now.choices * order.now.events) }
 {
     let start = 2 + 8 * order.events() + 32 * loads;
     let choices = order.choices();
-    let mut cnf = Cnf::new(alloc, start + choices.len() as u32 - 1);
-    cnf.push(&[constant(true)])?;
-    exclude(&mut cnf, start, order)?;
-    Ok(cnf)
+    let mut circuit = Circuit::new(alloc, start + choices.len() as u32 - 1)?;
+    exclude(&mut circuit, start, order)?;
+    Ok(circuit)
 }
 
 impl Layout {
@@ -59,7 +58,7 @@ impl Layout {
     ghost use Rattle.bit_order.specs.Comparators.{comparators, comparator, before_literal, transitive, transitivity, ordered};
 
     /// The clauses of an order with its pairs and choices, and of `loads` loads; and its layout.
-    pub fn clauses(alloc: Global, order: Order, loads: u32) -> Result<(Layout, Cnf), AllocError>
+    pub fn clauses(alloc: Global, order: Order, loads: u32) -> Result<(Layout, Circuit), AllocError>
         requires { size_of (record { order = order; loads = loads }) < LIMIT }
         ensures layout { IfOk result (λ made. made.0 ≡ record { order = order; loads = loads }) }
         ensures formula { IfOk result (λ made. made.1 ≡ ordered (record { order = order; loads = loads })) }
@@ -72,7 +71,7 @@ impl Layout {
     }
 
     /// The same, for an order whose pairs and choices are within the limit.
-    fn add_clauses(alloc: Global, order: Order, loads: u32) -> Result<(Layout, Cnf), AllocError>
+    fn add_clauses(alloc: Global, order: Order, loads: u32) -> Result<(Layout, Circuit), AllocError>
         requires small { size_of (record { order = order; loads = loads }) < LIMIT }
         requires asked { asked_size (record { order = order; loads = loads }) ≤ size_of (record { order = order; loads = loads }) }
         ensures layout { IfOk result (λ made. made.0 ≡ record { order = order; loads = loads }) }
@@ -82,15 +81,15 @@ impl Layout {
         ensures few { IfOk result (λ made. length made.1.clauses ≤ size_of made.0) }
     {
         let pairs = order.pairs();
-        let mut cnf = base(alloc, &order, loads)?;
-        let comparators = compare_pairs(alloc, &mut cnf, pairs)?;
+        let mut circuit = base(alloc, &order, loads)?;
+        let comparators = compare_pairs(alloc, &mut circuit, pairs)?;
         let layout = Layout {
             order,
             loads,
             comparators,
         };
-        layout.add_transitivity(alloc, &mut cnf)?;
-        Ok((layout, cnf))
+        layout.add_transitivity(alloc, &mut circuit)?;
+        Ok((layout, circuit))
     }
 
     /// The order.
@@ -171,36 +170,35 @@ impl Layout {
     }
 
     /// Adds the clauses of transitivity.
-    fn add_transitivity(&self, alloc: Global, cnf: &mut Cnf) -> Result<(), AllocError>
-        requires one { 0 < cnf.old.vars }
-        requires literals { AreWithin cnf.old.vars (comparators self.now).word }
-        requires room { length cnf.old.clauses + length self.now.order.pairs * (2 * self.now.order.events) < LIMIT }
-        ensures vars { cnf.new.vars ≡ cnf.old.vars }
-        ensures clauses { OnOk result (cnf.new.clauses ≡ cnf.old.clauses ++ transitivity self.now) }
-        ensures few { length cnf.new.clauses ≤ length cnf.old.clauses + length self.now.order.pairs * (2 * self.now.order.events) }
+    fn add_transitivity(&self, alloc: Global, circuit: &mut Circuit) -> Result<(), AllocError>
+        requires literals { AreWithin circuit.old.vars (comparators self.now).word }
+        requires room { length circuit.old.clauses + length self.now.order.pairs * (2 * self.now.order.events) < LIMIT }
+        ensures vars { circuit.new.vars ≡ circuit.old.vars }
+        ensures clauses { OnOk result (circuit.new.clauses ≡ circuit.old.clauses ++ transitivity self.now) }
+        ensures few { length circuit.new.clauses ≤ length circuit.old.clauses + length self.now.order.pairs * (2 * self.now.order.events) }
     {
         for pair in self.order.pairs() {
-            self.add_thirds(alloc, cnf, *pair)?;
+            self.add_thirds(alloc, circuit, *pair)?;
         }
         Ok(())
     }
 
     /// Adds those for a pair and each event after both.
-    fn add_thirds(&self, alloc: Global, cnf: &mut Cnf, pair: Pair) -> Result<(), AllocError>
-        requires one { 0 < cnf.old.vars }
-        requires literals { AreWithin cnf.old.vars (comparators self.now).word }
+    fn add_thirds(&self, alloc: Global, circuit: &mut Circuit, pair: Pair) -> Result<(), AllocError>
+        requires literals { AreWithin circuit.old.vars (comparators self.now).word }
         requires pair { pair.greater < self.now.order.events }
-        requires room { length cnf.old.clauses + 2 * self.now.order.events < LIMIT }
-        ensures vars { cnf.new.vars ≡ cnf.old.vars }
-        ensures clauses { OnOk result (cnf.new.clauses ≡ cnf.old.clauses
+        requires room { length circuit.old.clauses + 2 * self.now.order.events < LIMIT }
+        ensures vars { circuit.new.vars ≡ circuit.old.vars }
+        ensures clauses { OnOk result (circuit.new.clauses ≡ circuit.old.clauses
             ++ flat_map (transitive self.now pair) (range_with_len (pair.greater + 1) (self.now.order.events - (pair.greater + 1)))) }
-        ensures few { length cnf.new.clauses ≤ length cnf.old.clauses + 2 * self.now.order.events }
+        ensures few { length circuit.new.clauses ≤ length circuit.old.clauses + 2 * self.now.order.events }
     {
+        let _one = circuit.vars();
         let first = self.before(pair.lesser, pair.greater);
         for third in pair.greater + 1..self.order.events() {
             let second = self.comparator(pair.greater, third);
             let both = self.comparator(pair.lesser, third);
-            add_where_asked(alloc, cnf, first, second, both)?;
+            add_where_asked(alloc, circuit, first, second, both)?;
         }
         Ok(())
     }
@@ -209,36 +207,36 @@ impl Layout {
 /// Adds the clauses of transitivity for three literals, if all three exist.
 fn add_where_asked(
     alloc: Global,
-    cnf: &mut Cnf,
+    circuit: &mut Circuit,
     a: Lit,
     b: Option<Lit>,
     c: Option<Lit>,
 ) -> Result<(), AllocError>
-    requires first { var_of a ≤ cnf.old.vars }
-    requires second { IfSome b (λ l. var_of l ≤ cnf.old.vars) }
-    requires third { IfSome c (λ l. var_of l ≤ cnf.old.vars) }
-    requires room { length cnf.old.clauses + 2 < LIMIT }
-    ensures vars { cnf.new.vars ≡ cnf.old.vars }
-    ensures clauses { OnOk result (cnf.new.clauses ≡ cnf.old.clauses ++ where_asked a b c) }
-    ensures few { length cnf.new.clauses ≤ length cnf.old.clauses + 2 }
+    requires first { var_of a ≤ circuit.old.vars }
+    requires second { IfSome b (λ l. var_of l ≤ circuit.old.vars) }
+    requires third { IfSome c (λ l. var_of l ≤ circuit.old.vars) }
+    requires room { length circuit.old.clauses + 2 < LIMIT }
+    ensures vars { circuit.new.vars ≡ circuit.old.vars }
+    ensures clauses { OnOk result (circuit.new.clauses ≡ circuit.old.clauses ++ where_asked a b c) }
+    ensures few { length circuit.new.clauses ≤ length circuit.old.clauses + 2 }
 {
     match (b, c) {
-        (Some(b), Some(c)) => add_three(alloc, cnf, a, b, c),
+        (Some(b), Some(c)) => add_three(alloc, circuit, a, b, c),
         _ => Ok(()),
     }
 }
 
 /// Adds the clauses of transitivity for three literals: of the first event and the second, of the
 /// second and the third, and of the first and the third.
-fn add_three(alloc: Global, cnf: &mut Cnf, a: Lit, b: Lit, c: Lit) -> Result<(), AllocError>
-    requires first { var_of a ≤ cnf.old.vars }
-    requires second { var_of b ≤ cnf.old.vars }
-    requires third { var_of c ≤ cnf.old.vars }
-    requires room { length cnf.old.clauses + 2 < LIMIT }
-    ensures vars { cnf.new.vars ≡ cnf.old.vars }
-    ensures clauses { OnOk result (cnf.new.clauses ≡ cnf.old.clauses ++ clauses_of_three a b c) }
-    ensures few { length cnf.new.clauses ≤ length cnf.old.clauses + 2 }
+fn add_three(alloc: Global, circuit: &mut Circuit, a: Lit, b: Lit, c: Lit) -> Result<(), AllocError>
+    requires first { var_of a ≤ circuit.old.vars }
+    requires second { var_of b ≤ circuit.old.vars }
+    requires third { var_of c ≤ circuit.old.vars }
+    requires room { length circuit.old.clauses + 2 < LIMIT }
+    ensures vars { circuit.new.vars ≡ circuit.old.vars }
+    ensures clauses { OnOk result (circuit.new.clauses ≡ circuit.old.clauses ++ clauses_of_three a b c) }
+    ensures few { length circuit.new.clauses ≤ length circuit.old.clauses + 2 }
 {
-    add_clause(alloc, cnf, &[a.opposite(), b.opposite(), c])?;
-    add_clause(alloc, cnf, &[a, b, c.opposite()])
+    add_clause(alloc, circuit, &[a.opposite(), b.opposite(), c])?;
+    add_clause(alloc, circuit, &[a, b, c.opposite()])
 }

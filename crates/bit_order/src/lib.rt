@@ -12,6 +12,6 @@ mod reading;
 mod words;
 mod writing;
 
-pub use clause::add_clause;
+pub use clause::{add_clause, clause_of};
 pub use layout::Layout;
 pub use pairs::complete;

@@ -9,9 +9,9 @@ ghost use Rattle.bit_order.specs.Comparators.{completed, compared_pair, with_com
 ghost use Rattle.bit_order.specs.helpers.Places.{PairIsWithin};
 
 use crate::words::position_word;
-use bit_gates::constant;
+use bit_gates::Circuit;
 use bit_words::compare;
-use cnf_core::{Cnf, Lit};
+use cnf_core::Lit;
 use order_formula::{Order, Pair};
 use std::alloc::{AllocError, Global};
 
@@ -60,36 +60,35 @@ fn ask_pair(order: &mut Order, first: u32, second: u32) -> Result<(), AllocError
 /// The literals of all pairs, in order.
 pub(crate) fn compare_pairs(
     alloc: Global,
-    cnf: &mut Cnf,
+    circuit: &mut Circuit,
     pairs: &[Pair],
 ) -> Result<Vec<Lit>, AllocError>
-    requires one { 0 < cnf.old.vars }
-    requires positions { All (PairIsWithin cnf.old.vars) pairs.now }
-    requires room { HasRoom (96 * length pairs.now) cnf.old }
-    ensures literals { IfOk result (λ v. v.items ≡ (fold with_comparator (record { state = cnf.old; word = [] }) pairs.now).word) }
-    ensures formula { OnOk result (cnf.new ≡ (fold with_comparator (record { state = cnf.old; word = [] }) pairs.now).state) }
-    ensures within { IfOk result (λ v. AreWithin cnf.new.vars v.items) }
-    ensures larger { OnOk result (IsLarger (96 * length pairs.now) cnf.old cnf.new) }
+    requires positions { All (PairIsWithin circuit.old.vars) pairs.now }
+    requires room { HasRoom (96 * length pairs.now) circuit.old }
+    ensures literals { IfOk result (λ v. v.items ≡ (fold with_comparator (record { state = circuit.old; word = [] }) pairs.now).word) }
+    ensures formula { OnOk result (circuit.new ≡ (fold with_comparator (record { state = circuit.old; word = [] }) pairs.now).state) }
+    ensures within { IfOk result (λ v. AreWithin circuit.new.vars v.items) }
+    ensures larger { OnOk result (IsLarger (96 * length pairs.now) circuit.old circuit.new) }
 {
     let mut literals = Vec::new(alloc);
     for pair in pairs {
-        literals.push(compare_pair(cnf, *pair)?)?;
+        literals.push(compare_pair(circuit, *pair)?)?;
     }
     Ok(literals)
 }
 
 /// Whether the first event of a pair comes before the second; equal positions compare by number.
 #[tactic(auto, using(crate::proofs::Compared::position_are_within, crate::proofs::WordLaws::length_word), unfolding(crate::specs::Comparators::compared_pair))]
-fn compare_pair(cnf: &mut Cnf, pair: Pair) -> Result<Lit, AllocError>
-    requires one { 0 < cnf.old.vars }
-    requires positions { PairIsWithin cnf.old.vars pair }
-    requires room { HasRoom 96 cnf.old }
-    ensures literal { IfOk result (λ l. l ≡ (compared_pair cnf.old pair).literal) }
-    ensures formula { OnOk result (cnf.new ≡ (compared_pair cnf.old pair).formula) }
-    ensures within { IfOk result (λ l. var_of l ≤ cnf.new.vars) }
-    ensures larger { OnOk result (IsLarger 96 cnf.old cnf.new) }
+fn compare_pair(circuit: &mut Circuit, pair: Pair) -> Result<Lit, AllocError>
+    requires positions { PairIsWithin circuit.old.vars pair }
+    requires room { HasRoom 96 circuit.old }
+    ensures literal { IfOk result (λ l. l ≡ (compared_pair circuit.old pair).literal) }
+    ensures formula { OnOk result (circuit.new ≡ (compared_pair circuit.old pair).formula) }
+    ensures within { IfOk result (λ l. var_of l ≤ circuit.new.vars) }
+    ensures larger { OnOk result (IsLarger 96 circuit.old circuit.new) }
 {
     let first = position_word(pair.lesser);
     let second = position_word(pair.greater);
-    compare(cnf, constant(pair.lesser < pair.greater), &first, &second)
+    let low = circuit.constant(pair.lesser < pair.greater);
+    compare(circuit, low, &first, &second)
 }

@@ -15,7 +15,7 @@ use Rattle.int_ops.proofs.Bits.{unsigned-below}
 use Rattle.cnf_core.specs.Clauses.{Formula, Valuation, literal_true}
 use Rattle.bit_gates.specs.Folded.{constant}
 use Rattle.bit_gates.specs.Laws.{IsModel, IsOf}
-use Rattle.bit_gates.proofs.Blocks.{grown_none, grown_more, grown_twice, IsOf-grown, model_before}
+use Rattle.bit_gates.proofs.Blocks.{grown_none, grown_twice, IsOf-grown, model_before}
 use Rattle.bit_gates.proofs.Meaning.{constant_value}
 use Rattle.bit_words.specs.Words.{Walked}
 use Rattle.bit_words.specs.Laws.{values, digit, number_of, value, at_places, IsWord, IsPlaced}
@@ -45,20 +45,19 @@ pub chosen_values : (c : Bool) (ps qs : List Bool) → length qs ≡ length ps �
 chosen_values true ps qs e = first_word ps qs e
 chosen_values false ps qs e = second_word ps qs e
 
-stage_means : (to : Direction) (bit : ℤ) (by : ℕ) (d : ℤ) (f : Formula) (xs : List ℤ) → 0 < f.vars → IsOf f.vars bit → IsOf f.vars d → All (IsOf f.vars) xs
+stage_means : (to : Direction) (bit : ℤ) (by : ℕ) (d : ℤ) (f : Formula) (xs : List ℤ) → IsOf f.vars bit → IsOf f.vars d → All (IsOf f.vars) xs
     → IsPlaced f (iterate (moved to bit) by xs) xs (stage to bit by d f xs) (λ w p q. if literal_true w d then p else q)
-stage_means to bit by d f xs one b o p =
-    chosen_words_mean d f (iterate (moved to bit) by xs) xs one o (far_are (IsOf f.vars) to bit by xs b p) p (sym (far_length to bit by xs))
+stage_means to bit by d f xs b o p =
+    chosen_words_mean d f (iterate (moved to bit) by xs) xs o (far_are (IsOf f.vars) to bit by xs b p) p (sym (far_length to bit by xs))
 
-shifted_word : (to : Direction) (bit : ℤ) (by : ℕ) (f : Formula) (xs ds : List ℤ) → 0 < f.vars → IsOf f.vars bit → All (IsOf f.vars) xs → All (IsOf f.vars) ds
+shifted_word : (to : Direction) (bit : ℤ) (by : ℕ) (f : Formula) (xs ds : List ℤ) → IsOf f.vars bit → All (IsOf f.vars) xs → All (IsOf f.vars) ds
     → IsWord f (shifted to bit by f xs ds).state xs (shifted to bit by f xs ds).word
-shifted_word to bit by f xs [] one b p q = record { grown = grown_none f; literals = p; same_length = refl }
-shifted_word to bit by f xs (d ∷ ds) one b p q =
+shifted_word to bit by f xs [] b p q = record { grown = grown_none f; literals = p; same_length = refl }
+shifted_word to bit by f xs (d ∷ ds) b p q =
     let here : Walked Formula = stage to bit by d f xs in
     let g : Formula = here.state in
-    let h = stage_means to bit by d f xs one b (All-head (IsOf f.vars) d ds q) p in
-    let more : f.vars ≤ g.vars = grown_more f g h.word.grown in
-    let r = shifted_word to bit (by + by) g here.word ds (omega (arith, one, more)) (IsOf-grown f g bit h.word.grown b) h.word.literals
+    let h = stage_means to bit by d f xs b (All-head (IsOf f.vars) d ds q) p in
+    let r = shifted_word to bit (by + by) g here.word ds (IsOf-grown f g bit h.word.grown b) h.word.literals
     (all_grown f g ds h.word.grown (All-tail (IsOf f.vars) d ds q)) in
     record {
       grown = grown_twice f g (shifted to bit (by + by) g here.word ds).state h.word.grown r.grown;
@@ -90,26 +89,24 @@ module _ (to : Direction) (bit : ℤ) (w : Valuation) (n : ℕ) (measure : List 
     chosen true by xs e = far by xs e ∙ ap (λ k. act k (measure (values w xs))) (sym (mul-one by))
     chosen false by xs e = sym (none xs e) ∙ ap (λ k. act k (measure (values w xs))) (sym (mul-zero by))
 
-    measured : (by : ℕ) (f : Formula) (xs ds : List ℤ) → 0 < f.vars → IsOf f.vars bit → All (IsOf f.vars) xs → All (IsOf f.vars) ds → length xs ≡ n
+    measured : (by : ℕ) (f : Formula) (xs ds : List ℤ) → IsOf f.vars bit → All (IsOf f.vars) xs → All (IsOf f.vars) ds → length xs ≡ n
         → IsModel w (shifted to bit by f xs ds).state
         → measure (values w (shifted to bit by f xs ds).word) ≡ act (by * value w ds) (measure (values w xs))
-    measured by f xs [] one b p q e m = sym (none xs e) ∙ ap (λ k. act k (measure (values w xs))) (sym (mul-zero by))
-    measured by f xs (d ∷ ds) one b p q e m =
+    measured by f xs [] b p q e m = sym (none xs e) ∙ ap (λ k. act k (measure (values w xs))) (sym (mul-zero by))
+    measured by f xs (d ∷ ds) b p q e m =
         let here : Walked Formula = stage to bit by d f xs in
         let g : Formula = here.state in
         let far_xs : List ℤ = iterate (moved to bit) by xs in
         let c : Bool = literal_true w d in
-        let h = stage_means to bit by d f xs one b (All-head (IsOf f.vars) d ds q) p in
-        let rise : f.vars ≤ g.vars = grown_more f g h.word.grown in
-        let enough : 0 < g.vars = omega (arith, one, rise) in
+        let h = stage_means to bit by d f xs b (All-head (IsOf f.vars) d ds q) p in
         let b2 : IsOf g.vars bit = IsOf-grown f g bit h.word.grown b in
         let q2 : All (IsOf g.vars) ds = all_grown f g ds h.word.grown (All-tail (IsOf f.vars) d ds q) in
-        let r = shifted_word to bit (by + by) g here.word ds enough b2 h.word.literals q2 in
+        let r = shifted_word to bit (by + by) g here.word ds b2 h.word.literals q2 in
         let same : length (values w xs) ≡ length (values w far_xs) =
         length-map xs (literal_true w) ∙ sym (far_length to bit by xs) ∙ sym (length-map far_xs (literal_true w)) in
         let v : values w here.word ≡ (if c then values w far_xs else values w xs) =
         h.places w (model_before w g (shifted to bit (by + by) g here.word ds).state r.grown m) ∙ chosen_values c (values w far_xs) (values w xs) same in
-        measured (by + by) g here.word ds enough b2 h.word.literals q2 (h.word.same_length ∙ far_length to bit by xs ∙ e) m
+        measured (by + by) g here.word ds b2 h.word.literals q2 (h.word.same_length ∙ far_length to bit by xs ∙ e) m
         ∙ ap (act ((by + by) * value w ds)) (ap measure v ∙ chosen c by xs e)
         ∙ more ((by + by) * value w ds) (by * digit c) (measure (values w xs))
         ∙ ap (λ k. act k (measure (values w xs))) (distance_sum by (digit c) (value w ds))
@@ -151,7 +148,7 @@ unfolding times_power
 up_means f xs ds o w m =
     let u : 1 * value w ds ≡ value w ds = omega arith in
     measured Up (constant false) w (length xs) number_of (times_power (length xs)) (times_none w (length xs)) (times_more (length xs))
-    (times_once w m.one (length xs)) 1 f xs ds o.one o.comes_in o.word o.distance refl m
+    (times_once w m.one (length xs)) 1 f xs ds o.comes_in o.word o.distance refl m
     ∙ ap (λ k. (value w xs * 2 ^ k) % 2 ^ length xs) u
 
 -- the quotient by a power of 2
@@ -188,7 +185,7 @@ unfolding by_power
 down_means bit f xs ds o w m =
     let u : 1 * value w ds ≡ value w ds = omega arith in
     measured Down bit w (length xs) (number_from (literal_true w bit)) by_power (λ ys _. div-one (number_from (literal_true w bit) (values w ys))) by_more
-    (λ ys _. by_once w bit ys) 1 f xs ds o.one o.comes_in o.word o.distance refl m
+    (λ ys _. by_once w bit ys) 1 f xs ds o.comes_in o.word o.distance refl m
     ∙ ap (λ k. number_from (literal_true w bit) (values w xs) / 2 ^ k) u
 
 -- a word's number by its highest literal
@@ -265,7 +262,7 @@ pub right_32 : (f : Formula) (xs ds : List ℤ) → AreShifted f (top xs) xs ds 
 right_32 f xs ds o e w m within =
     let out : List ℤ = (shifted Down (top xs) 1 f xs ds).word in
     let d : ℕ = value w ds in
-    let h = shifted_word Down (top xs) 1 f xs ds o.one o.comes_in o.word o.distance in
+    let h = shifted_word Down (top xs) 1 f xs ds o.comes_in o.word o.distance in
     let is : is_distance (pos d) ≡ true = distance_of d within in
     right_of (int_value w xs) (fits_32 w xs e) (literal_true w (top xs)) (value w (take 31 xs)) d (values w xs) (values w out)
     (length-map xs (literal_true w) ∙ e) (length-map out (literal_true w) ∙ h.same_length ∙ e) (sym (bits_32 w xs e))
@@ -278,7 +275,7 @@ right_32 f xs ds o e w m within =
 
 pub shifts-mean : ShiftsMean
 shifts-mean = record {
-  word = λ to bit f xs ds o. shifted_word to bit 1 f xs ds o.one o.comes_in o.word o.distance;
+  word = λ to bit f xs ds o. shifted_word to bit 1 f xs ds o.comes_in o.word o.distance;
   up = up_means;
   down = down_means;
   left = left_32;

@@ -1,5 +1,5 @@
 -- What shifts mean.
-use Rattle.std.specs.Prelude.{◌≡◌, ℕ, ◌<◌, ◌≤◌, ◌*◌, ◌/◌, ◌%◌, ◌^◌, Bool, true, false, not, List, ℤ, pos, map, length}
+use Rattle.std.specs.Prelude.{◌≡◌, ℕ, ◌≤◌, ◌*◌, ◌/◌, ◌%◌, ◌^◌, Bool, true, false, not, List, ℤ, pos, map, length}
 use Rattle.std.specs.List.{All}
 use Rattle.int_ops.specs.Arith.{shifted_left, shifted_right}
 use Rattle.cnf_core.specs.Clauses.{Formula, Valuation, literal_true}
@@ -19,7 +19,6 @@ number_from true ps = number_of (map not ps)
 
 -- the operands of a shift over a formula's literals: the bit that comes in, a word and a distance
 pub record AreShifted (f : Formula) (bit : ℤ) (xs ds : List ℤ) : Type 0 where
-  pub one : 0 < f.vars
   pub comes_in : IsOf f.vars bit
   pub word : All (IsOf f.vars) xs
   pub distance : All (IsOf f.vars) ds

@@ -1,7 +1,7 @@
 //! Shifts of words of literals: by one place, or by the number in another word (a barrel shifter).
 #![tactic(auto)]
 
-ghost use Rattle.std.specs.Prelude.{◌≡◌, ◌<◌, ◌≤◌, ◌+◌, ◌*◌, IfOk, OnOk, length, ℤ, List};
+ghost use Rattle.std.specs.Prelude.{◌≡◌, ◌≤◌, ◌*◌, IfOk, OnOk, length};
 ghost use Rattle.std.specs.Fn.{iterate};
 ghost use Rattle.cnf_core.specs.Clauses.{var_of};
 ghost use Rattle.bit_gates.specs.Folded.{HasRoom, IsLarger};
@@ -9,8 +9,9 @@ ghost use Rattle.bit_words.specs.Words.{AreWithin};
 ghost use Rattle.bit_shift.specs.Laws.{ShiftsMean};
 ghost use Rattle.bit_shift.specs.Shifts.{shifted_in, shifted_out, moved, stage, shifted};
 
+use bit_gates::Circuit;
 use bit_words::choose_words;
-use cnf_core::{Cnf, Lit};
+use cnf_core::Lit;
 use std::alloc::AllocError;
 
 /// The direction of a shift.
@@ -70,53 +71,51 @@ fn move_places(word: &mut [Lit], to: Direction, bit: Lit, by: usize)
 
 /// One stage of a barrel shifter: shifts by a fixed distance if the condition is true.
 fn shift_stage<const W: usize>(
-    cnf: &mut Cnf,
+    circuit: &mut Circuit,
     word: &mut [Lit; W],
     to: Direction,
     bit: Lit,
     by: usize,
     condition: Lit,
 ) -> Result<(), AllocError>
-    requires one { 0 < cnf.old.vars }
-    requires word { AreWithin cnf.old.vars word.old }
-    requires bit { var_of bit ≤ cnf.old.vars }
-    requires condition { var_of condition ≤ cnf.old.vars }
-    requires room { HasRoom (9 * W) cnf.old }
-    ensures word { OnOk result (word.new ≡ (stage to bit by condition cnf.old word.old).word) }
-    ensures formula { OnOk result (cnf.new ≡ (stage to bit by condition cnf.old word.old).state) }
-    ensures within { OnOk result (AreWithin cnf.new.vars word.new) }
-    ensures larger { OnOk result (IsLarger (9 * W) cnf.old cnf.new) }
+    requires word { AreWithin circuit.old.vars word.old }
+    requires bit { var_of bit ≤ circuit.old.vars }
+    requires condition { var_of condition ≤ circuit.old.vars }
+    requires room { HasRoom (9 * W) circuit.old }
+    ensures word { OnOk result (word.new ≡ (stage to bit by condition circuit.old word.old).word) }
+    ensures formula { OnOk result (circuit.new ≡ (stage to bit by condition circuit.old word.old).state) }
+    ensures within { OnOk result (AreWithin circuit.new.vars word.new) }
+    ensures larger { OnOk result (IsLarger (9 * W) circuit.old circuit.new) }
 {
     let mut moved = *word;
     move_places(&mut moved, to, bit, by);
-    choose_words(cnf, condition, &mut moved, word)?;
+    choose_words(circuit, condition, &mut moved, word)?;
     *word = moved;
     Ok(())
 }
 
 /// Shifts by the distance, a word of up to 16 literals, with the bit coming in at each place.
 pub fn shift<const W: usize>(
-    cnf: &mut Cnf,
+    circuit: &mut Circuit,
     to: Direction,
     bit: Lit,
     a: &[Lit; W],
     distance: &[Lit],
 ) -> Result<[Lit; W], AllocError>
-    requires one { 0 < cnf.old.vars }
-    requires bit { var_of bit ≤ cnf.old.vars }
-    requires first { AreWithin cnf.old.vars a.now }
-    requires second { AreWithin cnf.old.vars distance.now }
+    requires bit { var_of bit ≤ circuit.old.vars }
+    requires first { AreWithin circuit.old.vars a.now }
+    requires second { AreWithin circuit.old.vars distance.now }
     requires short { length distance.now ≤ 16 }
-    requires room { HasRoom (9 * (W * length distance.now)) cnf.old }
-    ensures word { IfOk result (λ out. out ≡ (shifted to bit 1 cnf.old a.now distance.now).word) }
-    ensures formula { OnOk result (cnf.new ≡ (shifted to bit 1 cnf.old a.now distance.now).state) }
-    ensures within { IfOk result (λ out. AreWithin cnf.new.vars out) }
-    ensures larger { OnOk result (IsLarger (9 * (W * length distance.now)) cnf.old cnf.new) }
+    requires room { HasRoom (9 * (W * length distance.now)) circuit.old }
+    ensures word { IfOk result (λ out. out ≡ (shifted to bit 1 circuit.old a.now distance.now).word) }
+    ensures formula { OnOk result (circuit.new ≡ (shifted to bit 1 circuit.old a.now distance.now).state) }
+    ensures within { IfOk result (λ out. AreWithin circuit.new.vars out) }
+    ensures larger { OnOk result (IsLarger (9 * (W * length distance.now)) circuit.old circuit.new) }
 {
     let mut word = *a;
     let mut by = 1;
     for place in 0..distance.len() {
-        shift_stage(cnf, &mut word, to, bit, by, distance[place])?;
+        shift_stage(circuit, &mut word, to, bit, by, distance[place])?;
         by += by;
     }
     Ok(word)

@@ -58,17 +58,17 @@ negated_number false p k out v z ps e l small below none h =
 negated_number true p k out v z ps e l small below none h =
     remainder_of p k out (p - v) small (omega (arith, e, none, h, l, opposite_number ps))
 
-pub negated_means : (f : Formula) (xs : List ℤ) (sign : ℤ) → 0 < f.vars → All (IsOf f.vars) xs → IsOf f.vars sign
+pub negated_means : (f : Formula) (xs : List ℤ) (sign : ℤ) → All (IsOf f.vars) xs → IsOf f.vars sign
     → IsNumber f xs (negated_where f xs sign) (λ w. if literal_true w sign then (2 ^ length xs - value w xs) % 2 ^ length xs else value w xs)
-negated_means f xs sign one p s =
+negated_means f xs sign p s =
     let n : ℕ = length xs in
     let row : Walked Formula = gated_words Xor f xs (replicate n sign) in
-    let g = gated_words_mean Xor f xs (replicate n sign) one p (All-replicate (IsOf f.vars) n sign s) (length-replicate n sign) in
+    let g = gated_words_mean Xor f xs (replicate n sign) p (All-replicate (IsOf f.vars) n sign s) (length-replicate n sign) in
     let more : f.vars ≤ row.state.vars = grown_more f row.state g.word.grown in
-    let enough : 0 < row.state.vars = omega (arith, one, more) in
+    let enough : 0 < row.state.vars = omega (arith, s.0, s.1, more) in
     let none : List ℤ = zeros n in
     let m : Walked Made = added row.state row.word none sign in
-    let h = words-mean.add row.state row.word none sign enough g.word.literals
+    let h = words-mean.add row.state row.word none sign g.word.literals
     (All-replicate (IsOf row.state.vars) n (constant false) (constant_of row.state.vars false enough)) (IsOf-grown f row.state sign g.word.grown s)
     (length-replicate n (constant false) ∙ sym g.word.same_length) in
     record {
@@ -186,10 +186,10 @@ magnitudes f xs ys o e =
     let g : Formula = above.state in
     let below : Walked Formula = negated_where g ys (top ys) in
     let k : Formula = below.state in
-    let a = negated_means f xs (top xs) o.one o.first (top_of f.vars xs o.first (omega (arith, e))) in
+    let a = negated_means f xs (top xs) o.first (top_of f.vars xs o.first (omega (arith, e))) in
     let am : f.vars ≤ g.vars = grown_more f g a.word.grown in
     let yg : All (IsOf g.vars) ys = all_grown f g ys a.word.grown o.second in
-    let b = negated_means g ys (top ys) (omega (arith, o.one, am)) yg (top_of g.vars ys yg (omega (arith, long))) in
+    let b = negated_means g ys (top ys) yg (top_of g.vars ys yg (omega (arith, long))) in
     let bm : g.vars ≤ k.vars = grown_more g k b.word.grown in
     let m : Divided = division k above.word below.word in
     let d = division-means k above.word below.word (omega (arith, o.one, am, bm)) (all_grown g k above.word b.word.grown a.word.literals) b.word.literals in
@@ -226,18 +226,16 @@ sign_made : (f : Formula) (xs ys : List ℤ) → AreOperands f xs ys → length 
 sign_made f xs ys o e =
     let m : Divided = magnitudes_divided f xs ys in
     let h = magnitudes f xs ys o e in
-    let more : f.vars ≤ m.formula.vars = grown_more f m.formula h.grown in
-    differing_bit m.formula (top xs) (top ys) (omega (arith, o.one, more))
+    differing_bit m.formula (top xs) (top ys)
     (IsOf-grown f m.formula (top xs) h.grown (top_of f.vars xs o.first (omega (arith, e))))
     (IsOf-grown f m.formula (top ys) h.grown (top_of f.vars ys o.second (omega (arith, e, o.lengths))))
 
 -- the word that comes of a magnitude and a sign
-signed_number : (f g : Formula) (word xs : List ℤ) (sign : ℤ) → 0 < f.vars → IsGrown f g → All (IsOf g.vars) word → IsOf g.vars sign
+signed_number : (f g : Formula) (word xs : List ℤ) (sign : ℤ) → IsGrown f g → All (IsOf g.vars) word → IsOf g.vars sign
     → length word ≡ 32 → length xs ≡ 32 → IsNumber f xs (negated_where g word sign)
     (λ w. if literal_true w sign then (2 ^ 32 - value w word) % 2 ^ 32 else value w word)
-signed_number f g word xs sign one h p s e ex =
-    let more : f.vars ≤ g.vars = grown_more f g h in
-    let k = negated_means g word sign (omega (arith, one, more)) p s in
+signed_number f g word xs sign h p s e ex =
+    let k = negated_means g word sign p s in
     record {
       word = record {
         grown = grown_twice f g (negated_where g word sign).state h k.word.grown;
@@ -255,7 +253,7 @@ quotient_number f xs ys o e =
     let h = magnitudes f xs ys o e in
     let sign : Made = differing m.formula (top xs) (top ys) in
     let s = sign_made f xs ys o e in
-    signed_number f sign.formula m.quotient xs sign.literal o.one (grown_twice f m.formula sign.formula h.grown s.grown)
+    signed_number f sign.formula m.quotient xs sign.literal (grown_twice f m.formula sign.formula h.grown s.grown)
     (all_grown m.formula sign.formula m.quotient s.grown h.quotient_of) s.literal h.quotient_length e
 
 remainder_number : (f : Formula) (xs ys : List ℤ) → AreOperands f xs ys → length xs ≡ 32 → IsNumber f xs (remainder_word f xs ys)
@@ -263,7 +261,7 @@ remainder_number : (f : Formula) (xs ys : List ℤ) → AreOperands f xs ys → 
 remainder_number f xs ys o e =
     let m : Divided = magnitudes_divided f xs ys in
     let h = magnitudes f xs ys o e in
-    signed_number f m.formula m.remainder xs (top xs) o.one h.grown h.remainder_of_it
+    signed_number f m.formula m.remainder xs (top xs) h.grown h.remainder_of_it
     (IsOf-grown f m.formula (top xs) h.grown (top_of f.vars xs o.first (omega (arith, e)))) h.remainder_length e
 
 where_some : (z x : ℤ) → 0 < unsigned_abs z → x ≡ (if int_eq z (pos 0) then pos 0 else x)
@@ -280,7 +278,6 @@ quotient_32 f xs ys o e w i some =
     let s = sign_made f xs ys o e in
     let last : Walked Formula = quotient_word f xs ys in
     let k = negated_means sign.formula m.quotient sign.literal
-    (omega (arith, o.one, grown_more f m.formula h.grown, grown_more m.formula sign.formula s.grown))
     (all_grown m.formula sign.formula m.quotient s.grown h.quotient_of) s.literal in
     let ms : IsModel w sign.formula = model_before w sign.formula last.state k.word.grown i in
     let mm : IsModel w m.formula = model_before w m.formula sign.formula s.grown ms in
@@ -302,9 +299,8 @@ remainder_32 f xs ys o e w i some =
     let a : ℤ = int_value w xs in
     let b : ℤ = int_value w ys in
     let h = magnitudes f xs ys o e in
-    let more : f.vars ≤ m.formula.vars = grown_more f m.formula h.grown in
     let last : Walked Formula = remainder_word f xs ys in
-    let k = negated_means m.formula m.remainder (top xs) (omega (arith, o.one, more)) h.remainder_of_it
+    let k = negated_means m.formula m.remainder (top xs) h.remainder_of_it
     (IsOf-grown f m.formula (top xs) h.grown (top_of f.vars xs o.first (omega (arith, e)))) in
     let mm : IsModel w m.formula = model_before w m.formula last.state k.word.grown i in
     let n = h.numbers w mm some in
@@ -365,7 +361,7 @@ order_32 f low xs ys o l e =
     let long : length ys ≡ 32 = o.lengths ∙ e in
     let sx : 0 < length xs = omega (arith, e) in
     let sy : 0 < length ys = omega (arith, long) in
-    let h = compared_bit (kept f low) (biased xs) (biased ys) o.one l (biased_of f.vars xs o.first sx) (biased_of f.vars ys o.second sy)
+    let h = compared_bit (kept f low) (biased xs) (biased ys) l (biased_of f.vars xs o.first sx) (biased_of f.vars ys o.second sy)
     (biased_length ys sy ∙ o.lengths ∙ sym (biased_length xs sx)) in
     record {
       grown = h.grown;

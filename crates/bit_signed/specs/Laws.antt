@@ -10,7 +10,7 @@ use Rattle.bit_arith.specs.Laws.{int_value, IsNumber, AreOperands}
 use Rattle.bit_signed.specs.Signed.{negated_where, quotient_word, remainder_word, compared_signed}
 
 pub record SignedMean : Type 0 where
-  pub negate : (f : Formula) (xs : List ℤ) (sign : ℤ) → 0 < f.vars → All (IsOf f.vars) xs → IsOf f.vars sign
+  pub negate : (f : Formula) (xs : List ℤ) (sign : ℤ) → All (IsOf f.vars) xs → IsOf f.vars sign
       → IsNumber f xs (negated_where f xs sign) (λ w. if literal_true w sign then (2 ^ length xs - value w xs) % 2 ^ length xs else value w xs)
   -- at 32 bits
   pub divided : (f : Formula) (xs ys : List ℤ) → AreOperands f xs ys → length xs ≡ 32 → IsWord f (quotient_word f xs ys).state xs (quotient_word f xs ys).word

@@ -1,7 +1,7 @@
 //! Circuits of terms: one word of 32 literals for each, from the words of the loads' values.
 #![tactic(auto)]
 
-ghost use Rattle.std.specs.Prelude.{◌≡◌, ◌<◌, ◌≤◌, length, IfOk, OnOk};
+ghost use Rattle.std.specs.Prelude.{◌≡◌, ◌≤◌, length, IfOk, OnOk};
 ghost use Rattle.std.specs.List.{All};
 ghost use Rattle.sym_terms.specs.Terms.{NamesBelow};
 ghost use Rattle.cnf_core.specs.Clauses.{var_of};
@@ -12,10 +12,10 @@ ghost use Rattle.bit_terms.specs.Laws.{TermsMean, NonzeroMeans};
 ghost use Rattle.bit_terms.specs.Sizes.{node_size, terms_size};
 ghost use Rattle.bit_terms.specs.Terms.{constant_word, node_word, term_words, word_at};
 
-use bit_gates::constant;
+use bit_gates::{Circuit, constant};
 use bit_ops::{Word, binary, unary};
 use bit_words::any;
-use cnf_core::{Cnf, Lit};
+use cnf_core::Lit;
 use std::alloc::{AllocError, Global};
 use sym_terms::{Node, Terms};
 
@@ -34,61 +34,59 @@ pub fn nonzero_means()
 /// Fails if there is no memory; the circuits of some terms may exist then.
 pub fn term_words(
     alloc: Global,
-    cnf: &mut Cnf,
+    circuit: &mut Circuit,
     terms: &Terms,
     symbols: &[Word],
 ) -> Result<Vec<Word>, AllocError>
-    requires one { 0 < cnf.old.vars }
-    requires symbols { All (AreWithin cnf.old.vars) symbols.now }
-    requires room { HasRoom (terms_size terms.now) cnf.old }
-    ensures words { IfOk result (λ words. words.items ≡ (term_words terms.now symbols.now cnf.old).words) }
-    ensures formula { OnOk result (cnf.new ≡ (term_words terms.now symbols.now cnf.old).formula) }
-    ensures within { IfOk result (λ words. All (AreWithin cnf.new.vars) words.items) }
-    ensures larger { OnOk result (IsLarger (terms_size terms.now) cnf.old cnf.new) }
+    requires symbols { All (AreWithin circuit.old.vars) symbols.now }
+    requires room { HasRoom (terms_size terms.now) circuit.old }
+    ensures words { IfOk result (λ words. words.items ≡ (term_words terms.now symbols.now circuit.old).words) }
+    ensures formula { OnOk result (circuit.new ≡ (term_words terms.now symbols.now circuit.old).formula) }
+    ensures within { IfOk result (λ words. All (AreWithin circuit.new.vars) words.items) }
+    ensures larger { OnOk result (IsLarger (terms_size terms.now) circuit.old circuit.new) }
 {
     let mut words = Vec::with_capacity(alloc, terms.len())?;
     for node in terms.nodes() {
-        let word = node_word(cnf, *node, symbols, words.as_slice())?;
+        let word = node_word(circuit, *node, symbols, words.as_slice())?;
         words.push(word)?;
     }
     Ok(words)
 }
 
 /// A literal that is true exactly if the word isn't 0.
-pub fn nonzero(cnf: &mut Cnf, word: &Word) -> Result<Lit, AllocError>
-    requires one { 0 < cnf.old.vars }
-    requires word { AreWithin cnf.old.vars word.now }
-    requires room { HasRoom 96 cnf.old }
-    ensures literal { IfOk result (λ l. l ≡ (some_of cnf.old word.now).literal) }
-    ensures formula { OnOk result (cnf.new ≡ (some_of cnf.old word.now).formula) }
-    ensures within { IfOk result (λ l. var_of l ≤ cnf.new.vars) }
-    ensures larger { OnOk result (IsLarger 96 cnf.old cnf.new) }
+pub fn nonzero(circuit: &mut Circuit, word: &Word) -> Result<Lit, AllocError>
+    requires word { AreWithin circuit.old.vars word.now }
+    requires room { HasRoom 96 circuit.old }
+    ensures literal { IfOk result (λ l. l ≡ (some_of circuit.old word.now).literal) }
+    ensures formula { OnOk result (circuit.new ≡ (some_of circuit.old word.now).formula) }
+    ensures within { IfOk result (λ l. var_of l ≤ circuit.new.vars) }
+    ensures larger { OnOk result (IsLarger 96 circuit.old circuit.new) }
 {
-    any(cnf, constant(false), word)
+    any(circuit, word)
 }
 
 /// The word of a node, from the words of the nodes before it.
 fn node_word(
-    cnf: &mut Cnf,
+    circuit: &mut Circuit,
     node: Node,
     symbols: &[Word],
     known: &[Word],
 ) -> Result<Word, AllocError>
-    requires one { 0 < cnf.old.vars }
     requires names { NamesBelow (length known.now) node }
-    requires symbols { All (AreWithin cnf.old.vars) symbols.now }
-    requires known { All (AreWithin cnf.old.vars) known.now }
-    requires room { HasRoom (node_size node) cnf.old }
-    ensures word { IfOk result (λ word. word ≡ (node_word symbols.now known.now cnf.old node).word) }
-    ensures formula { OnOk result (cnf.new ≡ (node_word symbols.now known.now cnf.old node).state) }
-    ensures within { IfOk result (λ word. AreWithin cnf.new.vars word) }
-    ensures larger { OnOk result (IsLarger (node_size node) cnf.old cnf.new) }
+    requires symbols { All (AreWithin circuit.old.vars) symbols.now }
+    requires known { All (AreWithin circuit.old.vars) known.now }
+    requires room { HasRoom (node_size node) circuit.old }
+    ensures word { IfOk result (λ word. word ≡ (node_word symbols.now known.now circuit.old node).word) }
+    ensures formula { OnOk result (circuit.new ≡ (node_word symbols.now known.now circuit.old node).state) }
+    ensures within { IfOk result (λ word. AreWithin circuit.new.vars word) }
+    ensures larger { OnOk result (IsLarger (node_size node) circuit.old circuit.new) }
 {
+    let _one = circuit.vars();
     match node {
         Node::Constant(value) => Ok(constant_word(value)),
         Node::Symbol(load) => Ok(word_at(symbols, load)),
-        Node::Unary(op, a) => unary(cnf, op, &known[a.place()]),
-        Node::Binary(op, a, b) => binary(cnf, op, &known[a.place()], &known[b.place()]),
+        Node::Unary(op, a) => unary(circuit, op, &known[a.place()]),
+        Node::Binary(op, a, b) => binary(circuit, op, &known[a.place()], &known[b.place()]),
     }
 }
 

@@ -1,5 +1,5 @@
 -- What the circuits over words mean.
-use Rattle.std.proofs.Common.{◌≡◌, ℕ, suc, ◌<◌, ◌≤◌, ◌+◌, ◌*◌, ◌^◌, List, [], ◌∷◌, ℤ, neg_ℤ, refl, ap, ◌∙◌, arith, Bool, true, false, not, length}
+use Rattle.std.proofs.Common.{◌≡◌, ℕ, suc, ◌≤◌, ◌+◌, ◌*◌, ◌^◌, List, [], ◌∷◌, ℤ, neg_ℤ, refl, ap, ◌∙◌, arith, Bool, true, false, not, length}
 use Rattle.std.specs.Prelude.{◌&&◌, ◌||◌, if◌then◌else◌, nat_lt, nat_le}
 use Rattle.std.specs.List.{All, list_any}
 use Rattle.std.proofs.Math.Nat.{pow-suc, mul_assoc, mul_comm}
@@ -49,15 +49,15 @@ module _ (step : Formula → ℤ → ℤ → Made) (least : ℕ) (op : Valuation
               ap (λ k. k ∷ values w rest.word) v ∙ ap (λ ks. op w (literal_true w x) (literal_true w y) ∷ ks) (r.places w m);
         }
 
-pub gated_words_mean : (g : Gate) (f : Formula) (xs ys : List ℤ) → 0 < f.vars → All (IsOf f.vars) xs → All (IsOf f.vars) ys → length ys ≡ length xs
+pub gated_words_mean : (g : Gate) (f : Formula) (xs ys : List ℤ) → All (IsOf f.vars) xs → All (IsOf f.vars) ys → length ys ≡ length xs
     → IsPlaced f xs ys (gated_words g f xs ys) (λ _. gate_value g)
-gated_words_mean g f xs ys n p q e = placed (folded g) 1 (λ _. gate_value g) (λ h a b k x y. folded_bit g h a b (omega arith) x y) f xs ys (omega arith) p q e
+gated_words_mean g f xs ys p q e = placed (folded g) 0 (λ _. gate_value g) (λ h a b k x y. folded_bit g h a b x y) f xs ys (omega arith) p q e
 
-pub chosen_words_mean : (c : ℤ) (f : Formula) (xs ys : List ℤ) → 0 < f.vars → IsOf f.vars c → All (IsOf f.vars) xs → All (IsOf f.vars) ys
+pub chosen_words_mean : (c : ℤ) (f : Formula) (xs ys : List ℤ) → IsOf f.vars c → All (IsOf f.vars) xs → All (IsOf f.vars) ys
     → length ys ≡ length xs → IsPlaced f xs ys (chosen_words c f xs ys) (λ w p q. if literal_true w c then p else q)
-chosen_words_mean c f xs ys n o p q e =
+chosen_words_mean c f xs ys o p q e =
     placed (λ h a b. chosen h c a b) (var_of c) (λ w p q. if literal_true w c then p else q)
-    (λ h a b k x y. chosen_bit h c a b (omega (arith, k, o.0)) (o.0, k) x y) f xs ys o.1 p q e
+    (λ h a b k x y. chosen_bit h c a b (o.0, k) x y) f xs ys o.1 p q e
 
 -- one place of an adder
 pub record IsAdded (carry : Made) (a b : ℤ) (m : Placed Made) : Type 0 where
@@ -79,31 +79,26 @@ full_adder false true false s t u v k hu hs ht hv hk = grind arith
 full_adder false false true s t u v k hu hs ht hv hk = grind arith
 full_adder false false false s t u v k hu hs ht hv hk = grind arith
 
-pub added_place_means : (carry : Made) (a b : ℤ) → 0 < carry.formula.vars → IsOf carry.formula.vars carry.literal → IsOf carry.formula.vars a
+pub added_place_means : (carry : Made) (a b : ℤ) → IsOf carry.formula.vars carry.literal → IsOf carry.formula.vars a
     → IsOf carry.formula.vars b → IsAdded carry a b (added_place carry a b)
-added_place_means carry a b n o p q =
+added_place_means carry a b o p q =
     let f : Formula = carry.formula in
     let c : ℤ = carry.literal in
     let half : Made = differing f a b in
-    let h1 = differing_bit f a b n p q in
+    let h1 = differing_bit f a b p q in
     let g1 : IsGrown f half.formula = h1.grown in
     let sum : Made = differing half.formula half.literal c in
-    let m1 : f.vars ≤ half.formula.vars = grown_more f half.formula g1 in
-    let h2 = differing_bit half.formula half.literal c (omega (arith, m1, n)) h1.literal (IsOf-grown f half.formula c g1 o) in
+    let h2 = differing_bit half.formula half.literal c h1.literal (IsOf-grown f half.formula c g1 o) in
     let g2 : IsGrown f sum.formula = grown_twice f half.formula sum.formula g1 h2.grown in
-    let m2 : f.vars ≤ sum.formula.vars = grown_more f sum.formula g2 in
     let two : Made = both sum.formula a b in
-    let h3 = both_bit sum.formula a b (omega (arith, m2, n)) (IsOf-grown f sum.formula a g2 p) (IsOf-grown f sum.formula b g2 q) in
+    let h3 = both_bit sum.formula a b (IsOf-grown f sum.formula a g2 p) (IsOf-grown f sum.formula b g2 q) in
     let g3 : IsGrown f two.formula = grown_twice f sum.formula two.formula g2 h3.grown in
-    let m3 : f.vars ≤ two.formula.vars = grown_more f two.formula g3 in
     let k3 : IsGrown half.formula two.formula = grown_twice half.formula sum.formula two.formula h2.grown h3.grown in
     let one : Made = both two.formula half.literal c in
-    let h4 = both_bit two.formula half.literal c (omega (arith, m3, n)) (IsOf-grown half.formula two.formula half.literal k3 h1.literal)
+    let h4 = both_bit two.formula half.literal c (IsOf-grown half.formula two.formula half.literal k3 h1.literal)
     (IsOf-grown f two.formula c g3 o) in
-    let g4 : IsGrown f one.formula = grown_twice f two.formula one.formula g3 h4.grown in
-    let m4 : f.vars ≤ one.formula.vars = grown_more f one.formula g4 in
     let out : Made = either one.formula two.literal one.literal in
-    let h5 = either_bit one.formula two.literal one.literal (omega (arith, m4, n)) (IsOf-grown two.formula one.formula two.literal h4.grown h3.literal) h4.literal in
+    let h5 = either_bit one.formula two.literal one.literal (IsOf-grown two.formula one.formula two.literal h4.grown h3.literal) h4.literal in
     let k4 : IsGrown two.formula out.formula = grown_twice two.formula one.formula out.formula h4.grown h5.grown in
     let k2 : IsGrown sum.formula out.formula = grown_twice sum.formula two.formula out.formula h3.grown k4 in
     let k1 : IsGrown half.formula out.formula = grown_twice half.formula sum.formula out.formula h2.grown k2 in
@@ -127,23 +122,22 @@ sum_of n s r k o x y c u v h e =
     let t : 2 ^ suc n * o ≡ 2 * (2 ^ n * o) = ap (λ z. z * o) (p ∙ mul_comm (2 ^ n) 2) ∙ mul_assoc 2 (2 ^ n) o in
     omega (arith, t, h, e)
 
-pub added_along : (carry : Made) (xs ys : List ℤ) → 0 < carry.formula.vars → IsOf carry.formula.vars carry.literal → All (IsOf carry.formula.vars) xs
+pub added_along : (carry : Made) (xs ys : List ℤ) → IsOf carry.formula.vars carry.literal → All (IsOf carry.formula.vars) xs
     → All (IsOf carry.formula.vars) ys → length ys ≡ length xs → IsSum carry.formula xs ys (along added_place carry xs ys) carry.literal
-added_along carry [] [] n o p q e = record {
+added_along carry [] [] o p q e = record {
   word = record { grown = grown_none carry.formula; literals = All-nil (IsOf carry.formula.vars); same_length = refl };
   out = o;
   sum = λ w m. omega arith;
 }
-added_along carry [] (y ∷ ys) n o p q e = absurd (omega (arith, e))
-added_along carry (x ∷ xs) [] n o p q e = absurd (omega (arith, e))
-added_along carry (x ∷ xs) (y ∷ ys) n o p q e =
+added_along carry [] (y ∷ ys) o p q e = absurd (omega (arith, e))
+added_along carry (x ∷ xs) [] o p q e = absurd (omega (arith, e))
+added_along carry (x ∷ xs) (y ∷ ys) o p q e =
     let f : Formula = carry.formula in
     let here : Placed Made = added_place carry x y in
     let g : Formula = here.state.formula in
-    let h = added_place_means carry x y n o (All-head (IsOf f.vars) x xs p) (All-head (IsOf f.vars) y ys q) in
-    let more : f.vars ≤ g.vars = grown_more f g h.grown in
+    let h = added_place_means carry x y o (All-head (IsOf f.vars) x xs p) (All-head (IsOf f.vars) y ys q) in
     let rest : Walked Made = along added_place here.state xs ys in
-    let r = added_along here.state xs ys (omega (arith, n, more)) h.out (all_grown f g xs h.grown (All-tail (IsOf f.vars) x xs p))
+    let r = added_along here.state xs ys h.out (all_grown f g xs h.grown (All-tail (IsOf f.vars) x xs p))
     (all_grown f g ys h.grown (All-tail (IsOf f.vars) y ys q)) (omega (arith, e)) in
     record {
       word = record {
@@ -180,27 +174,24 @@ compare_values false true false x y = grind (arith, nat_tests)
 compare_values false false true x y = grind (arith, nat_tests)
 compare_values false false false x y = grind (arith, nat_tests)
 
-pub compared_place_bit : (low : Made) (a b : ℤ) → 0 < low.formula.vars → IsOf low.formula.vars low.literal → IsOf low.formula.vars a → IsOf low.formula.vars b
+pub compared_place_bit : (low : Made) (a b : ℤ) → IsOf low.formula.vars low.literal → IsOf low.formula.vars a → IsOf low.formula.vars b
     → IsBit low.formula (compared_place low a b)
     (λ w. (not (literal_true w a) && literal_true w b) || (literal_true w low.literal && (not (literal_true w a) || literal_true w b)))
-compared_place_bit low a b n o p q =
+compared_place_bit low a b o p q =
     let f : Formula = low.formula in
     let above : Made = both f (neg_ℤ a) b in
-    let h1 = both_bit f (neg_ℤ a) b n (IsOf-opposite f.vars a p) q in
+    let h1 = both_bit f (neg_ℤ a) b (IsOf-opposite f.vars a p) q in
     let g1 : IsGrown f above.formula = h1.grown in
-    let m1 : f.vars ≤ above.formula.vars = grown_more f above.formula g1 in
     let upto : Made = either above.formula (neg_ℤ a) b in
-    let h2 = either_bit above.formula (neg_ℤ a) b (omega (arith, m1, n)) (IsOf-opposite above.formula.vars a (IsOf-grown f above.formula a g1 p))
+    let h2 = either_bit above.formula (neg_ℤ a) b (IsOf-opposite above.formula.vars a (IsOf-grown f above.formula a g1 p))
     (IsOf-grown f above.formula b g1 q) in
     let g2 : IsGrown f upto.formula = grown_twice f above.formula upto.formula g1 h2.grown in
-    let m2 : f.vars ≤ upto.formula.vars = grown_more f upto.formula g2 in
     let kept : Made = both upto.formula low.literal upto.literal in
-    let h3 = both_bit upto.formula low.literal upto.literal (omega (arith, m2, n)) (IsOf-grown f upto.formula low.literal g2 o) h2.literal in
+    let h3 = both_bit upto.formula low.literal upto.literal (IsOf-grown f upto.formula low.literal g2 o) h2.literal in
     let g3 : IsGrown f kept.formula = grown_twice f upto.formula kept.formula g2 h3.grown in
-    let m3 : f.vars ≤ kept.formula.vars = grown_more f kept.formula g3 in
     let k2 : IsGrown above.formula kept.formula = grown_twice above.formula upto.formula kept.formula h2.grown h3.grown in
     let out : Made = either kept.formula above.literal kept.literal in
-    let h4 = either_bit kept.formula above.literal kept.literal (omega (arith, m3, n)) (IsOf-grown above.formula kept.formula above.literal k2 h1.literal) h3.literal in
+    let h4 = either_bit kept.formula above.literal kept.literal (IsOf-grown above.formula kept.formula above.literal k2 h1.literal) h3.literal in
     let k3 : IsGrown upto.formula out.formula = grown_twice upto.formula kept.formula out.formula h3.grown h4.grown in
     let k1 : IsGrown above.formula out.formula = grown_twice above.formula kept.formula out.formula k2 h4.grown in
     record {
@@ -215,25 +206,24 @@ compared_place_bit low a b n o p q =
           ∙ ap (λ k. k || literal_true w b) (literal_true-neg w a p.0)));
     }
 
-pub compared_bit : (low : Made) (xs ys : List ℤ) → 0 < low.formula.vars → IsOf low.formula.vars low.literal → All (IsOf low.formula.vars) xs
+pub compared_bit : (low : Made) (xs ys : List ℤ) → IsOf low.formula.vars low.literal → All (IsOf low.formula.vars) xs
     → All (IsOf low.formula.vars) ys → length ys ≡ length xs
     → IsBit low.formula (compared low xs ys)
     (λ w. if literal_true w low.literal then nat_le (value w xs) (value w ys) else nat_lt (value w xs) (value w ys))
-compared_bit low [] [] n o p q e = record { grown = grown_none low.formula; literal = o; value = λ w m. itself (literal_true w low.literal) }
+compared_bit low [] [] o p q e = record { grown = grown_none low.formula; literal = o; value = λ w m. itself (literal_true w low.literal) }
   where
     itself : (b : Bool) → b ≡ (if b then nat_le 0 0 else nat_lt 0 0)
     itself true = refl
     itself false = refl
-compared_bit low [] (y ∷ ys) n o p q e = absurd (omega (arith, e))
-compared_bit low (x ∷ xs) [] n o p q e = absurd (omega (arith, e))
-compared_bit low (x ∷ xs) (y ∷ ys) n o p q e =
+compared_bit low [] (y ∷ ys) o p q e = absurd (omega (arith, e))
+compared_bit low (x ∷ xs) [] o p q e = absurd (omega (arith, e))
+compared_bit low (x ∷ xs) (y ∷ ys) o p q e =
     let f : Formula = low.formula in
     let here : Made = compared_place low x y in
     let g : Formula = here.formula in
-    let h = compared_place_bit low x y n o (All-head (IsOf f.vars) x xs p) (All-head (IsOf f.vars) y ys q) in
-    let more : f.vars ≤ g.vars = grown_more f g h.grown in
+    let h = compared_place_bit low x y o (All-head (IsOf f.vars) x xs p) (All-head (IsOf f.vars) y ys q) in
     let rest : Made = compared here xs ys in
-    let r = compared_bit here xs ys (omega (arith, n, more)) h.literal (all_grown f g xs h.grown (All-tail (IsOf f.vars) x xs p))
+    let r = compared_bit here xs ys h.literal (all_grown f g xs h.grown (All-tail (IsOf f.vars) x xs p))
     (all_grown f g ys h.grown (All-tail (IsOf f.vars) y ys q)) (omega (arith, e)) in
     record {
       grown = grown_twice f g rest.formula h.grown r.grown;
@@ -251,17 +241,16 @@ or_assoc : (p q r : Bool) → ((p || q) || r) ≡ (p || (q || r))
 or_assoc true q r = refl
 or_assoc false q r = refl
 
-pub any_bit : (known : Made) (xs : List ℤ) → 0 < known.formula.vars → IsOf known.formula.vars known.literal → All (IsOf known.formula.vars) xs
+pub any_bit : (known : Made) (xs : List ℤ) → IsOf known.formula.vars known.literal → All (IsOf known.formula.vars) xs
     → IsBit known.formula (any_of known xs) (λ w. literal_true w known.literal || list_any (literal_true w) xs)
-any_bit known [] n o p = record { grown = grown_none known.formula; literal = o; value = λ w m. or_nothing (literal_true w known.literal) }
-any_bit known (x ∷ xs) n o p =
+any_bit known [] o p = record { grown = grown_none known.formula; literal = o; value = λ w m. or_nothing (literal_true w known.literal) }
+any_bit known (x ∷ xs) o p =
     let f : Formula = known.formula in
     let here : Made = either f known.literal x in
     let g : Formula = here.formula in
-    let h = either_bit f known.literal x n o (All-head (IsOf f.vars) x xs p) in
-    let more : f.vars ≤ g.vars = grown_more f g h.grown in
+    let h = either_bit f known.literal x o (All-head (IsOf f.vars) x xs p) in
     let rest : Made = any_of here xs in
-    let r = any_bit here xs (omega (arith, n, more)) h.literal (all_grown f g xs h.grown (All-tail (IsOf f.vars) x xs p)) in
+    let r = any_bit here xs h.literal (all_grown f g xs h.grown (All-tail (IsOf f.vars) x xs p)) in
     record {
       grown = grown_twice f g rest.formula h.grown r.grown;
       literal = r.literal;
@@ -273,7 +262,7 @@ pub words-mean : WordsMean
 words-mean = record {
   gate = gated_words_mean;
   choose = chosen_words_mean;
-  add = λ f xs ys c n p q o e. added_along (kept f c) xs ys n o p q e;
+  add = λ f xs ys c p q o e. added_along (kept f c) xs ys o p q e;
   invert = invert_means;
   compare = compared_bit;
   any = any_bit;

@@ -1,5 +1,5 @@
 -- What the circuits over words mean.
-use Rattle.std.specs.Prelude.{◌≡◌, ℕ, ◌<◌, ◌+◌, ◌*◌, ◌^◌, Bool, true, false, ◌||◌, if◌then◌else◌, nat_lt, nat_le, List, [], ◌∷◌, ℤ, map, length}
+use Rattle.std.specs.Prelude.{◌≡◌, ℕ, ◌+◌, ◌*◌, ◌^◌, Bool, true, false, ◌||◌, if◌then◌else◌, nat_lt, nat_le, List, [], ◌∷◌, ℤ, map, length}
 use Rattle.std.specs.List.{All, list_any}
 use Rattle.cnf_core.specs.Clauses.{Formula, Valuation, literal_true}
 use Rattle.cnf_core.specs.Gates.{gate_value}
@@ -51,19 +51,19 @@ pub record IsSum (f : Formula) (xs ys : List ℤ) (m : Walked Made) (carry : ℤ
 
 pub record WordsMean : Type 0 where
   -- a gate applied at each place
-  pub gate : (g : Gate) (f : Formula) (xs ys : List ℤ) → 0 < f.vars → All (IsOf f.vars) xs → All (IsOf f.vars) ys → length ys ≡ length xs
+  pub gate : (g : Gate) (f : Formula) (xs ys : List ℤ) → All (IsOf f.vars) xs → All (IsOf f.vars) ys → length ys ≡ length xs
       → IsPlaced f xs ys (gated_words g f xs ys) (λ _. gate_value g)
   -- a choice between two words
-  pub choose : (c : ℤ) (f : Formula) (xs ys : List ℤ) → 0 < f.vars → IsOf f.vars c → All (IsOf f.vars) xs → All (IsOf f.vars) ys
+  pub choose : (c : ℤ) (f : Formula) (xs ys : List ℤ) → IsOf f.vars c → All (IsOf f.vars) xs → All (IsOf f.vars) ys
       → length ys ≡ length xs → IsPlaced f xs ys (chosen_words c f xs ys) (λ w p q. if literal_true w c then p else q)
-  pub add : (f : Formula) (xs ys : List ℤ) (c : ℤ) → 0 < f.vars → All (IsOf f.vars) xs → All (IsOf f.vars) ys → IsOf f.vars c
+  pub add : (f : Formula) (xs ys : List ℤ) (c : ℤ) → All (IsOf f.vars) xs → All (IsOf f.vars) ys → IsOf f.vars c
       → length ys ≡ length xs → IsSum f xs ys (added f xs ys c) c
   -- a word and its complement add up to all ones
   pub invert : (w : Valuation) (n : ℕ) (xs : List ℤ) → All (IsOf n) xs → value w (inverted xs) + value w xs + 1 ≡ 2 ^ length xs
   -- less than; or at most, if `low` is true
-  pub compare : (low : Made) (xs ys : List ℤ) → 0 < low.formula.vars → IsOf low.formula.vars low.literal → All (IsOf low.formula.vars) xs
+  pub compare : (low : Made) (xs ys : List ℤ) → IsOf low.formula.vars low.literal → All (IsOf low.formula.vars) xs
       → All (IsOf low.formula.vars) ys → length ys ≡ length xs
       → IsBit low.formula (compared low xs ys)
       (λ w. if literal_true w low.literal then nat_le (value w xs) (value w ys) else nat_lt (value w xs) (value w ys))
-  pub any : (known : Made) (xs : List ℤ) → 0 < known.formula.vars → IsOf known.formula.vars known.literal → All (IsOf known.formula.vars) xs
+  pub any : (known : Made) (xs : List ℤ) → IsOf known.formula.vars known.literal → All (IsOf known.formula.vars) xs
       → IsBit known.formula (any_of known xs) (λ w. literal_true w known.literal || list_any (literal_true w) xs)

@@ -1,9 +1,10 @@
 //! Levels of events as clauses.
-ghost use Rattle.std.specs.Prelude.{◌≡◌, ℕ, ◌+◌, ◌*◌, ◌<◌, ◌≤◌, ◌++◌, List, length, OnOk};
-ghost use Rattle.std.specs.List.{flat_map, range_with_len};
+ghost use Rattle.std.specs.Prelude.{◌≡◌, ℕ, ◌+◌, ◌*◌, ◌<◌, ◌≤◌, ◌++◌, List, length, OnErr, OnOk};
+ghost use Rattle.std.specs.List.{All, flat_map, range_with_len};
 ghost use Rattle.cnf_core.specs.Clauses.{var_of};
 ghost use Rattle.cnf_core.specs.declared.cnf.TheConstants.{LIMIT};
 ghost use Rattle.bit_gates.specs.Folded.{HasRoom};
+ghost use Rattle.bit_order.specs.Clauses.{with_clause};
 ghost use Rattle.bit_order.specs.Comparators.{ordered};
 ghost use Rattle.order_formula.specs.Orders.{IsOrder};
 ghost use Rattle.switch_order.specs.Levels.{counts_literal, level_literal, levelled, rises_from};
@@ -11,7 +12,7 @@ ghost use Rattle.switch_order.specs.Sizes.{size_of};
 ghost use Rattle.switch_order.specs.helpers.Within.{AreBeforesWithin, rise_of};
 
 use bit_gates::constant;
-use bit_order::{Layout, add_clause};
+use bit_order::{Layout, clause_of};
 use cnf_core::{Cnf, Lit};
 use std::alloc::{AllocError, Global};
 
@@ -133,6 +134,20 @@ fn add_rises(
         )?;
     }
     Ok(())
+}
+
+/// Adds the clause of the literals, unless it is always true.
+fn add_clause(alloc: Global, cnf: &mut Cnf, literals: &[Lit]) -> Result<(), AllocError>
+    requires literals { All (λ l. var_of l ≤ cnf.old.vars) literals.now }
+    requires room { length cnf.old.clauses + 1 < LIMIT }
+    ensures ok { OnOk result (cnf.new ≡ with_clause cnf.old literals.now) }
+    ensures err { OnErr result (cnf.new ≡ cnf.old) }
+    ensures few { length cnf.new.clauses ≤ length cnf.old.clauses + 1 }
+{
+    match clause_of(alloc, literals)? {
+        Some(clause) => cnf.push(clause.literals()),
+        None => Ok(()),
+    }
 }
 
 /// The literal of "this event's level is at least `least`".

@@ -12,6 +12,7 @@ mod orders;
 
 use anyhow::{Result, bail};
 use bit_blast::extend_values;
+use bit_gates::Circuit;
 use bit_ops::{Word, binary, unary};
 use cnf_core::{Assignment, Cnf, Lit, satisfies};
 use int_ops::{BinOp, UnOp, arith};
@@ -52,10 +53,10 @@ enum Op {
     Binary(BinOp),
 }
 
-/// An operator's clauses, and the words of its operands and its result.
+/// An operator's clauses, and the word of its result.
 #[derive(Drop)]
-struct Circuit {
-    cnf: Cnf,
+struct Operation {
+    clauses: Cnf,
     result: Word,
 }
 
@@ -75,14 +76,17 @@ fn fresh(first: u32, vars: u32) -> Word
 
 impl Op {
     /// The circuit over the variables 2 to 33 and 34 to 65. The variable 1 is the one that is true.
-    fn circuit(self, alloc: Global) -> Result<Circuit> {
-        let mut cnf = Cnf::new(alloc, 65);
+    fn circuit(self, alloc: Global) -> Result<Operation> {
+        let mut circuit = Circuit::new(alloc, 65)?;
         let (a, b) = (fresh(2, 65), fresh(34, 65));
         let result = match self {
-            Op::Unary(op) => unary(&mut cnf, op, &a)?,
-            Op::Binary(op) => binary(&mut cnf, op, &a, &b)?,
+            Op::Unary(op) => unary(&mut circuit, op, &a)?,
+            Op::Binary(op) => binary(&mut circuit, op, &a, &b)?,
         };
-        Ok(Circuit { cnf, result })
+        Ok(Operation {
+            clauses: circuit.into_clauses(),
+            result,
+        })
     }
 
     /// What must come.
@@ -126,20 +130,20 @@ fn value_of(values: &[bool], word: &Word) -> i32 {
     i32::from_be_bytes(bits.to_be_bytes())
 }
 
-impl Circuit {
+impl Operation {
     /// The result's value, where the clauses can be satisfied.
     fn come(&self, alloc: Global, a: i32, b: i32) -> Result<Option<i32>> {
         let mut values = Vec::new(alloc);
         values.push(true)?;
         push_bits(&mut values, a)?;
         push_bits(&mut values, b)?;
-        extend_values(&self.cnf, &mut values)?;
+        extend_values(&self.clauses, &mut values)?;
         let value = value_of(&values, &self.result);
         let assignment = Assignment::new(values);
-        if assignment.vars() < self.cnf.vars() as usize {
+        if assignment.vars() < self.clauses.vars() as usize {
             bail!("a variable without a value");
         }
-        Ok(if satisfies(&self.cnf, &assignment) {
+        Ok(if satisfies(&self.clauses, &assignment) {
             Some(value)
         } else {
             None
@@ -166,11 +170,11 @@ fn operands(alloc: Global) -> Result<Vec<(i32, i32)>> {
 
 /// Tries an operator, and prints what doesn't come out as it must, and how much does.
 fn try_op(rt: &(impl Print + AllocGlobal), op: Op, pairs: &[(i32, i32)]) -> Result<()> {
-    let circuit = op.circuit(rt.alloc())?;
+    let operation = op.circuit(rt.alloc())?;
     let name = op.name(rt.alloc())?;
     let mut right = 0u32;
     for (a, b) in pairs {
-        let (came, want) = (circuit.come(rt.alloc(), *a, *b)?, op.value(*a, *b));
+        let (came, want) = (operation.come(rt.alloc(), *a, *b)?, op.value(*a, *b));
         if came == Some(want) {
             right = right.saturating_add(1);
         } else {

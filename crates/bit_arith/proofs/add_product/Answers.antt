@@ -20,14 +20,14 @@ loop-place-preserved g c =
     let short : length (take (length ws - i) (drop i ws)) ≤ g.row.W =
     omega (arith, ap length mid, length-drop i ws, c.loop-place.invariant.length, c.requires.short) in
     record {
-      made = multiplied_more _ i c.loop-place.cnf c.add_row.new.cnf ws _ c.args.a.now c.args.b.now c.index-b-place.result c.loop-place.invariant.made
+      made = multiplied_more _ i c.loop-place.circuit c.add_row.new.circuit ws _ c.args.a.now c.args.b.now c.index-b-place.result c.loop-place.invariant.made
           (omega (arith, c.loop-place.invariant.length, c.requires.lengths, c.loop-place-test.true)) c.loop-place-test.true c.index-b-place.is
-          (c.in_ok-add_row.ensures.formula ∙ ap (λ k. (with_row c.loop-place.cnf k c.args.a.now c.index-b-place.result).state) mid)
+          (c.in_ok-add_row.ensures.formula ∙ ap (λ k. (with_row c.loop-place.circuit k c.args.a.now c.index-b-place.result).state) mid)
           (written ∙ ap (λ k. take i ws ++ k)
-          (c.in_ok-add_row.ensures.word ∙ ap (λ k. (with_row c.loop-place.cnf k c.args.a.now c.index-b-place.result).word) mid));
-      within = subst (AreWithin c.add_row.new.cnf.vars) (sym written) (All-append (λ l. var_of l ≤ c.add_row.new.cnf.vars) (take i ws) next
-          (within_more c.loop-place.cnf.vars c.add_row.new.cnf.vars (take i ws) c.in_ok-add_row.ensures.larger.0
-          (All-take (λ l. var_of l ≤ c.loop-place.cnf.vars) i ws c.loop-place.invariant.within)) c.in_ok-add_row.ensures.within);
+          (c.in_ok-add_row.ensures.word ∙ ap (λ k. (with_row c.loop-place.circuit k c.args.a.now c.index-b-place.result).word) mid));
+      within = subst (AreWithin c.add_row.new.circuit.vars) (sym written) (All-append (λ l. var_of l ≤ c.add_row.new.circuit.vars) (take i ws) next
+          (within_more c.loop-place.circuit.vars c.add_row.new.circuit.vars (take i ws) c.in_ok-add_row.ensures.larger.0
+          (All-take (λ l. var_of l ≤ c.loop-place.circuit.vars) i ws c.loop-place.invariant.within)) c.in_ok-add_row.ensures.within);
       length = ap length written ∙ omega (arith, length-append (take i ws) next, length-take i ws, long, le, c.loop-place.invariant.length);
-      larger = larger_row g.row.W i _ c.args.cnf.now c.loop-place.cnf c.add_row.new.cnf c.loop-place.invariant.larger c.in_ok-add_row.ensures.larger short;
+      larger = larger_row g.row.W i _ c.args.circuit.now c.loop-place.circuit c.add_row.new.circuit c.loop-place.invariant.larger c.in_ok-add_row.ensures.larger short;
     }

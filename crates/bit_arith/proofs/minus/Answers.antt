@@ -5,4 +5,4 @@ use Rattle.bit_arith.proofs.minus.Goals as goal
 
 pub add_words-requires-clause-second : goal.add_words-requires-clause-second
 add_words-requires-clause-second g c =
-    subst (AreWithin c.args.cnf.now.vars) (sym c.invert.ensures) (within_inverted c.args.cnf.now.vars c.args.b.now c.requires.second)
+    subst (AreWithin c.args.circuit.now.vars) (sym c.invert.ensures) (within_inverted c.args.circuit.now.vars c.args.b.now c.requires.second)

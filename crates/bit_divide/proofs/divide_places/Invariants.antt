@@ -6,12 +6,12 @@ use Rattle.bit_divide.proofs.divide_places.Given as goal
 
 abbrev pub invariant-loop-place : goal.invariant-loop-place
 invariant-loop-place g l = record {
-  formula : l.cnf ≡ (divided l.initial.cnf l.initial.remainder l.opposite (drop l.place l.initial.word)).formula;
-  remainder : l.remainder ≡ (divided l.initial.cnf l.initial.remainder l.opposite (drop l.place l.initial.word)).remainder;
-  quotient : drop l.place l.word ≡ (divided l.initial.cnf l.initial.remainder l.opposite (drop l.place l.initial.word)).quotient;
+  formula : l.circuit ≡ (divided l.initial.circuit l.initial.remainder l.opposite (drop l.place l.initial.word)).formula;
+  remainder : l.remainder ≡ (divided l.initial.circuit l.initial.remainder l.opposite (drop l.place l.initial.word)).remainder;
+  quotient : drop l.place l.word ≡ (divided l.initial.circuit l.initial.remainder l.opposite (drop l.place l.initial.word)).quotient;
   rest : take l.place l.word ≡ take l.place l.initial.word;
-  word_within : AreWithin l.cnf.vars l.word;
-  remainder_within : AreWithin l.cnf.vars l.remainder;
+  word_within : AreWithin l.circuit.vars l.word;
+  remainder_within : AreWithin l.circuit.vars l.remainder;
   long : length l.word ≡ length l.initial.word;
-  larger : IsLarger (26 * (g.row.W * (length l.initial.word - l.place))) l.initial.cnf l.cnf;
+  larger : IsLarger (26 * (g.row.W * (length l.initial.word - l.place))) l.initial.circuit l.circuit;
 }

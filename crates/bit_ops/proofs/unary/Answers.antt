@@ -5,4 +5,4 @@ use Rattle.bit_ops.proofs.unary.Goals as goal
 
 pub returns-in-Inv-clause-within : goal.returns-in-Inv-clause-within
 returns-in-Inv-clause-within c =
-    subst (AreWithin c.args.cnf.now.vars) (sym c.invert.ensures) (within_inverted c.args.cnf.now.vars c.args.a.now c.requires.operand)
+    subst (AreWithin c.args.circuit.now.vars) (sym c.invert.ensures) (within_inverted c.args.circuit.now.vars c.args.a.now c.requires.operand)

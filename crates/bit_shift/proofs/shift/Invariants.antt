@@ -6,8 +6,8 @@ use Rattle.bit_shift.proofs.shift.Given as goal
 
 abbrev pub invariant-loop-place : goal.invariant-loop-place
 invariant-loop-place g l = record {
-  all : shifted l.to l.bit 1 l.initial.cnf l.a l.distance ≡ shifted l.to l.bit l.by l.cnf l.word (drop l.place l.distance);
+  all : shifted l.to l.bit 1 l.initial.circuit l.a l.distance ≡ shifted l.to l.bit l.by l.circuit l.word (drop l.place l.distance);
   by : l.by ≡ 2 ^ l.place;
-  within : AreWithin l.cnf.vars l.word;
-  larger : IsLarger (9 * (g.row.W * l.place)) l.initial.cnf l.cnf;
+  within : AreWithin l.circuit.vars l.word;
+  larger : IsLarger (9 * (g.row.W * l.place)) l.initial.circuit l.circuit;
 }

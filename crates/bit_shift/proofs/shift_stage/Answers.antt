@@ -6,5 +6,5 @@ use Rattle.bit_shift.proofs.shift_stage.Goals as goal
 
 pub choose_words-requires-clause-first : goal.choose_words-requires-clause-first
 choose_words-requires-clause-first g c =
-    subst (AreWithin c.args.cnf.now.vars) (sym c.move_places.ensures)
-    (far_are (λ l. var_of l ≤ c.args.cnf.now.vars) c.args.to c.args.bit c.args.by c.args.word.now c.requires.bit c.requires.word)
+    subst (AreWithin c.args.circuit.now.vars) (sym c.move_places.ensures)
+    (far_are (λ l. var_of l ≤ c.args.circuit.now.vars) c.args.to c.args.bit c.args.by c.args.word.now c.requires.bit c.requires.word)

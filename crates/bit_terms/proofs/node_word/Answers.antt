@@ -1,4 +1,4 @@
-use Rattle.std.proofs.Common.{ap, sym, ◌∙◌, subst, rules, FitsSigned, w32}
+use Rattle.std.proofs.Common.{arith, ap, sym, ◌∙◌, subst, rules, FitsSigned, w32}
 use Rattle.std.proofs.lemmas.Int.{to_z-of_z}
 use Rattle.bit_words.specs.Words.{AreWithin}
 use Rattle.bit_terms.specs.Terms.{constant_word, node_word}
@@ -9,13 +9,13 @@ pub returns-in-Constant-clause-word : goal.returns-in-Constant-clause-word
 returns-in-Constant-clause-word c =
     let fits : FitsSigned w32 c.in-Constant.value = search rules in
     c.constant_word.ensures ∙ ap constant_word (to_z-of_z w32 c.in-Constant.value fits)
-    ∙ ap (λ node. (node_word c.args.symbols.now c.args.known.now c.args.cnf.now node).word) (sym c.in-Constant.is)
+    ∙ ap (λ node. (node_word c.args.symbols.now c.args.known.now c.args.circuit.now node).word) (sym c.in-Constant.is)
 
 pub returns-in-Constant-clause-within : goal.returns-in-Constant-clause-within
 returns-in-Constant-clause-within c =
-    subst (AreWithin c.args.cnf.now.vars) (sym c.constant_word.ensures) (constant_within c.args.cnf.now _ c.requires.one)
+    subst (AreWithin c.args.circuit.now.vars) (sym c.constant_word.ensures) (constant_within c.args.circuit.now _ (omega (arith, c.vars-one.ensures.one, c.vars-one.ensures.vars)))
 
 pub returns-in-Symbol-clause-within : goal.returns-in-Symbol-clause-within
 returns-in-Symbol-clause-within c =
-    subst (AreWithin c.args.cnf.now.vars) (sym c.word_at.ensures)
-    (at_within c.args.cnf.now.vars c.args.symbols.now c.in-Symbol.load c.requires.one c.requires.symbols)
+    subst (AreWithin c.args.circuit.now.vars) (sym c.word_at.ensures)
+    (at_within c.args.circuit.now.vars c.args.symbols.now c.in-Symbol.load (omega (arith, c.vars-one.ensures.one, c.vars-one.ensures.vars)) c.requires.symbols)

@@ -8,9 +8,9 @@ use Rattle.bit_terms.proofs.term_words.Given as goal
 
 abbrev pub invariant-loop-node : goal.invariant-loop-node
 invariant-loop-node l = record {
-  formula : l.cnf ≡ (term_words (take l.node-index l.node-items) l.symbols l.initial.cnf).formula;
-  words : l.words.items ≡ (term_words (take l.node-index l.node-items) l.symbols l.initial.cnf).words;
+  formula : l.circuit ≡ (term_words (take l.node-index l.node-items) l.symbols l.initial.circuit).formula;
+  words : l.words.items ≡ (term_words (take l.node-index l.node-items) l.symbols l.initial.circuit).words;
   count : length l.words.items ≡ l.node-index;
-  within : All (AreWithin l.cnf.vars) l.words.items;
-  larger : IsLarger (terms_size (take l.node-index l.node-items)) l.initial.cnf l.cnf;
+  within : All (AreWithin l.circuit.vars) l.words.items;
+  larger : IsLarger (terms_size (take l.node-index l.node-items)) l.initial.circuit l.circuit;
 }

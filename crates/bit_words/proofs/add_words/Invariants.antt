@@ -7,9 +7,9 @@ use Rattle.bit_words.proofs.add_words.Given as goal
 
 abbrev pub invariant-loop-place : goal.invariant-loop-place
 invariant-loop-place l = record {
-  reached : IsReached added_place (added l.initial.cnf l.initial.word l.other l.initial.carry) l.place (kept l.cnf l.carry) l.word l.other;
-  within : AreWithin l.cnf.vars l.word;
-  carry : var_of l.carry ≤ l.cnf.vars;
+  reached : IsReached added_place (added l.initial.circuit l.initial.word l.other l.initial.carry) l.place (kept l.circuit l.carry) l.word l.other;
+  within : AreWithin l.circuit.vars l.word;
+  carry : var_of l.carry ≤ l.circuit.vars;
   length : length l.word ≡ length l.initial.word;
-  larger : IsLarger (17 * l.place) l.initial.cnf l.cnf;
+  larger : IsLarger (17 * l.place) l.initial.circuit l.circuit;
 }

@@ -8,12 +8,12 @@ use Rattle.bit_words.proofs.choose_words.Goals as goal
 pub loop-place-preserved : goal.loop-place-preserved
 loop-place-preserved c =
     record {
-      reached = reached_more (λ h a b. made_place (chosen h c.args.condition a b)) _ c.loop-place.place c.loop-place.cnf c.choose.new.cnf c.loop-place.word
+      reached = reached_more (λ h a b. made_place (chosen h c.args.condition a b)) _ c.loop-place.place c.loop-place.circuit c.choose.new.self c.loop-place.word
           c.args.other.now c.index-word-place.result c.index-other-place.result c.in_ok-word.field-0 c.loop-place.invariant.reached (omega arith)
           (omega arith) c.index-word-place.is c.index-other-place.is c.in_ok-word.ensures.formula c.in_ok-word.ensures.literal;
-      within = within_set c.loop-place.cnf.vars c.choose.new.cnf.vars c.loop-place.word c.loop-place.place c.in_ok-word.field-0
+      within = within_set c.loop-place.circuit.vars c.choose.new.self.vars c.loop-place.word c.loop-place.place c.in_ok-word.field-0
           c.in_ok-word.ensures.larger.0 c.loop-place.invariant.within c.in_ok-word.ensures.within;
       length = grind (arith, common_steps);
-      larger = larger_more (9 * c.loop-place.place) 9 (9 * (c.loop-place.place + 1)) c.args.cnf.now c.loop-place.cnf c.choose.new.cnf
+      larger = larger_more (9 * c.loop-place.place) 9 (9 * (c.loop-place.place + 1)) c.args.circuit.now c.loop-place.circuit c.choose.new.self
           c.loop-place.invariant.larger c.in_ok-word.ensures.larger (omega arith);
     }

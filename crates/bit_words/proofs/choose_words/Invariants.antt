@@ -6,9 +6,9 @@ use Rattle.bit_words.proofs.choose_words.Given as goal
 
 abbrev pub invariant-loop-place : goal.invariant-loop-place
 invariant-loop-place l = record {
-  reached : IsReached (λ h a b. made_place (chosen h l.condition a b)) (chosen_words l.condition l.initial.cnf l.initial.word l.other) l.place l.cnf l.word
+  reached : IsReached (λ h a b. made_place (chosen h l.condition a b)) (chosen_words l.condition l.initial.circuit l.initial.word l.other) l.place l.circuit l.word
       l.other;
-  within : AreWithin l.cnf.vars l.word;
+  within : AreWithin l.circuit.vars l.word;
   length : length l.word ≡ length l.initial.word;
-  larger : IsLarger (9 * l.place) l.initial.cnf l.cnf;
+  larger : IsLarger (9 * l.place) l.initial.circuit l.circuit;
 }

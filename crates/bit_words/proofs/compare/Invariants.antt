@@ -6,7 +6,7 @@ use Rattle.bit_words.proofs.compare.Given as goal
 
 abbrev pub invariant-loop-place : goal.invariant-loop-place
 invariant-loop-place l = record {
-  all : compared (kept l.initial.cnf l.initial.low) l.a l.b ≡ compared (kept l.cnf l.low) (drop l.place l.a) (drop l.place l.b);
-  low : var_of l.low ≤ l.cnf.vars;
-  larger : IsLarger (12 * l.place) l.initial.cnf l.cnf;
+  all : compared (kept l.initial.circuit l.initial.low) l.a l.b ≡ compared (kept l.circuit l.low) (drop l.place l.a) (drop l.place l.b);
+  low : var_of l.low ≤ l.circuit.vars;
+  larger : IsLarger (12 * l.place) l.initial.circuit l.circuit;
 }

@@ -10,13 +10,13 @@ pub loop-place-preserved : goal.loop-place-preserved
 loop-place-preserved c =
     let long : length (replicate (length c.args.word.now) c.args.by) ≡ length c.args.word.now = length-replicate (length c.args.word.now) c.args.by in
     record {
-      reached = reached_more (λ h a b. made_place (folded c.args.gate_of h a b)) _ c.loop-place.place c.loop-place.cnf c.gate.new.cnf c.loop-place.word
+      reached = reached_more (λ h a b. made_place (folded c.args.gate_of h a b)) _ c.loop-place.place c.loop-place.circuit c.gate.new.self c.loop-place.word
           (replicate (length c.args.word.now) c.args.by) c.index-word-place.result c.args.by c.in_ok-word.field-0 c.loop-place.invariant.reached
           (omega arith) (omega (arith, long)) c.index-word-place.is (replicate_at (length c.args.word.now) c.loop-place.place c.args.by (omega arith))
           c.in_ok-word.ensures.formula c.in_ok-word.ensures.literal;
-      within = within_set c.loop-place.cnf.vars c.gate.new.cnf.vars c.loop-place.word c.loop-place.place c.in_ok-word.field-0
+      within = within_set c.loop-place.circuit.vars c.gate.new.self.vars c.loop-place.word c.loop-place.place c.in_ok-word.field-0
           c.in_ok-word.ensures.larger.0 c.loop-place.invariant.within c.in_ok-word.ensures.within;
       length = grind (arith, common_steps);
-      larger = larger_more (4 * c.loop-place.place) 4 (4 * (c.loop-place.place + 1)) c.args.cnf.now c.loop-place.cnf c.gate.new.cnf
+      larger = larger_more (4 * c.loop-place.place) 4 (4 * (c.loop-place.place + 1)) c.args.circuit.now c.loop-place.circuit c.gate.new.self
           c.loop-place.invariant.larger c.in_ok-word.ensures.larger (omega arith);
     }

@@ -6,8 +6,8 @@ use Rattle.bit_words.proofs.gate_words.Given as goal
 
 abbrev pub invariant-loop-place : goal.invariant-loop-place
 invariant-loop-place l = record {
-  reached : IsReached (λ h a b. made_place (folded l.gate_of h a b)) (gated_words l.gate_of l.initial.cnf l.initial.word l.other) l.place l.cnf l.word l.other;
-  within : AreWithin l.cnf.vars l.word;
+  reached : IsReached (λ h a b. made_place (folded l.gate_of h a b)) (gated_words l.gate_of l.initial.circuit l.initial.word l.other) l.place l.circuit l.word l.other;
+  within : AreWithin l.circuit.vars l.word;
   length : length l.word ≡ length l.initial.word;
-  larger : IsLarger (4 * l.place) l.initial.cnf l.cnf;
+  larger : IsLarger (4 * l.place) l.initial.circuit l.circuit;
 }

@@ -8,8 +8,8 @@ use Rattle.bit_blast.proofs.cases.some_case.Given as goal
 
 abbrev pub invariant-loop-case : goal.invariant-loop-case
 invariant-loop-case l = record {
-  formula : l.cnf ≡ (cases_made (parts_of l.layout l.words) l.initial.cnf (take l.case-index l.cases)).formula;
-  literal : l.some ≡ (cases_made (parts_of l.layout l.words) l.initial.cnf (take l.case-index l.cases)).literal;
-  within : var_of l.some ≤ l.cnf.vars;
-  larger : IsLarger (sum_by case_size (take l.case-index l.cases)) l.initial.cnf l.cnf;
+  formula : l.circuit ≡ (cases_made (parts_of l.layout l.words) l.initial.circuit (take l.case-index l.cases)).formula;
+  literal : l.some ≡ (cases_made (parts_of l.layout l.words) l.initial.circuit (take l.case-index l.cases)).literal;
+  within : var_of l.some ≤ l.circuit.vars;
+  larger : IsLarger (sum_by case_size (take l.case-index l.cases)) l.initial.circuit l.circuit;
 }

@@ -8,8 +8,8 @@ use Rattle.bit_blast.proofs.cases.whole_case.Given as goal
 
 abbrev pub invariant-loop-literal : goal.invariant-loop-literal
 invariant-loop-literal l = record {
-  formula : l.cnf ≡ (case_made (parts_of l.layout l.words) l.initial.cnf (take l.literal-index l.literals)).formula;
-  literal : l.all ≡ (case_made (parts_of l.layout l.words) l.initial.cnf (take l.literal-index l.literals)).literal;
-  within : var_of l.all ≤ l.cnf.vars;
-  larger : IsLarger (sum_by literal_size (take l.literal-index l.literals)) l.initial.cnf l.cnf;
+  formula : l.circuit ≡ (case_made (parts_of l.layout l.words) l.initial.circuit (take l.literal-index l.literals)).formula;
+  literal : l.all ≡ (case_made (parts_of l.layout l.words) l.initial.circuit (take l.literal-index l.literals)).literal;
+  within : var_of l.all ≤ l.circuit.vars;
+  larger : IsLarger (sum_by literal_size (take l.literal-index l.literals)) l.initial.circuit l.circuit;
 }

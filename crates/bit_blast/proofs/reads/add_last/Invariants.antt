@@ -5,7 +5,7 @@ use Rattle.bit_blast.proofs.reads.add_last.Given as goal
 
 abbrev pub invariant-loop-other : goal.invariant-loop-other
 invariant-loop-other l = record {
-  formula : l.cnf ≡ with_clauses l.fn.cnf (last_clauses (before_literal l.layout) (take l.other-index l.sources) l.source);
-  vars : l.cnf.vars ≡ l.fn.cnf.vars;
-  count : length l.cnf.clauses ≤ length l.fn.cnf.clauses + l.other-index + 1;
+  formula : l.circuit ≡ with_clauses l.fn.circuit (last_clauses (before_literal l.layout) (take l.other-index l.sources) l.source);
+  vars : l.circuit.vars ≡ l.fn.circuit.vars;
+  count : length l.circuit.clauses ≤ length l.fn.circuit.clauses + l.other-index + 1;
 }

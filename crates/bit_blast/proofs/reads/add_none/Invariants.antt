@@ -4,7 +4,7 @@ use Rattle.bit_blast.proofs.reads.add_none.Given as goal
 
 abbrev pub invariant-loop-source : goal.invariant-loop-source
 invariant-loop-source l = record {
-  formula : l.cnf ≡ with_clauses l.initial.cnf (none_clauses l.start (take l.source-index l.sources));
-  vars : l.cnf.vars ≡ l.initial.cnf.vars;
-  count : length l.cnf.clauses ≤ length l.initial.cnf.clauses + l.source-index;
+  formula : l.circuit ≡ with_clauses l.initial.circuit (none_clauses l.start (take l.source-index l.sources));
+  vars : l.circuit.vars ≡ l.initial.circuit.vars;
+  count : length l.circuit.clauses ≤ length l.initial.circuit.clauses + l.source-index;
 }

@@ -6,8 +6,8 @@ use Rattle.bit_blast.proofs.reads.add_sources.Given as goal
 
 abbrev pub invariant-loop-source : goal.invariant-loop-source
 invariant-loop-source l = record {
-  formula : l.cnf ≡ with_clauses l.initial.cnf (flat_map
+  formula : l.circuit ≡ with_clauses l.initial.circuit (flat_map
       (λ s. last_clauses (before_literal l.layout) l.sources s ++ value_clauses l.holds s.taken l.takes s.value) (take l.source-index l.sources));
-  vars : l.cnf.vars ≡ l.initial.cnf.vars;
-  count : length l.cnf.clauses ≤ length l.initial.cnf.clauses + l.source-index * (length l.sources + 65);
+  vars : l.circuit.vars ≡ l.initial.circuit.vars;
+  count : length l.circuit.clauses ≤ length l.initial.circuit.clauses + l.source-index * (length l.sources + 65);
 }

@@ -4,7 +4,7 @@ use Rattle.bit_blast.proofs.reads.add_value.Given as goal
 
 abbrev pub invariant-loop-place : goal.invariant-loop-place
 invariant-loop-place l = record {
-  formula : l.cnf ≡ with_clauses l.initial.cnf (value_clauses l.fn.holds l.fn.taken (take l.place l.takes) (take l.place l.value));
-  vars : l.cnf.vars ≡ l.initial.cnf.vars;
-  count : length l.cnf.clauses ≤ length l.initial.cnf.clauses + 2 * l.place;
+  formula : l.circuit ≡ with_clauses l.initial.circuit (value_clauses l.fn.holds l.fn.taken (take l.place l.takes) (take l.place l.value));
+  vars : l.circuit.vars ≡ l.initial.circuit.vars;
+  count : length l.circuit.clauses ≤ length l.initial.circuit.clauses + 2 * l.place;
 }

@@ -13,15 +13,15 @@ pub returns-clause-formula : goal.returns-clause-formula
 returns-clause-formula c =
     let words : List (List ℤ) = c.args.words.now in
     let r : Read = c.args.read.now in
-    let seen : Walked Formula = all_seen (parts_of c.args.layout.now words) r c.args.cnf.now r.candidates in
+    let seen : Walked Formula = all_seen (parts_of c.args.layout.now words) r c.args.circuit.now r.candidates in
     let n : ℕ = seen.state.vars in
     let sources : List Source = sources_of words (n + 2) r.candidates seen.word in
     let wide : Formula = record { vars = n + 2 + length sources; clauses = seen.state.clauses } in
-    let base : Formula = c.sources_of.new.cnf in
+    let base : Formula = c.sources_of.new.circuit in
     let xs : List Source = c.as_slice-sources.result.now in
     let holds : ℤ = c.add_variable-holds.result in
     let start : ℤ = c.add_variable-start.result in
-    let first_vars : c.all_seen.new.cnf.vars ≡ n = ap (λ (k : Formula). k.vars) c.in_ok-seen.ensures.formula in
+    let first_vars : c.all_seen.new.circuit.vars ≡ n = ap (λ (k : Formula). k.vars) c.in_ok-seen.ensures.formula in
     let next : c.add_variable-holds.new.self.vars ≡ n + 1 = c.add_variable-holds.ensures.vars ∙ ap (λ k. k + 1) first_vars in
     let second : c.add_variable-start.new.self.vars ≡ n + 2 = c.add_variable-start.ensures.vars ∙ ap (λ k. k + 1) next ∙ omega arith in
     let is : xs ≡ sources =
@@ -40,7 +40,7 @@ returns-clause-formula c =
     c.add_variable-start.ensures.literal ∙ ap (λ k. pos (k + 1)) next ∙ ap pos (let e : (n + 1) + 1 ≡ n + 2 = omega arith in e) in
     let takes : c.index-words-place.result ≡ word_at words r.takes = word_is words r.takes c.index-words-place.result (search rules) (search rules) in
     let first : c.index-words-place-2.result ≡ word_at words r.start = word_is words r.start c.index-words-place-2.result (search rules) (search rules) in
-    whole_read wide base c.add_some.new.cnf c.add_none.new.cnf c.add_value.new.cnf c.add_sources.new.cnf (before_literal c.args.layout.now) holds start
+    whole_read wide base c.add_some.new.circuit c.add_none.new.circuit c.add_value.new.circuit c.add_sources.new.circuit (before_literal c.args.layout.now) holds start
     c.index-words-place.result c.index-words-place-2.result xs at c.in_ok-add_some.ensures.formula c.in_ok-add_none.ensures.formula
     c.in_ok-add_value.ensures.formula c.in_ok-add_sources.ensures.formula
     ∙ same_read wide (before_literal c.args.layout.now) holds start c.index-words-place.result c.index-words-place-2.result xs (pos (n + 1)) (pos (n + 2))

@@ -12,7 +12,7 @@ loop-place-preserved c =
     let words : List (List ℤ) = c.args.words.now in
     let cs : List Candidate = c.args.candidates.now in
     let ls : List ℤ = c.args.seen.now in
-    let n : ℕ = c.args.cnf.now.vars in
+    let n : ℕ = c.args.circuit.now.vars in
     let i : ℕ = c.loop-place.place in
     let d = c.index-candidates-place.result in
     let l : ℤ = c.index-seen-place.result in
@@ -21,7 +21,7 @@ loop-place-preserved c =
     let made : Source = record { event = d.event; seen = l; taken = taken; value = value } in
     let was = c.loop-place.invariant in
     let high : ℕ = c.add_variable.new.self.vars in
-    let next : high ≡ c.loop-place.cnf.vars + 1 = c.add_variable.ensures.vars in
+    let next : high ≡ c.loop-place.circuit.vars + 1 = c.add_variable.ensures.vars in
     let fresh : taken ≡ pos (n + i + 1) = c.add_variable.ensures.literal ∙ ap (λ k. pos (k + 1)) was.vars in
     let is : made ≡ source_of words (n + i) d l =
     ap (λ k. let s : Source = record { event = d.event; seen = l; taken = k; value = value } in s) fresh
@@ -36,6 +36,6 @@ loop-place-preserved c =
       clauses = c.add_variable.ensures.clauses ∙ was.clauses;
       within = subst (AreSourcesWithin high) (sym c.in_ok-push.ensures.items)
           (All-push (IsSourceWithin high) c.loop-place.sources.items made
-          (sources_more c.loop-place.cnf.vars high c.loop-place.sources.items (omega (arith, next)) was.within)
+          (sources_more c.loop-place.circuit.vars high c.loop-place.sources.items (omega (arith, next)) was.within)
           (record { seen = search rules; taken = search rules; value = search rules }));
     }

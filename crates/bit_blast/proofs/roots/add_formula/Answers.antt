@@ -21,9 +21,9 @@ returns-clause-larger c =
     let size = sum_with_one (λ (k : Conjunct). body_size k.body) c.args.formula.now in
     let literals = c.as_slice.result.now in
     let many : length literals ≡ length c.args.formula.now = ap length c.as_slice.ensures.value ∙ c.in_ok-roots.ensures.count in
-    let long : length c.add_units.new.cnf.clauses ≡ length c.roots.new.cnf.clauses + length literals =
-    ap length c.in_ok-add_units.ensures.clauses ∙ length-append c.roots.new.cnf.clauses (map (λ l. l ∷ []) literals)
-    ∙ ap (λ n. length c.roots.new.cnf.clauses + n) (length-map literals (λ l. l ∷ [])) in
+    let long : length c.add_units.new.circuit.clauses ≡ length c.roots.new.circuit.clauses + length literals =
+    ap length c.in_ok-add_units.ensures.clauses ∙ length-append c.roots.new.circuit.clauses (map (λ l. l ∷ []) literals)
+    ∙ ap (λ n. length c.roots.new.circuit.clauses + n) (length-map literals (λ l. l ∷ [])) in
     let larger = c.in_ok-roots.ensures.larger in
     let vars = c.in_ok-add_units.ensures.vars in
     (omega (arith, vars, larger.0), omega (arith, vars, larger.1, size), omega (arith, long, many, larger.2, size))

@@ -8,9 +8,9 @@ use Rattle.bit_blast.proofs.roots.roots.Given as goal
 
 abbrev pub invariant-loop-conjunct : goal.invariant-loop-conjunct
 invariant-loop-conjunct l = record {
-  formula : l.cnf ≡ (roots (parts_of l.layout l.words) l.initial.cnf (take l.conjunct-index l.conjunct-items)).state;
-  literals : l.roots.items ≡ (roots (parts_of l.layout l.words) l.initial.cnf (take l.conjunct-index l.conjunct-items)).word;
+  formula : l.circuit ≡ (roots (parts_of l.layout l.words) l.initial.circuit (take l.conjunct-index l.conjunct-items)).state;
+  literals : l.roots.items ≡ (roots (parts_of l.layout l.words) l.initial.circuit (take l.conjunct-index l.conjunct-items)).word;
   count : length l.roots.items ≡ l.conjunct-index;
-  within : AreWithin l.cnf.vars l.roots.items;
-  larger : IsLarger (bodies_size (take l.conjunct-index l.conjunct-items)) l.initial.cnf l.cnf;
+  within : AreWithin l.circuit.vars l.roots.items;
+  larger : IsLarger (bodies_size (take l.conjunct-index l.conjunct-items)) l.initial.circuit l.circuit;
 }

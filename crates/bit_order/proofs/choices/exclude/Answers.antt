@@ -32,13 +32,13 @@ loop-later-preserved c =
     let choices : List Choice = c.choices-choices.result.now in
     let f : ℕ → List (List ℤ) = λ later. flat_map (λ earlier. exclusion c.args.start choices earlier later) (range_with_len 0 later) in
     let later = c.loop-later.later in
-    let now = c.loop-later.cnf.clauses in
-    let next = c.exclude_earlier.new.cnf.clauses in
+    let now = c.loop-later.circuit.clauses in
+    let next = c.exclude_earlier.new.circuit.clauses in
     let few = added_few c.args.start choices c.args.order.now later c.choices-choices.ensures c.requires.lawful c.loop-later-test.true in
     let more : length next ≡ length now + length (f later) = ap length c.in_ok-exclude_earlier.ensures.clauses ∙ length-append now (f later) in
     record {
       vars = c.in_ok-exclude_earlier.ensures.vars ∙ c.loop-later.invariant.vars;
-      clauses = pieces_step f 0 later later c.args.cnf.now.clauses now next (f later)
+      clauses = pieces_step f 0 later later c.args.circuit.now.clauses now next (f later)
           c.loop-later.invariant.clauses c.in_ok-exclude_earlier.ensures.clauses refl (omega arith);
       few = omega (arith, more, few, c.loop-later.invariant.few);
     }

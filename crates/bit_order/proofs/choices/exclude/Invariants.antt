@@ -5,8 +5,8 @@ use Rattle.bit_order.proofs.choices.exclude.Given as goal
 
 abbrev pub invariant-loop-later : goal.invariant-loop-later
 invariant-loop-later l = record {
-  vars : l.cnf.vars ≡ l.initial.cnf.vars;
-  clauses : l.cnf.clauses ≡ l.initial.cnf.clauses
+  vars : l.circuit.vars ≡ l.initial.circuit.vars;
+  clauses : l.circuit.clauses ≡ l.initial.circuit.clauses
       ++ flat_map (λ later. flat_map (λ earlier. exclusion l.start l.choices earlier later) (range_with_len 0 later)) (range_with_len 0 l.later);
-  few : length l.cnf.clauses ≤ length l.initial.cnf.clauses + l.later * l.order.events;
+  few : length l.circuit.clauses ≤ length l.initial.circuit.clauses + l.later * l.order.events;
 }

@@ -15,7 +15,7 @@ push-requires-clause-room c =
     let later = c.args.later in
     let earlier = c.loop-earlier.earlier in
     let f : ℕ → List (List ℤ) = λ k. exclusion start choices k later in
-    let old = c.args.cnf.now.clauses in
+    let old = c.args.circuit.now.clauses in
     let first = c.new-first.result in
     let second = c.new-second.result in
     let piece : List (List ℤ) = (first ∷ second ∷ []) ∷ [] in
@@ -37,8 +37,8 @@ loop-earlier-preserved c =
     let later = c.args.later in
     let earlier = c.loop-earlier.earlier in
     let f : ℕ → List (List ℤ) = λ k. exclusion start choices k later in
-    let now = c.loop-earlier.cnf.clauses in
-    let next = c.if-choices-earlier.cnf.clauses in
+    let now = c.loop-earlier.circuit.clauses in
+    let next = c.if-choices-earlier.circuit.clauses in
     elim c.if-choices-earlier.branch [
       | then-choices-earlier+in_ok-push w ↦
           let first = w.new-first.result in
@@ -46,16 +46,16 @@ loop-earlier-preserved c =
           let piece : List (List ℤ) = (first ∷ second ∷ []) ∷ [] in
           let is : piece ≡ f earlier = exclusion_made start choices earlier later first second w.if-choices-earlier.true w.new-first.ensures.var
           (w.new-first.ensures.negative.0 refl) w.new-second.ensures.var (w.new-second.ensures.negative.0 refl) in
-          let added : next ≡ now ++ piece = ap (λ (k : Formula). k.clauses) w.cnf-is ∙ w.in_ok-push.ensures.ok in
+          let added : next ≡ now ++ piece = ap (λ (k : Formula). k.clauses) w.circuit-is ∙ w.in_ok-push.ensures.ok in
           record {
-            vars = ap (λ (k : Formula). k.vars) w.cnf-is ∙ w.in_ok-push.ensures.vars ∙ c.loop-earlier.invariant.vars;
-            clauses = pieces_step f 0 earlier earlier c.args.cnf.now.clauses now next piece c.loop-earlier.invariant.clauses added is (omega arith);
+            vars = ap (λ (k : Formula). k.vars) w.circuit-is ∙ w.in_ok-push.ensures.vars ∙ c.loop-earlier.invariant.vars;
+            clauses = pieces_step f 0 earlier earlier c.args.circuit.now.clauses now next piece c.loop-earlier.invariant.clauses added is (omega arith);
           }
       | else-choices-earlier w ↦
-          let same : next ≡ now = ap (λ (k : Formula). k.clauses) w.cnf-is in
+          let same : next ≡ now = ap (λ (k : Formula). k.clauses) w.circuit-is in
           record {
-            vars = ap (λ (k : Formula). k.vars) w.cnf-is ∙ c.loop-earlier.invariant.vars;
-            clauses = pieces_step f 0 earlier earlier c.args.cnf.now.clauses now next [] c.loop-earlier.invariant.clauses (same ∙ sym (append-nil now))
+            vars = ap (λ (k : Formula). k.vars) w.circuit-is ∙ c.loop-earlier.invariant.vars;
+            clauses = pieces_step f 0 earlier earlier c.args.circuit.now.clauses now next [] c.loop-earlier.invariant.clauses (same ∙ sym (append-nil now))
                 (exclusion_none start choices earlier later w.if-choices-earlier.false) (omega arith);
           }
     ]

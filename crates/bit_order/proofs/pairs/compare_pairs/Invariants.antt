@@ -7,8 +7,8 @@ use Rattle.bit_order.proofs.pairs.compare_pairs.Given as goal
 
 abbrev pub invariant-loop-pair : goal.invariant-loop-pair
 invariant-loop-pair l = record {
-  literals : l.literals.items ≡ (fold with_comparator (record { state = l.initial.cnf; word = [] }) (take l.pair-index l.pairs)).word;
-  formula : l.cnf ≡ (fold with_comparator (record { state = l.initial.cnf; word = [] }) (take l.pair-index l.pairs)).state;
-  within : AreWithin l.cnf.vars l.literals.items;
-  larger : IsLarger (96 * l.pair-index) l.initial.cnf l.cnf;
+  literals : l.literals.items ≡ (fold with_comparator (record { state = l.initial.circuit; word = [] }) (take l.pair-index l.pairs)).word;
+  formula : l.circuit ≡ (fold with_comparator (record { state = l.initial.circuit; word = [] }) (take l.pair-index l.pairs)).state;
+  within : AreWithin l.circuit.vars l.literals.items;
+  larger : IsLarger (96 * l.pair-index) l.initial.circuit l.circuit;
 }

@@ -5,8 +5,8 @@ use Rattle.bit_order.proofs.layout.Layout.add_thirds.Given as goal
 
 abbrev pub invariant-loop-third : goal.invariant-loop-third
 invariant-loop-third l = record {
-  vars : l.cnf.vars ≡ l.initial.cnf.vars;
-  clauses : l.cnf.clauses ≡ l.initial.cnf.clauses
+  vars : l.circuit.vars ≡ l.initial.circuit.vars;
+  clauses : l.circuit.clauses ≡ l.initial.circuit.clauses
       ++ flat_map (transitive l.self l.pair) (range_with_len (l.pair.greater + 1) (l.third - (l.pair.greater + 1)));
-  few : length l.cnf.clauses ≤ length l.initial.cnf.clauses + 2 * (l.third - (l.pair.greater + 1));
+  few : length l.circuit.clauses ≤ length l.initial.circuit.clauses + 2 * (l.third - (l.pair.greater + 1));
 }
