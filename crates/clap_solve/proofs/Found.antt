@@ -13,6 +13,7 @@ use Rattle.order_formula.specs.Worlds.{World}
 use Rattle.cnf_core.specs.Clauses.{Valuation, satisfies, value_in}
 use Rattle.bit_order.specs.Readings.{world_of}
 use Rattle.bit_blast.specs.Blasted.{impossible}
+use Rattle.path_laws.specs.Setting.{setting_of}
 use Rattle.world_plan.specs.Going.{IsLawfulWorld}
 use Rattle.schedule_decode.specs.Decodable.{IsDecodable}
 use Rattle.clap_system.specs.Systems.{system_of}
@@ -41,16 +42,20 @@ decodable ops model bound code log laws lawful is within posed by values satisfi
     let v = value_in values in
     let s = system_of ops.buffered bound code log in
     let p = possible ops.buffered bound code log lawful within v (own_satisfied posed (posed_of ops.buffered bound code log) v by satisfied) in
-    let more = grows ops model bound code log laws lawful is within.fits in
+    let setting = setting_of ops model bound code log laws lawful is in
+    let more = grows setting within.fits in
     let same : w ≡ p.0.world =
     is_said ∙ ap (λ (q : Posed). world_of q.blasted.layout v) by
     ∙ ap (λ (dead : Bool). world_of (if dead then impossible else blasted_by s).layout v) p.0.lives ∙ sym p.1 in
     record {
+      laws = laws;
+      code_is = lawful;
       log = log;
+      log_is = is;
       first = [];
       more = more.0;
       paths_are = ap (λ (q : Posed). q.paths) by;
       symbolic_is = ap (λ (q : Posed). q.symbolic) by;
       nodes_are = ap (λ (q : Posed). q.nodes) by ∙ more.1;
-      lawful = subst (IsLawfulWorld ops model bound code log []) (sym same) (possible_is_lawful ops model bound code log laws lawful is within.fits p.0);
+      lawful = subst (IsLawfulWorld setting []) (sym same) (possible_is_lawful setting within.fits p.0);
     }

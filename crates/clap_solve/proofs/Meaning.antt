@@ -57,6 +57,7 @@ use Rattle.clap_solve.specs.Clauses.{blasted_by, clauses_of}
 use Rattle.clap_solve.specs.Solved.{IsImpossible, IsWithin}
 use Rattle.clap_solve.proofs.Loads.{loads_are_ints}
 use Rattle.clap_solve.proofs.Ordered.{completed_lawful, formula_for, unasked_for}
+use Rattle.path_laws.specs.Setting.{setting_of}
 
 int_node : (n : Node) → HasInt n → IsIntNode n
 int_node (Constant k) int = int
@@ -157,10 +158,10 @@ module _ {B : Type 0} (ops : BufferOps B) (model : Model) (bound : Binding) (cod
 
     -- the world of a run
     abbrev pub p : IsPossible ops.buffered bound code log
-    p = run_is_possible ops model bound code log laws lawful is within.fits moves again
+    p = run_is_possible (setting_of ops model bound code log laws lawful is) within.fits moves again
 
     pub same : p.world ≡ world_in ops.buffered ways t.symbolic h
-    same = run_world_is ops model bound code log laws lawful is within.fits moves again
+    same = run_world_is (setting_of ops model bound code log laws lawful is) within.fits moves again
 
     -- is one that values of the variables can say
     pub world_for : IsWorldFor (record { order = t.order; loads = t.symbolic.loads }) p.world
@@ -190,7 +191,7 @@ module _ {B : Type 0} (ops : BufferOps B) (model : Model) (bound : Binding) (cod
   pub said_is_run : (v : Valuation) → IsTrue (satisfies v (clauses_of ops.buffered bound code log).clauses)
       → (moves : List Move) × Reproduces ops code log moves
   said_is_run v satisfied =
-      possible_is_run ops model bound code log laws lawful is within.fits (possible ops.buffered bound code log lawful within v satisfied).0
+      possible_is_run (setting_of ops model bound code log laws lawful is) within.fits (possible ops.buffered bound code log lawful within v satisfied).0
 
   -- and where a derivation is closed nothing reproduces the log
   pub closed_is_impossible : (lines : List Line) → IsClosed (clauses_of ops.buffered bound code log) lines → IsImpossible ops code log

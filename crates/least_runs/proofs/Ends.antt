@@ -4,21 +4,18 @@ use Rattle.std.specs.FinMap as fin
 use Rattle.std.proofs.lemmas.Bool.{and_parts}
 use Rattle.std.proofs.lemmas.List.Folds.{list_any-append}
 use Rattle.std.proofs.lemmas.Option.{same_Some}
-use Rattle.tc_base.specs.Buffers.{BufferOps}
 use Rattle.list_laws.specs.Lists.{is_nil}
 use Rattle.tc_base.specs.Names.{Name, child}
 use Rattle.tc_base.specs.States.{Local}
-use Rattle.memory_models.specs.declared.model.Model.{Model}
 use Rattle.tc_base.specs.declared.request.Request.TheVariants.{Await}
 use Rattle.tc_code.specs.Code.{Code}
-use Rattle.tc_code.specs.Lawful.{IsLawful}
 use Rattle.tc_code.specs.Step.{holds}
-use Rattle.store_buffers.specs.Laws.{Laws}
 use Rattle.store_buffers.specs.Pending.{stores, Binding}
 use Rattle.run_laws.proofs.Owners.{owners_hold}
 use Rattle.run_history.specs.History.{Deed, Did, pending}
 use Rattle.run_history.specs.Locals.{locals_in}
 use Rattle.run_history.specs.Told.{is_exit_of, has_exited_in}
+use Rattle.run_follows.specs.Machine.{Machine}
 use Rattle.run_follows.specs.Follow.{AllFollow, moves_for}
 use Rattle.least_runs.proofs.Reached.{reaches, has}
 
@@ -31,13 +28,15 @@ joined_exited buffered bound code older newer n k j took other all =
     let before = (and_parts (is_nil (stores (pending buffered older n))) (has_exited_in older (child n j)) may).1 in
     list_any-append (is_exit_of (child n j)) older (deed ∷ newer) ∙ ap (λ b. b || has_exited_in (deed ∷ newer) (child n j)) before
 
-module _ {B : Type 0} (ops : BufferOps B) (model : Model) (bound : Binding) (code : Code) (laws : Laws ops model bound) (lawful : IsLawful code) where
+module _ {B : Type 0} (machine : Machine B) where
+  open machine use {ops, bound, code, lawful}
+
   pub one_holder : (h : List Deed) (n q : Name) (t u : Local) (m : ℕ) → AllFollow ops.buffered bound code h → fin.get (locals_in code h) n ≡ Some t
       → fin.get (locals_in code h) q ≡ Some u → holds t m ≡ true → holds u m ≡ true → n ≡ q
   one_holder h n q t u m all here there first second =
-      let r = reaches ops model bound laws code lawful h all in
-      let x = has ops model bound laws code lawful h r n t here in
-      let y = has ops model bound laws code lawful h r q u there in
+      let r = reaches machine h all in
+      let x = has machine h r n t here in
+      let y = has machine h r q u there in
       let owners = owners_hold ops code r.state lawful (record { moves = moves_for bound h; leads = r.leads }) in
       let own = (owners.holder n x.thread m x.there).0 (ap (λ l. holds l m) x.local ∙ first) in
       let other = (owners.holder q y.thread m y.there).0 (ap (λ l. holds l m) y.local ∙ second) in

@@ -7,20 +7,15 @@ use Rattle.std.specs.FinSet as set
 use Rattle.std.proofs.lemmas.Bool.{false≢true, and_parts, and_from, le-ltb}
 use Rattle.std.proofs.lemmas.Option.{none-some}
 use Rattle.std.proofs.lemmas.List.Sums.{sum_by-append}
-use Rattle.tc_base.specs.Buffers.{BufferOps}
 use Rattle.store_buffers.specs.Buffers.{newest}
 use Rattle.list_laws.specs.Lists.{is_nil}
 use Rattle.tc_base.specs.Names.{Name, child}
 use Rattle.tc_base.specs.States.{Local}
-use Rattle.memory_models.specs.declared.model.Model.{Model}
 use Rattle.tc_base.specs.declared.request.Request.{Request}
 use Rattle.tc_base.specs.declared.request.Request.TheVariants.{Silent, Read, Write, Exchange, CompareExchange, Bar, Acquire, EndWait}
 use Rattle.tc_base.specs.declared.request.Request.TheVariants.{WakeOne, Start, Await, Finish}
-use Rattle.tc_code.specs.Code.{Code}
-use Rattle.tc_code.specs.Lawful.{IsLawful}
 use Rattle.tc_code.specs.Step.{request, instr_of, drains_first}
-use Rattle.store_buffers.specs.Laws.{Laws}
-use Rattle.store_buffers.specs.Pending.{stores, Binding}
+use Rattle.store_buffers.specs.Pending.{stores}
 use Rattle.run_laws.proofs.Names.{tells_names, same_self}
 use Rattle.run_history.specs.History.{Deed, Did, Drained, same, drains, has_drained, pending}
 use Rattle.run_history.specs.Locals.{locals_in}
@@ -28,6 +23,7 @@ use Rattle.run_history.specs.Told.{owner_in, waiting_in, is_step_of, steps_in, f
 use Rattle.run_history.specs.pending.Deeds.{IsIssuedIn, is_bar_between, MayDrainNext}
 use Rattle.run_history.proofs.of_pending.Apart.{Named}
 use Rattle.run_history.proofs.of_pending.In.{In, in_append, in_left, in_right, in_at, in_split}
+use Rattle.run_follows.specs.Machine.{Machine}
 use Rattle.run_follows.specs.Follow.{seen_in, is_let_in, is_allowed_in, may_do_in, taken_in, OtherIs, IsNextStep, MayFollow, AllFollow}
 use Rattle.run_follows.specs.Logged.{path_by, path_told}
 use Rattle.least_runs.proofs.Reached.{reaches}
@@ -52,10 +48,11 @@ done_in (x ∷ h) q j s v o (inr i) =
     let count = done_first h x q in
     omega (arith, count, less)
 
-module _ {B : Type 0} (ops : BufferOps B) (model : Model) (bound : Binding) (code : Code) (laws : Laws ops model bound) (lawful : IsLawful code)
-    (older later : List Deed) (n : Name) (k : ℕ) (r : Request) (took : ℤ) (other : Option Name)
-    (all : AllFollow ops.buffered bound code (older ++ Did n k r took other ∷ later)) (last : steps_in later n ≡ 0)
+module _ {B : Type 0} (machine : Machine B) (older later : List Deed) (n : Name) (k : ℕ) (r : Request) (took : ℤ) (other : Option Name)
+    (all : AllFollow machine.ops.buffered machine.bound machine.code (older ++ Did n k r took other ∷ later)) (last : steps_in later n ≡ 0)
     (unused : IsUnused n r other later) where
+  open machine use {ops, bound, code}
+
   step : Deed
   step = Did n k r took other
 
@@ -82,7 +79,7 @@ module _ {B : Type 0} (ops : BufferOps B) (model : Model) (bound : Binding) (cod
   made : (t : Local) → fin.get (locals_in code older) n ≡ Some t → (f : ℕ) → r ≡ Start f → other ≡ Some (child n (t.children + 1))
   made t here f is =
       subst (λ s. OtherIs older n s other) is next_step.other_is
-      ∙ ap (λ c. Some (child n (c + 1))) (sym (children_told ops model bound laws code lawful older n t before here))
+      ∙ ap (λ c. Some (child n (c + 1))) (sym (children_told machine older n t before here))
 
   module _ (front rest : List Deed) where
     whole : List Deed
@@ -185,7 +182,7 @@ module _ {B : Type 0} (ops : BufferOps B) (model : Model) (bound : Binding) (cod
 
     -- the stores of its own thread were issued before it
     named : Named older
-    named = (reaches ops model bound laws code lawful older before).tells.deeds.named
+    named = (reaches machine older before).tells.deeds.named
 
     module _ (apart_here : StepsApart code n other front) where
       own_older : (j c : ℕ) (v : ℤ) → IsIssuedIn (older ++ Did n k r took other ∷ front) n j c v → j ≤ k

@@ -3,18 +3,14 @@ use Rattle.std.proofs.Common.{◌≡◌, ◌∙◌, ◌⊎◌, inl, inr, ℕ, ze
 use Rattle.std.proofs.Common.{Option, Some, refl, sym, ap, subst, arith, append-nil, append_assoc}
 use Rattle.std.proofs.lemmas.Bool.{false≢true, and_parts, eqb-true}
 use Rattle.std.proofs.lemmas.List.{length-append}
-use Rattle.tc_base.specs.Buffers.{BufferOps}
 use Rattle.tc_base.specs.Names.{Name}
-use Rattle.memory_models.specs.declared.model.Model.{Model}
 use Rattle.tc_base.specs.declared.request.Request.{Request}
 use Rattle.tc_code.specs.Code.{Code}
-use Rattle.tc_code.specs.Lawful.{IsLawful}
-use Rattle.store_buffers.specs.Laws.{Laws}
-use Rattle.store_buffers.specs.Pending.{Binding}
 use Rattle.store_buffers.specs.helpers.Lists.{not_nil}
 use Rattle.run_laws.proofs.Names.{same_self}
 use Rattle.run_history.specs.History.{Deed, Did, Drained, same}
 use Rattle.run_history.specs.Told.{steps_in, failed_in}
+use Rattle.run_follows.specs.Machine.{Machine}
 use Rattle.run_follows.specs.Follow.{AllFollow}
 use Rattle.run_follows.specs.Logged.{path_told}
 use Rattle.least_runs.specs.Unused.{is_unused, comes_out}
@@ -114,7 +110,9 @@ part_of_part code g i h first second n p is =
       outcomes = b.outcomes ∙ ap (λ os. os ++ b.later) a.outcomes ∙ append_assoc p.outcomes a.later b.later;
     }
 
-module _ {B : Type 0} (ops : BufferOps B) (model : Model) (bound : Binding) (code : Code) (laws : Laws ops model bound) (lawful : IsLawful code) (f : Name) where
+module _ {B : Type 0} (machine : Machine B) (f : Name) where
+  open machine use {ops, bound, code}
+
   -- a run of which no step can be left out
   itself : (h : List Deed) → AllFollow ops.buffered bound code h → failed_in h ≡ Some f → IsLeast f h → HasLeast ops.buffered bound code h f
   itself h all fails_there least =
@@ -134,8 +132,8 @@ module _ {B : Type 0} (ops : BufferOps B) (model : Model) (bound : Binding) (cod
       let count = ap length o.there ∙ length-append o.older (deed ∷ o.newer) in
       let count_left = length-append o.older o.newer in
       let rest = shorter left (omega (arith, short, count, count_left))
-      (left_follows ops model bound code laws lawful o.older o.newer o.thread o.number o.asks o.took o.other whole o.last used) still_fails in
-      let part = is_part ops model bound code laws lawful o.older o.newer o.thread o.number o.asks o.took o.other whole o.last used in
+      (left_follows machine o.older o.newer o.thread o.number o.asks o.took o.other whole o.last used) still_fails in
+      let part = is_part machine o.older o.newer o.thread o.number o.asks o.took o.other whole o.last used in
       let apart : f ≡ o.thread → ⊥ = λ e. false≢true (sym o.apart ∙ same_self o.thread f (sym e)) in
       record {
         deeds = rest.deeds;
@@ -145,7 +143,7 @@ module _ {B : Type 0} (ops : BufferOps B) (model : Model) (bound : Binding) (cod
         part = part_of_part code rest.deeds left h rest.part (subst (IsPart code left) (sym o.there) part);
         failing =
             rest.failing
-            ∙ failing_stays ops model bound code laws lawful o.older o.newer o.thread o.number o.asks o.took o.other whole o.last used f apart still_fails
+            ∙ failing_stays machine o.older o.newer o.thread o.number o.asks o.took o.other whole o.last used f apart still_fails
             ∙ ap (λ g. path_told code g f) (sym o.there);
       }
 

@@ -5,34 +5,30 @@ use Rattle.std.specs.Option.{option_map_or}
 use Rattle.std.specs.FinMap as fin
 use Rattle.std.proofs.lemmas.Cmp.{nat_list_cmp_total}
 use Rattle.std.proofs.lemmas.List.Sums.{fold-append}
-use Rattle.tc_base.specs.Buffers.{BufferOps}
 use Rattle.tc_base.specs.Names.{Name, ByName, child}
 use Rattle.tc_base.specs.States.{Local}
-use Rattle.memory_models.specs.declared.model.Model.{Model}
 use Rattle.tc_base.specs.declared.request.Request.{Request}
 use Rattle.tc_base.specs.declared.request.Request.TheVariants.{Silent, Start}
 use Rattle.tc_code.specs.Code.{Code}
-use Rattle.tc_code.specs.Lawful.{IsLawful}
 use Rattle.tc_code.specs.Step.{instr_of}
 use Rattle.tc_code.specs.declared.instr.Instr.{Instr}
-use Rattle.store_buffers.specs.Laws.{Laws}
-use Rattle.store_buffers.specs.Pending.{Binding}
 use Rattle.run_laws.proofs.Names.{get_put_apart}
 use Rattle.run_history.specs.History.{Deed, Did, Drained, same}
 use Rattle.run_history.specs.Locals.{after_step, with_child, after_deed, locals_in}
 use Rattle.run_history.specs.Told.{children_in}
 use Rattle.run_history.proofs.Threads.{children_are}
 use Rattle.run_history.proofs.of_pending.In.{In}
+use Rattle.run_follows.specs.Machine.{Machine}
 use Rattle.run_follows.specs.Follow.{AllFollow}
 use Rattle.least_runs.proofs.Reached.{reaches, has}
 
 -- a thread creates as many children as the history has
-pub children_told : {B : Type 0} (ops : BufferOps B) (model : Model) (bound : Binding) (laws : Laws ops model bound) (code : Code) (lawful : IsLawful code)
-    (h : List Deed) (n : Name) (t : Local) → AllFollow ops.buffered bound code h → fin.get (locals_in code h) n ≡ Some t → t.children ≡ children_in h n
-children_told ops model bound laws code lawful h n t all is =
-    let r = reaches ops model bound laws code lawful h all in
-    let x = has ops model bound laws code lawful h r n t is in
-    ap (λ (l : Local). l.children) (sym x.local) ∙ children_are ops code r.state h n r.tells.deeds.buffers.threads x.thread x.there
+pub children_told : {B : Type 0} (machine : Machine B)
+    (h : List Deed) (n : Name) (t : Local) → AllFollow machine.ops.buffered machine.bound machine.code h → fin.get (locals_in machine.code h) n ≡ Some t → t.children ≡ children_in h n
+children_told machine h n t all is =
+    let r = reaches machine h all in
+    let x = has machine h r n t is in
+    ap (λ (l : Local). l.children) (sym x.local) ∙ children_are machine.ops machine.code r.state h n r.tells.deeds.buffers.threads x.thread x.there
 
 module _ (code : Code) (n : Name) (other : Option Name) where
   -- two maps have the same of each thread but these two

@@ -7,20 +7,15 @@ use Rattle.std.specs.FinMap as fin
 use Rattle.std.proofs.lemmas.List.{same_from_push}
 use Rattle.std.proofs.lemmas.List.Sums.{fold-append, sum_by-append}
 use Rattle.std.proofs.lemmas.Option.{none-some, same_Some}
-use Rattle.tc_base.specs.Buffers.{BufferOps}
 use Rattle.tc_base.specs.Paths.{Path}
 use Rattle.tc_base.specs.Names.{Name, ByName, child}
 use Rattle.tc_base.specs.States.{Local, Thread}
-use Rattle.memory_models.specs.declared.model.Model.{Model}
 use Rattle.tc_base.specs.declared.request.Request.{Request}
 use Rattle.tc_base.specs.declared.request.Request.TheVariants.{Silent, WakeOne, Start, Fail}
 use Rattle.tc_code.specs.Code.{Code}
-use Rattle.tc_code.specs.Lawful.{IsLawful}
 use Rattle.tc_code.specs.Step.{request, instr_of, local_after}
 use Rattle.tc_code.specs.declared.instr.Instr.{Instr}
 use Rattle.tc_code.specs.declared.instr.Instr.TheVariants.{Branch, Exit}
-use Rattle.store_buffers.specs.Laws.{Laws}
-use Rattle.store_buffers.specs.Pending.{Binding}
 use Rattle.run_laws.proofs.After.{branch_is}
 use Rattle.run_laws.proofs.Basics.{none_unless}
 use Rattle.run_laws.proofs.Created.{reached_is_created}
@@ -31,6 +26,7 @@ use Rattle.run_history.specs.Told.{is_step_of, steps_in, is_start_of, children_i
 use Rattle.run_history.proofs.Last.{is_last}
 use Rattle.run_history.proofs.Threads.{children_are, none_done}
 use Rattle.run_history.proofs.of_pending.In.{In, in_at}
+use Rattle.run_follows.specs.Machine.{Machine}
 use Rattle.run_follows.specs.Follow.{AllFollow, OtherIs, moves_for}
 use Rattle.run_follows.specs.Logged.{path_by, path_told}
 use Rattle.least_runs.specs.Least.{Begins, IsPart}
@@ -115,19 +111,20 @@ failed_stepped h f e =
     let l = is_last fails h f e in
     failed_step l.deed f h (subst (In l.deed) (sym l.there) (in_at l.older l.deed l.newer)) l.gives
 
-module _ {B : Type 0} (ops : BufferOps B) (model : Model) (bound : Binding) (code : Code) (laws : Laws ops model bound) (lawful : IsLawful code)
-    (older newer : List Deed) (n : Name) (k : ℕ) (r : Request) (took : ℤ) (other : Option Name)
-    (all : AllFollow ops.buffered bound code (older ++ Did n k r took other ∷ newer)) (last : steps_in newer n ≡ 0)
+module _ {B : Type 0} (machine : Machine B) (older newer : List Deed) (n : Name) (k : ℕ) (r : Request) (took : ℤ) (other : Option Name)
+    (all : AllFollow machine.ops.buffered machine.bound machine.code (older ++ Did n k r took other ∷ newer)) (last : steps_in newer n ≡ 0)
     (unused : IsUnused n r other newer) where
+  open machine use {ops, bound, code}
+
   left_all : AllFollow ops.buffered bound code (older ++ newer)
-  left_all = left_follows ops model bound code laws lawful older newer n k r took other all last unused
+  left_all = left_follows machine older newer n k r took other all last unused
 
   own : Steps code (locals_in code older) n r
   own = steps_by code (locals_in code older) n r (fin.get (locals_in code older) n) refl
-      (next_step ops model bound code laws lawful older newer n k r took other all last unused).asks
+      (next_step machine older newer n k r took other all last unused).asks
 
   own_left : path_told code (older ++ newer) n ≡ Some (path_by own.before)
-  own_left = ap (option_map path_by) (still ops model bound laws code lawful older newer n own.before left_all last own.here)
+  own_left = ap (option_map path_by) (still machine older newer n own.before left_all last own.here)
 
   joined : (older ++ Did n k r took other ∷ []) ++ newer ≡ older ++ Did n k r took other ∷ newer
   joined = append_assoc older (Did n k r took other ∷ []) newer
@@ -135,7 +132,7 @@ module _ {B : Type 0} (ops : BufferOps B) (model : Model) (bound : Binding) (cod
   own_whole : path_told code (older ++ Did n k r took other ∷ newer) n ≡ Some (path_by (after_step own.before own.instr r took))
   own_whole =
       ap (λ h. path_told code h n) (sym joined)
-      ∙ ap (option_map path_by) (still ops model bound laws code lawful (older ++ Did n k r took other ∷ []) newer n (after_step own.before own.instr r took)
+      ∙ ap (option_map path_by) (still machine (older ++ Did n k r took other ∷ []) newer n (after_step own.before own.instr r took)
       (subst (AllFollow ops.buffered bound code) (sym joined) all) last
       (ap (λ ts. fin.get ts n) (fold-append (after_deed code) _ older (Did n k r took other ∷ []))
       ∙ after_own code (locals_in code older) n k r took other own))
@@ -164,12 +161,12 @@ module _ {B : Type 0} (ops : BufferOps B) (model : Model) (bound : Binding) (cod
       let within = starts_within n newer in
       omega (arith, count, within, last)
 
-  reached : Reaches ops model bound laws code lawful (older ++ newer)
-  reached = reaches ops model bound laws code lawful (older ++ newer) left_all
+  reached : Reaches machine (older ++ newer)
+  reached = reaches machine (older ++ newer) left_all
 
   child_absent : (u : Name) → other ≡ Some u → fin.get reached.state.threads u ≡ None
   child_absent u e =
-      let name = child_number r u (next_step ops model bound code laws lawful older newer n k r took other all last unused).other_is unused e in
+      let name = child_number r u (next_step machine older newer n k r took other all last unused).other_is unused e in
       let created = reached_is_created ops code reached.state (record { moves = moves_for bound (older ++ newer); leads = reached.leads }) in
       none_unless (fin.get reached.state.threads u) (λ some.
       let c = created.is_created u some (λ is_main. child_not_main n (children_in older n + 1) (sym name ∙ is_main)) in
@@ -186,7 +183,7 @@ module _ {B : Type 0} (ops : BufferOps B) (model : Model) (bound : Binding) (cod
   other_begins q p apart (inl made) is = absurd (none-some p (sym (child_untold q made) ∙ is))
   other_begins q p apart (inr not_made) is = record {
     path = p;
-    there = sym (paths_stay ops model bound code laws lawful older newer n k r took other all last unused q apart not_made) ∙ is;
+    there = sym (paths_stay machine older newer n k r took other all last unused q apart not_made) ∙ is;
     later = [];
     outcomes = sym (append-nil p.outcomes);
   }
@@ -203,7 +200,7 @@ module _ {B : Type 0} (ops : BufferOps B) (model : Model) (bound : Binding) (cod
   pub failing_stays : (f : Name) → f ≢ n → failed_in (older ++ newer) ≡ Some f
       → path_told code (older ++ newer) f ≡ path_told code (older ++ Did n k r took other ∷ newer) f
   failing_stays f apart fails_there =
-      paths_stay ops model bound code laws lawful older newer n k r took other all last unused f apart (λ made.
+      paths_stay machine older newer n k r took other all last unused f apart (λ made.
       let stepped = failed_stepped (older ++ newer) f fails_there in
       let none = none_done ops code reached.state (older ++ newer) f reached.tells.deeds.buffers.threads (child_absent f made) in
       omega (arith, stepped, none))

@@ -9,22 +9,17 @@ use Rattle.std.proofs.lemmas.List.Elements.{filter_map-append}
 use Rattle.std.proofs.lemmas.List.Folds.{list_any-append}
 use Rattle.std.proofs.lemmas.List.Sums.{sum_by-append}
 use Rattle.std.proofs.lemmas.Option.{none-some, same_Some}
-use Rattle.tc_base.specs.Buffers.{BufferOps}
 use Rattle.tc_base.specs.Names.{Name, main}
 use Rattle.tc_base.specs.States.{Local, Thread, State}
-use Rattle.memory_models.specs.declared.model.Model.{Model}
-use Rattle.tc_code.specs.Code.{Code}
-use Rattle.tc_code.specs.Lawful.{IsLawful}
 use Rattle.tc_code.specs.Run.{run, run_from}
 use Rattle.tc_code.proofs.Facts.{run_from-append}
-use Rattle.store_buffers.specs.Laws.{Laws}
-use Rattle.store_buffers.specs.Pending.{Binding}
 use Rattle.run_laws.specs.Alone.{after_steps, taken_from}
 use Rattle.run_laws.proofs.GoesAlone.{threads_go_alone}
 use Rattle.run_history.specs.History.{Deed, same}
 use Rattle.run_history.specs.Locals.{locals_in}
 use Rattle.run_history.specs.Told.{creates, is_thread_in, is_step_of, steps_in}
 use Rattle.run_history.proofs.Threads.{number_is}
+use Rattle.run_follows.specs.Machine.{Machine}
 use Rattle.run_follows.specs.Follow.{AllFollow, move_for, moves_for}
 use Rattle.run_follows.proofs.Enabled.{Tells, told}
 use Rattle.run_follows.proofs.Plays.{follows_is_run}
@@ -42,7 +37,9 @@ thread_stays older newer n there =
     ∙ ap (λ b. same n main || b) (list_any-append (same n) (filter_map creates older) (filter_map creates newer))
     ∙ or_more (same n main) (list_any (same n) (filter_map creates older)) (list_any (same n) (filter_map creates newer)) there
 
-module _ {B : Type 0} (ops : BufferOps B) (model : Model) (bound : Binding) (laws : Laws ops model bound) (code : Code) (lawful : IsLawful code) where
+module _ {B : Type 0} (machine : Machine B) where
+  open machine use {ops, model, bound, laws, code}
+
   pub record Reaches (h : List Deed) : Type 0 where
     pub state : State B
     pub leads : run ops code (moves_for bound h) ≡ Some state
@@ -50,7 +47,7 @@ module _ {B : Type 0} (ops : BufferOps B) (model : Model) (bound : Binding) (law
 
   pub reaches : (h : List Deed) → AllFollow ops.buffered bound code h → Reaches h
   reaches h all =
-      let p = follows_is_run ops model bound laws code lawful h all in
+      let p = follows_is_run machine h all in
       record {
         state = p.0;
         leads = p.1;

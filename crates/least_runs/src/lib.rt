@@ -6,20 +6,17 @@
 
 ghost use Rattle.std.specs.Prelude.{◌≡◌, ◌≢◌, ℕ, ℤ, Bool, true, List, ◌∷◌, ◌++◌, Option, Some};
 ghost use Rattle.std.specs.FinMap as fin;
-ghost use Rattle.tc_base.specs.Buffers.{BufferOps};
 ghost use Rattle.tc_base.specs.Names.{Name, child};
 ghost use Rattle.tc_base.specs.States.{Local};
-ghost use Rattle.memory_models.specs.declared.model.Model.{Model};
 ghost use Rattle.tc_base.specs.declared.request.Request.{Request};
 ghost use Rattle.tc_base.specs.declared.request.Request.TheVariants.{Await};
 ghost use Rattle.tc_code.specs.Code.{Code};
-ghost use Rattle.tc_code.specs.Lawful.{IsLawful};
 ghost use Rattle.tc_code.specs.Step.{holds};
-ghost use Rattle.store_buffers.specs.Laws.{Laws};
 ghost use Rattle.store_buffers.specs.Pending.{Binding};
 ghost use Rattle.run_history.specs.History.{Deed, Did};
 ghost use Rattle.run_history.specs.Locals.{locals_in};
 ghost use Rattle.run_history.specs.Told.{steps_in, has_exited_in, failed_in};
+ghost use Rattle.run_follows.specs.Machine.{Machine};
 ghost use Rattle.run_follows.specs.Follow.{AllFollow};
 ghost use Rattle.run_follows.specs.Logged.{path_told};
 ghost use Rattle.least_runs.specs.Least.{HasLeast};
@@ -29,25 +26,22 @@ ghost use Rattle.least_runs.specs.Unused.{is_unused};
 /// like the whole run, and takes each other thread along the same path, except one that the step
 /// creates.
 pub fn unused_steps_come_out<B>()
-    ensures run { (ops : BufferOps B) (model : Model) (bound : Binding) (code : Code) (older newer : List Deed) (n : Name) (k : ℕ) (r : Request)
-        (took : ℤ) (other : Option Name)
-        → Laws ops model bound → IsLawful code → AllFollow ops.buffered bound code (older ++ Did n k r took other ∷ newer)
-        → steps_in newer n ≡ 0 → is_unused r n other newer ≡ true → AllFollow ops.buffered bound code (older ++ newer) }
+    ensures run { (m : Machine B) (older newer : List Deed) (n : Name) (k : ℕ) (r : Request) (took : ℤ) (other : Option Name)
+        → AllFollow m.ops.buffered m.bound m.code (older ++ Did n k r took other ∷ newer)
+        → steps_in newer n ≡ 0 → is_unused r n other newer ≡ true → AllFollow m.ops.buffered m.bound m.code (older ++ newer) }
     ensures failure { (older newer : List Deed) (n : Name) (k : ℕ) (r : Request) (took : ℤ) (other : Option Name)
         → is_unused r n other newer ≡ true → failed_in (older ++ newer) ≡ failed_in (older ++ Did n k r took other ∷ newer) }
-    ensures paths { (ops : BufferOps B) (model : Model) (bound : Binding) (code : Code) (older newer : List Deed) (n q : Name) (k : ℕ) (r : Request)
-        (took : ℤ) (other : Option Name)
-        → Laws ops model bound → IsLawful code → AllFollow ops.buffered bound code (older ++ Did n k r took other ∷ newer)
+    ensures paths { (m : Machine B) (older newer : List Deed) (n q : Name) (k : ℕ) (r : Request) (took : ℤ) (other : Option Name)
+        → AllFollow m.ops.buffered m.bound m.code (older ++ Did n k r took other ∷ newer)
         → steps_in newer n ≡ 0 → is_unused r n other newer ≡ true → q ≢ n → other ≢ Some q
-        → path_told code (older ++ newer) q ≡ path_told code (older ++ Did n k r took other ∷ newer) q }
+        → path_told m.code (older ++ newer) q ≡ path_told m.code (older ++ Did n k r took other ∷ newer) q }
 {}
 
 /// So for each run that fails there is one in which the same thread fails after the same path, no
 /// thread has further outcomes, and no step of another thread can be left out.
 pub fn failing_runs_have_least_ones<B>()
-    ensures { (ops : BufferOps B) (model : Model) (bound : Binding) (code : Code) (h : List Deed) (f : Name)
-        → Laws ops model bound → IsLawful code → AllFollow ops.buffered bound code h → failed_in h ≡ Some f
-        → HasLeast ops.buffered bound code h f }
+    ensures { (m : Machine B) (h : List Deed) (f : Name) → AllFollow m.ops.buffered m.bound m.code h → failed_in h ≡ Some f
+        → HasLeast m.ops.buffered m.bound m.code h f }
 {}
 
 /// A thread that was joined has exited.
@@ -59,7 +53,6 @@ pub fn joined_threads_have_exited()
 
 /// No two threads hold the same mutex.
 pub fn mutexes_have_one_holder<B>()
-    ensures { (ops : BufferOps B) (model : Model) (bound : Binding) (code : Code) (h : List Deed) (n q : Name) (t u : Local) (m : ℕ)
-        → Laws ops model bound → IsLawful code → AllFollow ops.buffered bound code h
-        → fin.get (locals_in code h) n ≡ Some t → fin.get (locals_in code h) q ≡ Some u → holds t m ≡ true → holds u m ≡ true → n ≡ q }
+    ensures { (machine : Machine B) (h : List Deed) (n q : Name) (t u : Local) (m : ℕ) → AllFollow machine.ops.buffered machine.bound machine.code h
+        → fin.get (locals_in machine.code h) n ≡ Some t → fin.get (locals_in machine.code h) q ≡ Some u → holds t m ≡ true → holds u m ≡ true → n ≡ q }
 {}

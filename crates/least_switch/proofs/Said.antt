@@ -18,6 +18,7 @@ use Rattle.bit_order.proofs.Meaning.{values-say-worlds}
 use Rattle.bit_blast.specs.Blasted.{impossible}
 use Rattle.bit_blast.specs.Contended.{contended}
 use Rattle.bit_blast.proofs.Completed.{completed_events}
+use Rattle.path_laws.specs.Setting.{setting_of}
 use Rattle.world_plan.specs.Going.{IsLawfulWorld}
 use Rattle.schedule_decode.specs.Decodable.{IsDecodable}
 use Rattle.clap_system.specs.Systems.{system_of}
@@ -73,14 +74,18 @@ pub bounded_decodable : {B : Type 0} (ops : BufferOps B) (model : Model) (bound 
 bounded_decodable ops model bound code log laws given most b h values satisfied w is =
     let v = value_in values in
     let said = says_so ops.buffered bound code log given.lawful most b h v satisfied in
-    let more = grows ops model bound code log laws given.lawful given.is_log given.within.fits in
+    let setting = setting_of ops model bound code log laws given.lawful given.is_log in
+    let more = grows setting given.within.fits in
     record {
+      laws = laws;
+      code_is = given.lawful;
       log = log;
+      log_is = given.is_log;
       first = [];
       more = more.0;
       paths_are = h.paths;
       symbolic_is = h.symbolic;
       nodes_are = h.terms ∙ more.1;
-      lawful = subst (IsLawfulWorld ops model bound code log []) (sym (world_is ops.buffered bound code log given.lawful most b h v satisfied w is))
-          (possible_is_lawful ops model bound code log laws given.lawful given.is_log given.within.fits said.possible);
+      lawful = subst (IsLawfulWorld setting []) (sym (world_is ops.buffered bound code log given.lawful most b h v satisfied w is))
+          (possible_is_lawful setting given.within.fits said.possible);
     }

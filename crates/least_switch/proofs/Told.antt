@@ -17,6 +17,7 @@ use Rattle.schedule_file.specs.declared.schedule.Schedule.{Schedule}
 use Rattle.sym_terms.specs.declared.node.Node.{Node}
 use Rattle.sym_exec.specs.Executed.{Symbolic}
 use Rattle.order_formula.specs.Worlds.{World}
+use Rattle.path_laws.specs.Setting.{setting_of}
 use Rattle.world_plan.specs.Plan.{plan}
 use Rattle.refute_check.specs.Refutations.{IsClosed}
 use Rattle.refute_check.specs.declared.line.Line.{Line}
@@ -49,7 +50,7 @@ module _ {B : Type 0} (ops : BufferOps B) (model : Model) (bound : Binding) (cod
   world_count moves is =
       ap (switches ops code) is
       ∙ subst (λ (p : Paths). switches ops code (moves_for bound (plan ops.buffered code p w)) ≡ world_switches p w) (sym d.paths_are)
-      (of_runs.worlds ops model bound code d.log d.first w d.lawful small)
+      (of_runs.worlds (setting_of ops model bound code d.log d.laws d.code_is d.log_is) d.first w d.lawful small)
 
   pub of_world : (buffered : Bool) → buffered ≡ ops.buffered → (s : Schedule) (count : ℕ) (x : World) → s.model ≡ model
       → s.moves.items ≡ moves_for bound (plan buffered code paths w)

@@ -1,25 +1,18 @@
 -- In a deadlock each thread that is blocked has a cause.
 use Rattle.std.proofs.Common.{◌≡◌, ◌∙◌, ℕ, true, false, length, List, Some, IsSome, sym, ap, subst, arith}
 use Rattle.std.proofs.lemmas.Bool.{false≢true}
-use Rattle.tc_base.specs.Buffers.{BufferOps}
-use Rattle.run_log.specs.Logs.{Log}
 use Rattle.tc_base.specs.Names.{Name, child}
 use Rattle.tc_base.specs.declared.failing.Failing.TheVariants.{Deadlock}
-use Rattle.memory_models.specs.declared.model.Model.{Model}
 use Rattle.tc_base.specs.declared.moves.Move.{Move}
-use Rattle.tc_code.specs.Code.{Code}
-use Rattle.tc_code.specs.Lawful.{IsLawful}
 use Rattle.tc_code.specs.Run.{Reproduces}
-use Rattle.store_buffers.specs.Laws.{Laws}
-use Rattle.store_buffers.specs.Pending.{Binding}
 use Rattle.run_laws.proofs.Basics.{some_value}
 use Rattle.run_history.specs.History.{Deed, history}
 use Rattle.run_history.specs.Told.{owner_in, steps_in, has_exited_in}
 use Rattle.run_follows.specs.blocked.Stuck.{IsBlockedIn}
-use Rattle.run_log.specs.Logs.{is_log}
 use Rattle.path_walk.specs.Paths.{Walk}
 use Rattle.path_walk.specs.declared.event.Blocked.{Blocked}
 use Rattle.path_walk.specs.declared.event.Blocked.TheVariants.{Lock, Wake, Join}
+use Rattle.path_laws.specs.Setting.{Setting}
 use Rattle.path_laws.specs.events.Done.{IsOpenAfter}
 use Rattle.path_laws.specs.history.Along.{IsThread}
 use Rattle.path_laws.specs.stuck.Blocked.{asked_at}
@@ -30,8 +23,9 @@ use Rattle.normal_logs.specs.Ends.{IsHeldAtEnd, NeverExits}
 use Rattle.normal_logs.specs.Normal.{HasCause}
 use Rattle.normal_logs.proofs.Reproduced.{along, fits, done}
 
-module _ {B : Type 0} (ops : BufferOps B) (model : Model) (bound : Binding) (laws : Laws ops model bound) (code : Code) (lawful : IsLawful code) (log : Log)
-    (is : is_log log ≡ true) (moves : List Move) (again : Reproduces ops code log moves) where
+module _ {B : Type 0} (setting : Setting B) (moves : List Move) (again : Reproduces setting.ops setting.code setting.log moves) where
+  open setting use {ops, code, log}
+
   abbrev h : List Deed
   h = history ops code moves
 
@@ -39,12 +33,12 @@ module _ {B : Type 0} (ops : BufferOps B) (model : Model) (bound : Binding) (law
   held : (m : ℕ) → IsSome (owner_in h m) → IsHeldAtEnd code log m
   held m some =
       let o = some_value (owner_in h m) some in
-      let fit = fits ops model bound laws code lawful log is moves again in
-      let all = along ops model bound laws code lawful log is moves again in
-      let t = (took_it ops model bound laws code lawful log is fit h all m o.0 o.1).thread in
+      let fit = fits setting moves again in
+      let all = along setting moves again in
+      let t = (took_it setting fit h all m o.0 o.1).thread in
       let r =
-      (region_owned ops model bound laws code lawful log is fit h all t.place t.walk t.there m).0 (o.1 ∙ ap (λ n. Some n) (sym t.name)) in
-      let ends = done ops model bound laws code lawful log is moves again t.place t.walk t.there in
+      (region_owned setting fit h all t.place t.walk t.there m).0 (o.1 ∙ ap (λ n. Some n) (sym t.name)) in
+      let ends = done setting moves again t.place t.walk t.there in
       record {
         place = t.place;
         walk = t.walk;
@@ -55,10 +49,10 @@ module _ {B : Type 0} (ops : BufferOps B) (model : Model) (bound : Binding) (law
   -- who hasn't exited has no exit on its path
   runs_on : (n : Name) → has_exited_in h n ≡ false → NeverExits code log n
   runs_on n going j w there name ends =
-      let all : steps_in h w.name ≡ length w.places = done ops model bound laws code lawful log is moves again j w there in
+      let all : steps_in h w.name ≡ length w.places = done setting moves again j w there in
       let gone =
-      (exits_told ops model bound laws code lawful log is (fits ops model bound laws code lawful log is moves again) h
-      (along ops model bound laws code lawful log is moves again) j w there).1
+      (exits_told setting (fits setting moves again) h
+      (along setting moves again) j w there).1
       (ends.event, ends.there, ends.asks, omega (arith, all, ends.last)) in
       false≢true (sym going ∙ ap (has_exited_in h) (sym name) ∙ gone)
 
@@ -69,4 +63,4 @@ module _ {B : Type 0} (ops : BufferOps B) (model : Model) (bound : Binding) (law
 
   pub caused : log.failing ≡ Deadlock → (j : ℕ) (w : Walk) (b : Blocked) → IsThread code log j w → w.blocked ≡ Some b → HasCause code log w b
   caused dead j w b there blocked =
-      cause_by w b (blocked_is_left ops model bound laws code lawful log is dead moves again j w there b blocked).1.blocked
+      cause_by w b (blocked_is_left setting dead moves again j w there b blocked).1.blocked

@@ -7,18 +7,13 @@ use Rattle.std.specs.Option.{option_map_or}
 use Rattle.std.proofs.lemmas.Bool.{false≢true, true_from_ne_false}
 use Rattle.std.proofs.lemmas.Map.Text.{is_eq-slice_cmp}
 use Rattle.std.proofs.lemmas.Option.{none-some, same_Some}
-use Rattle.tc_base.specs.Buffers.{BufferOps}
-use Rattle.run_log.specs.Logs.{Log}
 use Rattle.tc_base.specs.Names.{Name, child}
-use Rattle.memory_models.specs.declared.model.Model.{Model}
 use Rattle.tc_base.specs.declared.moves.Move.{Move}
 use Rattle.tc_base.specs.declared.request.Request.{Request}
 use Rattle.tc_base.specs.declared.request.Request.TheVariants.{Silent, Write, Exchange, CompareExchange, Release, BeginWait, WakeOne, WakeAll}
 use Rattle.tc_base.specs.declared.request.Request.TheVariants.{Start, Await, Finish, Fail}
 use Rattle.tc_code.specs.Code.{Code}
-use Rattle.tc_code.specs.Lawful.{IsLawful}
 use Rattle.tc_code.specs.Run.{Reproduces}
-use Rattle.store_buffers.specs.Laws.{Laws}
 use Rattle.store_buffers.specs.Pending.{Binding}
 use Rattle.run_laws.proofs.Names.{same_self}
 use Rattle.run_history.specs.History.{Deed, Did, same, history}
@@ -27,11 +22,11 @@ use Rattle.run_history.proofs.Last.{last_is}
 use Rattle.run_history.proofs.Lists.{last_or-push}
 use Rattle.run_history.proofs.of_pending.In.{in_split, any_in}
 use Rattle.run_follows.specs.Follow.{AllFollow, OtherIs}
-use Rattle.run_log.specs.Logs.{is_log}
 use Rattle.path_walk.specs.Fits.{fails_in}
 use Rattle.path_walk.specs.Paths.{Walk}
 use Rattle.path_walk.specs.declared.event.EventKind.{EventKind}
 use Rattle.path_walk.specs.declared.event.EventKind.TheVariants as kind
+use Rattle.path_laws.specs.Setting.{Setting}
 use Rattle.path_laws.specs.Deeds.{kind_of}
 use Rattle.path_laws.specs.Prefixes.{fails_by}
 use Rattle.path_laws.specs.history.Along.{IsThread}
@@ -67,22 +62,23 @@ positive : (n : ℕ) → (n == 0) ≡ false → 0 < n
 positive zero e = absurd (true≢false e)
 positive (suc n) e = omega arith
 
-module _ {B : Type 0} (ops : BufferOps B) (model : Model) (bound : Binding) (laws : Laws ops model bound) (code : Code) (lawful : IsLawful code) (log : Log)
-    (is : is_log log ≡ true) (moves : List Move) (again : Reproduces ops code log moves) (f : Name)
-    (failed : failed_in (history ops code moves) ≡ Some f) (least : IsLeast f (history ops code moves)) where
+module _ {B : Type 0} (setting : Setting B) (moves : List Move) (again : Reproduces setting.ops setting.code setting.log moves) (f : Name)
+    (failed : failed_in (history setting.ops setting.code moves) ≡ Some f) (least : IsLeast f (history setting.ops setting.code moves)) where
+  open setting use {ops, bound, code, log}
+
   abbrev h : List Deed
   h = history ops code moves
 
   -- a thread that doesn't fail in the log isn't the one that failed
   apart : (n : Name) → fails_in log n ≡ false → same n f ≡ false
   apart n other =
-      let state_failed : again.state.failed ≡ Some f = (run ops model bound laws code lawful log is moves again).told.tells.failure ∙ failed in
+      let state_failed : again.state.failed ≡ Some f = (run setting moves again).told.tells.failure ∙ failed in
       is_eq-slice_cmp n f ∙ sym (ap (λ o. fails_by o n) state_failed) ∙ sym (fails_as ops code log moves again n) ∙ other
 
   module _ (j : ℕ) (w : Walk) (there : IsThread code log j w) (other_thread : fails_in log w.name ≡ false) where
     module _ (older newer : List Deed) (k : ℕ) (took : ℤ) (other : Option Name) (last : k + 1 ≡ length w.places) where
       ends : (r : Request) (asked : EventKind) → h ≡ older ++ Did w.name k r took other ∷ newer → kind_of r other ≡ Some asked → EndsWith w asked
-      ends r asked at asks = ends_with ops model bound laws code lawful log is moves again j w there older newer k r took other asked at last asks
+      ends r asked at asks = ends_with setting moves again j w there older newer k r took other asked at last asks
 
       -- an exit that somebody awaits
       joined : h ≡ older ++ Did w.name k Finish took other ∷ newer → list_any (is_await_of w.name) newer ≡ true → IsJoined code log w.name
@@ -96,9 +92,9 @@ module _ {B : Type 0} (ops : BufferOps B) (model : Model) (bound : Binding) (law
           at ∙ ap (λ g. older ++ deed ∷ g) (s.there ∙ ap (λ d. s.older ++ d ∷ s.newer) a.is)
           ∙ sym (append_assoc older (deed ∷ s.older) (Did a.thread a.number (Await a.join) a.took a.other ∷ s.newer)) in
           let t =
-          step_named ops model bound laws code lawful log is moves again front s.newer a.thread a.number (Await a.join) a.took a.other whole in
+          step_named setting moves again front s.newer a.thread a.number (Await a.join) a.took a.other whole in
           let l =
-          join_there ops model bound laws code lawful log is moves again t.place t.walk t.there front s.newer a.number a.join a.took a.other
+          join_there setting moves again t.place t.walk t.there front s.newer a.number a.join a.took a.other
           (whole ∙ ap (λ q. front ++ Did q a.number (Await a.join) a.took a.other ∷ s.newer) (sym t.name)) in
           record {
             place = t.place;
@@ -122,7 +118,7 @@ module _ {B : Type 0} (ops : BufferOps B) (model : Model) (bound : Binding) (law
           record {
             asked = kind.Create number;
             ends = ends (Start g) (kind.Create number) at asks;
-            used = acts ops model bound laws code lawful log is moves again (older ++ deed ∷ []) newer (child w.name number)
+            used = acts setting moves again (older ++ deed ∷ []) newer (child w.name number)
                 (at ∙ sym (append_assoc older (deed ∷ []) newer)) some;
           }
 
@@ -143,7 +139,7 @@ module _ {B : Type 0} (ops : BufferOps B) (model : Model) (bound : Binding) (law
           record { asked = kind.Exit; ends = ends Finish kind.Exit at refl; used = joined at any }
       used_by Fail at made used =
           let own =
-          fails_last ops.buffered bound code h older newer w.name k took other (follow ops model bound laws code lawful log is moves again) at in
+          fails_last ops.buffered bound code h older newer w.name k took other (follow setting moves again) at in
           absurd (false≢true (sym (apart w.name other_thread) ∙ same_self w.name f (same_Some w.name f (sym own ∙ failed))))
       used_by Silent at made used = absurd (true≢false used)
       used_by r at made used = absurd (true≢false used)
@@ -151,11 +147,11 @@ module _ {B : Type 0} (ops : BufferOps B) (model : Model) (bound : Binding) (law
     pub used : (places : List ℕ) → w.places ≡ places → (w.places ≡ []) ⊎ EndsUsed code log w
     used [] e = inl e
     used (p ∷ ps) e =
-        let all : steps_in h w.name ≡ length w.places = done ops model bound laws code lawful log is moves again j w there in
+        let all : steps_in h w.name ≡ length w.places = done setting moves again j w there in
         let long : length w.places ≡ length ps + 1 = ap length e ∙ omega arith in
         let d =
-        deed_of ops model bound laws code lawful log is (fits ops model bound laws code lawful log is moves again) h
-        (along ops model bound laws code lawful log is moves again) j w there (length ps) (omega (arith, all, long)) in
+        deed_of setting (fits setting moves again) h
+        (along setting moves again) j w there (length ps) (omega (arith, all, long)) in
         let deed = Did w.name (length ps) d.request d.took d.other in
         let count : steps_in h w.name ≡ steps_in d.older w.name + (1 + steps_in d.newer w.name) =
         ap (λ g. steps_in g w.name) d.at ∙ steps_both d.older (deed ∷ d.newer) w.name

@@ -5,24 +5,19 @@ use Rattle.std.specs.FinMap as fin
 use Rattle.std.proofs.lemmas.Bool.{leb-true, le-leb}
 use Rattle.std.proofs.lemmas.List.{length-append}
 use Rattle.std.proofs.lemmas.Option.{none-some, same_Some}
-use Rattle.tc_base.specs.Buffers.{BufferOps}
 use Rattle.run_log.specs.Logs.{Log}
 use Rattle.tc_base.specs.Paths.{Path, ThreadPath, path_under}
 use Rattle.tc_base.specs.Names.{Name}
 use Rattle.tc_base.specs.States.{Thread, State}
 use Rattle.tc_base.specs.declared.failing.Failing.{Failing}
 use Rattle.tc_base.specs.declared.failing.Failing.TheVariants as failing
-use Rattle.memory_models.specs.declared.model.Model.{Model}
 use Rattle.tc_base.specs.declared.moves.Move.{Move}
-use Rattle.tc_code.specs.Code.{Code}
-use Rattle.tc_code.specs.Lawful.{IsLawful}
 use Rattle.tc_code.specs.Run.{run, path_of, path_in, EndsAs, IsStuck, Reproduces}
 use Rattle.tc_code.proofs.Facts.{failed_as_logged}
-use Rattle.store_buffers.specs.Laws.{Laws}
-use Rattle.store_buffers.specs.Pending.{Binding}
 use Rattle.run_laws.proofs.Basics.{some_is, some_value}
 use Rattle.run_history.specs.History.{Deed, history}
 use Rattle.run_history.specs.Told.{failed_in}
+use Rattle.run_follows.specs.Machine.{Machine}
 use Rattle.run_follows.specs.Follow.{moves_for}
 use Rattle.run_follows.specs.Logged.{path_by, path_told}
 use Rattle.run_follows.proofs.Follows.{AllTold, all_told}
@@ -57,12 +52,14 @@ module _ {B : Type 0} where
       → (p : Path) → path_in s n ≡ Some p → a p.outcomes ≡ true
   bounded s n a within p is = bounded_by s n a within (fin.get s.threads n) refl p is
 
-  -- who ends as no failure is stuck
+  -- a state in which no thread has failed isn't the end of a failure's log
   not_failed : (s : State B) → s.failed ≡ None → (o : Option ThreadPath) → IsSomeAnd o (λ t. s.failed ≡ Some t.name) → ⊥
   not_failed s none None e = absurd e
   not_failed s none (Some t) e = none-some t.name (sym none ∙ e)
 
-module _ {B : Type 0} (ops : BufferOps B) (model : Model) (bound : Binding) (laws : Laws ops model bound) (code : Code) (lawful : IsLawful code) (allowed : Allowed) where
+module _ {B : Type 0} (machine : Machine B) (allowed : Allowed) where
+  open machine use {ops, model, bound, code}
+
   deadlock_by : (s : State B) (f : Failing) (ts : List ThreadPath) → s.failed ≡ None → EndsAs ops code f ts s → f ≡ failing.Deadlock
   deadlock_by s (failing.Thread k) ts none e = absurd (not_failed s none (slice_get ts k) e)
   deadlock_by s failing.Deadlock ts none e = refl
@@ -102,9 +99,9 @@ module _ {B : Type 0} (ops : BufferOps B) (model : Model) (bound : Binding) (law
       record {
         log = log;
         is = record {
-          paths = fit_together ops model bound laws code lawful log x.1.is_log c.moves again;
+          paths = fit_together (record { machine = machine; log = log; log_is = x.1.is_log }) c.moves again;
           ends = dead;
-          caused = caused ops model bound laws code lawful log x.1.is_log c.moves again dead;
+          caused = caused (record { machine = machine; log = log; log_is = x.1.is_log }) c.moves again dead;
         };
         under = x.1.model;
         within = λ n p is. bounded c.state n (allowed n) (c.within n) p (x.1.paths n ∙ is);
@@ -117,23 +114,23 @@ module _ {B : Type 0} (ops : BufferOps B) (model : Model) (bound : Binding) (law
     abbrev whole : List Deed
     whole = history ops code c.moves
 
-    told : AllTold ops model bound laws code lawful c.state whole
-    told = all_told ops model bound laws code lawful c.moves c.state c.leads
+    told : AllTold machine c.state whole
+    told = all_told machine c.moves c.state c.leads
 
     least : HasLeast ops.buffered bound code whole f
-    least = has_least ops model bound code laws lawful f whole told.follow (sym told.tells.failure ∙ fails)
+    least = has_least machine f whole told.follow (sym told.tells.failure ∙ fails)
 
     abbrev moves : List Move
     moves = moves_for bound least.deeds
 
     abbrev reached : (s : State B) × (run ops code (moves_for bound least.deeds) ≡ Some s) × (history ops code (moves_for bound least.deeds) ≡ least.deeds)
-    reached = follows_is_run ops model bound laws code lawful least.deeds least.run
+    reached = follows_is_run machine least.deeds least.run
 
     failed_there : failed_in (history ops code moves) ≡ Some f
     failed_there = ap failed_in reached.2 ∙ least.fails
 
     state_failed : reached.0.failed ≡ Some f
-    state_failed = (all_told ops model bound laws code lawful moves reached.0 reached.1).tells.failure ∙ failed_there
+    state_failed = (all_told machine moves reached.0 reached.1).tells.failure ∙ failed_there
 
     abbrev stored : (x : StoredLog) × IsLogOf model reached.0 x
     stored = some_log model reached.0 (has_threads ops code reached.0 (record { moves = moves; leads = reached.1 }))
@@ -149,7 +146,7 @@ module _ {B : Type 0} (ops : BufferOps B) (model : Model) (bound : Binding) (law
 
     within : (n : Name) (p : Path) → path_under n log.threads ≡ Some p → allowed n p.outcomes ≡ true
     within n p is =
-        let goes = (reproduces_as_logged ops model bound code log moves laws lawful again).paths n in
+        let goes = (reproduces_as_logged machine log moves again).paths n in
         let b = least.part n p (ap (λ g. path_told code g n) (sym reached.2) ∙ goes ∙ is) in
         begins n p.outcomes b.later
         (subst (λ os. allowed n os ≡ true) b.outcomes (bounded c.state n (allowed n) (c.within n) b.path (sym (whole_path n) ∙ b.there)))
@@ -158,10 +155,10 @@ module _ {B : Type 0} (ops : BufferOps B) (model : Model) (bound : Binding) (law
     fails_by = record {
       log = log;
       is = record {
-        paths = fit_together ops model bound laws code lawful log stored.1.is_log moves again;
+        paths = fit_together (record { machine = machine; log = log; log_is = stored.1.is_log }) moves again;
         fails = subst IsSome (sym stored.1.failing) (some_is reached.0.failed f state_failed);
         used = λ j w there other.
-            used ops model bound laws code lawful log stored.1.is_log moves again f failed_there
+            used (record { machine = machine; log = log; log_is = stored.1.is_log }) moves again f failed_there
             (subst (IsLeast f) (sym reached.2) least.least) j w there other w.places refl;
       };
       under = stored.1.model;
@@ -173,7 +170,7 @@ module _ {B : Type 0} (ops : BufferOps B) (model : Model) (bound : Binding) (law
   pub fails_to : HasBeginnings allowed → ComesTo ops code allowed (λ s. IsSome s.failed) → ReproducesSome ops code allowed model (IsNormal code)
   fails_to begins c = let f = some_value c.state.failed c.is in fails_by begins c f.0 f.1
 
--- the first of at most so many are at most so many
+-- the beginning of a list of at most `most` has at most `most`
 pub few_begin : (most : ℕ) → HasBeginnings (at_most most)
 few_begin most n first later few =
     let within = leb-true (length (first ++ later)) most few in

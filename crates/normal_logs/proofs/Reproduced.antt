@@ -1,18 +1,11 @@
 -- What a log tells that some moves reproduce.
 use Rattle.std.proofs.Common.{◌≡◌, ◌∙◌, ℕ, zero, suc, ◌+◌, ◌<◌, ℤ, true, List, ◌∷◌, ◌++◌, length, cond, Option, Some, refl, sym, ap, subst, arith, append_assoc}
 use Rattle.std.proofs.lemmas.Option.{none-some, same_Some}
-use Rattle.tc_base.specs.Buffers.{BufferOps}
-use Rattle.run_log.specs.Logs.{Log}
 use Rattle.tc_base.specs.Names.{Name, child}
-use Rattle.memory_models.specs.declared.model.Model.{Model}
 use Rattle.tc_base.specs.declared.moves.Move.{Move}
 use Rattle.tc_base.specs.declared.request.Request.{Request}
 use Rattle.tc_base.specs.declared.request.Request.TheVariants.{Await, Finish}
-use Rattle.tc_code.specs.Code.{Code}
-use Rattle.tc_code.specs.Lawful.{IsLawful}
 use Rattle.tc_code.specs.Run.{Reproduces}
-use Rattle.store_buffers.specs.Laws.{Laws}
-use Rattle.store_buffers.specs.Pending.{Binding}
 use Rattle.run_laws.proofs.Names.{same_self}
 use Rattle.run_history.specs.History.{Deed, Did, history}
 use Rattle.run_history.specs.Told.{is_exit_of, owner_in, steps_in, has_exited_in}
@@ -26,6 +19,7 @@ use Rattle.path_walk.specs.declared.event.Event.{Event}
 use Rattle.path_walk.specs.declared.event.EventKind.{EventKind}
 use Rattle.path_walk.specs.declared.event.EventKind.TheVariants as kind
 use Rattle.path_walk.specs.declared.event.Link.{Link}
+use Rattle.path_laws.specs.Setting.{Setting}
 use Rattle.path_laws.specs.Deeds.{kind_of}
 use Rattle.path_laws.specs.events.Done.{IsOpenAfter}
 use Rattle.path_laws.specs.history.Along.{IsAlongPaths, IsThread, IsNameOfThread, HasDoneAll}
@@ -51,16 +45,17 @@ join_of step (kind.Join c) l e = ap (λ (x : Link). kind.Join x.child) (same_Som
 join_of step kind.Load l e = absurd (none-some l e)
 join_of step k l e = absurd (none-some l e)
 
-module _ {B : Type 0} (ops : BufferOps B) (model : Model) (bound : Binding) (laws : Laws ops model bound) (code : Code) (lawful : IsLawful code) (log : Log)
-    (is : is_log log ≡ true) (moves : List Move) (again : Reproduces ops code log moves) where
+module _ {B : Type 0} (setting : Setting B) (moves : List Move) (again : Reproduces setting.ops setting.code setting.log moves) where
+  open setting use {machine, ops, model, bound, laws, code, lawful, log, log_is as is}
+
   abbrev pub h : List Deed
   h = history ops code moves
 
-  abbrev pub run : RunOf ops model bound laws code lawful log h
-  run = reproduced_run ops model bound laws code lawful log moves again
+  abbrev pub run : RunOf machine log h
+  run = reproduced_run machine log moves again
 
   abbrev pub along : IsAlongPaths ops.buffered bound code log h
-  along = reproduced_along ops model bound laws code lawful log moves again
+  along = reproduced_along machine log moves again
 
   abbrev pub fits : Fits code log
   fits = reproduced_fits code ops model bound laws lawful log moves again
@@ -76,8 +71,8 @@ module _ {B : Type 0} (ops : BufferOps B) (model : Model) (bound : Binding) (law
       → IsNameOfThread code log n
   step_named older newer n k r v o at =
       let first =
-      first_along ops model bound laws code lawful log older (Did n k r v o ∷ newer) (subst (IsAlongPaths ops.buffered bound code log) at along) in
-      thread_named ops model bound laws code lawful log is fits older n first (threads older newer n k r v o at).there
+      first_along machine log older (Did n k r v o ∷ newer) (subst (IsAlongPaths ops.buffered bound code log) at along) in
+      thread_named setting fits older n first (threads older newer n k r v o at).there
 
   -- who does a step in a later part of the history has a step on its path
   pub acts : (older newer : List Deed) (n : Name) → h ≡ older ++ newer → 0 < steps_in newer n → Acts code log n
@@ -87,13 +82,13 @@ module _ {B : Type 0} (ops : BufferOps B) (model : Model) (bound : Binding) (law
       let whole : h ≡ (older ++ s.older) ++ deed ∷ s.newer = at ∙ ap (λ g. older ++ g) s.there ∙ sym (append_assoc older s.older (deed ∷ s.newer)) in
       let t = step_named (older ++ s.older) s.newer n s.number s.request s.took s.other whole in
       let count : steps_in h n ≡ steps_in older n + steps_in newer n = ap (λ g. steps_in g n) at ∙ steps_both older newer n in
-      let all : steps_in h t.walk.name ≡ length t.walk.places = has_done ops model bound laws code lawful log is moves again t.place t.walk t.there in
+      let all : steps_in h t.walk.name ≡ length t.walk.places = has_done setting moves again t.place t.walk t.there in
       let own : steps_in h t.walk.name ≡ steps_in h n = ap (steps_in h) t.name in
       record { place = t.place; walk = t.walk; there = t.there; name = t.name; steps = omega (arith, some, count, all, own) }
 
   module _ (j : ℕ) (w : Walk) (there : IsThread code log j w) where
     pub done : HasDoneAll h w
-    done = has_done ops model bound laws code lawful log is moves again j w there
+    done = has_done setting moves again j w there
 
     pub walk : IsWalk code log w
     walk = walk_is code log is fits j w there
@@ -116,7 +111,7 @@ module _ {B : Type 0} (ops : BufferOps B) (model : Model) (bound : Binding) (law
         → k + 1 ≡ length w.places → kind_of r o ≡ Some asked → EndsWith w asked
     ends_with older newer k r v o asked at last asks =
         let x =
-        done_event ops model bound laws code lawful log is fits h along j w there k asked
+        done_event setting fits h along j w there k asked
         (record { older = older; newer = newer; request = r; took = v; other = o; there = at; asks = asks }) in
         record { event = x.0; there = contains_in x.0 w.events x.1; asks = x.3; last = ap (λ i. i + 1) x.2 ∙ last }
 
@@ -147,7 +142,7 @@ module _ {B : Type 0} (ops : BufferOps B) (model : Model) (bound : Binding) (law
         let asks = join_of from.of.step from.of.kind l from.gives in
         let within = event_within code log w walk from.of from.there in
         let all : steps_in h w.name ≡ length w.places = done in
-        let d = event_done ops model bound laws code lawful log is fits h along j w there from.of from.there (omega (arith, within, all)) in
+        let d = event_done setting fits h along j w there from.of from.there (omega (arith, within, all)) in
         let request = await_is d.request d.other l.child (d.asks ∙ ap (λ k. Some k) asks) in
         let at : h ≡ d.older ++ Did w.name from.of.step (Await l.child) d.took d.other ∷ d.newer =
         d.there ∙ ap (λ r. d.older ++ Did w.name from.of.step r d.took d.other ∷ d.newer) request in
@@ -160,7 +155,7 @@ module _ {B : Type 0} (ops : BufferOps B) (model : Model) (bound : Binding) (law
         → (l : Link) × In l w.joins × (l.child ≡ c)
     join_there older newer k c v o at =
         let x =
-        done_event ops model bound laws code lawful log is fits h along j w there k (kind.Join c)
+        done_event setting fits h along j w there k (kind.Join c)
         (record { older = older; newer = newer; request = Await c; took = v; other = o; there = at; asks = refl }) in
         let l = link x.0.step c in
         let gives : join_by x.0.step x.0.kind ≡ Some l = ap (join_by x.0.step) x.3 in
@@ -174,7 +169,7 @@ module _ {B : Type 0} (ops : BufferOps B) (model : Model) (bound : Binding) (law
   -- who holds a mutex at the end of its path owns it
   pub end_owned : (j m : ℕ) (w : Walk) → IsThread code log j w → HoldsAtEnd w m → owner_in h m ≡ Some w.name
   end_owned j m w there holds =
-      (region_owned ops model bound laws code lawful log is fits h along j w there m).1
+      (region_owned setting fits h along j w there m).1
       (holds.region, holds.there, holds.of, subst (λ n. IsOpenAfter n holds.region) (sym (done j w there)) holds.lasts)
 
   pub fit_together : FitTogether code log

@@ -5,31 +5,23 @@
 #![tactic(auto)]
 
 ghost use Rattle.std.specs.Prelude.{◌↔◌, ℕ, IsSome};
-ghost use Rattle.tc_base.specs.Buffers.{BufferOps};
-ghost use Rattle.memory_models.specs.declared.model.Model.{Model};
-ghost use Rattle.tc_code.specs.Code.{Code};
-ghost use Rattle.tc_code.specs.Lawful.{IsLawful};
 ghost use Rattle.tc_code.specs.Run.{IsStuck};
-ghost use Rattle.store_buffers.specs.Laws.{Laws};
-ghost use Rattle.store_buffers.specs.Pending.{Binding};
 ghost use Rattle.normal_logs.specs.Normal.{IsNormal, IsNormalDeadlock};
 ghost use Rattle.normal_logs.specs.Within.{Allowed, at_most, HasBeginnings, ComesTo, ReproducesSome};
+ghost use Rattle.run_follows.specs.Machine.{Machine};
 
 /// Some run fails with allowed outcomes if and only if some run reproduces a normal log with
 /// allowed outcomes, under every memory model. Every prefix of allowed outcomes must be allowed, as
 /// with a limit on their number.
 pub fn failures_have_normal_logs<B>()
-    ensures allowed { (ops : BufferOps B) (model : Model) (bound : Binding) (code : Code) (allowed : Allowed)
-        → Laws ops model bound → IsLawful code → HasBeginnings allowed
-        → ComesTo ops code allowed (λ s. IsSome s.failed) ↔ ReproducesSome ops code allowed model (IsNormal code) }
-    ensures most { (ops : BufferOps B) (model : Model) (bound : Binding) (code : Code) (most : ℕ)
-        → Laws ops model bound → IsLawful code
-        → ComesTo ops code (at_most most) (λ s. IsSome s.failed) ↔ ReproducesSome ops code (at_most most) model (IsNormal code) }
+    ensures allowed { (m : Machine B) (allowed : Allowed) → HasBeginnings allowed
+        → ComesTo m.ops m.code allowed (λ s. IsSome s.failed) ↔ ReproducesSome m.ops m.code allowed m.model (IsNormal m.code) }
+    ensures most { (m : Machine B) (most : ℕ)
+        → ComesTo m.ops m.code (at_most most) (λ s. IsSome s.failed) ↔ ReproducesSome m.ops m.code (at_most most) m.model (IsNormal m.code) }
 {}
 
 /// The same for deadlocks, for any allowed outcomes.
 pub fn deadlocks_have_normal_logs<B>()
-    ensures { (ops : BufferOps B) (model : Model) (bound : Binding) (code : Code) (allowed : Allowed)
-        → Laws ops model bound → IsLawful code
-        → ComesTo ops code allowed (IsStuck ops code) ↔ ReproducesSome ops code allowed model (IsNormalDeadlock code) }
+    ensures { (m : Machine B) (allowed : Allowed)
+        → ComesTo m.ops m.code allowed (IsStuck m.ops m.code) ↔ ReproducesSome m.ops m.code allowed m.model (IsNormalDeadlock m.code) }
 {}

@@ -1,20 +1,13 @@
 -- The formula of a log is true in some world exactly where some order is lawful.
-use Rattle.std.proofs.Common.{◌≡◌, true, List, [], ◌++◌, refl, sym, subst}
+use Rattle.std.proofs.Common.{◌≡◌, List, [], ◌++◌, refl, sym, subst}
 use Rattle.std.specs.Prelude.{◌↔◌, fold}
-use Rattle.tc_base.specs.Buffers.{BufferOps}
-use Rattle.run_log.specs.Logs.{Log}
-use Rattle.memory_models.specs.declared.model.Model.{Model}
 use Rattle.tc_base.specs.declared.moves.Move.{Move}
-use Rattle.tc_code.specs.Code.{Code}
-use Rattle.tc_code.specs.Lawful.{IsLawful}
 use Rattle.tc_code.specs.Run.{Reproduces}
-use Rattle.store_buffers.specs.Laws.{Laws}
-use Rattle.store_buffers.specs.Pending.{Binding}
-use Rattle.run_log.specs.Logs.{is_log}
 use Rattle.path_walk.specs.Fits.{Fits}
 use Rattle.path_walk.specs.Paths.{ArePaths, Paths, paths_of}
 use Rattle.run_follows.specs.Follow.{moves_for}
 use Rattle.run_history.specs.History.{history}
+use Rattle.path_laws.specs.Setting.{Setting}
 use Rattle.sym_terms.specs.Terms.{AreTerms, with_node}
 use Rattle.sym_exec.specs.Executed.{Executed, executed}
 use Rattle.sym_exec.specs.Making.{Grows}
@@ -39,8 +32,9 @@ use Rattle.clap_system.proofs.Needs.{parts_exact}
 use Rattle.orders_are_runs.specs.Possible.{IsPossible}
 use Rattle.orders_are_runs.proofs.Terms.{no_terms, system_terms}
 
-module _ {B : Type 0} (ops : BufferOps B) (model : Model) (bound : Binding) (code : Code) (log : Log) (laws : Laws ops model bound) (lawful : IsLawful code)
-    (is : is_log log ≡ true) (fits : Fits code log) where
+module _ {B : Type 0} (setting : Setting B) (fits : Fits setting.code setting.log) where
+  open setting use {ops, bound, laws, code, lawful, log}
+
   abbrev paths : Paths
   paths = paths_of code log
 
@@ -77,14 +71,11 @@ module _ {B : Type 0} (ops : BufferOps B) (model : Model) (bound : Binding) (cod
   terms = system_terms ops.buffered bound code paths lawful
 
   -- a world in which the formula is true is lawful
-  pub possible_is_lawful : (p : IsPossible ops.buffered bound code log) → IsLawfulWorld ops model bound code log [] p.world
+  pub possible_is_lawful : (p : IsPossible ops.buffered bound code log) → IsLawfulWorld setting [] p.world
   possible_is_lawful p =
       let parts = parts_exact ops.buffered bound code paths p.world laws.same_cell lawful are_paths terms p.is p.of in
       let all = lawful_where_true ops.buffered bound code paths x.symbolic s.nodes p.world parts p.holds in
       record {
-        laws = laws;
-        code_is = lawful;
-        log_is = is;
         fits = fits;
         lives = p.lives;
         terms = no_terms;
@@ -96,7 +87,7 @@ module _ {B : Type 0} (ops : BufferOps B) (model : Model) (bound : Binding) (cod
   pub possible_is_run : IsPossible ops.buffered bound code log → (moves : List Move) × Reproduces ops code log moves
   possible_is_run p = (
     moves_for bound (plan ops.buffered code paths p.world),
-    plan_reproduces ops model bound code log [] p.world (possible_is_lawful p) (given ops model bound code log [] p.world (possible_is_lawful p)),
+    plan_reproduces setting [] p.world (possible_is_lawful p) (given setting [] p.world (possible_is_lawful p)),
   )
 
   module _ (moves : List Move) (again : Reproduces ops code log moves) where
@@ -116,8 +107,8 @@ module _ {B : Type 0} (ops : BufferOps B) (model : Model) (bound : Binding) (cod
           (record { meets = λ g. (rule_stays run_world g).0 (l.lawful.meets g) });
     }
       where
-        l : IsLawfulWorld ops model bound code log [] run_world
-        l = is_lawful ops model bound laws code lawful log is [] no_terms moves again
+        l : IsLawfulWorld setting [] run_world
+        l = is_lawful setting [] no_terms moves again
 
     pub run_world_is : run_is_possible.world ≡ run_world
     unfolding run_is_possible

@@ -1,3 +1,4 @@
+pub mod Setting
 pub mod Along
 pub mod Deeds
 pub mod Prefixes

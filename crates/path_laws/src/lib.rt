@@ -12,14 +12,12 @@ ghost use Rattle.run_log.specs.Logs.{Log};
 ghost use Rattle.tc_base.specs.Paths.{ThreadPath};
 ghost use Rattle.tc_base.specs.Names.{Name};
 ghost use Rattle.tc_base.specs.States.{State, Thread};
-ghost use Rattle.memory_models.specs.declared.model.Model.{Model};
 ghost use Rattle.tc_base.specs.declared.moves.Move.{Move};
 ghost use Rattle.tc_code.specs.Code.{Code};
 ghost use Rattle.tc_code.specs.Lawful.{IsLawful};
 ghost use Rattle.tc_code.specs.Run.{run, Reproduces, IsReached};
-ghost use Rattle.store_buffers.specs.Laws.{Laws};
-ghost use Rattle.store_buffers.specs.Pending.{Binding};
 ghost use Rattle.run_history.specs.History.{history};
+ghost use Rattle.run_follows.specs.Machine.{Machine};
 ghost use Rattle.path_walk.specs.Fits.{Fits};
 ghost use Rattle.path_walk.specs.Paths.{paths_of, walk_of};
 ghost use Rattle.path_laws.specs.Along.{IsAlong};
@@ -42,14 +40,12 @@ pub fn threads_go_along<B>()
 /// thread that has not exited is at an instruction that can block, since a buffer's oldest store
 /// may always drain.
 pub fn reproduced_logs_fit<B>()
-    ensures { (ops : BufferOps B) (model : Model) (bound : Binding) (code : Code) (log : Log) (moves : List Move)
-        → Laws ops model bound → IsLawful code → Reproduces ops code log moves → Fits code log }
+    ensures { (m : Machine B) (log : Log) (moves : List Move) → Reproduces m.ops m.code log moves → Fits m.code log }
 {}
 
 /// If the paths of a log are dead, no moves reproduce it, under any memory model.
 pub fn dead_logs_are_not_reproduced<B>()
-    ensures { (ops : BufferOps B) (model : Model) (bound : Binding) (code : Code) (log : Log) (moves : List Move)
-        → Laws ops model bound → IsLawful code → (paths_of code log).dead ≡ true → Reproduces ops code log moves → ⊥ }
+    ensures { (m : Machine B) (log : Log) (moves : List Move) → (paths_of m.code log).dead ≡ true → Reproduces m.ops m.code log moves → ⊥ }
 {}
 
 /// Moves that reproduce a log lead each thread along its path: after any first part of the moves,

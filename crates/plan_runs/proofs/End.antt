@@ -7,16 +7,12 @@ use Rattle.std.specs.Option.{option_map_or}
 use Rattle.std.proofs.Math.Nat.{le-max_left, le-max_right}
 use Rattle.std.proofs.lemmas.Bool.{false≢true}
 use Rattle.std.proofs.lemmas.Option.{none-some, same_Some}
-use Rattle.tc_base.specs.Buffers.{BufferOps}
-use Rattle.run_log.specs.Logs.{Log}
-use Rattle.memory_models.specs.declared.model.Model.{Model}
-use Rattle.tc_code.specs.Code.{Code}
-use Rattle.store_buffers.specs.Pending.{Binding}
 use Rattle.path_walk.specs.Fits.{fails_in}
 use Rattle.path_walk.specs.Paths.{Walk, Paths, paths_of}
 use Rattle.path_walk.specs.declared.event.Event.{Event}
 use Rattle.path_walk.specs.declared.event.EventKind.{EventKind}
 use Rattle.path_walk.specs.declared.event.EventKind.TheVariants as kind
+use Rattle.path_laws.specs.Setting.{Setting}
 use Rattle.path_laws.specs.history.Along.{IsThread}
 use Rattle.sym_terms.specs.declared.node.Node.{Node}
 use Rattle.order_formula.specs.Worlds.{World}
@@ -49,8 +45,9 @@ below_all a [] k within = absurd (omega (arith, within))
 below_all a (x ∷ xs) zero within = let rest = at_least (max a (x + 1)) xs in let first = le-max_right a (x + 1) in omega (arith, rest, first)
 below_all a (x ∷ xs) (suc k) within = below_all (max a (x + 1)) xs k (omega (arith, within))
 
-module _ {B : Type 0} (ops : BufferOps B) (model : Model) (bound : Binding) (code : Code) (log : Log) (nodes : List Node) (w : World)
-    (l : IsLawfulWorld ops model bound code log nodes w) where
+module _ {B : Type 0} (setting : Setting B) (nodes : List Node) (w : World) (l : IsLawfulWorld setting nodes w) where
+  open setting use {ops, code, log}
+
   abbrev paths : Paths
   paths = paths_of code log
 
@@ -80,7 +77,7 @@ module _ {B : Type 0} (ops : BufferOps B) (model : Model) (bound : Binding) (cod
       by (Some e) is =
           let f = of_find (λ (a : Of Event). is_failure a.it.kind) (all_events paths) e is in
           let i = in_at (all_events paths) e f.0 in
-          let q = event_numbered paths (paths_whole ops model bound code log nodes w l) i.0 e i.1 in
+          let q = event_numbered paths (paths_whole setting nodes w l) i.0 e i.1 in
           inl (e, record { walk = q.0; there = q.1; among = q.2; fails = failure_is e.it.kind f.1; last = sym (ap end_by is) })
       by None none =
           inr (record {
@@ -102,9 +99,9 @@ module _ {B : Type 0} (ops : BufferOps B) (model : Model) (bound : Binding) (cod
       by (inr none) = absurd (none.kinds t q x there i fails)
       by (inl one) =
           let f = one.1 in
-          let mine = fail_is_last code log l.log_is l.fits t q x there i fails in
-          let its = fail_is_last code log l.log_is l.fits one.0.thread f.walk one.0.it f.there f.among f.fails in
-          let thread = one_failing code log l.log_is t one.0.thread q f.walk there f.there mine.0 its.0 in
+          let mine = fail_is_last code log setting.log_is l.fits t q x there i fails in
+          let its = fail_is_last code log setting.log_is l.fits one.0.thread f.walk one.0.it f.there f.among f.fails in
+          let thread = one_failing code log setting.log_is t one.0.thread q f.walk there f.there mine.0 its.0 in
           let walk : q ≡ f.walk = same_Some q f.walk (sym there ∙ ap (slice_get paths.threads) thread ∙ f.there) in
           let step : x.step ≡ one.0.it.step = omega (arith, mine.1, its.1, ap (λ (v : Walk). length v.places) walk) in
           ap (λ u. place_of paths w u x.step) thread ∙ ap (place_of paths w one.0.thread) step ∙ f.last
@@ -134,5 +131,5 @@ module _ {B : Type 0} (ops : BufferOps B) (model : Model) (bound : Binding) (cod
       by (inr none) = none.before t q x there i
       by (inl one) =
           let f = one.1 in
-          let its = fail_is_last code log l.log_is l.fits one.0.thread f.walk one.0.it f.there f.among f.fails in
+          let its = fail_is_last code log setting.log_is l.fits one.0.thread f.walk one.0.it f.there f.among f.fails in
           absurd (false≢true (sym (no_thread one.0.thread f.walk f.there) ∙ its.0))

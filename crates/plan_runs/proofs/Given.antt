@@ -3,14 +3,11 @@ use Rattle.std.specs.Prelude.{◌≡◌, ◌⊎◌, ℕ, suc, ◌<◌, ◌==◌,
 use Rattle.std.specs.Prelude.{Option, Some, None, slice_get, slice_index_or}
 use Rattle.std.specs.FinSet as set
 use Rattle.std.specs.List.{Contains}
-use Rattle.tc_base.specs.Buffers.{BufferOps}
 use Rattle.list_laws.specs.Lists.{is_nil}
-use Rattle.run_log.specs.Logs.{Log}
 use Rattle.tc_base.specs.Names.{Name, child}
 use Rattle.tc_base.specs.declared.failing.Failing.TheVariants.{Deadlock}
 use Rattle.tc_base.specs.declared.request.Request.{Request}
-use Rattle.tc_code.specs.Code.{Code}
-use Rattle.store_buffers.specs.Pending.{Binding, stores}
+use Rattle.store_buffers.specs.Pending.{stores}
 use Rattle.run_history.specs.History.{Deed, Did, Drained, pending}
 use Rattle.run_history.specs.Locals.{asks_next}
 use Rattle.run_history.specs.Told.{steps_in, owner_in, waiting_in, is_thread_in, has_exited_in}
@@ -21,6 +18,7 @@ use Rattle.path_walk.specs.Paths.{Walk, paths_of}
 use Rattle.path_walk.specs.declared.event.Event.{Event}
 use Rattle.path_walk.specs.declared.event.EventKind.{EventKind}
 use Rattle.path_walk.specs.declared.event.EventKind.TheVariants as kind
+use Rattle.path_laws.specs.Setting.{Setting}
 use Rattle.path_laws.specs.Deeds.{kind_of}
 use Rattle.path_laws.specs.history.Along.{IsAlongPaths, IsThread, AllHaveDone, AllAreThere}
 use Rattle.sym_exec.specs.Executed.{Course}
@@ -38,12 +36,14 @@ use Rattle.world_plan.specs.Sights.{AreInOrder}
 abbrev pub IsQuiet : Bool → Option EventKind → Type 0
 IsQuiet buffered k = (k ≡ None) ⊎ ((buffered ≡ true) × (k ≡ Some kind.Store))
 
-module _ {B : Type 0} (ops : BufferOps B) (bound : Binding) (code : Code) (log : Log) (nodes : List Node) (w : World) where
+module _ {B : Type 0} (setting : Setting B) (nodes : List Node) (w : World) where
+  open setting use {ops, bound, code, log}
+
   abbrev pub Gone : ℕ → List Deed → Type 0
-  Gone p h = HasGone ops.buffered bound code log nodes w p h
+  Gone p h = HasGone setting nodes w p h
 
   abbrev pub At : ℕ → List Deed → ℕ → Walk → Event → Type 0
-  At p h t q x = IsAtEvent ops.buffered bound code log nodes w p h t q x
+  At p h t q x = IsAtEvent setting nodes w p h t q x
 
   abbrev pub Along : List Deed → Type 0
   Along h = IsAlongPaths ops.buffered bound code log h

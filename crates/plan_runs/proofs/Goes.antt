@@ -6,18 +6,15 @@ use Rattle.std.specs.List.{Contains}
 use Rattle.std.specs.Option.{option_map_or}
 use Rattle.std.proofs.lemmas.Bool.{cases_order}
 use Rattle.std.proofs.lemmas.Option.{none-some}
-use Rattle.tc_base.specs.Buffers.{BufferOps}
-use Rattle.run_log.specs.Logs.{Log}
 use Rattle.tc_base.specs.Names.{Name}
-use Rattle.memory_models.specs.declared.model.Model.{Model}
 use Rattle.tc_code.specs.Code.{Code}
-use Rattle.store_buffers.specs.Pending.{Binding}
 use Rattle.run_history.specs.History.{Deed, Drained}
 use Rattle.run_history.specs.Told.{steps_in, is_thread_in}
 use Rattle.path_walk.specs.Paths.{Walk, Paths, paths_of}
 use Rattle.path_walk.specs.declared.event.Event.{Event}
 use Rattle.path_walk.specs.declared.event.EventKind.TheVariants as kind
 use Rattle.path_walk.specs.declared.event.Sleep.{Sleep}
+use Rattle.path_laws.specs.Setting.{Setting}
 use Rattle.path_laws.specs.history.Along.{IsThread}
 use Rattle.path_laws.proofs.of_events.Events.{event_within}
 use Rattle.path_laws.proofs.of_events.Lists.{in_contains}
@@ -52,19 +49,20 @@ pub goes_last : (buffered : Bool) (code : Code) (paths : Paths) (w : World) (m :
 goes_last buffered code paths w zero h t n = refl
 goes_last buffered code paths w (suc m) h t n = goes_last buffered code paths w m (h ++ does_next buffered code paths w h t n) t n
 
-module _ {B : Type 0} (ops : BufferOps B) (model : Model) (bound : Binding) (code : Code) (log : Log) (nodes : List Node) (w : World)
-    (l : IsLawfulWorld ops model bound code log nodes w) (g : Given ops bound code log nodes w) where
+module _ {B : Type 0} (setting : Setting B) (nodes : List Node) (w : World) (l : IsLawfulWorld setting nodes w) (g : Given setting nodes w) where
+  open setting use {machine, ops, code, log}
+
   abbrev paths : Paths
   paths = paths_of code log
 
   abbrev is_gone : ℕ → List Deed → Type 0
-  is_gone p h = Gone ops bound code log nodes w p h
+  is_gone p h = Gone setting nodes w p h
 
   abbrev goes : ℕ → List Deed → ℕ → Name → List Deed
   goes m h t n = goes_on ops.buffered code paths w m h t n
 
   abbrev Quiet : Walk → ℕ → Type 0
-  Quiet q k = QuietAt ops model bound code log nodes w l g q k
+  Quiet q k = QuietAt setting nodes w l g q k
 
   -- a thread has done so many steps more, and nobody has seen anything
   pub record Reached (p : ℕ) (h : List Deed) (q : Walk) (k : ℕ) (later : List Deed) : Type 0 where
@@ -77,14 +75,14 @@ module _ {B : Type 0} (ops : BufferOps B) (model : Model) (bound : Binding) (cod
       → Reached p h q (steps_in h q.name + m) (goes m h t q.name)
   quiet_on zero p h gone t q there is_there few quiet = record { gone = gone; steps = omega arith; on = goes_nowhere h }
   quiet_on (suc m) p h gone t q there is_there few quiet =
-      let n = next_is ops model bound code log nodes w l p h gone t q there is_there (omega (arith, few)) in
-      let d = next.deed ops model bound code log nodes w l p h gone t q there n in
-      let one = one_more ops model bound code log nodes w l g p h gone t q there n in
-      let later = quiet_goes ops model bound code log nodes w l g p h gone t q there n (quiet (steps_in h q.name) (omega arith) (omega arith)) in
+      let n = next_is setting nodes w l p h gone t q there is_there (omega (arith, few)) in
+      let d = next.deed setting nodes w l p h gone t q there n in
+      let one = one_more setting nodes w l g p h gone t q there n in
+      let later = quiet_goes setting nodes w l g p h gone t q there n (quiet (steps_in h q.name) (omega arith) (omega arith)) in
       let rest = quiet_on m p (h ++ d ∷ []) later t q there (one.goes.there q.name is_there) (omega (arith, one.steps, few))
       (λ k low high. quiet k (omega (arith, low, one.steps)) (omega (arith, high, one.steps))) in
       subst (λ ds. Reached p h q (steps_in h q.name + suc m) (goes m (h ++ ds) t q.name))
-      (sym (next.does_it ops model bound code log nodes w l p h gone t q there n))
+      (sym (next.does_it setting nodes w l p h gone t q there n))
       (record {
         gone = rest.gone;
         steps = omega (arith, rest.steps, one.steps);
@@ -108,7 +106,7 @@ module _ {B : Type 0} (ops : BufferOps B) (model : Model) (bound : Binding) (cod
           absurd (omega (arith, done, low, step))
 
   pub within : (t : ℕ) (q : Walk) (x : Event) → IsThread code log t q → Contains q.events x → x.step < length q.places
-  within t q x there i = event_within code log q (walk_is code log l.log_is l.fits t q there) x (in_contains x q.events i)
+  within t q x there i = event_within code log q (walk_is code log setting.log_is l.fits t q there) x (in_contains x q.events i)
 
   -- An event that comes.
   module _ (p : ℕ) (h : List Deed) (gone : is_gone p h) (t : ℕ) (q : Walk) (x : Event) (there : IsThread code log t q) (i : Contains q.events x)
@@ -127,14 +125,14 @@ module _ {B : Type 0} (ops : BufferOps B) (model : Model) (bound : Binding) (cod
             | inl less ↦ quiet_before p h gone t q x there i here k low less
             | inr same ↦ λ y j step.
                 ap (is_pending ops.buffered)
-                (one_event paths (paths_whole ops model bound code log nodes w l) t q y x there j i (step ∙ same))
+                (one_event paths (paths_whole setting nodes w l) t q y x there j i (step ∙ same))
                 ∙ waits
           ]
 
       pub few_left : steps_in h q.name + (x.step + 1 - steps_in h q.name) ≤ length q.places
       few_left =
           elim (at_most (x.step + 1) (steps_in h q.name)) [
-            | inl done ↦ omega (arith, done, few_steps ops model bound l.laws code l.code_is log l.log_is l.fits h t q gone.along there)
+            | inl done ↦ omega (arith, done, few_steps setting l.fits h t q gone.along there)
             | inr left ↦ omega (arith, left, within t q x there i)
           ]
 
@@ -148,7 +146,7 @@ module _ {B : Type 0} (ops : BufferOps B) (model : Model) (bound : Binding) (cod
           let turn = g.turns p upto t q x issued.gone there i waits here done in
           let d = Drained q.name x.step turn.0 turn.1 in
           subst (λ ds. is_gone (suc p) (upto ++ ds) × GoesOn h (upto ++ ds)) (sym turn.3) (
-            drain_goes ops model bound code log nodes w l g p upto issued.gone t q there x i here waits done turn.0 turn.1 turn.2,
+            drain_goes setting nodes w l g p upto issued.gone t q there x i here waits done turn.0 turn.1 turn.2,
             goes_further h upto (upto ++ d ∷ []) issued.on (goes_push upto d),
           )
 
@@ -174,12 +172,12 @@ module _ {B : Type 0} (ops : BufferOps B) (model : Model) (bound : Binding) (cod
           (λ k low high. quiet_before p h gone t q x there i here k low (omega (arith, high, low, not_done))) in
           record { gone = r.gone; steps = omega (arith, r.steps, not_done); on = r.on }
 
-      pub at_it : At ops bound code log nodes w p before t q x
+      pub at_it : At setting nodes w p before t q x
       at_it = record { gone = come.gone; thread = there; event = i; at = here; steps = come.steps }
 
-      pub next_there : NextIs ops model bound code log nodes w l before t q
+      pub next_there : NextIs setting nodes w l before t q
       next_there =
-          next_is ops model bound code log nodes w l p before come.gone t q there (come.on.there q.name is_there)
+          next_is setting nodes w l p before come.gone t q there (come.on.there q.name is_there)
           (omega (arith, come.steps, within t q x there i))
 
       upto_is : upto ≡ before ++ does_next ops.buffered code paths w before t q.name
@@ -190,10 +188,10 @@ module _ {B : Type 0} (ops : BufferOps B) (model : Model) (bound : Binding) (cod
       pub event_passes : x.kind ≢ kind.Fail → is_gone (suc p) upto × GoesOn h upto
       event_passes not =
           let n = next_there in
-          let d = next.deed ops model bound code log nodes w l p before come.gone t q there n in
+          let d = next.deed setting nodes w l p before come.gone t q there n in
           subst (λ k. is_gone (suc p) k × GoesOn h k)
-          (sym (upto_is ∙ ap (λ ds. before ++ ds) (next.does_it ops model bound code log nodes w l p before come.gone t q there n))) (
-            event_goes ops model bound code log nodes w l g p before come.gone t q there n x at_it now not,
+          (sym (upto_is ∙ ap (λ ds. before ++ ds) (next.does_it setting nodes w l p before come.gone t q there n))) (
+            event_goes setting nodes w l g p before come.gone t q there n x at_it now not,
             goes_further h before (before ++ d ∷ []) come.on (goes_push before d),
           )
 
@@ -210,7 +208,7 @@ module _ {B : Type 0} (ops : BufferOps B) (model : Model) (bound : Binding) (cod
   -- A position without an event.
   module _ (p : ℕ) (h : List Deed) (gone : is_gone p h) (none : event_at paths w p ≡ None) where
     nowhere : (t : ℕ) (q : Walk) (x : Event) → IsThread code log t q → Contains q.events x → place code log w t x ≡ p → ⊥
-    nowhere t q x there i at = none_at paths w l.world l.of.events (paths_whole ops model bound code log nodes w l) p t q x none there i at
+    nowhere t q x there i at = none_at paths w l.world l.of.events (paths_whole setting nodes w l) p t q x none there i at
 
     -- so nothing ends a sleep there
     no_ender : (s k : ℕ) (x : Of Sleep) → slice_get (all_sleeps paths) s ≡ Some x → ender_of w s ≡ Some k → position w k ≡ p → ⊥
@@ -222,7 +220,7 @@ module _ {B : Type 0} (ops : BufferOps B) (model : Model) (bound : Binding) (cod
       where
         of_event : (e : Of Event) → slice_get (all_events paths) k ≡ Some e → ⊥
         of_event e here =
-            let whole = paths_whole ops model bound code log nodes w l in
+            let whole = paths_whole setting nodes w l in
             let q = event_numbered paths whole k e here in
             nowhere e.thread q.0 e.it q.1 q.2 (ap (position w) (number_is paths whole k e here) ∙ at)
 
@@ -269,7 +267,7 @@ module _ {B : Type 0} (ops : BufferOps B) (model : Model) (bound : Binding) (cod
   -- At the start.
   pub starts : is_gone 0 []
   starts = record {
-    along = start_along ops model bound l.laws code l.code_is log l.fits;
+    along = start_along machine log l.fits;
     agrees = λ c a m r took other ic ia is one. absurd (none-some _ one.1);
     going = refl;
     did = λ t q x there i before. absurd (omega (arith, before));
@@ -295,7 +293,7 @@ module _ {B : Type 0} (ops : BufferOps B) (model : Model) (bound : Binding) (cod
     event_is_passed : (p : ℕ) (h : List Deed) → is_gone p h → p < end → (e : Of Event) → event_at paths w p ≡ Some e
         → is_gone (suc p) (with_event ops.buffered code paths w h e)
     event_is_passed p h gone lt e is =
-        let a = event_at_is paths w l.world l.of.events (paths_whole ops model bound code log nodes w l) p e is in
+        let a = event_at_is paths w l.world l.of.events (paths_whole setting nodes w l) p e is in
         subst (is_gone (suc p)) (ap (by_walk h e) (sym a.1))
         (passes p h gone e.thread a.0 e.it a.1 a.2 a.3 (unfailed e.thread a.0 e.it a.1 a.2 (omega (arith, a.3, lt)))).0
 

@@ -1,15 +1,11 @@
 -- What the rules of a lawful order let a thread do.
 use Rattle.std.proofs.Common.{◌≡◌, ◌∙◌, inl, inr, suc, ◌+◌, ◌&&◌, Bool, true, List, [], ◌∷◌, ◌++◌, Option, Some, None, refl, ap, arith, subst}
 use Rattle.std.specs.Prelude.{option_and_then, if◌then◌else◌}
-use Rattle.tc_base.specs.Buffers.{BufferOps}
-use Rattle.run_log.specs.Logs.{Log}
-use Rattle.memory_models.specs.declared.model.Model.{Model}
-use Rattle.tc_code.specs.Code.{Code}
-use Rattle.store_buffers.specs.Pending.{Binding}
 use Rattle.run_history.specs.History.{Did, Drained}
 use Rattle.run_history.specs.Told.{steps_in}
 use Rattle.path_walk.specs.Paths.{paths_of}
 use Rattle.path_walk.specs.declared.event.EventKind.{EventKind}
+use Rattle.path_laws.specs.Setting.{Setting}
 use Rattle.path_laws.specs.Deeds.{kind_of}
 use Rattle.sym_terms.specs.declared.node.Node.{Node}
 use Rattle.order_formula.specs.Worlds.{World}
@@ -37,45 +33,46 @@ hidden buffered s k (inr store) =
     ap (option_and_then (λ kind. if buffered && is_store kind then None else Some s)) store.1
     ∙ ap (λ b. if b && true then None else Some s) store.0
 
-module _ {B : Type 0} (ops : BufferOps B) (model : Model) (bound : Binding) (code : Code) (log : Log) (nodes : List Node) (w : World)
-    (l : IsLawfulWorld ops model bound code log nodes w) where
-  pub given : Given ops bound code log nodes w
+module _ {B : Type 0} (setting : Setting B) (nodes : List Node) (w : World) (l : IsLawfulWorld setting nodes w) where
+  open setting use {ops, code, log}
+
+  pub given : Given setting nodes w
   given = record {
-    empties = empty_there ops model bound code log nodes w l;
-    loads = λ p h t q x at r asks course a m there i step takes. takes_its ops model bound code log nodes w l p h t q x at r asks course a m there i step takes;
-    turns = λ p h t q x gone there. has_turn ops model bound code log nodes w l p h gone t q there x;
-    steps_drain = λ p h n k r took other gone. step_drained ops model bound code log nodes w l p h gone n k r took other;
+    empties = empty_there setting nodes w l;
+    loads = λ p h t q x at r asks course a m there i step takes. takes_its setting nodes w l p h t q x at r asks course a m there i step takes;
+    turns = λ p h t q x gone there. has_turn setting nodes w l p h gone t q there x;
+    steps_drain = λ p h n k r took other gone. step_drained setting nodes w l p h gone n k r took other;
     quiet_seen = λ p h t q k r took other gone there quiet. (
-      step_drained ops model bound code log nodes w l p h gone q.name k r took other,
-      quiet_order ops model bound code log nodes w l p h gone (Did q.name k r took other)
+      step_drained setting nodes w l p h gone q.name k r took other,
+      quiet_order setting nodes w l p h gone (Did q.name k r took other)
           (hidden ops.buffered (record { thread = q.name; step = k }) (kind_of r other) quiet),
     );
     event_seen = λ p h t q x r took other at now kind. (
-      event_drained ops model bound code log nodes w l p h at.gone t q x at.thread at.event at.at now r took other,
-      event_order ops model bound code log nodes w l p h at.gone t q x.step r took other at.thread at.at,
+      event_drained setting nodes w l p h at.gone t q x at.thread at.event at.at now r took other,
+      event_order setting nodes w l p h at.gone t q x.step r took other at.thread at.at,
     );
     drain_seen = λ p h t q x c v gone there i waits here issued. (
-      drain_drained ops model bound code log nodes w l p h gone t q x there i here c v,
-      drain_order ops model bound code log nodes w l p h gone t q x.step c v there here,
+      drain_drained setting nodes w l p h gone t q x there i here c v,
+      drain_order setting nodes w l p h gone t q x.step c v there here,
     );
-    all_drain = all_drain ops model bound code log nodes w l;
-    frees = is_free ops model bound code log nodes w l;
-    woken = λ p h t q x at c m is. waits_no_more ops model bound code log nodes w l p h t q x at c;
-    waits = λ p h t q x at c signals u. finds_its_own ops model bound code log nodes w l p h t q x at c signals u;
-    lost = finds_none ops model bound code log nodes w l;
-    exits = has_exited ops model bound code log nodes w l;
-    there = λ p h t q x gone. there_at ops model bound code log nodes w l p h gone t q x;
-    all_there = all_there ops model bound code log nodes w l;
-    quiet_sleeps = λ p h t q r took other gone. step_until ops model bound code log nodes w l p h gone t q (steps_in h q.name) r took other;
+    all_drain = all_drain setting nodes w l;
+    frees = is_free setting nodes w l;
+    woken = λ p h t q x at c m is. waits_no_more setting nodes w l p h t q x at c;
+    waits = λ p h t q x at c signals u. finds_its_own setting nodes w l p h t q x at c signals u;
+    lost = finds_none setting nodes w l;
+    exits = has_exited setting nodes w l;
+    there = λ p h t q x gone. there_at setting nodes w l p h gone t q x;
+    all_there = all_there setting nodes w l;
+    quiet_sleeps = λ p h t q r took other gone. step_until setting nodes w l p h gone t q (steps_in h q.name) r took other;
     event_sleeps = λ p h t q x r took at now along.
         let other = other_of (paths_of code log) w h t q.name r in
         let d = Did q.name (steps_in h q.name) r took other in
         let next : p + 1 ≡ suc p = omega arith in
         subst (λ n. SleepUntilEnded code log w n (h ++ d ∷ [])) next
-        (event_until ops model bound code log nodes w l p h at.gone d along t q x at (steps_in h q.name) r took other refl refl);
+        (event_until setting nodes w l p h at.gone d along t q x at (steps_in h q.name) r took other refl refl);
     drain_sleeps = λ p h t q x c v gone there i waits here along.
         let next : p + 1 ≡ suc p = omega arith in
         subst (λ n. SleepUntilEnded code log w n (h ++ Drained q.name x.step c v ∷ [])) next
-        (drained_until ops model bound code log nodes w l p h gone t q x q.name x.step c v there i waits here along);
-    blocks = λ p h dead gone before done. all_blocked ops model bound code log nodes w l p h gone dead done;
+        (drained_until setting nodes w l p h gone t q x q.name x.step c v there i waits here along);
+    blocks = λ p h dead gone before done. all_blocked setting nodes w l p h gone dead done;
   }

@@ -4,15 +4,12 @@ use Rattle.std.specs.Prelude.{is_none, option_map, option_and_then}
 use Rattle.std.specs.List.{last_or}
 use Rattle.std.proofs.lemmas.Bool.{and_from}
 use Rattle.std.proofs.lemmas.Option.{same_Some}
-use Rattle.tc_base.specs.Buffers.{BufferOps}
 use Rattle.list_laws.specs.Lists.{is_nil}
-use Rattle.run_log.specs.Logs.{Log}
 use Rattle.tc_base.specs.Names.{Name}
 use Rattle.tc_base.specs.declared.request.Request.{Request}
 use Rattle.tc_base.specs.declared.request.Request.TheVariants.{Silent, Read, Write, Exchange, CompareExchange, Bar, Acquire, Release, BeginWait}
 use Rattle.tc_base.specs.declared.request.Request.TheVariants.{EndWait, WakeOne, WakeAll, Start, Await, OrderStores, Finish, Fail}
-use Rattle.tc_code.specs.Code.{Code}
-use Rattle.store_buffers.specs.Pending.{Binding, stores}
+use Rattle.store_buffers.specs.Pending.{stores}
 use Rattle.run_history.specs.History.{Deed, pending}
 use Rattle.run_history.specs.Told.{children_in, owner_in}
 use Rattle.run_history.proofs.Lists.{last_or-push}
@@ -22,6 +19,7 @@ use Rattle.path_walk.specs.Paths.{Walk, paths_of}
 use Rattle.path_walk.specs.declared.event.Event.{Event}
 use Rattle.path_walk.specs.declared.event.EventKind.{EventKind}
 use Rattle.path_walk.specs.declared.event.EventKind.TheVariants as kind
+use Rattle.path_laws.specs.Setting.{Setting}
 use Rattle.path_laws.specs.Deeds.{kind_of}
 use Rattle.sym_terms.specs.declared.node.Node.{Node}
 use Rattle.order_formula.specs.Worlds.{World}
@@ -58,8 +56,10 @@ quiet_may buffered h n r other is (inl none) = none_may buffered h n r other is 
 quiet_may buffered h n r other is (inr store) = store_may buffered h n r other is store.1
 
 -- The step of the event at a position.
-module _ {B : Type 0} (ops : BufferOps B) (bound : Binding) (code : Code) (log : Log) (nodes : List Node) (w : World) (g : Given ops bound code log nodes w)
-    (p : ℕ) (h : List Deed) (t : ℕ) (q : Walk) (x : Event) (at : At ops bound code log nodes w p h t q x) where
+module _ {B : Type 0} (setting : Setting B) (nodes : List Node) (w : World) (g : Given setting nodes w) (p : ℕ) (h : List Deed) (t : ℕ) (q : Walk) (x : Event)
+    (at : At setting nodes w p h t q x) where
+  open setting use {ops, code, log}
+
   -- what may not overtake stores finds them in memory, and the other threads let it
   drained : (k : EventKind) → k ≡ x.kind → may_overtake k ≡ false → is_nil (stores (pending ops.buffered h q.name)) ≡ true
   drained k same not = g.empties p h t q x at (ap may_overtake (sym same) ∙ not)

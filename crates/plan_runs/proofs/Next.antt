@@ -3,18 +3,14 @@ use Rattle.std.proofs.Common.{◌≡◌, ◌∙◌, ℕ, ◌<◌, true, List, []
 use Rattle.std.specs.Prelude.{slice_get}
 use Rattle.std.specs.Option.{option_map_or}
 use Rattle.std.proofs.lemmas.Option.{same_Some, slice_get-get_or, slice_get_within}
-use Rattle.tc_base.specs.Buffers.{BufferOps}
-use Rattle.run_log.specs.Logs.{Log}
 use Rattle.tc_base.specs.Names.{Name}
-use Rattle.memory_models.specs.declared.model.Model.{Model}
 use Rattle.tc_base.specs.declared.request.Request.{Request}
 use Rattle.tc_base.specs.declared.request.Request.TheVariants.{Silent, WakeOne, Start}
-use Rattle.tc_code.specs.Code.{Code}
-use Rattle.store_buffers.specs.Pending.{Binding}
 use Rattle.run_history.specs.History.{Deed, Did}
 use Rattle.run_history.specs.Told.{steps_in, is_thread_in, failed_in}
 use Rattle.run_follows.specs.Follow.{taken_in, may_do_in, OtherIs, MayFollow}
 use Rattle.path_walk.specs.Paths.{Walk, Paths, ArePaths, paths_of}
+use Rattle.path_laws.specs.Setting.{Setting}
 use Rattle.path_laws.specs.Deeds.{kind_of}
 use Rattle.path_laws.specs.history.Along.{IsThread}
 use Rattle.path_laws.specs.history.Next.{failing_next, IsNextOnPath}
@@ -45,8 +41,9 @@ is_other paths w h t n (WakeOne c) = tt
 is_other paths w h t n Silent = refl
 is_other paths w h t n r = refl
 
-module _ {B : Type 0} (ops : BufferOps B) (model : Model) (bound : Binding) (code : Code) (log : Log) (nodes : List Node) (w : World)
-    (l : IsLawfulWorld ops model bound code log nodes w) where
+module _ {B : Type 0} (setting : Setting B) (nodes : List Node) (w : World) (l : IsLawfulWorld setting nodes w) where
+  open setting use {machine, ops, bound, code, log}
+
   abbrev paths : Paths
   paths = paths_of code log
 
@@ -66,7 +63,7 @@ module _ {B : Type 0} (ops : BufferOps B) (model : Model) (bound : Binding) (cod
   pub course_of : (t : ℕ) (q : Walk) → IsThread code log t q → (c : Course) × (slice_get all.symbolic.threads t ≡ Some c) × (c.name ≡ q.name)
   course_of t q there =
       let p = thread_path_at code log t q there in
-      (_, (found_at_log code log nodes l.code_is l.log_is l.terms t p.0 p.1).course, ap (λ (x : Walk). x.name) p.2)
+      (_, (found_at_log code log nodes setting.lawful setting.log_is l.terms t p.0 p.1).course, ap (λ (x : Walk). x.name) p.2)
 
   pub of_thread : (t j : ℕ) (q : Walk) (c : Course) → IsThread code log t q → slice_get all.symbolic.threads j ≡ Some c → c.name ≡ q.name → j ≡ t
   of_thread t j q c there at name =
@@ -75,7 +72,7 @@ module _ {B : Type 0} (ops : BufferOps B) (model : Model) (bound : Binding) (cod
       let other : IsThread code log j v = slice_get-get_or paths.threads j q (omega (arith, within, paths_executed.threads)) in
       let found = course_of j v other in
       let one : found.0 ≡ c = same_Some found.0 c (sym found.1 ∙ at) in
-      one_thread code log l.log_is j t v q other there (sym found.2 ∙ ap (λ (x : Course). x.name) one ∙ name)
+      one_thread code log setting.log_is j t v q other there (sym found.2 ∙ ap (λ (x : Course). x.name) one ∙ name)
 
   -- The next step of a thread.
   pub record NextIs (h : List Deed) (t : ℕ) (q : Walk) : Type 0 where
@@ -86,13 +83,13 @@ module _ {B : Type 0} (ops : BufferOps B) (model : Model) (bound : Binding) (cod
     pub request : Request
     pub told : IsToldNext code log all.nodes w.loads h q course next request
 
-  module _ (p : ℕ) (h : List Deed) (gone : Gone ops bound code log nodes w p h) (t : ℕ) (q : Walk) (there : IsThread code log t q) where
+  module _ (p : ℕ) (h : List Deed) (gone : Gone setting nodes w p h) (t : ℕ) (q : Walk) (there : IsThread code log t q) where
     pub next_is : is_thread_in h q.name ≡ true → steps_in h q.name < length q.places → NextIs h t q
     next_is is_there left =
         let c = course_of t q there in
-        let r = run_of ops model bound l.laws code l.code_is log h gone.along in
-        let x = next_on_path ops model bound l.laws code l.code_is log l.log_is l.fits h t q there gone.going r is_there left in
-        let told = next_told ops model bound l.laws code l.code_is log l.log_is l.fits nodes w.loads l.terms h gone.along gone.agrees t q c.0 x there c.1
+        let r = run_of machine log h gone.along in
+        let x = next_on_path setting l.fits h t q there gone.going r is_there left in
+        let told = next_told setting l.fits nodes w.loads l.terms h gone.along gone.agrees t q c.0 x there c.1
         gone.going l.lives (λ y i step. (l.lawful.meets (Test t y.line)).tests c.0 y c.1 i refl) in
         record { course = c.0; there = c.1; name = c.2; next = x; request = told.0; told = told.1 }
 
@@ -118,9 +115,9 @@ module _ {B : Type 0} (ops : BufferOps B) (model : Model) (bound : Binding) (cod
         pub follows : MayFollow ops.buffered bound code h deed
         follows = record { asks = n.told.asks; number = refl; may = may; takes = refl; other_is = is_other paths w h t q.name n.request }
 
-        pub along : Along ops bound code log nodes w (h ++ deed ∷ [])
+        pub along : Along setting nodes w (h ++ deed ∷ [])
         along =
-            step_stays ops model bound l.laws code l.code_is log l.log_is l.fits h gone.along t q there gone.going n.next k n.request
+            step_stays setting l.fits h gone.along t q there gone.going n.next k n.request
             (taken_in ops.buffered code h q.name n.request) other follows n.told.branches
             (n.told.fails_so k (taken_in ops.buffered code h q.name n.request) other)
 

@@ -8,15 +8,10 @@ use Rattle.std.proofs.lemmas.Bool.{false≢true, eqb-true, eq-eqb}
 use Rattle.std.proofs.lemmas.List.FromFn.{length-range_with_len, get_or-range_with_len}
 use Rattle.std.proofs.lemmas.List.Sums.{fold-append}
 use Rattle.std.proofs.lemmas.Option.{none-some, same_Some, slice_get_within}
-use Rattle.tc_base.specs.Buffers.{BufferOps}
-use Rattle.run_log.specs.Logs.{Log}
 use Rattle.tc_base.specs.Paths.{place_in}
 use Rattle.tc_base.specs.Names.{Name}
 use Rattle.tc_base.specs.declared.failing.Failing.{Failing}
 use Rattle.tc_base.specs.declared.failing.Failing.TheVariants as failing
-use Rattle.memory_models.specs.declared.model.Model.{Model}
-use Rattle.tc_code.specs.Code.{Code}
-use Rattle.store_buffers.specs.Pending.{Binding}
 use Rattle.run_history.specs.History.{Deed}
 use Rattle.run_history.specs.Told.{steps_in, is_thread_in}
 use Rattle.run_follows.specs.Follow.{taken_in}
@@ -24,6 +19,7 @@ use Rattle.path_walk.specs.Fits.{fails_in}
 use Rattle.path_walk.specs.Paths.{Walk, Paths, paths_of}
 use Rattle.path_walk.specs.declared.event.Event.{Event}
 use Rattle.path_walk.specs.declared.event.EventKind.TheVariants as kind
+use Rattle.path_laws.specs.Setting.{Setting}
 use Rattle.path_laws.specs.history.Along.{IsThread, HasDoneAll, AllHaveDone, AllAreThere}
 use Rattle.path_laws.proofs.of_history.Walks.{few_steps}
 use Rattle.sym_exec.specs.Executed.{has_failed}
@@ -69,16 +65,17 @@ and_false false = refl
 not_false : (b : Bool) → b ≡ false → not b ≡ true
 not_false b e = ap not e
 
-module _ {B : Type 0} (ops : BufferOps B) (model : Model) (bound : Binding) (code : Code) (log : Log) (nodes : List Node) (w : World)
-    (l : IsLawfulWorld ops model bound code log nodes w) (g : Given ops bound code log nodes w) where
+module _ {B : Type 0} (setting : Setting B) (nodes : List Node) (w : World) (l : IsLawfulWorld setting nodes w) (g : Given setting nodes w) where
+  open setting use {ops, code, log}
+
   abbrev paths : Paths
   paths = paths_of code log
 
   abbrev last : ℕ
-  last = end ops model bound code log nodes w l
+  last = end setting nodes w l
 
   abbrev at_end : List Deed → Type 0
-  at_end h = Gone ops bound code log nodes w last h
+  at_end h = Gone setting nodes w last h
 
   abbrev goes : ℕ → List Deed → ℕ → Name → List Deed
   goes m h t n = goes_on ops.buffered code paths w m h t n
@@ -86,11 +83,11 @@ module _ {B : Type 0} (ops : BufferOps B) (model : Model) (bound : Binding) (cod
   abbrev rest : List Deed → ℕ → List Deed
   rest h t = with_rest ops.buffered code paths w h t
 
-  pub few : (h : List Deed) → Along ops bound code log nodes w h → (t : ℕ) (q : Walk) → IsThread code log t q → steps_in h q.name ≤ length q.places
-  few h along t q there = few_steps ops model bound l.laws code l.code_is log l.log_is l.fits h t q along there
+  pub few : (h : List Deed) → Along setting nodes w h → (t : ℕ) (q : Walk) → IsThread code log t q → steps_in h q.name ≤ length q.places
+  few h along t q there = few_steps setting l.fits h t q along there
 
   -- what a thread has done it has done later
-  still_done : (h k : List Deed) → Along ops bound code log nodes w k → GoesOn h k → (t : ℕ) (q : Walk) → IsThread code log t q
+  still_done : (h k : List Deed) → Along setting nodes w k → GoesOn h k → (t : ℕ) (q : Walk) → IsThread code log t q
       → HasDoneAll h q → HasDoneAll k q
   still_done h k along on t q there done =
       let most = few k along t q there in
@@ -105,20 +102,20 @@ module _ {B : Type 0} (ops : BufferOps B) (model : Model) (bound : Binding) (cod
       by true e f is = inl e
       by false e true is = inr (failure_is x.kind is)
       by false e false is =
-          let before = others_before ops model bound code log nodes w l t q x there i is e in
+          let before = others_before setting nodes w l t q x there i is e in
           let done = gone.did t q x there i before in
           absurd (omega (arith, done, left))
 
   -- A thread that doesn't fail goes on to the end of its path, and nobody sees anything.
   quiet_rest : (h : List Deed) → at_end h → (t : ℕ) (q : Walk) → IsThread code log t q → is_thread_in h q.name ≡ true → fails_in log q.name ≡ false
-      → Reached ops model bound code log nodes w l g last h q (length q.places) (goes_to ops.buffered code paths w h t q.name (length q.places))
+      → Reached setting nodes w l g last h q (length q.places) (goes_to ops.buffered code paths w h t q.name (length q.places))
   quiet_rest h gone t q there is_there passes =
       let most = few h gone.along t q there in
-      let r = quiet_on ops model bound code log nodes w l g (length q.places - steps_in h q.name) last h gone t q there is_there (omega (arith, most))
+      let r = quiet_on setting nodes w l g (length q.places - steps_in h q.name) last h gone t q there is_there (omega (arith, most))
       (λ k low high x i step.
       elim (quiet_unless h gone t q there x i (omega (arith, low, step))) [
         | inl waits ↦ waits
-        | inr fails ↦ absurd (false≢true (sym passes ∙ (fail_is_last code log l.log_is l.fits t q x there i fails).0))
+        | inr fails ↦ absurd (false≢true (sym passes ∙ (fail_is_last code log setting.log_is l.fits t q x there i fails).0))
       ]) in
       record { gone = r.gone; steps = omega (arith, r.steps, most); on = r.on }
 
@@ -161,7 +158,7 @@ module _ {B : Type 0} (ops : BufferOps B) (model : Model) (bound : Binding) (cod
           (later more h gone (goes_nowhere h) (λ q there. absurd (none-some q (sym none ∙ there))))
       by (Some q) there more =
           let passes : fails_in log q.name ≡ false =
-          fails_by_place code log l.log_is t q there ∙ place_passes log.failing t (passing t (in_front t ts)) in
+          fails_by_place code log setting.log_is t q there ∙ place_passes log.failing t (passing t (in_front t ts)) in
           let r = quiet_rest h gone t q there (are_there t q there) passes in
           subst (λ o. AllRest h (t ∷ ts) (fold rest (one o) ts)) (sym there)
           (later more (goes_to ops.buffered code paths w h t q.name (length q.places)) r.gone r.on
@@ -172,11 +169,11 @@ module _ {B : Type 0} (ops : BufferOps B) (model : Model) (bound : Binding) (cod
   -- a step is quiet, or it fails, where its events are stores that wait or fail
   quiet_or_fails : (t : ℕ) (q : Walk) → IsThread code log t q → (k : ℕ)
       → ((x : Event) → Contains q.events x → x.step ≡ k → (is_pending ops.buffered x ≡ true) ⊎ (x.kind ≡ kind.Fail))
-      → QuietAt ops model bound code log nodes w l g q k ⊎ ((x : Event) × Contains q.events x × (x.step ≡ k) × (x.kind ≡ kind.Fail))
+      → QuietAt setting nodes w l g q k ⊎ ((x : Event) × Contains q.events x × (x.step ≡ k) × (x.kind ≡ kind.Fail))
   quiet_or_fails t q there k either = by (find (λ (e : Event). e.step == k) q.events) refl
     where
       by : (o : Option Event) → find (λ (e : Event). e.step == k) q.events ≡ o
-          → QuietAt ops model bound code log nodes w l g q k ⊎ ((x : Event) × Contains q.events x × (x.step ≡ k) × (x.kind ≡ kind.Fail))
+          → QuietAt setting nodes w l g q k ⊎ ((x : Event) × Contains q.events x × (x.step ≡ k) × (x.kind ≡ kind.Fail))
       by None none =
           inl (λ x i step.
           let f = in_find (λ (e : Event). e.step == k) q.events x i (eq-eqb x.step k step) in
@@ -188,14 +185,14 @@ module _ {B : Type 0} (ops : BufferOps B) (model : Model) (bound : Binding) (cod
             | inl waits ↦
                 inl (λ x i at.
                 ap (is_pending ops.buffered)
-                (one_event paths (paths_whole ops model bound code log nodes w l) t q x e there i f.0 (at ∙ sym step))
+                (one_event paths (paths_whole setting nodes w l) t q x e there i f.0 (at ∙ sym step))
                 ∙ waits)
             | inr fails ↦ inr (e, f.0, step, fails)
           ]
 
   -- The thread that fails goes on to its end.
   pub record Ended (h : List Deed) (k : List Deed) : Type 0 where
-    pub along : Along ops bound code log nodes w k
+    pub along : Along setting nodes w k
     pub on : GoesOn h k
     pub order : AreInOrder ops.buffered paths w k
     pub drained : HaveDrained code log w ops.buffered last k
@@ -209,27 +206,27 @@ module _ {B : Type 0} (ops : BufferOps B) (model : Model) (bound : Binding) (cod
   fail_on zero h gone t q there is_there all =
       record { ended = record { along = gone.along; on = goes_nowhere h; order = gone.order; drained = gone.drained }; done = omega (arith, all) }
   fail_on (suc m) h gone t q there is_there all =
-      subst (λ ds. FailsLast h q (goes m (h ++ ds) t q.name)) (sym (next.does_it ops model bound code log nodes w l last h gone t q there n))
+      subst (λ ds. FailsLast h q (goes m (h ++ ds) t q.name)) (sym (next.does_it setting nodes w l last h gone t q there n))
       (elim (quiet_or_fails t q there (steps_in h q.name) (λ x i step. quiet_unless h gone t q there x i (omega (arith, step)))) [
-        | inl quiet ↦ after_quiet (fail_on m k (quiet_goes ops model bound code log nodes w l g last h gone t q there n quiet) t q there
+        | inl quiet ↦ after_quiet (fail_on m k (quiet_goes setting nodes w l g last h gone t q there n quiet) t q there
             (grown.there q.name is_there) (omega (arith, all, one_step)))
         | inr f ↦ after_failure f.0 f.1 f.2 f.3
       ])
     where
-      n : NextIs ops model bound code log nodes w l h t q
-      n = next_is ops model bound code log nodes w l last h gone t q there is_there (omega (arith, all))
+      n : NextIs setting nodes w l h t q
+      n = next_is setting nodes w l last h gone t q there is_there (omega (arith, all))
 
       d : Deed
-      d = next.deed ops model bound code log nodes w l last h gone t q there n
+      d = next.deed setting nodes w l last h gone t q there n
 
       k : List Deed
       k = h ++ d ∷ []
 
       grown : GoesOn h k
-      grown = (one_more ops model bound code log nodes w l g last h gone t q there n).goes
+      grown = (one_more setting nodes w l g last h gone t q there n).goes
 
       one_step : steps_in k q.name ≡ steps_in h q.name + 1
-      one_step = (one_more ops model bound code log nodes w l g last h gone t q there n).steps
+      one_step = (one_more setting nodes w l g last h gone t q there n).steps
 
       after_quiet : FailsLast k q (goes m k t q.name) → FailsLast h q (goes m k t q.name)
       after_quiet r = record {
@@ -239,16 +236,16 @@ module _ {B : Type 0} (ops : BufferOps B) (model : Model) (bound : Binding) (cod
 
       after_failure : (x : Event) → Contains q.events x → x.step ≡ steps_in h q.name → x.kind ≡ kind.Fail → FailsLast h q (goes m k t q.name)
       after_failure x i step fails =
-          let f = fail_is_last code log l.log_is l.fits t q x there i fails in
+          let f = fail_is_last code log setting.log_is l.fits t q x there i fails in
           let none : m ≡ 0 = omega (arith, f.1, step, all) in
-          let at : At ops bound code log nodes w last h t q x =
-          record { gone = gone; thread = there; event = i; at = fail_ends ops model bound code log nodes w l t q x there i fails; steps = sym step } in
+          let at : At setting nodes w last h t q x =
+          record { gone = gone; thread = there; event = i; at = fail_ends setting nodes w l t q x there i fails; steps = sym step } in
           subst (λ a. FailsLast h q (goes a k t q.name)) (sym none)
           (record {
             ended = record {
-              along = event_along ops model bound code log nodes w l g last h gone t q there n x at;
+              along = event_along setting nodes w l g last h gone t q there n x at;
               on = grown;
-              order = event_order ops model bound code log nodes w l g last h gone t q there n x at
+              order = event_order setting nodes w l g last h gone t q there n x at
                   (ap (λ a. ops.buffered && is_store a) fails ∙ and_false ops.buffered);
               drained = g.steps_drain last h q.name (steps_in h q.name) n.request (taken_in ops.buffered code h q.name n.request)
                   (other_of paths w h t q.name n.request) gone;
@@ -326,10 +323,10 @@ module _ {B : Type 0} (ops : BufferOps B) (model : Model) (bound : Binding) (cod
 
   pub come : at_end (up_to ops.buffered code paths w last)
   come =
-      gone_up_to ops model bound code log nodes w l g last (λ t q x there i. none_before ops model bound code log nodes w l t q x there i) last (omega arith)
+      gone_up_to setting nodes w l g last (λ t q x there i. none_before setting nodes w l t q x there i) last (omega arith)
 
   pub all_threads : (h : List Deed) → at_end h → AllAreThere code log h
-  all_threads h gone = g.all_there last h gone (λ t q x there i. others_before ops model bound code log nodes w l t q x there i)
+  all_threads h gone = g.all_there last h gone (λ t q x there i. others_before setting nodes w l t q x there i)
 
   pub first_rest : AllRest (up_to ops.buffered code paths w last) passing (fold rest (up_to ops.buffered code paths w last) passing)
   first_rest =
@@ -355,8 +352,8 @@ module _ {B : Type 0} (ops : BufferOps B) (model : Model) (bound : Binding) (cod
           (first_rest.done t q there (in_filter (λ u. not (is_failing paths u)) t range (in_range t q there) (not_false (is_failing paths t) e)))
       by true e = second_rest.done t q there (in_filter (is_failing paths) t range (in_range t q there) e)
 
-  pub plan_along : Along ops bound code log nodes w whole_plan
-  plan_along = subst (Along ops bound code log nodes w) plan_is second_rest.ended.along
+  pub plan_along : Along setting nodes w whole_plan
+  plan_along = subst (Along setting nodes w) plan_is second_rest.ended.along
 
   pub plan_order : AreInOrder ops.buffered paths w whole_plan
   plan_order = subst (AreInOrder ops.buffered paths w) plan_is second_rest.ended.order

@@ -5,17 +5,12 @@ use Rattle.std.specs.Prelude.{slice_get, is_none, IsSome, IsSomeAnd}
 use Rattle.std.specs.List.{list_all}
 use Rattle.std.proofs.lemmas.Bool.{false≢true, and_parts, or_parts, ltb-true, eq-eqb}
 use Rattle.std.proofs.lemmas.Option.{none-some, same_Some, slice_get-get_or}
-use Rattle.tc_base.specs.Buffers.{BufferOps}
-use Rattle.run_log.specs.Logs.{Log}
 use Rattle.tc_base.specs.Paths.{Path, ThreadPath}
 use Rattle.tc_base.specs.Names.{Name}
 use Rattle.tc_base.specs.declared.failing.Failing.{Failing}
 use Rattle.tc_base.specs.declared.failing.Failing.TheVariants as failing
-use Rattle.memory_models.specs.declared.model.Model.{Model}
 use Rattle.tc_base.proofs.Names.{same_true}
-use Rattle.tc_code.specs.Code.{Code}
 use Rattle.tc_code.specs.Run.{Reproduces}
-use Rattle.store_buffers.specs.Pending.{Binding}
 use Rattle.run_history.specs.History.{Deed, history}
 use Rattle.run_history.specs.Told.{failed_in}
 use Rattle.run_follows.specs.Follow.{IsLeftIn, IsStuckIn, NothingFollows, moves_for}
@@ -27,6 +22,7 @@ use Rattle.run_log.specs.Logs.{is_there, rises_from}
 use Rattle.path_walk.specs.Fits.{fails_in}
 use Rattle.path_walk.specs.Paths.{Walk, Paths, paths_of, have_exited}
 use Rattle.path_walk.specs.declared.event.Blocked.{Blocked}
+use Rattle.path_laws.specs.Setting.{Setting}
 use Rattle.path_laws.specs.Prefixes.{fails_by}
 use Rattle.path_laws.specs.history.Along.{IsThread, AllAreThere}
 use Rattle.path_laws.proofs.of_history.Logged.{all_there, goes_as_logged}
@@ -62,32 +58,33 @@ failed_name : (o : Option Name) (n : Name) → fails_by o n ≡ true → o ≡ S
 failed_name None n e = absurd (false≢true e)
 failed_name (Some m) n e = ap (λ a. Some a) (sym (same_true n m e))
 
-module _ {B : Type 0} (ops : BufferOps B) (model : Model) (bound : Binding) (code : Code) (log : Log) (nodes : List Node) (w : World)
-    (l : IsLawfulWorld ops model bound code log nodes w) (g : Given ops bound code log nodes w) where
+module _ {B : Type 0} (setting : Setting B) (nodes : List Node) (w : World) (l : IsLawfulWorld setting nodes w) (g : Given setting nodes w) where
+  open setting use {machine, ops, bound, code, log}
+
   abbrev paths : Paths
   paths = paths_of code log
 
   abbrev h : List Deed
   h = plan ops.buffered code paths w
 
-  r : RunOf ops model bound l.laws code l.code_is log h
-  r = run_of ops model bound l.laws code l.code_is log h (plan_along ops model bound code log nodes w l g)
+  r : RunOf machine log h
+  r = run_of machine log h (plan_along setting nodes w l g)
 
   are_there : AllAreThere code log h
   are_there =
-      all_there ops model bound l.laws code l.code_is log l.log_is l.fits h (plan_along ops model bound code log nodes w l g)
-      (plan_done ops model bound code log nodes w l g)
+      all_there setting l.fits h (plan_along setting nodes w l g)
+      (plan_done setting nodes w l g)
 
   -- A thread that is to fail has failed.
   fails_so : (t : ℕ) (q : Walk) → IsThread code log t q → fails_in log q.name ≡ true → failed_in h ≡ Some q.name
   fails_so t q there fails =
-      let along = plan_along ops model bound code log nodes w l g in
-      let own = thread_of ops model bound l.laws code l.code_is log h r q.name (are_there t q there) in
-      let on = along.on q.name own.0.local (local_is ops model bound l.laws code l.code_is log h r q.name own.0 own.1) in
-      let k = walk_is code log l.log_is l.fits t q there in
+      let along = plan_along setting nodes w l g in
+      let own = thread_of machine log h r q.name (are_there t q there) in
+      let on = along.on q.name own.0.local (local_is machine log h r q.name own.0 own.1) in
+      let k = walk_is code log setting.log_is l.fits t q there in
       let path : on.path ≡ k.path = same_Some on.path k.path (sym on.there ∙ k.under) in
       let steps : own.0.local.steps ≡ on.path.steps =
-      steps_of ops model bound l.laws code l.code_is log h r q.name own.0 own.1 ∙ plan_done ops model bound code log nodes w l g t q there
+      steps_of machine log h r q.name own.0 own.1 ∙ plan_done setting nodes w l g t q there
       ∙ k.long ∙ ap (λ (p : Path). p.steps) (sym path) in
       failed_name (failed_in h) q.name (on.fails ∙ ap₂ (λ a b. a && b) fails (eq-eqb own.0.local.steps on.path.steps steps))
 
@@ -98,32 +95,32 @@ module _ {B : Type 0} (ops : BufferOps B) (model : Model) (bound : Binding) (cod
       within =
           ltb-true k (length log.threads)
           (ap (λ f. is_there f (length log.threads)) (sym is)
-          ∙ (and_parts (rises_from None log.threads) (is_there log.failing (length log.threads)) l.log_is).1)
+          ∙ (and_parts (rises_from None log.threads) (is_there log.failing (length log.threads)) setting.log_is).1)
 
       by : (o : Option ThreadPath) → slice_get log.threads k ≡ o → IsSomeAnd o (λ t. failed_in h ≡ Some t.name)
       by None none =
           let p = slice_get-get_or log.threads k (record { name = []; path = record { outcomes = []; steps = 0 } }) within in
           absurd (none-some _ (sym none ∙ p))
       by (Some p) at =
-          let there = walk_at code log nodes l.code_is l.log_is l.terms k p at in
+          let there = walk_at code log nodes setting.lawful setting.log_is l.terms k p at in
           fails_so k _ there
-          (fails_by_place code log l.log_is k _ there ∙ ap (λ f. has_failed f k) is ∙ eq-eqb k k refl)
+          (fails_by_place code log setting.log_is k _ there ∙ ap (λ f. has_failed f k) is ∙ eq-eqb k k refl)
 
   -- A deadlock.
   module _ (dead : log.failing ≡ failing.Deadlock) where
-    gone : Gone ops bound code log nodes w (end ops model bound code log nodes w l) h
-    gone = plan_gone ops model bound code log nodes w l g dead
+    gone : Gone setting nodes w (end setting nodes w l) h
+    gone = plan_gone setting nodes w l g dead
 
     passes : (t : ℕ) (q : Walk) → IsThread code log t q → fails_in log q.name ≡ false
-    passes t q there = fails_by_place code log l.log_is t q there ∙ ap (λ f. has_failed f t) dead
+    passes t q there = fails_by_place code log setting.log_is t q there ∙ ap (λ f. has_failed f t) dead
 
     still : NothingFollows ops.buffered bound code h
     still =
-        let before = all_before ops model bound code log nodes w l passes in
-        let drained = g.all_drain (end ops model bound code log nodes w l) h gone before in
-        let blocked = g.blocks (end ops model bound code log nodes w l) h dead gone before (plan_done ops model bound code log nodes w l g) in
+        let before = all_before setting nodes w l passes in
+        let drained = g.all_drain (end setting nodes w l) h gone before in
+        let blocked = g.blocks (end setting nodes w l) h dead gone before (plan_done setting nodes w l g) in
         subst (NothingFollows ops.buffered bound code) r.is
-        ((nothing_follows ops model bound l.laws code l.code_is r.moves r.state r.leads).1
+        ((nothing_follows machine r.moves r.state r.leads).1
         (subst (AllDrained ops.buffered) (sym r.is) drained, subst (AllAreBlocked code) (sym r.is) blocked))
 
     some_left : (n : Name) × IsLeftIn h n
@@ -131,12 +128,12 @@ module _ {B : Type 0} (ops : BufferOps B) (model : Model) (bound : Binding) (cod
         let exited = (or_parts _ (have_exited log.failing paths.threads) l.lives).1 in
         let some = some_blocked paths.threads (ap (λ f. have_exited f paths.threads) (sym dead) ∙ exited) in
         let there = are_there some.0 some.1 some.2 in
-        let t = thread_of ops model bound l.laws code l.code_is log h r some.1.name there in (
+        let t = thread_of machine log h r some.1.name there in (
           some.1.name,
           record {
             there = there;
-            going = (left_blocked ops model bound l.laws code l.code_is log l.log_is l.fits h r some.0 some.1 some.2
-                (plan_done ops model bound code log nodes w l g some.0 some.1 some.2) dead t.0 t.1).1 some.3;
+            going = (left_blocked setting l.fits h r some.0 some.1 some.2
+                (plan_done setting nodes w l g some.0 some.1 some.2) dead t.0 t.1).1 some.3;
           },
         )
 
@@ -149,9 +146,9 @@ module _ {B : Type 0} (ops : BufferOps B) (model : Model) (bound : Binding) (cod
 
   pub plan_reproduces : Reproduces ops code log (moves_for bound h)
   plan_reproduces =
-      deeds_reproduce ops model bound code log h l.laws l.code_is (plan_along ops model bound code log nodes w l g).follow
-      (goes_as_logged ops model bound l.laws code l.code_is log l.log_is l.fits h (plan_along ops model bound code log nodes w l g)
-      (plan_done ops model bound code log nodes w l g) (ends log.failing refl))
+      deeds_reproduce machine log h (plan_along setting nodes w l g).follow
+      (goes_as_logged setting l.fits h (plan_along setting nodes w l g)
+      (plan_done setting nodes w l g) (ends log.failing refl))
 
   pub plan_is_history : history ops code (moves_for bound h) ≡ h
-  plan_is_history = (along_is_run ops model bound l.laws code l.code_is log h (plan_along ops model bound code log nodes w l g)).2
+  plan_is_history = (along_is_run machine log h (plan_along setting nodes w l g)).2

@@ -5,12 +5,7 @@ use Rattle.std.specs.Prelude.{slice_get, option_map}
 use Rattle.std.specs.List.{Contains, find}
 use Rattle.std.proofs.lemmas.Bool.{cases_order, eqb-true, eq-eqb, and_parts}
 use Rattle.std.proofs.lemmas.Option.{none-some, same_Some}
-use Rattle.tc_base.specs.Buffers.{BufferOps}
-use Rattle.run_log.specs.Logs.{Log}
 use Rattle.tc_base.specs.Names.{Name}
-use Rattle.memory_models.specs.declared.model.Model.{Model}
-use Rattle.tc_code.specs.Code.{Code}
-use Rattle.store_buffers.specs.Pending.{Binding}
 use Rattle.run_laws.proofs.Names.{same_or_apart}
 use Rattle.run_history.specs.History.{Deed, Did, Drained}
 use Rattle.run_history.specs.Told.{steps_in, failed_in}
@@ -19,6 +14,7 @@ use Rattle.path_walk.specs.Paths.{Walk, Paths, paths_of}
 use Rattle.path_walk.specs.declared.event.Event.{Event}
 use Rattle.path_walk.specs.declared.event.EventKind.{EventKind}
 use Rattle.path_walk.specs.declared.event.EventKind.TheVariants as kind
+use Rattle.path_laws.specs.Setting.{Setting}
 use Rattle.path_laws.specs.Deeds.{kind_of}
 use Rattle.path_laws.specs.history.Along.{IsThread}
 use Rattle.path_laws.proofs.of_history.Stays.{drain_stays}
@@ -69,22 +65,23 @@ pub record Step (h g : List Deed) (q : Walk) : Type 0 where
   pub steps : steps_in g q.name ≡ steps_in h q.name + 1
   pub others : (n : Name) → n ≢ q.name → steps_in g n ≡ steps_in h n
 
-module _ {B : Type 0} (ops : BufferOps B) (model : Model) (bound : Binding) (code : Code) (log : Log) (nodes : List Node) (w : World)
-    (l : IsLawfulWorld ops model bound code log nodes w) (g : Given ops bound code log nodes w) where
+module _ {B : Type 0} (setting : Setting B) (nodes : List Node) (w : World) (l : IsLawfulWorld setting nodes w) (g : Given setting nodes w) where
+  open setting use {machine, ops, bound, code, log}
+
   abbrev paths : Paths
   paths = paths_of code log
 
   abbrev is_gone : ℕ → List Deed → Type 0
-  is_gone p h = Gone ops bound code log nodes w p h
+  is_gone p h = Gone setting nodes w p h
 
   -- two events at one place are one
   pub one_at : (t u : ℕ) (p q : Walk) (x y : Event) → IsThread code log t p → IsThread code log u q → Contains p.events x → Contains q.events y
       → place code log w t x ≡ place code log w u y → (t ≡ u) × (x ≡ y)
   one_at t u p q x y at bt i j same =
-      same_event paths w l.world l.of.events (paths_whole ops model bound code log nodes w l) t u p q x y at bt i j same
+      same_event paths w l.world l.of.events (paths_whole setting nodes w l) t u p q x y at bt i j same
 
   one_step : (t : ℕ) (q : Walk) (x y : Event) → IsThread code log t q → Contains q.events x → Contains q.events y → x.step ≡ y.step → x ≡ y
-  one_step t q x y there i j same = one_event paths (paths_whole ops model bound code log nodes w l) t q x y there i j same
+  one_step t q x y there i j same = one_event paths (paths_whole setting nodes w l) t q x y there i j same
 
   -- the walks at one place are one
   one_walk : (t u : ℕ) (p q : Walk) → IsThread code log t p → IsThread code log u q → t ≡ u → p ≡ q
@@ -123,12 +120,12 @@ module _ {B : Type 0} (ops : BufferOps B) (model : Model) (bound : Binding) (cod
 
   -- One step more.
   module _ (p : ℕ) (h : List Deed) (gone : is_gone p h) (t : ℕ) (q : Walk) (there : IsThread code log t q)
-      (n : NextIs ops model bound code log nodes w l h t q) where
+      (n : NextIs setting nodes w l h t q) where
     abbrev deed : Deed
-    deed = next.deed ops model bound code log nodes w l p h gone t q there n
+    deed = next.deed setting nodes w l p h gone t q there n
 
     abbrev other : Option Name
-    other = next.other ops model bound code log nodes w l p h gone t q there n
+    other = next.other setting nodes w l p h gone t q there n
 
     abbrev took : ℤ
     took = taken_in ops.buffered code h q.name n.request
@@ -151,7 +148,7 @@ module _ {B : Type 0} (ops : BufferOps B) (model : Model) (bound : Binding) (cod
           | inl same ↦
               let own : steps_in longer v.name ≡ steps_in h v.name + 1 =
               ap (steps_in longer) same ∙ one_more.steps ∙ ap (λ m. steps_in h m + 1) (sym same) in
-              let is : u ≡ t = one_thread code log l.log_is u t v q at there same in
+              let is : u ≡ t = one_thread code log setting.log_is u t v q at there same in
               let names : steps_in h v.name ≡ steps_in h q.name = ap (steps_in h) same in
               elim (below_next k (steps_in h v.name) (omega (arith, done, own))) [
                 | inl before ↦ inl before
@@ -164,7 +161,7 @@ module _ {B : Type 0} (ops : BufferOps B) (model : Model) (bound : Binding) (cod
     going_on not = failed_after h deed gone.going ∙ fails_not q.name (steps_in h q.name) n.request took other not
 
     kind_told : kind_of n.request other ≡ kind_at q (steps_in h q.name)
-    kind_told = next.kind_is ops model bound code log nodes w l p h gone t q there n
+    kind_told = next.kind_is setting nodes w l p h gone t q there n
 
     -- the loads of a step take what the world says, if it does
     agree_on : ((c : Course) (a : Access) (m : ℕ) → slice_get (found code log nodes).symbolic.threads t ≡ Some c → Contains c.accesses a
@@ -173,7 +170,7 @@ module _ {B : Type 0} (ops : BufferOps B) (model : Model) (bound : Binding) (cod
     agree_on takes =
         agree_step (found code log nodes).symbolic w.loads h q.name (steps_in h q.name) n.request took other gone.agrees
         (λ c a m ic ia name step is.
-        let same = of_thread ops model bound code log nodes w l t ic.0 q c there ic.1 name in
+        let same = of_thread setting nodes w l t ic.0 q c there ic.1 name in
         takes c a m (ap (slice_get (found code log nodes).symbolic.threads) (sym same) ∙ ic.1) (at_in c.accesses ia.0 a ia.1) step is)
 
     -- A step of which nobody sees anything.
@@ -185,15 +182,15 @@ module _ {B : Type 0} (ops : BufferOps B) (model : Model) (bound : Binding) (cod
       no_fail o (inl none) e = none-some kind.Fail (sym none ∙ e)
       no_fail o (inr store) e = let both : Some kind.Store ≡ Some kind.Fail = sym store.1 ∙ e in cc
 
-      along_on : Along ops bound code log nodes w longer
+      along_on : Along setting nodes w longer
       along_on =
-          next.along ops model bound code log nodes w l p h gone t q there n
+          next.along setting nodes w l p h gone t q there n
           (quiet_may ops.buffered h q.name n.request other (is_other paths w h t q.name n.request) quiet_so)
 
       no_takes : (c : Course) (a : Access) (m : ℕ) → slice_get (found code log nodes).symbolic.threads t ≡ Some c → Contains c.accesses a
           → a.step ≡ steps_in h q.name → a.takes ≡ Some m → slice_index_or w.loads m (pos 0) ≡ took
       no_takes c a m at i step is =
-          let e = (paths_executed ops model bound code log nodes w l).accesses t a (c, at, i) in
+          let e = (paths_executed setting nodes w l).accesses t a (c, at, i) in
           let among : Contains q.events e.0 = subst (λ (v : Walk). Contains v.events e.0) (one_walk t t e.1.0 q e.1.1 there refl) e.1.2 in
           let waits = and_parts ops.buffered (is_store e.0.kind) (quiet e.0 among (e.2 ∙ step)) in
           absurd (no_load a.takes a.writes m is (sym e.3 ∙ store_only e.0.kind waits.1))
@@ -217,14 +214,14 @@ module _ {B : Type 0} (ops : BufferOps B) (model : Model) (bound : Binding) (cod
           }
 
     -- The event at the position, which takes place by the step.
-    module _ (x : Event) (at : At ops bound code log nodes w p h t q x) where
+    module _ (x : Event) (at : At setting nodes w p h t q x) where
       kind_here : kind_of n.request other ≡ Some x.kind
       kind_here = kind_told ∙ ap (kind_at q) at.steps ∙ kind_of_event t q x there at.event
 
-      pub event_along : Along ops bound code log nodes w longer
+      pub event_along : Along setting nodes w longer
       event_along =
-          next.along ops model bound code log nodes w l p h gone t q there n
-          (event_may ops bound code log nodes w g p h t q x at n.request kind_here)
+          next.along setting nodes w l p h gone t q there n
+          (event_may setting nodes w g p h t q x at n.request kind_here)
 
       pub event_order : is_pending ops.buffered x ≡ false
           → AreInOrder ops.buffered paths w longer
@@ -272,8 +269,8 @@ module _ {B : Type 0} (ops : BufferOps B) (model : Model) (bound : Binding) (cod
     abbrev drained : List Deed
     drained = h ++ Drained q.name x.step c v ∷ []
 
-    drain_along : Along ops bound code log nodes w drained
-    drain_along = drain_stays ops model bound l.laws code l.code_is log h q.name x.step c v gone.along gone.going follows
+    drain_along : Along setting nodes w drained
+    drain_along = drain_stays machine log h q.name x.step c v gone.along gone.going follows
 
     pub drain_goes : is_gone (suc p) drained
     drain_goes =

@@ -3,17 +3,13 @@
 #![tactic(auto)]
 
 ghost use Rattle.std.specs.Prelude.{◌≡◌, List};
-ghost use Rattle.tc_base.specs.Buffers.{BufferOps};
-ghost use Rattle.run_log.specs.Logs.{Log};
-ghost use Rattle.memory_models.specs.declared.model.Model.{Model};
-ghost use Rattle.tc_code.specs.Code.{Code};
 ghost use Rattle.tc_code.specs.Run.{Reproduces};
-ghost use Rattle.store_buffers.specs.Pending.{Binding};
 ghost use Rattle.run_history.specs.History.{history};
 ghost use Rattle.run_follows.specs.Follow.{moves_for};
 ghost use Rattle.path_walk.specs.Paths.{paths_of};
 ghost use Rattle.sym_terms.specs.declared.node.Node.{Node};
 ghost use Rattle.order_formula.specs.Worlds.{World};
+ghost use Rattle.path_laws.specs.Setting.{Setting};
 ghost use Rattle.world_plan.specs.Going.{IsLawfulWorld, HaveDrained};
 ghost use Rattle.world_plan.specs.Plan.{end_of, plan};
 ghost use Rattle.world_plan.specs.Sights.{AreInOrder};
@@ -26,16 +22,12 @@ pub mod waits;
 /// The stores in buffers that have drained are those before the failing event, or all of them in a
 /// deadlock.
 pub fn lawful_worlds_are_run<B>()
-    ensures reproduces { (ops : BufferOps B) (model : Model) (bound : Binding) (code : Code) (log : Log) (nodes : List Node) (w : World)
-        → IsLawfulWorld ops model bound code log nodes w
-        → Reproduces ops code log (moves_for bound (plan ops.buffered code (paths_of code log) w)) }
-    ensures history { (ops : BufferOps B) (model : Model) (bound : Binding) (code : Code) (log : Log) (nodes : List Node) (w : World)
-        → IsLawfulWorld ops model bound code log nodes w
-        → history ops code (moves_for bound (plan ops.buffered code (paths_of code log) w)) ≡ plan ops.buffered code (paths_of code log) w }
-    ensures order { (ops : BufferOps B) (model : Model) (bound : Binding) (code : Code) (log : Log) (nodes : List Node) (w : World)
-        → IsLawfulWorld ops model bound code log nodes w
-        → AreInOrder ops.buffered (paths_of code log) w (plan ops.buffered code (paths_of code log) w) }
-    ensures drained { (ops : BufferOps B) (model : Model) (bound : Binding) (code : Code) (log : Log) (nodes : List Node) (w : World)
-        → IsLawfulWorld ops model bound code log nodes w
-        → HaveDrained code log w ops.buffered (end_of (paths_of code log) w) (plan ops.buffered code (paths_of code log) w) }
+    ensures reproduces { (s : Setting B) (nodes : List Node) (w : World) → IsLawfulWorld s nodes w
+        → Reproduces s.ops s.code s.log (moves_for s.bound (plan s.ops.buffered s.code (paths_of s.code s.log) w)) }
+    ensures history { (s : Setting B) (nodes : List Node) (w : World) → IsLawfulWorld s nodes w
+        → history s.ops s.code (moves_for s.bound (plan s.ops.buffered s.code (paths_of s.code s.log) w)) ≡ plan s.ops.buffered s.code (paths_of s.code s.log) w }
+    ensures order { (s : Setting B) (nodes : List Node) (w : World) → IsLawfulWorld s nodes w
+        → AreInOrder s.ops.buffered (paths_of s.code s.log) w (plan s.ops.buffered s.code (paths_of s.code s.log) w) }
+    ensures drained { (s : Setting B) (nodes : List Node) (w : World) → IsLawfulWorld s nodes w
+        → HaveDrained s.code s.log w s.ops.buffered (end_of (paths_of s.code s.log) w) (plan s.ops.buffered s.code (paths_of s.code s.log) w) }
 {}

@@ -5,14 +5,9 @@
 ghost use Rattle.std.specs.Prelude.{◌≡◌, ◌+◌, ◌<◌, ◌==◌, ℕ, ℤ, true, false, Option, Some, None, List, [], ◌∷◌, ◌++◌};
 ghost use Rattle.std.specs.FinSet as set;
 ghost use Rattle.std.specs.List.{Contains};
-ghost use Rattle.tc_base.specs.Buffers.{BufferOps};
-ghost use Rattle.run_log.specs.Logs.{Log};
 ghost use Rattle.tc_base.specs.Names.{Name, child};
 ghost use Rattle.tc_base.specs.declared.failing.Failing.TheVariants.{Deadlock};
-ghost use Rattle.memory_models.specs.declared.model.Model.{Model};
 ghost use Rattle.tc_base.specs.declared.request.Request.{Request};
-ghost use Rattle.tc_code.specs.Code.{Code};
-ghost use Rattle.store_buffers.specs.Pending.{Binding};
 ghost use Rattle.run_history.specs.History.{Deed, Did, Drained};
 ghost use Rattle.run_history.specs.Told.{owner_in, waiting_in, is_thread_in, steps_in, has_exited_in};
 ghost use Rattle.run_follows.specs.blocked.Stuck.{AllAreBlocked};
@@ -20,6 +15,7 @@ ghost use Rattle.path_walk.specs.Events.{takes};
 ghost use Rattle.path_walk.specs.Paths.{Walk, paths_of};
 ghost use Rattle.path_walk.specs.declared.event.Event.{Event};
 ghost use Rattle.path_walk.specs.declared.event.EventKind.TheVariants as kind;
+ghost use Rattle.path_laws.specs.Setting.{Setting};
 ghost use Rattle.path_laws.specs.history.Along.{IsAlongPaths, IsThread, AllHaveDone, AllAreThere};
 ghost use Rattle.sym_terms.specs.declared.node.Node.{Node};
 ghost use Rattle.order_formula.specs.Worlds.{World};
@@ -29,87 +25,69 @@ ghost use Rattle.world_plan.specs.Plan.{is_failure, woken_by, other_of};
 
 /// The mutex that a thread's next event takes is free: every region of it that began has ended.
 pub fn mutexes_are_free<B>()
-    ensures { (ops : BufferOps B) (model : Model) (bound : Binding) (code : Code) (log : Log) (nodes : List Node) (w : World) (p : ℕ) (h : List Deed)
-        (t : ℕ) (q : Walk) (x : Event) (m : ℕ)
-        → IsLawfulWorld ops model bound code log nodes w → IsAtEvent ops.buffered bound code log nodes w p h t q x → takes x.kind ≡ Some m
-        → owner_in h m ≡ None }
+    ensures { (s : Setting B) (nodes : List Node) (w : World) (p : ℕ) (h : List Deed) (t : ℕ) (q : Walk) (x : Event) (m : ℕ)
+        → IsLawfulWorld s nodes w → IsAtEvent s nodes w p h t q x → takes x.kind ≡ Some m → owner_in h m ≡ None }
 {}
 
 /// A thread whose event is next waits on no condition: its sleep has ended.
 pub fn sleepers_were_woken<B>()
-    ensures { (ops : BufferOps B) (model : Model) (bound : Binding) (code : Code) (log : Log) (nodes : List Node) (w : World) (p : ℕ) (h : List Deed)
-        (t : ℕ) (q : Walk) (x : Event) (c : ℕ)
-        → IsLawfulWorld ops model bound code log nodes w → IsAtEvent ops.buffered bound code log nodes w p h t q x
-        → set.contains (waiting_in h c) q.name ≡ false }
+    ensures { (s : Setting B) (nodes : List Node) (w : World) (p : ℕ) (h : List Deed) (t : ℕ) (q : Walk) (x : Event) (c : ℕ)
+        → IsLawfulWorld s nodes w → IsAtEvent s nodes w p h t q x → set.contains (waiting_in h c) q.name ≡ false }
 {}
 
 /// The thread that a signal wakes waits on its condition; if it wakes none, no thread waits.
 pub fn signals_find_theirs<B>()
-    ensures some { (ops : BufferOps B) (model : Model) (bound : Binding) (code : Code) (log : Log) (nodes : List Node) (w : World) (p : ℕ)
-        (h : List Deed) (t : ℕ) (q : Walk) (x : Event) (c : ℕ) (n : Name)
-        → IsLawfulWorld ops model bound code log nodes w → IsAtEvent ops.buffered bound code log nodes w p h t q x → x.kind ≡ kind.Signal c
-        → woken_by (paths_of code log) w (number_of (paths_of code log) t x.step) ≡ Some n
-        → set.contains (waiting_in h c) n ≡ true }
-    ensures none { (ops : BufferOps B) (model : Model) (bound : Binding) (code : Code) (log : Log) (nodes : List Node) (w : World) (p : ℕ)
-        (h : List Deed) (t : ℕ) (q : Walk) (x : Event) (c : ℕ)
-        → IsLawfulWorld ops model bound code log nodes w → IsAtEvent ops.buffered bound code log nodes w p h t q x → x.kind ≡ kind.Signal c
-        → woken_by (paths_of code log) w (number_of (paths_of code log) t x.step) ≡ None
-        → (set.len (waiting_in h c) == 0) ≡ true }
+    ensures some { (s : Setting B) (nodes : List Node) (w : World) (p : ℕ) (h : List Deed) (t : ℕ) (q : Walk) (x : Event) (c : ℕ) (n : Name)
+        → IsLawfulWorld s nodes w → IsAtEvent s nodes w p h t q x → x.kind ≡ kind.Signal c
+        → woken_by (paths_of s.code s.log) w (number_of (paths_of s.code s.log) t x.step) ≡ Some n → set.contains (waiting_in h c) n ≡ true }
+    ensures none { (s : Setting B) (nodes : List Node) (w : World) (p : ℕ) (h : List Deed) (t : ℕ) (q : Walk) (x : Event) (c : ℕ)
+        → IsLawfulWorld s nodes w → IsAtEvent s nodes w p h t q x → x.kind ≡ kind.Signal c
+        → woken_by (paths_of s.code s.log) w (number_of (paths_of s.code s.log) t x.step) ≡ None → (set.len (waiting_in h c) == 0) ≡ true }
 {}
 
 /// The child that a thread's next event joins has exited.
 pub fn joins_find_exits<B>()
-    ensures { (ops : BufferOps B) (model : Model) (bound : Binding) (code : Code) (log : Log) (nodes : List Node) (w : World) (p : ℕ) (h : List Deed)
-        (t : ℕ) (q : Walk) (x : Event) (k : ℕ)
-        → IsLawfulWorld ops model bound code log nodes w → IsAtEvent ops.buffered bound code log nodes w p h t q x → x.kind ≡ kind.Join k
-        → has_exited_in h (child q.name k) ≡ true }
+    ensures { (s : Setting B) (nodes : List Node) (w : World) (p : ℕ) (h : List Deed) (t : ℕ) (q : Walk) (x : Event) (k : ℕ)
+        → IsLawfulWorld s nodes w → IsAtEvent s nodes w p h t q x → x.kind ≡ kind.Join k → has_exited_in h (child q.name k) ≡ true }
 {}
 
 /// A thread whose event is next exists. Once all events except the failing one and stores in
 /// buffers took place, every thread exists.
 pub fn threads_are_there<B>()
-    ensures next { (ops : BufferOps B) (model : Model) (bound : Binding) (code : Code) (log : Log) (nodes : List Node) (w : World) (p : ℕ)
-        (h : List Deed) (t : ℕ) (q : Walk) (x : Event)
-        → IsLawfulWorld ops model bound code log nodes w → HasGone ops.buffered bound code log nodes w p h
-        → IsThread code log t q → Contains q.events x → place code log w t x ≡ p → is_thread_in h q.name ≡ true }
-    ensures all { (ops : BufferOps B) (model : Model) (bound : Binding) (code : Code) (log : Log) (nodes : List Node) (w : World) (p : ℕ) (h : List Deed)
-        → IsLawfulWorld ops model bound code log nodes w → HasGone ops.buffered bound code log nodes w p h
-        → ((t : ℕ) (q : Walk) (x : Event) → IsThread code log t q → Contains q.events x → is_failure x.kind ≡ false
-        → is_pending ops.buffered x ≡ false → place code log w t x < p)
-        → AllAreThere code log h }
+    ensures next { (s : Setting B) (nodes : List Node) (w : World) (p : ℕ) (h : List Deed) (t : ℕ) (q : Walk) (x : Event)
+        → IsLawfulWorld s nodes w → HasGone s nodes w p h
+        → IsThread s.code s.log t q → Contains q.events x → place s.code s.log w t x ≡ p → is_thread_in h q.name ≡ true }
+    ensures all { (s : Setting B) (nodes : List Node) (w : World) (p : ℕ) (h : List Deed) → IsLawfulWorld s nodes w → HasGone s nodes w p h
+        → ((t : ℕ) (q : Walk) (x : Event) → IsThread s.code s.log t q → Contains q.events x → is_failure x.kind ≡ false
+        → is_pending s.ops.buffered x ≡ false → place s.code s.log w t x < p) → AllAreThere s.code s.log h }
 {}
 
 /// Each sleep still lasts until the event that ends it, after any of these deeds: a step that is no
 /// event or a store in a buffer; the event at the position; a drain; the drain of the store at the
 /// position.
 pub fn sleeps_go_on<B>()
-    ensures quiet { (ops : BufferOps B) (model : Model) (bound : Binding) (code : Code) (log : Log) (nodes : List Node) (w : World) (p : ℕ)
+    ensures quiet { (s : Setting B) (nodes : List Node) (w : World) (p : ℕ)
         (h : List Deed) (t : ℕ) (q : Walk) (k : ℕ) (r : Request) (took : ℤ) (other : Option Name)
-        → IsLawfulWorld ops model bound code log nodes w → HasGone ops.buffered bound code log nodes w p h → IsThread code log t q
-        → ((x : Event) → Contains q.events x → x.step ≡ steps_in h q.name → is_pending ops.buffered x ≡ true)
-        → IsAlongPaths ops.buffered bound code log (h ++ Did q.name k r took other ∷ [])
-        → SleepUntilEnded code log w p (h ++ Did q.name k r took other ∷ []) }
-    ensures event { (ops : BufferOps B) (model : Model) (bound : Binding) (code : Code) (log : Log) (nodes : List Node) (w : World) (p : ℕ)
-        (h : List Deed) (t : ℕ) (q : Walk) (x : Event) (k : ℕ) (r : Request) (took : ℤ)
-        → IsLawfulWorld ops model bound code log nodes w → IsAtEvent ops.buffered bound code log nodes w p h t q x
-        → IsAlongPaths ops.buffered bound code log (h ++ Did q.name k r took (other_of (paths_of code log) w h t q.name r) ∷ [])
-        → SleepUntilEnded code log w (p + 1) (h ++ Did q.name k r took (other_of (paths_of code log) w h t q.name r) ∷ []) }
-    ensures drain { (ops : BufferOps B) (model : Model) (bound : Binding) (code : Code) (log : Log) (nodes : List Node) (w : World) (p : ℕ)
-        (h : List Deed) (n : Name) (k c : ℕ) (v : ℤ)
-        → IsLawfulWorld ops model bound code log nodes w → HasGone ops.buffered bound code log nodes w p h
-        → IsAlongPaths ops.buffered bound code log (h ++ Drained n k c v ∷ [])
-        → SleepUntilEnded code log w p (h ++ Drained n k c v ∷ []) }
-    ensures drained { (ops : BufferOps B) (model : Model) (bound : Binding) (code : Code) (log : Log) (nodes : List Node) (w : World) (p : ℕ)
-        (h : List Deed) (t : ℕ) (q : Walk) (x : Event) (n : Name) (k c : ℕ) (v : ℤ)
-        → IsLawfulWorld ops model bound code log nodes w → HasGone ops.buffered bound code log nodes w p h
-        → IsThread code log t q → Contains q.events x → is_pending ops.buffered x ≡ true → place code log w t x ≡ p
-        → IsAlongPaths ops.buffered bound code log (h ++ Drained n k c v ∷ [])
-        → SleepUntilEnded code log w (p + 1) (h ++ Drained n k c v ∷ []) }
+        → IsLawfulWorld s nodes w → HasGone s nodes w p h → IsThread s.code s.log t q
+        → ((x : Event) → Contains q.events x → x.step ≡ steps_in h q.name → is_pending s.ops.buffered x ≡ true)
+        → IsAlongPaths s.ops.buffered s.bound s.code s.log (h ++ Did q.name k r took other ∷ [])
+        → SleepUntilEnded s.code s.log w p (h ++ Did q.name k r took other ∷ []) }
+    ensures event { (s : Setting B) (nodes : List Node) (w : World) (p : ℕ)
+        (h : List Deed) (t : ℕ) (q : Walk) (x : Event) (k : ℕ) (r : Request) (took : ℤ) → IsLawfulWorld s nodes w → IsAtEvent s nodes w p h t q x
+        → IsAlongPaths s.ops.buffered s.bound s.code s.log (h ++ Did q.name k r took (other_of (paths_of s.code s.log) w h t q.name r) ∷ [])
+        → SleepUntilEnded s.code s.log w (p + 1) (h ++ Did q.name k r took (other_of (paths_of s.code s.log) w h t q.name r) ∷ []) }
+    ensures drain { (s : Setting B) (nodes : List Node) (w : World) (p : ℕ) (h : List Deed) (n : Name) (k c : ℕ) (v : ℤ)
+        → IsLawfulWorld s nodes w → HasGone s nodes w p h → IsAlongPaths s.ops.buffered s.bound s.code s.log (h ++ Drained n k c v ∷ [])
+        → SleepUntilEnded s.code s.log w p (h ++ Drained n k c v ∷ []) }
+    ensures drained { (s : Setting B) (nodes : List Node) (w : World) (p : ℕ)
+        (h : List Deed) (t : ℕ) (q : Walk) (x : Event) (n : Name) (k c : ℕ) (v : ℤ) → IsLawfulWorld s nodes w → HasGone s nodes w p h
+        → IsThread s.code s.log t q → Contains q.events x → is_pending s.ops.buffered x ≡ true → place s.code s.log w t x ≡ p
+        → IsAlongPaths s.ops.buffered s.bound s.code s.log (h ++ Drained n k c v ∷ [])
+        → SleepUntilEnded s.code s.log w (p + 1) (h ++ Drained n k c v ∷ []) }
 {}
 
 /// At the end of a deadlock each thread that hasn't exited is blocked.
 pub fn all_are_blocked<B>()
-    ensures { (ops : BufferOps B) (model : Model) (bound : Binding) (code : Code) (log : Log) (nodes : List Node) (w : World) (p : ℕ) (h : List Deed)
-        → IsLawfulWorld ops model bound code log nodes w → log.failing ≡ Deadlock → HasGone ops.buffered bound code log nodes w p h
-        → AllHaveDone code log h → AllAreBlocked code h }
+    ensures { (s : Setting B) (nodes : List Node) (w : World) (p : ℕ) (h : List Deed)
+        → IsLawfulWorld s nodes w → s.log.failing ≡ Deadlock → HasGone s nodes w p h → AllHaveDone s.code s.log h → AllAreBlocked s.code h }
 {}

@@ -20,7 +20,7 @@ use Rattle.tc_code.specs.declared.instr.Instr.TheVariants.{Inside, Holds, Signal
 use Rattle.tc_code.specs.Code.{Code}
 use Rattle.tc_code.specs.Step.{request, site, instr_of, loaded, drains_first, is_let, allows, perform, woken, step, move_of}
 use Rattle.tc_code.specs.Step.{run_of, wake_of, drain_of, opening}
-use Rattle.tc_code.specs.Step as machine
+use Rattle.tc_code.specs.Step as stepping
 use Rattle.tc_code.specs.Run.{run}
 use Rattle.store_buffers.specs.Pending.{Store, stores, Binding, Stands, waits}
 use Rattle.store_buffers.specs.Laws.{Laws, SomeDrains}
@@ -173,7 +173,7 @@ module _ {B : Type 0} (ops : BufferOps B) (model : Model) (bound : Binding) (law
     pub drain_told : (form : Option ℕ) → is_some (step ops code s (move.Drain n form)) ≡ is_none (failed_in h) && ops.may_drain t.buffer form
     drain_told form =
         move_told (move.Drain n form) (ops.may_drain t.buffer form)
-        (ap (λ o. is_some (option_and_then (λ x. drain_of ops s n x form) o)) here ∙ where_true _ (machine.drained ops s n t form))
+        (ap (λ o. is_some (option_and_then (λ x. drain_of ops s n x form) o)) here ∙ where_true _ (stepping.drained ops s n t form))
 
     -- a store may drain exactly where one is pending that needn't wait
     may_drain_told : (form : Option ℕ) → (ops.may_drain t.buffer form ≡ true → SomeDrains ops bound (pending ops.buffered h n) form)

@@ -7,25 +7,22 @@ use Rattle.std.specs.FinMap as fin
 use Rattle.std.specs.FinSet as set
 use Rattle.std.proofs.lemmas.Bool.{false≢true, and_from}
 use Rattle.tc_base.specs.Names.{Name, child}
-use Rattle.tc_base.specs.Buffers.{BufferOps}
 use Rattle.list_laws.specs.Lists.{is_nil}
 use Rattle.tc_base.specs.States.{Local, Thread, State}
-use Rattle.memory_models.specs.declared.model.Model.{Model}
 use Rattle.tc_base.specs.declared.moves.Move.{Move}
 use Rattle.tc_base.specs.declared.request.Request.{Request}
 use Rattle.tc_base.specs.declared.request.Request.TheVariants.{Silent, WakeOne, Start}
 use Rattle.tc_code.specs.declared.instr.Instr.{Instr}
 use Rattle.tc_code.specs.declared.instr.Instr.TheVariants.{Signal}
 use Rattle.tc_code.specs.Code.{Code}
-use Rattle.tc_code.specs.Lawful.{IsLawful}
 use Rattle.tc_code.specs.Step.{request, instr_of, waiting_on, opening}
-use Rattle.tc_code.specs.Step as machine
+use Rattle.tc_code.specs.Step as stepping
 use Rattle.tc_code.specs.Run.{IsReached, run}
 use Rattle.store_buffers.specs.Pending.{Store, stores, Binding, waits}
-use Rattle.store_buffers.specs.Laws.{Laws}
 use Rattle.store_buffers.specs.helpers.Lists.{not_nil}
 use Rattle.run_history.specs.History.{Deed, Did, Drained, pending_issues, pending, did, woke, drained, created_by, history}
 use Rattle.run_history.specs.Told.{is_thread_in, has_exited_in, children_in, failed_in, waiting_in}
+use Rattle.run_follows.specs.Machine.{Machine}
 use Rattle.run_follows.specs.Follow.{may_do_in, is_allowed_in}
 use Rattle.run_follows.specs.Follow.{OtherIs, MayFollow, AllFollow, IsLeftIn, StepsAreOfThreads}
 use Rattle.run_history.specs.pending.Deeds.{name_of}
@@ -70,7 +67,9 @@ threads_still h n k c v all older newer q j r' v' o' is =
 pub nothing_follows : (buffered : Bool) (bound : Binding) (code : Code) → AllFollow buffered bound code []
 nothing_follows buffered bound code older newer e is = absurd (not_nil older e newer (sym is))
 
-module _ {B : Type 0} (ops : BufferOps B) (model : Model) (bound : Binding) (laws : Laws ops model bound) (code : Code) (lawful : IsLawful code) where
+module _ {B : Type 0} (machine : Machine B) where
+  open machine use {ops, model, bound, laws, code, lawful}
+
   pub record AllTold (s : State B) (h : List Deed) : Type 0 where
     pub tells : Tells ops model bound laws code s h
     pub follow : AllFollow ops.buffered bound code h
@@ -105,7 +104,7 @@ module _ {B : Type 0} (ops : BufferOps B) (model : Model) (bound : Binding) (law
       ∙ ap (option_map (request t.local)) at ∙ ap Some asks
 
   step_follows : (s : State B) (h : List Deed) (n : Name) (t : Thread B) (i : Instr) (r : Request) → IsReached ops code s → fin.get s.threads n ≡ Some t
-      → instr_of code t.local ≡ Some i → request t.local i ≡ r → IsTrue (machine.allows ops s n t r) → Tells ops model bound laws code s h
+      → instr_of code t.local ≡ Some i → request t.local i ≡ r → IsTrue (stepping.allows ops s n t r) → Tells ops model bound laws code s h
       → MayFollow ops.buffered bound code h (did ops code s n t r)
   step_follows s h n t i r reached here at asks may a =
       let within = subst (AsksOf code) asks (next_asks_within ops code s n t i lawful reached here at) in
@@ -144,7 +143,7 @@ module _ {B : Type 0} (ops : BufferOps B) (model : Model) (bound : Binding) (law
       let out = laws.drain_stands t.buffer ps form some.older some.store some.newer st some.drains in
       let split = split_at (pending_issues ops.buffered h n) some.older (Store some.store) some.newer some.drains.there in
       subst (MayFollow ops.buffered bound code h)
-      (sym (deed_is ops model bound laws code s (machine.drained ops s n t form) h n t form here refl some.older some.store some.newer some.drains.is_free out
+      (sym (deed_is ops model bound laws code s (stepping.drained ops s n t form) h n t form here refl some.older some.store some.newer some.drains.is_free out
       a.deeds.buffers split))
       (next_drain ops model bound laws code s h a n t here form has some split)
 

@@ -9,27 +9,25 @@ use Rattle.std.proofs.lemmas.Bool.{and_parts}
 use Rattle.std.proofs.lemmas.List.{map-append}
 use Rattle.std.proofs.lemmas.Option.{none-some, same_Some}
 use Rattle.tc_base.specs.Names.{Name, child}
-use Rattle.tc_base.specs.Buffers.{BufferOps, Entry}
+use Rattle.tc_base.specs.Buffers.{Entry}
 use Rattle.list_laws.specs.Lists.{is_nil}
 use Rattle.tc_base.specs.States.{Local, Thread, State}
-use Rattle.memory_models.specs.declared.model.Model.{Model}
 use Rattle.tc_base.specs.declared.moves.Move.TheVariants as move
 use Rattle.tc_base.specs.declared.request.Request.{Request}
 use Rattle.tc_base.specs.declared.request.Request.TheVariants.{Silent, WakeOne, Start}
 use Rattle.tc_code.specs.declared.instr.Instr.{Instr}
 use Rattle.tc_code.specs.declared.instr.Instr.TheVariants.{Signal}
 use Rattle.tc_code.specs.Code.{Code}
-use Rattle.tc_code.specs.Lawful.{IsLawful}
 use Rattle.tc_code.specs.Step.{request, instr_of, step, opening}
-use Rattle.tc_code.specs.Step as machine
+use Rattle.tc_code.specs.Step as stepping
 use Rattle.tc_code.specs.Run.{IsReached, run_from, run}
 use Rattle.tc_code.proofs.Facts.{opening_is_reached, step_is_reached}
-use Rattle.store_buffers.specs.Pending.{Store, stores, Binding, form_of, waits}
-use Rattle.store_buffers.specs.Laws.{Laws}
+use Rattle.store_buffers.specs.Pending.{Store, stores, form_of, waits}
 use Rattle.run_history.specs.History.{Deed, Did, Drained, Issue, pending_issues, pending, did, woke, drained, taken, created_by}
 use Rattle.run_history.specs.History.{by_instr, deed_of, history_from, history}
 use Rattle.run_history.specs.Locals.{asks_next}
 use Rattle.run_history.specs.Told.{steps_in, failed_in, waiting_in}
+use Rattle.run_follows.specs.Machine.{Machine}
 use Rattle.run_follows.specs.Follow.{may_do_in, is_allowed_in, taken_in, OtherIs, IsNextDrain, MayFollow}
 use Rattle.run_follows.specs.Follow.{AllFollow, move_for, moves_for}
 use Rattle.run_history.proofs.of_pending.Issues.{Rises, whats, SplitAt}
@@ -53,7 +51,9 @@ asks_by : (code : Code) (t : Local) (r : Request) (o : Option Instr) → instr_o
 asks_by code t r None at e = absurd (none-some r e)
 asks_by code t r (Some i) at e = record { instr = i; at = at; asks = same_Some (request t i) r e }
 
-module _ {B : Type 0} (ops : BufferOps B) (model : Model) (bound : Binding) (laws : Laws ops model bound) (code : Code) (lawful : IsLawful code) where
+module _ {B : Type 0} (machine : Machine B) where
+  open machine use {ops, model, bound, laws, code, lawful}
+
   -- and so is a thread that does
   pub record Asker (s : State B) (n : Name) (r : Request) : Type 0 where
     pub thread : Thread B
@@ -92,7 +92,7 @@ module _ {B : Type 0} (ops : BufferOps B) (model : Model) (bound : Binding) (law
           let steps : t.local.steps ≡ k = number_is ops code s h n a.deeds.buffers.threads t x.there ∙ sym number in
           let took : taken ops code s t r ≡ v = taken_told ops model bound laws code s h a n t x.there r within ∙ sym takes in
           record {
-            state = machine.perform ops code s n t i r;
+            state = stepping.perform ops code s n t i r;
             goes =
                 ap (step ops code s) named
                 ∙ makes_run ops code s n t going x.there i r x.by.at x.by.asks (allowed_told ops model bound laws code s h a n t x.there r within ∙ may);
@@ -116,7 +116,7 @@ module _ {B : Type 0} (ops : BufferOps B) (model : Model) (bound : Binding) (law
           let both = and_parts (is_nil (stores (pending ops.buffered h n))) (set.contains (waiting_in h c) u) may in
           let steps : t.local.steps ≡ k = number_is ops code s h n a.deeds.buffers.threads t x.there ∙ sym number in
           record {
-            state = machine.woken ops s n u t c;
+            state = stepping.woken ops s n u t c;
             goes =
                 makes_wake ops code s n t going x.there u c at (empty_told ops model bound laws code s h a n t x.there ∙ both.0)
                 (ap (λ ns. set.contains ns u) (a.waiters.waiters c within) ∙ both.1);
@@ -161,12 +161,12 @@ module _ {B : Type 0} (ops : BufferOps B) (model : Model) (bound : Binding) (law
         let out = laws.drain_stands t.buffer (pending ops.buffered h n) form (whats d.older) e (whats d.newer) (a.deeds.buffers.stands n t here)
         (record { there = there; by_form = refl; is_free = d.is_free }) in
         record {
-          state = machine.drained ops s n t form;
+          state = stepping.drained ops s n t form;
           goes = makes_drain ops code s n t going here form out.may;
           does =
               ap (λ o. option_map_or (λ (x : Thread B). drained ops code h n (ops.drain x.buffer form).entry ∷ []) o []) here
               ∙ ap (λ x. x ∷ [])
-              (deed_is ops model bound laws code s (machine.drained ops s n t form) h n t form here refl (whats d.older) e (whats d.newer) d.is_free out
+              (deed_is ops model bound laws code s (stepping.drained ops s n t form) h n t form here refl (whats d.older) e (whats d.newer) d.is_free out
               a.deeds.buffers split);
         }
 

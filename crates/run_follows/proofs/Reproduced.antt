@@ -9,18 +9,15 @@ use Rattle.tc_base.specs.declared.failing.Failing.{Failing}
 use Rattle.tc_base.specs.declared.failing.Failing.TheVariants as failing
 use Rattle.tc_base.specs.Names.{Name}
 use Rattle.tc_base.specs.States.{Thread, State}
-use Rattle.memory_models.specs.declared.model.Model.{Model}
 use Rattle.tc_base.specs.declared.moves.Move.{Move}
 use Rattle.tc_code.specs.Code.{Code}
-use Rattle.tc_code.specs.Lawful.{IsLawful}
 use Rattle.tc_code.specs.Run.{run, EndsAs, Reproduces, path_of, path_in}
-use Rattle.store_buffers.specs.Laws.{Laws}
-use Rattle.store_buffers.specs.Pending.{Binding}
 use Rattle.run_history.specs.History.{Deed, history}
 use Rattle.run_history.specs.Told.{failed_in}
 use Rattle.run_history.proofs.Frame.{holds_after}
 use Rattle.run_history.proofs.Locals.{LocalsAre, keeps_locals, opening_locals}
 use Rattle.run_history.proofs.Shared.{FailureIs, keeps_failure}
+use Rattle.run_follows.specs.Machine.{Machine}
 use Rattle.run_follows.specs.Follow.{AllFollow, moves_for}
 use Rattle.run_follows.specs.Logged.{path_by, path_told, EndsAsIn, GoesAsLogged}
 use Rattle.run_follows.proofs.Plays.{follows_is_run}
@@ -40,38 +37,39 @@ module _ {B : Type 0} where
     failure_is : s.failed ≡ failed_in (history ops code ms)
     failure_is = holds_after ops code (FailureIs ops code) (keeps_failure ops code) refl ms s leads
 
-  module _ (ops : BufferOps B) (model : Model) (bound : Binding) (laws : Laws ops model bound) (code : Code) (lawful : IsLawful code) (ms : List Move)
-      (s : State B) (leads : run ops code ms ≡ Some s) (ts : List ThreadPath) where
+  module _ (machine : Machine B) (ms : List Move) (s : State B) (leads : run machine.ops machine.code ms ≡ Some s) (ts : List ThreadPath) where
+    open machine use {ops, bound, code}
+
     abbrev h : List Deed
     h = history ops code ms
 
     ends_told : (f : Failing) → EndsAs ops code f ts s → EndsAsIn ops.buffered bound code f ts h
     ends_told (failing.Thread k) e =
         subst (λ o. IsSomeAnd (slice_get ts k) (λ (t : ThreadPath). o ≡ Some t.name)) (failure_is ops code ms s leads) e
-    ends_told failing.Deadlock e = (stuck_is_told ops model bound laws code lawful ms s leads).0 e
+    ends_told failing.Deadlock e = (stuck_is_told machine ms s leads).0 e
 
     ends_there : (f : Failing) → EndsAsIn ops.buffered bound code f ts h → EndsAs ops code f ts s
     ends_there (failing.Thread k) e =
         subst (λ o. IsSomeAnd (slice_get ts k) (λ (t : ThreadPath). o ≡ Some t.name)) (sym (failure_is ops code ms s leads)) e
-    ends_there failing.Deadlock e = (stuck_is_told ops model bound laws code lawful ms s leads).1 e
+    ends_there failing.Deadlock e = (stuck_is_told machine ms s leads).1 e
 
-  pub reproduces_as_logged : (ops : BufferOps B) (model : Model) (bound : Binding) (code : Code) (log : Log) (ms : List Move) → Laws ops model bound
-      → IsLawful code → Reproduces ops code log ms → GoesAsLogged ops.buffered bound code log (history ops code ms)
-  reproduces_as_logged ops model bound code log ms laws lawful r = record {
-    ends = ends_told ops model bound laws code lawful ms r.state r.leads log.threads log.failing r.ends;
-    paths = λ n. path_is ops code ms r.state r.leads n ∙ r.paths n;
+  pub reproduces_as_logged : (machine : Machine B) (log : Log) (ms : List Move) → Reproduces machine.ops machine.code log ms
+      → GoesAsLogged machine.ops.buffered machine.bound machine.code log (history machine.ops machine.code ms)
+  reproduces_as_logged machine log ms r = record {
+    ends = ends_told machine ms r.state r.leads log.threads log.failing r.ends;
+    paths = λ n. path_is machine.ops machine.code ms r.state r.leads n ∙ r.paths n;
   }
 
-  pub deeds_reproduce : (ops : BufferOps B) (model : Model) (bound : Binding) (code : Code) (log : Log) (h : List Deed) → Laws ops model bound → IsLawful code
-      → AllFollow ops.buffered bound code h → GoesAsLogged ops.buffered bound code log h → Reproduces ops code log (moves_for bound h)
-  deeds_reproduce ops model bound code log h laws lawful all goes =
-      let p = follows_is_run ops model bound laws code lawful h all in
-      let ms = moves_for bound h in
+  pub deeds_reproduce : (machine : Machine B) (log : Log) (h : List Deed) → AllFollow machine.ops.buffered machine.bound machine.code h
+      → GoesAsLogged machine.ops.buffered machine.bound machine.code log h → Reproduces machine.ops machine.code log (moves_for machine.bound h)
+  deeds_reproduce machine log h all goes =
+      let p = follows_is_run machine h all in
+      let ms = moves_for machine.bound h in
       record {
         state = p.0;
         leads = p.1;
         ends =
-            ends_there ops model bound laws code lawful ms p.0 p.1 log.threads log.failing
-            (subst (EndsAsIn ops.buffered bound code log.failing log.threads) (sym p.2) goes.ends);
-        paths = λ n. sym (path_is ops code ms p.0 p.1 n) ∙ ap (λ g. path_told code g n) p.2 ∙ goes.paths n;
+            ends_there machine ms p.0 p.1 log.threads log.failing
+            (subst (EndsAsIn machine.ops.buffered machine.bound machine.code log.failing log.threads) (sym p.2) goes.ends);
+        paths = λ n. sym (path_is machine.ops machine.code ms p.0 p.1 n) ∙ ap (λ g. path_told machine.code g n) p.2 ∙ goes.paths n;
       }

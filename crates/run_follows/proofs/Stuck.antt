@@ -5,21 +5,16 @@ use Rattle.std.specs.Option.{option_map_or}
 use Rattle.std.specs.FinMap as fin
 use Rattle.std.proofs.lemmas.Option.{none-some}
 use Rattle.tc_base.specs.Names.{Name}
-use Rattle.tc_base.specs.Buffers.{BufferOps}
 use Rattle.tc_base.specs.States.{Thread, State}
-use Rattle.memory_models.specs.declared.model.Model.{Model}
 use Rattle.tc_base.specs.declared.moves.Move.{Move}
-use Rattle.tc_code.specs.Code.{Code}
-use Rattle.tc_code.specs.Lawful.{IsLawful}
 use Rattle.tc_code.specs.Step.{step}
 use Rattle.tc_code.specs.Run.{IsReached, IsLeft, IsStuck, run}
-use Rattle.store_buffers.specs.Laws.{Laws}
-use Rattle.store_buffers.specs.Pending.{Binding}
 use Rattle.run_laws.proofs.Basics.{none_unless, some_value}
 use Rattle.run_laws.proofs.Steps.{step_went}
 use Rattle.run_history.specs.History.{Deed, deed_of, history}
 use Rattle.run_history.proofs.Frame.{kept_by_step}
 use Rattle.run_history.proofs.Grows.{one_deed}
+use Rattle.run_follows.specs.Machine.{Machine}
 use Rattle.run_follows.specs.Follow.{MayFollow, move_for, IsLeftIn, IsStuckIn}
 use Rattle.run_follows.proofs.Enabled.{Tells}
 use Rattle.run_follows.proofs.Follows.{AllTold, keeps_all, all_told}
@@ -30,7 +25,9 @@ the_one [] e = absurd (omega (arith, e))
 the_one (x ∷ []) e = (x, refl)
 the_one (x ∷ y ∷ xs) e = absurd (omega (arith, e))
 
-module _ {B : Type 0} (ops : BufferOps B) (model : Model) (bound : Binding) (laws : Laws ops model bound) (code : Code) (lawful : IsLawful code) where
+module _ {B : Type 0} (machine : Machine B) where
+  open machine use {ops, model, bound, laws, code}
+
   module _ (s : State B) (h : List Deed) (a : Tells ops model bound laws code s h) (n : Name) where
     pub left_told : IsLeft s n → IsLeftIn h n
     left_told l = record {
@@ -48,12 +45,12 @@ module _ {B : Type 0} (ops : BufferOps B) (model : Model) (bound : Binding) (law
               sym (ap (λ o. option_map_or (λ (t : Thread B). t.local.has_exited) o false) t.1) ∙ a.deeds.buffers.threads.exits n ∙ l.going;
         }
 
-  module _ (s : State B) (h : List Deed) (reached : IsReached ops code s) (a : AllTold ops model bound laws code lawful s h) where
+  module _ (s : State B) (h : List Deed) (reached : IsReached ops code s) (a : AllTold machine s h) where
     -- what an enabled move does may follow
     does : (m : Move) (u : State B) → step ops code s m ≡ Some u → (d : Deed) × MayFollow ops.buffered bound code h d
     does m u one =
         let d = the_one (deed_of ops code s h m) (one_deed ops code s u h m (step_went ops code s u m one)) in
-        let after = kept_by_step ops code (AllTold ops model bound laws code lawful) (keeps_all ops model bound laws code lawful) s u h m reached one a in
+        let after = kept_by_step ops code (AllTold machine) (keeps_all machine) s u h m reached one a in
         (d.0, (after.follow h [] d.0 (ap (λ ds. h ++ ds) d.1)).1)
 
     pub stuck_told : IsStuck ops code s → IsStuckIn ops.buffered bound code h
@@ -62,7 +59,7 @@ module _ {B : Type 0} (ops : BufferOps B) (model : Model) (bound : Binding) (law
         record {
           unfailed = none;
           still = λ d may.
-              let p = plays ops model bound laws code lawful s h reached a.tells none d may in
+              let p = plays machine s h reached a.tells none d may in
               none-some p.state (sym (k.still (move_for bound d)) ∙ p.goes);
           left = (k.left.0, left_told s h a.tells k.left.0 k.left.1);
         }
@@ -81,6 +78,6 @@ module _ {B : Type 0} (ops : BufferOps B) (model : Model) (bound : Binding) (law
   pub stuck_is_told : (ms : List Move) (s : State B) → run ops code ms ≡ Some s
       → IsStuck ops code s ↔ IsStuckIn ops.buffered bound code (history ops code ms)
   stuck_is_told ms s leads =
-      let a = all_told ops model bound laws code lawful ms s leads in
+      let a = all_told machine ms s leads in
       let reached : IsReached ops code s = record { moves = ms; leads = leads } in
       (stuck_told s (history ops code ms) reached a, stuck_there s (history ops code ms) reached a)

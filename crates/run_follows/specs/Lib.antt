@@ -1,3 +1,4 @@
+pub mod Machine
 pub mod Follow
 pub mod Logged
 pub mod blocked

@@ -8,12 +8,12 @@ ghost use Rattle.memory_models.specs.declared.model.Model.{Model};
 ghost use Rattle.tc_base.specs.declared.moves.Move.{Move};
 ghost use Rattle.tc_base.specs.declared.request.Request.{Request};
 ghost use Rattle.tc_code.specs.Code.{Code};
-ghost use Rattle.tc_code.specs.Lawful.{IsLawful};
 ghost use Rattle.tc_code.specs.Run.{run, IsStuck};
 ghost use Rattle.store_buffers.specs.Laws.{Laws};
 ghost use Rattle.store_buffers.specs.Pending.{Binding};
 ghost use Rattle.run_history.specs.History.{Deed, history};
 ghost use Rattle.run_history.specs.Locals.{asks_next};
+ghost use Rattle.run_follows.specs.Machine.{Machine};
 ghost use Rattle.run_follows.specs.Follow.{NothingFollows};
 ghost use Rattle.run_follows.specs.blocked.Stuck.{HasDrained, AllDrained, NoStepFollows, IsBlockedIn, AllAreBlocked, IsDeadlockIn};
 
@@ -35,16 +35,14 @@ pub fn steps_are_blocked()
 /// So no deed may follow a run's history if and only if no store is pending and each thread that
 /// has not exited is blocked.
 pub fn nothing_follows_where_all_are_blocked<B>()
-    ensures { (ops : BufferOps B) (model : Model) (bound : Binding) (code : Code) (moves : List Move) (s : State B)
-        → Laws ops model bound → IsLawful code → run ops code moves ≡ Some s
-        → NothingFollows ops.buffered bound code (history ops code moves)
-        ↔ (AllDrained ops.buffered (history ops code moves) × AllAreBlocked code (history ops code moves)) }
+    ensures { (m : Machine B) (moves : List Move) (s : State B) → run m.ops m.code moves ≡ Some s
+        → NothingFollows m.ops.buffered m.bound m.code (history m.ops m.code moves)
+        ↔ (AllDrained m.ops.buffered (history m.ops m.code moves) × AllAreBlocked m.code (history m.ops m.code moves)) }
 {}
 
 /// A run ends in a deadlock if and only if, in addition, no thread has failed and one has not
 /// exited.
 pub fn deadlocks_are_told<B>()
-    ensures { (ops : BufferOps B) (model : Model) (bound : Binding) (code : Code) (moves : List Move) (s : State B)
-        → Laws ops model bound → IsLawful code → run ops code moves ≡ Some s
-        → IsStuck ops code s ↔ IsDeadlockIn ops.buffered code (history ops code moves) }
+    ensures { (m : Machine B) (moves : List Move) (s : State B) → run m.ops m.code moves ≡ Some s
+        → IsStuck m.ops m.code s ↔ IsDeadlockIn m.ops.buffered m.code (history m.ops m.code moves) }
 {}

@@ -2,18 +2,15 @@
 //! nothing.
 ghost use Rattle.std.specs.Prelude.{◌≡◌, ◌↔◌, ◌<◌, ◌==◌, ℕ, ℤ, Bool, true, false, Option, Some, None, List, [], ◌∷◌, ◌++◌, length};
 ghost use Rattle.std.specs.FinSet as set;
-ghost use Rattle.tc_base.specs.Buffers.{BufferOps};
 ghost use Rattle.tc_base.specs.Names.{Name};
-ghost use Rattle.memory_models.specs.declared.model.Model.{Model};
 ghost use Rattle.tc_base.specs.declared.request.Request.{Request};
 ghost use Rattle.tc_code.specs.Code.{Code};
-ghost use Rattle.tc_code.specs.Lawful.{IsLawful};
-ghost use Rattle.store_buffers.specs.Laws.{Laws};
 ghost use Rattle.store_buffers.specs.Pending.{Binding};
 ghost use Rattle.run_history.specs.History.{Deed, Did, Drained};
 ghost use Rattle.run_history.specs.Last.{IsLast};
 ghost use Rattle.run_history.specs.Locals.{asks_next};
 ghost use Rattle.run_history.specs.Told.{owner_by, owner_in, waiting_in, failed_in};
+ghost use Rattle.run_follows.specs.Machine.{Machine};
 ghost use Rattle.run_follows.specs.Follow.{MayFollow, AllFollow};
 ghost use Rattle.run_follows.specs.deeds.Cells.{cell_of};
 
@@ -39,14 +36,10 @@ pub fn nobody_owns()
 
 /// The cells of steps, of drains and of next requests are in memory.
 pub fn cells_are_within<B>()
-    ensures done { (ops : BufferOps B) (model : Model) (bound : Binding) (code : Code) (h older newer : List Deed) (n : Name) (k c : ℕ) (r : Request)
-        (took : ℤ) (other : Option Name)
-        → Laws ops model bound → IsLawful code → AllFollow ops.buffered bound code h
-        → h ≡ older ++ Did n k r took other ∷ newer → cell_of r ≡ Some c → c < length code.memory }
-    ensures drained { (ops : BufferOps B) (model : Model) (bound : Binding) (code : Code) (h older newer : List Deed) (n : Name) (k c : ℕ) (v : ℤ)
-        → Laws ops model bound → IsLawful code → AllFollow ops.buffered bound code h
-        → h ≡ older ++ Drained n k c v ∷ newer → c < length code.memory }
-    ensures next { (ops : BufferOps B) (model : Model) (bound : Binding) (code : Code) (h : List Deed) (n : Name) (c : ℕ) (r : Request)
-        → Laws ops model bound → IsLawful code → AllFollow ops.buffered bound code h
-        → asks_next code h n ≡ Some r → cell_of r ≡ Some c → c < length code.memory }
+    ensures done { (m : Machine B) (h older newer : List Deed) (n : Name) (k c : ℕ) (r : Request) (took : ℤ) (other : Option Name)
+        → AllFollow m.ops.buffered m.bound m.code h → h ≡ older ++ Did n k r took other ∷ newer → cell_of r ≡ Some c → c < length m.code.memory }
+    ensures drained { (m : Machine B) (h older newer : List Deed) (n : Name) (k c : ℕ) (v : ℤ) → AllFollow m.ops.buffered m.bound m.code h
+        → h ≡ older ++ Drained n k c v ∷ newer → c < length m.code.memory }
+    ensures next { (m : Machine B) (h : List Deed) (n : Name) (c : ℕ) (r : Request) → AllFollow m.ops.buffered m.bound m.code h
+        → asks_next m.code h n ≡ Some r → cell_of r ≡ Some c → c < length m.code.memory }
 {}

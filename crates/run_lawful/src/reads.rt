@@ -1,29 +1,21 @@
 //! The values of loads in the world of a run. The law is the contract of a function with an empty
 //! body.
-ghost use Rattle.std.specs.Prelude.{◌≡◌, ℕ, true, List};
-ghost use Rattle.tc_base.specs.Buffers.{BufferOps};
-ghost use Rattle.run_log.specs.Logs.{Log};
-ghost use Rattle.memory_models.specs.declared.model.Model.{Model};
+ghost use Rattle.std.specs.Prelude.{ℕ, List};
 ghost use Rattle.tc_base.specs.declared.moves.Move.{Move};
-ghost use Rattle.tc_code.specs.Code.{Code};
-ghost use Rattle.tc_code.specs.Lawful.{IsLawful};
 ghost use Rattle.tc_code.specs.Run.{Reproduces};
-ghost use Rattle.store_buffers.specs.Laws.{Laws};
-ghost use Rattle.store_buffers.specs.Pending.{Binding};
 ghost use Rattle.run_history.specs.History.{history};
-ghost use Rattle.run_log.specs.Logs.{is_log};
 ghost use Rattle.path_walk.specs.Paths.{paths_of};
 ghost use Rattle.sym_terms.specs.Terms.{AreTerms};
 ghost use Rattle.sym_terms.specs.declared.node.Node.{Node};
 ghost use Rattle.sym_laws.specs.Valued.{found};
 ghost use Rattle.lawful_order.specs.Reads.{ReadRule};
 ghost use Rattle.run_lawful.specs.world.WorldOf.{world_in};
+ghost use Rattle.path_laws.specs.Setting.{Setting};
 
 /// Each load and exchange takes the value of the last store that it sees: the newest store to the
 /// cell in its own thread's buffer, or else the last one that reached memory.
 pub fn loads_take_the_last<B>()
-    ensures { (ops : BufferOps B) (model : Model) (bound : Binding) (code : Code) (log : Log) (nodes : List Node) (moves : List Move) (t line : ℕ)
-        → Laws ops model bound → IsLawful code → is_log log ≡ true → AreTerms nodes → Reproduces ops code log moves
-        → ReadRule code (paths_of code log) (found code log nodes).symbolic (found code log nodes).nodes
-        (world_in ops.buffered (paths_of code log) (found code log nodes).symbolic (history ops code moves)) t line }
+    ensures { (s : Setting B) (nodes : List Node) (moves : List Move) (t line : ℕ) → AreTerms nodes → Reproduces s.ops s.code s.log moves
+        → ReadRule s.code (paths_of s.code s.log) (found s.code s.log nodes).symbolic (found s.code s.log nodes).nodes
+        (world_in s.ops.buffered (paths_of s.code s.log) (found s.code s.log nodes).symbolic (history s.ops s.code moves)) t line }
 {}

@@ -17,6 +17,7 @@ use Rattle.order_formula.specs.Worlds.{World}
 use Rattle.lawful_order.specs.Lawful.{IsLawful, IsWorldOf}
 use Rattle.world_plan.specs.Going.{IsLawfulWorld}
 use Rattle.world_plan.specs.Plan.{plan}
+use Rattle.path_laws.specs.Setting.{Setting, setting_of}
 use Rattle.plan_runs.proofs.Laws.{given}
 use Rattle.plan_runs.proofs.Runs.{plan_reproduces}
 use Rattle.world_moves.specs.Moves.{moves_of}
@@ -25,21 +26,21 @@ use Rattle.schedule_decode.proofs.Rest.{plan_made}
 
 module _ {B : Type 0} (ops : BufferOps B) (model : Model) (bound : Binding) (code : Code) where
   -- a lawful world of one log is one of each log with its paths
-  of_paths : (log other : Log) (nodes : List Node) (w : World) → is_log other ≡ true → Fits code other → paths_of code other ≡ paths_of code log
-      → IsLawfulWorld ops model bound code log nodes w → IsLawfulWorld ops model bound code other nodes w
-  of_paths log other nodes w is fits same l = record {
-    laws = l.laws;
-    code_is = l.code_is;
-    log_is = is;
+  of_paths : (s : Setting B) (other : Log) (is : is_log other ≡ true) (nodes : List Node) (w : World) → Fits s.code other
+      → paths_of s.code other ≡ paths_of s.code s.log → IsLawfulWorld s nodes w → IsLawfulWorld (record s { log = other; log_is = is }) nodes w
+  of_paths s other is nodes w fits same l = record {
     fits = fits;
     lives = ap (λ (p : Paths). p.dead) same ∙ l.lives;
     terms = l.terms;
     world = l.world;
-    of = subst (λ p. IsWorldOf p (executed code p nodes).symbolic w) (sym same) l.of;
-    lawful = subst (λ p. IsLawful ops.buffered bound code p (executed code p nodes).symbolic (executed code p nodes).nodes w) (sym same) l.lawful;
+    of = subst (λ p. IsWorldOf p (executed s.code p nodes).symbolic w) (sym same) l.of;
+    lawful = subst (λ p. IsLawful s.ops.buffered s.bound s.code p (executed s.code p nodes).symbolic (executed s.code p nodes).nodes w) (sym same) l.lawful;
   }
 
   module _ (paths : Paths) (symbolic : Symbolic) (nodes : List Node) (w : World) (d : IsDecodable ops model bound code paths symbolic nodes w) where
+    abbrev its : Setting B
+    its = setting_of ops model bound code d.log d.laws d.code_is d.log_is
+
     -- what is told of the paths of a log, of what their execution finds and of its terms
     pub of_found : (C : Paths → Symbolic → List Node → Type 0)
         → C (paths_of code d.log) (found code d.log d.first).symbolic ((found code d.log d.first).nodes ++ d.more) → C paths symbolic nodes
@@ -51,11 +52,11 @@ module _ {B : Type 0} (ops : BufferOps B) (model : Model) (bound : Binding) (cod
     pub moves_are : moves_of ops.buffered bound paths symbolic nodes w ≡ moves_for bound (plan ops.buffered code paths w)
     moves_are =
         of_found (λ p s ns. moves_of ops.buffered bound p s ns w ≡ moves_for bound (plan ops.buffered code p w))
-        (plan_made ops model bound code d.log d.first d.more w d.lawful (given ops model bound code d.log d.first w d.lawful)).moves
+        (plan_made its d.first d.more w d.lawful (given its d.first w d.lawful)).moves
 
     pub reproduce_all : (log : Log) → is_log log ≡ true → Fits code log → paths_of code log ≡ paths
         → Reproduces ops code log (moves_for bound (plan ops.buffered code paths w))
     reproduce_all log is fits same =
-        let l = of_paths d.log log d.first w is fits (same ∙ d.paths_are) d.lawful in
+        let l = of_paths its log is d.first w fits (same ∙ d.paths_are) d.lawful in
         subst (λ p. Reproduces ops code log (moves_for bound (plan ops.buffered code p w))) same
-        (plan_reproduces ops model bound code log d.first w l (given ops model bound code log d.first w l))
+        (plan_reproduces (record its { log = log; log_is = is }) d.first w l (given (record its { log = log; log_is = is }) d.first w l))

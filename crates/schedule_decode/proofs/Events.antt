@@ -6,16 +6,12 @@ use Rattle.std.specs.Prelude.{slice_get, option_map, option_and_then}
 use Rattle.std.specs.List.{Contains, last_or}
 use Rattle.std.specs.Option.{option_map_or}
 use Rattle.std.proofs.lemmas.Option.{same_Some, slice_get_within}
-use Rattle.tc_base.specs.Buffers.{BufferOps}
-use Rattle.run_log.specs.Logs.{Log}
 use Rattle.tc_base.specs.Names.{Name}
-use Rattle.memory_models.specs.declared.model.Model.{Model}
 use Rattle.tc_base.specs.declared.moves.Move.{Move}
 use Rattle.tc_base.specs.declared.moves.Move.TheVariants as move
 use Rattle.tc_base.specs.declared.request.Request.{Request}
 use Rattle.tc_base.specs.declared.request.Request.TheVariants.{Silent, Read, Write, Exchange, CompareExchange, Bar, Acquire, Release, BeginWait}
 use Rattle.tc_base.specs.declared.request.Request.TheVariants.{EndWait, WakeOne, WakeAll, Start, Await, OrderStores, Finish, Fail}
-use Rattle.tc_code.specs.Code.{Code}
 use Rattle.store_buffers.specs.Pending.{Binding, form_of}
 use Rattle.run_history.specs.History.{Deed, Did, Drained}
 use Rattle.run_history.specs.Told.{steps_in, is_thread_in}
@@ -24,6 +20,7 @@ use Rattle.path_walk.specs.Paths.{Walk, Paths, paths_of}
 use Rattle.path_walk.specs.declared.event.Event.{Event}
 use Rattle.path_walk.specs.declared.event.EventKind.{EventKind}
 use Rattle.path_walk.specs.declared.event.EventKind.TheVariants as kind
+use Rattle.path_laws.specs.Setting.{Setting}
 use Rattle.path_laws.specs.Deeds.{kind_of}
 use Rattle.path_laws.specs.history.Along.{IsThread}
 use Rattle.sym_terms.specs.declared.node.Node.{Node}
@@ -82,8 +79,9 @@ module _ (bound : Binding) (paths : Paths) (w : World) (g : ℕ) (n : Name) wher
   event_moves k Finish took other asked is wakes = ap (own_move paths w g n) (same_Some kind.Exit asked is)
   event_moves k Fail took other asked is wakes = ap (own_move paths w g n) (same_Some kind.Fail asked is)
 
-module _ {B : Type 0} (ops : BufferOps B) (model : Model) (bound : Binding) (code : Code) (log : Log) (nodes more : List Node) (w : World)
-    (l : IsLawfulWorld ops model bound code log nodes w) (g : Given ops bound code log nodes w) where
+module _ {B : Type 0} (setting : Setting B) (nodes more : List Node) (w : World) (l : IsLawfulWorld setting nodes w) (g : Given setting nodes w) where
+  open setting use {ops, bound, code, log}
+
   abbrev paths : Paths
   paths = paths_of code log
 
@@ -99,7 +97,7 @@ module _ {B : Type 0} (ops : BufferOps B) (model : Model) (bound : Binding) (cod
   -- what stands at a place among all events is where the world has it
   here : (i : ℕ) (e : Of Event) → slice_get (all_events paths) i ≡ Some e → position w (0 + i) ≡ place_of paths w e.thread e.it.step
   here i e at =
-      let number = number_is paths (paths_whole ops model bound code log nodes w l) i e at in
+      let number = number_is paths (paths_whole setting nodes w l) i e at in
       ap (position w) (let same : 0 + i ≡ number_of paths e.thread e.it.step = omega (arith, number) in same)
 
   -- the event at a position, with its number
@@ -132,7 +130,7 @@ module _ {B : Type 0} (ops : BufferOps B) (model : Model) (bound : Binding) (cod
       by (inr none) = ap first none.numbered ∙ sym (ap second none.plain)
 
   -- An event that comes.
-  module _ (p : ℕ) (h : List Deed) (m : Made) (gone : Gone ops bound code log nodes w p h) (so_far : IsMadeOf bound code log h m) (t : ℕ) (q : Walk)
+  module _ (p : ℕ) (h : List Deed) (m : Made) (gone : Gone setting nodes w p h) (so_far : IsMadeOf bound code log h m) (t : ℕ) (q : Walk)
       (x : Event) (there : IsThread code log t q) (i : Contains q.events x) (at : place code log w t x ≡ p) where
     abbrev is_there : is_thread_in h q.name ≡ true
     is_there = g.there p h t q x gone there i at
@@ -150,20 +148,20 @@ module _ {B : Type 0} (ops : BufferOps B) (model : Model) (bound : Binding) (cod
     module _ (waits : is_pending ops.buffered x ≡ true) where
       quiet : (k : ℕ) → steps_in h q.name ≤ k → k < steps_in h q.name + left → (y : Event) → Contains q.events y → y.step ≡ k
           → is_pending ops.buffered y ≡ true
-      quiet = quiet_through ops model bound code log nodes w l g p h gone t q x there i at waits
+      quiet = quiet_through setting nodes w l g p h gone t q x there i at waits
 
       few : steps_in h q.name + left ≤ length q.places
-      few = few_left ops model bound code log nodes w l g p h gone t q x there i at waits
+      few = few_left setting nodes w l g p h gone t q x there i at waits
 
-      reached : Reached ops model bound code log nodes w l g p h q (steps_in h q.name + left) upto
-      reached = quiet_on ops model bound code log nodes w l g left p h gone t q there is_there few quiet
+      reached : Reached setting nodes w l g p h q (steps_in h q.name + left) upto
+      reached = quiet_on setting nodes w l g left p h gone t q there is_there few quiet
 
       issued_moves : moves_for bound upto ≡ moves_for bound h ++ runs_to m t q.name (x.step + 1)
       issued_moves =
-          runs_on ops model bound code log nodes w l g left p h gone t q there is_there few quiet
+          runs_on setting nodes w l g left p h gone t q there is_there few quiet
           ∙ ap (λ k. moves_for bound h ++ replicate (x.step + 1 - k) (move.Run q.name)) (sym same_steps)
 
-      drain_moves : (c : ℕ) → IsStoreOf ops model bound code log nodes more w l t x.step c
+      drain_moves : (c : ℕ) → IsStoreOf setting nodes more w l t x.step c
           → drains_of ops.buffered bound paths symbolic terms w t q.name x.step ≡ move.Drain q.name (form_of bound c) ∷ []
       drain_moves c s =
           ap (λ o. option_map_or (λ d. move.Drain q.name (form_of bound (cell_by terms w.loads d)) ∷ []) o []) s.cell
@@ -178,13 +176,13 @@ module _ {B : Type 0} (ops : BufferOps B) (model : Model) (bound : Binding) (cod
           let turn = g.turns p upto t q x reached.gone there i waits at done in
           let c = turn.0 in
           let d = Drained q.name x.step c turn.1 in
-          let s = store_of ops model bound code log nodes more w l p upto reached.gone t q there x.step c turn.1 turn.2.next.issued in
+          let s = store_of setting nodes more w l p upto reached.gone t q there x.step c turn.1 turn.2.next.issued in
           let its : moves_for bound (upto ++ d ∷ []) ≡ moves_for bound h ++ written =
           map-append (move_for bound) upto (d ∷ [])
           ∙ ap₂ (λ ms ns. ms ++ ns) issued_moves (sym (drain_moves c s))
           ∙ append_assoc (moves_for bound h) (runs_to m t q.name (x.step + 1)) (drains_of ops.buffered bound paths symbolic terms w t q.name x.step) in
           subst (λ ds. IsMadeOf bound code log (upto ++ ds) (with_moves m t (x.step + 1) written)) (sym turn.3)
-          (made_on bound code log l.log_is h (upto ++ d ∷ []) m so_far t q there (x.step + 1) written its
+          (made_on bound code log setting.log_is h (upto ++ d ∷ []) m so_far t q there (x.step + 1) written its
           (omega (arith, steps_drained upto q.name q.name x.step c turn.1, reached.steps))
           (λ n apart. steps_drained upto q.name n x.step c turn.1 ∙ others_stay ops.buffered code paths w left h t q.name n apart))
 
@@ -194,36 +192,36 @@ module _ {B : Type 0} (ops : BufferOps B) (model : Model) (bound : Binding) (cod
       before = goes (x.step - steps_in h q.name) h t q.name
 
       low : steps_in h q.name ≤ x.step
-      low = not_done ops model bound code log nodes w l g p h gone t q x there i at now
+      low = not_done setting nodes w l g p h gone t q x there i at now
 
-      came : Reached ops model bound code log nodes w l g p h q x.step before
-      came = come ops model bound code log nodes w l g p h gone t q x there i at now
+      came : Reached setting nodes w l g p h q x.step before
+      came = come setting nodes w l g p h gone t q x there i at now
 
-      n : NextIs ops model bound code log nodes w l before t q
-      n = next_there ops model bound code log nodes w l g p h gone t q x there i at now
+      n : NextIs setting nodes w l before t q
+      n = next_there setting nodes w l g p h gone t q x there i at now
 
       abbrev d : Deed
-      d = next.deed ops model bound code log nodes w l p before came.gone t q there n
+      d = next.deed setting nodes w l p before came.gone t q there n
 
       does : upto ≡ before ++ d ∷ []
       does =
           let one : x.step + 1 - steps_in h q.name ≡ suc (x.step - steps_in h q.name) = omega (arith, low) in
           ap (λ k. goes k h t q.name) one ∙ goes_last ops.buffered code paths w (x.step - steps_in h q.name) h t q.name
-          ∙ ap (λ ds. before ++ ds) (next.does_it ops model bound code log nodes w l p before came.gone t q there n)
+          ∙ ap (λ ds. before ++ ds) (next.does_it setting nodes w l p before came.gone t q there n)
 
       led_moves : moves_for bound before ≡ moves_for bound h ++ runs_to m t q.name x.step
       led_moves =
-          runs_on ops model bound code log nodes w l g (x.step - steps_in h q.name) p h gone t q there is_there
-          (omega (arith, low, within ops model bound code log nodes w l g t q x there i))
-          (λ k over under. quiet_before ops model bound code log nodes w l g p h gone t q x there i at k over (omega (arith, under, over, low)))
+          runs_on setting nodes w l g (x.step - steps_in h q.name) p h gone t q there is_there
+          (omega (arith, low, within setting nodes w l g t q x there i))
+          (λ k over under. quiet_before setting nodes w l g p h gone t q x there i at k over (omega (arith, under, over, low)))
           ∙ ap (λ k. moves_for bound h ++ replicate (x.step - k) (move.Run q.name)) (sym same_steps)
 
       own_step : (event : ℕ) → event ≡ number_of paths t x.step → move_for bound d ≡ own_move paths w event q.name x.kind
       own_step event is =
           event_moves bound paths w event q.name (steps_in before q.name) n.request (taken_in ops.buffered code before q.name n.request)
-          (next.other ops model bound code log nodes w l p before came.gone t q there n) x.kind
-          (next.kind_is ops model bound code log nodes w l p before came.gone t q there n ∙ ap (kind_at q) came.steps
-          ∙ kind_of_event ops model bound code log nodes w l g t q x there i)
+          (next.other setting nodes w l p before came.gone t q there n) x.kind
+          (next.kind_is setting nodes w l p before came.gone t q there n ∙ ap (kind_at q) came.steps
+          ∙ kind_of_event setting nodes w l g t q x there i)
           (λ c signals.
           ap (other_of paths w before t q.name) signals
           ∙ ap (woken_by paths w) (ap (number_of paths t) came.steps ∙ sym is))
@@ -239,10 +237,10 @@ module _ {B : Type 0} (ops : BufferOps B) (model : Model) (bound : Binding) (cod
           ∙ append_assoc (moves_for bound h) (runs_to m t q.name x.step) (own ∷ []) in
           let request = n.request in
           let took = taken_in ops.buffered code before q.name request in
-          let other = next.other ops model bound code log nodes w l p before came.gone t q there n in
+          let other = next.other setting nodes w l p before came.gone t q there n in
           let one : steps_in (before ++ d ∷ []) q.name ≡ steps_in before q.name + 1 = steps_own before q.name (steps_in before q.name) request took other in
           subst (λ ds. IsMadeOf bound code log ds (with_moves m t (x.step + 1) (runs_to m t q.name x.step ++ own ∷ []))) (sym does)
-          (made_on bound code log l.log_is h (before ++ d ∷ []) m so_far t q there (x.step + 1) (runs_to m t q.name x.step ++ own ∷ []) its
+          (made_on bound code log setting.log_is h (before ++ d ∷ []) m so_far t q there (x.step + 1) (runs_to m t q.name x.step ++ own ∷ []) its
           (omega (arith, one, came.steps, low))
           (λ v apart. steps_other before q.name v (steps_in before q.name) request took other apart
           ∙ others_stay ops.buffered code paths w (x.step - steps_in h q.name) h t q.name v apart))
@@ -266,7 +264,7 @@ module _ {B : Type 0} (ops : BufferOps B) (model : Model) (bound : Binding) (cod
         by false now = step_made now event is
 
   -- up to each position before the end
-  module _ (end : ℕ) (gone : (p : ℕ) → p ≤ end → Gone ops bound code log nodes w p (up_to ops.buffered code paths w p)) where
+  module _ (end : ℕ) (gone : (p : ℕ) → p ≤ end → Gone setting nodes w p (up_to ops.buffered code paths w p)) where
     abbrev deeds : ℕ → List Deed
     deeds p = up_to ops.buffered code paths w p
 
@@ -299,7 +297,7 @@ module _ {B : Type 0} (ops : BufferOps B) (model : Model) (bound : Binding) (cod
             → IsMadeOf bound code log (with_event ops.buffered code paths w (deeds p) e)
             (with_number ops.buffered bound paths symbolic terms w (made p) (0 + i, e))
         one i e at so_far =
-            let whole = paths_whole ops model bound code log nodes w l in
+            let whole = paths_whole setting nodes w l in
             let a = event_at_is paths w l.world l.of.events whole p e at.plain in
             let number = number_is paths whole i e at.there in
             subst (λ o. IsMadeOf bound code log (walk_deeds e o) (walk_made (0 + i) e o)) (sym a.1)

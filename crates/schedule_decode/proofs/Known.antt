@@ -6,12 +6,8 @@ use Rattle.std.specs.List.{Contains, enumerate_from}
 use Rattle.std.specs.Option.{IfSome}
 use Rattle.std.proofs.lemmas.Bool.{and_parts, eqb-true}
 use Rattle.std.proofs.lemmas.Option.{none-some, same_Some, slice_get_within}
-use Rattle.tc_base.specs.Buffers.{BufferOps}
-use Rattle.run_log.specs.Logs.{Log}
-use Rattle.memory_models.specs.declared.model.Model.{Model}
 use Rattle.tc_base.specs.declared.request.Request.TheVariants.{Write}
 use Rattle.tc_code.specs.Code.{Code}
-use Rattle.store_buffers.specs.Pending.{Binding}
 use Rattle.run_history.specs.History.{Deed}
 use Rattle.run_history.specs.pending.Deeds.{IsIssuedIn}
 use Rattle.run_follows.proofs.of_deeds.Cells.{step_cell}
@@ -19,6 +15,7 @@ use Rattle.path_walk.specs.Paths.{Walk, Paths, paths_of}
 use Rattle.path_walk.specs.declared.event.Event.{Event}
 use Rattle.path_walk.specs.declared.event.EventKind.{EventKind}
 use Rattle.path_walk.specs.declared.event.EventKind.TheVariants as kind
+use Rattle.path_laws.specs.Setting.{Setting}
 use Rattle.path_laws.specs.history.Along.{IsThread}
 use Rattle.path_laws.proofs.of_events.Lists.{in_contains}
 use Rattle.sym_terms.specs.declared.node.Node.{Node}
@@ -70,8 +67,9 @@ abbrev pub AreKnown : Bool → Code → Paths → Symbolic → List Node → Wor
 AreKnown buffered code paths symbolic nodes w =
     (p : ℕ) (e : ℕ × Of Event) → p < last_place paths w → event_here paths w p ≡ Some e → IsKnown buffered code paths symbolic nodes w p e
 
-module _ {B : Type 0} (ops : BufferOps B) (model : Model) (bound : Binding) (code : Code) (log : Log) (nodes more : List Node) (w : World)
-    (l : IsLawfulWorld ops model bound code log nodes w) (g : Given ops bound code log nodes w) where
+module _ {B : Type 0} (setting : Setting B) (nodes more : List Node) (w : World) (l : IsLawfulWorld setting nodes w) (g : Given setting nodes w) where
+  open setting use {machine, ops, code, log}
+
   abbrev paths : Paths
   paths = paths_of code log
 
@@ -82,51 +80,51 @@ module _ {B : Type 0} (ops : BufferOps B) (model : Model) (bound : Binding) (cod
   terms = (found code log nodes).nodes ++ more
 
   -- the cell of a store that has been issued
-  of_store : (t k c : ℕ) → IsStoreOf ops model bound code log nodes more w l t k c → c < length code.memory
+  of_store : (t k c : ℕ) → IsStoreOf setting nodes more w l t k c → c < length code.memory
       → IfSome (cell_of symbolic t k) (IsOfMemory code terms w)
   of_store t k c s within =
       subst (λ o. IfSome o (IsOfMemory code terms w)) (sym s.cell)
       (record {
-        terms = (have_later (found code log nodes).nodes terms symbolic (more, refl) (have_terms code l.code_is paths nodes) t s.access s.has).cell;
+        terms = (have_later (found code log nodes).nodes terms symbolic (more, refl) (have_terms code setting.lawful paths nodes) t s.access s.has).cell;
         number = omega (arith, within, s.number);
       })
 
-  issued : (p : ℕ) (h : List Deed) → Gone ops bound code log nodes w p h → (t : ℕ) (q : Walk) → IsThread code log t q → (k c : ℕ) (v : ℤ)
+  issued : (p : ℕ) (h : List Deed) → Gone setting nodes w p h → (t : ℕ) (q : Walk) → IsThread code log t q → (k c : ℕ) (v : ℤ)
       → IsIssuedIn h q.name k c v → IfSome (cell_of symbolic t k) (IsOfMemory code terms w)
   issued p h gone t q there k c v s =
-      of_store t k c (store_of ops model bound code log nodes more w l p h gone t q there k c v s)
-      (step_cell ops model bound code h s.before s.after q.name k c (Write c v) s.took s.other l.laws l.code_is gone.along.follow s.issued refl)
+      of_store t k c (store_of setting nodes more w l p h gone t q there k c v s)
+      (step_cell machine h s.before s.after q.name k c (Write c v) s.took s.other gone.along.follow s.issued refl)
 
-  stored : (p : ℕ) (h : List Deed) → Gone ops bound code log nodes w p h → (t : ℕ) (q : Walk) (x : Event) → IsThread code log t q → Contains q.events x
+  stored : (p : ℕ) (h : List Deed) → Gone setting nodes w p h → (t : ℕ) (q : Walk) (x : Event) → IsThread code log t q → Contains q.events x
       → place code log w t x < p → is_pending ops.buffered x ≡ true → IfSome (cell_of symbolic t x.step) (IsOfMemory code terms w)
   stored p h gone t q x there i before waits =
-      let s = event_issued ops model bound l.laws code l.code_is log l.log_is l.fits h gone.along t q there x (in_contains x q.events i)
+      let s = event_issued setting l.fits h gone.along t q there x (in_contains x q.events i)
       (only_store x.kind (and_parts ops.buffered (is_store x.kind) waits).1) (gone.did t q x there i before) in
       issued p h gone t q there x.step s.0 s.1 s.2
 
   pub are_known : AreKnown ops.buffered code paths symbolic terms w
-  are_known p e before is = by (at_position ops model bound code log nodes more w l g p)
+  are_known p e before is = by (at_position setting nodes more w l g p)
     where
-      known_at : (i : ℕ) (x : Of Event) → At ops model bound code log nodes more w l g p i x
+      known_at : (i : ℕ) (x : Of Event) → At setting nodes more w l g p i x
           → IsKnown ops.buffered code paths symbolic terms w p (0 + i, x)
       known_at i x at =
-          let a = event_at_is paths w l.world l.of.events (paths_whole ops model bound code log nodes w l) p x at.plain in
+          let a = event_at_is paths w l.world l.of.events (paths_whole setting nodes w l) p x at.plain in
           let f = of_find (λ (y : ℕ × Of Event). position w y.0 == p) (enumerate_from 0 (all_events paths)) (0 + i, x) at.numbered in
           let few = slice_get_within (all_events paths) i x at.there in
-          let end = same_end ops model bound code log nodes more w l g in
+          let end = same_end setting nodes more w l g in
           record {
             walk = a.0;
             there = a.1;
-            step = within ops model bound code log nodes w l g x.thread a.0 x.it a.1 a.2;
+            step = within setting nodes w l g x.thread a.0 x.it a.1 a.2;
             number = omega (arith, few, l.of.events);
             at = eqb-true (position w (0 + i)) p f.1;
             cell = λ waits.
                 stored (suc p) (up_to ops.buffered code paths w (suc p))
-                (gone_to ops model bound code log nodes more w l g (suc p) (omega (arith, before, end)))
+                (gone_to setting nodes more w l g (suc p) (omega (arith, before, end)))
                 x.thread a.0 x.it a.1 a.2 (omega (arith, a.3)) waits;
           }
 
-      by : (((i : ℕ) × (x : Of Event) × At ops model bound code log nodes more w l g p i x) ⊎ NoneAt ops model bound code log nodes more w l g p)
+      by : (((i : ℕ) × (x : Of Event) × At setting nodes more w l g p i x) ⊎ NoneAt setting nodes more w l g p)
           → IsKnown ops.buffered code paths symbolic terms w p e
       by (inr none) = absurd (none-some e (sym none.numbered ∙ is))
       by (inl r) = subst (IsKnown ops.buffered code paths symbolic terms w p) (same_Some (0 + r.0, r.1) e (sym r.2.numbered ∙ is)) (known_at r.0 r.1 r.2)

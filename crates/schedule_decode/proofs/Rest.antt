@@ -8,17 +8,12 @@ use Rattle.std.proofs.lemmas.Bool.{false≢true, not-true, eqb-true, eq-eqb, ne_
 use Rattle.std.proofs.lemmas.List.{append-nil, map-append, length-map}
 use Rattle.std.proofs.lemmas.List.Sums.{fold-append}
 use Rattle.std.proofs.lemmas.Option.{none-some, same_Some}
-use Rattle.tc_base.specs.Buffers.{BufferOps}
-use Rattle.run_log.specs.Logs.{Log}
 use Rattle.tc_base.specs.Paths.{place_in}
 use Rattle.tc_base.specs.Names.{Name}
 use Rattle.tc_base.specs.declared.failing.Failing.{Failing}
 use Rattle.tc_base.specs.declared.failing.Failing.TheVariants as failing
-use Rattle.memory_models.specs.declared.model.Model.{Model}
 use Rattle.tc_base.specs.declared.moves.Move.{Move}
 use Rattle.tc_base.specs.declared.moves.Move.TheVariants as move
-use Rattle.tc_code.specs.Code.{Code}
-use Rattle.store_buffers.specs.Pending.{Binding}
 use Rattle.run_history.specs.History.{Deed}
 use Rattle.run_history.specs.Told.{steps_in, is_thread_in}
 use Rattle.run_follows.specs.Follow.{move_for, moves_for, taken_in}
@@ -27,6 +22,7 @@ use Rattle.path_walk.specs.Fits.{fails_in}
 use Rattle.path_walk.specs.Paths.{Walk, Paths, paths_of, walk_of}
 use Rattle.path_walk.specs.declared.event.Event.{Event}
 use Rattle.path_walk.specs.declared.event.EventKind.TheVariants as kind
+use Rattle.path_laws.specs.Setting.{Setting}
 use Rattle.path_laws.specs.history.Along.{IsThread, AllAreThere}
 use Rattle.sym_exec.specs.Executed.{Symbolic, has_failed}
 use Rattle.sym_laws.specs.Valued.{found}
@@ -106,16 +102,17 @@ nobody : (ts : List ℕ) → filter (λ t. false) ts ≡ []
 nobody [] = refl
 nobody (t ∷ ts) = nobody ts
 
-module _ {B : Type 0} (ops : BufferOps B) (model : Model) (bound : Binding) (code : Code) (log : Log) (nodes more : List Node) (w : World)
-    (l : IsLawfulWorld ops model bound code log nodes w) (g : Given ops bound code log nodes w) where
+module _ {B : Type 0} (setting : Setting B) (nodes more : List Node) (w : World) (l : IsLawfulWorld setting nodes w) (g : Given setting nodes w) where
+  open setting use {ops, bound, code, log}
+
   abbrev paths : Paths
   paths = paths_of code log
 
   abbrev last : ℕ
-  last = end ops model bound code log nodes w l
+  last = end setting nodes w l
 
   abbrev at_end : List Deed → Type 0
-  at_end h = Gone ops bound code log nodes w last h
+  at_end h = Gone setting nodes w last h
 
   abbrev goes : ℕ → List Deed → ℕ → Name → List Deed
   goes m h t n = goes_on ops.buffered code paths w m h t n
@@ -136,7 +133,7 @@ module _ {B : Type 0} (ops : BufferOps B) (model : Model) (bound : Binding) (cod
           let f = of_find (λ (e : Event). e.step == steps_in h q.name) q.events x one in
           let is = same_Some x.kind (kind.Signal c) (sym (ap (option_map (λ (e : Event). e.kind)) one) ∙ signals) in
           let step = eqb-true x.step (steps_in h q.name) f.1 in
-          elim (quiet_unless ops model bound code log nodes w l g h gone t q there x f.0 (omega (arith, step))) [
+          elim (quiet_unless setting nodes w l g h gone t q there x f.0 (omega (arith, step))) [
             | inl waits ↦ let s = and_parts ops.buffered (is_store x.kind) waits in false≢true (sym (ap is_store is) ∙ s.1)
             | inr fails ↦ let e : kind.Signal c ≡ kind.Fail = sym is ∙ fails in cc
           ]
@@ -144,11 +141,11 @@ module _ {B : Type 0} (ops : BufferOps B) (model : Model) (bound : Binding) (cod
   -- and it is quiet, unless its thread fails by it
   quiet_here : (h : List Deed) → at_end h → (t : ℕ) (q : Walk) → IsThread code log t q
       → (fails_in log q.name ≡ true → steps_in h q.name + 1 ≡ length q.places → ⊥)
-      → QuietAt ops model bound code log nodes w l g q (steps_in h q.name)
+      → QuietAt setting nodes w l g q (steps_in h q.name)
   quiet_here h gone t q there not x i step =
-      elim (quiet_unless ops model bound code log nodes w l g h gone t q there x i (omega (arith, step))) [
+      elim (quiet_unless setting nodes w l g h gone t q there x i (omega (arith, step))) [
         | inl waits ↦ waits
-        | inr fails ↦ let f = fail_is_last code log l.log_is l.fits t q x there i fails in absurd (not f.0 (omega (arith, f.1, step)))
+        | inr fails ↦ let f = fail_is_last code log setting.log_is l.fits t q x there i fails in absurd (not f.0 (omega (arith, f.1, step)))
       ]
 
   -- So many steps to the end of a path are so many moves of its thread.
@@ -163,20 +160,20 @@ module _ {B : Type 0} (ops : BufferOps B) (model : Model) (bound : Binding) (cod
   runs_out zero h gone t q there is_there all =
       record { moves = sym (append-nil (moves_for bound h)); steps = omega arith; on = goes_nowhere h; gone = λ passes. gone }
   runs_out (suc k) h gone t q there is_there all =
-      subst (λ ds. Ran (suc k) h q (goes k (h ++ ds) t q.name)) (sym (next.does_it ops model bound code log nodes w l last h gone t q there n))
+      subst (λ ds. Ran (suc k) h q (goes k (h ++ ds) t q.name)) (sym (next.does_it setting nodes w l last h gone t q there n))
       (by k all (λ on. runs_out k longer on t q there (one.goes.there q.name is_there) (omega (arith, all, one.steps))))
     where
-      n : NextIs ops model bound code log nodes w l h t q
-      n = next_is ops model bound code log nodes w l last h gone t q there is_there (omega (arith, all))
+      n : NextIs setting nodes w l h t q
+      n = next_is setting nodes w l last h gone t q there is_there (omega (arith, all))
 
       d : Deed
-      d = next.deed ops model bound code log nodes w l last h gone t q there n
+      d = next.deed setting nodes w l last h gone t q there n
 
       longer : List Deed
       longer = h ++ d ∷ []
 
       one : Step h longer q
-      one = one_more ops model bound code log nodes w l g last h gone t q there n
+      one = one_more setting nodes w l g last h gone t q there n
 
       run : Move
       run = move.Run q.name
@@ -184,14 +181,14 @@ module _ {B : Type 0} (ops : BufferOps B) (model : Model) (bound : Binding) (cod
       own : move_for bound d ≡ run
       own =
           own_run bound q.name (steps_in h q.name) n.request (taken_in ops.buffered code h q.name n.request)
-          (next.other ops model bound code log nodes w l last h gone t q there n)
-          (λ c is. no_signal h gone t q there c (sym (next.kind_is ops model bound code log nodes w l last h gone t q there n) ∙ is))
+          (next.other setting nodes w l last h gone t q there n)
+          (λ c is. no_signal h gone t q there c (sym (next.kind_is setting nodes w l last h gone t q there n) ∙ is))
 
       first : moves_for bound longer ≡ moves_for bound h ++ run ∷ []
       first = map-append (move_for bound) h (d ∷ []) ∙ ap (λ a. moves_for bound h ++ a ∷ []) own
 
       on_quietly : (fails_in log q.name ≡ true → steps_in h q.name + 1 ≡ length q.places → ⊥) → at_end longer
-      on_quietly not = quiet_goes ops model bound code log nodes w l g last h gone t q there n (quiet_here h gone t q there not)
+      on_quietly not = quiet_goes setting nodes w l g last h gone t q there n (quiet_here h gone t q there not)
 
       by : (j : ℕ) → steps_in h q.name + suc j ≡ length q.places → (at_end longer → Ran j longer q (goes j longer t q.name))
           → Ran (suc j) h q (goes j longer t q.name)
@@ -235,17 +232,17 @@ module _ {B : Type 0} (ops : BufferOps B) (model : Model) (bound : Binding) (cod
           subst (λ o. RestMade h t (deeds_by o) (made_by o)) (sym none) (record { made = made; on = goes_nowhere h; gone = λ passes. gone })
       by (Some q) there =
           let left = length q.places - steps_in h q.name in
-          let most = few ops model bound code log nodes w l g h gone.along t q there in
+          let most = few setting nodes w l g h gone.along t q there in
           let r = runs_out left h gone t q there (are_there t q there) (omega (arith, most)) in
           let count : left ≡ length q.places - steps_of m t = ap (λ k. length q.places - k) (sym (made.steps t q there)) in
           subst (λ o. RestMade h t (deeds_by o) (made_by o)) (sym there)
           (record {
-            made = made_on bound code log l.log_is h (goes left h t q.name) m made t q there (length q.places) (runs_to m t q.name (length q.places))
+            made = made_on bound code log setting.log_is h (goes left h t q.name) m made t q there (length q.places) (runs_to m t q.name (length q.places))
                 (r.moves ∙ ap (λ k. moves_for bound h ++ replicate k (move.Run q.name)) count)
                 (omega (arith, r.steps, most))
                 (λ n apart. others_stay ops.buffered code paths w left h t q.name n apart);
             on = r.on;
-            gone = λ passes. r.gone (fails_by_place code log l.log_is t q there ∙ place_passes log.failing t passes);
+            gone = λ passes. r.gone (fails_by_place code log setting.log_is t q there ∙ place_passes log.failing t passes);
           })
 
   -- What is left to some threads that don't fail.
@@ -274,8 +271,8 @@ module _ {B : Type 0} (ops : BufferOps B) (model : Model) (bound : Binding) (cod
     nearly_made : IsMade nearly passed
     nearly_made =
         subst (IsMade nearly) (sym (fold_but (spec.with_rest paths) (is_failing paths) m range))
-        (all_made (filter (λ t. not (is_failing paths t)) range) before m (come ops model bound code log nodes w l g)
-        (all_threads ops model bound code log nodes w l g before (come ops model bound code log nodes w l g))
+        (all_made (filter (λ t. not (is_failing paths t)) range) before m (come setting nodes w l g)
+        (all_threads setting nodes w l g before (come setting nodes w l g))
         (λ t i. not-true (is_failing paths t) (of_filter (λ u. not (is_failing paths u)) t range i).1) first)
 
     -- the thread that fails is there
@@ -284,7 +281,7 @@ module _ {B : Type 0} (ops : BufferOps B) (model : Model) (bound : Binding) (cod
         let within =
         ltb-true k (length log.threads)
         (ap (λ f. is_there f (length log.threads)) (sym is)
-        ∙ (and_parts (rises_from None log.threads) (is_there log.failing (length log.threads)) l.log_is).1) in
+        ∙ (and_parts (rises_from None log.threads) (is_there log.failing (length log.threads)) setting.log_is).1) in
         omega (arith, within, length-map log.threads (walk_of code log))
 
     abbrev ends : Failing → Made
@@ -296,10 +293,10 @@ module _ {B : Type 0} (ops : BufferOps B) (model : Model) (bound : Binding) (cod
     last_made : (f : Failing) → log.failing ≡ f → IsMade (fold planned nearly (fails f)) (ends f)
     last_made failing.Deadlock is = subst (λ ts. IsMade (fold planned nearly ts) passed) (sym (nobody range)) nearly_made
     last_made (failing.Thread k) is =
-        let gone = (first_rest ops model bound code log nodes w l g).gone in
+        let gone = (first_rest setting nodes w l g).gone in
         subst (λ ts. IsMade (fold planned nearly ts) (spec.with_rest paths passed k))
         (sym (once_among k 0 (length paths.threads) (omega arith) (omega (arith, failing_within k is))))
-        (rest_made nearly passed gone (all_threads ops model bound code log nodes w l g nearly gone) nearly_made k).made
+        (rest_made nearly passed gone (all_threads setting nodes w l g nearly gone) nearly_made k).made
 
     whole_made : IsMade (plan.plan ops.buffered code paths w) (option_map_or (spec.with_rest paths passed) (place_in paths.failing) passed)
     whole_made =
@@ -316,13 +313,13 @@ module _ {B : Type 0} (ops : BufferOps B) (model : Model) (bound : Binding) (cod
   abbrev made_at : ℕ → Made
   made_at p = made_to ops.buffered bound paths symbolic terms w p
 
-  pub gone_to : (p : ℕ) → p ≤ last → Gone ops bound code log nodes w p (up_to ops.buffered code paths w p)
+  pub gone_to : (p : ℕ) → p ≤ last → Gone setting nodes w p (up_to ops.buffered code paths w p)
   gone_to =
-      gone_up_to ops model bound code log nodes w l g last (λ t q x there i. none_before ops model bound code log nodes w l t q x there i)
+      gone_up_to setting nodes w l g last (λ t q x there i. none_before setting nodes w l t q x there i)
 
   -- so all of a plan is made
   pub plan_made : IsMade (plan.plan ops.buffered code paths w) (spec.made ops.buffered bound paths symbolic terms w)
   plan_made =
       whole_made (made_at (last_place paths w))
-      (subst (λ p. IsMade before (made_at p)) (sym (same_end ops model bound code log nodes more w l g))
-      (made_up_to ops model bound code log nodes more w l g last gone_to last (omega arith)))
+      (subst (λ p. IsMade before (made_at p)) (sym (same_end setting nodes more w l g))
+      (made_up_to setting nodes more w l g last gone_to last (omega arith)))

@@ -6,14 +6,10 @@ use Rattle.std.specs.Prelude.{◌==◌, option_map}
 use Rattle.std.specs.List.{find}
 use Rattle.std.proofs.lemmas.Bool.{false≢true, and_parts, eqb-true}
 use Rattle.std.proofs.lemmas.Option.{none-some, same_Some}
-use Rattle.tc_base.specs.Buffers.{BufferOps}
-use Rattle.run_log.specs.Logs.{Log}
 use Rattle.tc_base.specs.Names.{Name}
-use Rattle.memory_models.specs.declared.model.Model.{Model}
 use Rattle.tc_base.specs.declared.moves.Move.TheVariants as move
 use Rattle.tc_base.specs.declared.request.Request.{Request}
 use Rattle.tc_base.specs.declared.request.Request.TheVariants.{WakeOne, Silent}
-use Rattle.tc_code.specs.Code.{Code}
 use Rattle.store_buffers.specs.Pending.{Binding}
 use Rattle.run_history.specs.History.{Deed, Did}
 use Rattle.run_history.specs.Told.{steps_in, is_thread_in}
@@ -21,6 +17,7 @@ use Rattle.run_follows.specs.Follow.{move_for, moves_for, taken_in}
 use Rattle.path_walk.specs.Paths.{Walk, Paths, paths_of}
 use Rattle.path_walk.specs.declared.event.Event.{Event}
 use Rattle.path_walk.specs.declared.event.EventKind.TheVariants as kind
+use Rattle.path_laws.specs.Setting.{Setting}
 use Rattle.path_laws.specs.Deeds.{kind_of}
 use Rattle.path_laws.specs.history.Along.{IsThread}
 use Rattle.sym_terms.specs.declared.node.Node.{Node}
@@ -32,7 +29,7 @@ use Rattle.world_plan.specs.Plan.{goes_on}
 use Rattle.world_plan.proofs.Numbers.{of_find}
 use Rattle.plan_runs.proofs.Given.{Gone, Given}
 use Rattle.plan_runs.proofs.Next as next
-use Rattle.plan_runs.proofs.Next.{NextIs, next_is}
+use Rattle.plan_runs.proofs.Next.{next_is}
 use Rattle.plan_runs.proofs.Steps.{QuietAt, quiet_goes, one_more}
 
 -- a step that is no signal is a thread's own move
@@ -42,8 +39,9 @@ own_run bound n k (WakeOne c) took other not = absurd (not c refl)
 own_run bound n k Silent took other not = refl
 own_run bound n k r took other not = refl
 
-module _ {B : Type 0} (ops : BufferOps B) (model : Model) (bound : Binding) (code : Code) (log : Log) (nodes : List Node) (w : World)
-    (l : IsLawfulWorld ops model bound code log nodes w) (g : Given ops bound code log nodes w) where
+module _ {B : Type 0} (setting : Setting B) (nodes : List Node) (w : World) (l : IsLawfulWorld setting nodes w) (g : Given setting nodes w) where
+  open setting use {ops, bound, code, log}
+
   abbrev paths : Paths
   paths = paths_of code log
 
@@ -51,7 +49,7 @@ module _ {B : Type 0} (ops : BufferOps B) (model : Model) (bound : Binding) (cod
   goes m h t n = goes_on ops.buffered code paths w m h t n
 
   -- a quiet step is no signal
-  no_signal : (q : Walk) (k c : ℕ) → QuietAt ops model bound code log nodes w l g q k → kind_at q k ≢ Some (kind.Signal c)
+  no_signal : (q : Walk) (k c : ℕ) → QuietAt setting nodes w l g q k → kind_at q k ≢ Some (kind.Signal c)
   no_signal q k c quiet signals = by (find (λ (e : Event). e.step == k) q.events) refl
     where
       by : (o : Option Event) → find (λ (e : Event). e.step == k) q.events ≡ o → ⊥
@@ -63,26 +61,26 @@ module _ {B : Type 0} (ops : BufferOps B) (model : Model) (bound : Binding) (cod
           false≢true (sym (ap is_store is) ∙ waits.1)
 
   -- so many quiet steps of a thread are so many moves of its own
-  pub runs_on : (m p : ℕ) (h : List Deed) → Gone ops bound code log nodes w p h → (t : ℕ) (q : Walk) → IsThread code log t q
+  pub runs_on : (m p : ℕ) (h : List Deed) → Gone setting nodes w p h → (t : ℕ) (q : Walk) → IsThread code log t q
       → is_thread_in h q.name ≡ true → steps_in h q.name + m ≤ length q.places
-      → ((k : ℕ) → steps_in h q.name ≤ k → k < steps_in h q.name + m → QuietAt ops model bound code log nodes w l g q k)
+      → ((k : ℕ) → steps_in h q.name ≤ k → k < steps_in h q.name + m → QuietAt setting nodes w l g q k)
       → moves_for bound (goes m h t q.name) ≡ moves_for bound h ++ replicate m (move.Run q.name)
   runs_on zero p h gone t q there is_there few quiet = sym (append-nil (moves_for bound h))
   runs_on (suc m) p h gone t q there is_there few quiet =
-      let n = next_is ops model bound code log nodes w l p h gone t q there is_there (omega (arith, few)) in
-      let d = next.deed ops model bound code log nodes w l p h gone t q there n in
-      let other = next.other ops model bound code log nodes w l p h gone t q there n in
-      let one = one_more ops model bound code log nodes w l g p h gone t q there n in
+      let n = next_is setting nodes w l p h gone t q there is_there (omega (arith, few)) in
+      let d = next.deed setting nodes w l p h gone t q there n in
+      let other = next.other setting nodes w l p h gone t q there n in
+      let one = one_more setting nodes w l g p h gone t q there n in
       let now = quiet (steps_in h q.name) (omega arith) (omega arith) in
-      let later = quiet_goes ops model bound code log nodes w l g p h gone t q there n now in
-      let told = next.kind_is ops model bound code log nodes w l p h gone t q there n in
+      let later = quiet_goes setting nodes w l g p h gone t q there n now in
+      let told = next.kind_is setting nodes w l p h gone t q there n in
       let own : move_for bound d ≡ move.Run q.name =
       own_run bound q.name (steps_in h q.name) n.request (taken_in ops.buffered code h q.name n.request) other
       (λ c is. no_signal q (steps_in h q.name) c now (sym told ∙ is)) in
       let rest = runs_on m p (h ++ d ∷ []) later t q there (one.goes.there q.name is_there) (omega (arith, one.steps, few))
       (λ k low high. quiet k (omega (arith, low, one.steps)) (omega (arith, high, one.steps))) in
       let run = replicate m (move.Run q.name) in
-      ap (λ ds. moves_for bound (goes m (h ++ ds) t q.name)) (next.does_it ops model bound code log nodes w l p h gone t q there n)
+      ap (λ ds. moves_for bound (goes m (h ++ ds) t q.name)) (next.does_it setting nodes w l p h gone t q there n)
       ∙ rest ∙ ap (λ ms. ms ++ run) (map-append (move_for bound) h (d ∷ []))
       ∙ append_assoc (moves_for bound h) (move_for bound d ∷ []) run
       ∙ ap (λ a. moves_for bound h ++ (a ∷ run)) own

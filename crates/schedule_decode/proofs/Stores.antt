@@ -1,13 +1,9 @@
 -- The stores of the plan of a lawful world, as the accesses of its paths tell them.
 use Rattle.std.proofs.Common.{◌≡◌, ◌∙◌, ℕ, ℤ, List, ◌++◌, Some, sym, ap}
-use Rattle.tc_base.specs.Buffers.{BufferOps}
-use Rattle.run_log.specs.Logs.{Log}
-use Rattle.memory_models.specs.declared.model.Model.{Model}
-use Rattle.tc_code.specs.Code.{Code}
-use Rattle.store_buffers.specs.Pending.{Binding}
 use Rattle.run_history.specs.History.{Deed}
 use Rattle.run_history.specs.pending.Deeds.{IsIssuedIn}
 use Rattle.path_walk.specs.Paths.{Walk, paths_of}
+use Rattle.path_laws.specs.Setting.{Setting}
 use Rattle.path_laws.specs.history.Along.{IsThread}
 use Rattle.sym_terms.specs.declared.node.Node.{Node}
 use Rattle.sym_exec.specs.Alone.{Asked, asked_in, cell_by}
@@ -22,8 +18,9 @@ use Rattle.lawful_terms.proofs.Same.{more_mean_same}
 use Rattle.world_plan.specs.Going.{IsLawfulWorld, HasGone}
 use Rattle.plan_runs.proofs.of_memory.Accesses.{written, issue_asks, access_of, cell_at_step}
 
-module _ {B : Type 0} (ops : BufferOps B) (model : Model) (bound : Binding) (code : Code) (log : Log) (nodes more : List Node) (w : World)
-    (l : IsLawfulWorld ops model bound code log nodes w) where
+module _ {B : Type 0} (setting : Setting B) (nodes more : List Node) (w : World) (l : IsLawfulWorld setting nodes w) where
+  open setting use {ops, bound, code, log}
+
   abbrev symbolic : Symbolic
   symbolic = (found code log nodes).symbolic
 
@@ -34,7 +31,7 @@ module _ {B : Type 0} (ops : BufferOps B) (model : Model) (bound : Binding) (cod
   asked_stays : (t : ℕ) (a : Access) → HasAccess symbolic t a → asked_in terms w.loads a ≡ asked_in (found code log nodes).nodes w.loads a
   asked_stays t a has =
       let same = more_mean_same ops.buffered bound code (paths_of code log) symbolic w (found code log nodes).nodes more
-      (have_terms code l.code_is (paths_of code log) nodes) (have_tests code l.code_is (paths_of code log) nodes) in
+      (have_terms code setting.lawful (paths_of code log) nodes) (have_tests code setting.lawful (paths_of code log) nodes) in
       sym (same.asked t a has)
 
   -- the access of a store that has been issued
@@ -44,13 +41,13 @@ module _ {B : Type 0} (ops : BufferOps B) (model : Model) (bound : Binding) (cod
     pub cell : cell_of symbolic t k ≡ Some access.cell
     pub number : cell_by terms w.loads access.cell ≡ c
 
-  pub store_of : (p : ℕ) (h : List Deed) → HasGone ops.buffered bound code log nodes w p h → (t : ℕ) (q : Walk) → IsThread code log t q
+  pub store_of : (p : ℕ) (h : List Deed) → HasGone setting nodes w p h → (t : ℕ) (q : Walk) → IsThread code log t q
       → (k c : ℕ) (v : ℤ) → IsIssuedIn h q.name k c v → IsStoreOf t k c
   store_of p h gone t q there k c v issued =
-      let a = access_of ops model bound code log nodes w l h gone.along gone.agrees t q there k (written c v) (issue_asks h q.name k c v issued) in
+      let a = access_of setting nodes w l h gone.along gone.agrees t q there k (written c v) (issue_asks h q.name k c v issued) in
       record {
         access = a.access;
         has = a.has;
-        cell = cell_at_step ops model bound code log nodes w l t k a.access a.has a.step;
+        cell = cell_at_step setting nodes w l t k a.access a.has a.step;
         number = ap (λ (y : Asked). y.cell) (asked_stays t a.access a.has ∙ a.asked);
       }

@@ -16,6 +16,7 @@ use Rattle.sym_exec.specs.declared.symbolic.Cell.{Cell}
 use Rattle.order_formula.specs.Worlds.{World}
 use Rattle.lawful_order.specs.Memory.{cell_of}
 use Rattle.world_moves.specs.Needs.{IsNumbered, AreTellable}
+use Rattle.path_laws.specs.Setting.{Setting, setting_of}
 use Rattle.plan_runs.proofs.Laws.{given}
 use Rattle.schedule_decode.specs.Decodable.{HaveRoom, IsDecodable}
 use Rattle.schedule_decode.proofs.Decoded.{of_found}
@@ -33,10 +34,13 @@ numbered code nodes w few (Some c) is = record { terms = is.terms; number = omeg
 
 module _ {B : Type 0} (ops : BufferOps B) (model : Model) (bound : Binding) (code : Code) (paths : Paths) (symbolic : Symbolic) (nodes : List Node)
     (w : World) (d : IsDecodable ops model bound code paths symbolic nodes w) where
+  abbrev its : Setting B
+  its = setting_of ops model bound code d.log d.laws d.code_is d.log_is
+
   pub all_known : AreKnown ops.buffered code paths symbolic nodes w
   all_known =
       of_found ops model bound code paths symbolic nodes w d (λ p s ns. AreKnown ops.buffered code p s ns w)
-      (are_known ops model bound code d.log d.first d.more w d.lawful (given ops model bound code d.log d.first w d.lawful))
+      (are_known its d.first d.more w d.lawful (given its d.first w d.lawful))
 
   pub are_tellable : HaveRoom paths → AreTellable ops.buffered paths symbolic nodes w
   are_tellable room p e before is =
@@ -44,5 +48,5 @@ module _ {B : Type 0} (ops : BufferOps B) (model : Model) (bound : Binding) (cod
       let steps = of_all (λ (q : Walk). length q.places ≤ STEPS) paths.threads room.steps e.1.thread k.walk k.there in
       record {
         next = omega (arith, k.step, steps);
-        cell = λ waits. numbered code nodes w d.lawful.code_is.cells (cell_of symbolic e.1.thread e.1.it.step) (k.cell waits);
+        cell = λ waits. numbered code nodes w d.code_is.cells (cell_of symbolic e.1.thread e.1.it.step) (k.cell waits);
       }

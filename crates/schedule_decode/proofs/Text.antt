@@ -271,6 +271,6 @@ module _ {B : Type 0} (ops : BufferOps B) (model : Model) (bound : Binding) (cod
 
   pub have_text : HaveText model (moves_of ops.buffered bound paths symbolic nodes w)
   have_text =
-      subst (λ m. HaveText m (moves_of ops.buffered bound paths symbolic nodes w)) (sym d.lawful.laws.form_law)
-      (moves_have_text ops.buffered bound code paths symbolic nodes w room d.lawful.code_is.cells
+      subst (λ m. HaveText m (moves_of ops.buffered bound paths symbolic nodes w)) (sym d.laws.form_law)
+      (moves_have_text ops.buffered bound code paths symbolic nodes w room d.code_is.cells
       (all_known ops model bound code paths symbolic nodes w d) few_events)

@@ -1,14 +1,17 @@
 -- The worlds that have a schedule.
-use Rattle.std.specs.Prelude.{◌≡◌, ◌≤◌, List, ◌++◌, length, IsTrue}
+use Rattle.std.specs.Prelude.{◌≡◌, ◌≤◌, true, List, ◌++◌, length, IsTrue}
 use Rattle.std.specs.List.{All}
 use Rattle.tc_base.specs.Buffers.{BufferOps}
-use Rattle.run_log.specs.Logs.{Log}
+use Rattle.run_log.specs.Logs.{Log, is_log}
 use Rattle.tc_limits.specs.declared.limits.TheConstants.{THREADS, STEPS, EVENTS}
 use Rattle.memory_models.specs.declared.model.Model.{Model}
 use Rattle.tc_code.specs.Code.{Code}
+use Rattle.tc_code.specs.Lawful.{IsLawful}
+use Rattle.store_buffers.specs.Laws.{Laws}
 use Rattle.store_buffers.specs.Pending.{Binding}
 use Rattle.schedule_file.specs.Schedules.{is_name}
 use Rattle.path_walk.specs.Paths.{Paths, paths_of}
+use Rattle.path_laws.specs.Setting.{setting_of}
 use Rattle.sym_terms.specs.declared.node.Node.{Node}
 use Rattle.sym_exec.specs.Executed.{Symbolic}
 use Rattle.sym_laws.specs.Valued.{found}
@@ -26,10 +29,13 @@ pub record HaveRoom (paths : Paths) : Type 0 where
 -- a lawful world of a log's paths; `symbolic` and the first of `nodes` come from their execution
 pub record IsDecodable {B : Type 0} (ops : BufferOps B) (model : Model) (bound : Binding) (code : Code) (paths : Paths) (symbolic : Symbolic)
     (nodes : List Node) (w : World) : Type 0 where
+  pub laws : Laws ops model bound
+  pub code_is : IsLawful code
   pub log : Log
+  pub log_is : is_log log ≡ true
   pub first : List Node
   pub more : List Node
   pub paths_are : paths ≡ paths_of code log
   pub symbolic_is : symbolic ≡ (found code log first).symbolic
   pub nodes_are : nodes ≡ (found code log first).nodes ++ more
-  pub lawful : IsLawfulWorld ops model bound code log first w
+  pub lawful : IsLawfulWorld (setting_of ops model bound code log laws code_is log_is) first w

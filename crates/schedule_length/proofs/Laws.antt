@@ -16,6 +16,7 @@ use Rattle.tc_code.specs.Lawful.{IsLawful}
 use Rattle.tc_code.specs.Run.{Reproduces}
 use Rattle.store_buffers.specs.Laws.{Laws}
 use Rattle.store_buffers.specs.Pending.{Binding}
+use Rattle.run_follows.specs.Machine.{Machine}
 use Rattle.path_log.specs.Texts.{is_of_format, is_thread, is_within}
 use Rattle.path_walk.specs.Paths.{walk_of}
 use Rattle.schedule_file.specs.Schedules.{HaveText, schedule_text}
@@ -24,17 +25,17 @@ use Rattle.schedule_length.proofs.Lines.{text_length}
 use Rattle.schedule_length.proofs.Moves.{runs_are_steps, others_are_long}
 use Rattle.schedule_length.proofs.Threads.{steps_are_few, long_are_few}
 
-pub short : {B : Type 0} (ops : BufferOps B) (model : Model) (bound : Binding) (code : Code) (log : Log) (form : Model) (moves : List Move)
-    → Laws ops model bound → IsLawful code → IsSmall code log → HaveText form moves → Reproduces ops code log moves
+pub short : {B : Type 0} (machine : Machine B) (log : Log) (form : Model) (moves : List Move)
+    → IsSmall machine.code log → HaveText form moves → Reproduces machine.ops machine.code log moves
     → length (schedule_text form moves) ≤ most_bytes
-short ops model bound code log form moves laws lawful small text r =
-    let runs = runs_are_steps ops code moves r.state r.leads in
-    let steps = steps_are_few ops model bound laws code lawful log small moves r in
-    let others = others_are_long ops code moves r.state r.leads in
-    let events = long_are_few ops model bound laws code lawful log small moves r in
-    let added = sum-map (λ (t : ThreadPath). length (walk_of code log t).events) log.threads in
+short machine log form moves small text r =
+    let runs = runs_are_steps machine.ops machine.code moves r.state r.leads in
+    let steps = steps_are_few machine log small moves r in
+    let others = others_are_long machine.ops machine.code moves r.state r.leads in
+    let events = long_are_few machine log small moves r in
+    let added = sum-map (λ (t : ThreadPath). length (walk_of machine.code log t).events) log.threads in
     let threads = small.threads in
-    let few : sum (map (λ (t : ThreadPath). length (walk_of code log t).events) log.threads) ≤ EVENTS = small.events in
+    let few : sum (map (λ (t : ThreadPath). length (walk_of machine.code log t).events) log.threads) ≤ EVENTS = small.events in
     let long = text_length form moves text.1 in
     omega (arith, runs, steps, others, events, added, threads, few, long)
 
@@ -46,7 +47,7 @@ pub short_enough : {B : Type 0} (ops : BufferOps B) (model : Model) (bound : Bin
     → Laws ops model bound → IsLawful code → IsSmall code log → HaveText form moves → Reproduces ops code log moves
     → length (schedule_text form moves) ≤ SCHEDULE_BYTES
 short_enough ops model bound code log form moves laws lawful small text r =
-    let few = short ops model bound code log form moves laws lawful small text r in
+    let few = short (record { ops = ops; model = model; bound = bound; laws = laws; code = code; lawful = lawful }) log form moves small text r in
     omega (arith, few, room)
 
 -- a log that has a text counts steps in two bytes

@@ -9,25 +9,20 @@ use Rattle.std.proofs.lemmas.Bool.{false≢true}
 use Rattle.std.proofs.lemmas.List.{length-map}
 use Rattle.std.proofs.lemmas.List.Sums.{count_by-le-length, length-filter}
 use Rattle.std.proofs.lemmas.Option.{none-some, same_Some}
-use Rattle.tc_base.specs.Buffers.{BufferOps}
 use Rattle.run_log.specs.Logs.{Log}
 use Rattle.tc_base.specs.Paths.{Path, ThreadPath, path_under}
 use Rattle.tc_base.specs.Names.{Name}
 use Rattle.tc_base.specs.States.{Thread}
 use Rattle.tc_limits.specs.declared.limits.TheConstants.{STEPS}
-use Rattle.memory_models.specs.declared.model.Model.{Model}
 use Rattle.tc_base.specs.declared.moves.Move.{Move}
 use Rattle.tc_base.specs.declared.request.Request.{Request}
 use Rattle.tc_base.specs.declared.request.Request.TheVariants.{Silent, Write, WakeOne}
-use Rattle.tc_code.specs.Code.{Code}
-use Rattle.tc_code.specs.Lawful.{IsLawful}
 use Rattle.tc_code.specs.Run.{Reproduces, path_of}
-use Rattle.store_buffers.specs.Laws.{Laws}
-use Rattle.store_buffers.specs.Pending.{Binding}
 use Rattle.run_laws.proofs.Names.{same_self}
 use Rattle.run_history.specs.History.{Deed, Did, Drained, history}
 use Rattle.run_history.specs.Told.{is_step_of, steps_in}
 use Rattle.run_history.proofs.of_pending.In.{In, all_in, in_at, in_left, in_split}
+use Rattle.run_follows.specs.Machine.{Machine}
 use Rattle.run_follows.proofs.Follows.{AllTold, all_told}
 use Rattle.path_walk.specs.Paths.{walk_of}
 use Rattle.path_walk.specs.declared.event.Event.{Event}
@@ -49,13 +44,15 @@ few_before k events =
     let few = count_by-le-length (λ (e : Event). nat_lt e.step k) events in
     omega (arith, all, some, few)
 
-module _ {B : Type 0} (ops : BufferOps B) (model : Model) (bound : Binding) (laws : Laws ops model bound) (code : Code) (lawful : IsLawful code) (log : Log)
-    (small : IsSmall code log) (moves : List Move) (r : Reproduces ops code log moves) where
+module _ {B : Type 0} (machine : Machine B) (log : Log) (small : IsSmall machine.code log) (moves : List Move)
+    (r : Reproduces machine.ops machine.code log moves) where
+  open machine use {ops, model, bound, laws, code, lawful}
+
   abbrev h : List Deed
   h = history ops code moves
 
-  told : AllTold ops model bound laws code lawful r.state h
-  told = all_told ops model bound laws code lawful moves r.state r.leads
+  told : AllTold machine r.state h
+  told = all_told machine moves r.state r.leads
 
   abbrev steps_at : Option (Thread B) → ℕ
   steps_at o = option_map_or (λ (t : Thread B). t.local.steps) o 0

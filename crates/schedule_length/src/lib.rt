@@ -3,24 +3,19 @@
 #![tactic(auto)]
 
 ghost use Rattle.std.specs.Prelude.{◌≤◌, List, length};
-ghost use Rattle.tc_base.specs.Buffers.{BufferOps};
 ghost use Rattle.run_log.specs.Logs.{Log};
 ghost use Rattle.tc_limits.specs.declared.limits.TheConstants.{SCHEDULE_BYTES};
 ghost use Rattle.memory_models.specs.declared.model.Model.{Model};
 ghost use Rattle.tc_base.specs.declared.moves.Move.{Move};
-ghost use Rattle.tc_code.specs.Code.{Code};
-ghost use Rattle.tc_code.specs.Lawful.{IsLawful};
 ghost use Rattle.tc_code.specs.Run.{Reproduces};
-ghost use Rattle.store_buffers.specs.Laws.{Laws};
-ghost use Rattle.store_buffers.specs.Pending.{Binding};
 ghost use Rattle.schedule_file.specs.Schedules.{HaveText, schedule_text};
 ghost use Rattle.schedule_length.specs.Lengths.{IsSmall, most_bytes};
+ghost use Rattle.run_follows.specs.Machine.{Machine};
 
 /// The text of a schedule that reproduces a log within the limits has at most `most_bytes` bytes,
 /// and a schedule may have that many.
 pub fn reproducing_schedules_are_short<B>()
-    ensures short { (ops : BufferOps B) (model : Model) (bound : Binding) (code : Code) (log : Log) (form : Model) (moves : List Move)
-        → Laws ops model bound → IsLawful code → IsSmall code log → HaveText form moves → Reproduces ops code log moves
-        → length (schedule_text form moves) ≤ most_bytes }
+    ensures short { (m : Machine B) (log : Log) (form : Model) (moves : List Move)
+        → IsSmall m.code log → HaveText form moves → Reproduces m.ops m.code log moves → length (schedule_text form moves) ≤ most_bytes }
     ensures room { most_bytes ≤ SCHEDULE_BYTES }
 {}

@@ -1,4 +1,4 @@
--- Memory and the stores that wait, as the deeds of a history tell them, are those of the state.
+-- Memory and the stores that wait after the deeds of a history are those of the state.
 use Rattle.std.proofs.Common.{◌≡◌, ◌≢◌, ◌∙◌, inl, inr, ℕ, ◌==◌, ℤ, pos, Bool, true, false, not, ◌&&◌, ◌||◌, cond, List, [], ◌∷◌, ◌++◌}
 use Rattle.std.proofs.Common.{Option, Some, None, refl, sym, ap, subst, arith, append-nil, slice_set, if◌then◌else◌}
 use Rattle.std.specs.Prelude.{bytes_eq, IsSomeAnd}
@@ -40,7 +40,7 @@ use Rattle.show_deeds.specs.Seen.{Seen, at_start, written, is_other, waiting_aft
 
 -- Names.
 
--- two names are equal as lists exactly where they are one
+-- two names are equal as lists exactly if they are the same
 bytes_by : (m n : Name) → bytes_eq m n ≡ same m n
 bytes_by m n =
     elim (same_or_apart m n) [
@@ -80,7 +80,7 @@ neither true b = refl
 neither false true = refl
 neither false false = refl
 
--- what is pending after one deed more
+-- the pending stores after one more deed
 pending-push : (buffered : Bool) (h : List Deed) (d : Deed) (q : Name) → pending_issues buffered (h ++ d ∷ []) q
     ≡ filter (λ i. not (drains q i.number d)) (pending_issues buffered h q)
     ++ filter (λ i. not (has_drained (h ++ d ∷ []) q i.number)) (cons_option (issue_of buffered q d) [])
@@ -210,7 +210,7 @@ waits-did buffered h q n k r v o ws fresh is = waits-step buffered h q n k r v o
 -- States.
 
 module _ {B : Type 0} (ops : BufferOps B) (model : Model) (bound : Binding) (laws : Laws ops model bound) (code : Code) where
-  -- what is told of a state
+  -- the facts of a state that deeds determine
   pub record SeenIs (s : State B) (h : List Deed) : Type 0 where
     pub memory : (seen_in ops.buffered code h).memory ≡ s.memory
     pub buffers : BuffersAre ops model bound laws code s h
@@ -219,7 +219,7 @@ module _ {B : Type 0} (ops : BufferOps B) (model : Model) (bound : Binding) (law
   seen-push : (h : List Deed) (d : Deed) → seen_in ops.buffered code (h ++ d ∷ []) ≡ seen_after ops.buffered (seen_in ops.buffered code h) d
   seen-push h d = fold-append (seen_after ops.buffered) (at_start code) h (d ∷ [])
 
-  -- the state after a store, by whether there are buffers
+  -- the state after a store, given whether there are buffers
   performed_memory : (s : State B) (n : Name) (t : Thread B) (i : Instr) (r : Request)
       → written s.memory (reaches ops.buffered (did ops code s n t r)) ≡ (perform ops code s n t i r).memory
   performed_memory s n t i (Write c v) =
@@ -268,11 +268,11 @@ module _ {B : Type 0} (ops : BufferOps B) (model : Model) (bound : Binding) (law
   opening_seen : SeenIs (opening ops code) []
   opening_seen = record { memory = refl; buffers = opening_buffers ops model bound laws code; waits = λ q. refl }
 
-  -- what deeds make of memory and of the stores that wait is what the run made of them
+  -- memory and the stores that wait after deeds are those of the run
   pub seen_is : (ms : List Move) (s : State B) → run ops code ms ≡ Some s → SeenIs s (history ops code ms)
   seen_is ms s leads = holds_after ops code SeenIs keeps_seen opening_seen ms s leads
 
-  -- so what a request takes is told
+  -- so deeds determine the value that a request takes
   pub taken_is : (s : State B) (h : List Deed) (t : Thread B) (r : Request) → SeenIs s h
       → taken ops code s t r ≡ taken_by ops (seen_in ops.buffered code h).memory t r
   taken_is s h t r p = by r ∙ ap (λ memory. taken_by ops memory t r) (sym p.memory)
@@ -313,10 +313,10 @@ first_own n form [] = refl
 first_own n form (w ∷ ws) = first_own_by n form w ws _ refl (first_own n form ws)
 
 -- a store for which no other needs to wait doesn't drain by the form of a newer one
-module _ (bound : Binding) (same_cell : (barred : Bool) → bound true barred ≡ true) (bars : bound false false ≡ true → bound false true ≡ true) where
+module _ (bound : Binding) (same_cell : (barred : Bool) → bound true barred ≡ true) (bars : bound false true ≡ true) where
   bound_all : bound false false ≡ true → (cell bar : Bool) → bound cell bar ≡ false → ⊥
   bound_all all true bar free = false≢true (sym free ∙ same_cell bar)
-  bound_all all false true free = false≢true (sym free ∙ bars all)
+  bound_all all false true free = false≢true (sym free ∙ bars)
   bound_all all false false free = false≢true (sym free ∙ all)
 
   other_cell : (cell bar : Bool) → bound cell bar ≡ false → cell ≡ false

@@ -12,17 +12,13 @@ use Rattle.store_buffers.specs.Laws.{Laws}
 use Rattle.store_buffers.specs.helpers.Lists.{stores-append, first_store, waits_for_none}
 
 -- two stores of one form are bound
-bound_by_form : (bound : Binding) → ((b : Bool) → bound true b ≡ true) → (bound false false ≡ true → bound false true ≡ true)
+bound_by_form : (bound : Binding) → ((b : Bool) → bound true b ≡ true) → bound false true ≡ true
     → (c d : ℕ) (b same : Bool) → (d == c) ≡ same → bound same b ≡ false → option_eq nat_eq (form_of bound d) (form_of bound c) ≡ false
 bound_by_form bound one barred c d b true e free = absurd (false≢true (sym free ∙ one b))
-bound_by_form bound one barred c d b false e free = other (bound false false) b refl free
-  where
-    other : (all b : Bool) → bound false false ≡ all → bound false b ≡ false → option_eq nat_eq (cond all None (Some d)) (cond all None (Some c)) ≡ false
-    other true true is free = absurd (false≢true (sym free ∙ barred is))
-    other true false is free = absurd (false≢true (sym free ∙ is))
-    other false b is free = e
+bound_by_form bound one barred c d true false e free = absurd (false≢true (sym free ∙ barred))
+bound_by_form bound one barred c d false false e free = ap (λ all. option_eq nat_eq (cond all None (Some d)) (cond all None (Some c))) free ∙ e
 
-none_by_form : (bound : Binding) → ((b : Bool) → bound true b ≡ true) → (bound false false ≡ true → bound false true ≡ true)
+none_by_form : (bound : Binding) → ((b : Bool) → bound true b ≡ true) → bound false true ≡ true
     → (older : List Pending) (c : ℕ) → waits bound older c ≡ false → stores_by bound (form_of bound c) older ≡ []
 none_by_form bound one barred [] c free = refl
 none_by_form bound one barred (Store d ∷ older) c free =
@@ -36,7 +32,7 @@ same_form : (o : Option ℕ) → option_eq nat_eq o o ≡ true
 same_form None = refl
 same_form (Some c) = nat_eq_equiv.refl c
 
-oldest_by : (bound : Binding) → ((b : Bool) → bound true b ≡ true) → (bound false false ≡ true → bound false true ≡ true)
+oldest_by : (bound : Binding) → ((b : Bool) → bound true b ≡ true) → bound false true ≡ true
     → (older newer : List Pending) (e : Entry) → waits bound older e.cell ≡ false
     → stores_by bound (form_of bound e.cell) (older ++ Store e ∷ newer) ≡ e ∷ stores_by bound (form_of bound e.cell) newer
 oldest_by bound one barred older newer e free =

@@ -37,9 +37,9 @@ module _ {B : Type 0} (ops : BufferOps B) where
   pub record Laws (model : Model) (bound : Binding) : Type 0 where
     -- the model is determined by its buffering and its binding
     pub form_law : model ≡ model_of ops.buffered bound
-    -- stores to one cell are bound, and a bar unbinds no stores
+    -- stores to one cell are bound, and a bar binds: so are stores with a bar between them
     pub same_cell : (barred : Bool) → bound true barred ≡ true
-    pub barred : bound false false ≡ true → bound false true ≡ true
+    pub barred : bound false true ≡ true
     -- a buffer is empty exactly if the list that it stands for has no store
     pub empty_law : (b : B) (ps : List Pending) → Stands ops b ps → ops.is_empty b ≡ is_nil (stores ps)
     -- a buffer forwards the newest store to the cell

@@ -73,6 +73,7 @@ use Rattle.clap_solve.proofs.Ordered.{completed_lawful}
 use Rattle.switch_clauses.specs.Clauses.{asked_of_all, switch_clauses, switched_by}
 use Rattle.switch_clauses.proofs.Same.{same_few}
 use Rattle.switch_clauses.proofs.Whole as stands
+use Rattle.path_laws.specs.Setting.{Setting, setting_of}
 
 -- a range has its numbers
 range_has : (a n e : ℕ) → a ≤ e → e < a + n → Contains (range_with_len a n) e
@@ -279,6 +280,9 @@ module _ (buffered : Bool) (bound : Binding) (code : Code) (log : Log) (lawful :
 
 module _ {B : Type 0} (ops : BufferOps B) (model : Model) (bound : Binding) (code : Code) (log : Log) (most : ℕ) (laws : Laws ops model bound)
     (lawful : IsLawful code) (is : is_log log ≡ true) (within : IsWithin code log) where
+  abbrev setting : Setting B
+  setting = setting_of ops model bound code log laws lawful is
+
   abbrev qs : Paths
   qs = paths_of code log
 
@@ -290,10 +294,10 @@ module _ {B : Type 0} (ops : BufferOps B) (model : Model) (bound : Binding) (cod
   said_is_run v satisfied =
       let k = says ops.buffered bound code log lawful within most v satisfied in
       let w = k.possible.world in
-      let l = possible_is_lawful ops model bound code log laws lawful is within.fits k.possible in (
+      let l = possible_is_lawful setting within.fits k.possible in (
         moves_for bound (plan ops.buffered code qs w),
-        plan_reproduces ops model bound code log [] w l (plans.given ops model bound code log [] w l),
-        subst (λ n. n ≤ most) (sym (of_runs.worlds ops model bound code log [] w l k.small)) k.few,
+        plan_reproduces setting [] w l (plans.given setting [] w l),
+        subst (λ n. n ≤ most) (sym (of_runs.worlds setting [] w l k.small)) k.few,
       )
 
   pub run_is_said : (moves : List Move) → Reproduces ops code log moves → Few moves
@@ -305,7 +309,7 @@ module _ {B : Type 0} (ops : BufferOps B) (model : Model) (bound : Binding) (cod
 
       enough : world_switches qs p.world ≤ most
       enough =
-          let same = of_runs.runs ops model bound laws code lawful log is [] moves again (solve.few ops.buffered bound code log lawful within) in
+          let same = of_runs.runs setting [] moves again (solve.few ops.buffered bound code log lawful within) in
           subst (λ (w : World). world_switches qs w ≤ most) (sym (solve.same ops model bound code log laws lawful is within moves again))
           (subst (λ n. n ≤ most) same few)
 

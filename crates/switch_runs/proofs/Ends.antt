@@ -5,30 +5,23 @@ use Rattle.std.specs.List.{All, Contains, cons_option, filter_map, find, last_or
 use Rattle.std.proofs.Math.Bool.{and-false}
 use Rattle.std.proofs.lemmas.Bool.{and_parts, true≢false}
 use Rattle.std.proofs.lemmas.Option.{none-some, same_Some}
-use Rattle.tc_base.specs.Buffers.{BufferOps}
-use Rattle.run_log.specs.Logs.{Log}
 use Rattle.tc_base.specs.Paths.{ThreadPath}
 use Rattle.tc_base.specs.Names.{Name}
 use Rattle.tc_base.specs.declared.failing.Failing.{Failing}
 use Rattle.tc_base.specs.declared.failing.Failing.TheVariants as failing
-use Rattle.memory_models.specs.declared.model.Model.{Model}
 use Rattle.tc_base.specs.declared.moves.Move.{Move}
 use Rattle.tc_base.specs.declared.request.Request.{Request}
 use Rattle.tc_base.specs.declared.request.Request.TheVariants.{Write, Fail}
-use Rattle.tc_code.specs.Code.{Code}
-use Rattle.tc_code.specs.Lawful.{IsLawful}
 use Rattle.tc_code.specs.Run.{EndsAs, Reproduces}
-use Rattle.store_buffers.specs.Laws.{Laws}
-use Rattle.store_buffers.specs.Pending.{Binding}
 use Rattle.run_history.specs.History.{Deed, Did, Drained, has_drained}
 use Rattle.run_history.specs.Told.{failed_in, fails}
 use Rattle.run_history.proofs.of_pending.In.{In, in_at, in_mapped, in_split}
 use Rattle.run_history.proofs.of_pending.Own.{stores_have_drained}
-use Rattle.run_log.specs.Logs.{is_log}
 use Rattle.path_walk.specs.Paths.{Walk, Paths, paths_of}
 use Rattle.path_walk.specs.declared.event.Event.{Event}
 use Rattle.path_walk.specs.declared.event.EventKind.{EventKind}
 use Rattle.path_walk.specs.declared.event.EventKind.TheVariants as kind
+use Rattle.path_laws.specs.Setting.{Setting}
 use Rattle.path_laws.specs.Deeds.{kind_of}
 use Rattle.path_laws.specs.history.Along.{IsAlongPaths, IsThread}
 use Rattle.path_laws.specs.events.Done.{IsDoneIn}
@@ -72,10 +65,11 @@ none_found f [] none = refl
 none_found f (x ∷ xs) none =
     ap₂ (λ o ys. cons_option o ys) (none x (inl refl)) (none_found f xs (λ y i. none y (inr i)))
 
-module _ {B : Type 0} (ops : BufferOps B) (model : Model) (bound : Binding) (laws : Laws ops model bound) (code : Code) (lawful : IsLawful code) (log : Log)
-    (is : is_log log ≡ true) (moves : List Move) (again : Reproduces ops code log moves) where
+module _ {B : Type 0} (setting : Setting B) (moves : List Move) (again : Reproduces setting.ops setting.code setting.log moves) where
+  open setting use {machine, ops, bound, code, log}
+
   abbrev h : List Deed
-  h = run.done ops model bound laws code lawful log is moves again
+  h = run.done setting moves again
 
   abbrev ps : Paths
   ps = paths_of code log
@@ -84,19 +78,19 @@ module _ {B : Type 0} (ops : BufferOps B) (model : Model) (bound : Binding) (law
   b = ops.buffered
 
   abbrev go : IsAlongPaths b bound code log h
-  go = run.along ops model bound laws code lawful log is moves again
+  go = run.along setting moves again
 
   abbrev a : AreSeen b ps h
-  a = run.seen ops model bound laws code lawful log is moves again
+  a = run.seen setting moves again
 
   abbrev doing : (t : ℕ) (q : Walk) (x : Event) → IsThread code log t q → In x q.events → IsDoneIn h q.name x.step x.kind
-  doing t q x there i = run.event_is_done ops model bound laws code lawful log is moves again t q x there i
+  doing t q x there i = run.event_is_done setting moves again t q x there i
 
   -- a thread that does a step is one of the paths
   step_of_thread : (n : Name) (k : ℕ) (r : Request) (took : ℤ) (other : Option Name) → In (Did n k r took other) h → IsNameOfThread code log n
   step_of_thread n k r took other i =
       let s = in_split (Did n k r took other) h i in
-      step_named ops model bound laws code lawful log is (run.fits ops model bound laws code lawful log is moves again) h go s.older s.newer n k r took other s.there
+      step_named setting (run.fits setting moves again) h go s.older s.newer n k r took other s.there
 
   -- each visible deed is of a thread of the paths
   pub named : (d : Deed) (s : Sight) → In d h → sight_of b d ≡ Some s → (t : ℕ) × (q : Walk) × (slice_get ps.threads t ≡ Some q) × (q.name ≡ s.thread)
@@ -132,7 +126,7 @@ module _ {B : Type 0} (ops : BufferOps B) (model : Model) (bound : Binding) (law
         let done : IsDoneIn h m.walk.name k kind.Fail =
         subst (λ o. IsDoneIn h o k kind.Fail) (sym m.name)
         (record { older = s.older; newer = s.newer; request = Fail; took = took; other = other; there = s.there; asks = refl }) in
-        let x = done_event ops model bound laws code lawful log is (run.fits ops model bound laws code lawful log is moves again) h go m.place m.walk m.there k kind.Fail done in
+        let x = done_event setting (run.fits setting moves again) h go m.place m.walk m.there k kind.Fail done in
         let f = in_find (λ (e : Of Event). is_failure e.it.kind) (all_events ps) (record { thread = m.place; it = x.0 })
         (among_all ps m.place m.walk x.0 m.there (contains_in x.0 m.walk.events x.1)) (failure_of x.0.kind x.3) in
         absurd (none-some f.0 (sym none ∙ f.1))
@@ -153,7 +147,7 @@ module _ {B : Type 0} (ops : BufferOps B) (model : Model) (bound : Binding) (law
 
         by : (f : Failing) → EndsAs ops code f log.threads again.state → AllDrained b h
         by (failing.Thread k) ends = absurd (some_thread (slice_get log.threads k) ends)
-        by failing.Deadlock ends = ((deadlock_told ops model bound laws code lawful moves again.state again.leads).0 ends).drained
+        by failing.Deadlock ends = ((deadlock_told machine moves again.state again.leads).0 ends).drained
 
     drained : (t : ℕ) (q : Walk) (x : Event) → IsThread code log t q → Contains q.events x → (b && is_store x.kind) ≡ true → has_drained h q.name x.step ≡ true
     drained t q x there i waits =

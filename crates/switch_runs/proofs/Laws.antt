@@ -6,23 +6,16 @@ use Rattle.std.proofs.lemmas.Bool.{and_from, eq-eqb, true≢false}
 use Rattle.std.proofs.lemmas.List.{length-map}
 use Rattle.std.proofs.lemmas.List.Elements.{All-weaker}
 use Rattle.std.proofs.lemmas.Option.{same_Some}
-use Rattle.tc_base.specs.Buffers.{BufferOps}
-use Rattle.run_log.specs.Logs.{Log}
-use Rattle.memory_models.specs.declared.model.Model.{Model}
 use Rattle.tc_base.specs.declared.moves.Move.{Move}
-use Rattle.tc_code.specs.Code.{Code}
-use Rattle.tc_code.specs.Lawful.{IsLawful}
 use Rattle.tc_code.specs.Run.{Reproduces}
-use Rattle.store_buffers.specs.Laws.{Laws}
-use Rattle.store_buffers.specs.Pending.{Binding}
 use Rattle.run_laws.proofs.Names.{same_self}
 use Rattle.run_history.specs.History.{Deed, Did, Drained, drains, has_drained, history}
 use Rattle.run_history.proofs.of_pending.In.{In, in_any, in_at, one_of_name}
 use Rattle.run_follows.specs.Follow.{moves_for}
-use Rattle.run_log.specs.Logs.{is_log}
 use Rattle.path_walk.specs.Paths.{Walk, Paths, paths_of}
 use Rattle.path_walk.specs.declared.event.Event.{Event}
 use Rattle.path_walk.specs.declared.event.EventKind.{EventKind}
+use Rattle.path_laws.specs.Setting.{Setting}
 use Rattle.path_laws.specs.Deeds.{kind_of}
 use Rattle.path_laws.specs.history.Along.{IsThread}
 use Rattle.path_laws.proofs.of_events.Lists.{in_contains}
@@ -55,8 +48,9 @@ abbrev asked_of : Deed → Option EventKind
 asked_of (Did n k r v o) = kind_of r o
 asked_of _ = None
 
-module _ {B : Type 0} (ops : BufferOps B) (model : Model) (bound : Binding) (laws : Laws ops model bound) (code : Code) (lawful : IsLawful code) (log : Log)
-    (is : is_log log ≡ true) (nodes : List Node) (moves : List Move) (again : Reproduces ops code log moves) where
+module _ {B : Type 0} (setting : Setting B) (nodes : List Node) (moves : List Move) (again : Reproduces setting.ops setting.code setting.log moves) where
+  open setting use {ops, code, log}
+
   abbrev h : List Deed
   h = history ops code moves
 
@@ -73,7 +67,7 @@ module _ {B : Type 0} (ops : BufferOps B) (model : Model) (bound : Binding) (law
   w = world_in b ps symbolic h
 
   abbrev a : AreSeen b ps h
-  a = run.seen ops model bound laws code lawful log is moves again
+  a = run.seen setting moves again
 
   ordered : IsOrderOf b ps h w
   ordered = is_order b ps symbolic h a
@@ -88,7 +82,7 @@ module _ {B : Type 0} (ops : BufferOps B) (model : Model) (bound : Binding) (law
 
       by : SeenBy b q.name x.step p.deed → has_drained h q.name x.step ≡ true
       by (Done r v o asked same asks kept) =
-          let d = run.event_is_done ops model bound laws code lawful log is moves again t q x there (in_contains x q.events i) in
+          let d = run.event_is_done setting moves again t q x there (in_contains x q.events i) in
           let deed = Did q.name x.step d.request d.took d.other in
           let mine : In deed h = subst (In deed) (sym d.there) (in_at d.older deed d.newer) in
           let one = one_of_name h (Did q.name x.step r v o) deed a.told.apart (subst (λ e. In e h) same p_in) mine refl in
@@ -101,8 +95,8 @@ module _ {B : Type 0} (ops : BufferOps B) (model : Model) (bound : Binding) (law
   pub runs : length (all_events ps) ≤ 256 → switches ops code moves ≡ world_switches ps w
   runs few =
       let places = map (place_in b ps h) (all_events ps) in
-      same_switches ops model bound laws code lawful log is moves again w (is_world ops model bound laws code lawful log is nodes moves again)
-      (is_world_of ops model bound laws code lawful log is nodes moves again).events
+      same_switches setting moves again w (is_world setting nodes moves again)
+      (is_world_of setting nodes moves again).events
       (All-weaker (λ r. r < length places) (λ r. r < 256) (λ r less. omega (arith, less, length-map (all_events ps) (place_in b ps h), few)) (ranks_of places)
       (ranks-below places))
       ordered.order
@@ -117,8 +111,9 @@ module _ {B : Type 0} (ops : BufferOps B) (model : Model) (bound : Binding) (law
         shows = first.shows_first;
       }))
 
-module _ {B : Type 0} (ops : BufferOps B) (model : Model) (bound : Binding) (code : Code) (log : Log) (nodes : List Node) (w : World)
-    (l : IsLawfulWorld ops model bound code log nodes w) where
+module _ {B : Type 0} (setting : Setting B) (nodes : List Node) (w : World) (l : IsLawfulWorld setting nodes w) where
+  open setting use {ops, bound, code, log}
+
   abbrev whole : List Deed
   whole = plan ops.buffered code (paths_of code log) w
 
@@ -126,17 +121,17 @@ module _ {B : Type 0} (ops : BufferOps B) (model : Model) (bound : Binding) (cod
   ms = moves_for bound whole
 
   again_so : Reproduces ops code log ms
-  again_so = plan_reproduces ops model bound code log nodes w l (plans.given ops model bound code log nodes w l)
+  again_so = plan_reproduces setting nodes w l (plans.given setting nodes w l)
 
   is_history : history ops code ms ≡ whole
-  is_history = plan_is_history ops model bound code log nodes w l (plans.given ops model bound code log nodes w l)
+  is_history = plan_is_history setting nodes w l (plans.given setting nodes w l)
 
   pub worlds : All (λ p. p < 256) w.positions → switches ops code ms ≡ world_switches (paths_of code log) w
   worlds small =
-      same_switches ops model bound l.laws code l.code_is log l.log_is ms again_so w l.world l.of.events small
+      same_switches setting ms again_so w l.world l.of.events small
       (subst (AreInOrder ops.buffered (paths_of code log) w) (sym is_history)
-      (plan_order ops model bound code log nodes w l (plans.given ops model bound code log nodes w l)))
+      (plan_order setting nodes w l (plans.given setting nodes w l)))
       (λ t u q x f there i waits hf fails before.
       ap (λ g. has_drained g q.name x.step) is_history
-      ∙ (plan_drained ops model bound code log nodes w l (plans.given ops model bound code log nodes w l) t q x there i waits).1
-      (omega (arith, before, fail_ends ops model bound code log nodes w l u hf.0 f hf.1 hf.2 fails)))
+      ∙ (plan_drained setting nodes w l (plans.given setting nodes w l) t q x there i waits).1
+      (omega (arith, before, fail_ends setting nodes w l u hf.0 f hf.1 hf.2 fails)))

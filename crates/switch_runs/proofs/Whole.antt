@@ -6,23 +6,16 @@ use Rattle.std.specs.Option.{option_map_or}
 use Rattle.std.proofs.lemmas.Bool.{eq-eqb, eqb-true, false_from_ne_true, true≢false}
 use Rattle.std.proofs.lemmas.List.Elements.{All-cons, All-nil}
 use Rattle.std.proofs.lemmas.Option.{none-some, slice_get-get_or}
-use Rattle.tc_base.specs.Buffers.{BufferOps}
-use Rattle.run_log.specs.Logs.{Log}
 use Rattle.tc_base.specs.Names.{Name, main}
-use Rattle.memory_models.specs.declared.model.Model.{Model}
 use Rattle.tc_base.specs.declared.moves.Move.{Move}
-use Rattle.tc_code.specs.Code.{Code}
-use Rattle.tc_code.specs.Lawful.{IsLawful}
 use Rattle.tc_code.specs.Run.{Reproduces}
-use Rattle.store_buffers.specs.Laws.{Laws}
-use Rattle.store_buffers.specs.Pending.{Binding}
 use Rattle.run_laws.proofs.Names.{is_same, same_self}
 use Rattle.run_history.specs.History.{Deed, has_drained, same}
 use Rattle.run_history.proofs.of_pending.In.{In, in_at, in_split}
-use Rattle.run_log.specs.Logs.{is_log}
 use Rattle.path_walk.specs.Paths.{Walk, Paths, paths_of}
 use Rattle.path_walk.specs.declared.event.Event.{Event}
 use Rattle.path_walk.specs.declared.event.EventKind.TheVariants as kind
+use Rattle.path_laws.specs.Setting.{Setting}
 use Rattle.path_laws.specs.history.Along.{IsThread}
 use Rattle.order_formula.specs.Worlds.{World, IsWorld, position}
 use Rattle.order_switches.specs.Switches.{changes, end_at, thread_at, threads_in_order}
@@ -49,10 +42,11 @@ all_found {P} {X} f V each (p ∷ ps) = by (f p) refl (all_found f V each ps)
     by None at rest = rest
     by (Some x) at rest = All-cons V x (filter_map f ps) (each p x at) rest
 
-module _ {B : Type 0} (ops : BufferOps B) (model : Model) (bound : Binding) (laws : Laws ops model bound) (code : Code) (lawful : IsLawful code) (log : Log)
-    (is : is_log log ≡ true) (moves : List Move) (again : Reproduces ops code log moves) where
+module _ {B : Type 0} (setting : Setting B) (moves : List Move) (again : Reproduces setting.ops setting.code setting.log moves) where
+  open setting use {ops, code, log}
+
   abbrev h : List Deed
-  h = run.done ops model bound laws code lawful log is moves again
+  h = run.done setting moves again
 
   abbrev ps : Paths
   ps = paths_of code log
@@ -61,7 +55,7 @@ module _ {B : Type 0} (ops : BufferOps B) (model : Model) (bound : Binding) (law
   b = ops.buffered
 
   abbrev a : AreSeen b ps h
-  a = run.seen ops model bound laws code lawful log is moves again
+  a = run.seen setting moves again
 
   -- a thread of the paths
   abbrev IsOf : ℕ → Type 0
@@ -118,14 +112,14 @@ module _ {B : Type 0} (ops : BufferOps B) (model : Model) (bound : Binding) (law
           place = ap (position w) (number_is ps a.whole i.event e.0 e.1) ∙ i.position;
         }
 
-    seen : SeenIn ps w world events b h a ordered (named ops model bound laws code lawful log is moves again) h
-    seen = seen_from ps w world events b h a ordered (named ops model bound laws code lawful log is moves again) [] h refl
+    seen : SeenIn ps w world events b h a ordered (named setting moves again) h
+    seen = seen_from ps w world events b h a ordered (named setting moves again) [] h refl
 
     below : (p : ℕ) → In p seen.positions → p < 0 + end
     below p i =
         let k = seen.take p i in
         let s = in_split k.deed h k.among in
-        let less = within ops model bound laws code lawful log is moves again w world events small ordered k.thread k.step
+        let less = within setting moves again w world events small ordered k.thread k.step
         (record { older = s.older; deed = k.deed; newer = s.newer; there = s.there; shows = k.shows }) in
         omega (arith, less, k.at)
 
@@ -136,7 +130,7 @@ module _ {B : Type 0} (ops : BufferOps B) (model : Model) (bound : Binding) (law
         by None none never = absurd (none-some n never)
         by (Some t) here _ =
             let e = event_at p t here in
-            let k = takes ops model bound laws code lawful log is moves again w world events small ordered before_fail e.event.thread e.event.it.step
+            let k = takes setting moves again w world events small ordered before_fail e.event.thread e.event.it.step
             (e.event.it, (e.walk, e.there, e.among), refl) (omega (arith, high, e.place)) in
             subst (λ q. In q seen.positions) e.place (seen.has k.deed e.event.thread e.event.it.step (among k) k.shows)
           where

@@ -11,19 +11,12 @@ use Rattle.std.proofs.Math.Seq.{take-suc}
 use Rattle.std.proofs.lemmas.List.{append_cancel_left}
 use Rattle.std.proofs.lemmas.List.Sums.{fold-append}
 use Rattle.std.proofs.lemmas.Option.{none-some, same_Some, get_or_from_slice_get}
-use Rattle.tc_base.specs.Buffers.{BufferOps}
-use Rattle.run_log.specs.Logs.{Log}
 use Rattle.tc_base.specs.Paths.{ThreadPath}
 use Rattle.tc_base.specs.Names.{Name}
 use Rattle.tc_base.specs.States.{Local, Thread}
-use Rattle.memory_models.specs.declared.model.Model.{Model}
 use Rattle.tc_base.specs.declared.request.Request.{Request}
-use Rattle.tc_code.specs.Code.{Code}
-use Rattle.tc_code.specs.Lawful.{IsLawful}
 use Rattle.tc_code.specs.Step.{request, is_nonzero, value_in}
 use Rattle.tc_code.specs.declared.instr.Instr.{Instr}
-use Rattle.store_buffers.specs.Laws.{Laws}
-use Rattle.store_buffers.specs.Pending.{Binding}
 use Rattle.run_laws.specs.Ints.{PassesInts}
 use Rattle.run_laws.proofs.Changes.{is_fail}
 use Rattle.run_history.specs.History.{Deed, history}
@@ -33,7 +26,6 @@ use Rattle.run_history.proofs.Ints.{models_pass_ints}
 use Rattle.run_history.proofs.Threads.{children_are}
 use Rattle.run_follows.specs.Follow.{OtherIs}
 use Rattle.run_history.proofs.of_pending.In.{In, in_left, in_right}
-use Rattle.run_log.specs.Logs.{is_log}
 use Rattle.list_laws.proofs.Lists.{get_seam}
 use Rattle.path_walk.specs.Events.{kind_with}
 use Rattle.path_walk.specs.Fits.{fails_in, Fits}
@@ -43,6 +35,7 @@ use Rattle.path_walk.specs.Steps.{Step, Onward, onward, is_site, steps_at}
 use Rattle.path_walk.specs.Steps as path
 use Rattle.path_walk.specs.declared.event.Event.{Event}
 use Rattle.path_walk.specs.declared.event.EventKind.{EventKind}
+use Rattle.path_laws.specs.Setting.{Setting}
 use Rattle.path_laws.specs.Deeds.{kind_of}
 use Rattle.path_laws.specs.history.Along.{IsAlongPaths, IsThread}
 use Rattle.path_laws.specs.history.Next.{fails_next, IsNextOnPath, BranchesAlong}
@@ -102,11 +95,13 @@ outcome_there : (next to : ℕ) (os : List Bool) (on : Onward) → path.branched
 outcome_there next to [] on e = absurd (none-some on e)
 outcome_there next to (b ∷ os) on e = (b, os, refl)
 
-module _ {B : Type 0} (ops : BufferOps B) (model : Model) (bound : Binding) (laws : Laws ops model bound) (code : Code) (lawful : IsLawful code) (log : Log)
-    (is : is_log log ≡ true) (fits : Fits code log) (nodes : List Node) (loads : List ℤ) (terms : AreTerms nodes) (h : List Deed)
-    (along : IsAlongPaths ops.buffered bound code log h) (agrees : AgreesWith (found code log nodes).symbolic loads h) (j : ℕ) where
-  abbrev r : RunOf ops model bound laws code lawful log h
-  r = run_of ops model bound laws code lawful log h along
+module _ {B : Type 0} (setting : Setting B) (fits : Fits setting.code setting.log) (nodes : List Node) (loads : List ℤ) (terms : AreTerms nodes)
+    (h : List Deed) (along : IsAlongPaths setting.ops.buffered setting.bound setting.code setting.log h)
+    (agrees : AgreesWith (found setting.code setting.log nodes).symbolic loads h) (j : ℕ) where
+  open setting use {machine, ops, model, bound, laws, code, lawful, log, log_is as is}
+
+  abbrev r : RunOf machine log h
+  r = run_of machine log h along
 
   ints : PassesInts ops
   ints = models_pass_ints ops model bound laws
@@ -161,7 +156,7 @@ module _ {B : Type 0} (ops : BufferOps B) (model : Model) (bound : Binding) (law
 
     follow : Follows later loads d t (flat_map (asked_of w.name) h)
     follow =
-        let y = thread_next ops model bound laws code lawful log is fits h j w there going r x in
+        let y = thread_next setting fits h j w there going r x in
         let f = follow_after ops code log nodes loads ints lawful is fits terms r.moves r.state r.leads r.on agrees_so j p y.0 at y.1 in
         subst (λ (l : Local). Follows later loads (upto l.steps) l (flat_map (asked_of w.name) h)) y.2
         (subst (λ g. Follows later loads (upto y.0.local.steps) y.0.local (flat_map (asked_of w.name) g)) r.is f)
@@ -170,7 +165,7 @@ module _ {B : Type 0} (ops : BufferOps B) (model : Model) (bound : Binding) (law
     fine = fine_at code log nodes lawful is terms j p at k
 
     few : k < length w.places
-    few = omega (arith, x.steps, steps_left ops model bound laws code lawful log is fits h j w there going r x)
+    few = omega (arith, x.steps, steps_left setting fits h j w there going r x)
 
     place : slice_get w.places k ≡ Some t.instruction
     place = ap (slice_get w.places) x.steps ∙ x.place
@@ -251,7 +246,7 @@ module _ {B : Type 0} (ops : BufferOps B) (model : Model) (bound : Binding) (law
       -- a branch goes by the path's next outcome
       branches : BranchesAlong w t i
       branches ex to at_branch =
-          let on = next_leads ops model bound laws code lawful log is fits h j w there going r x in
+          let on = next_leads setting fits h j w there going r x in
           let o = outcome_there (t.instruction + 1) to x.later on.0 (ap (λ a. onward t.instruction a x.later) (sym at_branch) ∙ on.1) in
           let next_is : slice_get w.outcomes (length t.outcomes) ≡ Some o.0 =
           ap (λ os. slice_get os (length t.outcomes)) (x.outcomes ∙ ap (λ os. t.outcomes ++ os) o.2) ∙ get_seam t.outcomes o.0 o.1 in
@@ -274,7 +269,7 @@ module _ {B : Type 0} (ops : BufferOps B) (model : Model) (bound : Binding) (law
 
       fails_is : is_fail (request t i) ≡ fails_next log h w
       fails_is =
-          fails_as_told t i (fails_next log h w) (as_wanted ops model bound laws code lawful log is fits h j w there going r x dead) site_goes
+          fails_as_told t i (fails_next log h w) (as_wanted setting fits h j w there going r x dead) site_goes
           (λ fails. last_is_site code log w walk k t.instruction i place x.at (ap (λ n. fails_in log w.name && n + 1 == length w.places) x.steps ∙ fails))
 
       -- the event of the step
@@ -284,13 +279,13 @@ module _ {B : Type 0} (ops : BufferOps B) (model : Model) (bound : Binding) (law
           let start = unmarked code w.function in
           let m = marks_after start (take k ss) in
           let s : Step = record { place = t.instruction; instr = i } in
-          let y = thread_next ops model bound laws code lawful log is fits h j w there going r x in
+          let y = thread_next setting fits h j w there going r x in
           let children : t.children ≡ children_in h w.name =
           ap (λ (l : Local). l.children) (sym y.2) ∙ children_are ops code r.state h w.name r.told.tells.deeds.buffers.threads y.0 y.1 in
           let fails = fails_in log w.name && length (drop (suc k) ss) == 0 in
-          let last : fails ≡ fails_next log h w = fails_there ops model bound laws code lawful log is fits h j w there going r x in
+          let last : fails ≡ fails_next log h w = fails_there setting fits h j w there going r x in
           let event = event_found code w.function (fails_in log w.name) 0 start ss k s k (path_step code w k t.instruction i place x.at) (omega arith) in
-          asked_kind h w.name t m i other other_is children (has_marks ops model bound laws code lawful log is fits h j w there going r x)
+          asked_kind h w.name t m i other other_is children (has_marks setting fits h j w there going r x)
           ∙ ap (kind_with m i) (fails_is ∙ sym last)
           ∙ sym (kind_back (kind_with m i fails) (event_at code w.function (fails_in log w.name) k s m) (λ a. refl))
           ∙ ap (option_map (λ (z : Event). z.kind)) (sym event)

@@ -1,19 +1,12 @@
 //! The cells of accesses in a history along the paths. Each law is the contract of a function with
 //! an empty body.
-ghost use Rattle.std.specs.Prelude.{◌≡◌, ◌<◌, ◌==◌, ℕ, ℤ, pos, true, Some, List, slice_get, slice_index_or};
+ghost use Rattle.std.specs.Prelude.{◌≡◌, ◌<◌, ◌==◌, ℕ, ℤ, pos, Some, List, slice_get, slice_index_or};
 ghost use Rattle.std.specs.List.{Contains};
-ghost use Rattle.tc_base.specs.Buffers.{BufferOps};
-ghost use Rattle.run_log.specs.Logs.{Log};
-ghost use Rattle.memory_models.specs.declared.model.Model.{Model};
-ghost use Rattle.tc_code.specs.Code.{Code};
-ghost use Rattle.tc_code.specs.Lawful.{IsLawful};
-ghost use Rattle.store_buffers.specs.Laws.{Laws};
-ghost use Rattle.store_buffers.specs.Pending.{Binding};
 ghost use Rattle.run_history.specs.History.{Deed};
 ghost use Rattle.run_history.specs.Told.{steps_in};
-ghost use Rattle.run_log.specs.Logs.{is_log};
 ghost use Rattle.path_walk.specs.Fits.{Fits};
 ghost use Rattle.path_walk.specs.Paths.{Walk, Paths};
+ghost use Rattle.path_laws.specs.Setting.{Setting};
 ghost use Rattle.path_laws.specs.history.Along.{IsAlongPaths, IsThread};
 ghost use Rattle.sym_terms.specs.Terms.{AreTerms};
 ghost use Rattle.sym_terms.specs.declared.node.Node.{Node};
@@ -31,41 +24,33 @@ ghost use Rattle.sym_steps.specs.accesses.Asked.{IsAskedIn, IsReachedIn};
 /// In a history along the paths, a thread's steps make exactly the accesses of its path, step by
 /// step.
 pub fn accesses_are_asked<B>()
-    ensures done { (ops : BufferOps B) (model : Model) (bound : Binding) (code : Code) (log : Log) (nodes : List Node) (loads : List ℤ) (h : List Deed)
-        (j : ℕ) (w : Walk) (c : Course) (a : Access)
-        → Laws ops model bound → IsLawful code → is_log log ≡ true → Fits code log → AreTerms nodes
-        → IsAlongPaths ops.buffered bound code log h → AgreesWith (found code log nodes).symbolic loads h
-        → IsThread code log j w → slice_get (found code log nodes).symbolic.threads j ≡ Some c
-        → Contains c.accesses a → a.step < steps_in h w.name → IsAskedIn h w.name a.step (asked_in (found code log nodes).nodes loads a) }
-    ensures found { (ops : BufferOps B) (model : Model) (bound : Binding) (code : Code) (log : Log) (nodes : List Node) (loads : List ℤ) (h : List Deed)
-        (j : ℕ) (w : Walk) (c : Course) (k : ℕ) (asked : Asked)
-        → Laws ops model bound → IsLawful code → is_log log ≡ true → Fits code log → AreTerms nodes
-        → IsAlongPaths ops.buffered bound code log h → AgreesWith (found code log nodes).symbolic loads h
-        → IsThread code log j w → slice_get (found code log nodes).symbolic.threads j ≡ Some c
-        → IsAskedIn h w.name k asked
-        → (a : Access) × Contains c.accesses a × (a.step ≡ k) × (asked_in (found code log nodes).nodes loads a ≡ asked) }
+    ensures done { (s : Setting B) (nodes : List Node) (loads : List ℤ) (h : List Deed) (j : ℕ) (w : Walk) (c : Course) (a : Access)
+        → Fits s.code s.log → AreTerms nodes
+        → IsAlongPaths s.ops.buffered s.bound s.code s.log h → AgreesWith (found s.code s.log nodes).symbolic loads h
+        → IsThread s.code s.log j w → slice_get (found s.code s.log nodes).symbolic.threads j ≡ Some c
+        → Contains c.accesses a → a.step < steps_in h w.name → IsAskedIn h w.name a.step (asked_in (found s.code s.log nodes).nodes loads a) }
+    ensures found { (s : Setting B) (nodes : List Node) (loads : List ℤ) (h : List Deed) (j : ℕ) (w : Walk) (c : Course) (k : ℕ) (asked : Asked)
+        → Fits s.code s.log → AreTerms nodes
+        → IsAlongPaths s.ops.buffered s.bound s.code s.log h → AgreesWith (found s.code s.log nodes).symbolic loads h
+        → IsThread s.code s.log j w → slice_get (found s.code s.log nodes).symbolic.threads j ≡ Some c → IsAskedIn h w.name k asked
+        → (a : Access) × Contains c.accesses a × (a.step ≡ k) × (asked_in (found s.code s.log nodes).nodes loads a ≡ asked) }
 {}
 
 /// Two accesses that are done, or next, are to the same cell exactly when their cells have the same
 /// number: arrays don't overlap, and each index was tested to be inside its array.
 pub fn cells_are_one<B>()
-    ensures { (ops : BufferOps B) (model : Model) (bound : Binding) (code : Code) (log : Log) (nodes : List Node) (w : World) (h : List Deed)
-        (t u : ℕ) (a b : Access)
-        → Laws ops model bound → IsLawful code → is_log log ≡ true → Fits code log → AreTerms nodes
-        → IsAlongPaths ops.buffered bound code log h → AgreesWith (found code log nodes).symbolic w.loads h
-        → IsReachedIn code log nodes h t a → IsReachedIn code log nodes h u b
-        → is_same_cell (found code log nodes).nodes w a.cell b.cell
-        ≡ (cell_by (found code log nodes).nodes w.loads a.cell == cell_by (found code log nodes).nodes w.loads b.cell) }
+    ensures { (s : Setting B) (nodes : List Node) (w : World) (h : List Deed) (t u : ℕ) (a b : Access) → Fits s.code s.log → AreTerms nodes
+        → IsAlongPaths s.ops.buffered s.bound s.code s.log h → AgreesWith (found s.code s.log nodes).symbolic w.loads h
+        → IsReachedIn s.code s.log nodes h t a → IsReachedIn s.code s.log nodes h u b → is_same_cell (found s.code s.log nodes).nodes w a.cell b.cell
+        ≡ (cell_by (found s.code s.log nodes).nodes w.loads a.cell == cell_by (found s.code s.log nodes).nodes w.loads b.cell) }
 {}
 
 /// The initial value of such an access's cell is the one that the code gives it.
 pub fn cells_begin<B>()
-    ensures { (ops : BufferOps B) (model : Model) (bound : Binding) (code : Code) (log : Log) (nodes : List Node) (loads : List ℤ) (h : List Deed)
-        (t : ℕ) (a : Access)
-        → Laws ops model bound → IsLawful code → is_log log ≡ true → Fits code log → AreTerms nodes
-        → IsAlongPaths ops.buffered bound code log h → AgreesWith (found code log nodes).symbolic loads h
-        → IsReachedIn code log nodes h t a
-        → value_at_start code a.cell ≡ slice_index_or code.memory (cell_by (found code log nodes).nodes loads a.cell) (pos 0) }
+    ensures { (s : Setting B) (nodes : List Node) (loads : List ℤ) (h : List Deed) (t : ℕ) (a : Access) → Fits s.code s.log → AreTerms nodes
+        → IsAlongPaths s.ops.buffered s.bound s.code s.log h → AgreesWith (found s.code s.log nodes).symbolic loads h
+        → IsReachedIn s.code s.log nodes h t a
+        → value_at_start s.code a.cell ≡ slice_index_or s.code.memory (cell_by (found s.code s.log nodes).nodes loads a.cell) (pos 0) }
 {}
 
 /// The cell of a thread's step is the cell of its access.

@@ -2,24 +2,17 @@
 //! agreeing with a history. Each law is the contract of a function with an empty body.
 #![tactic(auto)]
 
-ghost use Rattle.std.specs.Prelude.{◌≡◌, ℕ, ℤ, true, false, Option, Some, None, List, [], ◌∷◌, ◌++◌, slice_get, slice_index_or, pos};
+ghost use Rattle.std.specs.Prelude.{◌≡◌, ℕ, ℤ, false, Option, Some, None, List, [], ◌∷◌, ◌++◌, slice_get, slice_index_or, pos};
 ghost use Rattle.std.specs.FinMap as fin;
-ghost use Rattle.tc_base.specs.Buffers.{BufferOps};
-ghost use Rattle.run_log.specs.Logs.{Log};
 ghost use Rattle.tc_base.specs.Names.{Name};
 ghost use Rattle.tc_base.specs.States.{Local};
-ghost use Rattle.memory_models.specs.declared.model.Model.{Model};
 ghost use Rattle.tc_base.specs.declared.request.Request.{Request};
-ghost use Rattle.tc_code.specs.Code.{Code};
-ghost use Rattle.tc_code.specs.Lawful.{IsLawful};
-ghost use Rattle.store_buffers.specs.Laws.{Laws};
-ghost use Rattle.store_buffers.specs.Pending.{Binding};
 ghost use Rattle.run_history.specs.History.{Deed, Did, Drained};
 ghost use Rattle.run_history.specs.Locals.{locals_in};
 ghost use Rattle.run_history.specs.Told.{failed_in};
-ghost use Rattle.run_log.specs.Logs.{is_log};
 ghost use Rattle.path_walk.specs.Fits.{Fits};
 ghost use Rattle.path_walk.specs.Paths.{Walk, paths_of};
+ghost use Rattle.path_laws.specs.Setting.{Setting};
 ghost use Rattle.path_laws.specs.history.Along.{IsAlongPaths, IsThread};
 ghost use Rattle.path_laws.specs.history.Next.{IsNextOnPath};
 ghost use Rattle.sym_terms.specs.Terms.{AreTerms};
@@ -49,22 +42,20 @@ pub fn loads_go_on_agreeing()
 /// have the values of their terms, its tests had their wanted outcomes, and its accesses are those
 /// of its path.
 pub fn histories_have_values<B>()
-    ensures { (ops : BufferOps B) (model : Model) (bound : Binding) (code : Code) (log : Log) (nodes : List Node) (loads : List ℤ) (h : List Deed)
-        (j : ℕ) (w : Walk) (c : Course) (t : Local)
-        → Laws ops model bound → IsLawful code → is_log log ≡ true → Fits code log → AreTerms nodes
-        → IsAlongPaths ops.buffered bound code log h → AgreesWith (found code log nodes).symbolic loads h
-        → IsThread code log j w → slice_get (found code log nodes).symbolic.threads j ≡ Some c → fin.get (locals_in code h) w.name ≡ Some t
-        → HasValues code log nodes loads h j w c t }
+    ensures { (s : Setting B) (nodes : List Node) (loads : List ℤ) (h : List Deed) (j : ℕ) (w : Walk) (c : Course) (t : Local)
+        → Fits s.code s.log → AreTerms nodes
+        → IsAlongPaths s.ops.buffered s.bound s.code s.log h → AgreesWith (found s.code s.log nodes).symbolic loads h
+        → IsThread s.code s.log j w → slice_get (found s.code s.log nodes).symbolic.threads j ≡ Some c → fin.get (locals_in s.code h) w.name ≡ Some t
+        → HasValues s.code s.log nodes loads h j w c t }
 {}
 
 /// If also the tests of a thread's next step have their wanted outcomes, and the paths aren't dead,
 /// the path determines the step: whether it fails, how it branches, its event, and its cells.
 pub fn next_is_told<B>()
-    ensures { (ops : BufferOps B) (model : Model) (bound : Binding) (code : Code) (log : Log) (nodes : List Node) (loads : List ℤ) (h : List Deed)
-        (j : ℕ) (w : Walk) (c : Course) (x : IsNextOnPath code h w)
-        → Laws ops model bound → IsLawful code → is_log log ≡ true → Fits code log → AreTerms nodes
-        → IsAlongPaths ops.buffered bound code log h → AgreesWith (found code log nodes).symbolic loads h
-        → IsThread code log j w → slice_get (found code log nodes).symbolic.threads j ≡ Some c → failed_in h ≡ None
-        → (paths_of code log).dead ≡ false → TestsAreMet (found code log nodes).nodes loads h c
-        → (r : Request) × IsToldNext code log (found code log nodes).nodes loads h w c x r }
+    ensures { (s : Setting B) (nodes : List Node) (loads : List ℤ) (h : List Deed) (j : ℕ) (w : Walk) (c : Course) (x : IsNextOnPath s.code h w)
+        → Fits s.code s.log → AreTerms nodes
+        → IsAlongPaths s.ops.buffered s.bound s.code s.log h → AgreesWith (found s.code s.log nodes).symbolic loads h
+        → IsThread s.code s.log j w → slice_get (found s.code s.log nodes).symbolic.threads j ≡ Some c → failed_in h ≡ None
+        → (paths_of s.code s.log).dead ≡ false → TestsAreMet (found s.code s.log nodes).nodes loads h c
+        → (r : Request) × IsToldNext s.code s.log (found s.code s.log nodes).nodes loads h w c x r }
 {}

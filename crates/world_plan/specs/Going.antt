@@ -1,20 +1,15 @@
 -- A history that follows the order of a world up to a position.
 use Rattle.std.specs.Prelude.{◌≡◌, ◌↔◌, ◌⊎◌, ℕ, ◌<◌, ◌≤◌, List, Bool, true, false, ◌&&◌, None, Some, slice_get}
 use Rattle.std.specs.List.{Contains}
-use Rattle.tc_base.specs.Buffers.{BufferOps}
 use Rattle.run_log.specs.Logs.{Log}
-use Rattle.memory_models.specs.declared.model.Model.{Model}
 use Rattle.tc_code.specs.Code.{Code}
-use Rattle.tc_code.specs.Lawful.{IsLawful}
-use Rattle.store_buffers.specs.Laws.{Laws}
-use Rattle.store_buffers.specs.Pending.{Binding}
 use Rattle.run_history.specs.History.{Deed, has_drained}
 use Rattle.run_history.specs.Told.{steps_in, failed_in}
-use Rattle.run_log.specs.Logs.{is_log}
 use Rattle.path_walk.specs.Fits.{Fits}
 use Rattle.path_walk.specs.Paths.{Walk, paths_of}
 use Rattle.path_walk.specs.declared.event.Event.{Event}
 use Rattle.path_walk.specs.declared.event.Sleep.{Sleep}
+use Rattle.path_laws.specs.Setting.{Setting}
 use Rattle.path_laws.specs.events.Done.{IsAsleepIn}
 use Rattle.path_laws.specs.history.Along.{IsAlongPaths, IsThread}
 use Rattle.sym_terms.specs.Terms.{AreTerms}
@@ -27,17 +22,14 @@ use Rattle.lawful_order.specs.Lawful.{IsWorldOf}
 use Rattle.lawful_order.specs.Memory.{is_store}
 use Rattle.world_plan.specs.Sights.{AreInOrder}
 
--- a lawful world of the paths of a log that fits, for a memory model that obeys its laws
-pub record IsLawfulWorld {B : Type 0} (ops : BufferOps B) (model : Model) (bound : Binding) (code : Code) (log : Log) (nodes : List Node) (w : World) : Type 0 where
-  pub laws : Laws ops model bound
-  pub code_is : IsLawful code
-  pub log_is : is_log log ≡ true
-  pub fits : Fits code log
-  pub lives : (paths_of code log).dead ≡ false
+-- a lawful world of the paths of a log that fits
+pub record IsLawfulWorld {B : Type 0} (s : Setting B) (nodes : List Node) (w : World) : Type 0 where
+  pub fits : Fits s.code s.log
+  pub lives : (paths_of s.code s.log).dead ≡ false
   pub terms : AreTerms nodes
   pub world : IsWorld w
-  pub of : IsWorldOf (paths_of code log) (found code log nodes).symbolic w
-  pub lawful : order.IsLawful ops.buffered bound code (paths_of code log) (found code log nodes).symbolic (found code log nodes).nodes w
+  pub of : IsWorldOf (paths_of s.code s.log) (found s.code s.log nodes).symbolic w
+  pub lawful : order.IsLawful s.ops.buffered s.bound s.code (paths_of s.code s.log) (found s.code s.log nodes).symbolic (found s.code s.log nodes).nodes w
 
 -- whether an event is a store that waits in a buffer, and so has the position of its drain
 abbrev pub is_pending : Bool → Event → Bool
@@ -58,18 +50,20 @@ module _ (code : Code) (log : Log) (w : World) where
   SleepUntilEnded p h = (s : ℕ) (x : Of Sleep) (q : Walk) → slice_get (all_sleeps (paths_of code log)) s ≡ Some x → IsThread code log x.thread q
       → x.it.step < steps_in h q.name → IsAsleepIn h q.name x.it ↔ ((g : ℕ) → ender_of w s ≡ Some g → p ≤ position w g)
 
-module _ (buffered : Bool) (bound : Binding) (code : Code) (log : Log) (nodes : List Node) (w : World) where
+module _ {B : Type 0} (s : Setting B) (nodes : List Node) (w : World) where
+  open s use {ops, bound, code, log}
+
   -- a history along the paths, up to position p: exactly the events before p took place, in order
   pub record HasGone (p : ℕ) (h : List Deed) : Type 0 where
-    pub along : IsAlongPaths buffered bound code log h
+    pub along : IsAlongPaths ops.buffered bound code log h
     pub agrees : AgreesWith (found code log nodes).symbolic w.loads h
     pub going : failed_in h ≡ None
     pub did : (t : ℕ) (q : Walk) (x : Event) → IsThread code log t q → Contains q.events x → place code log w t x < p → x.step < steps_in h q.name
     pub only : (t : ℕ) (q : Walk) (x : Event) → IsThread code log t q → Contains q.events x → x.step < steps_in h q.name
-        → (place code log w t x < p) ⊎ (is_pending buffered x ≡ true)
-    pub drained : HaveDrained code log w buffered p h
+        → (place code log w t x < p) ⊎ (is_pending ops.buffered x ≡ true)
+    pub drained : HaveDrained code log w ops.buffered p h
     pub sleeps : SleepUntilEnded code log w p h
-    pub order : AreInOrder buffered (paths_of code log) w h
+    pub order : AreInOrder ops.buffered (paths_of code log) w h
 
   -- the history has gone up to p, where the thread t is about to do its event x
   pub record IsAtEvent (p : ℕ) (h : List Deed) (t : ℕ) (q : Walk) (x : Event) : Type 0 where

@@ -10,13 +10,13 @@ use Rattle.plan_runs.proofs.Runs.{plan_reproduces}
 use Rattle.orders_are_runs.proofs.orders_are_runs.Goals as goal
 
 pub returns : goal.returns
-returns g c ops model bound code log nodes laws lawful is terms = (
+returns g c s nodes terms = (
   λ p. (
-    moves_for bound (plan ops.buffered code (paths_of code log) p.0),
-    plan_reproduces ops model bound code log nodes p.0 p.1 (given ops model bound code log nodes p.0 p.1),
+    moves_for s.bound (plan s.ops.buffered s.code (paths_of s.code s.log) p.0),
+    plan_reproduces s nodes p.0 p.1 (given s nodes p.0 p.1),
   ),
   λ p. (
-    world_in ops.buffered (paths_of code log) (found code log nodes).symbolic (history ops code p.0),
-    is_lawful ops model bound laws code lawful log is nodes terms p.0 p.1,
+    world_in s.ops.buffered (paths_of s.code s.log) (found s.code s.log nodes).symbolic (history s.ops s.code p.0),
+    is_lawful s nodes terms p.0 p.1,
   ),
 )

@@ -6,26 +6,18 @@ use Rattle.std.proofs.Math.Seq.{take-suc}
 use Rattle.std.proofs.lemmas.Bool.{cases_Bool, and_parts, eqb-true, eq-eqb, lt-ltb, ltb-true, false_from_ne_true}
 use Rattle.std.proofs.lemmas.List.{length-drop, length-map}
 use Rattle.std.proofs.lemmas.Option.{none-some, same_Some, slice_get_within, slice_get_cases, get_or_from_slice_get}
-use Rattle.tc_base.specs.Buffers.{BufferOps}
-use Rattle.run_log.specs.Logs.{Log}
 use Rattle.tc_base.specs.Names.{Name}
 use Rattle.tc_base.specs.States.{Local}
-use Rattle.memory_models.specs.declared.model.Model.{Model}
 use Rattle.tc_base.specs.declared.request.Request.{Request}
 use Rattle.tc_base.specs.declared.request.Request.TheVariants.{Bar}
-use Rattle.tc_code.specs.Code.{Code}
-use Rattle.tc_code.specs.Lawful.{IsLawful}
 use Rattle.tc_code.specs.Step.{request, site}
 use Rattle.tc_code.specs.declared.instr.Instr.{Instr}
 use Rattle.tc_code.specs.declared.instr.Instr.TheVariants.{Inside, Holds, Ready, Assert, Nonzero, InRange, Stbar}
-use Rattle.store_buffers.specs.Laws.{Laws}
-use Rattle.store_buffers.specs.Pending.{Binding}
 use Rattle.run_laws.proofs.Names.{is_same, same_self}
 use Rattle.run_history.specs.History.{Deed, Did, same}
 use Rattle.run_history.specs.Told.{steps_in}
 use Rattle.run_history.specs.pending.Deeds.{is_bar_between, has_bar_between}
 use Rattle.run_history.proofs.of_pending.In.{In, in_at, in_split, any_in, in_any}
-use Rattle.run_log.specs.Logs.{is_log}
 use Rattle.path_walk.specs.Events.{kind_with}
 use Rattle.path_walk.specs.Fits.{fails_in, Fits}
 use Rattle.path_walk.specs.Marks.{Marks, unmarked, marked, marks_after}
@@ -33,6 +25,7 @@ use Rattle.path_walk.specs.Paths.{Walk}
 use Rattle.path_walk.specs.Steps.{Step, step_at, steps_at}
 use Rattle.path_walk.specs.declared.event.Event.{Event}
 use Rattle.path_walk.specs.declared.event.EventKind.{EventKind}
+use Rattle.path_laws.specs.Setting.{Setting}
 use Rattle.path_laws.specs.history.Along.{IsAlongPaths, IsThread}
 use Rattle.path_laws.proofs.of_history.Walks.{IsWalk, walk_is}
 use Rattle.path_laws.proofs.of_history.Next.{path_step}
@@ -152,9 +145,10 @@ event_is_no_bar : (m : Marks) (i : Instr) (fails : Bool) (asked : EventKind) →
 event_is_no_bar m i true asked e bar = refl
 event_is_no_bar m i false asked e bar = absurd (none-some asked (ap (λ x. kind_with m x false) (sym (stbar_is i bar)) ∙ e))
 
-module _ {B : Type 0} (ops : BufferOps B) (model : Model) (bound : Binding) (laws : Laws ops model bound) (code : Code) (lawful : IsLawful code) (log : Log)
-    (is : is_log log ≡ true) (fits : Fits code log) (h : List Deed) (along : IsAlongPaths ops.buffered bound code log h) (j : ℕ) (w : Walk)
-    (there_at : IsThread code log j w) where
+module _ {B : Type 0} (setting : Setting B) (fits : Fits setting.code setting.log) (h : List Deed)
+    (along : IsAlongPaths setting.ops.buffered setting.bound setting.code setting.log h) (j : ℕ) (w : Walk) (there_at : IsThread setting.code setting.log j w) where
+  open setting use {code, log, log_is as is}
+
   abbrev walk : IsWalk code log w
   walk = walk_is code log is fits j w there_at
 
@@ -166,7 +160,7 @@ module _ {B : Type 0} (ops : BufferOps B) (model : Model) (bound : Binding) (law
 
   -- a deed's step on the path does the instruction that asks for it
   step_on : (older : List Deed) (i : ℕ) (r : Request) (took : ℤ) (other : Option Name)
-      (s : IsStep ops model bound laws code lawful log is fits h along j w there_at older i r took other)
+      (s : IsStep setting fits h along j w there_at older i r took other)
       → slice_get ss i ≡ Some (record { place = s.next.local.instruction; instr = s.next.instr })
   step_on older i r took other s =
       path_step code w i s.next.local.instruction s.next.instr (ap (slice_get w.places) s.may.number ∙ s.next.place) s.next.at
@@ -192,7 +186,7 @@ module _ {B : Type 0} (ops : BufferOps B) (model : Model) (bound : Binding) (law
         let p = any_in (is_bar_between w.name x.step y.step) h has in
         let b = bar_between w.name x.step y.step p.one p.passes in
         let at = in_split p.one h p.there in
-        let s = step_is ops model bound laws code lawful log is fits h along j w there_at at.older at.newer b.number Bar b.took b.other
+        let s = step_is setting fits h along j w there_at at.older at.newer b.number Bar b.took b.other
         (at.there ∙ ap (λ d. at.older ++ d ∷ at.newer) b.is) in
         let grow = bars_grow start ss x.step b.number y.step _ (omega (arith, b.after)) b.before (omega (arith, within))
         (step_on at.older b.number Bar b.took b.other s) (bar_is s.next.local s.next.instr s.asks) in
@@ -205,7 +199,7 @@ module _ {B : Type 0} (ops : BufferOps B) (model : Model) (bound : Binding) (law
       where
         by : (b : Bool) → nat_lt x.step i ≡ b → ⊥
         by true e =
-            let d = deed_of ops model bound laws code lawful log is fits h along j w there_at i (omega (arith, hi, few)) in
+            let d = deed_of setting fits h along j w there_at i (omega (arith, hi, few)) in
             let same : s.instr ≡ d.step.next.instr =
             ap (λ (z : Step). z.instr) (same_Some s _ (sym at ∙ step_on d.older i d.request d.took d.other d.step)) in
             let asks : d.request ≡ Bar = sym d.step.asks ∙ ap (request d.step.next.local) (sym same ∙ stbar_is s.instr bar) in

@@ -7,28 +7,23 @@ use Rattle.std.specs.List.{filter_map}
 use Rattle.std.proofs.lemmas.Bool.{lt-ltb}
 use Rattle.std.proofs.lemmas.List.{length-map}
 use Rattle.std.proofs.lemmas.Option.{none-some, same_Some, slice_get_within}
-use Rattle.tc_base.specs.Buffers.{BufferOps}
 use Rattle.run_log.specs.Logs.{Log}
 use Rattle.tc_base.specs.Names.{Name}
 use Rattle.tc_base.specs.States.{Thread}
-use Rattle.memory_models.specs.declared.model.Model.{Model}
 use Rattle.tc_base.specs.declared.request.Request.{Request}
 use Rattle.tc_code.specs.Code.{Code}
-use Rattle.tc_code.specs.Lawful.{IsLawful}
-use Rattle.store_buffers.specs.Laws.{Laws}
-use Rattle.store_buffers.specs.Pending.{Binding}
 use Rattle.run_laws.proofs.Names.{is_same, same_self}
 use Rattle.run_history.specs.History.{Deed, Did, Drained, same}
 use Rattle.run_history.specs.Told.{is_thread_in, steps_in}
 use Rattle.run_history.proofs.Threads.{none_done}
 use Rattle.run_history.proofs.of_pending.In.{In, in_at, in_split, in_filter, from_filter, in_mapped, from_mapped}
-use Rattle.run_log.specs.Logs.{is_log}
 use Rattle.path_walk.specs.Fits.{fails_in, Fits}
 use Rattle.path_walk.specs.Marks.{unmarked}
 use Rattle.path_walk.specs.Paths.{Walk}
 use Rattle.path_walk.specs.Steps.{step_at, steps_at}
 use Rattle.path_walk.specs.declared.event.Event.{Event}
 use Rattle.path_walk.specs.declared.event.EventKind.{EventKind}
+use Rattle.path_laws.specs.Setting.{Setting}
 use Rattle.path_laws.specs.Deeds.{kind_of, EventDone, done_as, event_by, events_before}
 use Rattle.path_laws.proofs.Deeds.{deeds_are_events}
 use Rattle.path_laws.specs.history.Along.{IsAlongPaths, IsThread, HasDoneAll}
@@ -103,11 +98,12 @@ module _ (code : Code) (log : Log) (w : Walk) (k : IsWalk code log w) where
       let within = slice_get_within (steps_at code w.function w.places) e.place e.step e.there in
       omega (arith, within, e.number, length-map w.places (step_at code w.function))
 
-module _ {B : Type 0} (ops : BufferOps B) (model : Model) (bound : Binding) (laws : Laws ops model bound) (code : Code) (lawful : IsLawful code) (log : Log)
-    (is : is_log log ≡ true) (fits : Fits code log) (h : List Deed) (along : IsAlongPaths ops.buffered bound code log h) (j : ℕ) (w : Walk)
-    (there : IsThread code log j w) where
-  abbrev r : RunOf ops model bound laws code lawful log h
-  r = run_of ops model bound laws code lawful log h along
+module _ {B : Type 0} (setting : Setting B) (fits : Fits setting.code setting.log) (h : List Deed)
+    (along : IsAlongPaths setting.ops.buffered setting.bound setting.code setting.log h) (j : ℕ) (w : Walk) (there : IsThread setting.code setting.log j w) where
+  open setting use {machine, ops, code, lawful, log, log_is as is}
+
+  abbrev r : RunOf machine log h
+  r = run_of machine log h along
 
   abbrev k : IsWalk code log w
   k = walk_is code log is fits j w there
@@ -127,7 +123,7 @@ module _ {B : Type 0} (ops : BufferOps B) (model : Model) (bound : Binding) (law
       let name : w.name ≡ p.name = ap (λ (x : Walk). x.name) k.is in
       ap₂ (λ n g. filter_map (event_by n) g) name (sym r.is)
       ∙ deeds_are_events ops code log r.moves r.state p t lawful fits r.leads r.on (ap (fin.get r.state.threads) (sym name) ∙ here)
-      ∙ ap₂ (λ n (x : Walk). events_before n x.events) (steps_of ops model bound laws code lawful log h r w.name t here) (sym k.is)
+      ∙ ap₂ (λ n (x : Walk). events_before n x.events) (steps_of machine log h r w.name t here) (sym k.is)
 
   -- an event of a step that is done
   pub event_done : (x : Event) → In x w.events → x.step < steps_in h w.name → IsDoneIn h w.name x.step x.kind
@@ -143,7 +139,7 @@ module _ {B : Type 0} (ops : BufferOps B) (model : Model) (bound : Binding) (law
       → (x : Event) × In x w.events × (x.step ≡ n) × (x.kind ≡ asked) × (n < steps_in h w.name)
   done_event n asked d =
       let deed = Did w.name n d.request d.took d.other in
-      let s = step_is ops model bound laws code lawful log is fits h along j w there d.older d.newer n d.request d.took d.other d.there in
+      let s = step_is setting fits h along j w there d.older d.newer n d.request d.took d.other d.there in
       let t = there_by_step (omega (arith, s.done)) in
       let tells : event_by w.name deed ≡ Some (the_done (record { step = n; kind = asked })) =
       ap (λ b. cond b (option_map (λ asked. the_done (record { step = n; kind = asked })) (kind_of d.request d.other)) None) (same_self w.name w.name refl)
@@ -157,7 +153,7 @@ module _ {B : Type 0} (ops : BufferOps B) (model : Model) (bound : Binding) (law
   -- where all steps are done all events are
   pub whole_events : is_thread_in h w.name ≡ true → HasDoneAll h w → filter_map (event_by w.name) h ≡ map done_as w.events
   whole_events is_there done =
-      let t = thread_of ops model bound laws code lawful log h r w.name is_there in
+      let t = thread_of machine log h r w.name is_there in
       told_events t.0 t.1
       ∙ ap (map done_as)
       (all_pass (λ (e : Event). nat_lt e.step (steps_in h w.name)) w.events

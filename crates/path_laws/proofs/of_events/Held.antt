@@ -3,24 +3,18 @@ use Rattle.std.proofs.Common.{◌≡◌, ◌∙◌, ℕ, ◌+◌, ◌≤◌, ◌
 use Rattle.std.proofs.Common.{Option, sym, ap, subst, arith, slice_index_or}
 use Rattle.std.specs.Prelude.{unwrap_or}
 use Rattle.std.proofs.lemmas.List.{length-map, length-replicate, take-map}
-use Rattle.tc_base.specs.Buffers.{BufferOps}
-use Rattle.run_log.specs.Logs.{Log}
 use Rattle.tc_base.specs.Paths.{Path}
 use Rattle.tc_base.specs.Names.{Name}
 use Rattle.tc_base.specs.States.{Local, Thread}
-use Rattle.memory_models.specs.declared.model.Model.{Model}
 use Rattle.tc_code.specs.Code.{Code}
-use Rattle.tc_code.specs.Lawful.{IsLawful}
 use Rattle.tc_code.specs.Step.{holds, stepped}
 use Rattle.tc_code.proofs.Facts.{at_its_place}
-use Rattle.store_buffers.specs.Laws.{Laws}
-use Rattle.store_buffers.specs.Pending.{Binding}
 use Rattle.run_laws.proofs.Basics.{index_or-replicate}
-use Rattle.run_log.specs.Logs.{is_log}
 use Rattle.path_walk.specs.Fits.{fails_in, Fits}
 use Rattle.path_walk.specs.Marks.{unmarked, marks_after, has_mutex}
 use Rattle.path_walk.specs.Paths.{Walk}
 use Rattle.path_walk.specs.Steps.{step_at, steps_at}
+use Rattle.path_laws.specs.Setting.{Setting}
 use Rattle.path_laws.specs.Along.{HasMarks}
 use Rattle.path_laws.specs.Prefixes.{fails_by}
 use Rattle.path_laws.proofs.Local.{marks-append, steps_push, now}
@@ -48,9 +42,10 @@ stands_marks code true t ps h =
     (subst (λ xs. HasMarks (stepped a) (marks_after (unmarked code f) (steps_at code f xs))) (sym h.all)
     (subst (HasMarks (stepped a)) (sym same) (record { held = m.held; handles = m.handles; children = m.children })))
 
-module _ {B : Type 0} (ops : BufferOps B) (model : Model) (bound : Binding) (laws : Laws ops model bound) (code : Code) (lawful : IsLawful code) (log : Log)
-    (is : is_log log ≡ true) (fits : Fits code log) (w : Walk) (t : Thread B) (failed : Option Name)
-    (k : IsWalking ops model bound laws code lawful log is fits w t failed) where
+module _ {B : Type 0} (setting : Setting B) (fits : Fits setting.code setting.log) (w : Walk) (t : Thread B) (failed : Option Name)
+    (k : IsWalking setting fits w t failed) where
+  open setting use {code, log}
+
   pub thread_marks : HasMarks t.local (marks_after (unmarked code w.function) (take t.local.steps (steps_at code w.function w.places)))
   thread_marks =
       let n = t.local.steps in

@@ -6,18 +6,12 @@ use Rattle.std.specs.FinMap as fin
 use Rattle.std.specs.List.{Contains, cons_option}
 use Rattle.std.proofs.lemmas.Bool.{false≢true, eqb-true}
 use Rattle.std.proofs.lemmas.Option.{none-some, same_Some}
-use Rattle.tc_base.specs.Buffers.{BufferOps}
-use Rattle.run_log.specs.Logs.{Log}
 use Rattle.tc_base.specs.Names.{Name}
 use Rattle.tc_base.specs.States.{Thread}
-use Rattle.memory_models.specs.declared.model.Model.{Model}
 use Rattle.tc_base.specs.declared.request.Request.{Request}
 use Rattle.tc_base.specs.declared.request.Request.TheVariants.{Silent, Acquire, Release, BeginWait, EndWait}
 use Rattle.tc_code.specs.Code.{Code}
-use Rattle.tc_code.specs.Lawful.{IsLawful}
 use Rattle.tc_code.specs.Step.{holds}
-use Rattle.store_buffers.specs.Laws.{Laws}
-use Rattle.store_buffers.specs.Pending.{Binding}
 use Rattle.run_laws.proofs.Asks.{AsksOf}
 use Rattle.run_laws.proofs.Basics.{some_value}
 use Rattle.run_laws.proofs.Owners.{owners_hold}
@@ -26,7 +20,6 @@ use Rattle.run_history.specs.Told.{owner_by, owner_in, steps_in}
 use Rattle.run_history.proofs.Last.{owners_are_last}
 use Rattle.run_follows.proofs.of_deeds.Cells.{next_within}
 use Rattle.run_history.proofs.of_pending.In.{In}
-use Rattle.run_log.specs.Logs.{is_log}
 use Rattle.path_walk.specs.Events.{takes, left_at, regions_of}
 use Rattle.path_walk.specs.Fits.{fails_in, Fits}
 use Rattle.path_walk.specs.Marks.{unmarked, marks_after}
@@ -34,6 +27,7 @@ use Rattle.path_walk.specs.Paths.{Walk}
 use Rattle.path_walk.specs.Steps.{steps_at}
 use Rattle.path_walk.specs.declared.event.Event.{Event}
 use Rattle.path_walk.specs.declared.event.Region.{Region}
+use Rattle.path_laws.specs.Setting.{Setting}
 use Rattle.path_laws.specs.history.Along.{IsAlongPaths, IsThread, IsNameOfThread}
 use Rattle.path_laws.proofs.of_history.Told.{RunOf, run_of, reached, steps_of, first_along}
 use Rattle.path_laws.proofs.of_history.Walks.{IsWalk, walking, walk_is, thread_named}
@@ -115,10 +109,12 @@ region_event (x ∷ es) r i = by (takes x.kind) refl i (λ j. later (region_even
 abbrev HasOpen : Walk → ℕ → ℕ → Type 0
 HasOpen w m n = (r : Region) × Contains w.regions r × (r.mutex ≡ m) × IsOpenAfter n r
 
-module _ {B : Type 0} (ops : BufferOps B) (model : Model) (bound : Binding) (laws : Laws ops model bound) (code : Code) (lawful : IsLawful code) (log : Log)
-    (is : is_log log ≡ true) (fits : Fits code log) (h : List Deed) (along : IsAlongPaths ops.buffered bound code log h) where
-  abbrev r : RunOf ops model bound laws code lawful log h
-  r = run_of ops model bound laws code lawful log h along
+module _ {B : Type 0} (setting : Setting B) (fits : Fits setting.code setting.log) (h : List Deed)
+    (along : IsAlongPaths setting.ops.buffered setting.bound setting.code setting.log h) where
+  open setting use {machine, ops, bound, code, lawful, log, log_is as is}
+
+  abbrev r : RunOf machine log h
+  r = run_of machine log h along
 
   -- the deed by which an owner took a mutex
   pub record TookIt (m : ℕ) (n : Name) : Type 0 where
@@ -131,12 +127,12 @@ module _ {B : Type 0} (ops : BufferOps B) (model : Model) (bound : Binding) (law
       let t = taking m n last.deed last.gives in
       let at = last.there ∙ ap (λ d. last.older ++ d ∷ last.newer) t.is in
       let d = Did n t.number t.request t.took t.other in
-      let before = first_along ops model bound laws code lawful log last.older (d ∷ last.newer)
+      let before = first_along machine log last.older (d ∷ last.newer)
       (subst (IsAlongPaths ops.buffered bound code log) at along) in
       let may = (along.follow last.older last.newer d at).1 in
       record {
-        within = t.within code (next_within ops model bound code last.older n t.request laws lawful before.follow may.asks);
-        thread = thread_named ops model bound laws code lawful log is fits last.older n before
+        within = t.within code (next_within machine last.older n t.request before.follow may.asks);
+        thread = thread_named setting fits last.older n before
             (r.told.threads last.older last.newer n t.number t.request t.took t.other at).there;
       }
 
@@ -163,11 +159,11 @@ module _ {B : Type 0} (ops : BufferOps B) (model : Model) (bound : Binding) (law
 
     module _ (t : Thread B) (here : fin.get r.state.threads n ≡ Some t) (within : m < code.mutexes) where
       steps : t.local.steps ≡ steps_in h n
-      steps = steps_of ops model bound laws code lawful log h r n t here
+      steps = steps_of machine log h r n t here
 
       holds_by : holds t.local m ≡ unwrap_or (held_upto m (steps_in h n) w.events) false
       holds_by =
-          holds_told ops model bound laws code lawful log is fits w t r.state.failed (walking ops model bound laws code lawful log is fits h r j w t there here)
+          holds_told setting fits w t r.state.failed (walking setting fits h r j w t there here)
           m within
           ∙ ap (λ i. unwrap_or (held_upto m i w.events) false) steps
 
@@ -177,7 +173,7 @@ module _ {B : Type 0} (ops : BufferOps B) (model : Model) (bound : Binding) (law
 
       to_open : owner_in h m ≡ Some n → HasOpen w m (steps_in h n)
       to_open owns =
-          let hold = ((owners_hold ops code r.state lawful (reached ops model bound laws code lawful log h r)).holder n t m here).1
+          let hold = ((owners_hold ops code r.state lawful (reached machine log h r)).holder n t m here).1
           (r.told.tells.owners.owners m within ∙ owns) in
           let o = to_region m (steps_in h n) w.events (some_true (held_upto m (steps_in h n) w.events) (sym holds_by ∙ hold)) in
           (o.region, contains_in o.region w.regions (subst (In o.region) (sym k.regions) o.there), o.mutex, o.open_after)
@@ -188,18 +184,18 @@ module _ {B : Type 0} (ops : BufferOps B) (model : Model) (bound : Binding) (law
           (record { region = g; there = subst (In g) k.regions i; mutex = mutex; open_after = lasts }) in
           let hold = holds_by ∙ ap (λ o. unwrap_or o false) last in
           sym (r.told.tells.owners.owners m within)
-          ∙ ((owners_hold ops code r.state lawful (reached ops model bound laws code lawful log h r)).holder n t m here).0 hold
+          ∙ ((owners_hold ops code r.state lawful (reached machine log h r)).holder n t m here).0 hold
 
     pub region_owned : (owner_in h m ≡ Some n) ↔ HasOpen w m (steps_in h n)
     region_owned = (
       λ owns.
           let within = (took_it m n owns).within in
           let t = some_value (fin.get r.state.threads n)
-          ((owners_hold ops code r.state lawful (reached ops model bound laws code lawful log h r)).there n m
+          ((owners_hold ops code r.state lawful (reached machine log h r)).there n m
           (r.told.tells.owners.owners m within ∙ owns)) in
           to_open t.0 t.1 within owns,
       λ o.
           let i = in_contains o.0 w.regions o.1 in
-          let t = there_by_step ops model bound laws code lawful log is fits h along j w there (omega (arith, o.3.begun)) in
+          let t = there_by_step setting fits h along j w there (omega (arith, o.3.begun)) in
           from_open t.0 t.1 (region_within o.0 i o.2) o.0 i o.2 o.3,
     )

@@ -3,23 +3,16 @@ use Rattle.std.proofs.Common.{◌≡◌, ◌∙◌, ℕ, zero, suc, ◌+◌, ◌
 use Rattle.std.proofs.Common.{Option, None, refl, sym, ap, subst, arith}
 use Rattle.std.proofs.lemmas.List.Sums.{sum_by-append, sum_by-cons}
 use Rattle.std.proofs.lemmas.Option.{same_Some}
-use Rattle.tc_base.specs.Buffers.{BufferOps}
-use Rattle.run_log.specs.Logs.{Log}
 use Rattle.tc_base.specs.Names.{Name}
-use Rattle.memory_models.specs.declared.model.Model.{Model}
 use Rattle.tc_base.specs.declared.request.Request.{Request}
-use Rattle.tc_code.specs.Code.{Code}
-use Rattle.tc_code.specs.Lawful.{IsLawful}
 use Rattle.tc_code.specs.Step.{request}
-use Rattle.store_buffers.specs.Laws.{Laws}
-use Rattle.store_buffers.specs.Pending.{Binding}
 use Rattle.run_laws.proofs.Names.{is_same, same_self}
 use Rattle.run_history.specs.History.{Deed, Did, Drained, same}
 use Rattle.run_history.specs.Told.{is_step_of, steps_in, failed_in}
 use Rattle.run_follows.specs.Follow.{MayFollow}
-use Rattle.run_log.specs.Logs.{is_log}
 use Rattle.path_walk.specs.Fits.{Fits}
 use Rattle.path_walk.specs.Paths.{Walk}
+use Rattle.path_laws.specs.Setting.{Setting}
 use Rattle.path_laws.specs.history.Along.{IsAlongPaths, IsThread}
 use Rattle.path_laws.specs.history.Next.{IsNextOnPath}
 use Rattle.path_laws.proofs.of_history.Told.{run_of, first_along}
@@ -84,9 +77,10 @@ step_at (Did q i r v o ∷ h) n k few = by (same n q) refl k few (λ m less. ste
         let count = steps_first d h n ∙ ap (λ b. cond b 1 0 + steps_in h n) e in
         behind d h n k k (rest k (omega (arith, few, count))) (ap (λ b. cond b 1 0 + k) e ∙ omega arith)
 
-module _ {B : Type 0} (ops : BufferOps B) (model : Model) (bound : Binding) (laws : Laws ops model bound) (code : Code) (lawful : IsLawful code) (log : Log)
-    (is : is_log log ≡ true) (fits : Fits code log) (h : List Deed) (along : IsAlongPaths ops.buffered bound code log h) (j : ℕ) (w : Walk)
-    (there : IsThread code log j w) where
+module _ {B : Type 0} (setting : Setting B) (fits : Fits setting.code setting.log) (h : List Deed)
+    (along : IsAlongPaths setting.ops.buffered setting.bound setting.code setting.log h) (j : ℕ) (w : Walk) (there : IsThread setting.code setting.log j w) where
+  open setting use {machine, ops, bound, code, log}
+
   -- a deed of a thread is the next step of its path after those before it
   pub record IsStep (older : List Deed) (k : ℕ) (r : Request) (took : ℤ) (other : Option Name) : Type 0 where
     pub begins : IsAlongPaths ops.buffered bound code log older
@@ -101,14 +95,14 @@ module _ {B : Type 0} (ops : BufferOps B) (model : Model) (bound : Binding) (law
   step_is older newer k r took other at =
       let d = Did w.name k r took other in
       let f = along.follow older newer d at in
-      let a = first_along ops model bound laws code lawful log older (d ∷ newer) (subst (IsAlongPaths ops.buffered bound code log) at along) in
-      let left = (run_of ops model bound laws code lawful log h along).told.threads older newer w.name k r took other at in
+      let a = first_along machine log older (d ∷ newer) (subst (IsAlongPaths ops.buffered bound code log) at along) in
+      let left = (run_of machine log h along).told.threads older newer w.name k r took other at in
       let count : steps_in h w.name ≡ steps_in older w.name + (1 + steps_in newer w.name) =
       ap (λ g. steps_in g w.name) at
       ∙ steps_both older (d ∷ newer) w.name
       ∙ ap (λ m. steps_in older w.name + m) (steps_first d newer w.name ∙ ap (λ b. cond b 1 0 + steps_in newer w.name) (same_self w.name w.name refl)) in
-      let few = few_steps ops model bound laws code lawful log is fits h j w along there in
-      let x = next_on_path ops model bound laws code lawful log is fits older j w there f.0 (run_of ops model bound laws code lawful log older a) left.there
+      let few = few_steps setting fits h j w along there in
+      let x = next_on_path setting fits older j w there f.0 (run_of machine log older a) left.there
       (omega (arith, count, few)) in
       record {
         begins = a;

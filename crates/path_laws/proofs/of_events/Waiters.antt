@@ -7,19 +7,13 @@ use Rattle.std.specs.List.{Contains, filter_map, last_or}
 use Rattle.std.proofs.lemmas.Bool.{cases_lt, and_parts, eqb-true, eq-eqb}
 use Rattle.std.proofs.lemmas.List.Elements.{filter_map-append}
 use Rattle.std.proofs.lemmas.Option.{none-some, same_Some}
-use Rattle.tc_base.specs.Buffers.{BufferOps}
 use Rattle.list_laws.specs.Lists.{is_nil}
-use Rattle.run_log.specs.Logs.{Log}
 use Rattle.tc_base.specs.Names.{Name}
 use Rattle.tc_base.specs.States.{Local, Thread}
-use Rattle.memory_models.specs.declared.model.Model.{Model}
 use Rattle.tc_base.specs.declared.request.Request.{Request}
 use Rattle.tc_base.specs.declared.request.Request.TheVariants.{Silent, BeginWait, EndWait, WakeOne, WakeAll, Start, Finish}
-use Rattle.tc_code.specs.Code.{Code}
-use Rattle.tc_code.specs.Lawful.{IsLawful}
 use Rattle.tc_code.specs.Step.{request, instr_of, drains_first}
-use Rattle.store_buffers.specs.Laws.{Laws}
-use Rattle.store_buffers.specs.Pending.{Binding, stores}
+use Rattle.store_buffers.specs.Pending.{stores}
 use Rattle.run_laws.proofs.Names.{is_same, same_self}
 use Rattle.run_laws.proofs.Waiters.{waiters_are_at_wake}
 use Rattle.run_history.specs.History.{Deed, Did, same, pending}
@@ -30,12 +24,12 @@ use Rattle.run_history.proofs.Last.{waiters_are_last}
 use Rattle.run_follows.proofs.of_deeds.Cells.{next_within}
 use Rattle.run_follows.specs.Follow.{MayFollow, may_do_in}
 use Rattle.run_history.proofs.of_pending.In.{In, in_at, in_split, any_in, in_any}
-use Rattle.run_log.specs.Logs.{is_log}
 use Rattle.path_walk.specs.Fits.{Fits}
 use Rattle.path_walk.specs.Paths.{Walk}
 use Rattle.path_walk.specs.declared.event.Event.{Event}
 use Rattle.path_walk.specs.declared.event.EventKind.TheVariants as kind
 use Rattle.path_walk.specs.declared.event.Sleep.{Sleep}
+use Rattle.path_laws.specs.Setting.{Setting}
 use Rattle.path_laws.specs.Deeds.{kind_of}
 use Rattle.path_laws.specs.history.Along.{IsAlongPaths, IsThread, IsNameOfThread}
 use Rattle.path_laws.proofs.of_history.Told.{RunOf, run_of, reached, first_along}
@@ -117,13 +111,14 @@ exit_of n (Did q k Finish took other) e =
     record { number = k; took = took; other = other; is = ap (λ p. Did p k Finish took other) (sym (is_same n q e)) }
 exit_of n d e = absurd (true≢false (sym e))
 
-module _ {B : Type 0} (ops : BufferOps B) (model : Model) (bound : Binding) (laws : Laws ops model bound) (code : Code) (lawful : IsLawful code) (log : Log)
-    (is : is_log log ≡ true) (fits : Fits code log) where
+module _ {B : Type 0} (setting : Setting B) (fits : Fits setting.code setting.log) where
+  open setting use {machine, ops, bound, code, lawful, log, log_is as is}
+
   abbrev Along : List Deed → Type 0
   Along h = IsAlongPaths ops.buffered bound code log h
 
-  abbrev run : (h : List Deed) → Along h → RunOf ops model bound laws code lawful log h
-  run h along = run_of ops model bound laws code lawful log h along
+  abbrev run : (h : List Deed) → Along h → RunOf machine log h
+  run h along = run_of machine log h along
 
   -- a thread that waits isn't let go on
   asleep_rests : (h : List Deed) (n : Name) (c k : ℕ) (r : Request) (took : ℤ) (other : Option Name) → Along h → c < code.conditions
@@ -131,7 +126,7 @@ module _ {B : Type 0} (ops : BufferOps B) (model : Model) (bound : Binding) (law
   asleep_rests h n c k r took other along within waits may =
       let a = run h along in
       let s = a.state in
-      let at = waiters_are_at_wake ops code s lawful (reached ops model bound laws code lawful log h a) n c
+      let at = waiters_are_at_wake ops code s lawful (reached machine log h a) n c
       (ap (λ ns. set.contains ns n) (a.told.tells.waiters.waiters c within) ∙ waits) in
       let asks : asks_next code h n ≡ Some (EndWait c at.mutex) =
       ap (option_and_then (λ (l : Local). option_map (request l) (instr_of code l)))
@@ -164,9 +159,9 @@ module _ {B : Type 0} (ops : BufferOps B) (model : Model) (bound : Binding) (law
             let none : filter_map (waits_by c n) t.older ≡ [] =
             first_nil (filter_map (waits_by c n) t.older) (filter_map (waits_by c n) (e ∷ t.newer))
             (sym (filter_map-append (waits_by c n) t.older (e ∷ t.newer)) ∙ ap (filter_map (waits_by c n)) (sym t.there) ∙ a.lasts) in
-            let along_g = first_along ops model bound laws code lawful log g (e ∷ t.newer) (subst Along there along) in
-            let before = first_along ops model bound laws code lawful log a.older (d ∷ a.newer) (subst Along a.there along) in
-            let within = next_within ops model bound code a.older n (BeginWait c s.mutex) laws lawful before.follow f.asks in
+            let along_g = first_along machine log g (e ∷ t.newer) (subst Along there along) in
+            let before = first_along machine log a.older (d ∷ a.newer) (subst Along a.there along) in
+            let within = next_within machine a.older n (BeginWait c s.mutex) before.follow f.asks in
             absurd (asleep_rests g n c t.number t.request t.took t.other along_g within.0
             ((waiters_are_last g c n).1 (last_wait g a.older t.older n s.step c s.mutex a.took a.other refl none))
             (along.follow g t.newer e there).1)
@@ -179,8 +174,8 @@ module _ {B : Type 0} (ops : BufferOps B) (model : Model) (bound : Binding) (law
       let b = begins_wait c n last.deed last.gives in
       let d = Did n b.number (BeginWait c b.mutex) b.took b.other in
       let at = last.there ∙ ap (λ x. last.older ++ x ∷ last.newer) b.is in
-      let before = first_along ops model bound laws code lawful log last.older (d ∷ last.newer) (subst Along at along) in
-      thread_named ops model bound laws code lawful log is fits last.older n before
+      let before = first_along machine log last.older (d ∷ last.newer) (subst Along at along) in
+      thread_named setting fits last.older n before
       ((run h along).told.threads last.older last.newer n b.number (BeginWait c b.mutex) b.took b.other at).there
 
   module _ (h : List Deed) (along : Along h) (j : ℕ) (w : Walk) (there : IsThread code log j w) where
@@ -199,7 +194,7 @@ module _ {B : Type 0} (ops : BufferOps B) (model : Model) (bound : Binding) (law
         let at = last.there ∙ ap (λ x. last.older ++ x ∷ last.newer) b.is in
         let done : IsDoneIn h n b.number (kind.Sleep c b.mutex) =
         record { older = last.older; newer = last.newer; request = BeginWait c b.mutex; took = b.took; other = b.other; there = at; asks = refl } in
-        let x = done_event ops model bound laws code lawful log is fits h along j w there b.number (kind.Sleep c b.mutex) done in
+        let x = done_event setting fits h along j w there b.number (kind.Sleep c b.mutex) done in
         let s = sleep_of_event w.events x.0 c b.mutex x.1 x.3 in
         let step : b.number ≡ s.0.step = sym (s.2.step ∙ x.2) in (
           s.0,
@@ -246,12 +241,12 @@ module _ {B : Type 0} (ops : BufferOps B) (model : Model) (bound : Binding) (law
           there = at.there ∙ ap (λ d. at.older ++ d ∷ at.newer) e.is;
           asks = refl;
         } in
-        let x = done_event ops model bound laws code lawful log is fits h along j w there e.number kind.Exit done in
+        let x = done_event setting fits h along j w there e.number kind.Exit done in
         (x.0, contains_in x.0 w.events x.1, x.3, subst (λ i. i < steps_in h w.name) (sym x.2) x.4)
 
     from_exit : HasExit → has_exited_in h w.name ≡ true
     from_exit x =
-        let d = event_done ops model bound laws code lawful log is fits h along j w there x.0 (in_contains x.0 w.events x.1) x.3 in
+        let d = event_done setting fits h along j w there x.0 (in_contains x.0 w.events x.1) x.3 in
         let finish : d.request ≡ Finish = exit_is d.request d.other (d.asks ∙ ap (λ a. Some a) x.2) in
         let deed = Did w.name x.0.step Finish d.took d.other in
         in_any (is_exit_of w.name) deed h

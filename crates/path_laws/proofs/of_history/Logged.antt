@@ -1,48 +1,42 @@
 -- Whole paths go as logged.
-use Rattle.std.proofs.Common.{◌≡◌, ◌∙◌, inl, inr, ℕ, zero, suc, ◌≤◌, true, List, [], ◌∷◌, ◌++◌, length}
-use Rattle.std.proofs.Common.{Option, Some, None, Ok, refl, sym, ap, ap₂, subst, arith, append-nil}
+use Rattle.std.proofs.Common.{◌≡◌, ◌∙◌, inl, inr, ℕ, zero, suc, ◌≤◌, true, List, [], ◌∷◌, length}
+use Rattle.std.proofs.Common.{Option, Some, None, refl, sym, ap, arith}
 use Rattle.std.specs.Prelude.{slice_get, option_map, is_some}
 use Rattle.std.specs.FinMap as fin
-use Rattle.std.proofs.lemmas.List.{length-append, take_all}
+use Rattle.std.proofs.lemmas.List.{length-append}
 use Rattle.std.proofs.lemmas.Option.{none-some, same_Some, slice_get_within, option_and_then_some}
-use Rattle.tc_base.specs.Buffers.{BufferOps}
-use Rattle.run_log.specs.Logs.{Log}
 use Rattle.tc_base.specs.Paths.{Path, path_under}
 use Rattle.tc_base.specs.Names.{Name, child}
 use Rattle.tc_base.specs.States.{Thread, State}
-use Rattle.memory_models.specs.declared.model.Model.{Model}
 use Rattle.tc_base.specs.declared.moves.Move.{Move}
 use Rattle.tc_base.proofs.Names.{parent_of}
-use Rattle.tc_code.specs.Code.{Code}
-use Rattle.tc_code.specs.Lawful.{IsLawful}
 use Rattle.tc_code.specs.Run.{Reproduces, path_of}
-use Rattle.store_buffers.specs.Laws.{Laws}
-use Rattle.store_buffers.specs.Pending.{Binding}
 use Rattle.run_laws.proofs.Basics.{some_value}
 use Rattle.run_laws.proofs.Created.{reached_is_created}
 use Rattle.run_laws.proofs.Main.{main_is_there}
 use Rattle.run_history.specs.History.{Deed, history}
 use Rattle.run_history.specs.Told.{is_thread_in, steps_in}
 use Rattle.run_follows.specs.Logged.{path_by, path_told, EndsAsIn, GoesAsLogged}
-use Rattle.run_log.specs.Logs.{is_log}
 use Rattle.path_walk.specs.Fits.{started, places_in, child_function, function_of, Fits}
 use Rattle.path_walk.specs.Paths.{Walk}
-use Rattle.path_walk.specs.Steps.{places_from, steps_at}
+use Rattle.path_walk.specs.Steps.{steps_at}
 use Rattle.path_walk.proofs.Faults.{option_is, function_of_child, no_child, fitting}
+use Rattle.path_laws.specs.Setting.{Setting}
 use Rattle.path_laws.specs.Prefixes.{fails_by}
 use Rattle.path_laws.proofs.Logs.{created_count, reproduced_fits}
-use Rattle.path_laws.proofs.Prefixes.{thread_path, IsSoFar, so_far}
-use Rattle.path_laws.proofs.States.{Stands, stands_places}
+use Rattle.path_laws.proofs.Prefixes.{thread_path}
 use Rattle.path_laws.specs.history.Along.{IsAlongPaths, IsThread, IsNameOfThread, AllHaveDone, AllAreThere}
 use Rattle.path_laws.proofs.of_history.Told.{RunOf, run_of, reached, steps_of, reproduced_run}
 use Rattle.path_laws.proofs.of_history.Walks.{IsWalking, walking, walk_is, named}
 use Rattle.path_laws.proofs.of_history.Whole.{stands_all, went_all}
 
-module _ {B : Type 0} (ops : BufferOps B) (model : Model) (bound : Binding) (laws : Laws ops model bound) (code : Code) (lawful : IsLawful code) (log : Log) where
+module _ {B : Type 0} (setting : Setting B) where
+  open setting use {machine, ops, model, bound, laws, code, lawful, log, log_is as is}
+
   -- What reproduces a log does all steps of its paths.
-  module _ (is : is_log log ≡ true) (moves : List Move) (again : Reproduces ops code log moves) where
-    abbrev all : RunOf ops model bound laws code lawful log (history ops code moves)
-    all = reproduced_run ops model bound laws code lawful log moves again
+  module _ (moves : List Move) (again : Reproduces ops code log moves) where
+    abbrev all : RunOf machine log (history ops code moves)
+    all = reproduced_run machine log moves again
 
     module _ (j : ℕ) (w : Walk) (there : IsThread code log j w) where
       thread_again : (t : Thread B) × (fin.get again.state.threads w.name ≡ Some t)
@@ -66,16 +60,16 @@ module _ {B : Type 0} (ops : BufferOps B) (model : Model) (bound : Binding) (law
           let path : path_of t.0 ≡ k.path = same_Some (path_of t.0) k.path (sym (thread_path ops code log moves again w.name t.0 t.1) ∙ k.under) in
           omega (
             arith,
-            steps_of ops model bound laws code lawful log (history ops code moves) all w.name t.0 t.1,
+            steps_of machine log (history ops code moves) all w.name t.0 t.1,
             k.long,
             ap (λ (p : Path). p.steps) path,
           )
 
   -- A history in which each thread has done all its steps.
-  module _ (is : is_log log ≡ true) (fits : Fits code log) (h : List Deed) (along : IsAlongPaths ops.buffered bound code log h)
+  module _ (fits : Fits code log) (h : List Deed) (along : IsAlongPaths ops.buffered bound code log h)
       (done : AllHaveDone code log h) where
-    abbrev r : RunOf ops model bound laws code lawful log h
-    r = run_of ops model bound laws code lawful log h along
+    abbrev r : RunOf machine log h
+    r = run_of machine log h along
 
     abbrev s : State B
     s = r.state
@@ -91,12 +85,12 @@ module _ {B : Type 0} (ops : BufferOps B) (model : Model) (bound : Binding) (law
       here_too : fin.get s.threads w.name ≡ Some t
       here_too = ap (fin.get s.threads) p.name ∙ here
 
-      abbrev k : IsWalking ops model bound laws code lawful log is fits w t s.failed
-      k = walking ops model bound laws code lawful log is fits h r p.place w t p.there here_too
+      abbrev k : IsWalking setting fits w t s.failed
+      k = walking setting fits h r p.place w t p.there here_too
 
       went_its_path : Some (path_by t.local) ≡ path_under n log.threads
       went_its_path =
-          ap (λ q. Some q) (went_all ops model bound laws code lawful log is fits h r p.place w p.there t here_too (done p.place w p.there))
+          ap (λ q. Some q) (went_all setting fits h r p.place w p.there t here_too (done p.place w p.there))
           ∙ sym k.walk.under ∙ ap (λ m. path_under m log.threads) p.name
 
       function_told : function_of code log n ≡ Some t.local.function
@@ -110,9 +104,9 @@ module _ {B : Type 0} (ops : BufferOps B) (model : Model) (bound : Binding) (law
           ap (λ ps. slice_get (started (steps_at code g ps)) j) (sym k.places ∙ ap (λ m. places_in code log m g) p.name) ∙ creates in
           let within = slice_get_within (started (steps_at code g w.places)) j f at in
           let count = created_count code (fails_by s.failed w.name) t.local w.places
-          (stands_all ops model bound laws code lawful log is fits h r p.place w p.there t here_too (done p.place w p.there)) in
+          (stands_all setting fits h r p.place w p.there t here_too (done p.place w p.there)) in
           some_value (fin.get s.threads (child n (suc j)))
-          ((reached_is_created ops code s (reached ops model bound laws code lawful log h r)).child_is_there n t (suc j) here
+          ((reached_is_created ops code s (reached machine log h r)).child_is_there n t (suc j) here
           (record { first = omega arith; last = omega (arith, count, within) }))
 
     by_number : (n q : Name) (t : Thread B) (k f : ℕ) → fin.get s.threads q ≡ Some t → child_function code log q t.local.function k ≡ Some f → n ≡ child q k
@@ -138,7 +132,7 @@ module _ {B : Type 0} (ops : BufferOps B) (model : Model) (bound : Binding) (law
 
     main_there : (n : Name) → n ≡ [] → (t : Thread B) × (fin.get s.threads n ≡ Some t)
     main_there n main =
-        let t = some_value (fin.get s.threads []) (main_is_there ops code s (reached ops model bound laws code lawful log h r)) in
+        let t = some_value (fin.get s.threads []) (main_is_there ops code s (reached machine log h r)) in
         (t.0, ap (fin.get s.threads) main ∙ t.1)
 
     -- so all threads of the log are there, by the length of their names

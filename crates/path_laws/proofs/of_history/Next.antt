@@ -7,29 +7,23 @@ use Rattle.std.specs.Bool.{beq}
 use Rattle.std.proofs.lemmas.Bool.{false_from_ne_true}
 use Rattle.std.proofs.lemmas.List.{append_cancel_left, length-drop, length-map, take-map}
 use Rattle.std.proofs.lemmas.Option.{none-some, same_Some, slice_get-map, slice_get_within}
-use Rattle.tc_base.specs.Buffers.{BufferOps}
-use Rattle.run_log.specs.Logs.{Log}
 use Rattle.tc_base.specs.Paths.{Path}
 use Rattle.tc_base.specs.States.{Local, Thread}
 use Rattle.tc_base.specs.declared.handle.Handle.TheVariants.{Unset}
-use Rattle.memory_models.specs.declared.model.Model.{Model}
 use Rattle.tc_code.specs.Code.{Code, instr_at}
-use Rattle.tc_code.specs.Lawful.{IsLawful}
 use Rattle.tc_code.specs.Step.{request, can_be_joined, instr_of}
 use Rattle.tc_code.specs.declared.instr.Instr.{Instr}
 use Rattle.tc_code.specs.declared.instr.Instr.TheVariants.{Holds, Lock, Ready, Exit}
-use Rattle.store_buffers.specs.Laws.{Laws}
-use Rattle.store_buffers.specs.Pending.{Binding}
 use Rattle.run_laws.proofs.Exits.{exited_past_exit}
 use Rattle.run_history.specs.History.{Deed}
 use Rattle.run_history.specs.Locals.{asks_next}
 use Rattle.run_history.specs.Told.{is_thread_in, steps_in, failed_in}
-use Rattle.run_log.specs.Logs.{is_log}
 use Rattle.path_walk.specs.Events.{excludes, is_impossible}
 use Rattle.path_walk.specs.Fits.{fails_in, places_in, Fits}
 use Rattle.path_walk.specs.Marks.{Marks, unmarked, marks_after, marked_steps}
 use Rattle.path_walk.specs.Paths.{Walk, paths_of}
 use Rattle.path_walk.specs.Steps.{Step, Onward, onward, places_from, end_from, step_at, steps_at}
+use Rattle.path_laws.specs.Setting.{Setting}
 use Rattle.path_laws.specs.Along.{HasMarks, IsAlong}
 use Rattle.path_laws.specs.Prefixes.{fails_by}
 use Rattle.path_laws.proofs.Blocked.{none_behind_exit}
@@ -79,16 +73,17 @@ module _ (code : Code) (w : Walk) (k : ℕ) where
       same_test (length (drop (suc k) (steps_at code w.function w.places))) 0 (k + 1) (length w.places)
       (λ none. omega (arith, rest, all, none, few)) (λ same. omega (arith, rest, all, same))
 
-module _ {B : Type 0} (ops : BufferOps B) (model : Model) (bound : Binding) (laws : Laws ops model bound) (code : Code) (lawful : IsLawful code) (log : Log)
-    (is : is_log log ≡ true) (fits : Fits code log) (h : List Deed) (j : ℕ) (w : Walk) (there : IsThread code log j w) (going : failed_in h ≡ None)
-    (r : RunOf ops model bound laws code lawful log h) where
+module _ {B : Type 0} (setting : Setting B) (fits : Fits setting.code setting.log) (h : List Deed) (j : ℕ) (w : Walk)
+    (there : IsThread setting.code setting.log j w) (going : failed_in h ≡ None) (r : RunOf setting.machine setting.log h) where
+  open setting use {machine, ops, code, lawful, log, log_is as is}
+
   none_failed : r.state.failed ≡ None
   none_failed = r.told.tells.failure ∙ going
 
   -- a thread that is there stands where the first places of its path lead
   module _ (t : Thread B) (here : fin.get r.state.threads w.name ≡ Some t) where
-    abbrev k : IsWalking ops model bound laws code lawful log is fits w t r.state.failed
-    k = walking ops model bound laws code lawful log is fits h r j w t there here
+    abbrev k : IsWalking setting fits w t r.state.failed
+    k = walking setting fits h r j w t there here
 
     pub stands : IsAlong code t.local (take t.local.steps w.places)
     stands =
@@ -100,7 +95,7 @@ module _ {B : Type 0} (ops : BufferOps B) (model : Model) (bound : Binding) (law
     goes_on gone i at =
         none-some i
         (sym (none_behind_exit code t.local lawful
-        ((exited_past_exit ops code r.state lawful (reached ops model bound laws code lawful log h r) w.name t here).0 gone)) ∙ at)
+        ((exited_past_exit ops code r.state lawful (reached machine log h r) w.name t here).0 gone)) ∙ at)
 
     -- its place is the next of the path
     next_there : t.local.steps < length w.places → IsNextPlace code w.function t.local.steps 0 t.local.outcomes k.so.on.later w.places
@@ -122,13 +117,13 @@ module _ {B : Type 0} (ops : BufferOps B) (model : Model) (bound : Binding) (law
     next_of : t.local.steps < length w.places → IsNextOnPath code h w
     next_of left =
         let n = next_there left in
-        let steps = steps_of ops model bound laws code lawful log h r w.name t here in
+        let steps = steps_of machine log h r w.name t here in
         let at : instr_at code w.function t.local.instruction ≡ Some n.instr = ap (instr_at code w.function) (sym end_there) ∙ n.at in
         let placed : instr_at code t.local.function t.local.instruction ≡ Some n.instr = ap (λ g. instr_at code g t.local.instruction) k.function ∙ at in
         let stays : t.local.has_exited ≡ false = false_from_ne_true t.local.has_exited (λ gone. goes_on gone n.instr placed) in
         record {
           local = t.local;
-          there = local_is ops model bound laws code lawful log h r w.name t here;
+          there = local_is machine log h r w.name t here;
           steps = steps;
           function = k.function;
           place = ap (slice_get w.places) (sym steps) ∙ n.place ∙ ap (λ e. Some e) end_there;
@@ -141,8 +136,8 @@ module _ {B : Type 0} (ops : BufferOps B) (model : Model) (bound : Binding) (law
 
   pub next_on_path : is_thread_in h w.name ≡ true → steps_in h w.name < length w.places → IsNextOnPath code h w
   next_on_path is_there left =
-      let t = thread_of ops model bound laws code lawful log h r w.name is_there in
-      let steps = steps_of ops model bound laws code lawful log h r w.name t.0 t.1 in
+      let t = thread_of machine log h r w.name is_there in
+      let steps = steps_of machine log h r w.name t.0 t.1 in
       next_of t.0 t.1 (omega (arith, steps, left))
 
   -- the thread of a next step
@@ -163,7 +158,7 @@ module _ {B : Type 0} (ops : BufferOps B) (model : Model) (bound : Binding) (law
   next_leads x =
       let t = thread_next x in
       let y = t.0 in
-      let steps = steps_of ops model bound laws code lawful log h r w.name y t.1 in
+      let steps = steps_of machine log h r w.name y t.1 in
       let n = next_there y t.1 (omega (arith, steps, steps_left x)) in
       let end : end_from code w.function y.local.steps 0 y.local.outcomes ≡ x.local.instruction = end_there y t.1 ∙ ap (λ (l : Local). l.instruction) t.2 in
       let instr : n.instr ≡ x.instr = same_Some n.instr x.instr (sym n.at ∙ ap (instr_at code w.function) end ∙ x.at) in

@@ -10,31 +10,26 @@ use Rattle.std.proofs.lemmas.List.{map-append}
 use Rattle.std.proofs.lemmas.List.Elements.{filter_map-append}
 use Rattle.std.proofs.lemmas.List.Sums.{fold-append}
 use Rattle.std.proofs.lemmas.Option.{none-some, same_Some}
-use Rattle.tc_base.specs.Buffers.{BufferOps}
 use Rattle.run_log.specs.Logs.{Log}
 use Rattle.tc_base.specs.Paths.{Path, path_under}
 use Rattle.tc_base.specs.Names.{Name, ByName, child, by_name}
 use Rattle.tc_base.specs.States.{Local}
-use Rattle.memory_models.specs.declared.model.Model.{Model}
 use Rattle.tc_base.specs.declared.request.Request.{Request}
 use Rattle.tc_base.specs.declared.request.Request.TheVariants.{Silent, Start, Fail}
 use Rattle.tc_base.proofs.Names.{same_refl}
 use Rattle.tc_code.specs.Code.{Code}
-use Rattle.tc_code.specs.Lawful.{IsLawful}
 use Rattle.tc_code.specs.Step.{request, instr_of, arguments_of, local_after, branched, is_nonzero, value_in}
 use Rattle.tc_code.specs.declared.instr.Instr.{Instr}
 use Rattle.tc_code.specs.declared.instr.Instr.TheVariants.{Branch, Exit}
-use Rattle.store_buffers.specs.Laws.{Laws}
-use Rattle.store_buffers.specs.Pending.{Binding}
 use Rattle.run_laws.proofs.Names.{get_put_cases}
 use Rattle.run_history.specs.History.{Deed, Did, Drained}
 use Rattle.run_history.specs.Locals.{born_local, after_step, with_child, after_deed, locals_in}
 use Rattle.run_history.specs.Told.{steps_in, fails, failed_in}
 use Rattle.run_history.proofs.Lists.{last_of-push}
 use Rattle.run_history.proofs.Threads.{steps_by}
+use Rattle.run_follows.specs.Machine.{Machine}
 use Rattle.run_follows.specs.Follow.{MayFollow}
 use Rattle.run_follows.proofs.Follows.{nothing_follows, follow_push}
-use Rattle.run_log.specs.Logs.{is_log}
 use Rattle.list_laws.proofs.Lists.{split_at, get_seam}
 use Rattle.path_walk.specs.Fits.{starts, started, ending_of, fails_in, child_function, function_of, Fits}
 use Rattle.path_walk.specs.Paths.{Walk}
@@ -43,6 +38,7 @@ use Rattle.path_walk.specs.declared.ending.Ending.{Ending}
 use Rattle.path_walk.specs.declared.ending.Ending.TheVariants.{Fails, Rests, Open}
 use Rattle.path_walk.specs.declared.fault.Misfit.TheVariants as misfit
 use Rattle.path_walk.proofs.Faults.{option_is, function_of_child, missing, by_path}
+use Rattle.path_laws.specs.Setting.{Setting}
 use Rattle.path_laws.specs.Prefixes.{fails_by, IsOnPath}
 use Rattle.path_laws.proofs.Does.{bytes_other}
 use Rattle.path_laws.proofs.States.{create_is}
@@ -178,7 +174,9 @@ no_other_fails : (b : Bool) (n q : Name) → q ≢ n → fails_by (if b then Som
 no_other_fails true n q apart = bytes_other q n apart
 no_other_fails false n q apart = refl
 
-module _ {B : Type 0} (ops : BufferOps B) (model : Model) (bound : Binding) (laws : Laws ops model bound) (code : Code) (lawful : IsLawful code) (log : Log) where
+module _ {B : Type 0} (machine : Machine B) (log : Log) where
+  open machine use {ops, bound, code}
+
   pub start_along : Fits code log → IsAlongPaths ops.buffered bound code log []
   start_along fits = record { follow = nothing_follows ops.buffered bound code; on = start_on code log fits }
 
@@ -193,101 +191,104 @@ module _ {B : Type 0} (ops : BufferOps B) (model : Model) (bound : Binding) (law
             (along.on q l (ap (λ ls. fin.get ls q) (sym (fold-append (after_deed code) _ h (d ∷ []))) ∙ at));
       }
 
-  module _ (is : is_log log ≡ true) (fits : Fits code log) (h : List Deed) (along : IsAlongPaths ops.buffered bound code log h) (j : ℕ) (w : Walk)
-      (there : IsThread code log j w) (going : failed_in h ≡ None) (x : IsNextOnPath code h w) where
-    abbrev run : RunOf ops model bound laws code lawful log h
-    run = run_of ops model bound laws code lawful log h along
+module _ {B : Type 0} (setting : Setting B) (fits : Fits setting.code setting.log) (h : List Deed)
+    (along : IsAlongPaths setting.ops.buffered setting.bound setting.code setting.log h) (j : ℕ) (w : Walk) (there : IsThread setting.code setting.log j w)
+    (going : failed_in h ≡ None) (x : IsNextOnPath setting.code h w) where
+  open setting use {machine, ops, bound, code, lawful, log, log_is as is}
 
-    abbrev t : Local
-    t = x.local
+  abbrev run : RunOf machine log h
+  run = run_of machine log h along
 
-    abbrev walk : IsWalk code log w
-    walk = walk_is code log is fits j w there
+  abbrev t : Local
+  t = x.local
 
-    -- the child that it creates is created on the path
-    created_next : (f : ℕ) → request t x.instr ≡ Start f → function_of code log (child w.name (t.children + 1)) ≡ Some f
-    created_next f asks =
-        let g = w.function in
-        let n = t.steps in
-        let front = started (steps_at code g (take n w.places)) in
-        let rest = drop (suc n) w.places in
-        let place : slice_get w.places n ≡ Some t.instruction = ap (slice_get w.places) x.steps ∙ x.place in
-        let count : length front ≡ t.children =
-        ap (λ a. length (started (steps_at code a (take n w.places)))) (sym x.function)
-        ∙ (along_next ops model bound laws code lawful log is fits h j w there going run x).children in
-        let starts_it : starts (step_at code g t.instruction).instr ≡ Some f =
-        ap (λ o. starts (unwrap_or o Exit)) x.at ∙ create_is ops code lawful t x.instr f asks in
-        let all : started (steps_at code g w.places) ≡ front ++ f ∷ started (steps_at code g rest) =
-        ap (λ ps. started (steps_at code g ps)) (split_at w.places n t.instruction place)
-        ∙ ap started (map-append (step_at code g) (take n w.places) (t.instruction ∷ rest))
-        ∙ filter_map-append (λ (s : Step). starts s.instr) (steps_at code g (take n w.places)) (step_at code g t.instruction ∷ steps_at code g rest)
-        ∙ ap (λ o. front ++ cons_option o (started (steps_at code g rest))) starts_it in
-        let number : t.children + 1 ≡ suc (length front) = omega (arith, count) in
-        ap (λ k. function_of code log (child w.name k)) number
-        ∙ function_of_child code log w.name (suc (length front))
-        ∙ ap (option_and_then (λ a. child_function code log w.name a (suc (length front)))) walk.function
-        ∙ ap (λ ps. slice_get (started (steps_at code g ps)) (length front)) walk.told
-        ∙ ap (λ fs. slice_get fs (length front)) all
-        ∙ get_seam front f (started (steps_at code g rest))
+  abbrev walk : IsWalk code log w
+  walk = walk_is code log is fits j w there
 
-    module _ (k : ℕ) (r : Request) (took : ℤ) (other : Option Name) (may : MayFollow ops.buffered bound code h (Did w.name k r took other))
-        (branch : BranchesAlong w x.local x.instr) (fails_so : fails (Did w.name k r took other) ≡ failing_next log h w) where
-      abbrev d : Deed
-      d = Did w.name k r took other
+  -- the child that it creates is created on the path
+  created_next : (f : ℕ) → request t x.instr ≡ Start f → function_of code log (child w.name (t.children + 1)) ≡ Some f
+  created_next f asks =
+      let g = w.function in
+      let n = t.steps in
+      let front = started (steps_at code g (take n w.places)) in
+      let rest = drop (suc n) w.places in
+      let place : slice_get w.places n ≡ Some t.instruction = ap (slice_get w.places) x.steps ∙ x.place in
+      let count : length front ≡ t.children =
+      ap (λ a. length (started (steps_at code a (take n w.places)))) (sym x.function)
+      ∙ (along_next setting fits h j w there going run x).children in
+      let starts_it : starts (step_at code g t.instruction).instr ≡ Some f =
+      ap (λ o. starts (unwrap_or o Exit)) x.at ∙ create_is ops code lawful t x.instr f asks in
+      let all : started (steps_at code g w.places) ≡ front ++ f ∷ started (steps_at code g rest) =
+      ap (λ ps. started (steps_at code g ps)) (split_at w.places n t.instruction place)
+      ∙ ap started (map-append (step_at code g) (take n w.places) (t.instruction ∷ rest))
+      ∙ filter_map-append (λ (s : Step). starts s.instr) (steps_at code g (take n w.places)) (step_at code g t.instruction ∷ steps_at code g rest)
+      ∙ ap (λ o. front ++ cons_option o (started (steps_at code g rest))) starts_it in
+      let number : t.children + 1 ≡ suc (length front) = omega (arith, count) in
+      ap (λ k. function_of code log (child w.name k)) number
+      ∙ function_of_child code log w.name (suc (length front))
+      ∙ ap (option_and_then (λ a. child_function code log w.name a (suc (length front)))) walk.function
+      ∙ ap (λ ps. slice_get (started (steps_at code g ps)) (length front)) walk.told
+      ∙ ap (λ fs. slice_get fs (length front)) all
+      ∙ get_seam front f (started (steps_at code g rest))
 
-      abbrev u : Local
-      u = after_step t x.instr r took
+  module _ (k : ℕ) (r : Request) (took : ℤ) (other : Option Name) (may : MayFollow ops.buffered bound code h (Did w.name k r took other))
+      (branch : BranchesAlong w x.local x.instr) (fails_so : fails (Did w.name k r took other) ≡ failing_next log h w) where
+    abbrev d : Deed
+    d = Did w.name k r took other
 
-      asks : request t x.instr ≡ r
-      asks = same_Some (request t x.instr) r (sym (asks_told code h w x) ∙ may.asks)
+    abbrev u : Local
+    u = after_step t x.instr r took
 
-      failed : failed_in (h ++ d ∷ []) ≡ failing_next log h w
-      failed = failed-push h d going ∙ fails_so
+    asks : request t x.instr ≡ r
+    asks = same_Some (request t x.instr) r (sym (asks_told code h w x) ∙ may.asks)
 
-      own_on : IsOnPath log (failing_next log h w) w.name u
-      own_on =
-          let left = steps_left ops model bound laws code lawful log is fits h j w there going run x in
-          let one : u.steps ≡ t.steps + 1 = steps_by t x.instr r took in
-          let goes = outcomes_left w t x.instr r took x.later x.outcomes branch in
-          let next : steps_in h w.name + 1 ≡ u.steps = omega (arith, one, x.steps) in
-          record {
-            path = walk.path;
-            there = walk.under;
-            steps = omega (arith, next, left, walk.long);
-            later = goes.0;
-            outcomes = sym walk.outcomes ∙ goes.1;
-            fails = fails_itself (fails_next log h w) w.name ∙ ap₂ (λ a b. fails_in log w.name && a == b) next walk.long;
-          }
+    failed : failed_in (h ++ d ∷ []) ≡ failing_next log h w
+    failed = failed-push h d going ∙ fails_so
 
-      starts_unfailed : (f : ℕ) → r ≡ Start f → failing_next log h w ≡ None
-      starts_unfailed f is = sym fails_so ∙ ap (λ a. fails (Did w.name k a took other)) is
+    own_on : IsOnPath log (failing_next log h w) w.name u
+    own_on =
+        let left = steps_left setting fits h j w there going run x in
+        let one : u.steps ≡ t.steps + 1 = steps_by t x.instr r took in
+        let goes = outcomes_left w t x.instr r took x.later x.outcomes branch in
+        let next : steps_in h w.name + 1 ≡ u.steps = omega (arith, one, x.steps) in
+        record {
+          path = walk.path;
+          there = walk.under;
+          steps = omega (arith, next, left, walk.long);
+          later = goes.0;
+          outcomes = sym walk.outcomes ∙ goes.1;
+          fails = fails_itself (fails_next log h w) w.name ∙ ap₂ (λ a b. fails_in log w.name && a == b) next walk.long;
+        }
 
-      -- each thread is on its path then
-      on_by : (q : Name) (l : Local) → Which code (locals_in code h) w.name t u x.instr r q l → IsOnPath log (failing_next log h w) q l
-      on_by q l (Own name same) = subst (λ m. IsOnPath log (failing_next log h w) m l) (sym name) (subst (IsOnPath log (failing_next log h w) w.name) (sym same) own_on)
-      on_by q l (Born f is name same) =
-          subst (λ o. IsOnPath log o q l) (sym (starts_unfailed f is))
-          (subst (λ m. IsOnPath log None m l) (sym name)
-          (subst (IsOnPath log None (child w.name (t.children + 1))) (sym same)
-          (born_on code log fits (child w.name (t.children + 1)) f (arguments_of t x.instr) (created_next f (asks ∙ is)))))
-      on_by q l (Other apart old) =
-          let on = along.on q l old in
-          record {
-            path = on.path;
-            there = on.there;
-            steps = on.steps;
-            later = on.later;
-            outcomes = on.outcomes;
-            fails = no_other_fails (fails_next log h w) w.name q apart ∙ sym (ap (λ o. fails_by o q) going) ∙ on.fails;
-          }
+    starts_unfailed : (f : ℕ) → r ≡ Start f → failing_next log h w ≡ None
+    starts_unfailed f is = sym fails_so ∙ ap (λ a. fails (Did w.name k a took other)) is
 
-      pub step_stays : IsAlongPaths ops.buffered bound code log (h ++ d ∷ [])
-      step_stays = record {
-        follow = follow_push ops.buffered bound code h d along.follow going may;
-        on = λ q l at.
-            let ls = locals_in code h in
-            let all : locals_in code (h ++ d ∷ []) ≡ with_child code w.name t x.instr r (fin.insert ls w.name u) =
-            fold-append (after_deed code) _ h (d ∷ []) ∙ after_its_step code ls w.name t x.instr k r took other x.there x.next in
-            subst (λ o. IsOnPath log o q l) (sym failed)
-            (on_by q l (which code ls w.name t u x.instr r q l (ap (λ ms. fin.get ms q) (sym all) ∙ at)));
-      }
+    -- each thread is on its path then
+    on_by : (q : Name) (l : Local) → Which code (locals_in code h) w.name t u x.instr r q l → IsOnPath log (failing_next log h w) q l
+    on_by q l (Own name same) = subst (λ m. IsOnPath log (failing_next log h w) m l) (sym name) (subst (IsOnPath log (failing_next log h w) w.name) (sym same) own_on)
+    on_by q l (Born f is name same) =
+        subst (λ o. IsOnPath log o q l) (sym (starts_unfailed f is))
+        (subst (λ m. IsOnPath log None m l) (sym name)
+        (subst (IsOnPath log None (child w.name (t.children + 1))) (sym same)
+        (born_on code log fits (child w.name (t.children + 1)) f (arguments_of t x.instr) (created_next f (asks ∙ is)))))
+    on_by q l (Other apart old) =
+        let on = along.on q l old in
+        record {
+          path = on.path;
+          there = on.there;
+          steps = on.steps;
+          later = on.later;
+          outcomes = on.outcomes;
+          fails = no_other_fails (fails_next log h w) w.name q apart ∙ sym (ap (λ o. fails_by o q) going) ∙ on.fails;
+        }
+
+    pub step_stays : IsAlongPaths ops.buffered bound code log (h ++ d ∷ [])
+    step_stays = record {
+      follow = follow_push ops.buffered bound code h d along.follow going may;
+      on = λ q l at.
+          let ls = locals_in code h in
+          let all : locals_in code (h ++ d ∷ []) ≡ with_child code w.name t x.instr r (fin.insert ls w.name u) =
+          fold-append (after_deed code) _ h (d ∷ []) ∙ after_its_step code ls w.name t x.instr k r took other x.there x.next in
+          subst (λ o. IsOnPath log o q l) (sym failed)
+          (on_by q l (which code ls w.name t u x.instr r q l (ap (λ ms. fin.get ms q) (sym all) ∙ at)));
+    }

@@ -4,24 +4,19 @@ use Rattle.std.specs.Prelude.{option_map, option_and_then}
 use Rattle.std.specs.FinMap as fin
 use Rattle.std.proofs.lemmas.List.{map-append}
 use Rattle.std.proofs.lemmas.Option.{none-some, same_Some}
-use Rattle.tc_base.specs.Buffers.{BufferOps}
 use Rattle.run_log.specs.Logs.{Log}
 use Rattle.tc_base.specs.Names.{Name}
 use Rattle.tc_base.specs.States.{Local, Thread, State}
-use Rattle.memory_models.specs.declared.model.Model.{Model}
 use Rattle.tc_base.specs.declared.moves.Move.{Move}
-use Rattle.tc_code.specs.Code.{Code}
-use Rattle.tc_code.specs.Lawful.{IsLawful}
 use Rattle.tc_code.specs.Run.{run, run_from, IsReached, Reproduces}
 use Rattle.tc_code.specs.Step.{opening}
 use Rattle.tc_code.proofs.Facts.{run_from-append}
-use Rattle.store_buffers.specs.Laws.{Laws}
-use Rattle.store_buffers.specs.Pending.{Binding}
 use Rattle.run_laws.proofs.Basics.{some_value}
 use Rattle.run_history.specs.History.{Deed, history}
 use Rattle.run_history.specs.Locals.{locals_in}
 use Rattle.run_history.specs.Told.{is_thread_in, steps_in, failed_in}
 use Rattle.run_history.proofs.Threads.{number_is}
+use Rattle.run_follows.specs.Machine.{Machine}
 use Rattle.run_follows.specs.Follow.{move_for, moves_for}
 use Rattle.run_follows.proofs.Enabled.{Tells}
 use Rattle.run_follows.proofs.Follows.{AllTold, all_told}
@@ -31,7 +26,9 @@ use Rattle.path_laws.proofs.Prefixes.{on_before_moves, beginnings_on}
 use Rattle.run_follows.proofs.of_deeds.Follow.{first_follow}
 use Rattle.path_laws.specs.history.Along.{AreOnPathsIn, IsAlongPaths}
 
-module _ {B : Type 0} (ops : BufferOps B) (model : Model) (bound : Binding) (laws : Laws ops model bound) (code : Code) (lawful : IsLawful code) (log : Log) where
+module _ {B : Type 0} (machine : Machine B) (log : Log) where
+  open machine use {ops, model, bound, laws, code}
+
   abbrev local_of : Option (Thread B) → Option Local
   local_of o = option_map (λ (t : Thread B). t.local) o
 
@@ -52,7 +49,7 @@ module _ {B : Type 0} (ops : BufferOps B) (model : Model) (bound : Binding) (law
   pub run_is_along : (moves : List Move) (s : State B) → run ops code moves ≡ Some s → AreOnPaths log s
       → IsAlongPaths ops.buffered bound code log (history ops code moves)
   run_is_along moves s leads on =
-      let a = all_told ops model bound laws code lawful moves s leads in
+      let a = all_told machine moves s leads in
       record { follow = a.follow; on = on_told s (history ops code moves) a.tells on }
 
   -- the run of a history
@@ -61,20 +58,20 @@ module _ {B : Type 0} (ops : BufferOps B) (model : Model) (bound : Binding) (law
     pub state : State B
     pub leads : run ops code moves ≡ Some state
     pub is : history ops code moves ≡ h
-    pub told : AllTold ops model bound laws code lawful state h
+    pub told : AllTold machine state h
     pub on : AreOnPaths log state
 
   pub run_of : (h : List Deed) → IsAlongPaths ops.buffered bound code log h → RunOf h
   run_of h along =
-      let p = follows_is_run ops model bound laws code lawful h along.follow in
-      let a = subst (AllTold ops model bound laws code lawful p.0) p.2 (all_told ops model bound laws code lawful (moves_for bound h) p.0 p.1) in
+      let p = follows_is_run machine h along.follow in
+      let a = subst (AllTold machine p.0) p.2 (all_told machine (moves_for bound h) p.0 p.1) in
       record { moves = moves_for bound h; state = p.0; leads = p.1; is = p.2; told = a; on = on_there p.0 h a.tells along.on }
 
   pub along_is_run : (h : List Deed) → IsAlongPaths ops.buffered bound code log h
       → (s : State B) × (run ops code (moves_for bound h) ≡ Some s) × (history ops code (moves_for bound h) ≡ h) × AreOnPaths log s
   along_is_run h along =
-      let p = follows_is_run ops model bound laws code lawful h along.follow in
-      let a = subst (AllTold ops model bound laws code lawful p.0) p.2 (all_told ops model bound laws code lawful (moves_for bound h) p.0 p.1) in
+      let p = follows_is_run machine h along.follow in
+      let a = subst (AllTold machine p.0) p.2 (all_told machine (moves_for bound h) p.0 p.1) in
       (p.0, p.1, p.2, on_there p.0 h a.tells along.on)
 
   module _ (h : List Deed) (r : RunOf h) where
@@ -98,13 +95,13 @@ module _ {B : Type 0} (ops : BufferOps B) (model : Model) (bound : Binding) (law
       let ks = moves_for bound later in
       let all = along_is_run (first ++ later) along in
       let follow = first_follow ops.buffered bound code first later along.follow in
-      let front = follows_is_run ops model bound laws code lawful first follow in
+      let front = follows_is_run machine first follow in
       let rest : run_from ops code front.0 ks ≡ Some all.0 =
       sym (ap (option_and_then (λ u. run_from ops code u ks)) front.1)
       ∙ sym (run_from-append ops code (opening ops code) ms ks)
       ∙ ap (run ops code) (sym (map-append (move_for bound) first later))
       ∙ all.1 in
-      let a = subst (AllTold ops model bound laws code lawful front.0) front.2 (all_told ops model bound laws code lawful ms front.0 front.1) in
+      let a = subst (AllTold machine front.0) front.2 (all_told machine ms front.0 front.1) in
       record {
         follow = follow;
         on = on_told front.0 first a.tells
@@ -118,7 +115,7 @@ module _ {B : Type 0} (ops : BufferOps B) (model : Model) (bound : Binding) (law
     state = r.state;
     leads = r.leads;
     is = refl;
-    told = all_told ops model bound laws code lawful moves r.state r.leads;
+    told = all_told machine moves r.state r.leads;
     on = beginnings_on ops code log moves [] r.state (subst (Reproduces ops code log) (sym (append-nil moves)) r) r.leads;
   }
 

@@ -8,16 +8,11 @@ use Rattle.std.specs.Result.{result_unwrap_or}
 use Rattle.std.proofs.lemmas.Bool.{false_from_ne_true}
 use Rattle.std.proofs.lemmas.List.Folds.{list_any_at}
 use Rattle.std.proofs.lemmas.Option.{none-some, same_Some, slice_get-map, slice_get_within, get_or_from_slice_get}
-use Rattle.tc_base.specs.Buffers.{BufferOps}
 use Rattle.run_log.specs.Logs.{Log}
 use Rattle.tc_base.specs.Paths.{Path, ThreadPath, path_under}
 use Rattle.tc_base.specs.Names.{Name}
 use Rattle.tc_base.specs.States.{Thread}
-use Rattle.memory_models.specs.declared.model.Model.{Model}
 use Rattle.tc_code.specs.Code.{Code}
-use Rattle.tc_code.specs.Lawful.{IsLawful}
-use Rattle.store_buffers.specs.Laws.{Laws}
-use Rattle.store_buffers.specs.Pending.{Binding}
 use Rattle.run_history.specs.History.{Deed}
 use Rattle.run_history.specs.Told.{is_thread_in, steps_in}
 use Rattle.run_history.proofs.Threads.{none_done}
@@ -29,6 +24,7 @@ use Rattle.path_walk.specs.Paths.{Walk, blocked_after, is_dead, walk_of, paths_o
 use Rattle.path_walk.specs.Steps.{places_from, places_of, steps_at, standing}
 use Rattle.path_walk.proofs.Faults.{walked_there, by_path, fitting}
 use Rattle.path_walk.proofs.Places.{count, fits_from}
+use Rattle.path_laws.specs.Setting.{Setting}
 use Rattle.path_laws.proofs.Logs.{place_of}
 use Rattle.path_laws.proofs.Prefixes.{own_under, is_ok, IsSoFar, so_far}
 use Rattle.path_laws.specs.history.Along.{IsAlongPaths, IsThread, IsNameOfThread}
@@ -122,10 +118,11 @@ module _ (code : Code) (log : Log) (is : is_log log ≡ true) (fits : Fits code 
         name = p.name;
       }
 
-module _ {B : Type 0} (ops : BufferOps B) (model : Model) (bound : Binding) (laws : Laws ops model bound) (code : Code) (lawful : IsLawful code) (log : Log)
-    (is : is_log log ≡ true) (fits : Fits code log) where
+module _ {B : Type 0} (setting : Setting B) (fits : Fits setting.code setting.log) where
+  open setting use {machine, ops, bound, code, lawful, log, log_is as is}
+
   abbrev Run : List Deed → Type 0
-  Run h = RunOf ops model bound laws code lawful log h
+  Run h = RunOf machine log h
 
   -- a thread of a run on the paths, and its walk
   pub record IsWalking (w : Walk) (t : Thread B) (failed : Option Name) : Type 0 where
@@ -139,7 +136,7 @@ module _ {B : Type 0} (ops : BufferOps B) (model : Model) (bound : Binding) (law
       → IsWalking w t r.state.failed
   walking h r j w t there here =
       let k = walk_is code log is fits j w there in
-      let so = so_far ops code lawful log fits r.state (reached ops model bound laws code lawful log h r) r.on w.name t here in
+      let so = so_far ops code lawful log fits r.state (reached machine log h r) r.on w.name t here in
       let function = same_Some t.local.function w.function (sym so.function ∙ k.function) in
       record {
         walk = k;
@@ -151,8 +148,8 @@ module _ {B : Type 0} (ops : BufferOps B) (model : Model) (bound : Binding) (law
 
   pub thread_named : (h : List Deed) (n : Name) → IsAlongPaths ops.buffered bound code log h → is_thread_in h n ≡ true → IsNameOfThread code log n
   thread_named h n along there =
-      let r = run_of ops model bound laws code lawful log h along in
-      let t = thread_of ops model bound laws code lawful log h r n there in
+      let r = run_of machine log h along in
+      let t = thread_of machine log h r n there in
       let on = r.on n t.0 t.1 in
       named code log is fits n on.path on.there
 
@@ -161,11 +158,11 @@ module _ {B : Type 0} (ops : BufferOps B) (model : Model) (bound : Binding) (law
   few_steps h j w along there = by (fin.get r.state.threads w.name) refl
     where
       r : Run h
-      r = run_of ops model bound laws code lawful log h along
+      r = run_of machine log h along
 
       by : (o : Option (Thread B)) → fin.get r.state.threads w.name ≡ o → steps_in h w.name ≤ length w.places
       by None none = omega (arith, none_done ops code r.state h w.name r.told.tells.deeds.buffers.threads none)
       by (Some t) here =
           let k = walking h r j w t there here in
-          let done = steps_of ops model bound laws code lawful log h r w.name t here in
+          let done = steps_of machine log h r w.name t here in
           omega (arith, done, k.walk.long, k.so.on.steps, ap (λ (p : Path). p.steps) k.path)

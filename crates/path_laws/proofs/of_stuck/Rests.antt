@@ -1,44 +1,39 @@
 -- What a thread asks that has done all steps of its path in the log of a deadlock.
-use Rattle.std.proofs.Common.{◌≡◌, ◌↔◌, ◌∙◌, inl, inr, ℕ, Bool, true, false, ◌==◌, ◌&&◌, cond, List, length}
+use Rattle.std.proofs.Common.{◌≡◌, ◌↔◌, ◌∙◌, inl, inr, ℕ, Bool, true, false, ◌==◌, ◌&&◌, cond, List}
 use Rattle.std.proofs.Common.{IsSome, Option, Some, None, Result, Ok, Err, refl, sym, ap, ap₂, subst, slice_index_or, true≢false}
 use Rattle.std.specs.Prelude.{slice_get, option_map, option_and_then, if◌then◌else◌}
 use Rattle.std.specs.Option.{option_map_or}
 use Rattle.std.specs.FinMap as fin
 use Rattle.std.proofs.lemmas.Bool.{cases_Bool}
 use Rattle.std.proofs.lemmas.Option.{none-some, same_Some}
-use Rattle.tc_base.specs.Buffers.{BufferOps}
 use Rattle.run_log.specs.Logs.{Log}
 use Rattle.tc_base.specs.Paths.{Path, ThreadPath, place_in}
 use Rattle.tc_base.specs.Names.{Name}
 use Rattle.tc_base.specs.States.{Local, Thread}
 use Rattle.tc_base.specs.declared.failing.Failing.TheVariants.{Deadlock}
 use Rattle.tc_base.specs.declared.handle.Handle.TheVariants.{Unset}
-use Rattle.memory_models.specs.declared.model.Model.{Model}
 use Rattle.tc_base.specs.declared.request.Request.TheVariants.{Await}
 use Rattle.tc_code.specs.Code.{Code, instr_at}
-use Rattle.tc_code.specs.Lawful.{IsLawful}
 use Rattle.tc_code.specs.Step.{request, child_number, instr_of}
 use Rattle.tc_code.specs.declared.instr.Instr.{Instr}
 use Rattle.tc_code.specs.declared.instr.Instr.TheVariants.{Lock, Wake, Join}
 use Rattle.tc_code.proofs.Facts.{at_its_place}
-use Rattle.store_buffers.specs.Laws.{Laws}
-use Rattle.store_buffers.specs.Pending.{Binding}
 use Rattle.run_laws.proofs.Basics.{unless, some_is, some_value}
 use Rattle.run_laws.proofs.Exits.{exited_past_exit, has_next}
 use Rattle.run_history.specs.History.{Deed}
 use Rattle.run_history.specs.Locals.{asks_next}
 use Rattle.run_history.specs.Told.{has_exited_in}
 use Rattle.run_follows.specs.Logged.{path_by}
-use Rattle.run_log.specs.Logs.{is_log}
 use Rattle.path_walk.specs.Events.{blocked_at}
 use Rattle.path_walk.specs.Fits.{ending_by, ending_of, Fits}
 use Rattle.path_walk.specs.Marks.{Marks, unmarked, marks_after}
 use Rattle.path_walk.specs.Paths.{Walk, blocked_after}
-use Rattle.path_walk.specs.Steps.{is_failing, can_block, ended, end_from, standing, steps_at}
+use Rattle.path_walk.specs.Steps.{is_failing, can_block, ended, standing, steps_at}
 use Rattle.path_walk.specs.declared.ending.Ending.TheVariants.{Rests}
 use Rattle.path_walk.specs.declared.event.Sleep.{Sleep as Wait}
 use Rattle.path_walk.specs.declared.fault.Misfit.{Misfit}
 use Rattle.path_walk.specs.declared.fault.Misfit.TheVariants.{NotBlocked}
+use Rattle.path_laws.specs.Setting.{Setting}
 use Rattle.path_laws.specs.Along.{HasMarks, IsAlong}
 use Rattle.path_laws.specs.Prefixes.{fails_by}
 use Rattle.path_laws.proofs.Blocked.{none_behind_exit}
@@ -78,12 +73,13 @@ can_be_blocked code f p ps i told at = by (can_block i) (ap (λ o. cond (option_
     by true e = refl
     by false e = absurd cc
 
-module _ {B : Type 0} (ops : BufferOps B) (model : Model) (bound : Binding) (laws : Laws ops model bound) (code : Code) (lawful : IsLawful code) (log : Log)
-    (is : is_log log ≡ true) (fits : Fits code log) (h : List Deed) (r : RunOf ops model bound laws code lawful log h) (j : ℕ) (w : Walk)
-    (there : IsThread code log j w) (done : HasDoneAll h w) (dead : log.failing ≡ Deadlock) (t : Thread B)
+module _ {B : Type 0} (setting : Setting B) (fits : Fits setting.code setting.log) (h : List Deed) (r : RunOf setting.machine setting.log h) (j : ℕ)
+    (w : Walk) (there : IsThread setting.code setting.log j w) (done : HasDoneAll h w) (dead : setting.log.failing ≡ Deadlock) (t : Thread B)
     (here : fin.get r.state.threads w.name ≡ Some t) where
-  abbrev k : IsWalking ops model bound laws code lawful log is fits w t r.state.failed
-  k = walking ops model bound laws code lawful log is fits h r j w t there here
+  open setting use {machine, ops, code, lawful, log}
+
+  abbrev k : IsWalking setting fits w t r.state.failed
+  k = walking setting fits h r j w t there here
 
   rests : ending_of log w.name ≡ Rests
   rests = rests_in log w.name dead
@@ -93,10 +89,10 @@ module _ {B : Type 0} (ops : BufferOps B) (model : Model) (bound : Binding) (law
   stands =
       let not_fails : fails_by r.state.failed w.name ≡ false =
       k.so.on.fails ∙ ap (λ e. is_failing e && t.local.steps == k.so.on.path.steps) rests in
-      subst (λ b. Stands code b t.local w.places) not_fails (stands_all ops model bound laws code lawful log is fits h r j w there t here done)
+      subst (λ b. Stands code b t.local w.places) not_fails (stands_all setting fits h r j w there t here done)
 
   path : path_by t.local ≡ k.walk.path
-  path = went_all ops model bound laws code lawful log is fits h r j w there t here done
+  path = went_all setting fits h r j w there t here done
 
   -- and stands where the path says
   standing_there : standing code w.function k.walk.path ≡ instr_at code t.local.function t.local.instruction
@@ -123,11 +119,11 @@ module _ {B : Type 0} (ops : BufferOps B) (model : Model) (bound : Binding) (law
       ∙ elim (cases_Bool t.local.has_exited) [
         | inl gone ↦
             let none = none_behind_exit code t.local lawful ((exited_past_exit ops code r.state lawful
-            (reached ops model bound laws code lawful log h r) w.name t here).0 gone) in
+            (reached machine log h r) w.name t here).0 gone) in
             ap (λ b. option_map (request t.local) (if b then None else instr_at code t.local.function t.local.instruction)) gone
             ∙ sym (ap (option_map asked_at) (blocked_is ∙ ap (option_and_then (blocked_at marks w.sleeps)) none))
         | inr going ↦
-            let i = has_next ops code r.state lawful (reached ops model bound laws code lawful log h r) w.name t here going in
+            let i = has_next ops code r.state lawful (reached machine log h r) w.name t here going in
             let at = at_its_place code t.local i.0 i.1 in
             let fit : ended code w.function Rests k.walk.path (Ok w.places) ≡ Ok w.places =
             ap (λ e. ended code w.function e k.walk.path (Ok w.places)) (sym rests)
@@ -142,7 +138,7 @@ module _ {B : Type 0} (ops : BufferOps B) (model : Model) (bound : Binding) (law
   pub left_blocked : (has_exited_in h w.name ≡ false) ↔ IsSome w.blocked
   left_blocked = (
     λ going.
-        let i = has_next ops code r.state lawful (reached ops model bound laws code lawful log h r) w.name t here
+        let i = has_next ops code r.state lawful (reached machine log h r) w.name t here
         (ap (λ o. option_map_or (λ (x : Thread B). x.local.has_exited) o false) (sym here) ∙ r.told.tells.deeds.buffers.threads.exits w.name ∙ going) in
         let b = mapped_from asked_at w.blocked _ (sym asks_blocked ∙ asks_is ∙ ap (option_map (request t.local)) i.1) in
         some_is w.blocked b.0 b.1,

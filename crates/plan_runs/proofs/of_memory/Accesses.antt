@@ -5,18 +5,14 @@ use Rattle.std.specs.Prelude.{slice_get}
 use Rattle.std.specs.List.{Contains}
 use Rattle.std.specs.Option.{option_eq}
 use Rattle.std.proofs.lemmas.Bool.{and_from, or_right}
-use Rattle.tc_base.specs.Buffers.{BufferOps}
-use Rattle.run_log.specs.Logs.{Log}
 use Rattle.tc_base.specs.Names.{Name}
-use Rattle.memory_models.specs.declared.model.Model.{Model}
 use Rattle.tc_base.specs.declared.request.Request.TheVariants.{Write}
-use Rattle.tc_code.specs.Code.{Code}
-use Rattle.store_buffers.specs.Pending.{Binding}
 use Rattle.run_history.specs.History.{Deed}
 use Rattle.run_history.specs.pending.Deeds.{IsIssuedIn}
 use Rattle.path_walk.specs.Paths.{Walk, paths_of}
 use Rattle.path_walk.specs.declared.event.Event.{Event}
 use Rattle.path_walk.specs.declared.event.EventKind.TheVariants as kind
+use Rattle.path_laws.specs.Setting.{Setting}
 use Rattle.path_laws.specs.history.Along.{IsAlongPaths, IsThread}
 use Rattle.path_laws.proofs.of_history.Walks.{thread_path_at}
 use Rattle.path_laws.proofs.of_events.Lists.{contains_in}
@@ -49,14 +45,15 @@ pub issue_asks : (h : List Deed) (n : Name) (k c : ℕ) (v : ℤ) → IsIssuedIn
 issue_asks h n k c v i =
     record { older = i.before; newer = i.after; request = Write c v; took = i.took; other = i.other; there = i.issued; asks = refl }
 
-module _ {B : Type 0} (ops : BufferOps B) (model : Model) (bound : Binding) (code : Code) (log : Log) (nodes : List Node) (w : World)
-    (l : IsLawfulWorld ops model bound code log nodes w) where
+module _ {B : Type 0} (setting : Setting B) (nodes : List Node) (w : World) (l : IsLawfulWorld setting nodes w) where
+  open setting use {ops, model, bound, code, log}
+
   abbrev pub executed : IsExecutedBy (paths_of code log) (found code log nodes).symbolic
   executed = is_executed code (paths_of code log) nodes (record { log = log; fits = l.fits; are = refl })
 
   pub course_at : (t : ℕ) (q : Walk) → IsThread code log t q → (c : Course) × (slice_get (found code log nodes).symbolic.threads t ≡ Some c)
   course_at t q there =
-      let p = thread_path_at code log t q there in (_, (found_at_log code log nodes l.code_is l.log_is l.terms t p.0 p.1).course)
+      let p = thread_path_at code log t q there in (_, (found_at_log code log nodes setting.lawful setting.log_is l.terms t p.0 p.1).course)
 
   -- the cells of a thread's two steps are one
   pub cell_at_step : (t k : ℕ) (a : Access) → HasAccess (found code log nodes).symbolic t a → a.step ≡ k
@@ -76,8 +73,8 @@ module _ {B : Type 0} (ops : BufferOps B) (model : Model) (bound : Binding) (cod
     pub access_of : (t : ℕ) (q : Walk) → IsThread code log t q → (k : ℕ) (y : Asked) → IsAskedIn h q.name k y → IsOfStep t k y
     access_of t q there k y d =
         let c = course_at t q there in
-        let a = asked_access ops model bound l.laws code l.code_is log l.log_is l.fits nodes w.loads l.terms h along agrees t q c.0 there c.1 k y d in
-        let s = step_is ops model bound l.laws code l.code_is log l.log_is l.fits h along t q there d.older d.newer k d.request d.took d.other d.there in
+        let a = asked_access setting l.fits nodes w.loads l.terms h along agrees t q c.0 there c.1 k y d in
+        let s = step_is setting l.fits h along t q there d.older d.newer k d.request d.took d.other d.there in
         let among = contains_in a.0 c.0.accesses a.1 in
         record {
           access = a.0;
@@ -99,7 +96,7 @@ module _ {B : Type 0} (ops : BufferOps B) (model : Model) (bound : Binding) (cod
         → is_same_cell (found code log nodes).nodes w a.cell b.cell
         ≡ (cell_by (found code log nodes).nodes w.loads a.cell == cell_by (found code log nodes).nodes w.loads b.cell)
     one_cell t u a b first second =
-        same_cells ops model bound l.laws code l.code_is log l.log_is l.fits nodes w l.terms h along agrees t u a b first second
+        same_cells setting l.fits nodes w l.terms h along agrees t u a b first second
 
     -- two steps of a thread
     pub cells_of_steps : (t j k : ℕ) (y z : Asked) (a : IsOfStep t j y) (b : IsOfStep t k z) (x e : Event) → x.step ≡ j → e.step ≡ k
@@ -117,5 +114,5 @@ module _ {B : Type 0} (ops : BufferOps B) (model : Model) (bound : Binding) (cod
       ≡ true
       → IsBefore (paths_of code log) w t x.step t y.step
   bound_before t q x y there i j less store binds =
-      (own_rule ops model bound code log nodes w l t).own x y (q, there, i) (q, there, j) less
+      (own_rule setting nodes w l t).own x y (q, there, i) (q, there, j) less
       (or_right (not (ops.buffered && is_store x.kind)) _ (or_right (not (may_overtake y.kind)) _ (and_from (is_store y.kind) _ (ap is_store store) binds)))

@@ -7,17 +7,13 @@ use Rattle.std.proofs.Math.Bool.{or-false}
 use Rattle.std.proofs.lemmas.Bool.{true≢false, and_parts, and_from, eqb-true, eq-eqb, or_left, or_right, cases_lt}
 use Rattle.std.proofs.lemmas.List.Folds.{list_any-append}
 use Rattle.std.proofs.lemmas.Option.{same_Some}
-use Rattle.tc_base.specs.Buffers.{BufferOps}
-use Rattle.run_log.specs.Logs.{Log}
 use Rattle.tc_base.specs.Names.{Name}
-use Rattle.memory_models.specs.declared.model.Model.{Model}
 use Rattle.tc_base.specs.declared.request.Request.{Request}
-use Rattle.tc_code.specs.Code.{Code}
-use Rattle.store_buffers.specs.Pending.{Binding}
 use Rattle.run_laws.proofs.Names.{is_same, same_self}
 use Rattle.run_history.specs.History.{Deed, Did, Drained, drains, has_drained, same}
 use Rattle.path_walk.specs.Paths.{Walk, paths_of}
 use Rattle.path_walk.specs.declared.event.Event.{Event}
+use Rattle.path_laws.specs.Setting.{Setting}
 use Rattle.path_laws.specs.history.Along.{IsThread}
 use Rattle.sym_terms.specs.declared.node.Node.{Node}
 use Rattle.order_formula.specs.Worlds.{World}
@@ -36,12 +32,13 @@ first_or_second : (a b : Bool) → a || b ≡ true → (a ≡ true) ⊎ (b ≡ t
 first_or_second true b e = inl refl
 first_or_second false b e = inr e
 
-module _ {B : Type 0} (ops : BufferOps B) (model : Model) (bound : Binding) (code : Code) (log : Log) (nodes : List Node) (w : World)
-    (l : IsLawfulWorld ops model bound code log nodes w) where
+module _ {B : Type 0} (setting : Setting B) (nodes : List Node) (w : World) (l : IsLawfulWorld setting nodes w) where
+  open setting use {ops, code, log}
+
   pub paths_whole : AreWhole (paths_of code log)
   paths_whole = are_whole code (paths_of code log) (record { log = log; fits = l.fits; are = refl })
 
-  module _ (p : ℕ) (h : List Deed) (g : HasGone ops.buffered bound code log nodes w p h) where
+  module _ (p : ℕ) (h : List Deed) (g : HasGone setting nodes w p h) where
     abbrev Pending : Event → Type 0
     Pending x = is_pending ops.buffered x ≡ true
 
@@ -89,7 +86,7 @@ module _ {B : Type 0} (ops : BufferOps B) (model : Model) (bound : Binding) (cod
           mine : same v.name q.name && y.step == x.step ≡ true → place code log w u y ≡ p
           mine e =
               let both = and_parts (same v.name q.name) (y.step == x.step) e in
-              let thread = one_thread code log l.log_is u t v q here there (is_same v.name q.name both.0) in
+              let thread = one_thread code log setting.log_is u t v q here there (is_same v.name q.name both.0) in
               ap₂ (place_of (paths_of code log) w) thread (eqb-true y.step x.step both.1) ∙ at
 
           its : (t ≡ u) × (x ≡ y) → same v.name q.name && y.step == x.step ≡ true

@@ -2,11 +2,6 @@
 use Rattle.std.proofs.Common.{◌≡◌, ◌∙◌, ℕ, ◌<◌, ◌==◌, ◌&&◌, ◌||◌, Bool, true, false, not, List, refl, ap, ap₂, sym, subst, arith}
 use Rattle.std.specs.List.{Contains}
 use Rattle.std.proofs.lemmas.Bool.{true≢false}
-use Rattle.tc_base.specs.Buffers.{BufferOps}
-use Rattle.run_log.specs.Logs.{Log}
-use Rattle.memory_models.specs.declared.model.Model.{Model}
-use Rattle.tc_code.specs.Code.{Code}
-use Rattle.store_buffers.specs.Pending.{Binding}
 use Rattle.run_history.specs.History.{Deed, has_drained}
 use Rattle.run_history.specs.pending.Deeds.{IsIssuedIn}
 use Rattle.run_history.proofs.of_pending.In.{In}
@@ -15,6 +10,7 @@ use Rattle.run_follows.specs.blocked.Stuck.{HasDrained, AllDrained}
 use Rattle.path_walk.specs.Paths.{Walk, paths_of}
 use Rattle.path_walk.specs.declared.event.Event.{Event}
 use Rattle.path_walk.specs.declared.event.EventKind.TheVariants as kind
+use Rattle.path_laws.specs.Setting.{Setting}
 use Rattle.path_laws.specs.history.Along.{IsThread}
 use Rattle.path_laws.proofs.of_events.Lists.{contains_in}
 use Rattle.sym_terms.specs.declared.node.Node.{Node}
@@ -25,8 +21,9 @@ use Rattle.lawful_order.specs.Memory.{OwnRule, is_kept, is_store, may_overtake, 
 use Rattle.world_plan.specs.Going.{IsLawfulWorld, HasGone, IsAtEvent, place}
 use Rattle.plan_runs.proofs.of_memory.Issued.{issuer_named, issue_event}
 
-module _ {B : Type 0} (ops : BufferOps B) (model : Model) (bound : Binding) (code : Code) (log : Log) (nodes : List Node) (w : World)
-    (l : IsLawfulWorld ops model bound code log nodes w) where
+module _ {B : Type 0} (setting : Setting B) (nodes : List Node) (w : World) (l : IsLawfulWorld setting nodes w) where
+  open setting use {ops, bound, code, log}
+
   -- the rule of a thread's own events
   pub own_rule : (t : ℕ) → OwnRule ops.buffered bound (paths_of code log) (found code log nodes).symbolic (found code log nodes).nodes w t
   own_rule t = l.lawful.meets (Own t)
@@ -45,26 +42,26 @@ module _ {B : Type 0} (ops : BufferOps B) (model : Model) (bound : Binding) (cod
       by false false e = refl
 
   -- an issued store whose place has passed has drained
-  pub passed_has_drained : (p : ℕ) (h : List Deed) → HasGone ops.buffered bound code log nodes w p h → (t : ℕ) (q : Walk) → IsThread code log t q
+  pub passed_has_drained : (p : ℕ) (h : List Deed) → HasGone setting nodes w p h → (t : ℕ) (q : Walk) → IsThread code log t q
       → ops.buffered ≡ true → (x : Event) → In x q.events → x.kind ≡ kind.Store → place code log w t x < p → has_drained h q.name x.step ≡ true
   passed_has_drained p h g t q there has x i store before =
       (g.drained t q x there (contains_in x q.events i) (ap₂ (λ b k. b && is_store k) has store)).1 before
 
-  pub empty_there : (p : ℕ) (h : List Deed) (t : ℕ) (q : Walk) (x : Event) → IsAtEvent ops.buffered bound code log nodes w p h t q x
+  pub empty_there : (p : ℕ) (h : List Deed) (t : ℕ) (q : Walk) (x : Event) → IsAtEvent setting nodes w p h t q x
       → may_overtake x.kind ≡ false → HasDrained ops.buffered h q.name
   empty_there p h t q x at last = (stores_have_drained ops.buffered h q.name).1 (λ has k c v i.
-      let y = issue_event ops model bound l.laws code l.code_is log l.log_is l.fits h at.gone.along t q at.thread k c v i in
+      let y = issue_event setting l.fits h at.gone.along t q at.thread k c v i in
       let among = contains_in y.0 q.events y.1 in
       let before = (own_rule t).own y.0 x (q, at.thread, among) (q, at.thread, at.event) (omega (arith, y.2, y.4, at.steps)) (kept_behind t y.0 x last) in
       ap (has_drained h q.name) (sym y.2)
       ∙ passed_has_drained p h at.gone t q at.thread has y.0 y.1 y.3 (omega (arith, before, at.at)))
 
-  pub all_there : (p : ℕ) (h : List Deed) → HasGone ops.buffered bound code log nodes w p h
+  pub all_there : (p : ℕ) (h : List Deed) → HasGone setting nodes w p h
       → ((t : ℕ) (q : Walk) (x : Event) → IsThread code log t q → Contains q.events x → place code log w t x < p) → AllDrained ops.buffered h
   all_there p h g all n = (stores_have_drained ops.buffered h n).1 (λ has k c v i.
-      let s = issuer_named ops model bound l.laws code l.code_is log l.log_is l.fits h g.along n k c v i in
+      let s = issuer_named setting l.fits h g.along n k c v i in
       let mine = subst (λ m. IsIssuedIn h m k c v) (sym s.name) i in
-      let y = issue_event ops model bound l.laws code l.code_is log l.log_is l.fits h g.along s.place s.walk s.there k c v mine in
+      let y = issue_event setting l.fits h g.along s.place s.walk s.there k c v mine in
       let before = all s.place s.walk y.0 s.there (contains_in y.0 s.walk.events y.1) in
       ap₂ (has_drained h) (sym s.name) (sym y.2)
       ∙ passed_has_drained p h g s.place s.walk s.there has y.0 y.1 y.3 before)

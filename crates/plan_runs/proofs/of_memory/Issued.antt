@@ -4,27 +4,20 @@ use Rattle.std.proofs.Common.{Option, Some, None, refl, ap, ap₂, sym, subst, a
 use Rattle.std.specs.Prelude.{option_map}
 use Rattle.std.proofs.lemmas.Bool.{false≢true, and_parts, and_from, eqb-true, eq-eqb}
 use Rattle.std.proofs.lemmas.Option.{none-some}
-use Rattle.tc_base.specs.Buffers.{BufferOps}
-use Rattle.run_log.specs.Logs.{Log}
 use Rattle.tc_base.specs.Names.{Name}
-use Rattle.memory_models.specs.declared.model.Model.{Model}
 use Rattle.tc_base.specs.declared.request.Request.{Request}
 use Rattle.tc_base.specs.declared.request.Request.TheVariants.{Write, Start}
-use Rattle.tc_code.specs.Code.{Code}
-use Rattle.tc_code.specs.Lawful.{IsLawful}
-use Rattle.store_buffers.specs.Laws.{Laws}
-use Rattle.store_buffers.specs.Pending.{Binding}
 use Rattle.run_laws.proofs.Names.{is_same, same_self}
 use Rattle.run_history.specs.History.{Deed, Did, Drained, drains, has_drained, same}
 use Rattle.run_history.specs.Told.{steps_in}
 use Rattle.run_history.specs.pending.Deeds.{IsIssuedIn}
 use Rattle.run_history.proofs.of_pending.Apart.{Named}
 use Rattle.run_history.proofs.of_pending.In.{In, in_at, in_split, any_in, in_any, one_of_name}
-use Rattle.run_log.specs.Logs.{is_log}
 use Rattle.path_walk.specs.Fits.{Fits}
 use Rattle.path_walk.specs.Paths.{Walk}
 use Rattle.path_walk.specs.declared.event.Event.{Event}
 use Rattle.path_walk.specs.declared.event.EventKind.TheVariants as kind
+use Rattle.path_laws.specs.Setting.{Setting}
 use Rattle.path_laws.specs.Deeds.{kind_of}
 use Rattle.path_laws.specs.history.Along.{IsAlongPaths, IsThread, IsNameOfThread}
 use Rattle.path_laws.proofs.of_history.Told.{RunOf, run_of, first_along}
@@ -89,10 +82,12 @@ pub record IsDrainedIn (h : List Deed) (n : Name) (k c : ℕ) (v : ℤ) : Type 0
   pub newer : List Deed
   pub there : h ≡ older ++ Drained n k c v ∷ newer
 
-module _ {B : Type 0} (ops : BufferOps B) (model : Model) (bound : Binding) (laws : Laws ops model bound) (code : Code) (lawful : IsLawful code) (log : Log)
-    (is : is_log log ≡ true) (fits : Fits code log) (h : List Deed) (along : IsAlongPaths ops.buffered bound code log h) where
-  abbrev r : RunOf ops model bound laws code lawful log h
-  r = run_of ops model bound laws code lawful log h along
+module _ {B : Type 0} (setting : Setting B) (fits : Fits setting.code setting.log) (h : List Deed)
+    (along : IsAlongPaths setting.ops.buffered setting.bound setting.code setting.log h) where
+  open setting use {machine, ops, bound, code, log}
+
+  abbrev r : RunOf machine log h
+  r = run_of machine log h along
 
   named : Named h
   named = r.told.tells.deeds.named
@@ -102,9 +97,9 @@ module _ {B : Type 0} (ops : BufferOps B) (model : Model) (bound : Binding) (law
       → IsNameOfThread code log n
   step_named older newer n k q took other at =
       let left = r.told.threads older newer n k q took other at in
-      let begins = first_along ops model bound laws code lawful log older (Did n k q took other ∷ newer)
+      let begins = first_along machine log older (Did n k q took other ∷ newer)
       (subst (IsAlongPaths ops.buffered bound code log) at along) in
-      thread_named ops model bound laws code lawful log is fits older n begins left.there
+      thread_named setting fits older n begins left.there
 
   pub issuer_named : (n : Name) (k c : ℕ) (v : ℤ) → IsIssuedIn h n k c v → IsNameOfThread code log n
   issuer_named n k c v i = step_named i.before i.after n k (Write c v) i.took i.other i.issued
@@ -154,11 +149,11 @@ module _ {B : Type 0} (ops : BufferOps B) (model : Model) (bound : Binding) (law
     -- an issued store is an event of its thread
     pub issue_event : (k c : ℕ) (v : ℤ) → IsIssuedIn h q.name k c v
         → (x : Event) × In x q.events × (x.step ≡ k) × (x.kind ≡ kind.Store) × (k < steps_in h q.name)
-    issue_event k c v i = done_event ops model bound laws code lawful log is fits h along t q there k kind.Store (issued_done h q.name k c v i)
+    issue_event k c v i = done_event setting fits h along t q there k kind.Store (issued_done h q.name k c v i)
 
     -- and a store that is done was issued
     pub event_issued : (x : Event) → In x q.events → x.kind ≡ kind.Store → x.step < steps_in h q.name
         → (c : ℕ) × (v : ℤ) × IsIssuedIn h q.name x.step c v
     event_issued x i store before =
         done_issued h q.name x.step
-        (subst (IsDoneIn h q.name x.step) store (event_done ops model bound laws code lawful log is fits h along t q there x i before))
+        (subst (IsDoneIn h q.name x.step) store (event_done setting fits h along t q there x i before))

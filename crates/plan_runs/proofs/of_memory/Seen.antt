@@ -5,13 +5,8 @@ use Rattle.std.specs.Prelude.{is_some, unwrap_or, IsSome}
 use Rattle.std.specs.List.{Contains, filter_map}
 use Rattle.std.proofs.lemmas.Bool.{true≢false, eq-eqb, eqb-true, cases_lt}
 use Rattle.std.proofs.lemmas.Option.{same_Some}
-use Rattle.tc_base.specs.Buffers.{BufferOps}
-use Rattle.run_log.specs.Logs.{Log}
 use Rattle.tc_base.specs.Names.{Name}
-use Rattle.memory_models.specs.declared.model.Model.{Model}
 use Rattle.tc_base.specs.declared.request.Request.TheVariants.{Write}
-use Rattle.tc_code.specs.Code.{Code}
-use Rattle.store_buffers.specs.Pending.{Binding}
 use Rattle.run_history.specs.History.{Deed, Did, has_drained}
 use Rattle.run_history.specs.Last.{IsLast, brings}
 use Rattle.run_history.specs.Told.{steps_in, value_in}
@@ -23,6 +18,7 @@ use Rattle.run_follows.specs.Follow.{seen_in}
 use Rattle.path_walk.specs.Paths.{Walk, paths_of}
 use Rattle.path_walk.specs.declared.event.Event.{Event}
 use Rattle.path_walk.specs.declared.event.EventKind.TheVariants as kind
+use Rattle.path_laws.specs.Setting.{Setting}
 use Rattle.path_laws.specs.history.Along.{IsThread}
 use Rattle.path_laws.proofs.of_events.Lists.{in_contains, contains_in}
 use Rattle.sym_terms.specs.declared.node.Node.{Node}
@@ -51,11 +47,12 @@ some_of : {X : Type 0} (o : Option X) → IsSome o → (x : X) × (o ≡ Some x)
 some_of None e = absurd (true≢false (sym e))
 some_of (Some x) e = (x, refl)
 
-module _ {B : Type 0} (ops : BufferOps B) (model : Model) (bound : Binding) (code : Code) (log : Log) (nodes : List Node) (w : World)
-    (l : IsLawfulWorld ops model bound code log nodes w) (p : ℕ) (h : List Deed) (t : ℕ) (q : Walk) (x : Event)
-    (e : IsAtEvent ops.buffered bound code log nodes w p h t q x) (a : Access) (has : HasAccess (found code log nodes).symbolic t a) (step : a.step ≡ x.step)
-    (reached : IsReachedIn code log nodes h t a) where
-  abbrev g : HasGone ops.buffered bound code log nodes w p h
+module _ {B : Type 0} (setting : Setting B) (nodes : List Node) (w : World) (l : IsLawfulWorld setting nodes w) (p : ℕ) (h : List Deed) (t : ℕ) (q : Walk)
+    (x : Event) (e : IsAtEvent setting nodes w p h t q x) (a : Access) (has : HasAccess (found setting.code setting.log nodes).symbolic t a)
+    (step : a.step ≡ x.step) (reached : IsReachedIn setting.code setting.log nodes h t a) where
+  open setting use {ops, bound, code, log}
+
+  abbrev g : HasGone setting nodes w p h
   g = e.gone
 
   abbrev At : (u k : ℕ) → ℕ
@@ -71,27 +68,27 @@ module _ {B : Type 0} (ops : BufferOps B) (model : Model) (bound : Binding) (cod
   SeesOf u b = Sees code (paths_of code log) (found code log nodes).symbolic (found code log nodes).nodes w t a u b
 
   abbrev OfStep : (u k : ℕ) → Asked → Type 0
-  OfStep u k y = IsOfStep ops model bound code log nodes w l h g.along g.agrees u k y
+  OfStep u k y = IsOfStep setting nodes w l h g.along g.agrees u k y
 
   abbrev InMemory : (u k c : ℕ) → ℤ → Type 0
-  InMemory u k c v = IsInMemory ops model bound l.laws code l.code_is log l.log_is l.fits h g.along u k c v
+  InMemory u k c v = IsInMemory setting l.fits h g.along u k c v
 
   abbrev InBuffer : Name → (k c : ℕ) → ℤ → Type 0
-  InBuffer n k c v = IsInBuffer ops model bound l.laws code l.code_is log l.log_is l.fits h g.along n k c v
+  InBuffer n k c v = IsInBuffer setting l.fits h g.along n k c v
 
   at_place : At t a.step ≡ p
   at_place = ap (At t) step ∙ e.at
 
   step_of : (u : ℕ) (v : Walk) → IsThread code log u v → (k : ℕ) (y : Asked) → IsAskedIn h v.name k y → OfStep u k y
-  step_of u v there k y d = access_of ops model bound code log nodes w l h g.along g.agrees u v there k y d
+  step_of u v there k y d = access_of setting nodes w l h g.along g.agrees u v there k y d
 
   -- a store of the thread that waits has no place before
   waits_late : (k c : ℕ) (v : ℤ) → InBuffer q.name k c v → p ≤ At t k
   waits_late k c v b =
-      let y = issue_event ops model bound l.laws code l.code_is log l.log_is l.fits h g.along t q e.thread k c v b.issued in
+      let y = issue_event setting l.fits h g.along t q e.thread k c v b.issued in
       elim (cases_lt (At t k) p) [
         | inl before ↦
-            let drained = passed_has_drained ops model bound code log nodes w l p h g t q e.thread b.buffered y.0 y.1 y.3
+            let drained = passed_has_drained setting nodes w l p h g t q e.thread b.buffered y.0 y.1 y.3
             (subst (λ j. At t j < p) (sym y.2) before) in
             absurd (true≢false (sym drained ∙ ap (has_drained h q.name) y.2 ∙ b.waits))
         | inr late ↦ late
@@ -107,13 +104,13 @@ module _ {B : Type 0} (ops : BufferOps B) (model : Model) (bound : Binding) (cod
   where_done u b z there sees done =
       let c = sees.there in
       let v = some_of (asks b).writes sees.writes in
-      let asked = access_asked ops model bound l.laws code l.code_is log l.log_is l.fits nodes w.loads l.terms h g.along g.agrees u z c.0 there c.1 b
+      let asked = access_asked setting l.fits nodes w.loads l.terms h g.along g.agrees u z c.0 there c.1 b
       (in_contains b c.0.accesses c.2) done in
       let mine : IsReachedIn code log nodes h u b =
       record { walk = z; course = c.0; thread = there; there = c.1; among = c.2; reached = inl done } in
-      let one = one_cell ops model bound code log nodes w l h g.along g.agrees u t b a mine reached in
+      let one = one_cell setting nodes w l h g.along g.agrees u t b a mine reached in
       let same : (asks b).cell ≡ cell = eqb-true (asks b).cell cell (sym one ∙ sees.cell) in
-      let at = where_written ops model bound l.laws code l.code_is log l.log_is l.fits h g.along u z there b.step (asks b) v.0 asked v.1 in
+      let at = where_written setting l.fits h g.along u z there b.step (asks b) v.0 asked v.1 in
       (v.0, v.1, subst (λ k. InMemory u b.step k v.0 ⊎ InBuffer z.name b.step k v.0) same at)
 
   seen_at : (u : ℕ) (b : Access) → SeesOf u b → (v : ℤ) × ((asks b).writes ≡ Some v) × IsSeenAt u b.step v
@@ -137,7 +134,7 @@ module _ {B : Type 0} (ops : BufferOps B) (model : Model) (bound : Binding) (cod
           → (v : ℤ) × ((asks b).writes ≡ Some v) × IsSeenAt u b.step v
       by (inr s) = own u (sym s.0) sees s.1
       by (inl before) =
-          let y = (executed ops model bound code log nodes w l).accesses u b sees.there in
+          let y = (executed setting nodes w l).accesses u b sees.there in
           let z = y.1 in
           let lt : At u b.step < p = omega (arith, before, at_place) in
           let done = g.did u z.0 y.0 z.1 z.2 (subst (λ k. At u k < p) (sym y.2) lt) in
@@ -155,14 +152,14 @@ module _ {B : Type 0} (ops : BufferOps B) (model : Model) (bound : Binding) (cod
           waiting : (z : Walk) → IsThread code log u z → (y : Event) → Contains z.events y → y.step ≡ b.step → At u b.step < p
               → {v : ℤ} → InBuffer z.name b.step cell v → ⊥
           waiting z there y i number lt {v} o =
-              let s = issue_event ops model bound l.laws code l.code_is log l.log_is l.fits h g.along u z there b.step cell v o.issued in
-              let drained = passed_has_drained ops model bound code log nodes w l p h g u z there o.buffered s.0 s.1 s.3
+              let s = issue_event setting l.fits h g.along u z there b.step cell v o.issued in
+              let drained = passed_has_drained setting nodes w l p h g u z there o.buffered s.0 s.1 s.3
               (subst (λ j. At u j < p) (sym s.2) lt) in
               true≢false (sym drained ∙ ap (has_drained h z.name) s.2 ∙ o.waits)
 
   -- what is in memory has come
   memory_before : (u k : ℕ) (v : ℤ) → InMemory u k cell v → At u k < p
-  memory_before u k v m = shown_before ops model bound code log nodes w l p h g m.older m.newer m.deed u k m.there m.shows
+  memory_before u k v m = shown_before setting nodes w l p h g m.older m.newer m.deed u k m.there m.shows
 
   -- a store that is to the load's cell, and whose place or step is before the load's, is seen
   sees_it : (u k : ℕ) (y : Asked) (v : ℤ) (b : OfStep u k y) → y.cell ≡ cell → y.writes ≡ Some v → (At u k < p) ⊎ ((u ≡ t) × (k < a.step)) → SeesOf u b.access
@@ -170,7 +167,7 @@ module _ {B : Type 0} (ops : BufferOps B) (model : Model) (bound : Binding) (cod
     there = b.has;
     writes = ap (λ (z : Asked). is_some z.writes) b.asked ∙ ap is_some writes;
     cell =
-        one_cell ops model bound code log nodes w l h g.along g.agrees u t b.access a b.reached reached
+        one_cell setting nodes w l h g.along g.agrees u t b.access a b.reached reached
         ∙ eq-eqb (asks b.access).cell cell (ap (λ (z : Asked). z.cell) b.asked ∙ to);
     before = elim before [
       | inl lt ↦ inl (let place = ap (At u) b.step in omega (arith, lt, place, at_place))
@@ -235,7 +232,7 @@ module _ {B : Type 0} (ops : BufferOps B) (model : Model) (bound : Binding) (cod
       late = waits_late k cell z (record { buffered = s.buffered; issued = issue; waits = s.waits })
 
       abbrev y : (y : Event) × In y q.events × (y.step ≡ k) × (y.kind ≡ kind.Store) × (k < steps_in h q.name)
-      y = issue_event ops model bound l.laws code l.code_is log l.log_is l.fits h g.along t q e.thread k cell z issue
+      y = issue_event setting l.fits h g.along t q e.thread k cell z issue
 
       mine : OfStep t k (written cell z)
       mine = step_of t q e.thread k (written cell z) (issue_asks h q.name k cell z issue)
@@ -243,12 +240,12 @@ module _ {B : Type 0} (ops : BufferOps B) (model : Model) (bound : Binding) (cod
       -- an older one has an earlier place
       older_before : (j : ℕ) (c : ℤ) → IsIssuedIn h q.name j cell c → j < k → At t j < At t k
       older_before j c i less =
-          let f = issue_event ops model bound l.laws code l.code_is log l.log_is l.fits h g.along t q e.thread j cell c i in
+          let f = issue_event setting l.fits h g.along t q e.thread j cell c i in
           let its = step_of t q e.thread j (written cell c) (issue_asks h q.name j cell c i) in
-          let cells = cells_of_steps ops model bound code log nodes w l h g.along g.agrees t j k (written cell c) (written cell z) its mine f.0 y.0 f.2 y.2 in
+          let cells = cells_of_steps setting nodes w l h g.along g.agrees t j k (written cell c) (written cell z) its mine f.0 y.0 f.2 y.2 in
           let lt : f.0.step < y.0.step = omega (arith, f.2, y.2, less) in
-          let before = bound_before ops model bound code log nodes w l t q f.0 y.0 e.thread (contains_in f.0 q.events f.1) (contains_in y.0 q.events y.1) lt y.3
-          (ap (λ b. bound b (not (f.0.bars == y.0.bars))) (cells ∙ eq-eqb cell cell refl) ∙ l.laws.same_cell (not (f.0.bars == y.0.bars))) in
+          let before = bound_before setting nodes w l t q f.0 y.0 e.thread (contains_in f.0 q.events f.1) (contains_in y.0 q.events y.1) lt y.3
+          (ap (λ b. bound b (not (f.0.bars == y.0.bars))) (cells ∙ eq-eqb cell cell refl) ∙ setting.laws.same_cell (not (f.0.bars == y.0.bars))) in
           let first = ap (At t) f.2 in
           let second = ap (At t) y.2 in
           omega (arith, before, first, second)
@@ -261,7 +258,7 @@ module _ {B : Type 0} (ops : BufferOps B) (model : Model) (bound : Binding) (cod
           (own_there j c b)) [
             | inl one ↦ let same = ap (At t) (ap (λ (d : Deed). (name_of d).number) (one ∙ s.is)) in omega (arith, after, same)
             | inr r ↦
-                let less = steps_rise ops model bound l.laws code l.code_is log l.log_is l.fits h g.along b.issued.before r.0 last.newer q.name j k
+                let less = steps_rise setting l.fits h g.along b.issued.before r.0 last.newer q.name j k
                 (Write cell c) (Write cell z) b.issued.took s.took b.issued.other s.other
                 (own_at ∙ ap (λ f. f ++ Did q.name k (Write cell z) s.took s.other ∷ last.newer) r.1) in
                 let before = older_before j c b.issued less in
@@ -290,8 +287,8 @@ module _ {B : Type 0} (ops : BufferOps B) (model : Model) (bound : Binding) (cod
 
       -- the last that reached memory
       module _ (z : ℤ) (last : IsLast reaches_it h z) where
-        abbrev d : IsStoreOf ops model bound l.laws code l.code_is log l.log_is l.fits h g.along cell z last.deed
-        d = store_of ops model bound l.laws code l.code_is log l.log_is l.fits h g.along last.older last.newer last.deed cell z last.there last.gives
+        abbrev d : IsStoreOf setting l.fits h g.along cell z last.deed
+        d = store_of setting l.fits h g.along last.older last.newer last.deed cell z last.there last.gives
 
         its_step : OfStep d.place d.number d.asked
         its_step = step_of d.place d.walk d.thread d.number d.asked d.done
@@ -305,7 +302,7 @@ module _ {B : Type 0} (ops : BufferOps B) (model : Model) (bound : Binding) (cod
                   elim (at_or_before reaches_it last.older last.deed last.newer m.older m.deed m.newer o.0 (sym last.there ∙ m.there) last.last m.gives) [
                     | inl one ↦
                         let sight = same_Some _ _ (sym m.shows.sight ∙ ap (sight_of ops.buffered) one ∙ d.shows.sight) in
-                        let thread = one_thread code log l.log_is u d.place m.shows.walk d.shows.walk m.shows.there d.shows.there
+                        let thread = one_thread code log setting.log_is u d.place m.shows.walk d.shows.walk m.shows.there d.shows.there
                         (ap (λ (f : Sight). f.thread) sight) in
                         let same : At u b.step ≡ At d.place d.number = ap₂ At thread (ap (λ (f : Sight). f.step) sight) in
                         omega (arith, after, same)
@@ -320,7 +317,7 @@ module _ {B : Type 0} (ops : BufferOps B) (model : Model) (bound : Binding) (cod
         from_memory =
             value_is d.place d.number d.asked its_step z d.writes
             (sees_it d.place d.number d.asked z its_step d.cell d.writes
-            (inl (shown_before ops model bound code log nodes w l p h g last.older last.newer last.deed d.place d.number last.there d.shows)))
+            (inl (shown_before setting nodes w l p h g last.older last.newer last.deed d.place d.number last.there d.shows)))
             none_later
 
       -- and where none did
@@ -337,7 +334,7 @@ module _ {B : Type 0} (ops : BufferOps B) (model : Model) (bound : Binding) (cod
         | inl o ↦ cells_have_last ops.buffered code h cell o.0 o.1 ∙ from_memory o.0 o.1
         | inr empty ↦
             cells_begin ops.buffered code h cell empty
-            ∙ sym (cell_begins ops model bound l.laws code l.code_is log l.log_is l.fits nodes w.loads l.terms h g.along g.agrees t a reached)
+            ∙ sym (cell_begins setting l.fits nodes w.loads l.terms h g.along g.agrees t a reached)
             ∙ from_start empty
       ]
 

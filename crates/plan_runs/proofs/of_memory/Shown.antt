@@ -4,17 +4,13 @@ use Rattle.std.proofs.Common.{Option, Some, None, refl, ap, ap₂, sym, subst, a
 use Rattle.std.specs.Prelude.{option_and_then}
 use Rattle.std.proofs.lemmas.Bool.{true≢false}
 use Rattle.std.proofs.lemmas.Option.{none-some, same_Some}
-use Rattle.tc_base.specs.Buffers.{BufferOps}
-use Rattle.run_log.specs.Logs.{Log}
 use Rattle.tc_base.specs.Names.{Name}
-use Rattle.memory_models.specs.declared.model.Model.{Model}
 use Rattle.tc_base.specs.declared.request.Request.{Request}
-use Rattle.tc_code.specs.Code.{Code}
-use Rattle.store_buffers.specs.Pending.{Binding}
 use Rattle.run_history.specs.History.{Deed, Did, Drained, has_drained}
 use Rattle.run_history.proofs.of_pending.Apart.{last_or_before}
 use Rattle.path_walk.specs.Paths.{Walk, paths_of}
 use Rattle.path_walk.specs.declared.event.EventKind.{EventKind}
+use Rattle.path_laws.specs.Setting.{Setting}
 use Rattle.path_laws.specs.Deeds.{kind_of}
 use Rattle.path_laws.specs.history.Along.{IsThread}
 use Rattle.path_laws.specs.events.Done.{IsDoneIn}
@@ -54,8 +50,10 @@ step_seen buffered n j r took other s shows = by (kind_of r other) refl shows
     by None asks shows = absurd (none-some s shows)
     by (Some k) asks shows = by_kind k asks (buffered && is_store k) refl shows
 
-module _ {B : Type 0} (ops : BufferOps B) (model : Model) (bound : Binding) (code : Code) (log : Log) (nodes : List Node) (w : World)
-    (l : IsLawfulWorld ops model bound code log nodes w) (p : ℕ) (h : List Deed) (g : HasGone ops.buffered bound code log nodes w p h) where
+module _ {B : Type 0} (setting : Setting B) (nodes : List Node) (w : World) (l : IsLawfulWorld setting nodes w) (p : ℕ) (h : List Deed)
+    (g : HasGone setting nodes w p h) where
+  open setting use {ops, code, log}
+
   abbrev At : (t k : ℕ) → ℕ
   At t k = place_of (paths_of code log) w t k
 
@@ -63,7 +61,7 @@ module _ {B : Type 0} (ops : BufferOps B) (model : Model) (bound : Binding) (cod
   step_before : (u : ℕ) (q : Walk) → IsThread code log u q → (k : ℕ) (kind : EventKind) → IsDoneIn h q.name k kind → (ops.buffered && is_store kind) ≡ false
       → At u k < p
   step_before u q there k kind d unbuffered =
-      let y = done_event ops model bound l.laws code l.code_is log l.log_is l.fits h g.along u q there k kind d in
+      let y = done_event setting l.fits h g.along u q there k kind d in
       elim (g.only u q y.0 there (contains_in y.0 q.events y.1) (omega (arith, y.2, y.4))) [
         | inl before ↦ subst (λ j. At u j < p) y.2 before
         | inr pending ↦ absurd (true≢false (sym pending ∙ ap (λ k. ops.buffered && is_store k) y.3 ∙ unbuffered))
@@ -72,8 +70,8 @@ module _ {B : Type 0} (ops : BufferOps B) (model : Model) (bound : Binding) (cod
   -- a store that has reached memory
   drain_before : (u : ℕ) (q : Walk) → IsThread code log u q → (k c : ℕ) (v : ℤ) → IsDrainedIn h q.name k c v → At u k < p
   drain_before u q there k c v d =
-      let i = drain_issued ops model bound l.laws code l.code_is log l.log_is l.fits h g.along q.name k c v d in
-      let y = issue_event ops model bound l.laws code l.code_is log l.log_is l.fits h g.along u q there k c v i.0 in
+      let i = drain_issued setting l.fits h g.along q.name k c v d in
+      let y = issue_event setting l.fits h g.along u q there k c v i.0 in
       let before = (g.drained u q y.0 there (contains_in y.0 q.events y.1) (ap₂ (λ b a. b && is_store a) i.1 y.3)).0 (ap (has_drained h q.name) y.2 ∙ i.2) in
       subst (λ j. At u j < p) y.2 before
 
@@ -118,7 +116,7 @@ module _ {B : Type 0} (ops : BufferOps B) (model : Model) (bound : Binding) (cod
       → (u j : ℕ) → Shows ops.buffered (paths_of code log) d u j → p ≤ At u j
   at_its_place d t k q there at only u j s =
       let sight = only _ s.sight in
-      let thread : t ≡ u = one_thread code log l.log_is t u q s.walk there s.there (ap (λ (x : Sight). x.thread) sight) in
+      let thread : t ≡ u = one_thread code log setting.log_is t u q s.walk there s.there (ap (λ (x : Sight). x.thread) sight) in
       let number : k ≡ j = ap (λ (x : Sight). x.step) sight in
       let same : At t k ≡ At u j = ap₂ At thread number in
       omega (arith, at, same)

@@ -4,16 +4,14 @@ use Rattle.std.specs.Prelude.{slice_get, is_some, option_map, unwrap_or}
 use Rattle.std.specs.List.{Contains}
 use Rattle.std.proofs.lemmas.Bool.{false≢true, eq-eqb, eqb-true}
 use Rattle.std.proofs.lemmas.Option.{same_Some}
-use Rattle.tc_base.specs.Buffers.{BufferOps, Entry}
+use Rattle.tc_base.specs.Buffers.{Entry}
 use Rattle.store_buffers.specs.Buffers.{newest}
 use Rattle.list_laws.specs.Lists.{is_nil}
-use Rattle.run_log.specs.Logs.{Log}
 use Rattle.tc_base.specs.Names.{Name}
-use Rattle.memory_models.specs.declared.model.Model.{Model}
 use Rattle.tc_base.specs.declared.request.Request.{Request}
 use Rattle.tc_base.specs.declared.request.Request.TheVariants.{Silent, Read, Write, Exchange, CompareExchange}
 use Rattle.tc_code.specs.Code.{Code}
-use Rattle.store_buffers.specs.Pending.{Binding, stores}
+use Rattle.store_buffers.specs.Pending.{stores}
 use Rattle.run_history.specs.History.{Deed, pending}
 use Rattle.run_history.specs.Locals.{asks_next}
 use Rattle.run_history.specs.Told.{steps_in, is_thread_in, value_in}
@@ -23,6 +21,7 @@ use Rattle.path_walk.specs.Paths.{Walk, paths_of}
 use Rattle.path_walk.specs.declared.event.Event.{Event}
 use Rattle.path_walk.specs.declared.event.EventKind.{EventKind}
 use Rattle.path_walk.specs.declared.event.EventKind.TheVariants as kind
+use Rattle.path_laws.specs.Setting.{Setting}
 use Rattle.path_laws.specs.Deeds.{kind_of}
 use Rattle.path_laws.specs.history.Next.{IsNextOnPath}
 use Rattle.path_laws.proofs.of_history.Told.{RunOf, run_of}
@@ -85,28 +84,29 @@ no_store : (m : ℕ) (writes : Option ℕ) → whole.kind_of (Some m) writes ≡
 no_store m None e = cc
 no_store m (Some k) e = cc
 
-module _ {B : Type 0} (ops : BufferOps B) (model : Model) (bound : Binding) (code : Code) (log : Log) (nodes : List Node) (w : World)
-    (l : IsLawfulWorld ops model bound code log nodes w) (p : ℕ) (h : List Deed) (t : ℕ) (q : Walk) (x : Event)
-    (e : IsAtEvent ops.buffered bound code log nodes w p h t q x) (r : Request) (asks : asks_next code h q.name ≡ Some r) where
-  abbrev g : HasGone ops.buffered bound code log nodes w p h
+module _ {B : Type 0} (setting : Setting B) (nodes : List Node) (w : World) (l : IsLawfulWorld setting nodes w) (p : ℕ) (h : List Deed) (t : ℕ) (q : Walk)
+    (x : Event) (e : IsAtEvent setting nodes w p h t q x) (r : Request) (asks : asks_next setting.code h q.name ≡ Some r) where
+  open setting use {machine, ops, code, log}
+
+  abbrev g : HasGone setting nodes w p h
   g = e.gone
 
-  abbrev run : RunOf ops model bound l.laws code l.code_is log h
-  run = run_of ops model bound l.laws code l.code_is log h g.along
+  abbrev run : RunOf machine log h
+  run = run_of machine log h g.along
 
   is_there : is_thread_in h q.name ≡ true
   is_there =
-      let k = asker ops model bound l.laws code l.code_is run.state h q.name r run.told.tells asks in
+      let k = asker machine run.state h q.name r run.told.tells asks in
       sym (run.told.tells.deeds.buffers.threads.there q.name) ∙ ap is_some k.there
 
   next : IsNextOnPath code h q
   next =
-      let within = event_within code log q (walk_is code log l.log_is l.fits t q e.thread) x (in_contains x q.events e.event) in
-      next_on_path ops model bound l.laws code l.code_is log l.log_is l.fits h t q e.thread g.going run is_there (omega (arith, within, e.steps))
+      let within = event_within code log q (walk_is code log setting.log_is l.fits t q e.thread) x (in_contains x q.events e.event) in
+      next_on_path setting l.fits h t q e.thread g.going run is_there (omega (arith, within, e.steps))
 
   -- the event of the step is the one at hand
   same_step : (y : Event) → Contains q.events y → y.step ≡ x.step → y ≡ x
-  same_step y i same = one_event (paths_of code log) (paths_whole ops model bound code log nodes w l) t q y x e.thread i e.event same
+  same_step y i same = one_event (paths_of code log) (paths_whole setting nodes w l) t q y x e.thread i e.event same
 
   kind_is : kind_at q (steps_in h q.name) ≡ Some x.kind
   kind_is =
@@ -130,7 +130,7 @@ module _ {B : Type 0} (ops : BufferOps B) (model : Model) (bound : Binding) (cod
 
     is_no_store : x.kind ≡ kind.Store → ⊥
     is_no_store store =
-        let y = (executed ops model bound code log nodes w l).accesses t a (c, course, among) in
+        let y = (executed setting nodes w l).accesses t a (c, course, among) in
         let walk : y.1.0 ≡ q = same_Some y.1.0 q (sym y.1.1 ∙ e.thread) in
         let one = same_step y.0 (subst (λ (v : Walk). Contains v.events y.0) walk y.1.2) (y.2 ∙ step) in
         no_store m a.writes
@@ -142,7 +142,7 @@ module _ {B : Type 0} (ops : BufferOps B) (model : Model) (bound : Binding) (cod
     -- what it asks, of its access's cell
     told : (r : Request) × IsToldNext code log (found code log nodes).nodes w.loads h q c next r
     told =
-        next_told ops model bound l.laws code l.code_is log l.log_is l.fits nodes w.loads l.terms h g.along g.agrees t q c next e.thread course g.going l.lives
+        next_told setting l.fits nodes w.loads l.terms h g.along g.agrees t q c next e.thread course g.going l.lives
         met
 
     asked : (y : Asked) × (asked_by (pos 0) told.0 ≡ y ∷ []) × (y.cell ≡ cell_by (found code log nodes).nodes w.loads a.cell)
@@ -158,8 +158,8 @@ module _ {B : Type 0} (ops : BufferOps B) (model : Model) (bound : Binding) (cod
     takes_its =
         let v = slice_index_or w.loads m (pos 0) in
         let rule = (l.lawful.meets (group.Read t x.line)).loads a x (c, course, among) (ap is_some takes) (q, e.thread, e.event) (sym step) refl in
-        let seen = seen_is ops model bound code log nodes w l p h t q x e a (c, course, among) step reached v
+        let seen = seen_is setting nodes w l p h t q x e a (c, course, among) step reached v
         (ap (option_map (λ k. slice_index_or w.loads k (pos 0))) takes) rule in
         let taken = takes_seen ops.buffered code h q.name (cell_by (found code log nodes).nodes w.loads a.cell) x.kind told.0 asked.0 asked.1 asked.2
-        (λ other. told.1.event None other ∙ kind_is) is_no_store (empty_there ops model bound code log nodes w l p h t q x e) in
+        (λ other. told.1.event None other ∙ kind_is) is_no_store (empty_there setting nodes w l p h t q x e) in
         sym seen ∙ sym taken ∙ ap (taken_in ops.buffered code h q.name) (same_Some told.0 r (sym told.1.asks ∙ asks))

@@ -4,11 +4,6 @@ use Rattle.std.proofs.Common.{Some, refl, ap, ap₂, sym, subst, arith}
 use Rattle.std.specs.List.{Contains, find}
 use Rattle.std.specs.Option.{option_map_or}
 use Rattle.std.proofs.lemmas.Bool.{true≢false, and_parts, false_from_ne_true, eq-eqb, ne_eqb}
-use Rattle.tc_base.specs.Buffers.{BufferOps}
-use Rattle.run_log.specs.Logs.{Log}
-use Rattle.memory_models.specs.declared.model.Model.{Model}
-use Rattle.tc_code.specs.Code.{Code}
-use Rattle.store_buffers.specs.Pending.{Binding}
 use Rattle.run_history.specs.History.{Deed, Drained, Issue, has_drained, pending_issues}
 use Rattle.run_history.specs.Told.{steps_in}
 use Rattle.run_history.specs.pending.Deeds.{IsIssuedIn, has_bar_between}
@@ -21,6 +16,7 @@ use Rattle.path_walk.specs.Paths.{Walk}
 use Rattle.path_walk.specs.declared.event.Event.{Event}
 use Rattle.path_walk.specs.declared.event.EventKind.{EventKind}
 use Rattle.path_walk.specs.declared.event.EventKind.TheVariants as kind
+use Rattle.path_laws.specs.Setting.{Setting}
 use Rattle.path_laws.specs.history.Along.{IsThread}
 use Rattle.path_laws.proofs.of_history.Told.{run_of}
 use Rattle.path_laws.proofs.of_events.Bars.{told}
@@ -51,9 +47,10 @@ is_kind_store kind.Store e = refl
 is_kind_store kind.Load e = absurd (true≢false (sym e))
 is_kind_store k e = absurd (true≢false (sym e))
 
-module _ {B : Type 0} (ops : BufferOps B) (model : Model) (bound : Binding) (code : Code) (log : Log) (nodes : List Node) (w : World)
-    (l : IsLawfulWorld ops model bound code log nodes w) (p : ℕ) (h : List Deed) (g : HasGone ops.buffered bound code log nodes w p h) (t : ℕ) (q : Walk)
-    (there : IsThread code log t q) where
+module _ {B : Type 0} (setting : Setting B) (nodes : List Node) (w : World) (l : IsLawfulWorld setting nodes w) (p : ℕ) (h : List Deed)
+    (g : HasGone setting nodes w p h) (t : ℕ) (q : Walk) (there : IsThread setting.code setting.log t q) where
+  open setting use {machine, ops, bound, code, log}
+
   -- whether an issued store is still in its buffer, by its position
   pub is_waiting : (x : Event) → Contains q.events x → is_pending ops.buffered x ≡ true → p ≤ place code log w t x → has_drained h q.name x.step ≡ false
   is_waiting x i pending late =
@@ -69,7 +66,7 @@ module _ {B : Type 0} (ops : BufferOps B) (model : Model) (bound : Binding) (cod
 
     issued : (c : ℕ) × (v : ℤ) × IsIssuedIn h q.name x.step c v
     issued =
-        event_issued ops model bound l.laws code l.code_is log l.log_is l.fits h g.along t q there x (in_contains x q.events among) store done
+        event_issued setting l.fits h g.along t q there x (in_contains x q.events among) store done
 
     waits : has_drained h q.name x.step ≡ false
     waits = is_waiting x among pending (omega (arith, at))
@@ -78,17 +75,17 @@ module _ {B : Type 0} (ops : BufferOps B) (model : Model) (bound : Binding) (cod
     free : (c : ℕ) (v : ℤ) → IsIssuedIn h q.name x.step c v → (j d : ℕ) (u : ℤ) → IsIssuedIn h q.name j d u → has_drained h q.name j ≡ false → j < x.step
         → bound (d == c) (has_bar_between h q.name j x.step) ≡ true → ⊥
     free c v mine j d u its none less binds =
-        let y = issue_event ops model bound l.laws code l.code_is log l.log_is l.fits h g.along t q there j d u its in
+        let y = issue_event setting l.fits h g.along t q there j d u its in
         let i = contains_in y.0 q.events y.1 in
-        let a = access_of ops model bound code log nodes w l h g.along g.agrees t q there j (written d u) (issue_asks h q.name j d u its) in
-        let b = access_of ops model bound code log nodes w l h g.along g.agrees t q there x.step (written c v) (issue_asks h q.name x.step c v mine) in
-        let cells = cells_of_steps ops model bound code log nodes w l h g.along g.agrees t j x.step (written d u) (written c v) a b y.0 x y.2 refl in
+        let a = access_of setting nodes w l h g.along g.agrees t q there j (written d u) (issue_asks h q.name j d u its) in
+        let b = access_of setting nodes w l h g.along g.agrees t q there x.step (written c v) (issue_asks h q.name x.step c v mine) in
+        let cells = cells_of_steps setting nodes w l h g.along g.agrees t j x.step (written d u) (written c v) a b y.0 x y.2 refl in
         let lt : y.0.step < x.step = omega (arith, y.2, less) in
-        let bars = told ops model bound l.laws code l.code_is log l.log_is l.fits h g.along t q there y.0 x y.1 (in_contains x q.events among) lt
+        let bars = told setting l.fits h g.along t q there y.0 x y.1 (in_contains x q.events among) lt
         (omega (arith, done)) in
-        let before = bound_before ops model bound code log nodes w l t q y.0 x there i among lt store
+        let before = bound_before setting nodes w l t q y.0 x there i among lt store
         (ap₂ bound cells (sym bars ∙ ap (λ m. has_bar_between h q.name m x.step) y.2) ∙ binds) in
-        let drained = passed_has_drained ops model bound code log nodes w l p h g t q there both.0 y.0 y.1 y.3 (omega (arith, before, at)) in
+        let drained = passed_has_drained setting nodes w l p h g t q there both.0 y.0 y.1 y.3 (omega (arith, before, at)) in
         true≢false (sym drained ∙ ap (has_drained h q.name) y.2 ∙ none)
 
     pub has_turn : (c : ℕ) × (v : ℤ) × IsNextDrain ops.buffered bound h q.name x.step c v
@@ -96,7 +93,7 @@ module _ {B : Type 0} (ops : BufferOps B) (model : Model) (bound : Binding) (cod
     has_turn =
         let i = issued in
         let one = a_store x.step (record { cell = i.0; value = i.1 }) in
-        let run = run_of ops model bound l.laws code l.code_is log h g.along in
+        let run = run_of machine log h g.along in
         let waiting = subst (λ b. In one (pending_issues b h q.name)) (sym both.0) (store_pending h q.name x.step i.0 i.1 i.2 waits) in (
           i.0,
           i.1,

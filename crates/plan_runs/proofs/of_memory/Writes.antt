@@ -4,25 +4,19 @@ use Rattle.std.proofs.Common.{Option, Some, None, refl, ap, ap₂, sym, subst}
 use Rattle.std.specs.Prelude.{option_and_then}
 use Rattle.std.proofs.lemmas.Bool.{and_parts, and_from, eqb-true, eq-eqb, not_from_false, cases_Bool}
 use Rattle.std.proofs.lemmas.Option.{none-some, same_Some, cond_some}
-use Rattle.tc_base.specs.Buffers.{BufferOps, Entry}
-use Rattle.run_log.specs.Logs.{Log}
+use Rattle.tc_base.specs.Buffers.{Entry}
 use Rattle.tc_base.specs.Names.{Name}
-use Rattle.memory_models.specs.declared.model.Model.{Model}
 use Rattle.tc_base.specs.declared.request.Request.{Request}
 use Rattle.tc_base.specs.declared.request.Request.TheVariants.{Silent, Read, Write, Exchange, CompareExchange}
-use Rattle.tc_code.specs.Code.{Code}
-use Rattle.tc_code.specs.Lawful.{IsLawful}
 use Rattle.tc_code.specs.Step.{replaced}
-use Rattle.store_buffers.specs.Laws.{Laws}
-use Rattle.store_buffers.specs.Pending.{Binding}
 use Rattle.run_laws.proofs.Names.{is_same, same_self}
 use Rattle.run_history.specs.History.{Deed, Did, Drained, has_drained, same}
 use Rattle.run_history.specs.Last.{brings}
 use Rattle.run_history.specs.Told.{reaches}
 use Rattle.run_history.specs.pending.Deeds.{IsIssuedIn, own_value}
-use Rattle.run_log.specs.Logs.{is_log}
 use Rattle.path_walk.specs.Fits.{Fits}
 use Rattle.path_walk.specs.Paths.{Walk, paths_of}
+use Rattle.path_laws.specs.Setting.{Setting}
 use Rattle.path_laws.specs.history.Along.{IsAlongPaths, IsThread, IsNameOfThread}
 use Rattle.sym_exec.specs.Alone.{Asked, asked_by}
 use Rattle.sym_steps.specs.accesses.Asked.{IsAskedIn}
@@ -170,8 +164,10 @@ own_gives b h n k c v took other has waits =
     (and_from (b && same n n) ((c == c) && not (has_drained h n k)) (and_from b (same n n) has (same_self n n refl))
     (and_from (c == c) (not (has_drained h n k)) (eq-eqb c c refl) (not_from_false (has_drained h n k) waits)))
 
-module _ {B : Type 0} (ops : BufferOps B) (model : Model) (bound : Binding) (laws : Laws ops model bound) (code : Code) (lawful : IsLawful code) (log : Log)
-    (is : is_log log ≡ true) (fits : Fits code log) (h : List Deed) (along : IsAlongPaths ops.buffered bound code log h) where
+module _ {B : Type 0} (setting : Setting B) (fits : Fits setting.code setting.log) (h : List Deed)
+    (along : IsAlongPaths setting.ops.buffered setting.bound setting.code setting.log h) where
+  open setting use {ops, code, log}
+
   -- a store that a thread's step asks is in memory, or in the thread's buffer
   pub record IsInMemory (u k c : ℕ) (v : ℤ) : Type 0 where
     pub older : List Deed
@@ -211,7 +207,7 @@ module _ {B : Type 0} (ops : BufferOps B) (model : Model) (bound : Binding) (law
       of_issue has i =
           elim (cases_Bool (has_drained h q.name k)) [
             | inl done ↦
-                let z = issue_drained ops model bound laws code lawful log is fits h along q.name k y.cell v i done in
+                let z = issue_drained setting fits h along q.name k y.cell v i done in
                 inl (record {
                   older = z.older;
                   deed = Drained q.name k y.cell v;
@@ -238,11 +234,11 @@ module _ {B : Type 0} (ops : BufferOps B) (model : Model) (bound : Binding) (law
   pub store_of : (older newer : List Deed) (d : Deed) (c : ℕ) (v : ℤ) → h ≡ older ++ d ∷ newer → brings ops.buffered c d ≡ Some v → IsStoreOf c v d
   store_of older newer d c v there gives =
       elim (who_brings ops.buffered c d v gives) [
-        | inl s ↦ of_step s (step_named ops model bound laws code lawful log is fits h along older newer s.name s.number s.request s.took s.other (at_step s))
+        | inl s ↦ of_step s (step_named setting fits h along older newer s.name s.number s.request s.took s.other (at_step s))
         | inr s ↦
             let z : IsDrainedIn h s.name s.number c v = record { older = older; newer = newer; there = there ∙ ap (λ x. older ++ x ∷ newer) s.is } in
-            let i = (drain_issued ops model bound laws code lawful log is fits h along s.name s.number c v z).0 in
-            of_drain s i (issuer_named ops model bound laws code lawful log is fits h along s.name s.number c v i)
+            let i = (drain_issued setting fits h along s.name s.number c v z).0 in
+            of_drain s i (issuer_named setting fits h along s.name s.number c v i)
       ]
     where
       at_step : (s : IsStepOf ops.buffered c v d) → h ≡ older ++ Did s.name s.number s.request s.took s.other ∷ newer

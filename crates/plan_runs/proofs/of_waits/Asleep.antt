@@ -6,14 +6,9 @@ use Rattle.std.specs.FinSet as set
 use Rattle.std.specs.List.{Contains, filter_map, cons_option, last_or}
 use Rattle.std.proofs.lemmas.Bool.{false≢true, true≢false, cases_lt, and_parts, eqb-true, eq-eqb}
 use Rattle.std.proofs.lemmas.Option.{none-some, same_Some}
-use Rattle.tc_base.specs.Buffers.{BufferOps}
-use Rattle.run_log.specs.Logs.{Log}
 use Rattle.tc_base.specs.Names.{Name}
-use Rattle.memory_models.specs.declared.model.Model.{Model}
 use Rattle.tc_base.specs.declared.request.Request.{Request}
 use Rattle.tc_base.specs.declared.request.Request.TheVariants.{Silent, BeginWait, WakeOne, WakeAll, Start}
-use Rattle.tc_code.specs.Code.{Code}
-use Rattle.store_buffers.specs.Pending.{Binding}
 use Rattle.run_laws.proofs.Names.{is_same, same_self}
 use Rattle.run_history.specs.History.{Deed, Did, Drained, same}
 use Rattle.run_history.specs.Last.{waits_by}
@@ -27,6 +22,7 @@ use Rattle.path_walk.specs.declared.event.Event.{Event}
 use Rattle.path_walk.specs.declared.event.EventKind.{EventKind}
 use Rattle.path_walk.specs.declared.event.EventKind.TheVariants as kind
 use Rattle.path_walk.specs.declared.event.Sleep.{Sleep}
+use Rattle.path_laws.specs.Setting.{Setting}
 use Rattle.path_laws.specs.Deeds.{kind_of}
 use Rattle.path_laws.specs.history.Along.{IsAlongPaths, IsThread}
 use Rattle.path_laws.specs.events.Done.{IsDoneIn, IsAsleepIn}
@@ -163,8 +159,10 @@ abbrev pub kind_done : Deed → Option EventKind
 kind_done (Did n k r took other) = kind_of r other
 kind_done (Drained n k c v) = None
 
-module _ {B : Type 0} (ops : BufferOps B) (model : Model) (bound : Binding) (code : Code) (log : Log) (nodes : List Node) (w : World)
-    (lawful : IsLawfulWorld ops model bound code log nodes w) (p : ℕ) (h : List Deed) (gone : HasGone ops.buffered bound code log nodes w p h) where
+module _ {B : Type 0} (setting : Setting B) (nodes : List Node) (w : World) (lawful : IsLawfulWorld setting nodes w) (p : ℕ) (h : List Deed)
+    (gone : HasGone setting nodes w p h) where
+  open setting use {ops, bound, code, log}
+
   abbrev paths : Paths
   paths = paths_of code log
 
@@ -187,7 +185,7 @@ module _ {B : Type 0} (ops : BufferOps B) (model : Model) (bound : Binding) (cod
   module _ (t : ℕ) (q : Walk) (x : Event) (there : IsThread code log t q) (i : Contains q.events x) (at : place code log w t x ≡ p) where
     is_it : (g : ℕ) (e : Of Event) → slice_get (all_events paths) g ≡ Some e → position w g ≡ p → (number_of paths t x.step ≡ g) × (x ≡ e.it)
     is_it g e is here =
-        let whole = are_whole ops model bound code log nodes w lawful in
+        let whole = are_whole setting nodes w lawful in
         let o = event_numbered paths whole g e is in
         let number = number_is paths whole g e is in
         let same = same_event paths w lawful.world lawful.of.events whole t e.thread q o.0 x e.it there o.1 i o.2
@@ -227,13 +225,13 @@ module _ {B : Type 0} (ops : BufferOps B) (model : Model) (bound : Binding) (cod
     done_now : (u : ℕ) (v : Walk) (e : Event) → IsThread code log u v → In e v.events → e.step < steps_in after v.name
         → (e.step < steps_in h v.name) ⊎ IsNow v.name e
     done_now u v e there i done =
-        let o = event_done ops model bound lawful.laws code lawful.code_is log lawful.log_is lawful.fits after along u v there e i done in
+        let o = event_done setting lawful.fits after along u v there e i done in
         elim (last_or_before h d o.older (Did v.name e.step o.request o.took o.other) o.newer o.there) [
           | inl last ↦ inr (record { request = o.request; took = o.took; other = o.other; is = last.1; asks = o.asks })
           | inr b ↦
               let before : IsDoneIn h v.name e.step e.kind =
               record { older = o.older; newer = b.rest; request = o.request; took = o.took; other = o.other; there = b.there; asks = o.asks } in
-              inl (done_event ops model bound lawful.laws code lawful.code_is log lawful.log_is lawful.fits h gone.along u v there e.step e.kind before).4
+              inl (done_event setting lawful.fits h gone.along u v there e.step e.kind before).4
         ]
 
     kind_now : (n : Name) (e : Event) → IsNow n e → kind_done d ≡ Some e.kind
@@ -247,7 +245,7 @@ module _ {B : Type 0} (ops : BufferOps B) (model : Model) (bound : Binding) (cod
       among = let o = owner paths s z is in subst (λ (y : Walk). Contains y.sleeps z.it) (same_Some o.walk v (sym o.there ∙ there)) o.among
 
       first : SleepEvent v.events z.it
-      first = begins_with ops model bound code log nodes w lawful z.thread v z.it there among
+      first = begins_with setting nodes w lawful z.thread v z.it there among
 
       -- a sleep has begun before, or begins now
       begun_when : z.it.step < steps_in after v.name → (z.it.step < steps_in h v.name) ⊎ IsNow v.name first.event
@@ -275,7 +273,7 @@ module _ {B : Type 0} (ops : BufferOps B) (model : Model) (bound : Binding) (cod
           let next = next_number v.name first.event.step now.request now.took now.other now.is in
           elim (cases_lt (place_of paths w z.thread z.it.step) p) [
             | inl before ↦
-                let begun = before_begun ops model bound code log nodes w lawful z.thread v z.it there among p h gone before in
+                let begun = before_begun setting nodes w lawful z.thread v z.it there among p h gone before in
                 absurd (omega (arith, begun, next, first.step))
             | inr least ↦ omega (arith, least, order)
           ]
@@ -343,7 +341,7 @@ module _ {B : Type 0} (ops : BufferOps B) (model : Model) (bound : Binding) (cod
 
     -- The event at the position.
 
-    module _ (t : ℕ) (q : Walk) (x : Event) (at : IsAtEvent ops.buffered bound code log nodes w p h t q x) (k : ℕ) (r : Request) (took : ℤ)
+    module _ (t : ℕ) (q : Walk) (x : Event) (at : IsAtEvent setting nodes w p h t q x) (k : ℕ) (r : Request) (took : ℤ)
         (other : Option Name) (does : d ≡ Did q.name k r took other) (other_is : other ≡ other_of paths w h t q.name r) where
       abbrev g : ℕ
       g = number_of paths t x.step
@@ -391,7 +389,7 @@ module _ {B : Type 0} (ops : BufferOps B) (model : Model) (bound : Binding) (cod
             by (Some n) wakes =
                 let o = to_wake paths w g n wakes in
                 let one = (lawful.lawful.meets (Condition z.it.condition)).one s o.number g
-                (is_signal_at paths w (are_whole ops model bound code log nodes w lawful) t q x z.it.condition at.thread at.event signal) ends_g o.ends in
+                (is_signal_at paths w (are_whole setting nodes w lawful) t q x z.it.condition at.thread at.event signal) ends_g o.ends in
                 let sleep = same_Some z o.sleep (sym is ∙ ap (slice_get (all_sleeps paths)) one ∙ o.is) in
                 let walk = same_Some v o.walk (sym there ∙ ap (λ (y : Of Sleep). slice_get paths.threads y.thread) sleep ∙ o.there) in
                 woken z.it.condition (signal_is r other z.it.condition (asks ∙ ap (λ a. Some a) signal))
@@ -425,26 +423,26 @@ module _ {B : Type 0} (ops : BufferOps B) (model : Model) (bound : Binding) (cod
           -- and what touches it ends it
           not_later : AboutWait z.it.condition v.name q.name r other → ⊥
           not_later (Begins m own begins) =
-              let waiting = (waits ops model bound code log nodes w lawful p h gone z.thread v z.it.condition there).1
+              let waiting = (waits setting nodes w lawful p h gone z.thread v z.it.condition there).1
               (z.it, among s z v is there, refl, asleep) in
               true≢false (sym waiting ∙ ap (set.contains (waiting_in h z.it.condition)) (sym own)
-              ∙ waits_no_more ops model bound code log nodes w lawful p h t q x at z.it.condition)
+              ∙ waits_no_more setting nodes w lawful p h t q x at z.it.condition)
           not_later (Wakes_it signal to) =
               let c = z.it.condition in
               let o = to_wake paths w g v.name (sym (woken c signal) ∙ to) in
-              let other_asleep = lasts ops model bound code log nodes w lawful p h t q x at c (signals_now c signal) v.name o in
-              let mine = still ops model bound code log nodes w lawful p h gone v.name z.it asleep in
-              let its = still ops model bound code log nodes w lawful p h gone o.walk.name o.sleep.it other_asleep in
-              let thread = one_thread code log lawful.log_is z.thread o.sleep.thread v o.walk there o.there (sym o.name) in
+              let other_asleep = lasts setting nodes w lawful p h t q x at c (signals_now c signal) v.name o in
+              let mine = still setting nodes w lawful p h gone v.name z.it asleep in
+              let its = still setting nodes w lawful p h gone o.walk.name o.sleep.it other_asleep in
+              let thread = one_thread code log setting.log_is z.thread o.sleep.thread v o.walk there o.there (sym o.name) in
               let name = ap (steps_in h) o.name in
-              let number = one_sleep ops model bound code log nodes w lawful s o.number z o.sleep is o.is thread (omega (arith, mine, its, name)) in
+              let number = one_sleep setting nodes w lawful s o.number z o.sleep is o.is thread (omega (arith, mine, its, name)) in
               let least = later g (ap (ender_of w) number ∙ o.ends) in
               omega (arith, least, here)
           not_later (Wakes_all broadcast) =
               let c = z.it.condition in
-              let before = begun_before ops model bound code log nodes w lawful z.thread v z.it there (among s z v is there) p h gone begun in
+              let before = begun_before setting nodes w lawful z.thread v z.it there (among s z v is there) p h gone begun in
               let ends = (lawful.lawful.meets (Condition c)).each s g z
-              (is_broadcast_at paths w (are_whole ops model bound code log nodes w lawful) t q x c at.thread at.event (broadcasts_now c broadcast))
+              (is_broadcast_at paths w (are_whole setting nodes w lawful) t q x c at.thread at.event (broadcasts_now c broadcast))
               (record { is = is; condition = refl })
               (record { begun = omega (arith, before, here); lasts = λ j ends less. omega (arith, later j ends, less, here) }) in
               omega (arith, later g ends, here)
@@ -467,14 +465,16 @@ module _ {B : Type 0} (ops : BufferOps B) (model : Model) (bound : Binding) (cod
           )
 
 -- A drain is neither, and a step of a thread is an event of its path, if it is one.
-module _ {B : Type 0} (ops : BufferOps B) (model : Model) (bound : Binding) (code : Code) (log : Log) (nodes : List Node) (w : World)
-    (lawful : IsLawfulWorld ops model bound code log nodes w) (p : ℕ) (h : List Deed) (gone : HasGone ops.buffered bound code log nodes w p h) where
+module _ {B : Type 0} (setting : Setting B) (nodes : List Node) (w : World) (lawful : IsLawfulWorld setting nodes w) (p : ℕ) (h : List Deed)
+    (gone : HasGone setting nodes w p h) where
+  open setting use {ops, bound, code, log}
+
   pub step_until : (t : ℕ) (q : Walk) (k : ℕ) (r : Request) (took : ℤ) (other : Option Name) → IsThread code log t q
       → ((x : Event) → Contains q.events x → x.step ≡ steps_in h q.name → is_pending ops.buffered x ≡ true)
       → IsAlongPaths ops.buffered bound code log (h ++ Did q.name k r took other ∷ [])
       → SleepUntilEnded code log w p (h ++ Did q.name k r took other ∷ [])
   step_until t q k r took other there waiting along =
-      quiet_until ops model bound code log nodes w lawful p h gone d along quiet (λ c n. by c n (waits_by c n d) refl)
+      quiet_until setting nodes w lawful p h gone d along quiet (λ c n. by c n (waits_by c n d) refl)
     where
       d : Deed
       d = Did q.name k r took other
@@ -483,7 +483,7 @@ module _ {B : Type 0} (ops : BufferOps B) (model : Model) (bound : Binding) (cod
       quiet e asks =
           let done : IsDoneIn (h ++ Did q.name k r took other ∷ []) q.name k e =
           record { older = h; newer = []; request = r; took = took; other = other; there = refl; asks = asks } in
-          let o = done_event ops model bound lawful.laws code lawful.code_is log lawful.log_is lawful.fits (h ++ Did q.name k r took other ∷ []) along t q
+          let o = done_event setting lawful.fits (h ++ Did q.name k r took other ∷ []) along t q
           there k e done in
           let next = (along.follow h [] (Did q.name k r took other) refl).1.number in
           let pending = waiting o.0 (contains_in o.0 q.events o.1) (o.2 ∙ next) in
@@ -498,11 +498,11 @@ module _ {B : Type 0} (ops : BufferOps B) (model : Model) (bound : Binding) (cod
   pub drain_until : (n : Name) (k c : ℕ) (v : ℤ) → IsAlongPaths ops.buffered bound code log (h ++ Drained n k c v ∷ [])
       → SleepUntilEnded code log w p (h ++ Drained n k c v ∷ [])
   drain_until n k c v along =
-      quiet_until ops model bound code log nodes w lawful p h gone (Drained n k c v) along (λ e asks. absurd (none-some e asks)) (λ i m. refl)
+      quiet_until setting nodes w lawful p h gone (Drained n k c v) along (λ e asks. absurd (none-some e asks)) (λ i m. refl)
 
   pub drained_until : (t : ℕ) (q : Walk) (x : Event) (n : Name) (k c : ℕ) (v : ℤ) → IsThread code log t q → Contains q.events x
       → is_pending ops.buffered x ≡ true → place code log w t x ≡ p → IsAlongPaths ops.buffered bound code log (h ++ Drained n k c v ∷ [])
       → SleepUntilEnded code log w (p + 1) (h ++ Drained n k c v ∷ [])
   drained_until t q x n k c v there i pending at along =
-      store_until ops model bound code log nodes w lawful p h gone (Drained n k c v) along (λ e asks. absurd (none-some e asks)) (λ j m. refl) t q x there i
+      store_until setting nodes w lawful p h gone (Drained n k c v) along (λ e asks. absurd (none-some e asks)) (λ j m. refl) t q x there i
       pending at

@@ -5,14 +5,9 @@ use Rattle.std.specs.FinMap as fin
 use Rattle.std.specs.List.{Contains}
 use Rattle.std.proofs.lemmas.Bool.{false_from_ne_true}
 use Rattle.std.proofs.lemmas.Option.{none-some}
-use Rattle.tc_base.specs.Buffers.{BufferOps}
-use Rattle.run_log.specs.Logs.{Log}
 use Rattle.tc_base.specs.Names.{Name, child}
 use Rattle.tc_base.specs.States.{Thread}
 use Rattle.tc_base.specs.declared.failing.Failing.TheVariants.{Deadlock}
-use Rattle.memory_models.specs.declared.model.Model.{Model}
-use Rattle.tc_code.specs.Code.{Code}
-use Rattle.store_buffers.specs.Pending.{Binding}
 use Rattle.run_laws.proofs.Basics.{found, some_is, some_value}
 use Rattle.run_history.specs.History.{Deed}
 use Rattle.run_history.specs.Told.{owner_in, is_thread_in, steps_in, has_exited_in}
@@ -21,6 +16,7 @@ use Rattle.run_follows.specs.blocked.Stuck.{IsBlockedIn, IsBlockedNext, AllAreBl
 use Rattle.path_walk.specs.Paths.{Walk, Paths, paths_of}
 use Rattle.path_walk.specs.declared.event.Blocked.{Blocked}
 use Rattle.path_walk.specs.declared.event.Blocked.TheVariants as blocked
+use Rattle.path_laws.specs.Setting.{Setting}
 use Rattle.path_laws.specs.history.Along.{IsThread, AllHaveDone}
 use Rattle.path_laws.proofs.of_history.Told.{RunOf, run_of, thread_of}
 use Rattle.path_laws.proofs.of_history.Walks.{thread_named}
@@ -42,25 +38,26 @@ use Rattle.plan_runs.proofs.of_waits.Sleepers.{sleep_number}
 use Rattle.plan_runs.proofs.of_waits.Waking.{waits}
 use Rattle.plan_runs.proofs.of_waits.Worlds.{walk}
 
-module _ {B : Type 0} (ops : BufferOps B) (model : Model) (bound : Binding) (code : Code) (log : Log) (nodes : List Node) (w : World)
-    (lawful : IsLawfulWorld ops model bound code log nodes w) (p : ℕ) (h : List Deed) (gone : HasGone ops.buffered bound code log nodes w p h)
-    (deadlock : log.failing ≡ Deadlock) (done : AllHaveDone code log h) where
+module _ {B : Type 0} (setting : Setting B) (nodes : List Node) (w : World) (lawful : IsLawfulWorld setting nodes w) (p : ℕ) (h : List Deed)
+    (gone : HasGone setting nodes w p h) (deadlock : setting.log.failing ≡ Deadlock) (done : AllHaveDone setting.code setting.log h) where
+  open setting use {machine, code, log}
+
   abbrev paths : Paths
   paths = paths_of code log
 
-  abbrev r : RunOf ops model bound lawful.laws code lawful.code_is log h
-  r = run_of ops model bound lawful.laws code lawful.code_is log h gone.along
+  abbrev r : RunOf machine log h
+  r = run_of machine log h gone.along
 
   -- a mutex that is held at the end is owned
   held_is_owned : (m : ℕ) → IsHeld paths w m → (n : Name) × (owner_in h m ≡ Some n)
   held_is_owned m held =
       let v = held.there.0 in
       let there = held.there.1 in
-      let k = walk ops model bound code log nodes w lawful held.thread v there in
+      let k = walk setting nodes w lawful held.thread v there in
       let e = region_event v.events held.region (subst (In held.region) k.regions (in_contains held.region v.regions held.there.2)) in
       let within = event_within code log v k e.event e.there in (
         v.name,
-        (region_owned ops model bound lawful.laws code lawful.code_is log lawful.log_is lawful.fits h gone.along held.thread v there m).1 (
+        (region_owned setting lawful.fits h gone.along held.thread v there m).1 (
           held.region,
           held.there.2,
           held.of,
@@ -86,37 +83,37 @@ module _ {B : Type 0} (ops : BufferOps B) (model : Model) (bound : Binding) (cod
       elim ((lawful.lawful.meets (Stuck t)).stuck q (blocked.Wake c m k) there is) [
         | inl held ↦ inr (owned m held)
         | inr sleeps_on ↦
-            let l = at_last_sleep code lawful.code_is log q (walk ops model bound code log nodes w lawful t q there) c m k is in
+            let l = at_last_sleep code setting.lawful log q (walk setting nodes w lawful t q there) c m k is in
             let among : Contains q.sleeps l.sleep = at_in q.sleeps _ l.sleep l.last in
             let n = sleep_number paths t q l.sleep there among in
             let none = sleeps_on n.0 (record { thread = t; it = l.sleep }) n.1 refl l.step in
             let begun : l.sleep.step < steps_in h q.name = omega (arith, l.step, l.ends, done t q there) in
             let asleep = (gone.sleeps n.0 (record { thread = t; it = l.sleep }) q n.1 there begun).1 (λ g ends. absurd (none-some g (sym none ∙ ends))) in
-            inl ((waits ops model bound code log nodes w lawful p h gone t q c there).1 (l.sleep, among, l.condition, asleep))
+            inl ((waits setting nodes w lawful p h gone t q c there).1 (l.sleep, among, l.condition, asleep))
       ]
   blocked_at t q there (blocked.Join k) is =
       false_from_ne_true (has_exited_in h (child q.name k)) (λ gone_from.
-      let n = thread_named ops model bound lawful.laws code lawful.code_is log lawful.log_is lawful.fits h (child q.name k) gone.along
+      let n = thread_named setting lawful.fits h (child q.name k) gone.along
       (exited_there (child q.name k) gone_from) in
-      let e = (exits_told ops model bound lawful.laws code lawful.code_is log lawful.log_is lawful.fits h gone.along n.place n.walk n.there).0
+      let e = (exits_told setting lawful.fits h gone.along n.place n.walk n.there).0
       (ap (has_exited_in h) n.name ∙ gone_from) in
       (lawful.lawful.meets (Stuck t)).stuck q (blocked.Join k) there is n.place e.0 (q, n.walk, there, n.there, n.name) (n.walk, n.there, e.1) e.2)
 
   pub all_blocked : AllAreBlocked code h
   all_blocked n left =
-      let o = thread_named ops model bound lawful.laws code lawful.code_is log lawful.log_is lawful.fits h n gone.along left.there in
+      let o = thread_named setting lawful.fits h n gone.along left.there in
       let q = o.walk in
       let is_there : is_thread_in h q.name ≡ true = ap (is_thread_in h) o.name ∙ left.there in
-      let t = thread_of ops model bound lawful.laws code lawful.code_is log h r q.name is_there in
+      let t = thread_of machine log h r q.name is_there in
       let last = done o.place q o.there in
-      let some = (left_blocked ops model bound lawful.laws code lawful.code_is log lawful.log_is lawful.fits h r o.place q o.there last deadlock t.0 t.1).0
+      let some = (left_blocked setting lawful.fits h r o.place q o.there last deadlock t.0 t.1).0
       (ap (has_exited_in h) o.name ∙ left.going) in
       let b = some_value q.blocked some in
       subst (IsBlockedNext code h) o.name
       (record {
         request = asked_at b.0;
         asks =
-            asks_blocked ops model bound lawful.laws code lawful.code_is log lawful.log_is lawful.fits h r o.place q o.there last deadlock t.0 t.1
+            asks_blocked setting lawful.fits h r o.place q o.there last deadlock t.0 t.1
             ∙ ap (λ x. option_map asked_at x) b.1;
         blocked = blocked_at o.place q o.there b.0 b.1;
       })

@@ -3,12 +3,7 @@ use Rattle.std.proofs.Common.{◌≡◌, ◌≢◌, ◌⊎◌, ◌∙◌, inl, i
 use Rattle.std.specs.List.{Contains}
 use Rattle.std.proofs.lemmas.Bool.{true≢false, eqb-true, eq-eqb}
 use Rattle.std.proofs.lemmas.Option.{none-some, same_Some}
-use Rattle.tc_base.specs.Buffers.{BufferOps}
-use Rattle.run_log.specs.Logs.{Log}
 use Rattle.tc_base.specs.Names.{Name}
-use Rattle.memory_models.specs.declared.model.Model.{Model}
-use Rattle.tc_code.specs.Code.{Code}
-use Rattle.store_buffers.specs.Pending.{Binding}
 use Rattle.run_history.specs.History.{Deed}
 use Rattle.run_history.specs.Told.{owner_in, steps_in}
 use Rattle.run_history.proofs.of_pending.In.{In}
@@ -18,6 +13,7 @@ use Rattle.path_walk.specs.declared.event.Event.{Event}
 use Rattle.path_walk.specs.declared.event.EventKind.{EventKind}
 use Rattle.path_walk.specs.declared.event.EventKind.TheVariants as kind
 use Rattle.path_walk.specs.declared.event.Region.{Region}
+use Rattle.path_laws.specs.Setting.{Setting}
 use Rattle.path_laws.specs.history.Along.{IsThread}
 use Rattle.path_laws.specs.events.Done.{IsOpenAfter}
 use Rattle.path_laws.proofs.of_events.Lists.{in_contains, contains_in}
@@ -37,19 +33,20 @@ no_store : (k : EventKind) (m : ℕ) → takes k ≡ Some m → is_store k ≡ f
 no_store kind.Store m takes_it = absurd (none-some m takes_it)
 no_store k m takes_it = refl
 
-module _ {B : Type 0} (ops : BufferOps B) (model : Model) (bound : Binding) (code : Code) (log : Log) (nodes : List Node) (w : World)
-    (lawful : IsLawfulWorld ops model bound code log nodes w) (p : ℕ) (h : List Deed) (t : ℕ) (q : Walk) (x : Event)
-    (at : IsAtEvent ops.buffered bound code log nodes w p h t q x) (m : ℕ) (takes_it : takes x.kind ≡ Some m) where
+module _ {B : Type 0} (setting : Setting B) (nodes : List Node) (w : World) (lawful : IsLawfulWorld setting nodes w) (p : ℕ) (h : List Deed) (t : ℕ)
+    (q : Walk) (x : Event) (at : IsAtEvent setting nodes w p h t q x) (m : ℕ) (takes_it : takes x.kind ≡ Some m) where
+  open setting use {code, log}
+
   -- the region that begins now
   mine : BeginsRegion q.events x m
   mine =
-      taken_region q.events x m (rising ops model bound code log nodes w lawful t q at.thread) (in_contains x q.events at.event) takes_it
+      taken_region q.events x m (rising setting nodes w lawful t q at.thread) (in_contains x q.events at.event) takes_it
 
   has_mine : HasRegion (paths_of code log) t mine.region
   has_mine = (
     q,
     at.thread,
-    contains_in mine.region q.regions (subst (In mine.region) (sym (walk ops model bound code log nodes w lawful t q at.thread).regions) mine.there),
+    contains_in mine.region q.regions (subst (In mine.region) (sym (walk setting nodes w lawful t q at.thread).regions) mine.there),
   )
 
   module _ (u : ℕ) (v : Walk) (s : Region) (there : IsThread code log u v) (i : Contains v.regions s) (mutex : s.mutex ≡ m)
@@ -68,16 +65,16 @@ module _ {B : Type 0} (ops : BufferOps B) (model : Model) (bound : Binding) (cod
     -- it isn't left later, for it has begun
     not_after : IsLeftBefore (paths_of code log) w t mine.region u s → ⊥
     not_after left =
-        let y = (are_whole ops model bound code log nodes w lawful).left t left.0 mine.region has_mine left.1 in
+        let y = (are_whole setting nodes w lawful).left t left.0 mine.region has_mine left.1 in
         let later = mine.ends left.0 left.1 in
         let own = same_Some y.1.0 q (sym y.1.1 ∙ at.thread) in
         let mine_first : place code log w t x < place code log w t y.0 =
-        in_turn ops model bound code log nodes w lawful t q x y.0 at.thread at.event (subst (λ (z : Walk). Contains z.events y.0) own y.1.2)
+        in_turn setting nodes w lawful t q x y.0 at.thread at.event (subst (λ (z : Walk). Contains z.events y.0) own y.1.2)
         (no_store x.kind m takes_it) (omega (arith, later, y.2)) in
         let e = region_event v.events s
-        (subst (In s) (walk ops model bound code log nodes w lawful u v there).regions (in_contains s v.regions i)) in
+        (subst (In s) (walk setting nodes w lawful u v there).regions (in_contains s v.regions i)) in
         let began : place code log w u e.event < p =
-        went_before ops model bound code log nodes w lawful p h u v e.event at.gone there (contains_in e.event v.events e.there)
+        went_before setting nodes w lawful p h u v e.event at.gone there (contains_in e.event v.events e.there)
         (no_store e.event.kind s.mutex e.takes_it) (omega (arith, lasts.begun, e.step)) in
         let first : place_of (paths_of code log) w t y.0.step < place_of (paths_of code log) w u e.event.step =
         subst (λ k. place_of (paths_of code log) w t k < place_of (paths_of code log) w u e.event.step) (sym y.2)
@@ -87,7 +84,7 @@ module _ {B : Type 0} (ops : BufferOps B) (model : Model) (bound : Binding) (cod
     -- nor before, for it is open
     not_before : IsLeftBefore (paths_of code log) w u s t mine.region → ⊥
     not_before left =
-        let y = (are_whole ops model bound code log nodes w lawful).left u left.0 s (v, there, i) left.1 in
+        let y = (are_whole setting nodes w lawful).left u left.0 s (v, there, i) left.1 in
         let before : place_of (paths_of code log) w u y.0.step < place_of (paths_of code log) w t x.step =
         subst (λ k. place_of (paths_of code log) w u k < place_of (paths_of code log) w t x.step) (sym y.2)
         (subst (λ k. place_of (paths_of code log) w u left.0 < place_of (paths_of code log) w t k) mine.begins left.2) in
@@ -109,7 +106,7 @@ module _ {B : Type 0} (ops : BufferOps B) (model : Model) (bound : Binding) (cod
       by : (o : Option Name) → owner_in h m ≡ o → owner_in h m ≡ None
       by None free = free
       by (Some n) owns =
-          let n_is = (took_it ops model bound lawful.laws code lawful.code_is log lawful.log_is lawful.fits h at.gone.along m n owns).thread in
-          let o = (region_owned ops model bound lawful.laws code lawful.code_is log lawful.log_is lawful.fits h at.gone.along n_is.place n_is.walk
+          let n_is = (took_it setting lawful.fits h at.gone.along m n owns).thread in
+          let o = (region_owned setting lawful.fits h at.gone.along n_is.place n_is.walk
           n_is.there m).0 (owns ∙ ap (λ k. Some k) (sym n_is.name)) in
           absurd (none_open n_is.place n_is.walk o.0 n_is.there o.1 o.2 o.3)

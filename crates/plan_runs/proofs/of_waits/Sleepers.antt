@@ -4,12 +4,7 @@ use Rattle.std.specs.Prelude.{slice_get, option_map, option_and_then}
 use Rattle.std.specs.List.{Contains, enumerate_from, find}
 use Rattle.std.proofs.lemmas.Bool.{eq-eqb, cases_order}
 use Rattle.std.proofs.lemmas.Option.{none-some, same_Some}
-use Rattle.tc_base.specs.Buffers.{BufferOps}
-use Rattle.run_log.specs.Logs.{Log}
 use Rattle.tc_base.specs.Names.{Name}
-use Rattle.memory_models.specs.declared.model.Model.{Model}
-use Rattle.tc_code.specs.Code.{Code}
-use Rattle.store_buffers.specs.Pending.{Binding}
 use Rattle.run_history.specs.History.{Deed}
 use Rattle.run_history.specs.Told.{steps_in}
 use Rattle.run_history.proofs.of_pending.In.{In}
@@ -17,6 +12,7 @@ use Rattle.path_walk.specs.Paths.{Walk, Paths, paths_of}
 use Rattle.path_walk.specs.declared.event.Event.{Event}
 use Rattle.path_walk.specs.declared.event.EventKind.TheVariants as kind
 use Rattle.path_walk.specs.declared.event.Sleep.{Sleep}
+use Rattle.path_laws.specs.Setting.{Setting}
 use Rattle.path_laws.specs.history.Along.{IsThread}
 use Rattle.path_laws.proofs.of_events.Lists.{in_contains, contains_in}
 use Rattle.sym_terms.specs.declared.node.Node.{Node}
@@ -128,8 +124,9 @@ module _ (paths : Paths) where
       broadcasts = ap (is_broadcast c) is ∙ eq-eqb c c refl;
     }
 
-module _ {B : Type 0} (ops : BufferOps B) (model : Model) (bound : Binding) (code : Code) (log : Log) (nodes : List Node) (w : World)
-    (lawful : IsLawfulWorld ops model bound code log nodes w) where
+module _ {B : Type 0} (setting : Setting B) (nodes : List Node) (w : World) (lawful : IsLawfulWorld setting nodes w) where
+  open setting use {code, log}
+
   -- a thread's sleep of a step has one number
   pub one_sleep : (i j : ℕ) (a b : Of Sleep) → slice_get (all_sleeps (paths_of code log)) i ≡ Some a
       → slice_get (all_sleeps (paths_of code log)) j ≡ Some b → a.thread ≡ b.thread → a.it.step ≡ b.it.step → i ≡ j
@@ -142,8 +139,8 @@ module _ {B : Type 0} (ops : BufferOps B) (model : Model) (bound : Binding) (cod
     where
       rise : Rise (λ (v : Walk). v.sleeps) (λ (z : Sleep). z.step) (paths_of code log).threads
       rise u j k v x y there =
-          let all = (walk ops model bound code log nodes w lawful u v there).sleeps in
-          sleeps_rise_at v.sleeps (subst SleepsRise (sym all) (sleeps_rise v.events (rising ops model bound code log nodes w lawful u v there))) j k x y
+          let all = (walk setting nodes w lawful u v there).sleeps in
+          sleeps_rise_at v.sleeps (subst SleepsRise (sym all) (sleeps_rise v.events (rising setting nodes w lawful u v there))) j k x y
 
       apart : (i j : ℕ) (a b : Of Sleep) → slice_get (all_sleeps (paths_of code log)) i ≡ Some a → slice_get (all_sleeps (paths_of code log)) j ≡ Some b
           → i < j → a.thread ≡ b.thread → a.it.step ≡ b.it.step → ⊥
@@ -153,21 +150,23 @@ module _ {B : Type 0} (ops : BufferOps B) (model : Model) (bound : Binding) (cod
             | inr earlier ↦ omega (arith, earlier.1, same)
           ]
 
-module _ {B : Type 0} (ops : BufferOps B) (model : Model) (bound : Binding) (code : Code) (log : Log) (nodes : List Node) (w : World)
-    (lawful : IsLawfulWorld ops model bound code log nodes w) (t : ℕ) (q : Walk) (s : Sleep) (there : IsThread code log t q) (i : Contains q.sleeps s) where
+module _ {B : Type 0} (setting : Setting B) (nodes : List Node) (w : World) (lawful : IsLawfulWorld setting nodes w) (t : ℕ) (q : Walk) (s : Sleep)
+    (there : IsThread setting.code setting.log t q) (i : Contains q.sleeps s) where
+  open setting use {code, log}
+
   -- the event with which a sleep begins
   pub begins_with : SleepEvent q.events s
-  begins_with = sleep_event q.events s (subst (In s) (walk ops model bound code log nodes w lawful t q there).sleeps (in_contains s q.sleeps i))
+  begins_with = sleep_event q.events s (subst (In s) (walk setting nodes w lawful t q there).sleeps (in_contains s q.sleeps i))
 
   no_store : is_store begins_with.event.kind ≡ false
   no_store = ap is_store begins_with.sleeps
 
-  module _ (p : ℕ) (h : List Deed) (gone : HasGone ops.buffered bound code log nodes w p h) where
+  module _ (p : ℕ) (h : List Deed) (gone : HasGone setting nodes w p h) where
     -- a sleep has begun exactly where that comes before the position
     pub begun_before : s.step < steps_in h q.name → place_of (paths_of code log) w t s.step < p
     begun_before done =
         let e = begins_with in
-        let before = went_before ops model bound code log nodes w lawful p h t q e.event gone there (contains_in e.event q.events e.there) no_store
+        let before = went_before setting nodes w lawful p h t q e.event gone there (contains_in e.event q.events e.there) no_store
         (subst (λ k. k < steps_in h q.name) (sym e.step) done) in
         subst (λ k. place_of (paths_of code log) w t k < p) e.step before
 

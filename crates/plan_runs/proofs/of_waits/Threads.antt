@@ -6,20 +6,15 @@ use Rattle.std.specs.List.{Contains, filter_map, list_any, last_or}
 use Rattle.std.proofs.Math.Bool.{and-false, or-true}
 use Rattle.std.proofs.lemmas.Bool.{false≢true}
 use Rattle.std.proofs.lemmas.Option.{none-some, same_Some}
-use Rattle.tc_base.specs.Buffers.{BufferOps}
-use Rattle.run_log.specs.Logs.{Log}
 use Rattle.tc_base.specs.Names.{Name, main, child}
 use Rattle.tc_base.specs.States.{Local}
 use Rattle.tc_base.specs.declared.handle.Handle.{Handle}
 use Rattle.tc_base.specs.declared.handle.Handle.TheVariants.{Unset, Child, Joined}
-use Rattle.memory_models.specs.declared.model.Model.{Model}
 use Rattle.tc_base.specs.declared.request.Request.{Request}
 use Rattle.tc_base.specs.declared.request.Request.TheVariants.{Silent, Start}
-use Rattle.tc_code.specs.Code.{Code}
 use Rattle.tc_code.specs.Step.{instr_of, child_number, can_be_joined, handle_of}
 use Rattle.tc_code.specs.declared.instr.Instr.{Instr}
 use Rattle.tc_code.specs.declared.instr.Instr.TheVariants.{Join}
-use Rattle.store_buffers.specs.Pending.{Binding}
 use Rattle.run_laws.specs.Laws.{IsChildOf, HoldsChild}
 use Rattle.run_laws.proofs.Bound.{reached_has_tested}
 use Rattle.run_laws.proofs.Created.{reached_is_created}
@@ -37,6 +32,7 @@ use Rattle.path_walk.specs.Events as events
 use Rattle.path_walk.specs.declared.event.Event.{Event}
 use Rattle.path_walk.specs.declared.event.EventKind.TheVariants as kind
 use Rattle.path_walk.specs.declared.event.Link.{Link}
+use Rattle.path_laws.specs.Setting.{Setting}
 use Rattle.path_laws.specs.Deeds.{kind_of}
 use Rattle.path_laws.specs.history.Along.{IsThread, AllAreThere}
 use Rattle.path_laws.specs.history.Next.{IsNextOnPath}
@@ -85,8 +81,10 @@ joined_child t (Joined j) k can is number = absurd (false≢true can)
 main_there : (h : List Deed) (n : Name) → n ≡ main → is_thread_in h n ≡ true
 main_there h n is = ap (λ b. b || list_any (same n) (filter_map creates h)) (same_self n main is)
 
-module _ {B : Type 0} (ops : BufferOps B) (model : Model) (bound : Binding) (code : Code) (log : Log) (nodes : List Node) (w : World)
-    (lawful : IsLawfulWorld ops model bound code log nodes w) (p : ℕ) (h : List Deed) (gone : HasGone ops.buffered bound code log nodes w p h) where
+module _ {B : Type 0} (setting : Setting B) (nodes : List Node) (w : World) (lawful : IsLawfulWorld setting nodes w) (p : ℕ) (h : List Deed)
+    (gone : HasGone setting nodes w p h) where
+  open setting use {ops, code, log}
+
   abbrev paths : Paths
   paths = paths_of code log
 
@@ -95,7 +93,7 @@ module _ {B : Type 0} (ops : BufferOps B) (model : Model) (bound : Binding) (cod
       → is_thread_in h (child v.name k) ≡ true
   child_there u v y k there i is done =
       let n = child v.name k in
-      let d = event_done ops model bound lawful.laws code lawful.code_is log lawful.log_is lawful.fits h gone.along u v there y i done in
+      let d = event_done setting lawful.fits h gone.along u v there y i done in
       let c = create_is d.request d.other k (d.asks ∙ ap (λ a. Some a) is) in
       let deed = Did v.name y.step (Start c.0) d.took d.other in
       let at : h ≡ d.older ++ deed ∷ d.newer = d.there ∙ ap (λ r. d.older ++ Did v.name y.step r d.took d.other ∷ d.newer) c.1 in
@@ -113,7 +111,7 @@ module _ {B : Type 0} (ops : BufferOps B) (model : Model) (bound : Binding) (cod
   thread_there : (c : ℕ) (q : Walk) → IsThread code log c q
       → ((o : IsCreatedBy code log q.name) → place code log w o.place o.event < p) → is_thread_in h q.name ≡ true
   thread_there c q there before =
-      elim (created_by code log lawful.log_is lawful.fits c q there) [
+      elim (created_by code log setting.log_is lawful.fits c q there) [
         | inl first ↦ main_there h q.name first
         | inr o ↦
             let done = gone.did o.place o.walk o.event o.there (contains_in o.event o.walk.events o.among) (before o) in
@@ -143,11 +141,12 @@ module _ {B : Type 0} (ops : BufferOps B) (model : Model) (bound : Binding) (cod
       all o.place o.walk o.event o.there (contains_in o.event o.walk.events o.among) (ap is_failure o.creates)
       (ap (λ a. ops.buffered && is_store a) o.creates ∙ and-false ops.buffered))
 
-module _ {B : Type 0} (ops : BufferOps B) (model : Model) (bound : Binding) (code : Code) (log : Log) (nodes : List Node) (w : World)
-    (lawful : IsLawfulWorld ops model bound code log nodes w) (p : ℕ) (h : List Deed) (t : ℕ) (q : Walk) (x : Event)
-    (at : IsAtEvent ops.buffered bound code log nodes w p h t q x) (k : ℕ) (joins : x.kind ≡ kind.Join k) where
-  abbrev r : RunOf ops model bound lawful.laws code lawful.code_is log h
-  r = run_of ops model bound lawful.laws code lawful.code_is log h at.gone.along
+module _ {B : Type 0} (setting : Setting B) (nodes : List Node) (w : World) (lawful : IsLawfulWorld setting nodes w) (p : ℕ) (h : List Deed) (t : ℕ)
+    (q : Walk) (x : Event) (at : IsAtEvent setting nodes w p h t q x) (k : ℕ) (joins : x.kind ≡ kind.Join k) where
+  open setting use {machine, ops, code, log}
+
+  abbrev r : RunOf machine log h
+  r = run_of machine log h at.gone.along
 
   abbrev steps : List Step
   steps = steps_at code q.function q.places
@@ -155,15 +154,15 @@ module _ {B : Type 0} (ops : BufferOps B) (model : Model) (bound : Binding) (cod
   -- the thread is about to do the join
   next : IsNextOnPath code h q
   next =
-      let within = event_within code log q (walk ops model bound code log nodes w lawful t q at.thread) x (in_contains x q.events at.event) in
-      next_on_path ops model bound lawful.laws code lawful.code_is log lawful.log_is lawful.fits h t q at.thread at.gone.going r
-      (there_at ops model bound code log nodes w lawful p h at.gone t q x at.thread at.event at.at) (omega (arith, within, at.steps))
+      let within = event_within code log q (walk setting nodes w lawful t q at.thread) x (in_contains x q.events at.event) in
+      next_on_path setting lawful.fits h t q at.thread at.gone.going r
+      (there_at setting nodes w lawful p h at.gone t q x at.thread at.event at.at) (omega (arith, within, at.steps))
 
   -- the child's thread is there
   child_is : is_thread_in h (child q.name k) ≡ true
   child_is =
-      let a = thread_next ops model bound lawful.laws code lawful.code_is log lawful.log_is lawful.fits h t q at.thread at.gone.going r next in
-      let i = walking ops model bound lawful.laws code lawful.code_is log lawful.log_is lawful.fits h r t q a.0 at.thread a.1 in
+      let a = thread_next setting lawful.fits h t q at.thread at.gone.going r next in
+      let i = walking setting lawful.fits h r t q a.0 at.thread a.1 in
       let e = at_step code log q i.walk x (in_contains x q.events at.event) in
       let j = join_is (marks_after (unmarked code q.function) (take e.place steps)) e.step.instr _ k (e.asks ∙ ap (λ b. Some b) joins) in
       let place_is : e.place ≡ steps_in h q.name = omega (arith, e.number, at.steps) in
@@ -171,13 +170,13 @@ module _ {B : Type 0} (ops : BufferOps B) (model : Model) (bound : Binding) (cod
       let same = same_Some e.step (record { place = next.local.instruction; instr = next.instr }) (sym e.there ∙ ap (slice_get steps) place_is ∙ step) in
       let instr : next.instr ≡ Join j.0 = sym (ap (λ (s : Step). s.instr) same) ∙ j.1 in
       let now : instr_of code a.0.local ≡ Some (Join j.0) = ap (instr_of code) a.2 ∙ next.next ∙ ap (λ b. Some b) instr in
-      let done = steps_of ops model bound lawful.laws code lawful.code_is log h r q.name a.0 a.1 in
+      let done = steps_of machine log h r q.name a.0 a.1 in
       let at_place : a.0.local.steps ≡ e.place = done ∙ sym place_is in
-      let marks = (thread_marks ops model bound lawful.laws code lawful.code_is log lawful.log_is lawful.fits q a.0 r.state.failed i).handles in
+      let marks = (thread_marks setting lawful.fits q a.0 r.state.failed i).handles in
       let handle : handle_in (marks_after (unmarked code q.function) (take e.place steps)) j.0 ≡ handle_of a.0.local j.0 =
       ap (λ n. handle_in (marks_after (unmarked code q.function) (take n steps)) j.0) (sym at_place) ∙ ap (λ hs. slice_index_or hs j.0 Unset) marks in
-      let is_reached = reached ops model bound lawful.laws code lawful.code_is log h r in
-      let can = (reached_has_tested ops code r.state lawful.code_is is_reached q.name a.0 a.1).join j.0 now in
+      let is_reached = reached machine log h r in
+      let can = (reached_has_tested ops code r.state setting.lawful is_reached q.name a.0 a.1).join j.0 now in
       let held = handles_are_children ops code r.state is_reached q.name a.0 a.1 j.0 in
       let number = ap child_number (sym handle) ∙ j.2 in
       let is = joined_child a.0.local (handle_of a.0.local j.0) k can held number in
@@ -186,7 +185,7 @@ module _ {B : Type 0} (ops : BufferOps B) (model : Model) (bound : Binding) (cod
 
   pub has_exited : has_exited_in h (child q.name k) ≡ true
   has_exited =
-      let n = thread_named ops model bound lawful.laws code lawful.code_is log lawful.log_is lawful.fits h (child q.name k) at.gone.along child_is in
+      let n = thread_named setting lawful.fits h (child q.name k) at.gone.along child_is in
       let from = thread_path_at code log t q at.thread in
       let all : q.joins ≡ events.joins_of q.events = subst (λ (z : Walk). z.joins ≡ events.joins_of z.events) from.2 refl in
       let link : Link = record { step = x.step; child = k } in
@@ -197,5 +196,5 @@ module _ {B : Type 0} (ops : BufferOps B) (model : Model) (bound : Binding) (cod
       let among = subst (λ (v : Walk). Contains v.events e.exit) own e.there.2 in
       let done = at.gone.did n.place n.walk e.exit n.there among (omega (arith, e.before, at.at)) in
       ap (has_exited_in h) (sym n.name)
-      ∙ (exits_told ops model bound lawful.laws code lawful.code_is log lawful.log_is lawful.fits h at.gone.along n.place n.walk n.there).1
+      ∙ (exits_told setting lawful.fits h at.gone.along n.place n.walk n.there).1
       (e.exit, among, e.exits, done)

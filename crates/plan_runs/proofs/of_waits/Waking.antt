@@ -4,12 +4,7 @@ use Rattle.std.specs.Prelude.{slice_get}
 use Rattle.std.specs.FinSet as set
 use Rattle.std.specs.List.{Contains}
 use Rattle.std.proofs.lemmas.Option.{same_Some}
-use Rattle.tc_base.specs.Buffers.{BufferOps}
-use Rattle.run_log.specs.Logs.{Log}
 use Rattle.tc_base.specs.Names.{Name}
-use Rattle.memory_models.specs.declared.model.Model.{Model}
-use Rattle.tc_code.specs.Code.{Code}
-use Rattle.store_buffers.specs.Pending.{Binding}
 use Rattle.run_history.specs.History.{Deed}
 use Rattle.run_history.specs.Told.{waiting_in, steps_in}
 use Rattle.run_follows.proofs.of_deeds.Nobody.{nobody_waits}
@@ -17,6 +12,7 @@ use Rattle.path_walk.specs.Paths.{Walk, Paths, paths_of}
 use Rattle.path_walk.specs.declared.event.Event.{Event}
 use Rattle.path_walk.specs.declared.event.EventKind.TheVariants as kind
 use Rattle.path_walk.specs.declared.event.Sleep.{Sleep}
+use Rattle.path_laws.specs.Setting.{Setting}
 use Rattle.path_laws.specs.history.Along.{IsThread, IsNameOfThread}
 use Rattle.path_laws.specs.events.Done.{IsAsleepIn}
 use Rattle.path_laws.proofs.of_events.Events.{event_within}
@@ -35,24 +31,25 @@ use Rattle.world_plan.specs.Plan.{woken_by}
 use Rattle.plan_runs.proofs.of_waits.Sleepers.{sleep_number, owner, Wakes, to_wake, wakes_none, is_signal_at, begun_before, before_begun}
 use Rattle.plan_runs.proofs.of_waits.Worlds.{are_whole, walk}
 
-module _ {B : Type 0} (ops : BufferOps B) (model : Model) (bound : Binding) (code : Code) (log : Log) (nodes : List Node) (w : World)
-    (lawful : IsLawfulWorld ops model bound code log nodes w) (p : ℕ) (h : List Deed) where
+module _ {B : Type 0} (setting : Setting B) (nodes : List Node) (w : World) (lawful : IsLawfulWorld setting nodes w) (p : ℕ) (h : List Deed) where
+  open setting use {code, log}
+
   abbrev paths : Paths
   paths = paths_of code log
 
   abbrev Asleep : Walk → ℕ → Type 0
   Asleep q c = (s : Sleep) × Contains q.sleeps s × (s.condition ≡ c) × IsAsleepIn h q.name s
 
-  module _ (gone : HasGone ops.buffered bound code log nodes w p h) where
+  module _ (gone : HasGone setting nodes w p h) where
     pub still : (n : Name) (s : Sleep) → IsAsleepIn h n s → steps_in h n ≡ s.step + 1
-    still n s asleep = sleeps_still ops model bound lawful.laws code lawful.code_is log lawful.log_is lawful.fits h n s gone.along asleep
+    still n s asleep = sleeps_still setting lawful.fits h n s gone.along asleep
 
     -- a thread waits while a sleep of its path lasts
     pub waits : (t : ℕ) (q : Walk) (c : ℕ) → IsThread code log t q → (set.contains (waiting_in h c) q.name ≡ true) ↔ Asleep q c
-    waits t q c there = sleep_waits ops model bound lawful.laws code lawful.code_is log lawful.log_is lawful.fits h gone.along t q there c
+    waits t q c there = sleep_waits setting lawful.fits h gone.along t q there c
 
     pub named : (c : ℕ) (n : Name) → set.contains (waiting_in h c) n ≡ true → IsNameOfThread code log n
-    named c n is = waiter_named ops model bound lawful.laws code lawful.code_is log lawful.log_is lawful.fits h c n gone.along is
+    named c n is = waiter_named setting lawful.fits h c n gone.along is
 
     -- what ends a sleep that lasts comes at the position or later
     pub ends_later : (t : ℕ) (q : Walk) (s : Sleep) (k g : ℕ) → IsThread code log t q → slice_get (all_sleeps paths) k ≡ Some (record { thread = t; it = s })
@@ -61,7 +58,7 @@ module _ {B : Type 0} (ops : BufferOps B) (model : Model) (bound : Binding) (cod
         let done : s.step < steps_in h q.name = omega (arith, still q.name s asleep) in
         (gone.sleeps k (record { thread = t; it = s }) q is there done).0 asleep g ends
 
-  module _ (t : ℕ) (q : Walk) (x : Event) (at : IsAtEvent ops.buffered bound code log nodes w p h t q x) where
+  module _ (t : ℕ) (q : Walk) (x : Event) (at : IsAtEvent setting nodes w p h t q x) where
     -- no sleep of a thread lasts whose event comes
     ended : (c : ℕ) → Asleep q c → ⊥
     ended c a = by a.0.wake refl
@@ -69,12 +66,12 @@ module _ {B : Type 0} (ops : BufferOps B) (model : Model) (bound : Binding) (cod
         s : Sleep
         s = a.0
 
-        wakes : WakesSo code lawful.code_is q.function (length q.places) a.0
-        wakes = walk_wakes code lawful.code_is log q (walk ops model bound code log nodes w lawful t q at.thread) s (in_contains s q.sleeps a.1)
+        wakes : WakesSo code setting.lawful q.function (length q.places) a.0
+        wakes = walk_wakes code setting.lawful log q (walk setting nodes w lawful t q at.thread) s (in_contains s q.sleeps a.1)
 
         by : (o : Option ℕ) → s.wake ≡ o → ⊥
         by None none =
-            let within = event_within code log q (walk ops model bound code log nodes w lawful t q at.thread) x (in_contains x q.events at.event) in
+            let within = event_within code log q (walk setting nodes w lawful t q at.thread) x (in_contains x q.events at.event) in
             omega (arith, within, wakes.last none, still at.gone q.name s a.3, at.steps)
         by (Some k) wake =
             let n = sleep_number paths t q s at.thread a.1 in
@@ -96,7 +93,7 @@ module _ {B : Type 0} (ops : BufferOps B) (model : Model) (bound : Binding) (cod
       g = number_of paths t x.step
 
       abbrev is_signal_now : IsSignal paths w g c
-      is_signal_now = is_signal_at paths w (are_whole ops model bound code log nodes w lawful) t q x c at.thread at.event signals
+      is_signal_now = is_signal_at paths w (are_whole setting nodes w lawful) t q x c at.thread at.event signals
 
       -- a sleep that it ends is on its condition
       pub on_condition : (s : ℕ) (z : Of Sleep) → slice_get (all_sleeps paths) s ≡ Some z → ender_of w s ≡ Some g → IsSleep paths w s z c
@@ -114,7 +111,7 @@ module _ {B : Type 0} (ops : BufferOps B) (model : Model) (bound : Binding) (cod
       lasts n k =
           let z = k.sleep in
           let first = (lawful.lawful.meets (Condition c)).ends k.number g z (on_condition k.number z k.is k.ends) k.ends in
-          let begun = before_begun ops model bound code log nodes w lawful z.thread k.walk z.it k.there (among n k) p h at.gone (omega (arith, first, at.at)) in
+          let begun = before_begun setting nodes w lawful z.thread k.walk z.it k.there (among n k) p h at.gone (omega (arith, first, at.at)) in
           (at.gone.sleeps k.number z k.walk k.is k.there begun).1 (λ j ends.
           let same : g ≡ j = same_Some g j (sym k.ends ∙ ends) in
           subst (λ i. p ≤ position w i) same (omega (arith, at.at)))
@@ -132,7 +129,7 @@ module _ {B : Type 0} (ops : BufferOps B) (model : Model) (bound : Binding) (cod
           let s = a.0 in
           let n = sleep_number paths u v s there a.1 in
           let done : s.step < steps_in h v.name = omega (arith, still at.gone v.name s a.3) in
-          let begun = begun_before ops model bound code log nodes w lawful u v s there a.1 p h at.gone done in
+          let begun = begun_before setting nodes w lawful u v s there a.1 p h at.gone done in
           let r = (lawful.lawful.meets (Condition c)).some n.0 g (record { thread = u; it = s }) is_signal_now (record { is = n.1; condition = a.2 })
           (record {
             begun = omega (arith, begun, at.at);

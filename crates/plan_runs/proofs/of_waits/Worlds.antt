@@ -3,11 +3,6 @@ use Rattle.std.proofs.Common.{◌≡◌, ◌∙◌, inl, inr, ℕ, ◌<◌, Bool
 use Rattle.std.specs.List.{Contains}
 use Rattle.std.proofs.Math.Bool.{and-false}
 use Rattle.std.proofs.lemmas.Bool.{false≢true}
-use Rattle.tc_base.specs.Buffers.{BufferOps}
-use Rattle.run_log.specs.Logs.{Log}
-use Rattle.memory_models.specs.declared.model.Model.{Model}
-use Rattle.tc_code.specs.Code.{Code}
-use Rattle.store_buffers.specs.Pending.{Binding}
 use Rattle.run_history.specs.History.{Deed}
 use Rattle.run_history.specs.Told.{steps_in}
 use Rattle.path_walk.specs.Fits.{fails_in}
@@ -15,6 +10,7 @@ use Rattle.path_walk.specs.Marks.{unmarked}
 use Rattle.path_walk.specs.Paths.{Walk, paths_of}
 use Rattle.path_walk.specs.Steps.{steps_at}
 use Rattle.path_walk.specs.declared.event.Event.{Event}
+use Rattle.path_laws.specs.Setting.{Setting}
 use Rattle.path_laws.specs.history.Along.{IsThread}
 use Rattle.path_laws.proofs.of_history.Walks.{IsWalk, walk_is}
 use Rattle.path_laws.proofs.of_events.Marked.{Rising, events_rise}
@@ -29,13 +25,14 @@ use Rattle.world_plan.specs.Going.{IsLawfulWorld, HasGone, place}
 kept_by : (buffered store rest : Bool) → store ≡ false → (not (buffered && store) || rest) ≡ true
 kept_by b s rest none = ap (λ c. not (b && c) || rest) none ∙ ap (λ c. not c || rest) (and-false b)
 
-module _ {B : Type 0} (ops : BufferOps B) (model : Model) (bound : Binding) (code : Code) (log : Log) (nodes : List Node) (w : World)
-    (lawful : IsLawfulWorld ops model bound code log nodes w) where
+module _ {B : Type 0} (setting : Setting B) (nodes : List Node) (w : World) (lawful : IsLawfulWorld setting nodes w) where
+  open setting use {ops, code, log}
+
   pub are_whole : AreWhole (paths_of code log)
   are_whole = whole code (paths_of code log) (record { log = log; fits = lawful.fits; are = refl })
 
   pub walk : (t : ℕ) (q : Walk) → IsThread code log t q → IsWalk code log q
-  walk t q there = walk_is code log lawful.log_is lawful.fits t q there
+  walk t q there = walk_is code log setting.log_is lawful.fits t q there
 
   pub rising : (t : ℕ) (q : Walk) → IsThread code log t q → Rising q.events
   rising t q there =
@@ -49,7 +46,7 @@ module _ {B : Type 0} (ops : BufferOps B) (model : Model) (bound : Binding) (cod
       (lawful.lawful.meets (Own t)).own x y (q, there, i) (q, there, j) less (kept_by ops.buffered (is_store x.kind) _ none)
 
   -- such an event comes before a position exactly where it is done
-  pub went_before : (p : ℕ) (h : List Deed) (t : ℕ) (q : Walk) (x : Event) → HasGone ops.buffered bound code log nodes w p h → IsThread code log t q
+  pub went_before : (p : ℕ) (h : List Deed) (t : ℕ) (q : Walk) (x : Event) → HasGone setting nodes w p h → IsThread code log t q
       → Contains q.events x → is_store x.kind ≡ false → x.step < steps_in h q.name → place code log w t x < p
   went_before p h t q x gone there i none done =
       elim (gone.only t q x there i done) [

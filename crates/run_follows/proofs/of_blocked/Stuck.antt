@@ -3,20 +3,15 @@ use Rattle.std.proofs.Common.{◌≡◌, ◌↔◌, ◌∙◌, List, Some, sym, 
 use Rattle.std.specs.Prelude.{option_map, option_and_then}
 use Rattle.std.proofs.lemmas.Bool.{false≢true}
 use Rattle.tc_base.specs.Names.{Name}
-use Rattle.tc_base.specs.Buffers.{BufferOps}
 use Rattle.tc_base.specs.States.{Local, Thread, State}
-use Rattle.memory_models.specs.declared.model.Model.{Model}
 use Rattle.tc_base.specs.declared.moves.Move.{Move}
-use Rattle.tc_code.specs.Code.{Code}
-use Rattle.tc_code.specs.Lawful.{IsLawful}
 use Rattle.tc_code.specs.Step.{request, instr_of}
 use Rattle.tc_code.specs.Run.{IsStuck, run}
-use Rattle.store_buffers.specs.Laws.{Laws}
-use Rattle.store_buffers.specs.Pending.{Binding}
 use Rattle.run_laws.proofs.Basics.{unless}
 use Rattle.run_laws.proofs.Exits.{has_next}
 use Rattle.run_history.specs.History.{Deed, Did, Drained, history}
 use Rattle.run_history.proofs.of_pending.Own.{stores_have_drained}
+use Rattle.run_follows.specs.Machine.{Machine}
 use Rattle.run_follows.specs.Follow.{MayFollow, NothingFollows, IsLeftIn}
 use Rattle.run_follows.proofs.Enabled.{Tells, told}
 use Rattle.run_follows.proofs.Plays.{asker}
@@ -25,8 +20,9 @@ use Rattle.run_follows.specs.blocked.Stuck.{AllDrained, IsBlockedNext, AllAreBlo
 use Rattle.run_follows.proofs.of_blocked.Blocked.{step_is_blocked}
 use Rattle.run_follows.proofs.of_blocked.Drained.{all_drained}
 
-module _ {B : Type 0} (ops : BufferOps B) (model : Model) (bound : Binding) (laws : Laws ops model bound) (code : Code) (lawful : IsLawful code)
-    (ms : List Move) (s : State B) (leads : run ops code ms ≡ Some s) where
+module _ {B : Type 0} (machine : Machine B) (ms : List Move) (s : State B) (leads : run machine.ops machine.code ms ≡ Some s) where
+  open machine use {ops, model, bound, laws, code, lawful}
+
   abbrev h : List Deed
   h = history ops code ms
 
@@ -36,7 +32,7 @@ module _ {B : Type 0} (ops : BufferOps B) (model : Model) (bound : Binding) (law
   -- a thread that hasn't exited asks something next
   all_blocked : NothingFollows ops.buffered bound code h → AllDrained ops.buffered h → (n : Name) → IsLeftIn h n → IsBlockedNext code h n
   all_blocked none drained n left =
-      let l = left_there ops model bound laws code lawful s h tells n left in
+      let l = left_there machine s h tells n left in
       let next = has_next ops code s lawful (record { moves = ms; leads = leads }) n l.thread l.there l.going in
       let asks = ap (option_and_then (λ (t : Local). option_map (request t) (instr_of code t)))
       (tells.locals n ∙ ap (option_map (λ (t : Thread B). t.local)) l.there) ∙ ap (option_map (request l.thread.local)) next.1 in
@@ -49,9 +45,9 @@ module _ {B : Type 0} (ops : BufferOps B) (model : Model) (bound : Binding) (law
   -- and one that asks something hasn't exited
   no_deed : AllDrained ops.buffered h → AllAreBlocked code h → (d : Deed) → MayFollow ops.buffered bound code h d → ⊥
   no_deed drained blocked (Did n k r took other) m =
-      let x = asker ops model bound laws code lawful s h n r tells m.asks in
+      let x = asker machine s h n r tells m.asks in
       let going = (unless x.thread.local.has_exited _ x.by.instr x.by.at).0 in
-      let w = blocked n (left_told ops model bound laws code lawful s h tells n (record { thread = x.thread; there = x.there; going = going })) in
+      let w = blocked n (left_told machine s h tells n (record { thread = x.thread; there = x.there; going = going })) in
       (step_is_blocked ops.buffered bound code h n w.request w.asks (drained n)).1 w.blocked k r took other m
   no_deed drained blocked (Drained n k c v) m =
       false≢true (sym m.next.pending ∙ (stores_have_drained ops.buffered h n).0 (drained n) m.buffers k c v m.next.issued)
@@ -64,7 +60,7 @@ module _ {B : Type 0} (ops : BufferOps B) (model : Model) (bound : Binding) (law
 
   pub deadlock_told : IsStuck ops code s ↔ IsDeadlockIn ops.buffered code h
   deadlock_told =
-      let is = stuck_is_told ops model bound laws code lawful ms s leads in (
+      let is = stuck_is_told machine ms s leads in (
         λ stuck.
             let k = is.0 stuck in
             let all = nothing_follows.0 k.still in

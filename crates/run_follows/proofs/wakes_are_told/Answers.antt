@@ -4,6 +4,7 @@ use Rattle.run_follows.proofs.Enabled.{told, wake_told}
 use Rattle.run_follows.proofs.wakes_are_told.Goals as goal
 
 pub returns : goal.returns
-returns g c = λ ops model bound code moves s n u t i laws lawful leads there at.
-    wake_told ops model bound laws code s (history ops code moves) (told ops model bound laws code moves s leads) n t there u i at
-    (next_asks_within ops code s n t i lawful (record { moves = moves; leads = leads }) there at)
+returns g c = λ machine moves s n u t i leads there at.
+    wake_told machine.ops machine.model machine.bound machine.laws machine.code s (history machine.ops machine.code moves)
+    (told machine.ops machine.model machine.bound machine.laws machine.code moves s leads) n t there u i at
+    (next_asks_within machine.ops machine.code s n t i machine.lawful (record { moves = moves; leads = leads }) there at)

@@ -7,29 +7,22 @@ use Rattle.std.proofs.Math.Bool.{and-false}
 use Rattle.std.proofs.lemmas.Bool.{false≢true, true≢false, and_parts, eq-eqb}
 use Rattle.run_laws.proofs.Names.{same_self}
 use Rattle.std.proofs.lemmas.Option.{same_Some, slice_get_cases, slice_get_within}
-use Rattle.tc_base.specs.Buffers.{BufferOps}
-use Rattle.run_log.specs.Logs.{Log}
 use Rattle.tc_base.specs.Names.{Name}
-use Rattle.memory_models.specs.declared.model.Model.{Model}
 use Rattle.tc_base.specs.declared.moves.Move.{Move}
 use Rattle.tc_base.specs.declared.request.Request.{Request}
 use Rattle.tc_base.specs.declared.request.Request.TheVariants.{Write, Fail}
-use Rattle.tc_code.specs.Code.{Code}
-use Rattle.tc_code.specs.Lawful.{IsLawful}
 use Rattle.tc_code.specs.Run.{Reproduces}
-use Rattle.store_buffers.specs.Laws.{Laws}
-use Rattle.store_buffers.specs.Pending.{Binding}
 use Rattle.run_history.specs.History.{Deed, Did, Drained, has_drained, drains}
 use Rattle.run_history.specs.Told.{steps_in, fails}
 use Rattle.run_history.specs.pending.Deeds.{IsIssuedIn, DrainsAreOfStores, MayDrainNext, has_bar_between}
 use Rattle.run_history.proofs.of_pending.In.{In, in_at, in_left, in_any, in_mapped, one_of_name}
 use Rattle.run_history.proofs.of_pending.Own.{stores_have_drained}
 use Rattle.run_follows.specs.Follow.{AllFollow}
-use Rattle.run_log.specs.Logs.{is_log}
 use Rattle.path_walk.specs.Paths.{Walk, Paths, paths_of}
 use Rattle.path_walk.specs.declared.event.Event.{Event}
 use Rattle.path_walk.specs.declared.event.EventKind.{EventKind}
 use Rattle.path_walk.specs.declared.event.EventKind.TheVariants as kind
+use Rattle.path_laws.specs.Setting.{Setting}
 use Rattle.path_laws.specs.Deeds.{kind_of}
 use Rattle.path_laws.specs.history.Along.{IsAlongPaths, IsThread}
 use Rattle.path_laws.proofs.of_history.Told.{first_along}
@@ -87,10 +80,12 @@ cell_in other _ = other
 drains_itself : (n : Name) (k c : ℕ) (v : ℤ) → drains n k (Drained n k c v) ≡ true
 drains_itself n k c v = ap₂ (λ d e. d && e) (same_self n n refl) (eq-eqb k k refl)
 
-module _ {B : Type 0} (ops : BufferOps B) (model : Model) (bound : Binding) (laws : Laws ops model bound) (code : Code) (lawful : IsLawful code) (log : Log)
-    (is : is_log log ≡ true) (nodes : List Node) (terms : AreTerms nodes) (moves : List Move) (again : Reproduces ops code log moves) where
+module _ {B : Type 0} (setting : Setting B) (nodes : List Node) (terms : AreTerms nodes) (moves : List Move)
+    (again : Reproduces setting.ops setting.code setting.log moves) where
+  open setting use {machine, ops, bound, code, lawful, log, log_is as is}
+
   abbrev h : List Deed
-  h = run.done ops model bound laws code lawful log is moves again
+  h = run.done setting moves again
 
   abbrev ps : Paths
   ps = paths_of code log
@@ -105,17 +100,17 @@ module _ {B : Type 0} (ops : BufferOps B) (model : Model) (bound : Binding) (law
   w = world_in b ps x'.symbolic h
 
   abbrev go : IsAlongPaths b bound code log h
-  go = along ops model bound laws code lawful log is moves again
+  go = along setting moves again
 
   ordered : IsOrderOf b ps h w
-  ordered = is_order b ps x'.symbolic h (seen ops model bound laws code lawful log is moves again)
+  ordered = is_order b ps x'.symbolic h (seen setting moves again)
 
   agrees : AgreesWith x'.symbolic w.loads h
   agrees = loads.agrees ops code log nodes moves again
 
   module _ (t : ℕ) (q : Walk) (there : IsThread code log t q) where
     doing : (x : Event) → In x q.events → IsDoneIn h q.name x.step x.kind
-    doing x i = event_is_done ops model bound laws code lawful log is moves again t q x there i
+    doing x i = event_is_done setting moves again t q x there i
 
     abbrev deed : (x : Event) → IsDoneIn h q.name x.step x.kind → Deed
     deed x d = deed_of h q.name x d
@@ -165,7 +160,7 @@ module _ {B : Type 0} (ops : BufferOps B) (model : Model) (bound : Binding) (law
             seen_so (Done r v o asked same asks kept) =
                 let d = doing x i in
                 let mine : In (deed x d) h = subst (In (deed x d)) (sym d.there) (in_at d.older (deed x d) d.newer) in
-                let one = one_of_name h (Did q.name x.step r v o) (deed x d) (told ops model bound laws code lawful log is moves again).apart
+                let one = one_of_name h (Did q.name x.step r v o) (deed x d) (told setting moves again).apart
                 (subst (λ e. In e h) same p_in) mine refl in
                 let kinds : asked ≡ x.kind = same_Some asked x.kind (sym asks ∙ ap asked_of one ∙ d.asks) in
                 true≢false (sym waits ∙ ap (λ k. b && is_store k) (sym kinds) ∙ kept)
@@ -187,7 +182,7 @@ module _ {B : Type 0} (ops : BufferOps B) (model : Model) (bound : Binding) (law
       same : cell_by x'.nodes w.loads access.cell ≡ c
 
     executed_by : IsExecutedBy ps x'.symbolic
-    executed_by = is_executed code ps nodes (record { log = log; fits = fits ops model bound laws code lawful log is moves again; are = refl })
+    executed_by = is_executed code ps nodes (record { log = log; fits = fits setting moves again; are = refl })
 
     course : (c : Course) × (slice_get x'.symbolic.threads t ≡ Some c)
     course =
@@ -199,9 +194,9 @@ module _ {B : Type 0} (ops : BufferOps B) (model : Model) (bound : Binding) (law
     cell_at : (x : Event) → In x q.events → (s : IsStoreAt x) → HasCell x s.cell
     cell_at x i s =
         let c = course in
-        let f = fits ops model bound laws code lawful log is moves again in
+        let f = fits setting moves again in
         let asked : Asked = record { cell = s.cell; takes = None; writes = Some s.value } in
-        let a = asked_access ops model bound laws code lawful log is f nodes w.loads terms h go agrees t q c.0 there c.1 x.step asked (record {
+        let a = asked_access setting f nodes w.loads terms h go agrees t q c.0 there c.1 x.step asked (record {
           older = s.older;
           newer = s.newer;
           request = Write s.cell s.value;
@@ -210,7 +205,7 @@ module _ {B : Type 0} (ops : BufferOps B) (model : Model) (bound : Binding) (law
           there = s.at;
           asks = refl;
         }) in
-        let many = all_steps ops model bound laws code lawful log is moves again t q there in
+        let many = all_steps setting moves again t q there in
         let inside = event_within code log q (walk_is code log is f t q there) x i in
         record {
           access = a.0;
@@ -261,7 +256,7 @@ module _ {B : Type 0} (ops : BufferOps B) (model : Model) (bound : Binding) (law
           ]
         where
           stores : DrainsAreOfStores h
-          stores = (told ops model bound laws code lawful log is moves again).stores
+          stores = (told setting moves again).stores
 
       -- the first waits and has drained where the second is done
       by_empty : (b && is_store x.kind) ≡ true → may_overtake y.kind ≡ false → IsFirst
@@ -286,13 +281,13 @@ module _ {B : Type 0} (ops : BufferOps B) (model : Model) (bound : Binding) (law
       same_is : (sx : IsStoreAt x) → (sy : IsStoreAt y)
           → same_cell b bound ps x'.symbolic x'.nodes w t x y ≡ (sx.cell == sy.cell)
       same_is sx sy =
-          let f = fits ops model bound laws code lawful log is moves again in
+          let f = fits setting moves again in
           let cx = cell_at x xi sx in
           let cy = cell_at y yi sy in
           ap₂ (option_eq (is_same_cell x'.nodes w)) cx.cell cy.cell
           ∙ same_cell_is lawful.arrays.arrays lawful.arrays.apart x'.nodes w cx.access.cell cy.access.cell
-          (reached_sound ops model bound laws code lawful log is f nodes w.loads terms h go agrees t cx.access cx.reached)
-          (reached_sound ops model bound laws code lawful log is f nodes w.loads terms h go agrees t cy.access cy.reached)
+          (reached_sound setting f nodes w.loads terms h go agrees t cx.access cx.reached)
+          (reached_sound setting f nodes w.loads terms h go agrees t cy.access cy.reached)
           ∙ ap₂ (λ c d. c == d) cx.same cy.same
 
       by_bound : (b && is_store x.kind) ≡ true → (b && is_store y.kind) ≡ true
@@ -326,7 +321,7 @@ module _ {B : Type 0} (ops : BufferOps B) (model : Model) (bound : Binding) (law
               sy = store_at y yi (and_parts b (is_store y.kind) y_waits).1
 
               stores : DrainsAreOfStores h
-              stores = (told ops model bound laws code lawful log is moves again).stores
+              stores = (told setting moves again).stores
 
               next : MayDrainNext bound d.older q.name y.step d.cell d.value
               next = (follow d.older d.newer (Drained q.name y.step d.cell d.value) d.there).1.next
@@ -346,7 +341,7 @@ module _ {B : Type 0} (ops : BufferOps B) (model : Model) (bound : Binding) (law
                   let there_mine : In mine h = subst (In mine) (sym sy.at) (in_at sy.older mine sy.newer) in
                   let there_other : In other h =
                   subst (In other) (sym d.there) (in_left other d.older (drain ∷ d.newer) (subst (In other) (sym i.issued) (in_at i.before other i.after))) in
-                  ap (cell_in 0) (one_of_name h mine other (told ops model bound laws code lawful log is moves again).apart there_mine there_other refl)
+                  ap (cell_in 0) (one_of_name h mine other (told setting moves again).apart there_mine there_other refl)
 
               few : y.step ≤ steps_in d.older q.name
               few =
@@ -362,8 +357,8 @@ module _ {B : Type 0} (ops : BufferOps B) (model : Model) (bound : Binding) (law
 
               bars_told : has_bar_between d.older q.name x.step y.step ≡ not (x.bars == y.bars)
               bars_told =
-                  bars.told ops model bound laws code lawful log is (fits ops model bound laws code lawful log is moves again) d.older
-                  (first_along ops model bound laws code lawful log d.older (Drained q.name y.step d.cell d.value ∷ d.newer)
+                  bars.told setting (fits setting moves again) d.older
+                  (first_along machine log d.older (Drained q.name y.step d.cell d.value ∷ d.newer)
                   (subst (IsAlongPaths b bound code log) d.there go)) t q there x y xi yi less few
 
               by : (c : Bool) → has_drained d.older q.name x.step ≡ c → IsFirst
@@ -401,7 +396,7 @@ module _ {B : Type 0} (ops : BufferOps B) (model : Model) (bound : Binding) (law
         dx = doing x xi
 
         df : IsDoneIn h r.name f.step f.kind
-        df = event_is_done ops model bound laws code lawful log is moves again u r f there_too fi
+        df = event_is_done setting moves again u r f there_too fi
 
         f_shows : Shows b ps (deed_of h r.name f df) u f.step
         f_shows =

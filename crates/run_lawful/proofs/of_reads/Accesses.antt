@@ -1,26 +1,19 @@
 -- The accesses of the paths, and the deeds that do them.
-use Rattle.std.proofs.Common.{◌≡◌, ◌∙◌, inl, inr, ℕ, ◌<◌, ◌==◌, ℤ, pos, true, List, [], ◌∷◌, Option, Some, refl, sym, ap, subst, arith, slice_index_or}
+use Rattle.std.proofs.Common.{◌≡◌, ◌∙◌, inl, inr, ℕ, ◌<◌, ◌==◌, ℤ, pos, List, [], ◌∷◌, Option, Some, refl, sym, ap, subst, arith, slice_index_or}
 use Rattle.std.specs.Prelude.{slice_get}
 use Rattle.std.specs.List.{Contains}
 use Rattle.std.proofs.lemmas.Bool.{cases_order}
 use Rattle.std.proofs.lemmas.Option.{same_Some}
-use Rattle.tc_base.specs.Buffers.{BufferOps}
-use Rattle.run_log.specs.Logs.{Log}
 use Rattle.tc_base.specs.Names.{Name}
-use Rattle.memory_models.specs.declared.model.Model.{Model}
 use Rattle.tc_base.specs.declared.moves.Move.{Move}
 use Rattle.tc_base.specs.declared.request.Request.{Request}
-use Rattle.tc_code.specs.Code.{Code}
-use Rattle.tc_code.specs.Lawful.{IsLawful}
 use Rattle.tc_code.specs.Run.{Reproduces}
-use Rattle.store_buffers.specs.Laws.{Laws}
-use Rattle.store_buffers.specs.Pending.{Binding}
 use Rattle.run_history.specs.History.{Deed, Did, history}
 use Rattle.run_history.specs.Told.{steps_in}
 use Rattle.run_history.proofs.of_pending.In.{In, in_split}
-use Rattle.run_log.specs.Logs.{is_log}
 use Rattle.path_walk.specs.Fits.{Fits}
 use Rattle.path_walk.specs.Paths.{Walk, Paths, paths_of}
+use Rattle.path_laws.specs.Setting.{Setting}
 use Rattle.path_laws.specs.history.Along.{IsAlongPaths, IsThread}
 use Rattle.path_laws.proofs.of_history.Walks.{walk_is, thread_path_at}
 use Rattle.path_laws.proofs.of_events.Events.{event_within}
@@ -43,9 +36,11 @@ use Rattle.sym_steps.proofs.of_accesses.Asked.{access_asked, asked_access}
 use Rattle.sym_steps.proofs.of_accesses.Reached.{same_cells, cell_begins}
 use Rattle.run_lawful.proofs.of_world.Run.{fits, along, all_steps}
 
-module _ {B : Type 0} (ops : BufferOps B) (model : Model) (bound : Binding) (laws : Laws ops model bound) (code : Code) (lawful : IsLawful code) (log : Log)
-    (is : is_log log ≡ true) (nodes : List Node) (terms : AreTerms nodes) (moves : List Move) (again : Reproduces ops code log moves) (w : World)
-    (agrees : AgreesWith (found code log nodes).symbolic w.loads (history ops code moves)) where
+module _ {B : Type 0} (setting : Setting B) (nodes : List Node) (terms : AreTerms nodes) (moves : List Move)
+    (again : Reproduces setting.ops setting.code setting.log moves) (w : World)
+    (agrees : AgreesWith (found setting.code setting.log nodes).symbolic w.loads (history setting.ops setting.code moves)) where
+  open setting use {ops, bound, code, lawful, log, log_is as is}
+
   abbrev h : List Deed
   h = history ops code moves
 
@@ -59,10 +54,10 @@ module _ {B : Type 0} (ops : BufferOps B) (model : Model) (bound : Binding) (law
   paths = paths_of code log
 
   abbrev fit : Fits code log
-  fit = fits ops model bound laws code lawful log is moves again
+  fit = fits setting moves again
 
   abbrev go : IsAlongPaths ops.buffered bound code log h
-  go = along ops model bound laws code lawful log is moves again
+  go = along setting moves again
 
   executed_so : IsExecutedBy paths symbolic
   executed_so = is_executed code paths nodes (record { log = log; fits = fit; are = refl })
@@ -76,7 +71,7 @@ module _ {B : Type 0} (ops : BufferOps B) (model : Model) (bound : Binding) (law
       let x = executed_so.accesses t a has in
       let q = x.1.0 in
       let inside = event_within code log q (walk_is code log is fit t q x.1.1) x.0 (in_contains x.0 q.events x.1.2) in
-      let many = all_steps ops model bound laws code lawful log is moves again t q x.1.1 in
+      let many = all_steps setting moves again t q x.1.1 in
       (q, x.1.1, omega (arith, inside, many, x.2))
 
   access_reached : (t : ℕ) (a : Access) → HasAccess symbolic t a → IsReachedIn code log nodes h t a
@@ -87,11 +82,11 @@ module _ {B : Type 0} (ops : BufferOps B) (model : Model) (bound : Binding) (law
   pub same_cell : (t : ℕ) (a : Access) (u : ℕ) (b : Access) → HasAccess symbolic t a → HasAccess symbolic u b
       → is_same_cell later w a.cell b.cell ≡ (cell_by later w.loads a.cell == cell_by later w.loads b.cell)
   same_cell t a u b has and =
-      same_cells ops model bound laws code lawful log is fit nodes w terms h go agrees t u a b (access_reached t a has) (access_reached u b and)
+      same_cells setting fit nodes w terms h go agrees t u a b (access_reached t a has) (access_reached u b and)
 
   pub starts_so : (t : ℕ) (a : Access) → HasAccess symbolic t a
       → value_at_start code a.cell ≡ slice_index_or code.memory (cell_by later w.loads a.cell) (pos 0)
-  starts_so t a has = cell_begins ops model bound laws code lawful log is fit nodes w.loads terms h go agrees t a (access_reached t a has)
+  starts_so t a has = cell_begins setting fit nodes w.loads terms h go agrees t a (access_reached t a has)
 
   -- the deed of an access
   pub record HasDeed (t : ℕ) (a : Access) : Type 0 where
@@ -105,7 +100,7 @@ module _ {B : Type 0} (ops : BufferOps B) (model : Model) (bound : Binding) (law
       record {
         walk = q.0;
         thread = q.1;
-        asked = access_asked ops model bound laws code lawful log is fit nodes w.loads terms h go agrees t q.0 has.0 q.1 has.1 a
+        asked = access_asked setting fit nodes w.loads terms h go agrees t q.0 has.0 q.1 has.1 a
             (in_contains a has.0.accesses has.2) q.2;
       }
 
@@ -117,7 +112,7 @@ module _ {B : Type 0} (ops : BufferOps B) (model : Model) (bound : Binding) (law
       let c = course_at t q there in
       let s = in_split (Did q.name k r took other) h i in
       let d : IsAskedIn h q.name k x = record { older = s.older; newer = s.newer; request = r; took = took; other = other; there = s.there; asks = asks } in
-      let a = asked_access ops model bound laws code lawful log is fit nodes w.loads terms h go agrees t q c.0 there c.1 k x d in
+      let a = asked_access setting fit nodes w.loads terms h go agrees t q c.0 there c.1 k x d in
       (a.0, (c.0, c.1, contains_in a.0 c.0.accesses a.1), a.2, a.3)
     where
       course_at : (t : ℕ) (q : Walk) → IsThread code log t q → (c : Course) × (slice_get symbolic.threads t ≡ Some c)

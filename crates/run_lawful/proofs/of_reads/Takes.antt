@@ -6,18 +6,11 @@ use Rattle.std.specs.List.{filter_map}
 use Rattle.std.proofs.lemmas.Bool.{true≢false, eq-eqb, eqb-true, cases_order}
 use Rattle.std.proofs.lemmas.List.{append_cancel_left}
 use Rattle.std.proofs.lemmas.Option.{same_Some}
-use Rattle.tc_base.specs.Buffers.{BufferOps}
-use Rattle.run_log.specs.Logs.{Log}
 use Rattle.tc_base.specs.Names.{Name}
-use Rattle.memory_models.specs.declared.model.Model.{Model}
 use Rattle.tc_base.specs.declared.moves.Move.{Move}
 use Rattle.tc_base.specs.declared.request.Request.{Request}
 use Rattle.tc_base.specs.declared.request.Request.TheVariants.{Write}
-use Rattle.tc_code.specs.Code.{Code}
-use Rattle.tc_code.specs.Lawful.{IsLawful}
 use Rattle.tc_code.specs.Run.{Reproduces}
-use Rattle.store_buffers.specs.Laws.{Laws}
-use Rattle.store_buffers.specs.Pending.{Binding}
 use Rattle.run_laws.proofs.Basics.{some_value}
 use Rattle.run_history.specs.History.{Deed, Did, Drained, has_drained, history}
 use Rattle.run_history.specs.Last.{IsLast, brings}
@@ -27,8 +20,8 @@ use Rattle.run_history.specs.pending.Deeds.{own_value}
 use Rattle.run_history.proofs.of_pending.In.{In, in_append, in_at, in_left, in_split}
 use Rattle.run_history.proofs.of_pending.Own.{own_has_last, own_has_none}
 use Rattle.run_follows.specs.Follow.{IsNextStep, seen_in}
-use Rattle.run_log.specs.Logs.{is_log}
 use Rattle.path_walk.specs.Paths.{Walk, Paths, paths_of}
+use Rattle.path_laws.specs.Setting.{Setting}
 use Rattle.path_laws.specs.history.Along.{IsAlongPaths, IsThread, IsNameOfThread}
 use Rattle.path_laws.proofs.of_history.Told.{run_of, first_along}
 use Rattle.path_laws.proofs.of_history.Walks.{thread_named}
@@ -58,10 +51,12 @@ use Rattle.run_lawful.proofs.of_reads.Writes.{IsOfStep, of_step, writes_asked, a
 then_before : (i j k : ℕ) → i < j → j < k → i < k
 then_before i j k first second = omega (arith, first, second)
 
-module _ {B : Type 0} (ops : BufferOps B) (model : Model) (bound : Binding) (laws : Laws ops model bound) (code : Code) (lawful : IsLawful code) (log : Log)
-    (is : is_log log ≡ true) (nodes : List Node) (terms : AreTerms nodes) (moves : List Move) (again : Reproduces ops code log moves) (w : World)
-    (agrees : AgreesWith (found code log nodes).symbolic w.loads (history ops code moves))
-    (order : IsOrderOf ops.buffered (paths_of code log) (history ops code moves) w) where
+module _ {B : Type 0} (setting : Setting B) (nodes : List Node) (terms : AreTerms nodes) (moves : List Move)
+    (again : Reproduces setting.ops setting.code setting.log moves) (w : World)
+    (agrees : AgreesWith (found setting.code setting.log nodes).symbolic w.loads (history setting.ops setting.code moves))
+    (order : IsOrderOf setting.ops.buffered (paths_of setting.code setting.log) (history setting.ops setting.code moves) w) where
+  open setting use {machine, ops, model, bound, laws, code, log, log_is as is}
+
   abbrev buffered : Bool
   buffered = ops.buffered
 
@@ -78,10 +73,10 @@ module _ {B : Type 0} (ops : BufferOps B) (model : Model) (bound : Binding) (law
   later = (found code log nodes).nodes
 
   abbrev go : IsAlongPaths buffered bound code log h
-  go = along ops model bound laws code lawful log is moves again
+  go = along setting moves again
 
   abbrev apart : AreTold buffered h
-  apart = told ops model bound laws code lawful log is moves again
+  apart = told setting moves again
 
   abbrev asks : Access → Asked
   asks y = asked_in later w.loads y
@@ -94,7 +89,7 @@ module _ {B : Type 0} (ops : BufferOps B) (model : Model) (bound : Binding) (law
 
   -- histories of the first deeds
   along_first : (older newer : List Deed) (d : Deed) → h ≡ older ++ d ∷ newer → IsAlongPaths buffered bound code log older
-  along_first older newer d at = first_along ops model bound laws code lawful log older (d ∷ newer) (subst (IsAlongPaths buffered bound code log) at go)
+  along_first older newer d at = first_along machine log older (d ∷ newer) (subst (IsAlongPaths buffered bound code log) at go)
 
   shows_so : (t k : ℕ) (q : Walk) (d : Deed) → IsThread code log t q → SeenBy buffered q.name k d → Shows buffered paths d t k
   shows_so t k q d there (Done r took other asked is_it kind kept) =
@@ -112,7 +107,7 @@ module _ {B : Type 0} (ops : BufferOps B) (model : Model) (bound : Binding) (law
 
   writer : (u : ℕ) (p : Walk) (y : Access) → IsThread code log u p → HasAccess symbolic u y → IsSome (asks y).writes → IsWriter p y
   writer u p y there has some =
-      let d = deed_of ops model bound laws code lawful log is nodes terms moves again w agrees u y has in
+      let d = deed_of setting nodes terms moves again w agrees u y has in
       let v = some_value (asks y).writes some in
       let deed = Did d.walk.name y.step d.asked.request d.asked.took d.asked.other in
       subst (λ (x : Walk). IsWriter x y) (same_Some d.walk p (sym d.thread ∙ there)) (record {
@@ -126,8 +121,8 @@ module _ {B : Type 0} (ops : BufferOps B) (model : Model) (bound : Binding) (law
 
   -- A load, or an exchange.
   module _ (t : ℕ) (a : Access) (has : HasAccess symbolic t a) (loads : IsSome a.takes) where
-    abbrev d : HasDeed ops model bound laws code lawful log is nodes terms moves again w agrees t a
-    d = deed_of ops model bound laws code lawful log is nodes terms moves again w agrees t a has
+    abbrev d : HasDeed setting nodes terms moves again w agrees t a
+    d = deed_of setting nodes terms moves again w agrees t a has
 
     abbrev q : Walk
     q = d.walk
@@ -217,14 +212,14 @@ module _ {B : Type 0} (ops : BufferOps B) (model : Model) (bound : Binding) (law
     same_so : (u : ℕ) (y : Access) → SeesOf t a u y → cell y ≡ c
     same_so u y s =
         eqb-true (cell y) c
-        (sym (same_cell ops model bound laws code lawful log is nodes terms moves again w agrees u y t a s.there has) ∙ s.cell)
+        (sym (same_cell setting nodes terms moves again w agrees u y t a s.there has) ∙ s.cell)
 
     -- what it sees has taken place before it, or is an own store that waits
     how_seen : (u : ℕ) (y : Access) → SeesOf t a u y → IsShownIn buffered paths older u y.step ⊎ ((u ≡ t) × IsWaiting y)
     how_seen u y s = elim s.before [
       | inl before ↦
           inl (shown_before buffered paths h w order older newer deed t k at shows u y.step
-          (access_step ops model bound laws code lawful log is nodes terms moves again w agrees u y s.there) before)
+          (access_step setting nodes terms moves again w agrees u y s.there) before)
       | inr own ↦
           elim (own_seen y (subst (λ i. HasAccess symbolic i y) own.0 s.there) s.writes (same_so u y s) own.1) [
             | inl shown ↦ inl (subst (λ i. IsShownIn buffered paths older i y.step) (sym own.0) shown)
@@ -254,7 +249,7 @@ module _ {B : Type 0} (ops : BufferOps B) (model : Model) (bound : Binding) (law
 
       written : (y : Access) × HasAccess symbolic t y × (y.step ≡ j) × (asks y ≡ asking c None (Some v))
       written =
-          access_of ops model bound laws code lawful log is nodes terms moves again w agrees t q j (Write c v) own.took own.other (asking c None (Some v))
+          access_of setting nodes terms moves again w agrees t q j (Write c v) own.took own.other (asking c None (Some v))
           d.thread store_in refl
 
       abbrev newest : Access
@@ -262,12 +257,12 @@ module _ {B : Type 0} (ops : BufferOps B) (model : Model) (bound : Binding) (law
 
       earlier : j < k
       earlier =
-          let r = run_of ops model bound laws code lawful log older (along_first older newer deed at) in
+          let r = run_of machine log older (along_first older newer deed at) in
           let below = r.told.tells.deeds.named.below l.older l.newer n j (Write c v) own.took own.other older_is in
           omega (arith, below, next.number)
 
       has_step : HasStep paths t j
-      has_step = subst (HasStep paths t) written.2 (access_step ops model bound laws code lawful log is nodes terms moves again w agrees t newest written.1)
+      has_step = subst (HasStep paths t) written.2 (access_step setting nodes terms moves again w agrees t newest written.1)
 
       -- it takes place after the load, if it does
       not_shown : IsShownIn buffered paths older t j → ⊥
@@ -306,11 +301,11 @@ module _ {B : Type 0} (ops : BufferOps B) (model : Model) (bound : Binding) (law
 
       own_later : (z : Access) → HasAccess symbolic t z → IsWaiting z → ((z ≡ newest) ⊎ IsBefore paths w t z.step t newest.step)
       own_later z and x = elim (cases_order z.step j) [
-        | inl same ↦ inl (one_access ops model bound laws code lawful log is nodes terms moves again w agrees t z newest and written.1 (same ∙ sym written.2))
+        | inl same ↦ inl (one_access setting nodes terms moves again w agrees t z newest and written.1 (same ∙ sym written.2))
         | inr (inl less) ↦
             inr (before_newest t z.step (own_in_order ops model bound laws code h go.follow apart paths w order t q z.step j c x.value v x.took own.took x.other
             own.other d.thread own.buffers (in_history (Did n z.step (Write c x.value) x.took x.other) x.there) store_in less
-            (access_step ops model bound laws code lawful log is nodes terms moves again w agrees t z and) has_step))
+            (access_step setting nodes terms moves again w agrees t z and) has_step))
         | inr (inr more) ↦ absurd (none_newer z x more)
       ]
 
@@ -329,7 +324,7 @@ module _ {B : Type 0} (ops : BufferOps B) (model : Model) (bound : Binding) (law
         sees = record {
           there = written.1;
           writes = ap (λ (x : Asked). is_some x.writes) written.3;
-          cell = same_cell ops model bound laws code lawful log is nodes terms moves again w agrees t newest t a written.1 has
+          cell = same_cell setting nodes terms moves again w agrees t newest t a written.1 has
               ∙ eq-eqb (cell newest) c (ap (λ (x : Asked). x.cell) written.3);
           before = inr (refl, omega (arith, earlier, written.2));
         };
@@ -376,9 +371,9 @@ module _ {B : Type 0} (ops : BufferOps B) (model : Model) (bound : Binding) (law
         thread : IsNameOfThread code log bringer.thread
         thread =
             let s = in_split writing_deed h bringer.there in
-            let r = run_of ops model bound laws code lawful log h go in
+            let r = run_of machine log h go in
             let left = r.told.threads s.older s.newer bringer.thread bringer.step bringer.request bringer.took bringer.other s.there in
-            thread_named ops model bound laws code lawful log is (fits ops model bound laws code lawful log is moves again) s.older bringer.thread
+            thread_named setting (fits setting moves again) s.older bringer.thread
             (along_first s.older s.newer writing_deed s.there) left.there
 
         abbrev u : ℕ
@@ -395,7 +390,7 @@ module _ {B : Type 0} (ops : BufferOps B) (model : Model) (bound : Binding) (law
 
         source : (y : Access) × HasAccess symbolic u y × (y.step ≡ i) × (asks y ≡ writes_it.0)
         source =
-            access_of ops model bound laws code lawful log is nodes terms moves again w agrees u p i bringer.request bringer.took bringer.other writes_it.0
+            access_of setting nodes terms moves again w agrees u p i bringer.request bringer.took bringer.other writes_it.0
             thread.there (subst (λ m. In (Did m i bringer.request bringer.took bringer.other) h) (sym thread.name) bringer.there) writes_it.1
 
         abbrev latest : Access
@@ -418,7 +413,7 @@ module _ {B : Type 0} (ops : BufferOps B) (model : Model) (bound : Binding) (law
             let place : s ≡ u = one_thread code log is s u e.shows.walk last_shows.walk e.shows.there last_shows.there (ap (λ (g : Sight). g.thread) one) in
             let step : z.step ≡ latest.step = ap (λ (g : Sight). g.step) one ∙ sym source.2 in
             let and = subst (λ m. HasAccess symbolic m z) place sees.there in
-            (place, one_access ops model bound laws code lawful log is nodes terms moves again w agrees u z latest and source.1 step)
+            (place, one_access setting nodes terms moves again w agrees u z latest and source.1 step)
 
         latest_last : (s : ℕ) (z : Access) → SeesOf t a s z → ((s ≡ u) × (z ≡ latest)) ⊎ IsBefore paths w s z.step u latest.step
         latest_last s z sees = by (in_append e.deed l.older (l.deed ∷ l.newer) (subst (In e.deed) l.there e.there))
@@ -439,7 +434,7 @@ module _ {B : Type 0} (ops : BufferOps B) (model : Model) (bound : Binding) (law
           sees = record {
             there = source.1;
             writes = ap (λ (g : Asked). is_some g.writes) source.3 ∙ ap is_some writes_it.3;
-            cell = same_cell ops model bound laws code lawful log is nodes terms moves again w agrees u latest t a source.1 has
+            cell = same_cell setting nodes terms moves again w agrees u latest t a source.1 has
                 ∙ eq-eqb (cell latest) c (ap (λ (g : Asked). g.cell) source.3 ∙ writes_it.2);
             before = inl (subst (λ e. IsBefore paths w u e t k) (sym source.2) (first_so u i (record { deed = l.deed; there = deed_in; shows = last_shows })));
           };
@@ -455,7 +450,7 @@ module _ {B : Type 0} (ops : BufferOps B) (model : Model) (bound : Binding) (law
         sees = λ u z s. let e = shown u z s in let v = brought u z s e in none_gives (brings buffered c) older e.deed v.0 nothing e.there v.1;
         takes = in_memory
             ∙ ap (λ g. Some g) (cells_begin buffered code older c nothing
-            ∙ sym (starts_so ops model bound laws code lawful log is nodes terms moves again w agrees t a has));
+            ∙ sym (starts_so setting nodes terms moves again w agrees t a has));
       }
 
     pub takes_last : ((u : ℕ) × (y : Access) × TakesFrom code paths symbolic later w t a u y) ⊎ TakesFirst code paths symbolic later w t a

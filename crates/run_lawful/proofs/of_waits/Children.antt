@@ -7,30 +7,24 @@ use Rattle.std.proofs.lemmas.Bool.{false≢true, and_parts}
 use Rattle.std.proofs.lemmas.List.Elements.{filter_map-append}
 use Rattle.std.proofs.lemmas.List.Folds.{list_any-append}
 use Rattle.std.proofs.lemmas.Option.{same_Some}
-use Rattle.tc_base.specs.Buffers.{BufferOps}
 use Rattle.list_laws.specs.Lists.{is_nil}
-use Rattle.run_log.specs.Logs.{Log}
 use Rattle.tc_base.specs.Names.{Name, main, child}
-use Rattle.memory_models.specs.declared.model.Model.{Model}
 use Rattle.tc_base.specs.declared.moves.Move.{Move}
 use Rattle.tc_base.specs.declared.request.Request.{Request}
 use Rattle.tc_base.specs.declared.request.Request.TheVariants.{Await}
-use Rattle.tc_code.specs.Code.{Code}
-use Rattle.tc_code.specs.Lawful.{IsLawful}
 use Rattle.tc_code.specs.Run.{Reproduces}
 use Rattle.tc_code.specs.Step.{drains_first}
-use Rattle.store_buffers.specs.Laws.{Laws}
-use Rattle.store_buffers.specs.Pending.{Binding, stores}
+use Rattle.store_buffers.specs.Pending.{stores}
 use Rattle.run_laws.proofs.Created.{child_is_new}
 use Rattle.run_history.specs.History.{Deed, Did, same, pending}
 use Rattle.run_history.specs.Told.{creates, is_thread_in, children_in, has_exited_in}
 use Rattle.run_history.proofs.Lists.{last_or-push}
 use Rattle.run_history.proofs.Threads.{children_are}
 use Rattle.run_follows.specs.Follow.{OtherIs, may_do_in}
-use Rattle.run_log.specs.Logs.{is_log}
 use Rattle.path_walk.specs.Paths.{Walk, Paths}
 use Rattle.path_walk.specs.declared.event.Event.{Event}
 use Rattle.path_walk.specs.declared.event.Link.{Link}
+use Rattle.path_laws.specs.Setting.{Setting}
 use Rattle.path_laws.specs.history.Along.{IsThread}
 use Rattle.path_laws.proofs.of_history.Told.{run_of, reached, thread_of}
 use Rattle.path_laws.proofs.of_events.Events.{event_done}
@@ -59,16 +53,17 @@ thread_stays xs ys n there =
     either false true c e = refl
     either false false c e = absurd (false≢true e)
 
-module _ {B : Type 0} (ops : BufferOps B) (model : Model) (bound : Binding) (laws : Laws ops model bound) (code : Code) (lawful : IsLawful code) (log : Log)
-    (is : is_log log ≡ true) (nodes : List Node) (moves : List Move) (again : Reproduces ops code log moves) where
+module _ {B : Type 0} (setting : Setting B) (nodes : List Node) (moves : List Move) (again : Reproduces setting.ops setting.code setting.log moves) where
+  open setting use {machine, ops, code, log, log_is as is}
+
   abbrev done : List Deed
-  done = h ops model bound laws code lawful log is nodes moves again
+  done = h setting nodes moves again
 
   abbrev threads : Paths
-  threads = paths ops model bound laws code lawful log is nodes moves again
+  threads = paths setting nodes moves again
 
   abbrev Before_in : (t k u j : ℕ) → Type 0
-  Before_in t k u j = IsBefore threads (w ops model bound laws code lawful log is nodes moves again) t k u j
+  Before_in t k u j = IsBefore threads (w setting nodes moves again) t k u j
 
   module _ (t : ℕ) (p : Walk) (l : Link) (there : IsThread code log t p) (c : ℕ) (q : Walk) (child_there : IsThread code log c q)
       (name : q.name ≡ child p.name l.child) where
@@ -83,19 +78,19 @@ module _ {B : Type 0} (ops : BufferOps B) (model : Model) (bound : Binding) (law
 
     create_deed : Contains p.creates l → CreateDeed
     create_deed i =
-        let f = fit ops model bound laws code lawful log is nodes moves again in
+        let f = fit setting nodes moves again in
         let y = created_by p.events l (subst (λ ls. Contains ls l) (creates_are code log is f t p there) i) in
-        let d = event_deed ops model bound laws code lawful log is nodes moves again t p y.event there y.among in
+        let d = event_deed setting nodes moves again t p y.event there y.among in
         let s = start_is d.request d.other l.child (d.asks ∙ ap (λ k. Some k) y.kind) in
         let other : d.other ≡ Some (child p.name (children_in d.older p.name + 1)) =
         subst (λ r. OtherIs d.older p.name r d.other) s.1 d.may.other_is in
         let number : l.child ≡ children_in d.older p.name + 1 =
         same_Some l.child (children_in d.older p.name + 1)
         (sym s.2 ∙ ap (option_and_then (last_or None)) other ∙ last_or-push None p.name (children_in d.older p.name + 1)) in
-        let r = run_of ops model bound laws code lawful log d.older d.along in
-        let parent = thread_of ops model bound laws code lawful log d.older r p.name d.left.there in
+        let r = run_of machine log d.older d.along in
+        let parent = thread_of machine log d.older r p.name d.left.there in
         let count = children_are ops code r.state d.older p.name r.told.tells.deeds.buffers.threads parent.0 parent.1 in
-        let none = child_is_new ops code r.state p.name parent.0 (reached ops model bound laws code lawful log d.older r) parent.1 in
+        let none = child_is_new ops code r.state p.name parent.0 (reached machine log d.older r) parent.1 in
         let named : q.name ≡ child p.name (parent.0.local.children + 1) = name ∙ ap (child p.name) (number ∙ ap (λ k. k + 1) (sym count)) in
         let kept = none_pending ops.buffered y.event.kind (ap is_store y.kind) in
         record {
@@ -115,7 +110,7 @@ module _ {B : Type 0} (ops : BufferOps B) (model : Model) (bound : Binding) (law
           by (two_places d.older d.deed d.newer older (Did q.name k r took other) newer (sym d.at ∙ at))
         where
           is_one : is_thread_in older q.name ≡ true
-          is_one = (left_at ops model bound laws code lawful log is nodes moves again older newer q.name k r took other at).there
+          is_one = (left_at setting nodes moves again older newer q.name k r took other at).there
 
           by : TwoPlaces d.older d.deed d.newer older (Did q.name k r took other) newer → (between : List Deed) × (older ≡ d.older ++ d.deed ∷ between)
           by (Before between after rest) = (between, after)
@@ -126,16 +121,16 @@ module _ {B : Type 0} (ops : BufferOps B) (model : Model) (bound : Binding) (law
 
       created_first : (x : Event) → Contains q.events x → Before_in t l.step c x.step
       created_first x i =
-          let e = event_deed ops model bound laws code lawful log is nodes moves again c q x child_there i in
+          let e = event_deed setting nodes moves again c q x child_there i in
           let b = step_after e.older e.newer x.step e.request e.took e.other e.at in
-          comes_first ops model bound laws code lawful log is nodes moves again c q x child_there i e t l.step d.older b.0 d.deed d.shows b.1
+          comes_first setting nodes moves again c q x child_there i e t l.step d.older b.0 d.deed d.shows b.1
 
     -- a join finds the child's exit done
-    joined_last : Contains p.joins l → HasExited threads (w ops model bound laws code lawful log is nodes moves again) c t l.step
+    joined_last : Contains p.joins l → HasExited threads (w setting nodes moves again) c t l.step
     joined_last i =
-        let f = fit ops model bound laws code lawful log is nodes moves again in
+        let f = fit setting nodes moves again in
         let y = joined_by p.events l (subst (λ ls. Contains ls l) (joins_are code log is f t p there) i) in
-        let d = event_deed ops model bound laws code lawful log is nodes moves again t p y.event there y.among in
+        let d = event_deed setting nodes moves again t p y.event there y.among in
         let join = Did p.name y.event.step d.request d.took d.other in
         let awaits = await_is d.request d.other l.child (d.asks ∙ ap (λ k. Some k) y.kind) in
         let may : may_do_in ops.buffered d.older p.name (Await l.child) d.other ≡ true =
@@ -144,22 +139,22 @@ module _ {B : Type 0} (ops : BufferOps B) (model : Model) (bound : Binding) (law
         ap (has_exited_in d.older) name
         ∙ (and_parts (not (drains_first (Await l.child)) || is_nil (stores (pending ops.buffered d.older p.name)))
         (has_exited_in d.older (child p.name l.child)) may).1 in
-        let x = (exits_told ops model bound laws code lawful log is f d.older d.along c q child_there).0 gone in
-        let e = event_done ops model bound laws code lawful log is f d.older d.along c q child_there x.0 (in_contains x.0 q.events x.1) x.3 in
+        let x = (exits_told setting f d.older d.along c q child_there).0 gone in
+        let e = event_done setting f d.older d.along c q child_there x.0 (in_contains x.0 q.events x.1) x.3 in
         let exit = Did q.name x.0.step e.request e.took e.other in
         record {
           exit = x.0;
           there = (q, child_there, x.1);
           exits = x.2;
           before = subst (λ k. Before_in c x.0.step t k) y.step
-              ((ordered ops model bound laws code lawful log is nodes moves again).order e.older e.newer d.newer exit join c x.0.step t y.event.step
+              ((ordered setting nodes moves again).order e.older e.newer d.newer exit join c x.0.step t y.event.step
               (d.at ∙ ap (λ g. g ++ join ∷ d.newer) e.there)
               (shows_step ops.buffered threads c x.0.step q e.request e.took e.other x.0.kind child_there e.asks
               (none_pending ops.buffered x.0.kind (ap is_store x.2)))
               (d.shows (none_pending ops.buffered y.event.kind (ap is_store y.kind))));
         }
 
-  pub child_rule : (c : ℕ) → ChildRule threads (w ops model bound laws code lawful log is nodes moves again) c
+  pub child_rule : (c : ℕ) → ChildRule threads (w setting nodes moves again) c
   child_rule c = record {
     created = λ t l x creates is_child event.
         let parent : is_child.0 ≡ creates.0 = same_Some is_child.0 creates.0 (sym is_child.2 ∙ creates.1) in

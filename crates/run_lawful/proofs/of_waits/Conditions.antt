@@ -8,19 +8,13 @@ use Rattle.std.specs.List.{Contains, filter_map, list_any}
 use Rattle.std.proofs.lemmas.Bool.{false≢true, true≢false, and_parts, cases_Bool, eq-eqb, eqb-true, false_from_ne_true}
 use Rattle.std.proofs.lemmas.List.{append_cancel_left}
 use Rattle.std.proofs.lemmas.Option.{none-some, same_Some, slice_get-map, slice_get_cases, unwrap_or-slice_get}
-use Rattle.tc_base.specs.Buffers.{BufferOps}
 use Rattle.list_laws.specs.Lists.{is_nil}
-use Rattle.run_log.specs.Logs.{Log}
 use Rattle.tc_base.specs.Names.{Name}
-use Rattle.memory_models.specs.declared.model.Model.{Model}
 use Rattle.tc_base.specs.declared.moves.Move.{Move}
 use Rattle.tc_base.specs.declared.request.Request.TheVariants.{BeginWait, WakeOne, WakeAll}
-use Rattle.tc_code.specs.Code.{Code}
-use Rattle.tc_code.specs.Lawful.{IsLawful}
 use Rattle.tc_code.specs.Run.{Reproduces}
 use Rattle.tc_code.specs.Step.{drains_first}
-use Rattle.store_buffers.specs.Laws.{Laws}
-use Rattle.store_buffers.specs.Pending.{Binding, stores}
+use Rattle.store_buffers.specs.Pending.{stores}
 use Rattle.run_laws.proofs.Names.{same_self}
 use Rattle.run_history.specs.History.{Deed, Did, pending}
 use Rattle.run_history.specs.Last.{waits_by}
@@ -28,13 +22,13 @@ use Rattle.run_history.specs.Told.{waiting_in}
 use Rattle.run_follows.proofs.of_deeds.Nobody.{nobody_waits}
 use Rattle.run_follows.specs.Follow.{may_do_in}
 use Rattle.run_history.specs.pending.Deeds.{DeedName, name_of}
-use Rattle.run_log.specs.Logs.{is_log}
 use Rattle.path_walk.specs.Fits.{Fits}
 use Rattle.path_walk.specs.Paths.{Walk, Paths}
 use Rattle.path_walk.specs.declared.event.Event.{Event}
 use Rattle.path_walk.specs.declared.event.EventKind.{EventKind}
 use Rattle.path_walk.specs.declared.event.EventKind.TheVariants as kind
 use Rattle.path_walk.specs.declared.event.Sleep.{Sleep}
+use Rattle.path_laws.specs.Setting.{Setting}
 use Rattle.path_laws.specs.history.Along.{IsThread}
 use Rattle.path_laws.proofs.of_history.Walks.{walk_is}
 use Rattle.path_laws.proofs.of_events.Lists.{in_contains}
@@ -81,34 +75,35 @@ broadcast_kind c (kind.Broadcast d) e = let same : d ≡ c = eqb-true d c e in a
 broadcast_kind c kind.Load e = absurd (false≢true e)
 broadcast_kind c k e = absurd (false≢true e)
 
-module _ {B : Type 0} (ops : BufferOps B) (model : Model) (bound : Binding) (laws : Laws ops model bound) (code : Code) (lawful : IsLawful code) (log : Log)
-    (is : is_log log ≡ true) (nodes : List Node) (moves : List Move) (again : Reproduces ops code log moves) where
+module _ {B : Type 0} (setting : Setting B) (nodes : List Node) (moves : List Move) (again : Reproduces setting.ops setting.code setting.log moves) where
+  open setting use {ops, bound, code, lawful, log, log_is as is}
+
   abbrev done : List Deed
-  done = h ops model bound laws code lawful log is nodes moves again
+  done = h setting nodes moves again
 
   abbrev threads : Paths
-  threads = paths ops model bound laws code lawful log is nodes moves again
+  threads = paths setting nodes moves again
 
   abbrev f : Fits code log
-  f = fit ops model bound laws code lawful log is nodes moves again
+  f = fit setting nodes moves again
 
   abbrev world : World
-  world = w ops model bound laws code lawful log is nodes moves again
+  world = w setting nodes moves again
 
   abbrev Its_deed : Of Sleep → Type 0
-  Its_deed x = SleepDeed ops model bound laws code lawful log is nodes moves again x
+  Its_deed x = SleepDeed setting nodes moves again x
 
   abbrev Ends : (x : Of Sleep) → Its_deed x → ℕ → Type 0
-  Ends x d g = EndsAt ops model bound laws code lawful log is nodes moves again x d g
+  Ends x d g = EndsAt setting nodes moves again x d g
 
   -- what ends a sleep comes when it has begun
   ends_later : (s g : ℕ) (x : Of Sleep) → slice_get (all_sleeps threads) s ≡ Some x → ender_of world s ≡ Some g
       → place_of threads world x.thread x.it.step < position world g
   ends_later s g x at ended =
-      let d = sleep_deed ops model bound laws code lawful log is nodes moves again s x at in
-      let e = ends_at ops model bound laws code lawful log is nodes moves again x d s g at ended in
+      let d = sleep_deed setting nodes moves again s x at in
+      let e = ends_at setting nodes moves again x d s g at ended in
       subst (λ n. place_of threads world x.thread x.it.step < position world n) (sym e.number)
-      ((ordered ops model bound laws code lawful log is nodes moves again).order d.older e.between e.newer d.deed e.ender x.thread x.it.step e.thread e.step
+      ((ordered setting nodes moves again).order d.older e.between e.newer d.deed e.ender x.thread x.it.step e.thread e.step
       e.at d.shows e.shows)
 
   -- something that ended a sleep before a deed
@@ -132,7 +127,7 @@ module _ {B : Type 0} (ops : BufferOps B) (model : Model) (bound : Binding) (law
       ap (λ xs. d.older ++ d.deed ∷ xs) p.1.there ∙ sym (append_assoc d.older (d.deed ∷ p.1.older) (p.0 ∷ p.1.newer)) in
       let at : done ≡ (d.older ++ d.deed ∷ p.1.older) ++ p.0 ∷ (p.1.newer ++ newer) =
       split ∙ ap (λ xs. xs ++ newer) there ∙ append_assoc (d.older ++ d.deed ∷ p.1.older) (p.0 ∷ p.1.newer) newer in
-      let e = is_ender ops model bound laws code lawful log is moves again x.it.condition d.walk.name (d.older ++ d.deed ∷ p.1.older) p.0
+      let e = is_ender setting moves again x.it.condition d.walk.name (d.older ++ d.deed ∷ p.1.older) p.0
       (p.1.newer ++ newer) at p.1.passes in
       record {
         number = number_of threads e.thread e.event.step;
@@ -164,7 +159,7 @@ module _ {B : Type 0} (ops : BufferOps B) (model : Model) (bound : Binding) (law
   wakes_after s k x at wake = first later.0 (later.1 ∙ ap (λ y. d.older ++ y ∷ later.0) (sym d.begins))
     where
       d : Its_deed x
-      d = sleep_deed ops model bound laws code lawful log is nodes moves again s x at
+      d = sleep_deed setting nodes moves again s x at
 
       n : Name
       n = d.walk.name
@@ -175,12 +170,12 @@ module _ {B : Type 0} (ops : BufferOps B) (model : Model) (bound : Binding) (law
 
       y : (y : Event) × Contains d.walk.events y × (y.step ≡ k)
       y =
-          let s = (seen ops model bound laws code lawful log is moves again).whole.woken x.thread k x.it (d.walk, d.there, d.among) wake in
+          let s = (seen setting moves again).whole.woken x.thread k x.it (d.walk, d.there, d.among) wake in
           let same : s.1.0 ≡ d.walk = same_Some s.1.0 d.walk (sym s.1.1 ∙ d.there) in
           (s.0, subst (λ (p : Walk). Contains p.events s.0) same s.1.2, s.2)
 
-      e : EventDeed ops model bound laws code lawful log is nodes moves again x.thread d.walk y.0
-      e = event_deed ops model bound laws code lawful log is nodes moves again x.thread d.walk y.0 d.there y.1
+      e : EventDeed setting nodes moves again x.thread d.walk y.0
+      e = event_deed setting nodes moves again x.thread d.walk y.0 d.there y.1
 
       waking : Deed
       waking = Did n y.0.step e.request e.took e.other
@@ -192,24 +187,24 @@ module _ {B : Type 0} (ops : BufferOps B) (model : Model) (bound : Binding) (law
           elim (cases_Bool (list_any (ends_wait x.it.condition n) between)) [
             | inl some ↦
                 let z = ended_before x d between (waking ∷ e.newer) split some in
-                let less = comes_first ops model bound laws code lawful log is nodes moves again x.thread d.walk y.0 d.there y.1 e z.thread z.step z.older
+                let less = comes_first setting nodes moves again x.thread d.walk y.0 d.there y.1 e z.thread z.step z.older
                 z.newer z.ender z.shows (front ∙ z.there) in (
                   z.number,
-                  ended_by ops model bound laws code lawful log is nodes moves again x d s z.number at z.ends,
+                  ended_by setting nodes moves again x d s z.number at z.ends,
                   subst (λ g. position world g < place_of threads world x.thread k) (sym z.told)
                       (subst (λ i. IsBefore threads world z.thread z.step x.thread i) y.2 less),
                 )
             | inr none ↦
-                let silent = none_between ops model bound laws code lawful log is nodes moves again x d between (waking ∷ e.newer) split none in
-                let waits = waits_while ops model bound laws code lawful log is nodes moves again x d between (waking ∷ e.newer) split silent in
-                absurd (waiter_rests ops model bound laws code lawful log is nodes moves again e.older n x.it.condition y.0.step e.request e.took e.other
+                let silent = none_between setting nodes moves again x d between (waking ∷ e.newer) split none in
+                let waits = waits_while setting nodes moves again x d between (waking ∷ e.newer) split silent in
+                absurd (waiter_rests setting nodes moves again e.older n x.it.condition y.0.step e.request e.took e.other
                 e.along d.within (ap (λ g. set.contains (waiting_in g x.it.condition) n) front ∙ waits) e.may)
           ]
 
       -- it wakes after its sleep
       later : (between : List Deed) × (e.older ≡ d.older ++ Did n x.it.step (BeginWait x.it.condition x.it.mutex) d.took d.other ∷ between)
       later =
-          steps_ordered ops.buffered bound code done (goes_along ops model bound laws code lawful log is nodes moves again).follow n x.it.step y.0.step d.older
+          steps_ordered ops.buffered bound code done (goes_along setting nodes moves again).follow n x.it.step y.0.step d.older
           d.newer e.older e.newer (BeginWait x.it.condition x.it.mutex) e.request d.took e.took d.other e.other
           (d.at ∙ ap (λ z. d.older ++ z ∷ d.newer) d.begins) e.at (omega (arith, y.2, next))
 
@@ -218,15 +213,15 @@ module _ {B : Type 0} (ops : BufferOps B) (model : Model) (bound : Binding) (law
     walk : Walk
     there : IsThread code log e.thread walk
     among : Contains walk.events e.it
-    deed : EventDeed ops model bound laws code lawful log is nodes moves again e.thread walk e.it
+    deed : EventDeed setting nodes moves again e.thread walk e.it
     number : number_of threads e.thread e.it.step ≡ g
     shows : Shows ops.buffered threads (Did walk.name e.it.step deed.request deed.took deed.other) e.thread e.it.step
 
   signalled : (g : ℕ) (e : Of Event) → slice_get (all_events threads) g ≡ Some e → is_store e.it.kind ≡ false → Signalled g e
   signalled g e at quiet =
-      let whole = (seen ops model bound laws code lawful log is moves again).whole in
+      let whole = (seen setting moves again).whole in
       let v = event_numbered threads whole g e at in
-      let d = event_deed ops model bound laws code lawful log is nodes moves again e.thread v.0 e.it v.1 v.2 in
+      let d = event_deed setting nodes moves again e.thread v.0 e.it v.1 v.2 in
       record {
         walk = v.0;
         there = v.1;
@@ -246,7 +241,7 @@ module _ {B : Type 0} (ops : BufferOps B) (model : Model) (bound : Binding) (law
   module _ (s g : ℕ) (x : Of Sleep) (at : slice_get (all_sleeps threads) s ≡ Some x) (e : Of Event) (v : Signalled g e)
       (waits : Waits threads world s x g) where
     d : Its_deed x
-    d = sleep_deed ops model bound laws code lawful log is nodes moves again s x at
+    d = sleep_deed setting nodes moves again s x at
 
     abbrev signal : Deed
     signal = Did v.walk.name e.it.step v.deed.request v.deed.took v.deed.other
@@ -261,18 +256,18 @@ module _ {B : Type 0} (ops : BufferOps B) (model : Model) (bound : Binding) (law
         let lasts : list_any (ends_wait x.it.condition d.walk.name) between ≡ false =
         false_from_ne_true (list_any (ends_wait x.it.condition d.walk.name) between) (λ some.
         let z = ended_before x d between (signal ∷ v.deed.newer) split some in
-        let less = (ordered ops model bound laws code lawful log is nodes moves again).order z.older z.newer v.deed.newer z.ender signal z.thread z.step
+        let less = (ordered setting nodes moves again).order z.older z.newer v.deed.newer z.ender signal z.thread z.step
         e.thread e.it.step (v.deed.at ∙ ap (λ xs. xs ++ signal ∷ v.deed.newer) (front ∙ z.there)) z.shows v.shows in
-        waits.lasts z.number (ended_by ops model bound laws code lawful log is nodes moves again x d s z.number at z.ends)
+        waits.lasts z.number (ended_by setting nodes moves again x d s z.number at z.ends)
         (omega (arith, less, its_place, ap (position world) z.told))) in
-        let silent = none_between ops model bound laws code lawful log is nodes moves again x d between (signal ∷ v.deed.newer) split lasts in
+        let silent = none_between setting nodes moves again x d between (signal ∷ v.deed.newer) split lasts in
         record {
           between = between;
           front = front;
           lasts = lasts;
           waits =
               ap (λ xs. set.contains (waiting_in xs x.it.condition) d.walk.name) front
-              ∙ waits_while ops model bound laws code lawful log is nodes moves again x d between (signal ∷ v.deed.newer) split silent;
+              ∙ waits_while setting nodes moves again x d between (signal ∷ v.deed.newer) split silent;
         }
 
     waits_at : WaitsAt x d v.deed.older
@@ -281,13 +276,13 @@ module _ {B : Type 0} (ops : BufferOps B) (model : Model) (bound : Binding) (law
         by : TwoPlaces d.older d.deed d.newer v.deed.older signal v.deed.newer → WaitsAt x d v.deed.older
         by (Before between front rest) = still_waits between front
         by (Same older deed rest) =
-            let one = shows_one ops.buffered threads done (seen ops model bound laws code lawful log is moves again) signal x.thread x.it.step e.thread
+            let one = shows_one ops.buffered threads done (seen setting moves again) signal x.thread x.it.step e.thread
             e.it.step (subst (λ y. Shows ops.buffered threads y x.thread x.it.step) deed d.shows) v.shows in
             let same : place_of threads world x.thread x.it.step ≡ place_of threads world e.thread e.it.step =
             ap₂ (place_of threads world) one.0 one.1 in
             absurd (omega (arith, same, its_place, waits.begun))
         by (After between back rest) =
-            let less = (ordered ops model bound laws code lawful log is nodes moves again).order v.deed.older between d.newer signal d.deed e.thread
+            let less = (ordered setting nodes moves again).order v.deed.older between d.newer signal d.deed e.thread
             e.it.step x.thread x.it.step (d.at ∙ ap (λ xs. xs ++ d.deed ∷ d.newer) back) v.shows d.shows in
             absurd (omega (arith, less, its_place, waits.begun))
 
@@ -295,7 +290,7 @@ module _ {B : Type 0} (ops : BufferOps B) (model : Model) (bound : Binding) (law
     broadcast_ends : v.deed.request ≡ WakeAll x.it.condition → ender_of world s ≡ Some g
     broadcast_ends asked =
         let a = waits_at in
-        ended_by ops model bound laws code lawful log is nodes moves again x d s g at
+        ended_by setting nodes moves again x d s g at
         (record {
           between = a.between;
           ender = signal;
@@ -324,8 +319,8 @@ module _ {B : Type 0} (ops : BufferOps B) (model : Model) (bound : Binding) (law
         -- it wakes the thread of a sleep
         woken : (u : Name) → v.deed.other ≡ Some u → set.contains (waiting_in v.deed.older c) u ≡ true → (r : ℕ) × (ender_of world r ≡ Some g)
         woken u other waits =
-            let p = waiter_named ops model bound laws code lawful log is f v.deed.older c u v.deed.along waits in
-            let a = (sleep_waits ops model bound laws code lawful log is f v.deed.older v.deed.along p.place p.walk p.there c).0
+            let p = waiter_named setting f v.deed.older c u v.deed.along waits in
+            let a = (sleep_waits setting f v.deed.older v.deed.along p.place p.walk p.there c).0
             (ap (λ m. set.contains (waiting_in v.deed.older c) m) p.name ∙ waits) in
             let z : Of Sleep = record { thread = p.place; it = a.0 } in
             let r = place_of_one (all_sleeps threads) z
@@ -334,7 +329,7 @@ module _ {B : Type 0} (ops : BufferOps B) (model : Model) (bound : Binding) (law
             let is_it : signal ≡ Did v.walk.name e.it.step (WakeOne a.0.condition) v.deed.took (Some p.walk.name) =
             ap₂ (λ q o. Did v.walk.name e.it.step q v.deed.took o) (asked ∙ ap WakeOne (sym a.2)) (other ∙ ap (λ m. Some m) (sym p.name)) in (
               r.0,
-              ended_is ops.buffered threads done (seen ops model bound laws code lawful log is moves again) (found code log nodes).symbolic r.0 g z r.1
+              ended_is ops.buffered threads done (seen setting moves again) (found code log nodes).symbolic r.0 g z r.1
                   (record {
                     sleeper = p.walk;
                     sleeps = p.there;
@@ -371,7 +366,7 @@ module _ {B : Type 0} (ops : BufferOps B) (model : Model) (bound : Binding) (law
       → list_any (ends_wait x.it.condition d.walk.name) between ≡ false → between ≡ mid ++ b.deed ∷ later → x.it.condition ≡ y.it.condition
       → d.walk.name ≡ b.walk.name → ⊥
   not_between x y d b between mid later newer split lasts is_it condition name =
-      let silent = none_between ops model bound laws code lawful log is nodes moves again x d between newer split lasts in
+      let silent = none_between setting nodes moves again x d between newer split lasts in
       let none = gives_none (waits_by x.it.condition d.walk.name) mid later b.deed
       (ap (filter_map (waits_by x.it.condition d.walk.name)) (sym is_it) ∙ silent) in
       none-some true
@@ -398,7 +393,7 @@ module _ {B : Type 0} (ops : BufferOps B) (model : Model) (bound : Binding) (law
         one : (a.thread ≡ e.thread) × (a.step ≡ e.it.step)
         one =
             one_step threads a.thread a.step e.thread e.it.step
-            ((ordered ops model bound laws code lawful log is nodes moves again).events a.thread a.step takes) (sym a.number ∙ sym v.number)
+            ((ordered setting nodes moves again).events a.thread a.step takes) (sym a.number ∙ sym v.number)
 
         its_shows : Shows ops.buffered threads a.ender e.thread e.it.step
         its_shows =
@@ -418,13 +413,13 @@ module _ {B : Type 0} (ops : BufferOps B) (model : Model) (bound : Binding) (law
 
         by : TwoPlaces (d.older ++ d.deed ∷ a.between) a.ender a.newer v.deed.older the_signal v.deed.newer → EndsBySignal x d a
         by (Before between front rest) =
-            absurd ((ordered ops model bound laws code lawful log is nodes moves again).once (d.older ++ d.deed ∷ a.between) between v.deed.newer a.ender
+            absurd ((ordered setting nodes moves again).once (d.older ++ d.deed ∷ a.between) between v.deed.newer a.ender
             the_signal e.thread e.it.step (v.deed.at ∙ ap (λ xs. xs ++ the_signal ∷ v.deed.newer) front) its_shows v.shows)
         by (Same front deed rest) =
             told front
             (ends_told x.it.condition d.walk.name the_signal (ap (ends_wait x.it.condition d.walk.name) (sym deed) ∙ a.ends))
         by (After between back rest) =
-            absurd ((ordered ops model bound laws code lawful log is nodes moves again).once v.deed.older between a.newer the_signal a.ender e.thread
+            absurd ((ordered setting nodes moves again).once v.deed.older between a.newer the_signal a.ender e.thread
             e.it.step (a.at ∙ ap (λ xs. xs ++ a.ender ∷ a.newer) back) v.shows its_shows)
 
     -- two sleeps that it ends are one
@@ -441,7 +436,7 @@ module _ {B : Type 0} (ops : BufferOps B) (model : Model) (bound : Binding) (law
         name = same_Some d.walk.name b.walk.name (sym first.wakes ∙ second.wakes)
 
         thread : x.thread ≡ y.thread
-        thread = (seen ops model bound laws code lawful log is moves again).names x.thread y.thread d.walk b.walk d.there b.there name
+        thread = (seen setting moves again).names x.thread y.thread d.walk b.walk d.there b.there name
 
         condition : x.it.condition ≡ y.it.condition
         condition = first.condition ∙ sym second.condition
@@ -485,14 +480,14 @@ module _ {B : Type 0} (ops : BufferOps B) (model : Model) (bound : Binding) (law
     one = λ s r g signal ended also.
         let x = sleep_there s g ended in
         let y = sleep_there r g also in
-        let d = sleep_deed ops model bound laws code lawful log is nodes moves again s x.0 x.1 in
-        let b = sleep_deed ops model bound laws code lawful log is nodes moves again r y.0 y.1 in
+        let d = sleep_deed setting nodes moves again s x.0 x.1 in
+        let b = sleep_deed setting nodes moves again r y.0 y.1 in
         let is_it = signal_kind c signal.event.it.kind signal.signals in
         let v = signalled g signal.event signal.is (ap is_store is_it) in
         let same = one_step_of g signal.event v c (signal_is v.deed.request v.deed.other c (v.deed.asks ∙ ap (λ k. Some k) is_it)) x.0 y.0 d b
-        (ends_at ops model bound laws code lawful log is nodes moves again x.0 d s g x.1 ended)
-        (ends_at ops model bound laws code lawful log is nodes moves again y.0 b r g y.1 also) in
-        one_sleep threads (seen ops model bound laws code lawful log is moves again).whole (sleeps_are code log is f) s r x.0 y.0 x.1 y.1 same.0 same.1;
+        (ends_at setting nodes moves again x.0 d s g x.1 ended)
+        (ends_at setting nodes moves again y.0 b r g y.1 also) in
+        one_sleep threads (seen setting moves again).whole (sleeps_are code log is f) s r x.0 y.0 x.1 y.1 same.0 same.1;
     some = λ s g x signal sleep waits.
         let is_it = signal_kind c signal.event.it.kind signal.signals in
         let v = signalled g signal.event signal.is (ap is_store is_it) in

@@ -2,17 +2,12 @@
 use Rattle.std.proofs.Common.{◌≡◌, ◌∙◌, ℕ, ℤ, Bool, true, false, ◌&&◌, List, ◌∷◌, ◌++◌, Option, Some, sym, ap, subst}
 use Rattle.std.specs.List.{Contains}
 use Rattle.std.proofs.Math.Bool.{and-false}
-use Rattle.tc_base.specs.Buffers.{BufferOps}
 use Rattle.run_log.specs.Logs.{Log}
 use Rattle.tc_base.specs.Names.{Name}
-use Rattle.memory_models.specs.declared.model.Model.{Model}
 use Rattle.tc_base.specs.declared.moves.Move.{Move}
 use Rattle.tc_base.specs.declared.request.Request.{Request}
 use Rattle.tc_code.specs.Code.{Code}
-use Rattle.tc_code.specs.Lawful.{IsLawful}
 use Rattle.tc_code.specs.Run.{Reproduces}
-use Rattle.store_buffers.specs.Laws.{Laws}
-use Rattle.store_buffers.specs.Pending.{Binding}
 use Rattle.run_history.specs.History.{Deed, Did, history}
 use Rattle.run_follows.specs.Follow.{MayFollow, IsLeftIn}
 use Rattle.run_log.specs.Logs.{is_log}
@@ -21,6 +16,7 @@ use Rattle.path_walk.specs.Fits.{Fits}
 use Rattle.path_walk.specs.Paths.{Walk, Paths, paths_of}
 use Rattle.path_walk.specs.declared.event.Event.{Event}
 use Rattle.path_walk.specs.declared.event.EventKind.{EventKind}
+use Rattle.path_laws.specs.Setting.{Setting}
 use Rattle.path_laws.specs.Deeds.{kind_of}
 use Rattle.path_laws.specs.history.Along.{IsAlongPaths, IsThread}
 use Rattle.path_laws.proofs.of_history.Told.{reproduced_run, first_along}
@@ -57,8 +53,9 @@ module _ (code : Code) (log : Log) (is : is_log log ≡ true) (fits : Fits code 
   pub sleeps_are : q.sleeps ≡ sleeps_of q.events
   sleeps_are = (walk_is code log is fits t q there).sleeps
 
-module _ {B : Type 0} (ops : BufferOps B) (model : Model) (bound : Binding) (laws : Laws ops model bound) (code : Code) (lawful : IsLawful code) (log : Log)
-    (is : is_log log ≡ true) (nodes : List Node) (moves : List Move) (again : Reproduces ops code log moves) where
+module _ {B : Type 0} (setting : Setting B) (nodes : List Node) (moves : List Move) (again : Reproduces setting.ops setting.code setting.log moves) where
+  open setting use {machine, ops, bound, code, log}
+
   abbrev pub h : List Deed
   h = history ops code moves
 
@@ -69,23 +66,23 @@ module _ {B : Type 0} (ops : BufferOps B) (model : Model) (bound : Binding) (law
   w = world_in ops.buffered paths (found code log nodes).symbolic h
 
   pub fit : Fits code log
-  fit = fits ops model bound laws code lawful log is moves again
+  fit = fits setting moves again
 
   pub ordered : IsOrderOf ops.buffered paths h w
-  ordered = is_order ops.buffered paths (found code log nodes).symbolic h (seen ops model bound laws code lawful log is moves again)
+  ordered = is_order ops.buffered paths (found code log nodes).symbolic h (seen setting moves again)
 
   pub goes_along : IsAlongPaths ops.buffered bound code log h
-  goes_along = along ops model bound laws code lawful log is moves again
+  goes_along = along setting moves again
 
   -- the first deeds are along the paths too
   pub begins_along : (older newer : List Deed) → h ≡ older ++ newer → IsAlongPaths ops.buffered bound code log older
   begins_along older newer at =
-      first_along ops model bound laws code lawful log older newer (subst (IsAlongPaths ops.buffered bound code log) at goes_along)
+      first_along machine log older newer (subst (IsAlongPaths ops.buffered bound code log) at goes_along)
 
   -- a step is one of a thread that is there
   pub left_at : (older newer : List Deed) (n : Name) (k : ℕ) (r : Request) (took : ℤ) (other : Option Name) → h ≡ older ++ Did n k r took other ∷ newer
       → IsLeftIn older n
-  left_at older newer n k r took other at = (reproduced_run ops model bound laws code lawful log moves again).told.threads older newer n k r took other at
+  left_at older newer n k r took other at = (reproduced_run machine log moves again).told.threads older newer n k r took other at
 
   -- a thread does each step once
   pub step_once : (n : Name) (k : ℕ) (o : List Deed) (x : Deed) (u p : List Deed) (y : Deed) (m : List Deed) → h ≡ o ++ x ∷ u → h ≡ p ++ y ∷ m
@@ -94,11 +91,11 @@ module _ {B : Type 0} (ops : BufferOps B) (model : Model) (bound : Binding) (law
     where
       by : TwoPlaces o x u p y m → (o ≡ p) × (x ≡ y) × (u ≡ m)
       by (Before between before rest) =
-          absurd ((seen ops model bound laws code lawful log is moves again).told.apart o m between x y (bt ∙ ap (λ g. g ++ y ∷ m) before)
+          absurd ((seen setting moves again).told.apart o m between x y (bt ∙ ap (λ g. g ++ y ∷ m) before)
           (step_named n k x one ∙ sym (step_named n k y two)))
       by (Same older deed newer) = (older, deed, newer)
       by (After between before rest) =
-          absurd ((seen ops model bound laws code lawful log is moves again).told.apart p u between y x (at ∙ ap (λ g. g ++ x ∷ u) before)
+          absurd ((seen setting moves again).told.apart p u between y x (at ∙ ap (λ g. g ++ x ∷ u) before)
           (step_named n k y two ∙ sym (step_named n k x one)))
 
   -- the deed of a thread's event
@@ -117,7 +114,7 @@ module _ {B : Type 0} (ops : BufferOps B) (model : Model) (bound : Binding) (law
 
   pub event_deed : (t : ℕ) (q : Walk) (x : Event) → IsThread code log t q → Contains q.events x → EventDeed t q x
   event_deed t q x there i =
-      let d = event_is_done ops model bound laws code lawful log is moves again t q x there (in_contains x q.events i) in
+      let d = event_is_done setting moves again t q x there (in_contains x q.events i) in
       record {
         older = d.older;
         newer = d.newer;

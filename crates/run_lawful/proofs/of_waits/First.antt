@@ -3,24 +3,17 @@ use Rattle.std.proofs.Common.{◌≡◌, ◌∙◌, ℕ, ℤ, Bool, true, false,
 use Rattle.std.specs.List.{Contains}
 use Rattle.std.proofs.lemmas.Bool.{true≢false, eq-eqb}
 use Rattle.std.proofs.lemmas.Option.{same_Some}
-use Rattle.tc_base.specs.Buffers.{BufferOps}
-use Rattle.run_log.specs.Logs.{Log}
 use Rattle.tc_base.specs.Names.{Name}
-use Rattle.memory_models.specs.declared.model.Model.{Model}
 use Rattle.tc_base.specs.declared.moves.Move.{Move}
 use Rattle.tc_base.specs.declared.request.Request.TheVariants.{Write}
-use Rattle.tc_code.specs.Code.{Code}
-use Rattle.tc_code.specs.Lawful.{IsLawful}
 use Rattle.tc_code.specs.Run.{Reproduces}
-use Rattle.store_buffers.specs.Laws.{Laws}
-use Rattle.store_buffers.specs.Pending.{Binding}
 use Rattle.run_laws.proofs.Names.{same_self}
 use Rattle.run_history.specs.History.{Deed, Did, Drained, drains, has_drained}
 use Rattle.run_history.proofs.of_pending.In.{In, in_at, in_any, one_of_name}
-use Rattle.run_log.specs.Logs.{is_log}
 use Rattle.path_walk.specs.Paths.{Walk, Paths}
 use Rattle.path_walk.specs.declared.event.Event.{Event}
 use Rattle.path_walk.specs.declared.event.EventKind.{EventKind}
+use Rattle.path_laws.specs.Setting.{Setting}
 use Rattle.path_laws.specs.Deeds.{kind_of}
 use Rattle.path_laws.specs.history.Along.{IsThread}
 use Rattle.sym_terms.specs.declared.node.Node.{Node}
@@ -41,17 +34,18 @@ abbrev asked_in : Deed → Option EventKind
 asked_in (Did n k r took other) = kind_of r other
 asked_in _ = None
 
-module _ {B : Type 0} (ops : BufferOps B) (model : Model) (bound : Binding) (laws : Laws ops model bound) (code : Code) (lawful : IsLawful code) (log : Log)
-    (is : is_log log ≡ true) (nodes : List Node) (moves : List Move) (again : Reproduces ops code log moves) where
+module _ {B : Type 0} (setting : Setting B) (nodes : List Node) (moves : List Move) (again : Reproduces setting.ops setting.code setting.log moves) where
+  open setting use {ops, code, log}
+
   abbrev done : List Deed
-  done = h ops model bound laws code lawful log is nodes moves again
+  done = h setting nodes moves again
 
   abbrev threads : Paths
-  threads = paths ops model bound laws code lawful log is nodes moves again
+  threads = paths setting nodes moves again
 
   -- an event's step
   module _ (c : ℕ) (q : Walk) (x : Event) (there : IsThread code log c q) (i : Contains q.events x)
-      (e : EventDeed ops model bound laws code lawful log is nodes moves again c q x) where
+      (e : EventDeed setting nodes moves again c q x) where
     abbrev its_deed : Deed
     its_deed = Did q.name x.step e.request e.took e.other
 
@@ -59,11 +53,11 @@ module _ {B : Type 0} (ops : BufferOps B) (model : Model) (bound : Binding) (law
     module _ (t k : ℕ) (older between : List Deed) (deed : Deed) (shows : Shows ops.buffered threads deed t k)
         (before : e.older ≡ older ++ deed ∷ between) where
       abbrev First : Type 0
-      First = IsBefore threads (w ops model bound laws code lawful log is nodes moves again) t k c x.step
+      First = IsBefore threads (w setting nodes moves again) t k c x.step
 
       by_step : (ops.buffered && is_store x.kind) ≡ false → First
       by_step kept =
-          (ordered ops model bound laws code lawful log is nodes moves again).order older between e.newer deed its_deed t k c x.step
+          (ordered setting nodes moves again).order older between e.newer deed its_deed t k c x.step
           (e.at ∙ ap (λ g. g ++ its_deed ∷ e.newer) before) shows (e.shows kept)
 
       -- a store that has drained did so after its step
@@ -71,23 +65,23 @@ module _ {B : Type 0} (ops : BufferOps B) (model : Model) (bound : Binding) (law
       by_drain drained =
           let z = drained_at done q.name x.step drained in
           let drain = Drained q.name x.step z.cell z.value in
-          let store = (told ops model bound laws code lawful log is moves again).stores z.older z.newer q.name x.step z.cell z.value z.there in
+          let store = (told setting moves again).stores z.older z.newer q.name x.step z.cell z.value z.there in
           let issue = Did q.name x.step (Write z.cell z.value) store.took store.other in
           let issued : done ≡ store.before ++ issue ∷ (store.after ++ drain ∷ z.newer) =
           z.there ∙ ap (λ g. g ++ drain ∷ z.newer) store.issued ∙ append_assoc store.before (issue ∷ store.after) (drain ∷ z.newer) in
-          let once = step_once ops model bound laws code lawful log is nodes moves again q.name x.step store.before issue (store.after ++ drain ∷ z.newer)
+          let once = step_once setting nodes moves again q.name x.step store.before issue (store.after ++ drain ∷ z.newer)
           e.older its_deed e.newer issued e.at (is_its_step q.name x.step (Write z.cell z.value) store.took store.other)
           (is_its_step q.name x.step e.request e.took e.other) in
           let front : store.before ≡ older ++ deed ∷ between = once.0 ∙ before in
           let all : z.older ≡ older ++ deed ∷ (between ++ issue ∷ store.after) =
           store.issued ∙ ap (λ g. g ++ issue ∷ store.after) front ∙ append_assoc older (deed ∷ between) (issue ∷ store.after) in
-          (ordered ops model bound laws code lawful log is nodes moves again).order older (between ++ issue ∷ store.after) z.newer deed drain t k c x.step
+          (ordered setting nodes moves again).order older (between ++ issue ∷ store.after) z.newer deed drain t k c x.step
           (z.there ∙ ap (λ g. g ++ drain ∷ z.newer) all) shows (shows_drain ops.buffered threads c x.step q z.cell z.value there)
 
       -- one that never drains comes after all
       by_never : (ops.buffered && is_store x.kind) ≡ true → has_drained done q.name x.step ≡ false → First
       by_never waits none =
-          (ordered ops model bound laws code lawful log is nodes moves again).never t k c x.step
+          (ordered setting nodes moves again).never t k c x.step
           (record {
             older = older;
             deed = deed;
@@ -106,7 +100,7 @@ module _ {B : Type 0} (ops : BufferOps B) (model : Model) (bound : Binding) (law
               by : SeenBy ops.buffered q.name x.step y.deed → ⊥
               by (Done r took other asked is_it asks kept) =
                   let own = Did q.name x.step r took other in
-                  let one = one_of_name done own its_deed (told ops model bound laws code lawful log is moves again).apart
+                  let one = one_of_name done own its_deed (told setting moves again).apart
                   (subst (λ g. In g done) is_it in_done) (subst (In its_deed) (sym e.at) (in_at e.older its_deed e.newer)) refl in
                   let same : asked ≡ x.kind = same_Some asked x.kind (sym asks ∙ ap asked_in one ∙ e.asks) in
                   true≢false (sym waits ∙ ap (λ a. ops.buffered && is_store a) (sym same) ∙ kept)

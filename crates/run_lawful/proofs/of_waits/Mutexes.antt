@@ -6,31 +6,25 @@ use Rattle.std.specs.FinSet as set
 use Rattle.std.specs.List.{Contains}
 use Rattle.std.proofs.lemmas.Bool.{false≢true, and_parts, cases_lt}
 use Rattle.std.proofs.lemmas.Option.{none-some, same_Some}
-use Rattle.tc_base.specs.Buffers.{BufferOps}
 use Rattle.list_laws.specs.Lists.{is_nil}
-use Rattle.run_log.specs.Logs.{Log}
 use Rattle.tc_base.specs.Names.{Name}
-use Rattle.memory_models.specs.declared.model.Model.{Model}
 use Rattle.tc_base.specs.declared.moves.Move.{Move}
 use Rattle.tc_base.specs.declared.request.Request.{Request}
 use Rattle.tc_base.specs.declared.request.Request.TheVariants.{Acquire, EndWait}
-use Rattle.tc_code.specs.Code.{Code}
-use Rattle.tc_code.specs.Lawful.{IsLawful}
 use Rattle.tc_code.specs.Run.{Reproduces}
 use Rattle.tc_code.specs.Step.{drains_first}
-use Rattle.store_buffers.specs.Laws.{Laws}
-use Rattle.store_buffers.specs.Pending.{Binding, stores}
+use Rattle.store_buffers.specs.Pending.{stores}
 use Rattle.run_history.specs.History.{Deed, Did, pending}
 use Rattle.run_history.specs.Told.{steps_in, owner_in, waiting_in}
 use Rattle.run_follows.specs.Follow.{may_do_in}
 use Rattle.run_history.specs.pending.Deeds.{DeedName, name_of}
-use Rattle.run_log.specs.Logs.{is_log}
 use Rattle.path_walk.specs.Events.{takes, leaves}
 use Rattle.path_walk.specs.Paths.{Walk, Paths}
 use Rattle.path_walk.specs.declared.event.Event.{Event}
 use Rattle.path_walk.specs.declared.event.EventKind.{EventKind}
 use Rattle.path_walk.specs.declared.event.EventKind.TheVariants as kind
 use Rattle.path_walk.specs.declared.event.Region.{Region}
+use Rattle.path_laws.specs.Setting.{Setting}
 use Rattle.path_laws.specs.history.Along.{IsThread}
 use Rattle.path_laws.proofs.of_events.Events.{event_done}
 use Rattle.path_laws.proofs.of_events.Lists.{in_contains}
@@ -72,19 +66,20 @@ free_to_take buffered g n r other m (Wakes c is) may =
     (and_parts (not (drains_first (EndWait c m)) || is_nil (stores (pending buffered g n)))
     (not (set.contains (waiting_in g c) n) && is_none (owner_in g m)) met).1).1
 
-module _ {B : Type 0} (ops : BufferOps B) (model : Model) (bound : Binding) (laws : Laws ops model bound) (code : Code) (lawful : IsLawful code) (log : Log)
-    (is : is_log log ≡ true) (nodes : List Node) (moves : List Move) (again : Reproduces ops code log moves) where
+module _ {B : Type 0} (setting : Setting B) (nodes : List Node) (moves : List Move) (again : Reproduces setting.ops setting.code setting.log moves) where
+  open setting use {ops, code, log, log_is as is}
+
   abbrev done : List Deed
-  done = h ops model bound laws code lawful log is nodes moves again
+  done = h setting nodes moves again
 
   abbrev threads : Paths
-  threads = paths ops model bound laws code lawful log is nodes moves again
+  threads = paths setting nodes moves again
 
   abbrev Deed_of : (t : ℕ) (q : Walk) → Event → Type 0
-  Deed_of t q x = EventDeed ops model bound laws code lawful log is nodes moves again t q x
+  Deed_of t q x = EventDeed setting nodes moves again t q x
 
   abbrev Before_in : (t k u j : ℕ) → Type 0
-  Before_in t k u j = IsBefore threads (w ops model bound laws code lawful log is nodes moves again) t k u j
+  Before_in t k u j = IsBefore threads (w setting nodes moves again) t k u j
 
   -- the region of a mutex, with the deed that takes it
   record RegionDeed (t : ℕ) (q : Walk) (r : Region) : Type 0 where
@@ -93,11 +88,11 @@ module _ {B : Type 0} (ops : BufferOps B) (model : Model) (bound : Binding) (law
 
   region_deed : (t : ℕ) (q : Walk) (r : Region) → IsThread code log t q → Contains q.regions r → RegionDeed t q r
   region_deed t q r there i =
-      let f = fit ops model bound laws code lawful log is nodes moves again in
+      let f = fit setting nodes moves again in
       let parts = region_of_events q.events r (subst (λ rs. Contains rs r) (regions_are code log is f t q there) i) in
       record {
         parts = parts;
-        deed = event_deed ops model bound laws code lawful log is nodes moves again t q parts.taken.event there parts.taken.among;
+        deed = event_deed setting nodes moves again t q parts.taken.event there parts.taken.among;
       }
 
   module _ (t u : ℕ) (p q : Walk) (r s : Region) (p_there : IsThread code log t p) (q_there : IsThread code log u q) (i : Contains p.regions r)
@@ -110,7 +105,7 @@ module _ {B : Type 0} (ops : BufferOps B) (model : Model) (bound : Binding) (law
 
     -- where another takes the mutex later, the region has ended
     left_before : (between : List Deed) → b.deed.older ≡ a.deed.older ++ first ∷ between
-        → IsLeftBefore threads (w ops model bound laws code lawful log is nodes moves again) t r u s
+        → IsLeftBefore threads (w setting nodes moves again) t r u s
     left_before between before = by r.to refl
       where
         g : List Deed
@@ -124,31 +119,31 @@ module _ {B : Type 0} (ops : BufferOps B) (model : Model) (bound : Binding) (law
 
         begun : r.«from» < steps_in g p.name
         begun =
-            let step = step_is ops model bound laws code lawful log is (fit ops model bound laws code lawful log is nodes moves again) g b.deed.along t p
+            let step = step_is setting (fit setting nodes moves again) g b.deed.along t p
             p_there a.deed.older between a.parts.taken.event.step a.deed.request a.deed.took a.deed.other before in
             subst (λ k. k < steps_in g p.name) a.parts.taken.step step.done
 
         closed : ((k : ℕ) → r.to ≡ Some k → steps_in g p.name ≤ k) → ⊥
         closed lasts =
             none-some p.name
-            (sym free ∙ (region_owned ops model bound laws code lawful log is (fit ops model bound laws code lawful log is nodes moves again) g b.deed.along t p
+            (sym free ∙ (region_owned setting (fit setting nodes moves again) g b.deed.along t p
             p_there r.mutex).1 (r, i, refl, record { begun = begun; lasts = lasts }))
 
         ends : (k : ℕ) → r.to ≡ Some k → k < steps_in g p.name → Before_in t k u s.«from»
         ends k to less =
             let x = a.parts.left k to in
-            let d = event_done ops model bound laws code lawful log is (fit ops model bound laws code lawful log is nodes moves again) g b.deed.along t p
+            let d = event_done setting (fit setting nodes moves again) g b.deed.along t p
             p_there x.event (in_contains x.event p.events x.among) (subst (λ n. n < steps_in g p.name) (sym x.step) less) in
             let leave = Did p.name x.event.step d.request d.took d.other in
             subst (λ n. Before_in t n u s.«from») x.step
             (subst (λ n. Before_in t x.event.step u n) b.parts.taken.step
-            ((ordered ops model bound laws code lawful log is nodes moves again).order d.older d.newer b.deed.newer leave second t x.event.step u
+            ((ordered setting nodes moves again).order d.older d.newer b.deed.newer leave second t x.event.step u
             b.parts.taken.event.step (b.deed.at ∙ ap (λ xs. xs ++ second ∷ b.deed.newer) d.there)
             (shows_step ops.buffered threads t x.event.step p d.request d.took d.other x.event.kind p_there d.asks
             (none_pending ops.buffered x.event.kind (leaver_no_store x.event.kind r.mutex x.kind)))
             (b.deed.shows (none_pending ops.buffered b.parts.taken.event.kind (taker_no_store b.parts.taken.event.kind s.mutex b.parts.taken.kind)))))
 
-        by : (o : Option ℕ) → r.to ≡ o → IsLeftBefore threads (w ops model bound laws code lawful log is nodes moves again) t r u s
+        by : (o : Option ℕ) → r.to ≡ o → IsLeftBefore threads (w setting nodes moves again) t r u s
         by None to = absurd (closed (λ k at. absurd (none-some k (sym to ∙ at))))
         by (Some k) to =
             elim (cases_lt k (steps_in g p.name)) [
@@ -157,8 +152,8 @@ module _ {B : Type 0} (ops : BufferOps B) (model : Model) (bound : Binding) (law
             ]
 
   exclusive : (t u : ℕ) (r s : Region) → HasRegion threads t r → HasRegion threads u s → r.mutex ≡ s.mutex → (t ≢ u) ⊎ (r.«from» ≢ s.«from»)
-      → IsLeftBefore threads (w ops model bound laws code lawful log is nodes moves again) t r u s
-      ⊎ IsLeftBefore threads (w ops model bound laws code lawful log is nodes moves again) u s t r
+      → IsLeftBefore threads (w setting nodes moves again) t r u s
+      ⊎ IsLeftBefore threads (w setting nodes moves again) u s t r
   exclusive t u r s has also same apart =
       by (two_places a.deed.older first_deed a.deed.newer b.deed.older second_deed b.deed.newer (sym a.deed.at ∙ b.deed.at))
     where
@@ -180,16 +175,16 @@ module _ {B : Type 0} (ops : BufferOps B) (model : Model) (bound : Binding) (law
           let name = ap (λ (n : DeedName). n.thread) (ap name_of one) in
           let number = ap (λ (n : DeedName). n.number) (ap name_of one) in
           elim apart [
-            | inl other ↦ other ((seen ops model bound laws code lawful log is moves again).names t u has.0 also.0 has.1 also.1 name)
+            | inl other ↦ other ((seen setting moves again).names t u has.0 also.0 has.1 also.1 name)
             | inr other ↦ other (sym a.parts.taken.step ∙ number ∙ b.parts.taken.step)
           ]
 
       by : TwoPlaces a.deed.older first_deed a.deed.newer b.deed.older second_deed b.deed.newer
-          → IsLeftBefore threads (w ops model bound laws code lawful log is nodes moves again) t r u s
-          ⊎ IsLeftBefore threads (w ops model bound laws code lawful log is nodes moves again) u s t r
+          → IsLeftBefore threads (w setting nodes moves again) t r u s
+          ⊎ IsLeftBefore threads (w setting nodes moves again) u s t r
       by (Before between before rest) = inl (left_before t u has.0 also.0 r s has.1 also.1 has.2 also.2 same a b between before)
       by (Same one deed rest) = absurd (differ deed)
       by (After between before rest) = inr (left_before u t also.0 has.0 s r also.1 has.1 also.2 has.2 (sym same) b a between before)
 
-  pub mutex_rule : (m : ℕ) → MutexRule threads (w ops model bound laws code lawful log is nodes moves again) m
+  pub mutex_rule : (m : ℕ) → MutexRule threads (w setting nodes moves again) m
   mutex_rule m = record { exclusive = λ t u r s has also one two apart. exclusive t u r s has also (one ∙ sym two) apart }

@@ -9,21 +9,15 @@ use Rattle.std.proofs.lemmas.Bool.{false≢true, true≢false, and_parts, or_par
 use Rattle.std.proofs.lemmas.List.Elements.{filter_map-append}
 use Rattle.std.proofs.lemmas.List.Folds.{list_any-append}
 use Rattle.std.proofs.lemmas.Option.{none-some, same_Some}
-use Rattle.tc_base.specs.Buffers.{BufferOps}
 use Rattle.list_laws.specs.Lists.{is_nil}
-use Rattle.run_log.specs.Logs.{Log}
 use Rattle.tc_base.specs.Names.{Name}
 use Rattle.tc_base.specs.States.{Local, Thread}
-use Rattle.memory_models.specs.declared.model.Model.{Model}
 use Rattle.tc_base.specs.declared.moves.Move.{Move}
 use Rattle.tc_base.specs.declared.request.Request.{Request}
 use Rattle.tc_base.specs.declared.request.Request.TheVariants.{Silent, BeginWait, EndWait, WakeOne, WakeAll}
-use Rattle.tc_code.specs.Code.{Code}
-use Rattle.tc_code.specs.Lawful.{IsLawful}
 use Rattle.tc_code.specs.Run.{Reproduces}
 use Rattle.tc_code.specs.Step.{request, instr_of, drains_first}
-use Rattle.store_buffers.specs.Laws.{Laws}
-use Rattle.store_buffers.specs.Pending.{Binding, stores}
+use Rattle.store_buffers.specs.Pending.{stores}
 use Rattle.run_laws.proofs.Waiters.{waiters_are_at_wake}
 use Rattle.run_history.specs.History.{Deed, Did, same, pending}
 use Rattle.run_history.specs.Last.{waits_by}
@@ -31,11 +25,11 @@ use Rattle.run_history.specs.Locals.{asks_next}
 use Rattle.run_history.specs.Told.{is_step_of, steps_in, waiting_in, owner_in}
 use Rattle.run_follows.proofs.of_deeds.Cells.{next_within}
 use Rattle.run_follows.specs.Follow.{MayFollow, may_do_in}
-use Rattle.run_log.specs.Logs.{is_log}
 use Rattle.path_walk.specs.Fits.{Fits}
 use Rattle.path_walk.specs.Paths.{Walk, Paths}
 use Rattle.path_walk.specs.declared.event.EventKind.TheVariants as kind
 use Rattle.path_walk.specs.declared.event.Sleep.{Sleep}
+use Rattle.path_laws.specs.Setting.{Setting}
 use Rattle.path_laws.specs.history.Along.{IsAlongPaths, IsThread}
 use Rattle.path_laws.proofs.of_history.Told.{run_of, reached}
 use Rattle.path_laws.specs.events.Done.{IsAsleepIn}
@@ -122,16 +116,17 @@ none_ends c n (d ∷ g) none = by (waits_by c n d) refl none (none_ends c n g)
     by None is none rest = ap (λ o. option_map_or not o false || list_any (ends_wait c n) g) is ∙ rest none
     by (Some b) is none rest = absurd cc
 
-module _ {B : Type 0} (ops : BufferOps B) (model : Model) (bound : Binding) (laws : Laws ops model bound) (code : Code) (lawful : IsLawful code) (log : Log)
-    (is : is_log log ≡ true) (nodes : List Node) (moves : List Move) (again : Reproduces ops code log moves) where
+module _ {B : Type 0} (setting : Setting B) (nodes : List Node) (moves : List Move) (again : Reproduces setting.ops setting.code setting.log moves) where
+  open setting use {machine, ops, bound, code, lawful, log, log_is as is}
+
   abbrev done : List Deed
-  done = h ops model bound laws code lawful log is nodes moves again
+  done = h setting nodes moves again
 
   abbrev threads : Paths
-  threads = paths ops model bound laws code lawful log is nodes moves again
+  threads = paths setting nodes moves again
 
   abbrev f : Fits code log
-  f = fit ops model bound laws code lawful log is nodes moves again
+  f = fit setting nodes moves again
 
   -- one sleep begins in a step
   same_condition : (t : ℕ) (q : Walk) (y z : Sleep) → IsThread code log t q → Contains q.sleeps y → Contains q.sleeps z → y.step ≡ z.step
@@ -139,7 +134,7 @@ module _ {B : Type 0} (ops : BufferOps B) (model : Model) (bound : Binding) (law
   same_condition t q y z there i j same =
       let a = slept_by q.events y (subst (λ ss. Contains ss y) (sleeps_are code log is f t q there) i) in
       let b = slept_by q.events z (subst (λ ss. Contains ss z) (sleeps_are code log is f t q there) j) in
-      let one = one_event threads (seen ops model bound laws code lawful log is moves again).whole t q a.event b.event there a.among b.among
+      let one = one_event threads (seen setting moves again).whole t q a.event b.event there a.among b.among
       (a.step ∙ same ∙ sym b.step) in
       let kinds : kind.Sleep y.condition y.mutex ≡ kind.Sleep z.condition z.mutex = sym a.kind ∙ ap (λ e. e.kind) one ∙ b.kind in
       cc
@@ -148,13 +143,13 @@ module _ {B : Type 0} (ops : BufferOps B) (model : Model) (bound : Binding) (law
   pub ended_is_awake : (s g : ℕ) (x : Of Sleep) (t : ℕ) (q : Walk) (z : Sleep) → IsThread code log t q → x.thread ≡ t → Contains q.sleeps z
       → z.step ≡ x.it.step → IsAsleepIn done q.name z → slice_get (all_sleeps threads) s ≡ Some x → IsEndedBy ops.buffered threads done x g → ⊥
   ended_is_awake s g x t q z there own i same asleep at e =
-      let v = sleeper ops model bound laws code lawful log is moves again s x at in
+      let v = sleeper setting moves again s x at in
       let mine : v.0 ≡ q = same_Some v.0 q (sym v.1 ∙ ap (slice_get threads.threads) own ∙ there) in
       let walk : e.sleeper ≡ q = same_Some e.sleeper q (sym e.sleeps ∙ ap (slice_get threads.threads) own ∙ there) in
       let condition = same_condition t q x.it z there (subst (λ (p : Walk). Contains p.sleeps x.it) mine v.2) i (sym same) in
       let begun = Did q.name z.step (BeginWait z.condition z.mutex) asleep.took asleep.other in
       let begins : is_step q.name z.step e.sleep ≡ true = ap₂ (λ (p : Walk) k. is_step p.name k e.sleep) (sym walk) same ∙ e.begins in
-      let one = step_once ops model bound laws code lawful log is nodes moves again q.name z.step e.older e.sleep (e.between ++ e.ender ∷ e.newer)
+      let one = step_once setting nodes moves again q.name z.step e.older e.sleep (e.between ++ e.ender ∷ e.newer)
       asleep.older begun asleep.newer (e.there ∙ append_assoc e.older (e.sleep ∷ e.between) (e.ender ∷ e.newer)) asleep.there begins
       (is_its_step q.name z.step (BeginWait z.condition z.mutex) asleep.took asleep.other) in
       let silent = gives_none (waits_by z.condition q.name) e.between e.newer e.ender (ap (filter_map (waits_by z.condition q.name)) one.2 ∙ asleep.lasts) in
@@ -166,8 +161,8 @@ module _ {B : Type 0} (ops : BufferOps B) (model : Model) (bound : Binding) (law
   waiter_asks : (g : List Deed) (n : Name) (c : ℕ) → IsAlongPaths ops.buffered bound code log g → c < code.conditions
       → set.contains (waiting_in g c) n ≡ true → (m : ℕ) × (asks_next code g n ≡ Some (EndWait c m))
   waiter_asks g n c along within waits =
-      let r = run_of ops model bound laws code lawful log g along in
-      let at = waiters_are_at_wake ops code r.state lawful (reached ops model bound laws code lawful log g r) n c
+      let r = run_of machine log g along in
+      let at = waiters_are_at_wake ops code r.state lawful (reached machine log g r) n c
       (ap (λ ns. set.contains ns n) (r.told.tells.waiters.waiters c within) ∙ waits) in (
         at.mutex,
         ap (option_and_then (λ (l : Local). option_map (request l) (instr_of code l)))
@@ -204,9 +199,9 @@ module _ {B : Type 0} (ops : BufferOps B) (model : Model) (bound : Binding) (law
 
   pub sleep_deed : (s : ℕ) (x : Of Sleep) → slice_get (all_sleeps threads) s ≡ Some x → SleepDeed x
   sleep_deed s x at =
-      let q = sleeper ops model bound laws code lawful log is moves again s x at in
+      let q = sleeper setting moves again s x at in
       let y = slept_by q.0.events x.it (subst (λ ss. Contains ss x.it) (sleeps_are code log is f x.thread q.0 q.1) q.2) in
-      let d = event_deed ops model bound laws code lawful log is nodes moves again x.thread q.0 y.event q.1 y.among in
+      let d = event_deed setting nodes moves again x.thread q.0 y.event q.1 y.among in
       let deed = Did q.0.name y.event.step d.request d.took d.other in
       let asked = begin_is d.request d.other x.it.condition x.it.mutex (d.asks ∙ ap (λ k. Some k) y.kind) in
       record {
@@ -222,7 +217,7 @@ module _ {B : Type 0} (ops : BufferOps B) (model : Model) (bound : Binding) (law
         at = d.at;
         number = sym y.step ∙ d.may.number;
         within =
-            (next_within ops model bound code d.older q.0.name (BeginWait x.it.condition x.it.mutex) laws lawful d.along.follow
+            (next_within machine d.older q.0.name (BeginWait x.it.condition x.it.mutex) d.along.follow
             (d.may.asks ∙ ap (λ r. Some r) asked)).0;
         shows = subst (λ k. Shows ops.buffered threads deed x.thread k) y.step
             (d.shows (none_pending ops.buffered y.event.kind (ap is_store y.kind)));
@@ -243,8 +238,8 @@ module _ {B : Type 0} (ops : BufferOps B) (model : Model) (bound : Binding) (law
     pub waits_while : (between newer : List Deed) → done ≡ (d.older ++ d.deed ∷ between) ++ newer → filter_map (waits_by c n) between ≡ []
         → set.contains (waiting_in (d.older ++ d.deed ∷ between) c) n ≡ true
     waits_while between newer split silent =
-        (sleep_waits ops model bound laws code lawful log is f (d.older ++ d.deed ∷ between)
-        (begins_along ops model bound laws code lawful log is nodes moves again (d.older ++ d.deed ∷ between) newer split) x.thread d.walk d.there c).1 (
+        (sleep_waits setting f (d.older ++ d.deed ∷ between)
+        (begins_along setting nodes moves again (d.older ++ d.deed ∷ between) newer split) x.thread d.walk d.there c).1 (
           x.it,
           d.among,
           refl,
@@ -277,8 +272,8 @@ module _ {B : Type 0} (ops : BufferOps B) (model : Model) (bound : Binding) (law
               (sym (list_any-append (ends_wait c n) s.older (step ∷ s.newer)) ∙ ap (list_any (ends_wait c n)) (sym s.there) ∙ none)).0 in
               let waits = waits_while s.older (step ∷ (s.newer ++ newer)) at (quiet c n s.older s.before first) in
               absurd (waiter_rests g n c s.number s.request s.took s.other
-              (begins_along ops model bound laws code lawful log is nodes moves again g (step ∷ (s.newer ++ newer)) at) d.within waits
-              ((goes_along ops model bound laws code lawful log is nodes moves again).follow g (s.newer ++ newer) step at).1)
+              (begins_along setting nodes moves again g (step ∷ (s.newer ++ newer)) at) d.within waits
+              ((goes_along setting nodes moves again).follow g (s.newer ++ newer) step at).1)
         ]
 
     -- what ends it, after its deed
@@ -295,12 +290,12 @@ module _ {B : Type 0} (ops : BufferOps B) (model : Model) (bound : Binding) (law
       pub number : g ≡ number_of threads thread step
 
     pub ends_at : (s g : ℕ) → slice_get (all_sleeps threads) s ≡ Some x
-        → ender_of (w ops model bound laws code lawful log is nodes moves again) s ≡ Some g → EndsAt g
+        → ender_of (w setting nodes moves again) s ≡ Some g → EndsAt g
     ends_at s g at ended =
-        let e = ended_told ops model bound laws code lawful log is moves again (found code log nodes).symbolic s g x at ended in
+        let e = ended_told setting moves again (found code log nodes).symbolic s g x at ended in
         let walk : e.sleeper ≡ d.walk = same_Some e.sleeper d.walk (sym e.sleeps ∙ d.there) in
         let begins : is_step n x.it.step e.sleep ≡ true = ap (λ (p : Walk). is_step p.name x.it.step e.sleep) (sym walk) ∙ e.begins in
-        let one = step_once ops model bound laws code lawful log is nodes moves again n x.it.step e.older e.sleep (e.between ++ e.ender ∷ e.newer)
+        let one = step_once setting nodes moves again n x.it.step e.older e.sleep (e.between ++ e.ender ∷ e.newer)
         d.older d.deed d.newer (e.there ∙ append_assoc e.older (e.sleep ∷ e.between) (e.ender ∷ e.newer)) d.at begins its_step in
         record {
           between = e.between;
@@ -316,9 +311,9 @@ module _ {B : Type 0} (ops : BufferOps B) (model : Model) (bound : Binding) (law
         }
 
     pub ended_by : (s g : ℕ) → slice_get (all_sleeps threads) s ≡ Some x → EndsAt g
-        → ender_of (w ops model bound laws code lawful log is nodes moves again) s ≡ Some g
+        → ender_of (w setting nodes moves again) s ≡ Some g
     ended_by s g at e =
-        ended_is ops.buffered threads done (seen ops model bound laws code lawful log is moves again) (found code log nodes).symbolic s g x at
+        ended_is ops.buffered threads done (seen setting moves again) (found code log nodes).symbolic s g x at
         (record {
           sleeper = d.walk;
           sleeps = d.there;

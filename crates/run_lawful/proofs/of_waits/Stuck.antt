@@ -6,20 +6,15 @@ use Rattle.std.specs.FinSet as set
 use Rattle.std.specs.List.{Contains}
 use Rattle.std.proofs.lemmas.Bool.{true≢false, and_parts, ltb-true}
 use Rattle.std.proofs.lemmas.Option.{none-some, same_Some, slice_get_cases}
-use Rattle.tc_base.specs.Buffers.{BufferOps}
 use Rattle.run_log.specs.Logs.{Log}
 use Rattle.tc_base.specs.Paths.{ThreadPath, place_in}
 use Rattle.tc_base.specs.Names.{Name, child}
 use Rattle.tc_base.specs.declared.failing.Failing.{Failing}
 use Rattle.tc_base.specs.declared.failing.Failing.TheVariants.{Thread, Deadlock}
-use Rattle.memory_models.specs.declared.model.Model.{Model}
 use Rattle.tc_base.specs.declared.moves.Move.{Move}
 use Rattle.tc_code.specs.Code.{Code}
-use Rattle.tc_code.specs.Lawful.{IsLawful}
 use Rattle.tc_code.specs.Run.{Reproduces}
 use Rattle.tc_code.specs.declared.instr.Instr.{Instr}
-use Rattle.store_buffers.specs.Laws.{Laws}
-use Rattle.store_buffers.specs.Pending.{Binding}
 use Rattle.run_laws.proofs.Basics.{some_value}
 use Rattle.run_history.specs.History.{Deed}
 use Rattle.run_history.specs.Told.{owner_in, waiting_in, has_exited_in, steps_in}
@@ -35,6 +30,7 @@ use Rattle.path_walk.specs.declared.event.Blocked.{Blocked}
 use Rattle.path_walk.specs.declared.event.Blocked.TheVariants.{Lock, Wake, Join}
 use Rattle.path_walk.specs.declared.event.Region.{Region}
 use Rattle.path_walk.specs.declared.event.Sleep.{Sleep}
+use Rattle.path_laws.specs.Setting.{Setting}
 use Rattle.path_laws.specs.history.Along.{IsThread}
 use Rattle.path_laws.proofs.of_history.Walks.{IsWalk, walk_is}
 use Rattle.path_laws.proofs.of_events.Events.{event_within}
@@ -88,24 +84,25 @@ deadlock code log is q b k blocked = by log.failing refl
     by Deadlock e = e
     by (Thread j) e = absurd (failed (Thread j) e j refl (and_parts (rises_from None log.threads) (is_there log.failing (length log.threads)) is).1)
 
-module _ {B : Type 0} (ops : BufferOps B) (model : Model) (bound : Binding) (laws : Laws ops model bound) (code : Code) (lawful : IsLawful code) (log : Log)
-    (is : is_log log ≡ true) (nodes : List Node) (moves : List Move) (again : Reproduces ops code log moves) where
+module _ {B : Type 0} (setting : Setting B) (nodes : List Node) (moves : List Move) (again : Reproduces setting.ops setting.code setting.log moves) where
+  open setting use {code, lawful, log, log_is as is}
+
   abbrev done : List Deed
-  done = h ops model bound laws code lawful log is nodes moves again
+  done = h setting nodes moves again
 
   abbrev threads : Paths
-  threads = paths ops model bound laws code lawful log is nodes moves again
+  threads = paths setting nodes moves again
 
   abbrev f : Fits code log
-  f = fit ops model bound laws code lawful log is nodes moves again
+  f = fit setting nodes moves again
 
   -- a mutex that somebody owns at the end is held
-  held : (m : ℕ) → IsSome (owner_in done m) → IsHeld threads (w ops model bound laws code lawful log is nodes moves again) m
+  held : (m : ℕ) → IsSome (owner_in done m) → IsHeld threads (w setting nodes moves again) m
   held m owned =
-      let along = goes_along ops model bound laws code lawful log is nodes moves again in
+      let along = goes_along setting nodes moves again in
       let o = some_value (owner_in done m) owned in
-      let n = (took_it ops model bound laws code lawful log is f done along m o.0 o.1).thread in
-      let g = (region_owned ops model bound laws code lawful log is f done along n.place n.walk n.there m).0 (o.1 ∙ ap (λ x. Some x) (sym n.name)) in
+      let n = (took_it setting f done along m o.0 o.1).thread in
+      let g = (region_owned setting f done along n.place n.walk n.there m).0 (o.1 ∙ ap (λ x. Some x) (sym n.name)) in
       record {
         thread = n.place;
         region = g.0;
@@ -125,53 +122,53 @@ module _ {B : Type 0} (ops : BufferOps B) (model : Model) (bound : Binding) (law
               let parts = region_of_events q.events r (subst (λ rs. Contains rs r) (regions_are code log is f t q there) i) in
               let x = parts.left k to in
               let inside = event_within code log q (walk_is code log is f t q there) x.event (in_contains x.event q.events x.among) in
-              let many = all_steps ops model bound laws code lawful log is moves again t q there in
+              let many = all_steps setting moves again t q there in
               let later = lasts k to in
               absurd (omega (arith, inside, many, later, x.step))
 
   module _ (t : ℕ) (q : Walk) (there : IsThread code log t q) where
     -- a thread that waits at the end sleeps on
     sleeps_on : (c m k : ℕ) → q.blocked ≡ Some (Wake c m k) → set.contains (waiting_in done c) q.name ≡ true
-        → SleepsOn threads (w ops model bound laws code lawful log is nodes moves again) t k
+        → SleepsOn threads (w setting nodes moves again) t k
     sleeps_on c m k blocked waits s x at own step =
-        by (ender_of (w ops model bound laws code lawful log is nodes moves again) s) refl
+        by (ender_of (w setting nodes moves again) s) refl
       where
-        by : (o : Option ℕ) → ender_of (w ops model bound laws code lawful log is nodes moves again) s ≡ o
-            → ender_of (w ops model bound laws code lawful log is nodes moves again) s ≡ None
+        by : (o : Option ℕ) → ender_of (w setting nodes moves again) s ≡ o
+            → ender_of (w setting nodes moves again) s ≡ None
         by None e = e
         by (Some g) e =
-            let along = goes_along ops model bound laws code lawful log is nodes moves again in
-            let a = (sleep_waits ops model bound laws code lawful log is f done along t q there c).0 waits in
-            let still = sleeps_still ops model bound laws code lawful log is f done q.name a.0 along a.3 in
+            let along = goes_along setting nodes moves again in
+            let a = (sleep_waits setting f done along t q there c).0 waits in
+            let still = sleeps_still setting f done q.name a.0 along a.3 in
             let last = at_last_sleep code lawful log q (walk_is code log is f t q there) c m k blocked in
-            let many = all_steps ops model bound laws code lawful log is moves again t q there in
+            let many = all_steps setting moves again t q there in
             let same : a.0.step ≡ x.it.step = omega (arith, still, last.ends, many, step) in
-            let ended = ended_told ops model bound laws code lawful log is moves again (found code log nodes).symbolic s g x at e in
-            absurd (ended_is_awake ops model bound laws code lawful log is nodes moves again s g x t q a.0 there own a.1 same a.3 at ended)
+            let ended = ended_told setting moves again (found code log nodes).symbolic s g x at e in
+            absurd (ended_is_awake setting nodes moves again s g x t q a.0 there own a.1 same a.3 at ended)
 
     -- a child that a thread waits for at the end runs on
-    runs_on : (k : ℕ) → has_exited_in done (child q.name k) ≡ false → RunsOn threads (w ops model bound laws code lawful log is nodes moves again) t k
+    runs_on : (k : ℕ) → has_exited_in done (child q.name k) ≡ false → RunsOn threads (w setting nodes moves again) t k
     runs_on k going c x is_child event exits =
         let parent : is_child.0 ≡ q = same_Some is_child.0 q (sym is_child.2 ∙ there) in
         let own : is_child.1 ≡ event.0 = same_Some is_child.1 event.0 (sym is_child.3 ∙ event.1) in
         let name = sym (ap (λ (v : Walk). v.name) own) ∙ is_child.4 ∙ ap (λ (v : Walk). child v.name k) parent in
         let inside = event_within code log event.0 (walk_is code log is f c event.0 event.1) x (in_contains x event.0.events event.2) in
-        let many = all_steps ops model bound laws code lawful log is moves again c event.0 event.1 in
+        let many = all_steps setting moves again c event.0 event.1 in
         let less : x.step < steps_in done event.0.name = omega (arith, inside, many) in
-        let gone = (exits_told ops model bound laws code lawful log is f done (goes_along ops model bound laws code lawful log is nodes moves again)
+        let gone = (exits_told setting f done (goes_along setting nodes moves again)
         c event.0 event.1).1 (x, event.2, exits, less) in
         true≢false (sym gone ∙ ap (has_exited_in done) name ∙ going)
 
     cannot_go_on : (b : Blocked) → q.blocked ≡ Some b → IsBlockedIn done q.name (asked_at b)
-        → CannotGoOn threads (w ops model bound laws code lawful log is nodes moves again) t b
+        → CannotGoOn threads (w setting nodes moves again) t b
     cannot_go_on (Lock m) is_it blocked = held m blocked
     cannot_go_on (Wake c m k) is_it (inl waits) = inr (sleeps_on c m k is_it waits)
     cannot_go_on (Wake c m k) is_it (inr owned) = inl (held m owned)
     cannot_go_on (Join k) is_it going = runs_on k going
 
-  pub stuck_rule : (t : ℕ) → StuckRule threads (w ops model bound laws code lawful log is nodes moves again) t
+  pub stuck_rule : (t : ℕ) → StuckRule threads (w setting nodes moves again) t
   stuck_rule t = record {
     stuck = λ q b there is_it.
         let dead = deadlock code log is q b (walk_is code log is f t q there) is_it in
-        cannot_go_on t q there b is_it (blocked_is_left ops model bound laws code lawful log is dead moves again t q there b is_it).1.blocked;
+        cannot_go_on t q there b is_it (blocked_is_left setting dead moves again t q there b is_it).1.blocked;
   }

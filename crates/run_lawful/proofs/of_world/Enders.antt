@@ -1,5 +1,5 @@
 -- What ends the sleeps of a history, in its world.
-use Rattle.std.proofs.Common.{◌≡◌, ◌∙◌, ◌⊎◌, inl, inr, ℕ, ◌<◌, ◌==◌, ◌&&◌, not, ℤ, Bool, true, false, cond, List, ◌∷◌, ◌++◌, length, map, get_or}
+use Rattle.std.proofs.Common.{◌≡◌, ◌∙◌, ◌⊎◌, inl, inr, ℕ, ◌==◌, ◌&&◌, not, ℤ, Bool, true, false, cond, List, ◌∷◌, ◌++◌, length, map}
 use Rattle.std.proofs.Common.{Option, Some, None, refl, sym, ap, ap₂, subst, arith, append_assoc}
 use Rattle.std.specs.Prelude.{slice_get, option_map, option_and_then}
 use Rattle.std.specs.Option.{option_map_or}
@@ -7,29 +7,21 @@ use Rattle.std.specs.List.{Contains, find, list_any, position_or_len}
 use Rattle.std.proofs.Math.Bool.{and-false}
 use Rattle.std.proofs.lemmas.Bool.{cases_Bool, false≢true, true≢false, and_parts, eqb-true, eq-eqb, false_from_ne_true}
 use Rattle.std.proofs.lemmas.Option.{none-some, same_Some, slice_get-map, get_or_from_slice_get}
-use Rattle.tc_base.specs.Buffers.{BufferOps}
-use Rattle.run_log.specs.Logs.{Log}
 use Rattle.tc_base.specs.Names.{Name}
-use Rattle.memory_models.specs.declared.model.Model.{Model}
 use Rattle.tc_base.specs.declared.moves.Move.{Move}
 use Rattle.tc_base.specs.declared.request.Request.{Request}
 use Rattle.tc_base.specs.declared.request.Request.TheVariants.{Silent, BeginWait, WakeOne, WakeAll}
-use Rattle.tc_code.specs.Code.{Code}
-use Rattle.tc_code.specs.Lawful.{IsLawful}
 use Rattle.tc_code.specs.Run.{Reproduces}
-use Rattle.store_buffers.specs.Laws.{Laws}
-use Rattle.store_buffers.specs.Pending.{Binding}
 use Rattle.run_laws.proofs.Names.{is_same, same_self}
 use Rattle.run_history.specs.History.{Deed, Did, Drained, history, same}
-use Rattle.run_history.specs.Last.{waits_by}
 use Rattle.run_history.specs.pending.Deeds.{name_of}
 use Rattle.run_history.proofs.of_pending.In.{any_in, in_split}
-use Rattle.run_log.specs.Logs.{is_log}
 use Rattle.path_walk.specs.Paths.{Walk, Paths, paths_of}
 use Rattle.path_walk.specs.declared.event.Event.{Event}
 use Rattle.path_walk.specs.declared.event.EventKind.{EventKind}
 use Rattle.path_walk.specs.declared.event.EventKind.TheVariants as kind
 use Rattle.path_walk.specs.declared.event.Sleep.{Sleep}
+use Rattle.path_laws.specs.Setting.{Setting}
 use Rattle.path_laws.specs.Deeds.{kind_of}
 use Rattle.path_laws.specs.history.Along.{IsAlongPaths, IsThread}
 use Rattle.path_laws.proofs.of_history.Told.{reproduced_run, first_along}
@@ -158,8 +150,9 @@ module _ (buffered : Bool) (paths : Paths) (h : List Deed) (a : AreSeen buffered
       (finds (ends_wait x.it.condition e.sleeper.name) e.between e.ender e.newer e.lasts e.ends)
       ∙ ap (λ n. Some n) (number_shown e.ender e.thread e.step e.shows ∙ sym e.number)
 
-module _ {B : Type 0} (ops : BufferOps B) (model : Model) (bound : Binding) (laws : Laws ops model bound) (code : Code) (lawful : IsLawful code) (log : Log)
-    (is : is_log log ≡ true) (moves : List Move) (again : Reproduces ops code log moves) where
+module _ {B : Type 0} (setting : Setting B) (moves : List Move) (again : Reproduces setting.ops setting.code setting.log moves) where
+  open setting use {machine, ops, bound, code, log, log_is as is}
+
   abbrev h : List Deed
   h = history ops code moves
 
@@ -183,11 +176,11 @@ module _ {B : Type 0} (ops : BufferOps B) (model : Model) (bound : Binding) (law
           → is_store asked ≡ false → (asked ≡ kind.Signal c) ⊎ (asked ≡ kind.Broadcast c) → IsEnder c d
       told q k r took other asked is_it asks quiet which =
           let there : h ≡ older ++ Did q k r took other ∷ newer = at ∙ ap (λ x. older ++ x ∷ newer) is_it in
-          let run = reproduced_run ops model bound laws code lawful log moves again in
+          let run = reproduced_run machine log moves again in
           let left = run.told.threads older newer q k r took other there in
-          let before = first_along ops model bound laws code lawful log older (Did q k r took other ∷ newer)
-          (subst (IsAlongPaths ops.buffered bound code log) there (along ops model bound laws code lawful log is moves again)) in
-          let p = thread_named ops model bound laws code lawful log is (fits ops model bound laws code lawful log is moves again) older q before left.there in
+          let before = first_along machine log older (Did q k r took other ∷ newer)
+          (subst (IsAlongPaths ops.buffered bound code log) there (along setting moves again)) in
+          let p = thread_named setting (fits setting moves again) older q before left.there in
           let own : d ≡ Did p.walk.name k r took other = is_it ∙ ap (λ m. Did m k r took other) (sym p.name) in
           let done : IsDoneIn h p.walk.name k asked =
           record {
@@ -199,8 +192,8 @@ module _ {B : Type 0} (ops : BufferOps B) (model : Model) (bound : Binding) (law
             there = at ∙ ap (λ x. older ++ x ∷ newer) own;
             asks = asks;
           } in
-          let x = done_event ops model bound laws code lawful log is (fits ops model bound laws code lawful log is moves again) h
-          (along ops model bound laws code lawful log is moves again) p.place p.walk p.there k asked done in
+          let x = done_event setting (fits setting moves again) h
+          (along setting moves again) p.place p.walk p.there k asked done in
           let kept : (ops.buffered && is_store asked) ≡ false = ap (λ b. ops.buffered && b) quiet ∙ and-false ops.buffered in
           record {
             thread = p.place;
@@ -227,23 +220,23 @@ module _ {B : Type 0} (ops : BufferOps B) (model : Model) (bound : Binding) (law
 
   -- and its deed
   pub sleep_deed : (t : ℕ) (q : Walk) (z : Sleep) (there : IsThread code log t q) → Contains q.sleeps z
-      → DeedOf ops model bound laws code lawful log is (fits ops model bound laws code lawful log is moves again) h
-      (along ops model bound laws code lawful log is moves again) t q there z.step
+      → DeedOf setting (fits setting moves again) h
+      (along setting moves again) t q there z.step
   sleep_deed t q z there i =
-      let s = (seen ops model bound laws code lawful log is moves again).whole.slept t z (q, there, i) in
+      let s = (seen setting moves again).whole.slept t z (q, there, i) in
       let p = s.1.0 in
       let same : p ≡ q = same_Some p q (sym s.1.1 ∙ there) in
-      let walk = walk_is code log is (fits ops model bound laws code lawful log is moves again) t p s.1.1 in
+      let walk = walk_is code log is (fits setting moves again) t p s.1.1 in
       let inside = event_within code log p walk s.0 (in_contains s.0 p.events s.1.2) in
-      let many = all_steps ops model bound laws code lawful log is moves again t q there in
+      let many = all_steps setting moves again t q there in
       let long : length p.places ≡ length q.places = ap (λ (v : Walk). length v.places) same in
-      deed_of ops model bound laws code lawful log is (fits ops model bound laws code lawful log is moves again) h
-      (along ops model bound laws code lawful log is moves again) t q there z.step (omega (arith, inside, long, many, s.2))
+      deed_of setting (fits setting moves again) h
+      (along setting moves again) t q there z.step (omega (arith, inside, long, many, s.2))
 
   pub ended_told : (symbolic : Symbolic) (s g : ℕ) (x : Of Sleep) → slice_get (all_sleeps paths) s ≡ Some x
       → ender_of (world_in ops.buffered paths symbolic h) s ≡ Some g → IsEndedBy ops.buffered paths h x g
   ended_told symbolic s g x at ends =
-      let a = seen ops model bound laws code lawful log is moves again in
+      let a = seen setting moves again in
       let q = sleeper s x at in
       let d = sleep_deed x.thread q.0 x.it q.1 q.2 in
       let sleep = Did q.0.name x.it.step d.request d.took d.other in

@@ -1,27 +1,20 @@
 -- What is told of the history of moves that reproduce a log.
-use Rattle.std.proofs.Common.{◌≡◌, ℕ, ℤ, true, List, length, Option, Some, refl, sym, subst, arith}
-use Rattle.tc_base.specs.Buffers.{BufferOps}
-use Rattle.run_log.specs.Logs.{Log}
+use Rattle.std.proofs.Common.{◌≡◌, ℕ, ℤ, List, length, Option, Some, refl, sym, subst, arith}
 use Rattle.tc_base.specs.Names.{Name}
-use Rattle.memory_models.specs.declared.model.Model.{Model}
 use Rattle.tc_base.specs.declared.moves.Move.{Move}
 use Rattle.tc_base.specs.declared.request.Request.{Request}
 use Rattle.tc_base.specs.declared.request.Request.TheVariants.{Write}
-use Rattle.tc_code.specs.Code.{Code}
-use Rattle.tc_code.specs.Lawful.{IsLawful}
 use Rattle.tc_code.specs.Run.{Reproduces}
-use Rattle.store_buffers.specs.Laws.{Laws}
-use Rattle.store_buffers.specs.Pending.{Binding}
 use Rattle.run_history.specs.History.{Deed, Did, Drained, history}
 use Rattle.run_history.specs.Told.{steps_in}
 use Rattle.run_history.proofs.of_pending.In.{In, in_at, in_split}
 use Rattle.run_follows.proofs.Follows.{AllTold}
-use Rattle.run_log.specs.Logs.{is_log}
 use Rattle.path_walk.specs.Fits.{Fits}
 use Rattle.path_walk.specs.Paths.{Walk, Paths, paths_of}
 use Rattle.path_walk.specs.declared.event.Event.{Event}
 use Rattle.path_walk.specs.declared.event.EventKind.{EventKind}
 use Rattle.path_walk.specs.declared.event.EventKind.TheVariants as kind
+use Rattle.path_laws.specs.Setting.{Setting}
 use Rattle.path_laws.specs.Deeds.{kind_of}
 use Rattle.path_laws.proofs.Logs.{reproduced_fits}
 use Rattle.path_laws.specs.history.Along.{IsAlongPaths, IsThread}
@@ -38,8 +31,9 @@ use Rattle.world_plan.proofs.Threads.{one_thread}
 use Rattle.run_lawful.proofs.of_world.Ordered.{AreSeen}
 use Rattle.run_lawful.proofs.of_world.Seen.{AreTold, SeenBy, Done, Drain, shown_by, shows_step, store_of}
 
-module _ {B : Type 0} (ops : BufferOps B) (model : Model) (bound : Binding) (laws : Laws ops model bound) (code : Code) (lawful : IsLawful code) (log : Log)
-    (is : is_log log ≡ true) (moves : List Move) (again : Reproduces ops code log moves) where
+module _ {B : Type 0} (setting : Setting B) (moves : List Move) (again : Reproduces setting.ops setting.code setting.log moves) where
+  open setting use {machine, ops, model, bound, laws, code, lawful, log, log_is as is}
+
   abbrev pub done : List Deed
   done = history ops code moves
 
@@ -50,10 +44,10 @@ module _ {B : Type 0} (ops : BufferOps B) (model : Model) (bound : Binding) (law
   fits = reproduced_fits code ops model bound laws lawful log moves again
 
   pub along : IsAlongPaths ops.buffered bound code log done
-  along = reproduced_along ops model bound laws code lawful log moves again
+  along = reproduced_along machine log moves again
 
-  all : AllTold ops model bound laws code lawful again.state done
-  all = (reproduced_run ops model bound laws code lawful log moves again).told
+  all : AllTold machine again.state done
+  all = (reproduced_run machine log moves again).told
 
   pub told : AreTold ops.buffered done
   told = record {
@@ -63,19 +57,19 @@ module _ {B : Type 0} (ops : BufferOps B) (model : Model) (bound : Binding) (law
   }
 
   pub all_steps : (t : ℕ) (q : Walk) → IsThread code log t q → steps_in done q.name ≡ length q.places
-  all_steps t q there = has_done ops model bound laws code lawful log is moves again t q there
+  all_steps t q there = has_done setting moves again t q there
 
   -- each event is done
   pub event_is_done : (t : ℕ) (q : Walk) (x : Event) → IsThread code log t q → In x q.events → IsDoneIn done q.name x.step x.kind
   event_is_done t q x there i =
       let inside = event_within code log q (walk_is code log is fits t q there) x i in
       let many = all_steps t q there in
-      event_done ops model bound laws code lawful log is fits done along t q there x i (omega (arith, inside, many))
+      event_done setting fits done along t q there x i (omega (arith, inside, many))
 
   -- and what is done and asks something is one
   pub is_step : (t : ℕ) (q : Walk) (k : ℕ) (asked : EventKind) → IsThread code log t q → IsDoneIn done q.name k asked → HasStep paths t k
   is_step t q k asked there d =
-      let x = done_event ops model bound laws code lawful log is fits done along t q there k asked d in
+      let x = done_event setting fits done along t q there k asked d in
       (x.0, (q, there, contains_in x.0 q.events x.1), x.2)
 
   done_at : (n : Name) (k : ℕ) (r : Request) (took : ℤ) (other : Option Name) (asked : EventKind) → In (Did n k r took other) done

@@ -5,21 +5,14 @@ use Rattle.std.specs.List.{Contains}
 use Rattle.std.proofs.lemmas.Bool.{and_parts, eqb-true, eq-eqb}
 use Rattle.std.proofs.lemmas.List.{length-map}
 use Rattle.std.proofs.lemmas.Option.{same_Some, slice_get-get_or}
-use Rattle.tc_base.specs.Buffers.{BufferOps}
-use Rattle.run_log.specs.Logs.{Log}
-use Rattle.memory_models.specs.declared.model.Model.{Model}
 use Rattle.tc_base.specs.declared.moves.Move.{Move}
-use Rattle.tc_code.specs.Code.{Code}
-use Rattle.tc_code.specs.Lawful.{IsLawful}
 use Rattle.tc_code.specs.Run.{Reproduces}
-use Rattle.store_buffers.specs.Laws.{Laws}
-use Rattle.store_buffers.specs.Pending.{Binding}
 use Rattle.run_history.specs.History.{Deed, history}
-use Rattle.run_log.specs.Logs.{is_log}
 use Rattle.path_walk.specs.Paths.{Walk, Paths, paths_of}
 use Rattle.path_walk.specs.declared.event.Event.{Event}
 use Rattle.path_walk.specs.declared.event.EventKind.TheVariants as kind
 use Rattle.path_walk.specs.declared.event.Sleep.{Sleep}
+use Rattle.path_laws.specs.Setting.{Setting}
 use Rattle.sym_terms.specs.declared.node.Node.{Node}
 use Rattle.sym_exec.specs.Executed.{Symbolic}
 use Rattle.sym_laws.specs.Valued.{found}
@@ -69,8 +62,9 @@ signal_is c = eq-eqb c c refl
 broadcast_is : (c : ℕ) → is_broadcast c (kind.Broadcast c) ≡ true
 broadcast_is c = eq-eqb c c refl
 
-module _ {B : Type 0} (ops : BufferOps B) (model : Model) (bound : Binding) (laws : Laws ops model bound) (code : Code) (lawful : IsLawful code) (log : Log)
-    (is : is_log log ≡ true) (nodes : List Node) (moves : List Move) (again : Reproduces ops code log moves) where
+module _ {B : Type 0} (setting : Setting B) (nodes : List Node) (moves : List Move) (again : Reproduces setting.ops setting.code setting.log moves) where
+  open setting use {ops, code, log}
+
   abbrev h : List Deed
   h = history ops code moves
 
@@ -89,8 +83,8 @@ module _ {B : Type 0} (ops : BufferOps B) (model : Model) (bound : Binding) (law
   -- what ends a sleep is a signal or a broadcast of its condition
   ends : (s g c : ℕ) (x : Of Sleep) → IsSleep paths w s x c → ender_of w s ≡ Some g → IsSignal paths w g c ⊎ IsBroadcast paths w g c
   ends s g c x sleep ender =
-      let e = ended_told ops model bound laws code lawful log is moves again symbolic s g x sleep.is ender in
-      let i = is_ender ops model bound laws code lawful log is moves again x.it.condition e.sleeper.name (e.older ++ e.sleep ∷ e.between) e.ender e.newer e.there e.ends in
+      let e = ended_told setting moves again symbolic s g x sleep.is ender in
+      let i = is_ender setting moves again x.it.condition e.sleeper.name (e.older ++ e.sleep ∷ e.between) e.ender e.newer e.there e.ends in
       let one = shows_one ops.buffered paths h a e.ender e.thread e.step i.thread i.event.step e.shows i.shows in
       let n = numbered paths a.whole i.thread i.walk i.event i.there i.among in
       let at : slice_get (all_events paths) g ≡ Some n.event =
@@ -110,7 +104,7 @@ module _ {B : Type 0} (ops : BufferOps B) (model : Model) (bound : Binding) (law
       ]
     where
       a : AreSeen ops.buffered paths h
-      a = seen ops model bound laws code lawful log is moves again
+      a = seen setting moves again
 
   pub is_world_of : IsWorldOf paths symbolic w
   is_world_of = record {

@@ -301,7 +301,7 @@ pub pso_laws : Laws cell_buffer Pso binds_cells
 pso_laws = record {
   form_law = refl;
   same_cell = λ _. refl;
-  barred = λ e. absurd (false≢true e);
+  barred = refl;
   empty_law = λ b ps s. ap (list_all has_no_store) (are_segments b ps s) ∙ empty_law ps;
   forward_stands = λ b ps c s. ap (λ ss. last_value ss c) (are_segments b ps s) ∙ forward_law ps c;
   may_drain_stands = λ b ps form s may. may_drain ps form (ap (λ ss. may_drain_cell ss form) (sym (are_segments b ps s)) ∙ may);

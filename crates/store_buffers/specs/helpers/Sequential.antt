@@ -12,7 +12,7 @@ pub sc_laws : Laws no_buffer Sc binds_all
 sc_laws = record {
   form_law = refl;
   same_cell = λ _. refl;
-  barred = λ _. refl;
+  barred = refl;
   empty_law = λ b ps s. sym (ap (λ es. is_nil es) (s.issued refl));
   forward_stands = λ b ps c s. sym (ap (λ es. newest es c) (s.issued refl));
   may_drain_stands = λ b ps form s may. absurd (false≢true may);

@@ -83,7 +83,7 @@ pub tso_laws : Laws fifo_buffer Tso binds_all
 tso_laws = record {
   form_law = refl;
   same_cell = λ _. refl;
-  barred = λ _. refl;
+  barred = refl;
   empty_law = λ b ps s. ap (λ es. is_nil es) (queue b ps s);
   forward_stands = λ b ps c s. ap (λ es. newest es c) (queue b ps s);
   may_drain_stands = λ b ps form s may. may_drain b ps form (queue b ps s) may;

@@ -3,23 +3,16 @@ use Rattle.std.proofs.Common.{◌≡◌, ◌∙◌, inl, inr, ℕ, ◌<◌, ℤ,
 use Rattle.std.specs.Prelude.{slice_get, nat_lt}
 use Rattle.std.specs.List.{Contains, filter, flat_map}
 use Rattle.std.proofs.lemmas.Bool.{lt-ltb}
-use Rattle.tc_base.specs.Buffers.{BufferOps}
-use Rattle.run_log.specs.Logs.{Log}
 use Rattle.tc_base.specs.Names.{Name}
-use Rattle.memory_models.specs.declared.model.Model.{Model}
 use Rattle.tc_base.specs.declared.request.Request.{Request}
 use Rattle.tc_base.specs.declared.request.Request.TheVariants.{Silent, Read, Write, Exchange, CompareExchange}
-use Rattle.tc_code.specs.Code.{Code}
-use Rattle.tc_code.specs.Lawful.{IsLawful}
-use Rattle.store_buffers.specs.Laws.{Laws}
-use Rattle.store_buffers.specs.Pending.{Binding}
 use Rattle.run_laws.proofs.Names.{is_same, same_self}
 use Rattle.run_history.specs.History.{Deed, Did, Drained, same}
 use Rattle.run_history.specs.Told.{steps_in}
 use Rattle.run_history.proofs.of_pending.In.{In, in_at, in_split, in_filter, from_filter}
-use Rattle.run_log.specs.Logs.{is_log}
 use Rattle.path_walk.specs.Fits.{Fits}
 use Rattle.path_walk.specs.Paths.{Walk}
+use Rattle.path_laws.specs.Setting.{Setting}
 use Rattle.path_laws.specs.history.Along.{IsAlongPaths, IsThread}
 use Rattle.path_laws.proofs.of_history.Told.{RunOf, run_of, steps_of, local_is}
 use Rattle.path_laws.proofs.of_events.Events.{there_by_step}
@@ -72,12 +65,14 @@ deed_asks n (Did q k r took other) y i = by (same n q) refl i
         }
     by false e i = absurd i
 
-module _ {B : Type 0} (ops : BufferOps B) (model : Model) (bound : Binding) (laws : Laws ops model bound) (code : Code) (lawful : IsLawful code) (log : Log)
-    (is : is_log log ≡ true) (fits : Fits code log) (nodes : List Node) (loads : List ℤ) (terms : AreTerms nodes) (h : List Deed)
-    (along : IsAlongPaths ops.buffered bound code log h) (agrees : AgreesWith (found code log nodes).symbolic loads h) (j : ℕ) (w : Walk) (c : Course)
-    (there : IsThread code log j w) (course : slice_get (found code log nodes).symbolic.threads j ≡ Some c) where
-  abbrev r : RunOf ops model bound laws code lawful log h
-  r = run_of ops model bound laws code lawful log h along
+module _ {B : Type 0} (setting : Setting B) (fits : Fits setting.code setting.log) (nodes : List Node) (loads : List ℤ) (terms : AreTerms nodes)
+    (h : List Deed) (along : IsAlongPaths setting.ops.buffered setting.bound setting.code setting.log h)
+    (agrees : AgreesWith (found setting.code setting.log nodes).symbolic loads h) (j : ℕ) (w : Walk) (c : Course)
+    (there : IsThread setting.code setting.log j w) (course : slice_get (found setting.code setting.log nodes).symbolic.threads j ≡ Some c) where
+  open setting use {machine, code, log}
+
+  abbrev r : RunOf machine log h
+  r = run_of machine log h along
 
   abbrev at : Access → AskedAt
   at a = asked_at (found code log nodes).nodes loads a
@@ -86,11 +81,11 @@ module _ {B : Type 0} (ops : BufferOps B) (model : Model) (bound : Binding) (law
   asked_so : 0 < steps_in h w.name
       → flat_map (asked_of w.name) h ≡ map at (filter (λ (a : Access). nat_lt a.step (steps_in h w.name)) c.accesses)
   asked_so some =
-      let t = there_by_step ops model bound laws code lawful log is fits h along j w there some in
-      let local = local_is ops model bound laws code lawful log h r w.name t.0 t.1 in
-      let v = has_values ops model bound laws code lawful log is fits nodes loads terms h along agrees j w c t.0.local there course local in
+      let t = there_by_step setting fits h along j w there some in
+      let local = local_is machine log h r w.name t.0 t.1 in
+      let v = has_values setting fits nodes loads terms h along agrees j w c t.0.local there course local in
       v.accesses
-      ∙ ap (λ n. map at (filter (λ (a : Access). nat_lt a.step n) c.accesses)) (steps_of ops model bound laws code lawful log h r w.name t.0 t.1)
+      ∙ ap (λ n. map at (filter (λ (a : Access). nat_lt a.step n) c.accesses)) (steps_of machine log h r w.name t.0 t.1)
 
   pub access_asked : (a : Access) → In a c.accesses → a.step < steps_in h w.name → IsAskedIn h w.name a.step (asked_in (found code log nodes).nodes loads a)
   access_asked a i before =
@@ -113,7 +108,7 @@ module _ {B : Type 0} (ops : BufferOps B) (model : Model) (bound : Binding) (law
       → (a : Access) × In a c.accesses × (a.step ≡ k) × (asked_in (found code log nodes).nodes loads a ≡ y)
   asked_access k y d =
       let deed = Did w.name k d.request d.took d.other in
-      let step = step_is ops model bound laws code lawful log is fits h along j w there d.older d.newer k d.request d.took d.other d.there in
+      let step = step_is setting fits h along j w there d.older d.newer k d.request d.took d.other d.there in
       let z : AskedAt = record { step = k; asked = y } in
       let mine : asked_of w.name deed ≡ z ∷ [] =
       ap (λ b. cond b (map (λ x. record { step = k; asked = x }) (asked_by d.took d.request)) []) (same_self w.name w.name refl)

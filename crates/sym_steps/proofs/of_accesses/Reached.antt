@@ -1,5 +1,5 @@
 -- The accesses of a thread's steps name cells as lawful code does.
-use Rattle.std.proofs.Common.{◌≡◌, ◌∙◌, ◌⊎◌, inl, inr, ℕ, suc, ◌+◌, ◌≤◌, ◌<◌, ◌==◌, ℤ, pos, Bool, true, List, [], ◌∷◌, ◌++◌, length, take, fold}
+use Rattle.std.proofs.Common.{◌≡◌, ◌∙◌, ◌⊎◌, inl, inr, ℕ, suc, ◌+◌, ◌≤◌, ◌<◌, ◌==◌, ℤ, pos, Bool, List, [], ◌∷◌, ◌++◌, length, take, fold}
 use Rattle.std.proofs.Common.{Option, Some, None, refl, ap, sym, subst, arith, append-nil, slice_index_or}
 use Rattle.std.specs.Prelude.{slice_get, nat_lt}
 use Rattle.std.specs.FinMap as fin
@@ -9,29 +9,24 @@ use Rattle.std.proofs.Math.Seq.{take-suc}
 use Rattle.std.proofs.lemmas.Bool.{and_parts}
 use Rattle.std.proofs.lemmas.List.Sums.{fold-append}
 use Rattle.std.proofs.lemmas.Option.{same_Some, slice_get_within, get_or_from_slice_get}
-use Rattle.tc_base.specs.Buffers.{BufferOps}
-use Rattle.run_log.specs.Logs.{Log}
 use Rattle.tc_base.specs.Paths.{ThreadPath}
 use Rattle.tc_base.specs.States.{Local, Thread}
-use Rattle.memory_models.specs.declared.model.Model.{Model}
-use Rattle.tc_code.specs.Code.{Code, instr_at}
+use Rattle.tc_code.specs.Code.{instr_at}
 use Rattle.tc_code.specs.Expr.{Expr, names_slots, value_of as expr_value_of}
-use Rattle.tc_code.specs.Lawful.{Array, keeps_apart, IsLawful}
+use Rattle.tc_code.specs.Lawful.{Array, keeps_apart}
 use Rattle.tc_code.specs.Step.{is_within, value_in, instr_of}
 use Rattle.tc_code.specs.declared.instr.Instr.{Instr}
 use Rattle.tc_code.specs.declared.instr.Instr.TheVariants.{Set, Load, LoadAt, Store, StoreAt, Swap, Cas}
 use Rattle.tc_code.proofs.Facts.{placed}
-use Rattle.store_buffers.specs.Laws.{Laws}
-use Rattle.store_buffers.specs.Pending.{Binding}
 use Rattle.run_laws.specs.Whole.{IndexIsWithin}
 use Rattle.run_laws.proofs.Guards.{index_is_within}
 use Rattle.run_history.specs.History.{Deed, Did, history}
 use Rattle.run_history.specs.Told.{steps_in, failed_in}
 use Rattle.run_history.proofs.Ints.{models_pass_ints}
 use Rattle.run_history.proofs.of_pending.In.{In, in_append}
-use Rattle.run_log.specs.Logs.{is_log}
 use Rattle.path_walk.specs.Fits.{Fits}
 use Rattle.path_walk.specs.Paths.{Walk, walk_of, paths_of}
+use Rattle.path_laws.specs.Setting.{Setting}
 use Rattle.path_laws.specs.history.Along.{IsAlongPaths, IsThread}
 use Rattle.path_laws.specs.history.Next.{IsNextOnPath}
 use Rattle.path_laws.proofs.of_history.Told.{RunOf, run_of}
@@ -112,15 +107,16 @@ adds_sound arrays loads line wanted d (Set k e) t are s named is apart within =
     none_added arrays loads d (after_instr line wanted d (Set k e)) refl
 adds_sound arrays loads line wanted d i t are s named is apart within = none_added arrays loads d (after_instr line wanted d i) refl
 
-module _ {B : Type 0} (ops : BufferOps B) (model : Model) (bound : Binding) (laws : Laws ops model bound) (code : Code) (lawful : IsLawful code) (log : Log)
-    (is : is_log log ≡ true) (fits : Fits code log) (nodes : List Node) (loads : List ℤ) (terms : AreTerms nodes) where
+module _ {B : Type 0} (setting : Setting B) (fits : Fits setting.code setting.log) (nodes : List Node) (loads : List ℤ) (terms : AreTerms nodes) where
+  open setting use {machine, ops, model, bound, laws, code, lawful, log, log_is as is}
+
   abbrev Sound : Access → Type 0
   Sound a = IsSound lawful.arrays.arrays (found code log nodes).nodes loads a.cell
 
   module _ (h : List Deed) (along : IsAlongPaths ops.buffered bound code log h) (agrees : AgreesWith (found code log nodes).symbolic loads h)
       (going : failed_in h ≡ None) (j : ℕ) where
-    abbrev r : RunOf ops model bound laws code lawful log h
-    r = run_of ops model bound laws code lawful log h along
+    abbrev r : RunOf machine log h
+    r = run_of machine log h along
 
     -- the next accesses of the thread under a path of the log
     module _ (p : ThreadPath) (at : slice_get log.threads j ≡ Some p) (there : IsThread code log j (walk_of code log p))
@@ -129,7 +125,7 @@ module _ {B : Type 0} (ops : BufferOps B) (model : Model) (bound : Binding) (law
       w = walk_of code log p
 
       abbrev y : (t : Thread B) × (fin.get r.state.threads w.name ≡ Some t) × (t.local ≡ x.local)
-      y = thread_next ops model bound laws code lawful log is fits h j w there going r x
+      y = thread_next setting fits h j w there going r x
 
       abbrev t : Local
       t = y.0.local
@@ -227,7 +223,7 @@ module _ {B : Type 0} (ops : BufferOps B) (model : Model) (bound : Binding) (law
     done_sound : (j : ℕ) (w : Walk) (c : Course) → IsThread code log j w → slice_get (found code log nodes).symbolic.threads j ≡ Some c
         → (a : Access) → In a c.accesses → a.step < steps_in h w.name → Sound a
     done_sound j w c there course a one before =
-        let d = deed_of ops model bound laws code lawful log is fits h along j w there a.step before in
+        let d = deed_of setting fits h along j w there a.step before in
         let agreed = agree_first (found code log nodes).symbolic loads d.older (Did w.name a.step d.request d.took d.other ∷ d.newer)
         (subst (AgreesWith (found code log nodes).symbolic loads) d.at agrees) in
         next_sound d.older d.step.begins agreed d.step.going j w c there course d.step.next a one d.step.may.number
@@ -243,23 +239,21 @@ module _ {B : Type 0} (ops : BufferOps B) (model : Model) (bound : Binding) (law
         by (inr now) = next_sound h along agrees now.1 t x.walk x.course x.thread x.there now.2 a one now.0
 
 -- so two of them are to one cell where their cells have one number
-pub same_cells : {B : Type 0} (ops : BufferOps B) (model : Model) (bound : Binding) (laws : Laws ops model bound) (code : Code) (lawful : IsLawful code)
-    (log : Log) (is : is_log log ≡ true) (fits : Fits code log) (nodes : List Node) (w : World) (terms : AreTerms nodes) (h : List Deed)
-    (along : IsAlongPaths ops.buffered bound code log h) (agrees : AgreesWith (found code log nodes).symbolic w.loads h) (t u : ℕ) (a b : Access)
-    → IsReachedIn code log nodes h t a → IsReachedIn code log nodes h u b
-    → is_same_cell (found code log nodes).nodes w a.cell b.cell
-    ≡ (cell_by (found code log nodes).nodes w.loads a.cell == cell_by (found code log nodes).nodes w.loads b.cell)
-same_cells ops model bound laws code lawful log is fits nodes w terms h along agrees t u a b first second =
-    same_cell_is lawful.arrays.arrays lawful.arrays.apart (found code log nodes).nodes w a.cell b.cell
-    (reached_sound ops model bound laws code lawful log is fits nodes w.loads terms h along agrees t a first)
-    (reached_sound ops model bound laws code lawful log is fits nodes w.loads terms h along agrees u b second)
+pub same_cells : {B : Type 0} (setting : Setting B) (fits : Fits setting.code setting.log) (nodes : List Node) (w : World) (terms : AreTerms nodes) (h : List Deed)
+    (along : IsAlongPaths setting.ops.buffered setting.bound setting.code setting.log h) (agrees : AgreesWith (found setting.code setting.log nodes).symbolic w.loads h) (t u : ℕ) (a b : Access)
+    → IsReachedIn setting.code setting.log nodes h t a → IsReachedIn setting.code setting.log nodes h u b
+    → is_same_cell (found setting.code setting.log nodes).nodes w a.cell b.cell
+    ≡ (cell_by (found setting.code setting.log nodes).nodes w.loads a.cell == cell_by (found setting.code setting.log nodes).nodes w.loads b.cell)
+same_cells setting fits nodes w terms h along agrees t u a b first second =
+    same_cell_is setting.lawful.arrays.arrays setting.lawful.arrays.apart (found setting.code setting.log nodes).nodes w a.cell b.cell
+    (reached_sound setting fits nodes w.loads terms h along agrees t a first)
+    (reached_sound setting fits nodes w.loads terms h along agrees u b second)
 
 -- and the cell of each has at the start what the code gives it
-pub cell_begins : {B : Type 0} (ops : BufferOps B) (model : Model) (bound : Binding) (laws : Laws ops model bound) (code : Code) (lawful : IsLawful code)
-    (log : Log) (is : is_log log ≡ true) (fits : Fits code log) (nodes : List Node) (loads : List ℤ) (terms : AreTerms nodes) (h : List Deed)
-    (along : IsAlongPaths ops.buffered bound code log h) (agrees : AgreesWith (found code log nodes).symbolic loads h) (t : ℕ) (a : Access)
-    → IsReachedIn code log nodes h t a
-    → value_at_start code a.cell ≡ slice_index_or code.memory (cell_by (found code log nodes).nodes loads a.cell) (pos 0)
-cell_begins ops model bound laws code lawful log is fits nodes loads terms h along agrees t a at =
-    begins_so code lawful.arrays (found code log nodes).nodes loads a.cell
-    (reached_sound ops model bound laws code lawful log is fits nodes loads terms h along agrees t a at)
+pub cell_begins : {B : Type 0} (setting : Setting B) (fits : Fits setting.code setting.log) (nodes : List Node) (loads : List ℤ) (terms : AreTerms nodes) (h : List Deed)
+    (along : IsAlongPaths setting.ops.buffered setting.bound setting.code setting.log h) (agrees : AgreesWith (found setting.code setting.log nodes).symbolic loads h) (t : ℕ) (a : Access)
+    → IsReachedIn setting.code setting.log nodes h t a
+    → value_at_start setting.code a.cell ≡ slice_index_or setting.code.memory (cell_by (found setting.code setting.log nodes).nodes loads a.cell) (pos 0)
+cell_begins setting fits nodes loads terms h along agrees t a at =
+    begins_so setting.code setting.lawful.arrays (found setting.code setting.log nodes).nodes loads a.cell
+    (reached_sound setting fits nodes loads terms h along agrees t a at)

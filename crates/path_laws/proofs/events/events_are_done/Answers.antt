@@ -3,14 +3,14 @@ use Rattle.path_laws.proofs.of_events.Events.{event_done, done_event, whole_even
 use Rattle.path_laws.proofs.events.events_are_done.Goals as goal
 
 pub returns-clause-done : goal.returns-clause-done
-returns-clause-done g c = λ ops model bound code log h j w x laws lawful is fits along there i.
-    event_done ops model bound laws code lawful log is fits h along j w there x (in_contains x w.events i)
+returns-clause-done g c = λ setting h j w x fits along there i.
+    event_done setting fits h along j w there x (in_contains x w.events i)
 
 pub returns-clause-events : goal.returns-clause-events
-returns-clause-events g c = λ ops model bound code log h j w k asked laws lawful is fits along there done.
-    let x = done_event ops model bound laws code lawful log is fits h along j w there k asked done in
+returns-clause-events g c = λ setting h j w k asked fits along there done.
+    let x = done_event setting fits h along j w there k asked done in
     (x.0, contains_in x.0 w.events x.1, x.2, x.3, x.4)
 
 pub returns-clause-whole : goal.returns-clause-whole
-returns-clause-whole g c = λ ops model bound code log h j w laws lawful is fits along there.
-    whole_events ops model bound laws code lawful log is fits h along j w there
+returns-clause-whole g c = λ setting h j w fits along there.
+    whole_events setting fits h along j w there

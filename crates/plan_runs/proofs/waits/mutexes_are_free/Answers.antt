@@ -2,5 +2,5 @@ use Rattle.plan_runs.proofs.of_waits.Free.{is_free}
 use Rattle.plan_runs.proofs.waits.mutexes_are_free.Goals as goal
 
 pub returns : goal.returns
-returns g c = λ ops model bound code log nodes w p h t q x m lawful at takes_it.
-    is_free ops model bound code log nodes w lawful p h t q x at m takes_it
+returns g c = λ setting nodes w p h t q x m lawful at takes_it.
+    is_free setting nodes w lawful p h t q x at m takes_it

@@ -2,9 +2,9 @@ use Rattle.plan_runs.proofs.of_waits.Threads.{there_at, all_there}
 use Rattle.plan_runs.proofs.waits.threads_are_there.Goals as goal
 
 pub returns-clause-next : goal.returns-clause-next
-returns-clause-next g c = λ ops model bound code log nodes w p h t q x lawful gone.
-    there_at ops model bound code log nodes w lawful p h gone t q x
+returns-clause-next g c = λ setting nodes w p h t q x lawful gone.
+    there_at setting nodes w lawful p h gone t q x
 
 pub returns-clause-all : goal.returns-clause-all
-returns-clause-all g c = λ ops model bound code log nodes w p h lawful gone.
-    all_there ops model bound code log nodes w lawful p h gone
+returns-clause-all g c = λ setting nodes w p h lawful gone.
+    all_there setting nodes w lawful p h gone

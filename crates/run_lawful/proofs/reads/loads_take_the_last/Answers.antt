@@ -9,9 +9,9 @@ use Rattle.run_lawful.proofs.of_reads.Takes.{read_rule}
 use Rattle.run_lawful.proofs.reads.loads_take_the_last.Goals as goal
 
 pub returns : goal.returns
-returns g c = λ ops model bound code log nodes moves t line laws lawful is terms again.
-    let paths = paths_of code log in
-    let symbolic = (found code log nodes).symbolic in
-    let h = history ops code moves in
-    read_rule ops model bound laws code lawful log is nodes terms moves again (world_in ops.buffered paths symbolic h) (agrees ops code log nodes moves again)
-    (is_order ops.buffered paths symbolic h (seen ops model bound laws code lawful log is moves again)) t line
+returns g c = λ setting nodes moves t line terms again.
+    let paths = paths_of setting.code setting.log in
+    let symbolic = (found setting.code setting.log nodes).symbolic in
+    let h = history setting.ops setting.code moves in
+    read_rule setting nodes terms moves again (world_in setting.ops.buffered paths symbolic h) (agrees setting.ops setting.code setting.log nodes moves again)
+    (is_order setting.ops.buffered paths symbolic h (seen setting moves again)) t line

@@ -4,6 +4,6 @@ use Rattle.sym_laws.specs.Valued.{found}
 use Rattle.run_lawful.proofs.world.places_are_ordered.Goals as goal
 
 pub returns : goal.returns
-returns g c = λ ops model bound code log nodes moves laws lawful is again.
-    is_order ops.buffered (paths ops model bound laws code lawful log is moves again) (found code log nodes).symbolic
-    (done ops model bound laws code lawful log is moves again) (seen ops model bound laws code lawful log is moves again)
+returns g c = λ setting nodes moves again.
+    is_order setting.ops.buffered (paths setting moves again) (found setting.code setting.log nodes).symbolic
+    (done setting moves again) (seen setting moves again)
