@@ -1,0 +1,8 @@
+pub mod Owners
+pub mod Values
+pub mod Locals
+pub mod Differ
+pub mod Own
+pub mod Pure
+pub mod Out
+pub mod Needs

@@ -1,0 +1,9 @@
+use Rattle.pure_turns.proofs.Needs.{no_deadlock, no_deadlock_within}
+use Rattle.pure_turns.proofs.deadlocks_need_no_pure_turns.Goals as goal
+
+pub returns-clause-whole : goal.returns-clause-whole
+returns-clause-whole g c = λ ops code live lawful closed none moves s leads stuck. no_deadlock ops code lawful live closed none moves s leads stuck
+
+pub returns-clause-within : goal.returns-clause-within
+returns-clause-within g c = λ ops code live k lawful closed none moves s leads few stuck.
+    no_deadlock_within ops code lawful live closed k none moves s leads few stuck
