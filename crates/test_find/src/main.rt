@@ -7,8 +7,11 @@
 //! - `thread-paths`: a function's number, how its paths end (`exit`, `used`, `open` or `rest`), the greatest number of
 //!   outcomes, and `fails` where the thread may fail : a program; the steps and the outcomes of each path that the thread may
 //!   take, one after another, then `outcomes` or `steps` where some are left out since they have too many, and `end`.
+//! - `logs`: `failure` or `deadlock`, and the greatest number of outcomes : a program; of each log, one after another, each
+//!   thread's name, steps and outcomes, and `|`; then the limits for which some are left out, and `end`.
 #![tactic(auto)]
 
+mod logs;
 mod threads;
 
 use anyhow::{Result, bail};
@@ -22,6 +25,7 @@ struct Tried;
 impl Parts for Tried {
     fn answer(alloc: Global, part: &str, given: &[u8]) -> Result<String> {
         match part {
+            "logs" => logs::logs(alloc, str::from_utf8(given)?),
             "thread-paths" => threads::paths(alloc, str::from_utf8(given)?),
             _ => bail!("no such part"),
         }

@@ -69,7 +69,7 @@ fn push_end(text: &mut String, cut: Cut) -> Result<()> {
 }
 
 /// The code of a program.
-fn code_of(alloc: Global, text: &[u8]) -> Result<Code> {
+pub(crate) fn code_of(alloc: Global, text: &[u8]) -> Result<Code> {
     if text.len() as u64 > PROGRAM_BYTES {
         bail!("a program that is too long");
     }

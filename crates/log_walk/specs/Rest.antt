@@ -1,0 +1,102 @@
+-- What the first threads of a log leave to the others.
+use Rattle.std.specs.Prelude.{◌≡◌, ℕ, ◌+◌, ◌-◌, ◌==◌, List, [], ◌∷◌, ◌++◌, length, map, Bool, true, false, not, ◌&&◌, ◌||◌, replicate}
+use Rattle.std.specs.Prelude.{Option, Some, None, is_some, slice_get, if◌then◌else◌}
+use Rattle.std.specs.List.{list_any, zip}
+use Rattle.tc_base.specs.Names.{Name, main, child}
+use Rattle.tc_base.specs.Paths.{Path, ThreadPath}
+use Rattle.tc_code.specs.Code.{Code, instr_at}
+use Rattle.thread_paths.specs.Ends.{MayTake}
+use Rattle.thread_paths.specs.declared.aim.Aim.{Aim}
+use Rattle.thread_paths.specs.declared.aim.End.{End}
+use Rattle.thread_paths.specs.declared.aim.End.TheVariants as end
+use Rattle.log_walk.specs.Told.{Told, told}
+use Rattle.log_walk.specs.declared.bounds.Kind.{Kind}
+use Rattle.log_walk.specs.declared.bounds.Kind.TheVariants.{Failure, Deadlock}
+use Rattle.log_walk.specs.declared.rest.Awaited.{Awaited}
+
+pub record Rest : Type 0 where
+  -- the threads that are created and have no path yet, in the order of their names
+  pub awaited : List Awaited
+  -- whether a thread fails; in a deadlock, whether one hasn't exited
+  pub ends : Bool
+  -- for each mutex, whether a thread holds it at the end of its path
+  pub held : List Bool
+
+-- how a thread ends that no path joins
+abbrev pub open_end : Kind → End
+open_end Failure = end.Open
+open_end Deadlock = end.Rest
+
+-- the same, where its create is the last step of its creator
+abbrev pub last_end : Kind → End
+last_end Failure = end.Used
+last_end Deadlock = end.Rest
+
+-- how the child of that number ends, by the path of its creator
+abbrev pub end_of : Kind → Told → ℕ → End
+end_of kind t k = if list_any (λ j. j == k) t.joined then end.Exit
+    else (if t.at_create && k == length t.created then last_end kind else open_end kind)
+
+-- the children of the named thread after its first k, by their functions
+abbrev pub children_from : Kind → Name → Told → ℕ → List ℕ → List Awaited
+children_from kind n t k [] = []
+children_from kind n t k (f ∷ fs) =
+    record { name = child n (k + 1); function = f; end = end_of kind t (k + 1) } ∷ children_from kind n t (k + 1) fs
+
+-- a thread may fail if it is joined by no path and no other has failed
+abbrev pub may_fail : Kind → Bool → End → Bool
+may_fail Failure ends end.Exit = false
+may_fail Failure ends _ = not ends
+may_fail Deadlock ends e = false
+
+abbrev pub aim_of : Kind → Bool → End → Aim
+aim_of kind ends e = record { end = e; may_fail = may_fail kind ends e }
+
+-- whether a path ends as one thread of the log must: in its failure; in a deadlock, without an exit
+abbrev pub ends_log : Code → Kind → Bool → ℕ → Told → Bool
+ends_log code Failure may f t = may && t.at_site
+ends_log code Deadlock may f t = is_some (instr_at code f t.place)
+
+-- whether a mutex is held by both
+abbrev pub meet : List Bool → List Bool → Bool
+meet a b = list_any (λ p. p.0 && p.1) (zip a b)
+
+-- the mutexes that are held by one of the two
+abbrev pub either : List Bool → List Bool → List Bool
+either a b = map (λ p. p.0 || p.1) (zip a b)
+
+module _ (code : Code) (kind : Kind) where
+  -- main alone is awaited
+  abbrev pub all : Rest
+  all = record {
+    awaited = record { name = main; function = length code.functions - 1; end = open_end kind } ∷ [];
+    ends = false;
+    held = replicate code.mutexes false;
+  }
+
+  -- what is left once an awaited thread has a path that says this
+  abbrev pub rest_by : Rest → Awaited → List Awaited → Told → Rest
+  rest_by rest c others t = record {
+    awaited = children_from kind c.name t 0 t.created ++ others;
+    ends = rest.ends || ends_log code kind (may_fail kind rest.ends c.end) c.function t;
+    held = either rest.held t.held;
+  }
+
+  -- what is left once the first awaited thread has a path, unless another holds a mutex that it holds at its end
+  abbrev pub leave : List Awaited → Rest → Path → Option Rest
+  leave [] rest p = None
+  leave (c ∷ others) rest p =
+      if meet rest.held (told code c.function p).held then None else Some (rest_by rest c others (told code c.function p))
+
+  -- the first awaited thread may take a path
+  pub record Takes (rest : Rest) (t : ThreadPath) (later : Rest) : Type 0 where
+    pub next : Awaited
+    pub is_next : slice_get rest.awaited 0 ≡ Some next
+    pub name : t.name ≡ next.name
+    pub may : MayTake code next.function (aim_of kind rest.ends next.end) t.path
+    pub leaves : leave rest.awaited rest t.path ≡ Some later
+
+  -- threads make up the rest of a log: each takes its path, then none is awaited, and one ends as it must
+  abbrev pub MakeUp : Rest → List ThreadPath → Type 0
+  MakeUp rest [] = (rest.awaited ≡ []) × (rest.ends ≡ true)
+  MakeUp rest (t ∷ ts) = (later : Rest) × Takes rest t later × MakeUp later ts

@@ -1,0 +1,107 @@
+//! The threads of logs.
+ghost use Rattle.std.specs.Prelude.{IfOk, IfSome, option_map};
+ghost use Rattle.log_walk.specs.Given.{IsOne};
+
+use crate::threads::code_of;
+use anyhow::{Context, Result, bail};
+use log_walk::{Bounds, Given, Kind, LeftOut, first_threads, next_threads};
+use run_log::ThreadPath;
+use std::alloc::Global;
+use std::fmt::Write;
+use tc_code::Code;
+
+/// How many logs a row may have.
+const MOST: u32 = 1_000;
+
+fn kind_of(word: &str) -> Result<Kind> {
+    match word {
+        "failure" => Ok(Kind::Failure),
+        "deadlock" => Ok(Kind::Deadlock),
+        _ => bail!("no such kind"),
+    }
+}
+
+/// What is looked for.
+fn bounds_of(words: &str) -> Result<Bounds> {
+    let mut words = words.split_whitespace();
+    let kind = kind_of(words.next().context("no kind")?)?;
+    let most = words
+        .next()
+        .context("no number of outcomes")?
+        .parse::<u16>()?;
+    Ok(Bounds { kind, most })
+}
+
+fn push_thread(text: &mut String, thread: &ThreadPath) -> Result<()> {
+    write!(text, "{}:{}:", thread.name(), thread.steps())?;
+    for outcome in thread.outcomes() {
+        text.push(if *outcome { '1' } else { '0' })?;
+    }
+    text.push(' ')?;
+    Ok(())
+}
+
+fn push_log(text: &mut String, threads: &[ThreadPath]) -> Result<()> {
+    for thread in threads {
+        push_thread(text, thread)?;
+    }
+    text.push_str("| ")?;
+    Ok(())
+}
+
+/// What was left out that the bounds don't ask to leave out.
+fn push_end(text: &mut String, out: LeftOut) -> Result<()> {
+    if out.steps {
+        text.push_str("steps ")?;
+    }
+    if out.depth {
+        text.push_str("depth ")?;
+    }
+    if out.threads {
+        text.push_str("threads ")?;
+    }
+    text.push_str("end")?;
+    Ok(())
+}
+
+/// The first log, or the one after a log.
+fn following(
+    alloc: Global,
+    code: &Code,
+    bounds: Bounds,
+    last: &Option<Vec<ThreadPath>>,
+) -> Result<Given>
+    requires { IfSome (option_map (λ v. v.items) last.now) (IsOne code.now bounds) }
+    ensures { IfOk result (λ given. IfSome given.threads (IsOne code.now bounds)) }
+{
+    match last {
+        Some(threads) => Ok(next_threads(alloc, code, bounds, threads)?),
+        None => Ok(first_threads(alloc, code, bounds)?),
+    }
+}
+
+/// The logs, one after another.
+fn all_logs(alloc: Global, code: &Code, bounds: Bounds) -> Result<String> {
+    let mut text = String::new(alloc);
+    let mut last = None;
+    'logs: for _ in 0..MOST {
+        let given = following(alloc, code, bounds, &last)?;
+        last = given.threads;
+        match &last {
+            Some(threads) => push_log(&mut text, threads)?,
+            None => {
+                push_end(&mut text, given.out)?;
+                return Ok(text);
+            }
+        }
+    }
+    bail!("too many logs")
+}
+
+/// The logs of a program.
+pub(crate) fn logs(alloc: Global, given: &str) -> Result<String> {
+    let (words, program) = given.split_once(" : ").context("no program")?;
+    let bounds = bounds_of(words)?;
+    let code = code_of(alloc, program.as_bytes())?;
+    all_logs(alloc, &code, bounds)
+}
