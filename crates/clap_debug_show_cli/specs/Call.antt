@@ -1,18 +1,23 @@
 -- What a call of the program answers, over what the shelf and the sink tell before and after it.
-use Rattle.std.specs.Prelude.{◌≡◌, ◌≢◌, ◌⊎◌, ℕ, List, Option, Some, None, IfSome, IsSomeAnd}
-use Rattle.tc_io.specs.Outside.{Files, ShelfTells, SinkTells, Writing, KeptPart, Wrote, bytes_at, put_under}
-use Rattle.clap_debug_show_cli.specs.Answers.{IsTextOf, Says, status_of}
+use Rattle.std.specs.Prelude.{◌≡◌, ◌≢◌, ◌⊎◌, ℕ, List, [], ◌∷◌, Option, Some, None, IfSome, IsSomeAnd, string_bytes}
+use Rattle.std.specs.Borrow.{Bor}
+use Rattle.tc_io.specs.Outside.{Files, ShelfTells, SinkTells, Writing, KeptPart, bytes_at, put_under}
+use Rattle.command_frame.specs.Answers.{Answer, IsFaultStatus, Puts, SaysLine, SaysNoMemory}
+use Rattle.command_frame.specs.Causes.{Finds, IsAnswerTo}
+use Rattle.command_frame.specs.Inputs.{Texts}
+use Rattle.command_frame.specs.Meaning.{Meaning}
+use Rattle.command_frame.specs.Run.{Runs}
+use Rattle.command_frame.specs.declared.status.Status.TheVariants.{Usage}
+use Rattle.clap_debug_show_cli.specs.Answers.{usage_text}
 use Rattle.clap_debug_show_cli.specs.Calls.{Asked, Help, Show, Shows, call_of}
-use Rattle.clap_debug_show_cli.specs.Causes.{HasPage, IsAnswerOf, IsCause, IsHelpOf}
-use Rattle.clap_debug_show_cli.specs.declared.answer.Answer.{Answer}
+use Rattle.clap_debug_show_cli.specs.Commands.{help_of, show_of}
+use Rattle.clap_debug_show_cli.specs.declared.show.Showed.TheVariants.{Page}
+use Rattle.clap_debug_show_cli.specs.declared.shown.Shown.{Shown}
 
--- the answer's text was put, with its status
-abbrev pub Puts : Answer → ℕ → SinkTells → SinkTells → Type 0
-Puts a status old new = (text : List ℕ) × IsTextOf a text × (status ≡ status_of a) × Wrote old new text
-
--- the status of a device that fails and of want of memory
-abbrev pub IsFaultStatus : ℕ → Type 0
-IsFaultStatus status = (status ≡ 7) ⊎ (status ≡ 8) ⊎ (status ≡ 9)
+-- the files were read, and came to a page that is to be kept under this name, of which `P` holds
+abbrev pub HasPage : Shows → ShelfTells → (name : List ℕ) → (ShelfTells → List ℕ → Type 0) → Type 0
+HasPage call old name P = (call.page ≡ Some name) × (shown : Shown) × (own : Bor (List ℕ)) × (page : _)
+    × Finds (show_of call) old (Page shown own page) (λ s. P s (string_bytes page))
 
 -- the page of what the files show stands under this name; all else is held that was
 abbrev pub Holds : Shows → (name : List ℕ) → ShelfTells → ShelfTells → Type 0
@@ -42,10 +47,20 @@ abbrev pub HasLost : Asked → (name : List ℕ) → ShelfTells → ShelfTells �
 HasLost (Help _) name old new = ⊥
 HasLost (Show call) name old new = Loses call name old new
 
+-- what is asked for was done; or, where the words aren't taken, the usage was put
+abbrev pub Does : Option Asked → ShelfTells → ShelfTells → (status : ℕ) → SinkTells → SinkTells → Type 0
+Does (Some (Help name)) old new = Runs (help_of name) old new
+Does (Some (Show call)) old new = Runs (show_of call) old new
+Does None old new = λ status before after. (new ≡ old) × SaysLine usage_text Usage status before after
+
+-- there was no memory for the words: the shelf is as before
+abbrev pub HearsNothing : ShelfTells → ShelfTells → (status : ℕ) → SinkTells → SinkTells → Type 0
+HearsNothing old new status before after = (new ≡ old) × SaysNoMemory status before after
+
 -- the answers of every call
 pub record CallAnswers (words : List (List ℕ)) (old new : ShelfTells) (status : ℕ) (before after : SinkTells) : Type 0 where
-  -- an answer that has its cause was said, with its status
-  pub answer : (a : Answer) × IsCause words old new a × Says a status before after
+  -- an answer that has its cause was said, with its status, as of every command
+  pub answer : Does (call_of words) old new status before after ⊎ HearsNothing old new status before after
   -- where the words aren't taken the shelf is as before
   pub only_usage : call_of words ≡ None → (new ≡ old) × ((status ≡ 2) ⊎ (status ≡ 8) ⊎ (status ≡ 9))
   -- where a keep failed the status is 8 whatever follows
@@ -59,14 +74,13 @@ abbrev pub IfTold : List (List ℕ) → Option Files → (Asked → Files → Ty
 IfTold words held P = IfSome (call_of words) (λ call. IfSome held (λ files. P call files))
 
 -- what was put is the answer to what files hold that the shelf tells of
-pub record PutsAnswer (IsAnswer : Answer → Type 0) (status : ℕ) (before after : SinkTells) : Type 0 where
+pub record PutsAnswer {A : Type 0} (m : Meaning A) (t : Texts) (status : ℕ) (before after : SinkTells) : Type 0 where
   -- but for devices and memory, what was put is an answer to what they hold
-  pub answer : (IsFaultStatus status → ⊥) → (a : Answer) × IsAnswer a × Puts a status before after
+  pub answer : (IsFaultStatus status → ⊥) → (a : Answer A) × IsAnswerTo m t a × Puts m a status before after
   -- and each answer to what they hold is what was put
-  pub exactly : (a : Answer) → IsAnswer a → Puts a status before after ⊎ IsFaultStatus status
+  pub exactly : (a : Answer A) → IsAnswerTo m t a → Puts m a status before after ⊎ IsFaultStatus status
 
 -- the answers to the files of a call
 abbrev pub ToldAnswers : Asked → Files → (status : ℕ) → (before after : SinkTells) → Type 0
-ToldAnswers (Help name) files status before after = PutsAnswer (IsHelpOf (bytes_at files name)) status before after
-ToldAnswers (Show call) files status before after =
-    PutsAnswer (IsAnswerOf call (bytes_at files call.program) (bytes_at files call.file)) status before after
+ToldAnswers (Help name) files = PutsAnswer (help_of name) (bytes_at files name ∷ [])
+ToldAnswers (Show call) files = PutsAnswer (show_of call) (bytes_at files call.program ∷ bytes_at files call.file ∷ [])

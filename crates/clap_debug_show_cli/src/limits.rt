@@ -1,18 +1,16 @@
-//! What there may be only so many of.
-ghost use Rattle.std.specs.Prelude.{◌≡◌};
+//! Limits, and what they are called.
+ghost use Rattle.std.specs.Prelude.{◌≡◌, codes};
 ghost use Rattle.clap_debug_show_cli.specs.Answers.{what_text};
-ghost use Rattle.clap_debug_show_cli.specs.Limits.{limit_of};
+ghost use Rattle.clap_debug_show_cli.specs.Limits.{limit_of, program_limit, file_limit};
+ghost use Rattle.command_frame.specs.helpers.Failures.{plain_limit};
 
+use command_frame::Limit;
 use tc_limits::limits::{LOG_BYTES, PROGRAM_BYTES, SCHEDULE_BYTES, THREADS};
 
-/// What there may be only so many of.
+/// What a log may have only so many of.
 #[derive(Clone, Copy)]
 pub(crate) enum What {
-    ProgramBytes,
     LogBytes,
-    /// Of a schedule, and of any second file before its kind is known.
-    ScheduleBytes,
-    /// The threads of a log.
     Threads,
 }
 
@@ -22,9 +20,7 @@ impl What {
         ensures { result ≡ limit_of self }
     {
         match self {
-            What::ProgramBytes => PROGRAM_BYTES,
             What::LogBytes => LOG_BYTES,
-            What::ScheduleBytes => SCHEDULE_BYTES,
             What::Threads => THREADS as u64,
         }
     }
@@ -34,10 +30,28 @@ impl What {
         ensures { result.now ≡ what_text self }
     {
         match self {
-            What::ProgramBytes => "program-bytes",
             What::LogBytes => "log-bytes",
-            What::ScheduleBytes => "schedule-bytes",
             What::Threads => "threads",
         }
+    }
+}
+
+/// The limit of a program.
+pub(crate) fn program_limit() -> Limit
+    ensures { plain_limit result ≡ program_limit }
+{
+    Limit {
+        kind: "program",
+        most: PROGRAM_BYTES,
+    }
+}
+
+/// The limit of a schedule, and of any second file before its kind is known.
+pub(crate) fn file_limit() -> Limit
+    ensures { plain_limit result ≡ file_limit }
+{
+    Limit {
+        kind: "schedule",
+        most: SCHEDULE_BYTES,
     }
 }

@@ -5,12 +5,13 @@ ghost use Rattle.path_log.specs.Texts.{IsOfOther};
 ghost use Rattle.tc_compile.specs.Programs.{IsCodeOf, IsWhyNoCode};
 ghost use Rattle.clap_debug_show_cli.specs.Limits.{limit_of};
 ghost use Rattle.clap_debug_show_cli.specs.Shown.{IsShown, IsStory, IsTold, begins_as_log};
-ghost use Rattle.clap_debug_show_cli.specs.declared.answer.Answer.TheVariants.{OtherProgram, Over};
+ghost use Rattle.clap_debug_show_cli.specs.declared.refusal.Fault.TheVariants.{Refused};
+ghost use Rattle.clap_debug_show_cli.specs.declared.refusal.Refusal.TheVariants.{OtherProgram, Over};
 ghost use Rattle.clap_debug_show_cli.specs.helpers.Refused.{IsWhyNoStory, IsWhyNotShown};
 
-use crate::answer::Answer;
 use crate::help::read_code;
 use crate::limits::What;
+use crate::refusal::{Fault, Refusal};
 use crate::words::Showing;
 use memory_models::Model;
 use path_log::{is_of_other, read_log};
@@ -91,10 +92,10 @@ pub(crate) fn read_shown<'a>(
     call: Showing<'a>,
     program: &[u8],
     file: &[u8],
-) -> Result<Shown<'a>, Answer<'a>>
+) -> Result<Shown<'a>, Fault>
     requires { length program.now ≤ PROGRAM_BYTES }
     ensures shown { IfOk result (IsShown program.now file.now) }
-    ensures answer { IfErr result (IsWhyNotShown program.now file.now) }
+    ensures fault { IfErr result (IsWhyNotShown program.now file.now) }
 {
     let (code, names) = compile_named(alloc, program)?;
     let story = if begins_as_log(file) {
@@ -129,15 +130,10 @@ fn begins_as_log(file: &[u8]) -> bool
 }
 
 /// The ways of the threads of a log.
-fn log_story<'a>(
-    alloc: Global,
-    code: &Code,
-    program: &[u8],
-    file: &[u8],
-) -> Result<Story, Answer<'a>>
+fn log_story(alloc: Global, code: &Code, program: &[u8], file: &[u8]) -> Result<Story, Fault>
     requires { begins_as_log file.now ≡ true }
     ensures story { IfOk result (IsStory code.now program.now file.now) }
-    ensures answer { IfErr result (IsWhyNoStory code.now program.now file.now) }
+    ensures fault { IfErr result (IsWhyNoStory code.now program.now file.now) }
 {
     check_limit(What::LogBytes, file.len())?;
     let log = read_log(alloc, file)?;
@@ -148,34 +144,34 @@ fn log_story<'a>(
 }
 
 /// Refuses a log of another program.
-fn check_program<'a>(program: &[u8], log: &Log) -> Result<(), Answer<'a>>
+fn check_program(program: &[u8], log: &Log) -> Result<(), Fault>
     ensures same { OnOk result (IsOfOther program.now log.now → ⊥) }
-    ensures other { IfErr result (λ a. (a ≡ OtherProgram) × IsOfOther program.now log.now) }
+    ensures other { IfErr result (λ a. (a ≡ Refused OtherProgram) × IsOfOther program.now log.now) }
 {
     if is_of_other(log, program) {
-        Err(Answer::OtherProgram)
+        Err(Fault::Refused(Refusal::OtherProgram))
     } else {
         Ok(())
     }
 }
 
 /// Refuses more of something than there may be.
-fn check_limit<'a>(what: What, number: usize) -> Result<(), Answer<'a>>
+fn check_limit(what: What, number: usize) -> Result<(), Fault>
     ensures within { OnOk result (number ≤ limit_of what) }
-    ensures over { IfErr result (λ a. (a ≡ Over what number) × (limit_of what < number)) }
+    ensures over { IfErr result (λ a. (a ≡ Refused (Over what number)) × (limit_of what < number)) }
 {
     if number as u64 > what.limit() {
-        Err(Answer::Over(what, number as u64))
+        Err(Fault::Refused(Refusal::Over(what, number as u64)))
     } else {
         Ok(())
     }
 }
 
 /// What the moves of a schedule did.
-fn schedule_story<'a>(alloc: Global, code: &Code, file: &[u8]) -> Result<Story, Answer<'a>>
+fn schedule_story(alloc: Global, code: &Code, file: &[u8]) -> Result<Story, Fault>
     requires { begins_as_log file.now ≡ false }
     ensures story { (program : List ℕ) → IfOk result (IsStory code.now program file.now) }
-    ensures answer { (program : List ℕ) → IfErr result (IsWhyNoStory code.now program file.now) }
+    ensures fault { (program : List ℕ) → IfErr result (IsWhyNoStory code.now program file.now) }
 {
     let schedule = read_schedule(alloc, file)?;
     let told = tell_under(alloc, code, &schedule)?;

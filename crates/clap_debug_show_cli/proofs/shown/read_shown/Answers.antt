@@ -2,9 +2,9 @@ use Rattle.std.proofs.Common.{rules}
 use Rattle.clap_debug_show_cli.proofs.shown.read_shown.Goals as goal
 use Rattle.clap_debug_show_cli.proofs.shown.read_shown.Goals.{then-begins_as_log+in_ok-story, else-begins_as_log+in_ok-story-2}
 
-pub returns-in_err-story-2-clause-answer : goal.returns-in_err-story-2-clause-answer
-returns-in_err-story-2-clause-answer c =
-    let why = c.in_err-story-2.ensures.answer c.args.program.now in
+pub returns-in_err-story-2-clause-fault : goal.returns-in_err-story-2-clause-fault
+returns-in_err-story-2-clause-fault c =
+    let why = c.in_err-story-2.ensures.fault c.args.program.now in
     search rules
 
 pub returns-clause-shown : goal.returns-clause-shown

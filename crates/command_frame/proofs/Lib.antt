@@ -1,0 +1,3 @@
+pub mod KeptAll
+pub mod ReadAll
+pub mod AllRuns

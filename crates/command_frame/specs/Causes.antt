@@ -1,0 +1,48 @@
+-- Why an answer is given: what the shelf did, and what comes of the bytes that it gave.
+use Rattle.std.specs.Prelude.{◌≡◌, ◌⊎◌, ℕ, List}
+use Rattle.tc_io.specs.Outside.{ShelfTells}
+use Rattle.command_frame.specs.Inputs.{AreWithin, FailsToRead, GaveAll, IsTooLong, PassesLimit, Texts}
+use Rattle.command_frame.specs.Keeps.{FailsToKeep, HoldsFirst, KeptAll}
+use Rattle.command_frame.specs.Meaning.{Meaning}
+use Rattle.command_frame.specs.Answers.{Answer, Gives, ReadFault, TooLong, WriteFault, NoMemory}
+
+-- the shelf gave the inputs, the outcome comes of their bytes, and then `P` holds
+abbrev pub Finds : {A : Type 0} → Meaning A → ShelfTells → A → (ShelfTells → Type 0) → Type 0
+Finds m old outcome P =
+    (t : Texts) × (s : ShelfTells) × GaveAll m.inputs old s t × m.ComesOf t outcome × P s
+
+-- what is held is as before, or the first keeps of an outcome are held
+abbrev pub HoldsSome : {A : Type 0} → Meaning A → ShelfTells → ShelfTells → Type 0
+HoldsSome {A} m old new = (new.held ≡ old.held)
+    ⊎ ((outcome : A) × Finds m old outcome (λ s. HoldsFirst (m.keeps_of outcome) old.held new.held))
+
+-- the first keeps of an outcome are held, and the keep of the next, of this name, failed
+abbrev pub LosesOne : {A : Type 0} → Meaning A → ShelfTells → ShelfTells → List ℕ → Type 0
+LosesOne {A} m old new name =
+    (outcome : A) × Finds m old outcome (λ s. FailsToKeep (m.keeps_of outcome) s new name)
+
+-- why an answer is given
+abbrev pub IsCause : {A : Type 0} → Meaning A → ShelfTells → ShelfTells → Answer A → Type 0
+IsCause m old new (Gives outcome) = Finds m old outcome (λ s. KeptAll (m.keeps_of outcome) s new)
+IsCause m old new (ReadFault name) = FailsToRead m.inputs old new name
+IsCause m old new (TooLong limit) = PassesLimit m.inputs old new limit
+IsCause m old new (WriteFault name) = LosesOne m old new name
+-- no fault was counted
+IsCause m old new NoMemory = (new.faults ≡ old.faults) × HoldsSome m old new
+
+-- the answer to these bytes of the inputs, if no device fails and there is memory
+abbrev pub IsAnswerTo : {A : Type 0} → Meaning A → Texts → Answer A → Type 0
+IsAnswerTo m t (Gives outcome) = AreWithin m.inputs t × m.ComesOf t outcome
+IsAnswerTo m t (TooLong limit) = IsTooLong m.inputs t limit
+IsAnswerTo m t _ = ⊥
+
+-- where the second of two outcomes is said, the first is as well
+pub record IsSaidAs {A : Type 0} (m : Meaning A) (one other : A) : Type 0 where
+  pub text : (text : List ℕ) → m.IsTextOf other text → m.IsTextOf one text
+  pub status : m.status_of other ≡ m.status_of one
+
+-- it is an answer to these bytes, and all outcomes that come of them are said alike
+abbrev pub IsOnlyAnswer : {A : Type 0} → Meaning A → Texts → Answer A → Type 0
+IsOnlyAnswer {A} m t (Gives outcome) =
+    AreWithin m.inputs t × m.ComesOf t outcome × ((other : A) → m.ComesOf t other → IsSaidAs m outcome other)
+IsOnlyAnswer m t a = IsAnswerTo m t a

@@ -1,0 +1,109 @@
+//! What the command answers and keeps, also where a device fails.
+use crate::join_files;
+use std::process::Abort;
+use std::test;
+use tc_io::Shelf;
+use test_shelves::mem::{Fail, MemShelf, MemSink};
+
+/// Two files, the call of the shelf that fails after some bytes, and what must come of them.
+#[derive(Clone, Copy)]
+struct Row<'a> {
+    first: &'a str,
+    second: &'a str,
+    call: u64,
+    after: usize,
+    status: u8,
+    said: &'a str,
+    /// What the outputs hold afterwards, where they are there.
+    out: Option<&'a str>,
+    back: Option<&'a str>,
+}
+
+/// Tests that a name holds this, or nothing.
+fn holds(rt: &(impl Abort + AllocGlobal), shelf: &mut MemShelf, name: &str, want: Option<&str>) {
+    let is_wanted = match (shelf.fetch(rt.alloc(), name, 99), want) {
+        (Ok(bytes), Some(want)) => bytes.as_slice() == want.as_bytes(),
+        (Err(_), None) => true,
+        _ => false,
+    };
+    assert!(rt; is_wanted, "{name}");
+}
+
+/// Tests a row.
+fn gives(rt: &(impl Abort + AllocGlobal), row: &Row) -> Result<(), test::Fail> {
+    let mut shelf = MemShelf::new(rt.alloc());
+    shelf.hold(rt.alloc(), "first", row.first.as_bytes())?;
+    shelf.hold(rt.alloc(), "second", row.second.as_bytes())?;
+    shelf.fail(Fail {
+        call: row.call,
+        after: row.after,
+    })?;
+    let mut sink = MemSink::new(rt.alloc());
+    let (parts, outputs) = (("first", "second"), ("out", "back"));
+    let status = join_files(rt.alloc(), parts, outputs, &mut shelf, &mut sink);
+    assert!(rt; status == row.status, "{}: {status}", row.said);
+    assert!(rt; sink.written() == row.said.as_bytes(), "{}", row.said);
+    holds(rt, &mut shelf, "out", row.out);
+    holds(rt, &mut shelf, "back", row.back);
+    Ok(())
+}
+
+/// A row in which nothing fails and nothing is kept.
+fn refused<'a>(first: &'a str, second: &'a str, status: u8, said: &'a str) -> Row<'a> {
+    Row {
+        first,
+        second,
+        call: 99,
+        after: 0,
+        status,
+        said,
+        out: None,
+        back: None,
+    }
+}
+
+/// A row in which a call fails.
+fn failed<'a>(call: u64, status: u8, said: &'a str, out: Option<&'a str>) -> Row<'a> {
+    Row {
+        first: "ab",
+        second: "c",
+        call,
+        after: 1,
+        status,
+        said,
+        out,
+        back: None,
+    }
+}
+
+#[test]
+fn files_are_joined(rt: HostRuntime) -> Result<(), test::Fail> {
+    let joined = Row {
+        out: Some("abc"),
+        back: Some("cab"),
+        ..refused("ab", "c", 0, "joined\n")
+    };
+    gives(&rt, &joined)?;
+    gives(&rt, &refused("", "c", 5, "empty\n"))
+}
+
+#[test]
+fn the_first_that_is_too_long_is_told(rt: HostRuntime) -> Result<(), test::Fail> {
+    gives(
+        &rt,
+        &refused("abcde", "fghij", 6, "limit part-bytes 5 of 4\n"),
+    )?;
+    gives(&rt, &refused("", "fghij", 6, "limit part-bytes 5 of 4\n"))
+}
+
+#[test]
+fn devices_fail(rt: HostRuntime) -> Result<(), test::Fail> {
+    gives(&rt, &failed(1, 7, "read fault: first\n", None))?;
+    gives(&rt, &failed(2, 7, "read fault: second\n", None))?;
+    gives(&rt, &failed(3, 8, "write fault: out\n", Some("a")))?;
+    let second = Row {
+        back: Some("c"),
+        ..failed(4, 8, "write fault: back\n", Some("abc"))
+    };
+    gives(&rt, &second)
+}
