@@ -132,7 +132,7 @@ def said(*words):
 
 
 def differs(folder, text, log, model):
-    """What is wrong with the answer under a model, or None; and the answer."""
+    """The fault of the answer under a model, or None; and the answer."""
     p, l, o = (f"{folder}/{it}" for it in "plo")
     with open(p, "w") as file:
         file.write(text)
@@ -150,7 +150,7 @@ def differs(folder, text, log, model):
 
 
 def differs_in_switches(folder, text, log, model):
-    """What is wrong with the fewest context switches of a log that is possible, or None."""
+    """The fault of the fewest context switches of a possible log, or None."""
     p, l, o, r = (f"{folder}/{it}" for it in "plor")
     count = machine.fewest(machine.Code(text), log, model)
     status, answer = said("solve", p, l, o, "--model", model, "--least", r)

@@ -30,7 +30,7 @@ def log(*threads: bytes) -> bytes:
 
 
 def all_threads(body: str, steps: int) -> tuple[str, bytes]:
-    """16 threads of 65,535 steps, each but main a loop round so many steps."""
+    """16 threads of 65,535 steps, each but main a loop of that many steps."""
     fill = "x = 1; " * 998
     program = (
         f"int s = 1; thread t() {{ int x; x = s; while (1) {{ {body} }} }} main {{ tid h; int i; int x; "

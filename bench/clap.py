@@ -1,5 +1,6 @@
 #!/usr/bin/env python3
-"""What each log of examples/clap comes to, measured in one run: the tables of bench/results/clap.md, and that of docs/CLAP.md.
+"""Measures each log of examples/clap in one run: the tables of bench/results/clap.md, and that of
+docs/CLAP.md.
 
   clap.py [--rewrite] [--program P]
 
@@ -76,7 +77,7 @@ def bytes_in_format_1(log):
 
 
 def sizes(runner, bug):
-    """What a log and its clauses come to."""
+    """The sizes of a log and its clauses."""
     code, log = machine.Code(bug.program.read_text()), machine.Log.read(bug.log.read_bytes())
     events = machine.shown(code, log).split("\n")[0].split()[-2]
     line, *_ = runner.measured("cnf ", "cnf", *bug.words(), runner.room / "list", "--model", bug.model)
@@ -86,7 +87,8 @@ def sizes(runner, bug):
 
 
 def times(runner, bug):
-    """What the searches for a schedule, for the least one, and for the refutation of the mended program take."""
+    """The time of the searches for a schedule, the least one, and the mended program's
+    refutation."""
     out, fewer = runner.room / "out", runner.room / "fewer"
     _, seconds, memory = runner.measured("schedule ", "solve", *bug.words(), out, "--model", bug.model)
     first = examples.switches_of(out, bug.log)

@@ -1,5 +1,5 @@
 #!/usr/bin/env python3
-"""Decides logs by cubes, beside cadical alone on the same list: a row of bench/results/solvers.md for each.
+"""Gives logs to cubes, and their lists to cadical alone: a row of bench/results/solvers.md for each.
 
   cubes.py [--alone N] [--seconds N] [--cube N] [--depth N] [--clap-debug PROGRAM] FOLDER NAME..
 
@@ -23,7 +23,8 @@ TOP = os.path.dirname(os.path.dirname(os.path.abspath(__file__)))
 
 
 class Ran:
-    """What some words print, their status, seconds by the clock and of processors, and the most memory of one process, in MB."""
+    """A command's output, status, seconds by the clock and of processors, and one process's most
+    MB."""
 
     def __init__(self, words, clock=None, processor=None, folder=None):
         limit = (lambda: resource.setrlimit(resource.RLIMIT_CPU, (processor, processor))) if processor else None

@@ -1,10 +1,11 @@
-"""What each move of a run did with memory, mutexes, conditions and threads, and what leads from move to move, by machine.py."""
+"""The deeds of a run's moves, and the links from move to move, by machine.py."""
 import machine
 
 
 class Deed:
-    """What a move did. Of a drain the word is `drain`, and the source the move that issued the store; else the source is the move
-    that stored what it took, or None at the start. Waiting are the moves whose stores wait in buffers before it."""
+    """The deed of a move. Of a drain the word is `drain`, and the source the move that issued the
+    store; else the source is the move that stored what it took, or None at the start. Waiting are
+    the moves whose stores wait in buffers before it."""
 
     def __init__(self, number, name, word, waiting):
         self.number, self.name, self.word, self.waiting = number, name, word, list(waiting)

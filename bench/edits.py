@@ -13,7 +13,7 @@ EDITS = f"{TOP}/bench/edits"
 
 
 def misfits(edit, crate):
-    """Says where the edit's texts don't stand exactly once in the crate's files."""
+    """Says where the edit's texts don't occur exactly once in the crate's files."""
     file, texts = "", {}
     for line in open(edit, encoding="utf-8").read().splitlines():
         word, _, rest = line.partition(": ")

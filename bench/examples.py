@@ -45,7 +45,7 @@ class Programs:
     clap_debug_show: str
 
     def run(self, words, room):
-        """What a command prints, and its status. It runs in a scratch folder."""
+        """A command's output and status. It runs in a scratch folder."""
         name, *rest = words
         known = {"./clap_debug": self.clap_debug, "./clap_debug_show": self.clap_debug_show}
         ran = subprocess.run([known.get(name, name), *rest], cwd=room, stdout=subprocess.PIPE, text=True, check=False)

@@ -54,14 +54,14 @@ RUNS = [
 ]
 WRONG = b"s SATISFIABLE\nv 0\n"
 CALLS = [(call, error) for call in ("openat", "read", "write") for error in ("EIO", "EINTR")]
-# So many runs in a row that nothing disturbs are the end of a sweep.
+# A sweep ends after this many runs in a row that nothing disturbs.
 QUIET = 45
 # Behind a call of some number the next that is tried is so small a part of that number away.
 LEAP = 100
 
 
 def answer_to(clauses):
-    """What minisat answers to a list of clauses, in the form of other solvers."""
+    """The answer of minisat to a list of clauses, in the form of other solvers."""
     with tempfile.TemporaryDirectory() as folder:
         with open(f"{folder}/list", "wb") as file:
             file.write(clauses)

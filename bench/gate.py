@@ -15,7 +15,7 @@ def words_of(pid):
 
 
 def told(pid):
-    """What the system tells of a process: its command, and then the fields from its state on."""
+    """The system's facts of a process: its command, and then the fields from its state on."""
     with open(f"/proc/{pid}/stat", encoding="utf-8", errors="replace") as it:
         comm, rest = re.match(r"\d+ \((.*)\) (.*)", it.read(), re.S).groups()
     return comm, rest.split()

@@ -1,5 +1,5 @@
 #!/usr/bin/env python3
-"""Writes programs and logs of about so many events, to solve them: of locks, queues, barriers, tables and counters.
+"""Writes programs and logs of given sizes, to solve: locks, queues, barriers, tables, counters.
 
   logs.py FOLDER [EVENTS..]      of 50, 100, 150, 200 and 256 events, where no number is given
 
@@ -56,7 +56,7 @@ def spin(is_right):
 
 
 def ticket(is_right, count=2):
-    """So many threads under a ticket lock."""
+    """Threads under a ticket lock."""
     bar = "        stbar();\n" if is_right else ""
     body = ("        mine = next;\n        was = cas(next, mine, mine + 1);\n        while (was != mine) {\n            mine = was;\n"
             "            was = cas(next, mine, mine + 1);\n        }\n        while (serving != mine) { }\n"
@@ -187,7 +187,7 @@ def log_of(code, model, seed):
 
 
 def best(family, is_right, events):
-    """A program of as many rounds as fit, and a log of it of so many events, or up to a tenth less where there is one."""
+    """A program of as many rounds as fit, its log of that many events, or up to a tenth less."""
     make, model = FAMILIES[family]
     of = lambda count: make(is_right).replace("N", str(count))
     fewest = lambda count: min(

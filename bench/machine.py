@@ -28,11 +28,11 @@ WORD = 1 << 32
 TOKEN = re.compile(r"(?:\s|//[^\n]*|/\*.*?\*/)*([A-Za-z_]\w*|\d+|<<|>>|[<>=!]=|&&|\|\||[][(){},;=+\-*/%!~<>&^|]|$)", re.S)
 MODELS = ["sc", "tso", "pso"]
 LEVELS = [["||"], ["&&"], ["|"], ["^"], ["&"], ["==", "!="], ["<", "<=", ">", ">="], ["<<", ">>"], ["+", "-"], ["*", "/", "%"]]
-# What needs an empty buffer.
+# Instructions that need an empty buffer.
 DRAINED = {"swap", "cas", "lock", "unlock", "sleep", "wake", "signal", "broadcast", "create", "join", "fence", "exit"}
 SITES = {"inside", "nonzero", "inrange", "holds", "ready", "assert"}
 EVENTS = DRAINED | {"load", "loadat", "store", "storeat"}
-# What reads and writes nothing that another thread can change.
+# Instructions that read and write nothing that another thread can change.
 OWN = SITES | {"set", "branch", "goto"}
 
 
@@ -424,7 +424,7 @@ class State:
         return None
 
     def drains(self, name):
-        """What of a thread's buffer may reach memory: places in the buffer."""
+        """The stores of a thread's buffer that may reach memory: places in the buffer."""
         found = {}
         for place, entry in enumerate(self.threads[name].buffer):
             if entry is None or (found and self.model == "tso"):
@@ -630,7 +630,7 @@ def run(code, model, seed, steps):
 
 
 def end_of(code, end, state, made):
-    """What `record` prints."""
+    """The line of `record`."""
     if end == "failed":
         thread = state.threads[state.failed]
         line = code.functions[thread.function].lines[thread.at]

@@ -28,7 +28,7 @@ TOP = os.path.dirname(os.path.dirname(os.path.abspath(__file__)))
 
 
 class Ran:
-    """What some words print, their status and their processor seconds, which have a limit."""
+    """A command's output, status and processor seconds, which have a limit."""
 
     def __init__(self, limit, *words, stdin=None):
         most = math.ceil(limit)
@@ -77,7 +77,7 @@ class Log:
         return self.run(sys.executable, f"{TOP}/tools/refutation.py", "drat", self.list, proof, self.model, out)
 
     def check(self, out):
-        """What `check` says: the model is the refutation's."""
+        """The answer of `check`: the model is the refutation's."""
         return self.run(f"{TOP}/out/clap_debug", "check", self.program, self.log, out)
 
     def imported(self, answer):
@@ -110,7 +110,7 @@ def spoilt(chance, lines):
 
 
 def try_possible(log):
-    """What came of the answers, and how much in it isn't as it must be."""
+    """The results of the answers, and the number of wrong ones."""
     found, replayed = log.imported(log.cadical.text)
     wrong = (replayed.line != "reproduces") + (found.status != 0)
     if not log.minisat.is_over:

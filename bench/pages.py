@@ -87,7 +87,7 @@ main {
 }
 """
 
-# What --faults breaks: the example, the test that is to find it, and the text of the page with what stands in its place.
+# The faults of --faults: example, test that must find it, text of the page, replacement.
 FAULTS = [
     ("deadlock/p", "steps", "lock(state, move) { state.owners[move.mutex] = move.lane; }", "lock() {}"),
     ("once/p", "steps", "state.freed[move.mutex] = move.number; }", "}; const free = (state, move) => { state.freed[move.mutex] = move.number; }"),
@@ -120,7 +120,7 @@ FAULTS = [
     ("buffering/p", "narrow", "max-height: 34%", "height: 90%"),
 ]
 
-# What an event asks, but for a store, and the failing step.
+# Requests of events, but for a store, and the failing step.
 EVENTS = {"load", "loadat", "swap", "cas", "fence", "exit", "lock", "unlock", "sleep", "wake", "broadcast", "signal", "create", "join"}
 
 
@@ -222,7 +222,7 @@ class Browser:
 
 
 def said(browser):
-    """What the page says now: its place, memory, and each thread's buffer."""
+    """The page's present state: its place, memory, and each thread's buffer."""
     return browser.value("""({
       at: document.getElementById('at').textContent,
       marked: [...document.querySelectorAll('.row.at')].map(row => row.id),
@@ -262,7 +262,7 @@ def line_of(code, thread):
 
 
 def thread_words(page, state, number, name):
-    """What a thread does in the state after that many moves, in the words of the page."""
+    """A thread's state after that many moves, in the words of the page."""
     code, thread = page.code, state.threads.get(name)
     if thread is None:
         return "not created"
@@ -303,7 +303,7 @@ def events_of(code, model, moves):
 
 
 class Page:
-    """A page, with what the machine has of its moves."""
+    """A page, with the machine's facts of its moves."""
 
     def __init__(self, name, program, schedule, file):
         with open(program) as source, open(schedule) as given:
@@ -355,7 +355,8 @@ class Page:
         return [(text, named)] if named else []
 
     def looked(self, deed):
-        """What the statement that fails took, and who stored that, and which move set each of its ints."""
+        """The values that the failing statement took, who stored these, and which move set each
+        int."""
         lines, line = [], self.rows[deed.number - 1].line
         steps = [it for it in self.history.deeds[:deed.number - 1] if it.name == deed.name and it.word != "drain"][::-1]
         for it in itertools.takewhile(lambda it: self.rows[it.number - 1].line == line, steps):
@@ -386,7 +387,7 @@ class Page:
         return lines
 
     def stored(self, deed):
-        """What becomes of a value that a move stores, and what it replaces."""
+        """The further way of a value that a move stores, and the value that it replaces."""
         if deed.is_issue(self.model):
             return [(f"reaches memory by {self.called(deed.drain)}", [deed.drain])] if deed.drain else [("never reaches memory in this run", [])]
         writer, value = deed.replaced
@@ -473,7 +474,7 @@ def resting(browser, page):
 
 
 def look(browser, page):
-    """What stands on a page at first: its title, its lanes, and how it ended."""
+    """A page as it opens: its title, its lanes, and how the run ended."""
     browser.open(f"file://{page.file}")
     lanes = browser.value("[...document.querySelectorAll('.head > [data-lane]')].map(head => head.textContent)")
     counts = f"{len(page.rows)} move{'s'[len(page.rows) == 1:]}, {len(page.switches())} switch{'es' if len(page.switches()) != 1 else ''}"
@@ -589,7 +590,7 @@ def filtering(browser, page):
 
 
 def reading(browser, page):
-    """What one who doesn't see the page is told, and reaches by the keyboard."""
+    """The page's words for screen readers, and its use by the keyboard alone."""
     unfold(browser, page)
     browser.press("Home")
     browser.press("j")
@@ -787,7 +788,7 @@ def page_of(program, name, folder):
 
 
 def long(moves=2000, events=None):
-    """The first moves of a run of LONG, so many or with so many events."""
+    """The first moves of a run of LONG, up to a number of moves or of events."""
     code = show.Code(LONG)
     made = machine.run(code, "tso", 1, moves)[2]
     return made if events is None else made[:events_of(code, "tso", made)[events - 1]]

@@ -1,5 +1,5 @@
 #!/usr/bin/env python3
-"""What `clap_debug_show` is to put, made anew by the machine of machine.py.
+"""The output that `clap_debug_show` must have, made anew by the machine of machine.py.
 
   show.py text PROGRAM FILE [--moves]   the text of a schedule or a log
   show.py examples [SHOW]               compares what SHOW, or ./clap_debug_show, puts for each schedule and log of the examples
@@ -72,8 +72,8 @@ BINDS = {sign: level for level, signs in enumerate(machine.LEVELS) for sign in s
 
 
 def written(function, e, slots=None, level=0):
-    """An expression by its names or, with slots, by the values of these, in as few parentheses as it needs. Of a side of && or ||
-    that isn't looked at there stands `..`."""
+    """An expression by its names or, with slots, by the values of these, in as few parentheses as
+    it needs. A side of && or || that wasn't evaluated is shown as `..`."""
     if isinstance(e, int):
         return str(e)
     if e[0] == "slot":
@@ -102,7 +102,8 @@ def condition(function, e, slots):
 
 
 def choice_at(function, at):
-    """The sign and the sides of the && or || for whose left side the instruction at that place, or the branch behind it, stands."""
+    """The sign and sides of the && or || whose left side the instruction there, or the one before,
+    has set."""
     for place in (at, at - 1):
         word, *args = function.instrs[place] if place >= 0 else ("",)
         after = function.instrs[place + 1][0] if place + 1 < len(function.instrs) else ""
@@ -134,7 +135,7 @@ def listed(names):
 
 
 def words_of(code, before, after, move, wakers):
-    """What a move did, what of that stands where a row is a statement, and the cell with the value that it took, if it loads."""
+    """A move in words, its words where a row is a statement, and the cell and value of a load."""
     name, thread = move[1], before.threads[move[1]]
     function = code.functions[thread.function]
     word, *args = function.instrs[thread.at]
@@ -298,7 +299,7 @@ def is_step_of(row, last):
 
 
 def seen_at_end(rows):
-    """What the failing statement looked at: each load, and each int of the body once."""
+    """The values that the failing statement used: each load, and each int of the body once."""
     steps = [row for row in rows if is_step_of(row, rows[-1])]
     first = len(steps) - 1
     while first and continues(steps[first], steps[first - 1]):
@@ -312,7 +313,7 @@ def seen_at_end(rows):
 
 
 def waits_for(code, state, name):
-    """What a thread waits for, and who has it, behind two blanks; nothing where it can go on."""
+    """A thread's wait, and who holds it, after two blanks; empty if it can go on."""
     thread, (word, *args) = state.threads[name], state.instr(name)
     if word == "join" and not state.threads[thread.tids[args[0]]].exited:
         return f"  waits for the end of {machine.spelled(thread.tids[args[0]])}"

@@ -37,7 +37,7 @@ def megabytes(pid):
 
 
 def run(seconds, *words, row=b""):
-    """What it prints, its status, processor seconds and megabytes; or None where it takes more than so many processor seconds."""
+    """Its output, status, processor seconds and megabytes; None past that limit of seconds."""
     limit = math.ceil(seconds)
     with tempfile.TemporaryFile() as out, tempfile.TemporaryFile() as given:
         given.write(row)
@@ -73,7 +73,7 @@ def learnt(is_found):
 
 
 def of_false_first(seconds, program, log, model):
-    """What a search comes to that tries false first: seconds, megabytes, and how many clauses it learns."""
+    """A search that tries false first: seconds, megabytes, and the number of learnt clauses."""
     with open(program, encoding="ascii") as text, open(log, "rb") as bytes_:
         words = re.sub(r"//[^\n]*|/\*.*?\*/", " ", text.read(), flags=re.DOTALL).split()
         row = f"group a log\nlearnt {model} : {bytes_.read().hex()} : {' '.join(words)} => ?\n"

@@ -47,7 +47,7 @@ AIMS = [("exit", False), ("used", False), ("open", True), ("rest", False)]
 
 
 class Own:
-    """What a thread's own steps make of its mutexes and thread variables."""
+    """A thread's mutexes and thread variables after its own steps."""
 
     def __init__(self):
         self.held, self.joinable = set(), set()
@@ -102,7 +102,7 @@ def may_take(instrs, end, may_fail, steps, place):
 
 
 def prefixes(instrs, most):
-    """Each way of at most so many outcomes: the place behind it, its outcomes and its instructions."""
+    """Each path of at most that many outcomes: the place after it, outcomes, instructions."""
     ways = [(0, (), ())]
     while ways:
         place, outcomes, steps = ways.pop()

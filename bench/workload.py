@@ -1,5 +1,5 @@
 #!/usr/bin/env python3
-"""What `workload N SEED` must say, found by `machine.py`; and whether a built program says so.
+"""The line that `workload N SEED` must print, found by `machine.py`; and whether a program does.
 
   workload.py N SEED                 the line that must come
   workload.py rows                   three lines of each number of workers, as rows that `test_product` reads

@@ -1,6 +1,7 @@
 #!/usr/bin/env python3
-"""What clap_debug says of the C programs in examples/c: records each by a seed with which it fails, and solves its log under each
-memory model. Of each mended program it tries all runs under PSO, by bench/machine.py.
+"""The table of the C programs in examples/c: records each by a seed with which it fails, and solves
+its log under each memory model. Of each mended program it tries all runs under PSO, by
+bench/machine.py.
 
     c_examples.py [--check | --rewrite] [--search] [NAME..]
 
@@ -64,7 +65,7 @@ def recorded(program: str, log: str, model: str, seeds: Iterable[int]) -> Option
 
 
 def line_in_c(line: str, lines: str) -> str:
-    """What record said, with the line in C."""
+    """The line of `record`, with the line in C."""
     found = re.match(r"failed (\S+) line (\d+) ", line)
     if not found:
         return "deadlock"

@@ -1,10 +1,10 @@
 #!/usr/bin/env python3
-"""What the scripts say beside the programs: help, and one line on a refusal that says where to look. Not proved, and no
-answer rests on it.
+"""The words of the scripts: help, and one line on a refusal that says where to look. Not proved,
+and no answer rests on it.
 
   hint.py help PROGRAM               the commands and options of a program
   hint.py clash PROGRAM WORD..       ends with 1, and says which, where an output is one of the inputs
-  hint.py refusal PROGRAM STATUS WORD..      a line on what was wrong, where it can be told"""
+  hint.py refusal PROGRAM STATUS WORD..      a line on what was wrong, if that is known"""
 import dataclasses, difflib, os, shlex, signal, sys
 
 MODELS = ("sc", "tso", "pso")
@@ -28,7 +28,7 @@ class Option:
         return f"--{name}" if self.is_flag else f"--{name} {self.value()}"
 
     def refuses(self, word):
-        """What it takes, where it doesn't take this word."""
+        """The values that it takes, if this word isn't one."""
         if self.names:
             return None if word in self.names else ", ".join(self.names[:-1]) + f" or {self.names[-1]}"
         if self.range:
@@ -153,7 +153,7 @@ def nearest(word, words, sign=""):
 
 
 def wrong_words(program, words):
-    """What was wrong with words that the program doesn't take."""
+    """The fault of words that the program doesn't take."""
     commands = PROGRAMS[program]
     command, plain, options = split(program, words)
     if not command:
@@ -188,7 +188,7 @@ def wrong_words(program, words):
 
 
 def kind_of(file):
-    """What a file is by its first bytes, if that can be told."""
+    """The kind of a file by its first bytes, if these say it."""
     try:
         with open(file, "rb") as it:
             start = it.read(16)
@@ -237,7 +237,7 @@ def meaning(program, words):
     return f"{script('docs/MESSAGES.md')} says what this means, and what to do"
 
 
-# What is tried for a status, in this order.
+# The checks for a status, in this order.
 BY_STATUS = {2: [wrong_words], 3: [wrong_file, explains], 4: [wrong_file, meaning], 5: [wrong_file, meaning], 6: [meaning], 7: [missing]}
 
 

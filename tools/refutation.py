@@ -121,7 +121,7 @@ class Propagation:
         """The clause is kept from now on. Whether it isn't in conflict."""
         self.is_kept[number] = 1
         clause, value, place = self.clauses[number], self.value, self.place
-        # What isn't false comes first, and then what became false last.
+        # Literals that aren't false come first, then those that became false last.
         clause.sort(key=lambda l: (-value[l], -place[abs(l)]))
         if len(clause) > 1:
             table = self.needed if self.is_needed[number] else self.others
@@ -276,7 +276,7 @@ class Drat:
         self.given = len(clauses)
         # The numbers of the clauses that are kept, by their literals.
         self.numbers: Dict[Clause, List[int]] = {}
-        # What came and went, in order.
+        # Additions and deletions, in order.
         self.done: List[Tuple[Step, int]] = []
         self.conflict = 0
         for clause in clauses:
@@ -304,7 +304,7 @@ class Drat:
                 self.conflict = self.conflict or state.propagate()
                 continue
             numbers = self.numbers.get(step.clause)
-            # What isn't there can't go, and what made a literal true stays: with more clauses nothing else is shown.
+            # A missing clause can't go, and a reason stays: more clauses show nothing else.
             if numbers and not state.is_reason(numbers[-1]):
                 number = numbers.pop()
                 state.is_kept[number] = 0

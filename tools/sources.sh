@@ -1,6 +1,6 @@
-# What the scripts know of the checkout; `top` is its folder.
+# Facts of the checkout for the scripts; `top` is its folder.
 
-# The crates that these programs stand on, lowest first, and the programs' own.
+# The crates that these programs depend on, lowest first, and the programs' own.
 crates() {
     sed 's/#.*//; s/:/ /' "$top/crates.txt" | awk -v programs="$*" '
         function visit(name,    below, count, i) {

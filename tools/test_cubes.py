@@ -17,7 +17,8 @@ from typing import List, Tuple
 TOP = os.path.dirname(os.path.dirname(os.path.abspath(__file__)))
 MISSING = [it for it in ("parallel", "cadical", "g++") if not shutil.which(it)]
 
-# What a cadical that stands in does at its first calls, TIMES of them; then it is cadical. The last word is the proof's name.
+# A stand-in for cadical: its first TIMES calls do DOES, later ones run cadical. The last word is
+# the proof's name.
 STANDS_IN = """#!/bin/bash
 for proof; do :; done
 count=$(ls "{room}" | grep -c '^call')

@@ -91,7 +91,7 @@ def native(folder: str, number: int) -> Tuple[int, str, str]:
 
 
 def values(before: str, sources: List[str]) -> List[List[int]]:
-    """What each program observes natively."""
+    """The values that each program observes natively."""
     with tempfile.TemporaryDirectory() as folder:
         compiled([before, *sources], folder, "-DOBSERVE(e)=printf(\"%d\\n\",(int)(e))")
         return [list(map(int, native(folder, number)[1].split())) for number in range(len(sources))]
@@ -165,14 +165,14 @@ class Generated(Tests):
 
 
 def sections(name: str) -> List[Tuple[str, str, str]]:
-    """The sections of a file beside this one: a heading, what stands at file scope, and the statements of main."""
+    """The sections of a file beside this one: a heading, file scope, and the statements of main."""
     with open(f"{TOP}/tools/{name}", encoding="utf-8") as file:
         parts = re.split(r"^### ", file.read(), flags=re.M)[1:]
     heads = [it.partition("\n") for it in parts]
     return [(title, *map(str.strip, text.split("---\n"))) for title, _, text in heads]  # type: ignore[misc]
 
 
-# What each access becomes, for runs under each model, for sc, for tso and for pso.
+# The translation of each access, for all models, for sc, for tso and for pso.
 STRONG = "stbar(); x = 1; fence();"
 ACCESSES: List[Tuple[str, Tuple[str, ...], Tuple[str, str, str, str]]] = [
     ("r = atomic_load_explicit(&x, memory_order_{});", ("relaxed", "consume", "acquire", "seq_cst"), ("r = x;",) * 4),
@@ -203,7 +203,7 @@ def whole(globals_: str, *lines: str) -> str:
 
 class Constructs(Tests):
     def test_each_construct(self) -> None:
-        """What is observed is as it is natively; and where the last thing is to be another one, it fails there."""
+        """The program observes what the native one does; with a wrong last value it fails there."""
         for name, globals_, body in sections("test_fromc_constructs.txt"):
             with self.subTest(name):
                 source = whole(globals_, body)
@@ -218,7 +218,7 @@ class Constructs(Tests):
                 self.assertEqual((kind, lines.get(line)), ("failed", last), spoilt + text)
 
     def test_threads(self) -> None:
-        """What a thread is given: nothing, a number, a place; and the calls of <threads.h>."""
+        """A thread's argument: nothing, a number, a place; and the calls of <threads.h>."""
         for name, globals_, body in sections("test_fromc_threads.txt"):
             with self.subTest(name):
                 source = whole(globals_, body)

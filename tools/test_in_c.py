@@ -1,6 +1,6 @@
 #!/usr/bin/env python3
-"""Tries in_c.py on what clap_debug_show puts of the examples: with a C file that has the same lines nothing changes, and with one whose
-lines stand elsewhere, in other words, each row has these."""
+"""Tries in_c.py on the output of clap_debug_show for the examples: with a C file that has the same
+lines nothing changes; with one that has other lines elsewhere, each row has these."""
 import glob
 import os
 import sys
@@ -31,7 +31,7 @@ def shown() -> Iterator[Tuple[str, str, Dict[int, str]]]:
 
 
 def source(texts: Dict[int, str], behind: int) -> in_c.Source:
-    """A C file with these texts, each so many lines further on."""
+    """A C file with these texts, each `behind` lines further on."""
     lines = [texts.get(number - behind, "") for number in range(1, max(texts) + behind + 1)]
     return in_c.Source({"p.c": lines}, {number: ("p.c", number + behind) for number in texts})
 

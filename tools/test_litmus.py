@@ -75,7 +75,7 @@ def is_reached(text: str, model: str = "sc") -> bool:
 
 
 class Forms(unittest.TestCase):
-    """What each form becomes."""
+    """The translation of each form."""
 
     UPDATE = ["was = x;", "found = cas(x, was, NEW);", "while (found != was) {", "    was = found;", "    found = cas(x, was, NEW);", "}"]
 
@@ -183,7 +183,7 @@ class Forms(unittest.TestCase):
 
 
 class Refusals(unittest.TestCase):
-    """What can't be translated, with the line and a part of the reason."""
+    """Refusals, with the line and a part of the reason."""
 
     def refused(self, text: str, line: int, why: str) -> None:
         with self.assertRaises(Refused, msg=text) as caught:

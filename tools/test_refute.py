@@ -104,7 +104,8 @@ class Refute(unittest.TestCase):
             self.assertEqual(self.read("ours").split("\n")[0], "clap-refutation 2 sc")
 
     def test_deletions_stay_few(self) -> None:
-        """What no later line needs is deleted: in the end nothing but the empty clause is kept."""
+        """Clauses that no later line needs are deleted: in the end only the empty clause is
+        kept."""
         self.both("drat", self.variables, self.clauses, self.write("proof", self.drat()))
         text = self.read("ours").split("\n")
         gone = sum(len(line.split()) - 2 for line in text if line.startswith("d"))
@@ -208,7 +209,7 @@ class Refute(unittest.TestCase):
         self.assertEqual(self.join([one, self.path("other")]), (1, f"refused: {self.path('other')}: line 2 doesn't follow\n"))
 
     def test_spoilt_pieces(self) -> None:
-        """A piece with a line cut or changed is refused by its name, or what is joined is still a refutation."""
+        """A piece with a cut or changed line is refused by name, or the join is a refutation."""
         pieces = [self.piece(cube) for cube in self.CUBES]
         for turn in range(60):
             path = self.chance.choice(pieces)

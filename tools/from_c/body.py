@@ -1,4 +1,4 @@
-"""What the translation of one thread's body knows: names, scopes, and the functions that it is in."""
+"""The state of translating one thread's body: names, scopes, and the functions around it."""
 import dataclasses
 from typing import TYPE_CHECKING, Any, Dict, List, Optional, Set, Tuple, Union
 
@@ -129,7 +129,7 @@ class Body:
         frame = self.frames[-1]
         del frame.scopes[scopes:], frame.breaks[breaks:], frame.continues[continues:], self.held[held:]
 
-    # What the other parts have.
+    # The fields of the other parts.
 
     def call(self, node: Any, wanted: bool) -> Value:
         raise NotImplementedError

@@ -67,7 +67,7 @@ class Calls(Expressions):
         return self.value(node)
 
     def parameter(self, function: Any, name: str, type_: Type, value: Value, at: Place) -> Block:
-        """What a parameter is, and the statements that give it its value."""
+        """The statements that bind a parameter to its value."""
         if isinstance(type_, Pointer):
             return self.pointer(name, value, at)
         if isinstance(type_, Struct):
@@ -108,7 +108,7 @@ class Calls(Expressions):
     # Atomic accesses.
 
     def atomic_place(self, node: Any) -> Value:
-        """What an atomic call works on."""
+        """The object of an atomic call."""
         place = self.pointed(node)
         if not place.ref or not isinstance(place.ref.type, Int) or not place.ref.type.atomic:
             raise Refusal(self.at(node), "an atomic call on what isn't _Atomic", "declare it _Atomic")
@@ -342,7 +342,7 @@ class Calls(Expressions):
         return dataclasses.replace(VOID, before=(Assert(Number(0), at),))
 
     def printed(self, arguments: List[Any]) -> Value:
-        """What is printed changes nothing; what its arguments do is done."""
+        """Printing does nothing; its arguments take effect."""
         c_ast = self.unit.c_ast
         before: List[Statement] = []
         for each in arguments:

@@ -1,4 +1,5 @@
-"""What is said of a program beside its text: plain variables that threads share, threads that nothing joins, and limits."""
+"""Warnings and limits of a program: plain variables that threads share, threads that nothing joins,
+and limits."""
 import dataclasses
 import re
 from typing import Dict, FrozenSet, List, Set, Tuple
@@ -74,7 +75,7 @@ class Accesses:
 
 
 def created(program: Program) -> Dict[str, int]:
-    """How many threads may do each function; 2 stands for more."""
+    """How many threads may do each function; 2 means two or more."""
     counts: Dict[str, int] = {"main": 1}
     for thread in program.threads:
         for statement, looped in marked(thread.body, thread.name != "main"):

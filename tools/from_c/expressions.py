@@ -96,7 +96,7 @@ class Expressions(Body):
         return value
 
     def effect(self, node: Any) -> Block:
-        """What an expression does, its value apart."""
+        """The effects of an expression, without its value."""
         c_ast = self.unit.c_ast
         if isinstance(node, c_ast.UnaryOp) and node.op in ("p++", "p--", "++", "--"):
             return self.step(node, False).before
@@ -267,7 +267,7 @@ class Expressions(Body):
         raise Refusal(at, "an lvalue that isn't a variable, an element or a field", "name a variable")
 
     def pointed(self, node: Any) -> Value:
-        """What a pointer points to."""
+        """The target of a pointer."""
         value = self.value(node)
         if value.kind != "pointer":
             what = "a null pointer" if value.kind == "null" else f"a {value.kind}"
@@ -297,7 +297,7 @@ class Expressions(Body):
         return Value("pointer", before, ref=self.shifted(left.ref, distance, at), direct=left.direct | right.direct)
 
     def shifted(self, ref: Ref, distance: Expression, at: Place) -> Ref:
-        """The element so many behind this one."""
+        """The element that many places behind this one."""
         if distance == Number(0):
             return ref
         if not ref.in_array:
@@ -306,7 +306,7 @@ class Expressions(Body):
         return dataclasses.replace(ref, indexes=(*ref.indexes[:-1], last))
 
     def target(self, ref: Ref, at: Place) -> Tuple[Block, Union[Single, Indexed, Choice]]:
-        """What an lvalue leads to, after tests of the indexes that the language doesn't make itself."""
+        """The target of an lvalue, after the index tests that the language doesn't make itself."""
         dims = self.dims(ref)
         before: Block = ()
         if len(dims) > 1:
@@ -444,7 +444,7 @@ class Expressions(Body):
         return (*before, *saved), value
 
     def result(self, ref: Ref, value: Value, wanted: bool) -> Expression:
-        """What an assignment gives: what was written."""
+        """The value of an assignment: the written one."""
         if not wanted or ref.variable.shared:
             return value.expression if wanted else Number(0)
         before, target = self.target(ref, ref.variable.at)
@@ -461,7 +461,7 @@ class Expressions(Body):
         return (*before, *self.store(ref, value, at))
 
     def write_of(self, ref: Ref) -> FrozenSet[Object]:
-        """What a write to an lvalue writes."""
+        """The value that a write to an lvalue stores."""
         target = self.storage_of(ref).target(ref)
         kind = "shared" if ref.variable.shared else "local"
         if isinstance(target, Indexed):

@@ -1,5 +1,5 @@
-"""Blocks that are left early become blocks that go to their end: what would be skipped stands in the other branch of an `if`, or
-behind a flag where a loop or an uneven branch is between."""
+"""Blocks that are left early become blocks that go to their end: the statements to skip go into the
+other branch of an `if`, or behind a flag if a loop or an uneven branch is between."""
 import dataclasses
 from typing import Callable, Dict, FrozenSet, List, Set, Tuple
 
@@ -50,8 +50,8 @@ class Loop:
 
 @dataclasses.dataclass(frozen=True)
 class Context:
-    """Where a block stands. `tail` are the labels to which its end leads; `flagged` those whose flag must be set on the way;
-    `loops` those loops that are left early and are around it."""
+    """The context of a block. `tail` are the labels to which its end leads; `flagged` those whose
+    flag must be set on the way; `loops` those loops around it that are left early."""
 
     tail: Labels = NONE
     flagged: Labels = NONE

@@ -10,7 +10,7 @@ ADVICE = "use int, or a constant power of two"
 
 
 def negation(condition: Expression) -> Expression:
-    """What is 1 where the condition is 0."""
+    """The opposite of a condition: 1 if it is 0."""
     opposite = {"==": "!=", "!=": "==", "<": ">=", ">=": "<", ">": "<=", "<=": ">"}
     if isinstance(condition, Binary) and condition.operator in opposite:
         return Binary(opposite[condition.operator], condition.left, condition.right)

@@ -133,6 +133,6 @@ class Printer:
         return "".join(f"{line}\n" for line in out)
 
     def map(self, above: int) -> str:
-        """A line for each line of the program that has one in C, where so many lines stand above the first."""
+        """A line for each line of the program that has one in C; `above` lines precede it."""
         lines = [f"{number} {place.line} {place.file}" for number, (_, places) in enumerate(self.lines, above + 1) for place in places[:1]]
         return "".join(f"{line}\n" for line in ["from-c 1", *lines])

@@ -4,7 +4,8 @@ from typing import FrozenSet, Iterable, Iterator, Optional, Tuple, Union
 
 from .refusal import Place
 
-# What is read or written: a local's name, or a shared name with the element where it is known.
+# A thing that is read or written: a local's name, or a shared name with the element where it is
+# known.
 Object = Tuple[str, str, Optional[int]]
 
 
@@ -168,7 +169,8 @@ class Program:
 
 @dataclasses.dataclass(frozen=True)
 class Effects:
-    """What some code reads and writes; whether it has an access or a call that orders others; whether it uses shared memory."""
+    """The reads and writes of some code; whether it has an access or a call that orders others;
+    whether it uses shared memory."""
 
     reads: FrozenSet[Object] = frozenset()
     writes: FrozenSet[Object] = frozenset()

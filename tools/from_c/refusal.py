@@ -1,4 +1,4 @@
-"""What the translator says when it can't go on, and what it says beside a translation."""
+"""Refusals of the translator, and its words beside a translation."""
 import dataclasses
 from typing import Dict, List, Optional
 

@@ -171,7 +171,7 @@ class Statements(Calls):
         raise NotImplementedError
 
     def unrolled(self, node: Any, name: str, values: List[int], fault: NeedsConstant) -> Block:
-        """A loop as so many copies of its body, its variable a constant in each."""
+        """A loop as copies of its body, its variable a constant in each."""
         at, leave = self.at(node), self.unit.label()
         out: List[Statement] = []
         self.open()

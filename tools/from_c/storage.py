@@ -99,7 +99,7 @@ Part = Tuple[Variable, Tuple[str, ...]]
 
 
 def key_of(variable: Variable, fields: Tuple[str, ...]) -> Tuple[str, int, Tuple[str, ...]]:
-    """What names a part of a variable in one translation and the next."""
+    """A name for a part of a variable, the same in one translation and the next."""
     return variable.name, variable.at.line, fields
 
 

@@ -66,8 +66,8 @@ Dims = Tuple[int, ...]
 
 
 def scalars_of(type_: Type, fields: Fields = (), dims: Dims = ()) -> Iterator[Tuple[Fields, Dims, Type]]:
-    """What a variable of this type is made of: the fields that lead to each part, the lengths of the arrays on that way, and
-    the part's type."""
+    """The parts of a variable of this type: the fields that lead to each part, the lengths of the
+    arrays on that way, and the part's type."""
     if isinstance(type_, Array):
         yield from scalars_of(type_.element, fields, (*dims, type_.length))
     elif isinstance(type_, Struct):

@@ -42,7 +42,7 @@ class Options:
 
 @dataclasses.dataclass(frozen=True)
 class Start:
-    """What a thread does, and what it is given: nothing, an int, or a place with indexes that are ints."""
+    """A thread's function and argument: nothing, an int, or a place with indexes that are ints."""
 
     function: str
     kind: str

@@ -1,4 +1,5 @@
-"""What an expression of C comes to: statements that go before, and an expression of the language."""
+"""The translation of an expression of C: statements before it, and an expression of the
+language."""
 import dataclasses
 from typing import FrozenSet, Optional
 

@@ -30,7 +30,7 @@ class Names:
 
 
 class Program:
-    """A test as a program, with the program's names for what the test has."""
+    """A test as a program, with the program's names for the test's parts."""
 
     def __init__(self, test: Test) -> None:
         self.test = test

@@ -1,4 +1,5 @@
-"""What a litmus test says: expressions, statements, threads and the condition on the final state."""
+"""The parts of a litmus test: expressions, statements, threads, the condition on the final
+state."""
 from dataclasses import dataclass
 from typing import Dict, List, Optional, Tuple, Union
 

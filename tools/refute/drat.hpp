@@ -100,7 +100,7 @@ class Drat {
         Ref* from = &head_of(clause);
         while (*from && !is_same(*from, clause)) from = &blocks.next(*from);
         const Ref ref = *from;
-        // What isn't there can't go, and what made a literal true stays: with more clauses nothing else is shown.
+        // A missing clause can't go, and a reason stays: more clauses show nothing else.
         if (!ref || state.is_reason(ref)) {
             deleted.push_back(0);
             return;

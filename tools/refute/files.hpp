@@ -139,7 +139,7 @@ class Backward {
         return true;
     }
 
-    // The bytes before, so many; nothing where there are none.
+    // The `length` bytes before; nullptr if there are fewer.
     const char* previous(size_t length) {
         while (at < length && start > 0) extend();
         if (at < length) return nullptr;
@@ -148,7 +148,7 @@ class Backward {
     }
 
    private:
-    // Reads what stands before the buffer: how many bytes that is.
+    // Reads the bytes before the buffer; returns their number.
     size_t extend() {
         const size_t more = static_cast<size_t>(std::min<uint64_t>(start, BLOCK));
         std::vector<char> wider(more + at);
@@ -212,7 +212,7 @@ class Text {
     bool is_closed = false;
 };
 
-// The numbers of a line, behind its first word where that is a letter; false where something else stands there.
+// The numbers of a line, after its first word if that is a letter; false if it has anything else.
 inline bool read_numbers(std::string_view line, std::vector<int64_t>& numbers) {
     numbers.clear();
     const char* at = line.data();

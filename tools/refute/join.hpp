@@ -16,7 +16,7 @@ class Joiner {
    public:
     Joiner(const List& list, Text& text) : list(list), text(text), follower(list) {}
 
-    // Puts a piece at the place of its cube, whose literals stand in the order of the splits.
+    // Puts a piece at the place of its cube, whose literals are in the order of the splits.
     void place(const std::string& path) {
         Lines lines(path);
         Node* node = &root;

@@ -204,7 +204,7 @@ class Writer {
         own = LEFT_OUT;
         for (const Literal literal : used) line.literals.push_back(-literal);
         sort_literals(line.literals);
-        // What has a literal of the cube itself is of no use in it.
+        // A clause with a literal of the cube itself is of no use in it.
         if (is_tautology(line.literals)) return;
         if (!line.literals.empty() && variable_of(line.literals.back()) > list.variables) {
             throw Refused("line " + std::to_string(line.line) + " names a variable that the clause list doesn't have");

@@ -29,7 +29,7 @@ class Propagation {
     // Watches a clause from now on; false where all its literals are false.
     bool watch(Ref ref) {
         const Span<Literal> clause = blocks[ref];
-        // What isn't false comes first, and then what became false last.
+        // Literals that aren't false come first, then those that became false last.
         for (size_t k = 0; k < std::min<size_t>(2, clause.size()); ++k) {
             size_t best = k;
             for (size_t other = k + 1; other < clause.size(); ++other) {

@@ -1,5 +1,6 @@
-// What a clause list of `cnf` asks of the order of events: read off its clauses, whose numbering is that of crates/bit_order and
-// crates/bit_blast. A wrong reading only makes worse cubes.
+// The questions of a clause list of `cnf` about the order of events: read off its clauses, whose
+// numbering is that of crates/bit_order and crates/bit_blast. A wrong reading only makes worse
+// cubes.
 #pragma once
 #include <map>
 #include <optional>

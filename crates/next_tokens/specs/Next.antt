@@ -1,4 +1,4 @@
--- Where words stop being a program's, and which tokens could stand there.
+-- Where words stop being a program's, and which tokens are possible there.
 use Rattle.std.specs.Prelude.{◌≡◌, ◌↔◌, ◌⊎◌, true, ℕ, pos, List, [], ◌∷◌, ◌++◌, map, take}
 use Rattle.tc_lexer.specs.declared.token.Keyword.{Keyword as AnyKeyword}
 use Rattle.tc_lexer.specs.declared.token.Keyword.TheVariants.{Int, Mutex, Cond, Thread, Main, Tid, If, Else, While, Create, Join, Lock, Unlock, Wait, Signal}
@@ -23,7 +23,7 @@ all_signs = OpenParen ∷ CloseParen ∷ OpenBracket ∷ CloseBracket ∷ OpenBr
     ∷ Plus ∷ Minus ∷ Star ∷ Slash ∷ Percent ∷ Bang ∷ Tilde ∷ Less ∷ LessEqual ∷ Greater ∷ GreaterEqual ∷ EqualEqual
     ∷ BangEqual ∷ ShiftLeft ∷ ShiftRight ∷ And ∷ Caret ∷ Or ∷ AndAnd ∷ OrOr ∷ []
 
--- each kind of token once; 0 stands for every number
+-- each kind of token once; 0 represents every number
 abbrev pub all_kinds : List TokenKind
 all_kinds = kind.Name ∷ kind.Number (pos 0) ∷ (map kind.Keyword all_keywords ++ map kind.Sign all_signs)
 
@@ -35,7 +35,7 @@ sample k = kind_word k 0 0 (record { line = 1; col = 1 })
 abbrev pub GoesOnWith : List Word → TokenKind → Type 0
 GoesOnWith before k = Begins 3 (before ++ sample k ∷ [])
 
--- of the first list those of which this holds, in its order
+-- the items of the first list of which this holds, in its order
 abbrev pub ArePicked : {A : Type 0} → (A → Type 0) → List A → List A → Type 0
 ArePicked {A} P [] picked = picked ≡ []
 ArePicked {A} P (x ∷ xs) picked =
@@ -45,9 +45,10 @@ ArePicked {A} P (x ∷ xs) picked =
 abbrev pub AreProgram : List Word → Type 0
 AreProgram words = (p : Program) × IsSpelled 3 words p
 
--- no program goes on with the word at this place; of all kinds of tokens those could stand there with which one does
+-- no program goes on with the word at this place; the kinds possible there are those with which
+-- some program goes on
 pub record IsStuck (words : List Word) (stuck : Stuck) : Type 0 where
   pub fault : IsSyntaxFault 3 words stuck.place
   pub kinds : ArePicked (GoesOnWith (take stuck.place words)) all_kinds stuck.kinds.items
-  -- the text may end there where the words before it are a program
+  -- the text may end there exactly if the words before it are a program
   pub end : (stuck.may_end ≡ true) ↔ AreProgram (take stuck.place words)

@@ -1,4 +1,4 @@
--- What could stand where a text stops being a program.
+-- The tokens that are possible where a text stops being a program.
 use Rattle.std.specs.Prelude.{◌≡◌, ℕ, List, Option, Some, None}
 use Rattle.tc_lexer.specs.declared.token.Token.{Token}
 use Rattle.tc_lexer.specs.Text.{AreTokens}
@@ -10,7 +10,7 @@ use Rattle.tc_parser.specs.declared.fault.TextFault.TheVariants.{Parse}
 use Rattle.next_tokens.specs.Next.{IsStuck}
 use Rattle.next_tokens.specs.declared.stuck.Stuck.{Stuck}
 
--- of a syntax fault it is told what could stand there, and of no other fault
+-- a syntax fault has the tokens that are possible there; other faults have none
 abbrev pub Tells : (text : List ℕ) → TextFault → Option Stuck → Type 0
 Tells text (Parse (Syntax place)) None = ⊥
 Tells text (Parse (Syntax place)) (Some stuck) =

@@ -2,7 +2,7 @@
 
 use tc_lexer::{Keyword, Sign, TokenKind};
 
-/// Each kind of token once; 0 stands for every number.
+/// Each kind of token once; 0 represents every number.
 pub static ALL_KINDS: [TokenKind; 52] = [
     TokenKind::Name,
     TokenKind::Number(0),

@@ -1,4 +1,4 @@
-//! Where the words of a text stop being a program's, and which kinds of tokens could stand there.
+//! Where the words of a text stop being a program's, and which kinds of tokens are possible there.
 #![tactic(auto)]
 
 mod kinds;

@@ -1,4 +1,4 @@
-//! The first word with which no program goes on, and what could stand in its place.
+//! The first word with which no program goes on, and the tokens that are possible in its place.
 ghost use Rattle.std.specs.Prelude.{◌≡◌, ◌↔◌, ◌++◌, ◌∷◌, [], true, IfOk, MatchOption, OnOk, if◌then◌else◌};
 ghost use Rattle.tc_tree.specs.Grammar.{Begins, IsSyntaxFault};
 ghost use Rattle.next_tokens.specs.Next.{all_kinds, sample, AreProgram, ArePicked, GoesOnWith, IsStuck};
@@ -13,15 +13,15 @@ use tc_tree::Word;
 /// Where words stop being a program's.
 #[derive(Debug, Drop)]
 pub struct Stuck {
-    /// How many words stand before the first with which no program goes on.
+    /// The number of words before the first with which no program goes on.
     pub place: usize,
-    /// The kinds of tokens that could stand there, in the order of [`ALL_KINDS`].
+    /// The kinds of tokens that are possible there, in the order of [`ALL_KINDS`].
     pub kinds: Vec<TokenKind>,
     /// Whether the text could end there.
     pub may_end: bool,
 }
 
-/// Where the words stop being a program's, or `None` where they are a program.
+/// Where the words stop being a program's, or `None` if they are a program.
 pub fn find_stuck(alloc: Global, words: &[Word]) -> Result<Option<Stuck>, AllocError>
     ensures { IfOk result (λ stuck. MatchOption stuck (AreProgram words.now) (IsStuck words.now)) }
 {
@@ -32,7 +32,8 @@ pub fn find_stuck(alloc: Global, words: &[Word]) -> Result<Option<Stuck>, AllocE
     }
 }
 
-/// How many words are left at the first with which no program goes on, or `None` where they are a program.
+/// The number of words left from the first with which no program goes on, or `None` if they are a
+/// program.
 fn words_left(alloc: Global, words: &[Word]) -> Result<Option<usize>, AllocError>
     ensures { IfOk result (IsLeft words.now) }
 {
@@ -43,7 +44,7 @@ fn words_left(alloc: Global, words: &[Word]) -> Result<Option<usize>, AllocError
     }
 }
 
-/// What could stand at a place where words stop being a program's.
+/// The kinds of tokens that are possible at a place where words stop being a program's.
 fn stuck_at(alloc: Global, words: &[Word], place: usize) -> Result<Stuck, AllocError>
     requires { IsSyntaxFault 3 words.now place }
     ensures { IfOk result (IsStuck words.now) }
@@ -58,7 +59,7 @@ fn stuck_at(alloc: Global, words: &[Word], place: usize) -> Result<Stuck, AllocE
     })
 }
 
-/// Of all kinds of tokens those with which a program goes on after these words.
+/// The kinds of tokens with which some program goes on after these words.
 fn kinds_after(alloc: Global, before: &[Word]) -> Result<Vec<TokenKind>, AllocError>
     ensures { IfOk result (λ found. ArePicked (GoesOnWith before.now) all_kinds found.items) }
 {

@@ -1,4 +1,4 @@
-//! What could stand where a text stops being a program.
+//! The tokens that are possible where a text stops being a program.
 ghost use Rattle.std.specs.Prelude.{◌≡◌, ◌≤◌, length, IfOk};
 ghost use Rattle.tc_limits.specs.declared.limits.TheConstants.{PROGRAM_BYTES};
 ghost use Rattle.tc_lexer.specs.Text.{AreTokens};
@@ -14,7 +14,7 @@ use tc_lexer::{Token, Tokens, lex};
 use tc_parser::{ParseFault, TextFault};
 use tc_tree::Word;
 
-/// What could stand at the fault of a text, where it is one of syntax.
+/// The tokens that are possible at the fault of a text, if it is one of syntax.
 pub fn stuck_of(alloc: Global, text: &[u8], fault: &TextFault) -> Result<Option<Stuck>, AllocError>
     requires size { length text.now ≤ PROGRAM_BYTES }
     requires fault { IsTextFault 3 text.now fault.now }

@@ -7,7 +7,7 @@ const NO_TEXT: &str = "this is not text: is it the right file?";
 
 const PLAIN: &str = "outside comments a program has only ASCII letters, digits and signs";
 
-/// What is written in place of bytes that begin no token.
+/// What to write in place of bytes that begin no token.
 pub(crate) fn bytes_hint(fault: &LexFault, rest: &[u8]) -> Option<&'static str> {
     match fault {
         LexFault::BadByte(_) => byte_hint(rest),
@@ -17,7 +17,7 @@ pub(crate) fn bytes_hint(fault: &LexFault, rest: &[u8]) -> Option<&'static str> 
     }
 }
 
-/// What is written in place of the byte at the front.
+/// What to write in place of the byte at the front.
 fn byte_hint(rest: &[u8]) -> Option<&'static str> {
     if rest.starts_with(b"\xef\xbb\xbf") {
         return Some("this is a byte order mark: save the text without it");
@@ -50,7 +50,7 @@ fn byte_hint(rest: &[u8]) -> Option<&'static str> {
     }
 }
 
-/// What is written in place of the letters and digits at the front.
+/// What to write in place of the letters and digits at the front.
 fn number_hint(rest: &[u8]) -> Option<&'static str> {
     let digits = rest.iter().take_while(|byte| byte.is_ascii_digit()).count();
     match rest {
@@ -70,7 +70,7 @@ fn is_letter(byte: u8) -> bool {
     byte.is_ascii_alphabetic() || byte == b'_'
 }
 
-/// What another kind of file begins with.
+/// Says of which other kind a file is, by its first bytes.
 pub(crate) fn kind_of_file(text: &[u8]) -> Option<&'static str> {
     if text.starts_with(b"CLPL") {
         return Some("this is a log, not a program");

@@ -1,11 +1,11 @@
-//! What there is too much of.
+//! Texts that pass a limit: of brackets, tokens in a stretch, cells, mutexes or conditions.
 
 use crate::source::Source;
 use tc_lexer::{Sign, Token, TokenKind};
 use tc_limits::limits::{BRACKETS, STRETCH};
 use tc_parser::What;
 
-/// Why there is too much of this.
+/// What to do where a text passes this limit.
 pub(crate) fn count_hint(what: What) -> &'static str {
     match what {
         What::Brackets =>
@@ -18,7 +18,7 @@ pub(crate) fn count_hint(what: What) -> &'static str {
     }
 }
 
-/// The token at which there is too much of this, if it is one.
+/// The token at which a text passes this limit, if it is at a token.
 pub(crate) fn count_token(source: Source, what: What) -> Option<Token> {
     let number = match what {
         What::Brackets => too_deep(source)?,
@@ -40,7 +40,7 @@ fn too_deep(source: Source) -> Option<usize> {
     None
 }
 
-/// How many brackets are open after one token more.
+/// The number of open brackets after one more token.
 fn open_after(open: usize, token: &Token) -> usize {
     match token.kind {
         TokenKind::Sign(Sign::OpenParen | Sign::OpenBracket | Sign::OpenBrace) => {
@@ -76,7 +76,7 @@ fn ends_stretch(token: &Token) -> bool {
     )
 }
 
-/// How many brackets are open at once at most.
+/// The most brackets that are open at once.
 pub(crate) fn most_open(source: Source) -> usize {
     let mut open: usize = 0;
     let mut most: usize = 0;
@@ -87,7 +87,7 @@ pub(crate) fn most_open(source: Source) -> usize {
     most
 }
 
-/// How many tokens the longest stretch has.
+/// The number of tokens in the longest stretch.
 pub(crate) fn longest_stretch(source: Source) -> usize {
     let mut length: usize = 0;
     let mut most: usize = 0;

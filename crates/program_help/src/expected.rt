@@ -1,4 +1,4 @@
-//! What could stand at a place, in the words of a person.
+//! The tokens that are possible at a place, in the words of a person.
 
 use next_tokens::Stuck;
 use std::alloc::{AllocError, Global};
@@ -12,9 +12,9 @@ enum Group {
     Global,
     /// The declarations of a body.
     Local,
-    /// What begins a statement.
+    /// Tokens that begin a statement.
     Statement,
-    /// What begins an expression.
+    /// Tokens that begin an expression.
     Expression,
     /// The operators between two operands.
     Operator,
@@ -30,7 +30,7 @@ static GROUPS: [Group; 5] = [
 ];
 
 impl Group {
-    /// Whether it has this kind.
+    /// Whether the group has this kind.
     fn has(self, kind: TokenKind) -> bool {
         match kind {
             TokenKind::Name => matches!(self, Group::Statement | Group::Expression),
@@ -60,7 +60,7 @@ impl Group {
         }
     }
 
-    /// How many kinds it has.
+    /// The number of its kinds.
     fn size(self) -> usize {
         match self {
             Group::Global => 3,
@@ -121,7 +121,8 @@ fn is_operator(sign: Sign) -> bool {
     )
 }
 
-/// What could stand there: groups that are there whole, then the other kinds, and the end of the text.
+/// The tokens that are possible: groups that are possible whole, then the other kinds, and the end
+/// of the text.
 pub(crate) fn expected_words(alloc: Global, stuck: &Stuck) -> Result<String, AllocError> {
     let kinds = stuck.kinds.as_slice();
     let mut words = Vec::new(alloc);
@@ -141,7 +142,7 @@ pub(crate) fn expected_words(alloc: Global, stuck: &Stuck) -> Result<String, All
     joined(alloc, words.as_slice())
 }
 
-/// Whether a kind is in a group that is there whole.
+/// Whether a kind is in a group that is possible whole.
 fn is_in_group(kinds: &[TokenKind], kind: TokenKind) -> bool {
     GROUPS
         .iter()

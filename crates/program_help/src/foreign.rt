@@ -18,7 +18,8 @@ const NO_TRUTH: &str = "there is no such name: write 1 for true, and 0 for false
 const ATOMIC: &str =
     "each load and each store of an `int` is atomic; `swap`, `cas`, `fence()` and `stbar()` do the rest";
 
-/// Words that people write from habit, or the beginning of some with a `*` behind it, and what is written here.
+/// Words that people write from habit, or the beginnings of some with a `*` behind, and what to
+/// write instead.
 static WORDS: [(&str, &str); 56] = [
     (
         "for",
@@ -129,7 +130,7 @@ static WORDS: [(&str, &str); 56] = [
     ),
 ];
 
-/// Whether a word is this one, or one of those that begin so.
+/// Whether a word is this one, or, if this one ends with `*`, begins as it does.
 fn is_word(word: &str, foreign: &str) -> bool {
     match foreign.strip_suffix("*") {
         Some(front) => word.starts_with(front),
@@ -137,7 +138,7 @@ fn is_word(word: &str, foreign: &str) -> bool {
     }
 }
 
-/// What is written in place of a word that other languages have.
+/// What to write in place of a word that other languages have.
 pub(crate) fn foreign_hint(word: &str) -> Option<&'static str> {
     WORDS
         .iter()

@@ -58,8 +58,8 @@ const COMPARE: &str = "`=` stores, `==` compares";
 
 const CHAIN: &str = "an assignment has no value: write two statements";
 
-/// Tokens, and what is written in their place. The one with `@` before it is that with which no program goes on; `NAME` is any
-/// name, and `_` any token.
+/// Tokens, each row with a hint what to write instead. `@` marks the token with which no program
+/// goes on; `NAME` is any name, and `_` any token.
 static HABITS: [(&str, &str); 77] = [
     ("int @main", MAIN),
     ("main @(", MAIN),
@@ -173,7 +173,7 @@ static HABITS: [(&str, &str); 77] = [
     ("NAME @(", FUNCTION),
 ];
 
-/// Whether the tokens round that of a number are those of a habit.
+/// Whether the tokens around this number match a habit.
 fn is_at(source: Source, number: usize, habit: &str) -> bool {
     let Some(marked) = habit.split(' ').position(|word| word.starts_with("@")) else {
         return false;
@@ -190,7 +190,7 @@ fn is_at(source: Source, number: usize, habit: &str) -> bool {
     true
 }
 
-/// Whether the token of a number is this word of a habit.
+/// Whether the token with this number matches this word of a habit.
 fn is_word(source: Source, number: usize, word: &str) -> bool {
     match word {
         "_" => number < source.tokens.len(),
@@ -199,7 +199,7 @@ fn is_word(source: Source, number: usize, word: &str) -> bool {
     }
 }
 
-/// What is written in place of the tokens round the first with which no program goes on.
+/// What to write in place of the tokens around the first with which no program goes on.
 pub(crate) fn syntax_hint(source: Source, stuck: &Stuck) -> Option<&'static str> {
     let number = stuck.place;
     foreign_hint(source.word(number))
@@ -219,12 +219,12 @@ fn habit_hint(source: Source, number: usize) -> Option<&'static str> {
         .map(|row| row.1)
 }
 
-/// Whether a token of this kind could stand there.
+/// Whether a token of this kind is possible there.
 fn has(stuck: &Stuck, kind: TokenKind) -> bool {
     stuck.kinds.as_slice().contains(&kind)
 }
 
-/// A semicolon that may be missing at the end of a line.
+/// Asks for a semicolon that may be missing at the end of the line before.
 fn line_hint(source: Source, stuck: &Stuck) -> Option<&'static str> {
     let is_missing = has(stuck, TokenKind::Sign(Sign::Semicolon))
         && source.begins_line(stuck.place);
@@ -235,7 +235,7 @@ fn line_hint(source: Source, stuck: &Stuck) -> Option<&'static str> {
     }
 }
 
-/// A declaration where none may stand.
+/// Says where a declaration belongs, if one is in the wrong place.
 fn declaration_hint(source: Source, stuck: &Stuck) -> Option<&'static str> {
     let word = source.word(stuck.place);
     let is_in_body = has(stuck, TokenKind::Keyword(Keyword::If));
@@ -259,7 +259,7 @@ fn declaration_hint(source: Source, stuck: &Stuck) -> Option<&'static str> {
     None
 }
 
-/// A body without its braces.
+/// Asks for braces around a body.
 fn brace_hint(source: Source, stuck: &Stuck) -> Option<&'static str> {
     let wants_brace = stuck.kinds.len() == 1 && has(stuck, TokenKind::Sign(Sign::OpenBrace));
     if !wants_brace || source.before(stuck.place, 1) != ")" {
@@ -272,7 +272,7 @@ fn brace_hint(source: Source, stuck: &Stuck) -> Option<&'static str> {
     }
 }
 
-/// What is missing at the end of the text.
+/// Says what is missing, or too much, at the end of the text.
 fn end_hint(source: Source, stuck: &Stuck) -> Option<&'static str> {
     if stuck.may_end {
         return Some("main comes last: nothing follows its closing brace");

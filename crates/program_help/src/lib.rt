@@ -1,4 +1,4 @@
-//! What is said of a program's text: why it is none, and what one has. No clause says how it is put in words.
+//! Explains why a text is no program, and describes a program. No clause gives the words.
 #![tactic(auto)]
 
 mod bytes;

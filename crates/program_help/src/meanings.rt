@@ -1,10 +1,10 @@
-//! What a name means where it is declared, and what it has to mean where it is used.
+//! The meaning that a declaration gives a name, and the meaning that its use asks for.
 
 use crate::source::Source;
 use std::alloc::{AllocError, Global};
 use tc_names::Meaning;
 
-/// What a declaration makes of a name.
+/// The meaning that a declaration gives a name.
 pub(crate) fn meaning_words(alloc: Global, meaning: Meaning) -> Result<String, AllocError> {
     let words = match meaning {
         Meaning::Global => "a global int",
@@ -22,7 +22,7 @@ pub(crate) fn meaning_words(alloc: Global, meaning: Meaning) -> Result<String, A
     String::from_str(alloc, words)
 }
 
-/// What the use of a name asks for.
+/// The meaning that the use of a name asks for.
 #[derive(Clone, Copy, PartialEq, Eq)]
 pub(crate) enum Wanted {
     /// A global int, a parameter or an int of the body.
@@ -52,7 +52,7 @@ impl Wanted {
         }
     }
 
-    /// What is written in place of a name that means something else.
+    /// What to write in place of a name that means something else.
     pub(crate) fn hint(self, meaning: Meaning) -> Option<&'static str> {
         match (self, meaning) {
             (Wanted::Global, _) => Some(
@@ -79,7 +79,7 @@ impl Wanted {
     }
 }
 
-/// What is asked of the name that is the token of this number.
+/// The meaning that is asked of the name with this number of a token.
 pub(crate) fn wanted_at(source: Source, number: usize) -> Wanted {
     if source.before(number, 1) == "create" {
         return Wanted::Thread;
@@ -101,7 +101,7 @@ pub(crate) fn wanted_at(source: Source, number: usize) -> Wanted {
     Wanted::Int
 }
 
-/// What a statement asks of the first name in its parentheses.
+/// The meaning that a statement asks of the first name in its parentheses.
 fn wanted_in(word: &str) -> Option<Wanted> {
     if word == "join" {
         Some(Wanted::Handle)
@@ -116,7 +116,7 @@ fn wanted_in(word: &str) -> Option<Wanted> {
     }
 }
 
-/// What is asked of the name on the left, by the word right of the `=`.
+/// The meaning that is asked of the name on the left, by the word right of the `=`.
 fn wanted_left(word: &str) -> Wanted {
     if word == "create" {
         Wanted::Handle

@@ -1,4 +1,4 @@
-//! What is wrong with a name.
+//! Explains what is wrong with a name.
 
 use crate::foreign::foreign_hint;
 use crate::meanings::{meaning_words, wanted_at};
@@ -47,7 +47,7 @@ impl<'a> Fault<'a> {
         known.name.text(self.source.text) == self.name().as_bytes()
     }
 
-    /// What the name means in a scope alone.
+    /// The meaning of the name in one scope.
     fn known_in(&self, scope: Scope) -> Option<Known> {
         self.known
             .iter()
@@ -55,7 +55,7 @@ impl<'a> Fault<'a> {
             .copied()
     }
 
-    /// A name without a declaration.
+    /// Explains a name without a declaration.
     pub(crate) fn unknown(&self, alloc: Global) -> Result<String, AllocError> {
         let name = self.name();
         let mut lines = format!(in alloc; "found: the name `{name}`, which isn't declared\n")?;
@@ -86,7 +86,7 @@ impl<'a> Fault<'a> {
         }
     }
 
-    /// The known name that is written most like this one, if one is.
+    /// The known name that is spelled most like this one, if one is close.
     fn nearest(&self, alloc: Global, name: &str) -> Result<Option<&'a str>, AllocError> {
         let mut best = None;
         let mut least = (name.len() / 4).saturating_add(1);
@@ -104,7 +104,7 @@ impl<'a> Fault<'a> {
         Ok(best)
     }
 
-    /// A name that is declared twice.
+    /// Explains a name that is declared twice.
     pub(crate) fn twice(&self, alloc: Global) -> Result<String, AllocError> {
         let name = self.name();
         let mut scope = Scope::Whole;
@@ -125,7 +125,7 @@ impl<'a> Fault<'a> {
         }
     }
 
-    /// A name of another kind than its use asks for, or the length 0.
+    /// Explains a name of another kind than its use asks for, or the length 0.
     pub(crate) fn kind(&self, alloc: Global) -> Result<String, AllocError> {
         let Some(known) = self.known_in(self.scope).or(self.known_in(Scope::Whole)) else {
             return String::from_str(alloc, "found: the length 0\nexpected: a number from 1 on\n");
@@ -140,7 +140,7 @@ impl<'a> Fault<'a> {
         Ok(lines)
     }
 
-    /// A thread with another number of arguments than it has parameters.
+    /// Explains a create whose number of arguments isn't that of the thread's parameters.
     pub(crate) fn arguments(&self, alloc: Global) -> Result<String, AllocError> {
         let Some(known) = self.known_in(Scope::Whole) else {
             return Ok(String::new(alloc));
@@ -159,7 +159,7 @@ impl<'a> Fault<'a> {
         format!(in alloc; "`{name}`, {meaning}, declared in line {line}")
     }
 
-    /// How many arguments stand in the parentheses after the name.
+    /// The number of arguments in the parentheses after the name.
     fn given(&self) -> usize {
         if self.source.after(self.number, 2) == ")" {
             return 0;

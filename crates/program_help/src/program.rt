@@ -1,4 +1,4 @@
-//! What a program has, and how near it is to its limits.
+//! Describes a program, and says how near it is to its limits.
 ghost use Rattle.std.specs.Prelude.{◌≤◌, length};
 ghost use Rattle.tc_limits.specs.declared.limits.TheConstants.{PROGRAM_BYTES};
 
@@ -12,7 +12,7 @@ use tc_limits::limits::{
 };
 use tc_tree::{Global, Initial, Name, Program};
 
-/// What is said of a program: its globals, its threads, and its limits.
+/// Describes a program: its globals, its threads, and its limits.
 pub fn describe(
     alloc: Heap,
     text: &[u8],
@@ -131,7 +131,7 @@ fn push_main(alloc: Heap, out: &mut String, source: Source, code: &Code) -> Resu
     push_row(alloc, out, line, words.as_str())
 }
 
-/// How many instructions of each kind a function has.
+/// The number of instructions of each kind in a function.
 fn function_words(alloc: Heap, function: &Func) -> Result<String, AllocError> {
     let instrs = function.instrs.as_slice();
     let whole = instrs.len();
@@ -208,7 +208,7 @@ fn push_code_limits(alloc: Heap, out: &mut String, code: &Code) -> Result<(), Al
     out.push_str(solved.as_str())
 }
 
-/// Adds how many there are of how many.
+/// Adds a count with its limit.
 fn push_limit(
     alloc: Heap,
     out: &mut String,

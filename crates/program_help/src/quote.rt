@@ -3,10 +3,10 @@
 use std::alloc::{AllocError, Global};
 use tc_lexer::Place;
 
-/// How many characters of a line are shown before the caret at most.
+/// The most characters of a line that are shown before the caret.
 const BEFORE: usize = 60;
 
-/// How many characters of a line are shown at most.
+/// The most characters of a line that are shown.
 const WIDTH: usize = 100;
 
 /// Adds the line of a place with its number, and a caret under the place.
@@ -33,7 +33,7 @@ pub(crate) fn push_quote(
     out.push_str("^\n")
 }
 
-/// Adds so many blanks.
+/// Adds `count` blanks.
 fn push_blanks(out: &mut String, count: usize) -> Result<(), AllocError> {
     for _ in 0..count {
         out.push(' ')?;
@@ -64,12 +64,13 @@ fn line_at(text: &[u8], number: u32) -> &[u8] {
     rest.get(..line_length(rest)).unwrap_or(rest)
 }
 
-/// How many bytes stand before the first line feed.
+/// The number of bytes before the first line feed.
 fn line_length(text: &[u8]) -> usize {
     text.iter().take_while(|byte| **byte != b'\n').count()
 }
 
-/// Bytes as they are shown: a blank stands for each control character, and a `?` for each character that isn't ASCII.
+/// Bytes as text: a blank in place of each control character, and a `?` in place of each character
+/// that isn't ASCII.
 pub(crate) fn legible(alloc: Global, bytes: &[u8]) -> Result<String, AllocError> {
     let mut out = String::new(alloc);
     for byte in bytes {

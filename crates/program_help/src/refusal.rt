@@ -1,4 +1,4 @@
-//! Why a text is no program.
+//! Explains why a text is no program.
 ghost use Rattle.std.specs.Prelude.{◌≤◌, length};
 ghost use Rattle.tc_limits.specs.declared.limits.TheConstants.{PROGRAM_BYTES};
 
@@ -16,8 +16,9 @@ use tc_parser::{ParseFault, TextFault, What};
 use tc_syntax::read_program;
 use tc_tree::{Program, Word};
 
-/// What is said of a text that is no program by this fault: the line with a caret, what was found, what could stand there, and
-/// what people mean who write so. Of a syntax fault it is known where words stop being a program's.
+/// Explains this fault of a text: the line with a caret, the token that was found, the tokens that
+/// are possible there, and a hint. For a syntax fault, `stuck` says where the words stop being a
+/// program's.
 pub fn explain(
     alloc: Global,
     text: &[u8],
@@ -41,7 +42,7 @@ pub fn explain(
     }
 }
 
-/// Of a text without tokens.
+/// Explains a text that has no tokens.
 fn lex_lines(alloc: Global, text: &[u8], fault: &LexFault) -> Result<String, AllocError> {
     let place = match fault {
         LexFault::BadByte(place) | LexFault::Number(place) | LexFault::OpenComment(place) => *place,
@@ -64,7 +65,7 @@ fn lex_lines(alloc: Global, text: &[u8], fault: &LexFault) -> Result<String, All
     Ok(out)
 }
 
-/// What no token begins with.
+/// The bytes with which no token begins, in words.
 fn found_bytes(alloc: Global, fault: &LexFault, rest: &[u8]) -> Result<String, AllocError> {
     let count = match fault {
         LexFault::Number(_) => word_length(rest),
@@ -80,14 +81,14 @@ fn found_bytes(alloc: Global, fault: &LexFault, rest: &[u8]) -> Result<String, A
     }
 }
 
-/// How many letters and digits stand at the front.
+/// The number of letters, digits and `_` at the front.
 fn word_length(rest: &[u8]) -> usize {
     rest.iter()
         .take_while(|byte| byte.is_ascii_alphanumeric() || **byte == b'_')
         .count()
 }
 
-/// Of a text whose tokens are no program.
+/// Explains a text whose tokens are no program.
 fn parse_lines(
     alloc: Global,
     source: Source,
@@ -113,7 +114,7 @@ fn parse_lines(
     Ok(out)
 }
 
-/// Adds what stands where no program goes on, and what could stand there.
+/// Adds the token with which no program goes on, the tokens that are possible there, and a hint.
 fn push_stuck(
     alloc: Global,
     out: &mut String,
@@ -151,7 +152,7 @@ fn found_token(alloc: Global, source: Source, number: usize) -> Result<String, A
     }
 }
 
-/// Adds where there is too much of something.
+/// Adds where a text passes a limit, and a hint.
 fn push_count(
     alloc: Global,
     out: &mut String,
@@ -185,7 +186,7 @@ fn push_name(
     out.push_str(lines.as_str())
 }
 
-/// The program that tokens are, without a look at its names.
+/// The program of these tokens, whatever its names mean; `None` if they are no program.
 fn program_of(alloc: Global, tokens: &[Token]) -> Result<Option<Program>, AllocError> {
     let words: Vec<Word> = tokens.iter().map(Word::new).collect(alloc)?;
     match read_program(alloc, words.as_slice()) {
@@ -194,12 +195,12 @@ fn program_of(alloc: Global, tokens: &[Token]) -> Result<Option<Program>, AllocE
     }
 }
 
-/// Adds a line with its head.
+/// Adds a line: its head, a colon, its words.
 fn push_line(alloc: Global, out: &mut String, head: &str, words: &str) -> Result<(), AllocError> {
     out.push_str(format!(in alloc; "{head}: {words}\n")?.as_str())
 }
 
-/// Adds what people mean who write so, where it is known.
+/// Adds the hint, if there is one.
 fn push_hint(alloc: Global, out: &mut String, hint: Option<&str>) -> Result<(), AllocError> {
     match hint {
         Some(hint) => push_line(alloc, out, "hint", hint),

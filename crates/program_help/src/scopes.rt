@@ -82,7 +82,7 @@ fn push_locals(known: &mut Vec<Known>, body: &Body, scope: Scope) -> Result<(), 
     Ok(())
 }
 
-/// The body that a place is in.
+/// The body that contains a place.
 pub(crate) fn scope_at(program: &Program, place: Place) -> Scope {
     for thread in &program.threads {
         if is_before(place, thread.name.place) {

@@ -12,7 +12,7 @@ pub(crate) struct Source<'a> {
 }
 
 impl<'a> Source<'a> {
-    /// The token of this number, from 0, as it is written, and nothing past the last one.
+    /// The text of the token with this number, from 0; empty past the last one.
     pub(crate) fn word(&self, number: usize) -> &'a str {
         match self.tokens.get(number) {
             Some(token) => word_of(self.text, &name_of(token)),
@@ -20,7 +20,7 @@ impl<'a> Source<'a> {
         }
     }
 
-    /// The token so far before another one.
+    /// The token `distance` places before another one; empty if there is none.
     pub(crate) fn before(&self, number: usize, distance: usize) -> &'a str {
         match number.checked_sub(distance) {
             Some(earlier) => self.word(earlier),
@@ -28,7 +28,7 @@ impl<'a> Source<'a> {
         }
     }
 
-    /// The token so far after another one.
+    /// The token `distance` places after another one; empty if there is none.
     pub(crate) fn after(&self, number: usize, distance: usize) -> &'a str {
         self.word(number.saturating_add(distance))
     }
@@ -41,7 +41,7 @@ impl<'a> Source<'a> {
         }
     }
 
-    /// The number of the token that begins at a place, or how many there are.
+    /// The number of the token that begins at a place, or the number of tokens if none does.
     pub(crate) fn number_at(&self, place: Place) -> usize {
         self.tokens
             .iter()

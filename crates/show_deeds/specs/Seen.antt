@@ -1,4 +1,4 @@
--- What deeds make of memory, and which stores wait in buffers.
+-- Memory after deeds, and the stores that wait in buffers.
 use Rattle.std.specs.Prelude.{ℕ, ◌==◌, ℤ, pos, Bool, true, not, ◌&&◌, List, [], ◌∷◌, ◌++◌, Option, Some, None}
 use Rattle.std.specs.Prelude.{slice_set, slice_index_or, unwrap_or, fold, bytes_eq, if◌then◌else◌}
 use Rattle.std.specs.List.{filter}
@@ -26,11 +26,11 @@ abbrev pub written : List ℤ → Option Entry → List ℤ
 written memory None = memory
 written memory (Some e) = slice_set memory e.cell e.value
 
--- whether it is another store than that of a thread's step of that number
+-- whether it isn't the store of a thread's step with that number
 abbrev pub is_other : Name → ℕ → Stored → Bool
 is_other n k s = not (bytes_eq s.thread n && s.number == k)
 
--- the stores that wait after a deed: also one that it issues, and no longer the one that drains
+-- the stores that wait after a deed: one that it issues is added, one that drains is taken out
 abbrev pub waiting_after : Bool → List Stored → Deed → List Stored
 waiting_after buffered ws (Did n k (Write c v) took other) =
     if buffered then ws ++ record { thread = n; number = k; cell = c; value = v } ∷ [] else ws
@@ -53,7 +53,8 @@ abbrev pub first_by : Name → Option ℕ → List Stored → Option Stored
 first_by n form [] = None
 first_by n form (w ∷ ws) = if bytes_eq w.thread n && is_by form w.cell then Some w else first_by n form ws
 
--- what a thread's request takes from this memory and its own buffer, and 0 where it takes nothing
+-- the value that a thread's request takes from this memory and its own buffer, or 0 if it takes
+-- none
 abbrev pub taken_by : {B : Type 0} → BufferOps B → List ℤ → Thread B → Request → ℤ
 taken_by ops memory t (Read c) = unwrap_or (ops.forward t.buffer c) (slice_index_or memory c (pos 0))
 taken_by ops memory t (Exchange c v) = slice_index_or memory c (pos 0)

@@ -1,4 +1,4 @@
-//! Deeds: what moves did.
+//! Deeds: the effects of moves.
 ghost use Rattle.std.specs.Prelude.{◌≡◌, IfOk};
 ghost use Rattle.show_deeds.specs.Deeds.{doer};
 
@@ -10,13 +10,13 @@ use tc_base::{Request, ThreadName};
 pub struct Step {
     /// The thread.
     pub thread: ThreadName,
-    /// How many steps the thread had done before.
+    /// The number of steps that the thread had done before.
     pub number: u32,
-    /// What the step asks.
+    /// The request of the step.
     pub asks: Request,
-    /// The value that it takes from memory or from its own buffer, and 0 where it takes none.
+    /// The value that it takes from memory or from its own buffer, or 0 if it takes none.
     pub took: i32,
-    /// The thread that it wakes or creates, if it does.
+    /// The thread that it wakes or creates, if any.
     pub other: Option<ThreadName>,
 }
 
@@ -25,7 +25,7 @@ pub struct Step {
 pub struct Stored {
     /// The thread.
     pub thread: ThreadName,
-    /// How many steps the thread had done before that of the store.
+    /// The number of steps that the thread had done before that of the store.
     pub number: u32,
     /// The cell.
     pub cell: u32,
@@ -33,7 +33,7 @@ pub struct Stored {
     pub value: i32,
 }
 
-/// What a move did.
+/// The effect of a move.
 #[derive(Drop)]
 pub enum Deed {
     /// A thread did a step.
@@ -53,7 +53,8 @@ impl Deed {
         }
     }
 
-    /// The number of the step in its thread, from 0; of a drain that of the step which issued the store.
+    /// The number of the step in its thread, from 0; for a drain, that of the step which issued the
+    /// store.
     pub fn number(&self) -> u32 {
         match self {
             Deed::Did(step) => step.number,

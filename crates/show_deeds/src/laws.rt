@@ -1,4 +1,4 @@
-//! What deeds tell is what a run did. Each function's clause is a law, and its body does nothing.
+//! Deeds agree with the run. Each function's clause is a law, and its body does nothing.
 ghost use Rattle.std.specs.Prelude.{◌≡◌, List, Option, Some, IsSomeAnd, ℕ, true};
 ghost use Rattle.std.specs.FinMap as fin;
 ghost use Rattle.tc_base.specs.Buffers.{BufferOps};

@@ -1,4 +1,4 @@
-//! What moves did, as values, and what that makes of memory and of the stores that wait in buffers.
+//! Deeds of moves as values, and memory and the stores that wait in buffers after them.
 #![tactic(auto)]
 
 mod deed;

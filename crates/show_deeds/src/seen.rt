@@ -1,4 +1,4 @@
-//! Memory and the stores that wait, as deeds tell them.
+//! Memory and the stores that wait, after deeds.
 ghost use Rattle.std.specs.Prelude.{◌≡◌, [], IfOk, OnOk, OnErr, option_map, pos, slice_index_or, slice_set};
 ghost use Rattle.std.specs.List.{filter};
 ghost use Rattle.show_deeds.specs.Deeds.{plain_deed};
@@ -14,7 +14,7 @@ use tc_base::{Request, ThreadName};
 use tc_code::Code;
 use tc_threads::Thread;
 
-/// What deeds made of memory, and the stores that wait in buffers, oldest first.
+/// Memory after deeds, and the stores that wait in buffers, oldest first.
 #[derive(Drop)]
 pub struct Seen {
     memory: Vec<i32>,
@@ -54,7 +54,7 @@ impl Seen {
         self.waiting.as_slice()
     }
 
-    /// What a thread's request takes, and 0 where it takes nothing.
+    /// The value that a thread's request takes, or 0 if it takes none.
     pub fn taken<M: MemoryModel>(&self, thread: &Thread<M>, asks: Request) -> i32
         ensures { result ≡ taken_by M.ops self.now.memory thread.now asks }
     {
@@ -94,7 +94,7 @@ impl Seen {
         None
     }
 
-    /// Takes in a deed, by whether there are buffers.
+    /// Takes in a deed, given whether there are buffers.
     pub fn take(&mut self, buffered: bool, deed: &Deed) -> Result<(), AllocError>
         ensures ok { OnOk result (self.new ≡ seen_after buffered self.old (plain_deed deed.now)) }
         ensures err { OnErr result (self.new ≡ self.old) }
@@ -147,7 +147,7 @@ impl Seen {
         }
     }
 
-    /// The store of a thread's step of that number waits no longer.
+    /// Takes out the store of a thread's step with that number, which waits no longer.
     fn remove(&mut self, thread: &ThreadName, number: u32)
         ensures { self.new ≡ record self.old { waiting = filter (is_other thread.now number) self.old.waiting } }
     {
@@ -155,14 +155,14 @@ impl Seen {
     }
 }
 
-/// Takes out the store of a thread's step of that number.
+/// Takes out the store of a thread's step with that number.
 fn keep_others(waiting: &mut Vec<Stored>, thread: &ThreadName, number: u32)
     ensures { waiting.new.items ≡ filter (is_other thread.now number) waiting.old.items }
 {
     waiting.retain(|other| is_other(other, thread, number));
 }
 
-/// Whether it is another store than that of a thread's step of that number.
+/// Whether it isn't the store of a thread's step with that number.
 fn is_other(stored: &Stored, thread: &ThreadName, number: u32) -> bool
     ensures { result ≡ is_other thread.now number stored.now }
 {

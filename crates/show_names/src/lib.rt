@@ -1,4 +1,4 @@
-//! The names of what a program's code numbers, and the lines of its text, as a reader is shown them.
+//! Names for the numbers of a program's code, and the lines of its text, as they are shown.
 #![tactic(auto)]
 
 mod body;

@@ -10,7 +10,7 @@ use tc_tree::Tree;
 
 /// What the text calls a cell, a mutex, a condition, a slot or a thread variable of its code, the text's lines, and its digest.
 ///
-/// What has no name is shown as `?`: a slot that the code keeps for a value of its own, a number past the last.
+/// `?` is shown where there is no name: for a slot of the code's own, and a number past the last.
 #[derive(Drop)]
 pub struct Names {
     digest: String,
@@ -37,8 +37,8 @@ impl Names {
         self.digest.as_str()
     }
 
-    /// The line of that number, from 1, without comments and the blanks at its ends, and cut off where it is longer than 60
-    /// characters.
+    /// The line with this number, from 1, without comments and the blanks at its ends, and cut off
+    /// if it is longer than 60 characters.
     pub fn line(&self, number: u32) -> &str {
         match number.checked_sub(1) {
             Some(place) => named(self.lines.get(place as usize)),
@@ -105,7 +105,7 @@ impl Names {
     }
 }
 
-/// The name, where there is one.
+/// The name, or `?` if there is none.
 fn named(name: Option<&String>) -> &str {
     match name {
         Some(name) => name.as_str(),

@@ -7,7 +7,8 @@ use std::str;
 /// The most characters of a line that are shown.
 const WIDTH: usize = 60;
 
-/// The lines of a text, each without comments and without the blanks at its ends, and cut off where it is too long.
+/// The lines of a text, each without comments and without the blanks at its ends, and cut off if it
+/// is too long.
 pub(crate) fn lines_of(alloc: Global, text: &[u8]) -> Result<Vec<String>, AllocError> {
     let mut lines = Vec::new(alloc);
     let mut start = 0;
@@ -22,7 +23,8 @@ pub(crate) fn lines_of(alloc: Global, text: &[u8]) -> Result<Vec<String>, AllocE
     Ok(lines)
 }
 
-/// A line as it is shown, and whether a comment is open behind it, by whether one is before it.
+/// A line as it is shown, and whether a comment is open after it, given whether one is open before
+/// it.
 fn line_of(alloc: Global, line: &[u8], is_open: &mut bool) -> Result<String, AllocError> {
     let code = without_comments(alloc, line, is_open)?;
     let whole = shown(alloc, trimmed(code.as_slice()))?;
@@ -37,7 +39,8 @@ fn line_of(alloc: Global, line: &[u8], is_open: &mut bool) -> Result<String, All
     Ok(cut)
 }
 
-/// A line with a blank in the place of each comment, and whether one is open behind it, by whether one is before it.
+/// A line with a blank in place of each comment, and whether one is open after it, given whether
+/// one is open before it.
 fn without_comments(alloc: Global, line: &[u8], is_open: &mut bool) -> Result<Vec<u8>, AllocError> {
     let mut code = Vec::new(alloc);
     let mut rest = line;
@@ -75,8 +78,8 @@ fn trimmed(line: &[u8]) -> &[u8] {
     rest
 }
 
-/// Bytes as text: a blank stands for each control character, and where they are no UTF-8, a question mark for each byte that
-/// isn't ASCII.
+/// Bytes as text, with a blank in place of each control character. If they aren't UTF-8, each byte
+/// that isn't ASCII becomes a question mark.
 pub(crate) fn shown(alloc: Global, bytes: &[u8]) -> Result<String, AllocError> {
     let mut text = String::new(alloc);
     match str::from_utf8(bytes) {
@@ -99,7 +102,7 @@ fn is_control(c: char) -> bool {
     c < ' ' || ('\u{7f}'..='\u{9f}').contains(&c)
 }
 
-/// A byte as a character of its own.
+/// A byte as a character.
 fn ascii(byte: u8) -> char {
     match byte {
         0x20..=0x7e => byte as char,

@@ -2,7 +2,7 @@
 
 use std::alloc::AllocError;
 
-/// Adds a text, in which no character means anything to HTML.
+/// Adds a text, with each character escaped that has a meaning in HTML.
 pub(crate) fn push_text(out: &mut String, text: &str) -> Result<(), AllocError> {
     for c in text.chars() {
         match c {

@@ -1,6 +1,6 @@
-//! What each page of a schedule has, whatever its moves.
+//! The parts that every page of a schedule has, whatever its moves.
 
-/// What one can do with the moves.
+/// The buttons for the moves.
 pub(crate) const TOOLS: &str = r#"<div class="tools">
 <label>show <select id="filter"><option value="">all moves</option></select></label>
 <button type="button" id="each" aria-pressed="false">each step <kbd>m</kbd></button>
@@ -11,7 +11,7 @@ pub(crate) const TOOLS: &str = r#"<div class="tools">
 </div>
 "#;
 
-/// What the arrows mean.
+/// The meaning of the arrows.
 pub(crate) const ARROWS: &str = r#"<h2>arrows</h2>
 <div class="key">
 <span><svg viewBox="0 0 35 11"><path class="take" d="M1 5H34M29 1L34 5L29 9"/></svg>value that is taken</span>

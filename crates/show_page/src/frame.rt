@@ -1,4 +1,4 @@
-//! What both pages begin and end with.
+//! The beginning and the end of both kinds of pages.
 
 use crate::escape::push_text;
 use crate::style::STYLE;

@@ -10,15 +10,15 @@ use tc_base::{Request, ThreadName};
 #[derive(Drop)]
 pub(crate) struct Lane {
     pub(crate) title: String,
-    /// Where the thread is when the schedule ends, unless it has exited.
+    /// The place of the thread when the schedule ends, unless it has exited.
     pub(crate) end: Option<End>,
 }
 
-/// Where a thread is when the schedule ends.
+/// The place of a thread when the schedule ends.
 #[derive(Clone, Copy)]
 pub(crate) struct End {
     pub(crate) line: u32,
-    /// What its next step asks.
+    /// The request of its next step.
     pub(crate) asks: Request,
 }
 
@@ -29,7 +29,7 @@ pub(crate) struct Lanes {
 }
 
 impl Lanes {
-    /// The lanes of a run: of each thread that moved, and of each that hasn't exited, which may not have moved at all.
+    /// The lanes of a run: one for each thread that moved or hasn't exited.
     pub(crate) fn of(
         alloc: Global,
         program: Program<'_>,
@@ -51,7 +51,7 @@ impl Lanes {
         Ok(lanes)
     }
 
-    /// Adds the lane of a thread that does a function, where it has none.
+    /// Adds the lane of a thread that does a function, if it has none yet.
     fn add(
         &mut self,
         alloc: Global,

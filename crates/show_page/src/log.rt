@@ -7,8 +7,8 @@ use run_log::Log;
 use show_words::{Program, Went, ending_words, walk_title, walk_words};
 use std::alloc::{AllocError, Global};
 
-/// The page of a log: a lane for each thread, with the lines that it went along and the outcomes of its branches.
-/// The title names the program so.
+/// The page of a log: a lane for each thread, with the lines of its path and the outcomes of its
+/// branches. `name` is the program's name in the title.
 pub fn log_page(
     alloc: Global,
     name: &str,

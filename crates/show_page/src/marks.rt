@@ -1,4 +1,4 @@
-//! Marks: what a row tells the page's script beside its words.
+//! Marks: the facts of a row that the page's script reads beside its words.
 
 use show_deeds::Deed;
 use show_rows::Row;
@@ -13,9 +13,9 @@ pub(crate) struct Access {
     /// `load`, `store`, `issue` of a store that then waits in a buffer, or `drain`.
     pub(crate) kind: &'static str,
     pub(crate) cell: u32,
-    /// The value that is taken, if one is.
+    /// The value that it takes, if any.
     pub(crate) took: Option<i32>,
-    /// The value that is put, if one is.
+    /// The value that it puts, if any.
     pub(crate) put: Option<i32>,
 }
 
@@ -48,7 +48,8 @@ impl Access {
     }
 }
 
-/// A row's access of a cell, if it has one. An exchange that puts a value is a store, and else a load.
+/// A row's access of a cell, if it has one. An exchange that puts a value is a store, any other a
+/// load.
 pub(crate) fn access_of(row: &Row, buffered: bool) -> Option<Access> {
     match &row.deed {
         Deed::Drained(stored) => Some(Access::store("drain", stored.cell, stored.value)),
@@ -69,7 +70,7 @@ pub(crate) fn access_of(row: &Row, buffered: bool) -> Option<Access> {
     }
 }
 
-/// What a step does with a mutex, a condition or another thread.
+/// The effect of a step on a mutex, a condition or another thread.
 #[derive(Clone, Copy)]
 pub(crate) struct Synchronization {
     /// `lock`, `unlock`, `sleep`, `wake`, `signal`, `broadcast`, `create`, `join` or `exit`.
@@ -87,7 +88,7 @@ impl Synchronization {
         }
     }
 
-    /// What a step does that asks this, if it does.
+    /// The effect of a step with this request, if it has one.
     pub(crate) fn of(asks: Request) -> Option<Synchronization> {
         let new = Synchronization::new;
         match asks {
@@ -107,7 +108,7 @@ impl Synchronization {
     }
 }
 
-/// What a row's move asks: a drain nothing.
+/// The request of a row's move; a drain has none.
 pub(crate) fn asks_of(row: &Row) -> Request {
     match &row.deed {
         Deed::Did(step) => step.asks,
@@ -126,7 +127,7 @@ pub(crate) fn other_of(row: &Row) -> Result<Option<ThreadName>, AllocError> {
     }
 }
 
-/// The child whose end a thread's step asks for, if it does.
+/// The child whose end a thread's step waits for, if it is a join.
 pub(crate) fn awaited_by(
     thread: &ThreadName,
     asks: Request,
@@ -137,7 +138,7 @@ pub(crate) fn awaited_by(
     }
 }
 
-/// The int of the program that a row's step sets, if it sets one.
+/// The int of the program that a row's step sets, if any.
 pub(crate) fn int_set<'a>(program: Program<'a>, row: &Row) -> Option<&'a str> {
     match (
         &row.deed,

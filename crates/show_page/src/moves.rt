@@ -1,4 +1,4 @@
-//! The rows of a page, as they are written one after another.
+//! The rows of a page, written one after another.
 
 use crate::escape::push_text;
 use crate::lanes::Lanes;
@@ -42,8 +42,8 @@ impl<'a> Moves<'a> {
         self.out.as_str()
     }
 
-    /// Adds a row, which comes after these, with its words, and with those that it has where silent steps are folded, if it is
-    /// shown there.
+    /// Adds a row after these, with its words, and with its words among folded rows, if it is shown
+    /// there.
     pub(crate) fn push(
         &mut self,
         lanes: &Lanes,
@@ -77,7 +77,7 @@ impl<'a> Moves<'a> {
         Ok(())
     }
 
-    /// Adds what the script reads of a row's move.
+    /// Adds the marks of a row's move for the script.
     fn push_marks(&mut self, lanes: &Lanes, row: &Row) -> Result<(), AllocError> {
         if let Some(access) = access_of(row, self.buffered) {
             push_access(&mut self.out, access)?;
@@ -94,7 +94,7 @@ impl<'a> Moves<'a> {
         }
     }
 
-    /// The mark of the next event, by whether it is a switch.
+    /// The mark of the next event, given whether it is a switch.
     fn event(&mut self, lane: usize) -> &'static str {
         let last = self.last;
         self.last = Some(lane);
@@ -104,7 +104,7 @@ impl<'a> Moves<'a> {
         }
     }
 
-    /// Adds the number of a row, and the beginning of what stands in its lane.
+    /// Adds the number of a row, and the beginning of its entry in its lane.
     fn push_place(&mut self, number: usize, lane: usize) -> Result<(), AllocError> {
         let alloc = *self.out.allocator();
         let column = lane.saturating_add(2);

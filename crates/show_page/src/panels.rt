@@ -42,7 +42,7 @@ pub(crate) fn push_run(out: &mut String, lanes: &Lanes, moves: &str) -> Result<(
     out.push_str("</ol>\n<svg id=\"arrows\" aria-hidden=\"true\"></svg>\n</div>\n</div>\n")
 }
 
-/// Adds where a thread is at the end, and what its next step asks of others.
+/// Adds the place of a thread at the end, and what its next step asks of others.
 fn push_end_of(
     out: &mut String,
     lanes: &Lanes,
@@ -101,7 +101,7 @@ fn push_table(out: &mut String, title: &str, names: &[String]) -> Result<(), All
     out.push_str("</table>\n")
 }
 
-/// Adds the rest of a row of a table: a name, and room for what is said of it.
+/// Adds the rest of a row of a table: a name, and room for its state.
 fn push_entry(out: &mut String, name: &str) -> Result<(), AllocError> {
     out.push_str("><th scope=\"row\">")?;
     push_text(out, name)?;

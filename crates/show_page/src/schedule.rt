@@ -11,9 +11,10 @@ use show_rows::{End, Told};
 use show_words::{Counts, Program, counts_of, end_words, folded_words, row_words};
 use std::alloc::{AllocError, Global};
 
-/// The page of a schedule's moves: a lane for each thread, time downwards, an arrow from the store to each load that took its
-/// value and from each store's issue to its drain, the program with the line of each thread, and memory, buffers, mutexes and
-/// threads after the move that one selects. The title names the program so.
+/// The page of a schedule's moves: a lane for each thread, time downwards, an arrow from the store
+/// to each load that took its value and from each store's issue to its drain, the program with the
+/// line of each thread, and memory, buffers, mutexes and threads after the selected move. `name` is
+/// the program's name in the title.
 pub fn schedule_page(
     alloc: Global,
     name: &str,
@@ -75,7 +76,7 @@ fn moves_of<'a>(
     Ok(moves)
 }
 
-/// How many moves and switches there are, in words.
+/// The numbers of moves and switches, in words.
 fn numbers(alloc: Global, counts: Counts) -> Result<String, AllocError> {
     let Counts {
         moves,

@@ -1,4 +1,4 @@
-//! What pages do.
+//! The script of a page.
 
 mod arrows;
 mod links;
@@ -19,7 +19,8 @@ use sift::SIFT;
 use state::STATE;
 use std::alloc::AllocError;
 
-/// Adds the script, which steps through the moves, tells the state after each and why it came, and draws the arrows.
+/// Adds the script, which steps through the moves, shows the state after each with its reasons, and
+/// draws the arrows.
 pub(crate) fn push_script(out: &mut String) -> Result<(), AllocError> {
     out.push_str("<script>\n(() => {\n  'use strict';\n")?;
     for part in [
@@ -30,8 +31,8 @@ pub(crate) fn push_script(out: &mut String) -> Result<(), AllocError> {
     out.push_str("})();\n</script>\n")
 }
 
-/// How a page opens: with the program's text, where the window is wide and this leaves the lanes their room, or they have none
-/// anyway.
+/// Decides whether a page opens with the program's text: if the window is wide and the lanes keep
+/// their room, or have none anyway.
 const BEGIN: &str = r#"
   const size = (element, property) => parseFloat(getComputedStyle(element)[property]);
   function hasRoom() {

@@ -20,7 +20,8 @@ impl Sources {
         })
     }
 
-    /// Where the arrow to a row begins, if there is one, by whether what it took was in its thread's own buffer.
+    /// The place where the arrow to a row begins, if it has one, given whether it took its value
+    /// from its thread's own buffer.
     pub(crate) fn source(&self, before: &[Row], row: &Row, own: bool) -> Option<usize> {
         match &row.deed {
             Deed::Drained(stored) => issue_of(before, stored),
@@ -34,7 +35,8 @@ impl Sources {
         }
     }
 
-    /// Takes in a row at a place, by the place of its issue, if it is a drain, and by whether stores wait in buffers.
+    /// Takes in a row at a place, given the place of its issue, if it is a drain, and whether
+    /// stores wait in buffers.
     pub(crate) fn take(&mut self, row: &Row, place: usize, source: Option<usize>, buffered: bool) {
         match &row.deed {
             Deed::Drained(stored) => self.put(stored.cell, source),

@@ -1,4 +1,4 @@
-//! How pages look.
+//! The style of pages.
 
 /// The style sheet: in light and in dark, on narrow screens, and on paper.
 pub(crate) const STYLE: &str = r#"

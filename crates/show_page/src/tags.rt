@@ -23,7 +23,7 @@ pub(crate) fn push_number<N: Display + Copy>(
     push_mark(out, name, format!(in alloc; "{number}")?.as_str())
 }
 
-/// Adds what a move takes and puts.
+/// Adds the values that a move takes and puts.
 pub(crate) fn push_access(out: &mut String, access: Access) -> Result<(), AllocError> {
     push_mark(out, "kind", access.kind)?;
     push_number(out, "cell", access.cell)?;
@@ -36,7 +36,7 @@ pub(crate) fn push_access(out: &mut String, access: Access) -> Result<(), AllocE
     Ok(())
 }
 
-/// Adds what a step does with a mutex, a condition or another thread.
+/// Adds the effect of a step on a mutex, a condition or another thread.
 pub(crate) fn push_synchronization(
     out: &mut String,
     does: Synchronization,

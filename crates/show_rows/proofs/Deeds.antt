@@ -1,4 +1,4 @@
--- What an enabled move does, by what was told before it.
+-- The deed of an enabled move, from the rows before it.
 use Rattle.std.proofs.Common.{◌≡◌, ◌∙◌, ℕ, ℤ, List, [], ◌∷◌, true, Option, Some, None, IsSome, refl, sym, ap, subst}
 use Rattle.std.specs.Option.{option_map_or, IsSomeAnd}
 use Rattle.std.specs.Prelude.{option_map}
@@ -45,7 +45,7 @@ module _ {B : Type 0} (ops : BufferOps B) (code : Code) (s : State B) where
   goes m enabled = let one = some_value (step ops code s m) enabled in (one.0, step_went ops code s one.0 m one.1)
 
   module _ (h : List Deed) (n : Name) (t : Thread B) (there : fin.get s.threads n ≡ Some t) where
-    -- what a thread does by the instruction at its place
+    -- the step of a thread by the instruction at its place
     pub run_does : (i : Instr) → instr_of code t.local ≡ Some i
         → deed_of ops code s h (move.Run n) ≡ did ops code s n t (request t.local i) ∷ []
     run_does i at =
@@ -77,7 +77,7 @@ module _ {B : Type 0} (ops : BufferOps B) (code : Code) (s : State B) (h : List 
       → fin.get s.threads (doer d) ≡ Some t
   there_by n t ds there does first = ap (fin.get s.threads) (sym (doer_first d) ∙ sym (ap first_doer does) ∙ first) ∙ there
 
-  -- the thread of what an enabled move does is there
+  -- the thread of an enabled move's deed exists
   pub doer_is_there : (m : Move) → IsSome (step ops code s m) → deed_of ops code s h m ≡ plain_deed d ∷ []
       → (t : Thread B) × (fin.get s.threads (doer d) ≡ Some t)
   doer_is_there (move.Run n) enabled does =
@@ -98,7 +98,7 @@ module _ {B : Type 0} (ops : BufferOps B) (model : Model) (bound : Binding) (law
   seen_so : SeenIs ops model bound laws code s told
   seen_so = subst (SeenIs ops model bound laws code s) (sym so.told) (seen_is ops model bound laws code so.made s so.leads)
 
-  -- what a request takes
+  -- the value that a request takes
   pub taken_so : (thread : Thread B) (r : Request) → taken ops code s thread r ≡ taken_by ops t.seen.memory thread r
   taken_so thread r = taken_is ops model bound laws code s told thread r seen_so ∙ ap (λ (x : Seen). taken_by ops x.memory thread r) (sym so.sees)
 
@@ -110,7 +110,7 @@ module _ {B : Type 0} (ops : BufferOps B) (model : Model) (bound : Binding) (law
       (λ w. drained ops code told n (ops.drain thread.buffer form).entry ≡ Drained w.thread w.number w.cell w.value)) (sym so.sees)
       (first_drains ops model bound laws code s told n thread form seen_so there may)
 
-  -- a drain that is enabled is that of a store which waits
+  -- an enabled drain takes a store that waits
   drain_row : (n : Name) (form : Option ℕ) → IsSome (step ops code s (move.Drain n form))
       → (w : Stored) × (first_by n form t.seen.waiting ≡ Some w) × (deed_of ops code s told (move.Drain n form) ≡ plain_deed (deed.Drained w) ∷ [])
   drain_row n form enabled =
@@ -130,7 +130,7 @@ module _ {B : Type 0} (ops : BufferOps B) (model : Model) (bound : Binding) (law
   pub reached : IsReached ops code s
   reached = record { moves = so.made; leads = so.leads }
 
-  -- a step of these parts is what a run move does
+  -- a run move makes a step of these parts
   pub run_gives : (n : Name) (thread : Thread B) (i : Instr) → fin.get s.threads n ≡ Some thread → instr_of code thread.local ≡ Some i
       → (m : Name) (k : ℕ) (r : Request) (v : ℤ) (o : Option Name) → m ≡ n → k ≡ thread.local.steps → r ≡ request thread.local i
       → v ≡ taken_by ops t.seen.memory thread r → o ≡ created_by ops code n thread.local r
@@ -147,7 +147,7 @@ module _ {B : Type 0} (ops : BufferOps B) (model : Model) (bound : Binding) (law
   pub whole_so : IsLawful code → (n : Name) (thread : Thread B) → fin.get s.threads n ≡ Some thread → IsWholeThread code thread.local
   whole_so lawful n thread there = (reached_is_whole ops code s lawful reached).threads n thread there
 
-  -- where a row's thread is, which is what the rows so far made of it
+  -- the place of a row's thread, which the rows so far determine
   pub was_at : (row : Row) (thread : Thread B) → fin.get s.threads (doer row.deed) ≡ Some thread → row.function ≡ thread.local.function
       → row.instruction ≡ thread.local.instruction → row.slots.items ≡ thread.local.slots → WasAt code told row
   was_at row thread there function instruction slots =

@@ -1,4 +1,4 @@
--- Rows that are told one after another.
+-- Rows are recorded one after another.
 use Rattle.std.proofs.Common.{◌≡◌, ◌∙◌, ℕ, ◌+◌, ◌<◌, ◌≤◌, List, [], ◌∷◌, ◌++◌, length, take, drop, get_or, map, Some, refl, suc, sym, ap, subst, append-nil, append_assoc, add-one, drop-cons}
 use Rattle.std.proofs.lemmas.List.{take_all, take_more, take-append-drop, map-append}
 use Rattle.std.proofs.lemmas.List.Sums.{fold-append}
@@ -22,11 +22,11 @@ use Rattle.show_rows.specs.declared.told.End.TheVariants as end
 use Rattle.show_rows.specs.declared.telling.Telling.{Telling}
 use Rattle.show_rows.specs.helpers.SoFar.{IsSoFar}
 
--- the deeds of a row more
+-- the deeds of one more row
 deeds-push : (rows : List Row) (row : Row) → deeds (rows ++ row ∷ []) ≡ deeds rows ++ plain_deed row.deed ∷ []
 deeds-push rows row = map-append (λ (r : Row). plain_deed r.deed) rows (row ∷ [])
 
--- a row more was where its thread was, if the others were
+-- one more row is at its thread's place, if the others are
 at-push : (code : Code) (h : List Deed) (rows : List Row) (row : Row) → WereAt code h rows → WasAt code (h ++ deeds rows) row
     → WereAt code h (rows ++ row ∷ [])
 at-push code h [] row were was = (subst (λ g. WasAt code g row) (append-nil h) was, tt)
@@ -43,7 +43,7 @@ split_here xs i x lt here =
     ∙ ap (λ ys. take i xs ++ ys) (drop-cons xs i x lt ∙ ap (λ y. y ∷ drop (suc i) xs) (sym here) ∙ ap (λ k. x ∷ drop k xs) (sym (add-one i)))
 
 module _ {B : Type 0} (ops : BufferOps B) (code : Code) where
-  -- after so many moves of a schedule
+  -- after the first moves of a schedule
   pub record AreToldUpTo (moves : List Move) (i : ℕ) (s : State B) (t : Telling) : Type 0 where
     pub leads : run ops code (take i moves) ≡ Some s
     pub told : deeds t.rows.items ≡ history ops code (take i moves)
@@ -55,7 +55,7 @@ module _ {B : Type 0} (ops : BufferOps B) (code : Code) where
 
   module _ (moves : List Move) (i : ℕ) (m : Move) (s : State B) (t : Telling) (lt : i < length moves) (here : m ≡ get_or moves i m)
       (a : AreToldUpTo moves i s t) where
-    -- a move more
+    -- one more move
     pub told_on : (u : State B) (v : Telling) (row : Row) → step ops code s m ≡ Some u
         → deed_of ops code s (deeds t.rows.items) m ≡ plain_deed row.deed ∷ [] → v.rows.items ≡ t.rows.items ++ row ∷ []
         → v.seen ≡ seen_after ops.buffered t.seen (plain_deed row.deed) → WasAt code (deeds t.rows.items) row → AreToldUpTo moves (i + 1) u v

@@ -1,4 +1,4 @@
--- What the moves of a schedule did, as far as they could be made, and how that ended.
+-- The rows of a schedule's moves, as far as these could be made, and how the schedule ended.
 use Rattle.std.specs.Prelude.{◌≡◌, true, List, [], ◌∷◌, ◌++◌, map, Some, None, IsSome, IsSomeAnd}
 use Rattle.std.specs.FinMap as fin
 use Rattle.tc_base.specs.Buffers.{BufferOps}
@@ -21,7 +21,7 @@ use Rattle.show_rows.specs.declared.told.End.TheVariants as end
 abbrev pub deeds : List Row → List Deed
 deeds rows = map (λ r. plain_deed r.deed) rows
 
--- where a row's thread was after these deeds, and the value that each of its slots had
+-- the place of a row's thread after these deeds, and the value of each of its slots
 abbrev pub WasAt : Code → List Deed → Row → Type 0
 WasAt code h r =
     IsSomeAnd (fin.get (locals_in code h) (doer r.deed)) (λ t. (t.function ≡ r.function) × (t.instruction ≡ r.instruction) × (t.slots ≡ r.slots.items))
@@ -36,7 +36,8 @@ module _ {B : Type 0} (ops : BufferOps B) (code : Code) where
   abbrev pub MayGoOn : State B → Type 0
   MayGoOn s = (s.failed ≡ None) × ((m : Move) × IsSome (step ops code s m))
 
-  -- how it ended where the moves lead to a state, and others are left: the first of these isn't enabled, or there are none
+  -- how a schedule ended, if its moves up to here lead to the state: the next one isn't enabled, or
+  -- none are left
   abbrev pub EndsSo : State B → List Move → End → Type 0
   EndsSo s [] end.Failed = IsSome s.failed
   EndsSo s [] end.Finished = (s.failed ≡ None) × (all_have_exited s ≡ true)
@@ -45,7 +46,8 @@ module _ {B : Type 0} (ops : BufferOps B) (code : Code) where
   EndsSo s (m ∷ ms) (end.Stopped reason) = why ops code s m ≡ Some reason
   EndsSo s _ _ = ⊥
 
-  -- the rows are the history of the moves that could be made, each thread was where its row says, and it ended so
+  -- the rows are the history of the moves that could be made, each thread was at its row's place,
+  -- and the schedule ended this way
   pub record AreTold (moves : List Move) (rows : List Row) (end : End) : Type 0 where
     pub made : List Move
     pub left : List Move

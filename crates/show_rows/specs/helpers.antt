@@ -1,2 +1,2 @@
--- No promise speaks of what stands in this folder.
+-- Helpers that no promise speaks of.
 pub mod SoFar

@@ -1,4 +1,4 @@
-//! What a schedule did, move by move: the rows that a reader is shown.
+//! The rows of a schedule: the effect of each move.
 #![tactic(auto)]
 
 mod row;

@@ -1,16 +1,16 @@
-//! Rows: a deed, and where its thread was.
+//! Rows: a deed, and the place of its thread.
 
 use show_deeds::Deed;
 
-/// What one move did, and where its thread was before it.
+/// The deed of one move, and the place of its thread before it.
 #[derive(Drop)]
 pub struct Row {
-    /// What it did.
+    /// The deed.
     pub deed: Deed,
     /// The number of the function that the thread does.
     pub function: usize,
-    /// The number of the instruction there that it does next, which is that of a step.
+    /// The number of the instruction there that it does next: for a step, the step's own.
     pub instruction: usize,
-    /// The value that each slot of the thread had.
+    /// The value of each slot of the thread.
     pub slots: Vec<i32>,
 }

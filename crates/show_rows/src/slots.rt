@@ -11,7 +11,7 @@ use tc_base::Request;
 use tc_code::{Code, Expr, Instr};
 use tc_threads::Thread;
 
-/// How many int slots a function has, and 0 where it isn't there.
+/// The number of int slots of a function, or 0 if it doesn't exist.
 pub(crate) fn ints_of(code: &Code, function: usize) -> u32
     ensures ints { result ≡ plain.ints_of code.now function }
     ensures lawful { IsLawful code.now }
@@ -22,7 +22,7 @@ pub(crate) fn ints_of(code: &Code, function: usize) -> u32
     }
 }
 
-/// The value of each slot of a thread that has so many.
+/// The value of each slot of a thread, which has `count` of them.
 pub(crate) fn slots_of<M: MemoryModel>(
     alloc: Global,
     count: u32,
@@ -39,7 +39,7 @@ pub(crate) fn slots_of<M: MemoryModel>(
     Ok(slots)
 }
 
-/// The value of a slot of a thread, which is what the thread asks to store where it stores that slot.
+/// The value of a slot of a thread: the value that the thread would ask to store from that slot.
 fn slot_of<M: MemoryModel>(thread: &Thread<M>, slot: u32) -> i32
     requires whole { (code : flat.Code) × IsWholeThread code thread.now.local }
     requires there { slot < length thread.now.local.slots }

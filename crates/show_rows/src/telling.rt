@@ -1,4 +1,4 @@
-//! Telling what moves do, one after another.
+//! Makes moves one after another, and records their rows.
 ghost use Rattle.std.specs.Prelude.{◌≡◌, ◌∷◌, ◌++◌, [], IfOk, OnOk, IsSome};
 ghost use Rattle.run_laws.specs.Counters.{CountersAreBelowLast, IsBelowLast};
 ghost use Rattle.run_history.specs.History.{created_by, deed_of};
@@ -22,7 +22,7 @@ use tc_code::Code;
 use tc_machine::State;
 use tc_threads::Thread;
 
-/// The rows so far, and what their deeds made of memory and of the stores that wait.
+/// The rows so far, and memory and the stores that wait after their deeds.
 #[derive(Drop)]
 pub(crate) struct Telling {
     rows: Vec<Row>,
@@ -49,7 +49,7 @@ impl Telling {
         rows
     }
 
-    /// Takes in a row, by whether there are buffers.
+    /// Takes in a row, given whether there are buffers.
     pub(crate) fn take(&mut self, buffered: bool, row: Row) -> Result<(), AllocError>
         ensures rows { OnOk result (self.new.rows.items ≡ self.old.rows.items ++ row ∷ []) }
         ensures seen { OnOk result (self.new.seen ≡ seen_after buffered self.old.seen (plain_deed row.deed)) }
@@ -88,7 +88,7 @@ impl Telling {
         })
     }
 
-    /// What a move does that is enabled.
+    /// The deed of an enabled move.
     fn deed<M: MemoryModel>(
         &self,
         code: &Code,
@@ -162,7 +162,8 @@ impl Telling {
         })
     }
 
-    /// The store of a thread that reaches memory by a form: its first that waits, or its first to a cell.
+    /// The store of a thread that a drain of this form takes: its first that waits, or its first to
+    /// a cell.
     fn drain<M: MemoryModel>(
         &self,
         code: &Code,
@@ -181,7 +182,7 @@ impl Telling {
     }
 }
 
-/// The child that a thread's request creates, if it does.
+/// The child that a thread's request creates, if it creates one.
 fn created<M: MemoryModel>(
     name: &ThreadName,
     thread: &Thread<M>,

@@ -23,11 +23,11 @@ pub enum End {
     Deadlock,
     /// All its moves are made, and others are enabled.
     Open,
-    /// Its next move isn't enabled, and this is why.
+    /// Its next move isn't enabled, for this reason.
     Stopped(Why),
 }
 
-/// Where a thread is that hasn't exited.
+/// The place of a thread that hasn't exited.
 #[derive(Drop)]
 pub struct Standing {
     /// The thread.
@@ -36,24 +36,24 @@ pub struct Standing {
     pub function: usize,
     /// The number of the instruction there that it does next.
     pub instruction: usize,
-    /// What that asks.
+    /// The request of that instruction.
     pub asks: Request,
 }
 
-/// What the moves of a schedule did, as far as they could be made.
+/// The rows of a schedule's moves, as far as these could be made.
 #[derive(Drop)]
 pub struct Told {
     /// A row for each move that was made.
     pub rows: Vec<Row>,
-    /// Where the threads are afterwards that haven't exited.
+    /// The places of the threads that haven't exited.
     pub standing: Vec<Standing>,
     /// How it ended.
     pub end: End,
 }
 
-/// What the moves of a schedule do in the code, as far as each is enabled.
+/// Makes the moves of a schedule in the code, as far as each is enabled.
 ///
-/// The model that the schedule names is the caller's to hold against `M`.
+/// The caller has to make sure that `M` is the model that the schedule names.
 pub fn tell<M: MemoryModel>(
     alloc: Global,
     code: &Code,
@@ -75,7 +75,7 @@ pub fn tell<M: MemoryModel>(
     finish(alloc, code, &state, telling.into_rows(), end)
 }
 
-/// The rows, with where the threads are.
+/// The rows, with the places of the threads.
 fn finish<M: MemoryModel>(
     alloc: Global,
     code: &Code,
@@ -106,7 +106,7 @@ fn finish<M: MemoryModel>(
     })
 }
 
-/// How it ends in a state where no moves are left.
+/// How a schedule ends in a state when it has no moves left.
 fn end_at<M: MemoryModel>(alloc: Global, code: &Code, state: &State<M>) -> Result<End, AllocError>
     requires { IsReached M.ops code.now state.now }
     ensures { IfOk result (EndsSo M.ops code.now state.now []) }

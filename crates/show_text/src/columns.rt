@@ -2,7 +2,7 @@
 
 use std::alloc::AllocError;
 
-/// How many characters a text has.
+/// The number of characters in a text.
 pub(crate) fn width(text: &str) -> usize {
     text.chars().count()
 }

@@ -1,4 +1,4 @@
-//! Schedules and logs as text for a reader.
+//! Schedules and logs as text.
 #![tactic(auto)]
 
 mod columns;

@@ -1,4 +1,4 @@
-//! The ways of a log's threads.
+//! The paths of a log's threads.
 
 use crate::columns::push_right;
 use path_walk::Paths;
@@ -6,10 +6,11 @@ use run_log::Log;
 use show_words::{Program, Went, ending_words, walk_title, walk_words};
 use std::alloc::{AllocError, Global};
 
-/// How wide the column of lines is.
+/// The width of the column of lines.
 const LINE: usize = 6;
 
-/// The threads of a log, the lines that each went along with the outcomes of its branches, and how the run ended.
+/// The threads of a log, the lines of each with the outcomes of its branches, and how the run
+/// ended.
 pub fn log_text(
     alloc: Global,
     program: Program<'_>,

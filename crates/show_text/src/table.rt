@@ -6,7 +6,7 @@ use show_rows::Told;
 use show_words::{Counts, Folded, Program, Words, counts_of, end_words, folded_words, row_words};
 use std::alloc::{AllocError, Global};
 
-/// How wide the columns are that have a width of their own.
+/// The widths of the columns that have one of their own.
 #[derive(Clone, Copy)]
 struct Widths {
     number: usize,
@@ -18,7 +18,7 @@ struct Widths {
 /// The blanks between two columns.
 const GAP: &str = "  ";
 
-/// What a row of the table is.
+/// The kinds of rows.
 #[derive(Clone, Copy, Debug, PartialEq, Eq)]
 pub enum Detail {
     /// A statement or an event.
@@ -27,7 +27,7 @@ pub enum Detail {
     Moves,
 }
 
-/// A row of the table: its number from 1, and what it says.
+/// A row of the table: its number from 1, and its words.
 #[derive(Clone, Copy)]
 struct Line<'a> {
     number: usize,
@@ -37,7 +37,7 @@ struct Line<'a> {
     deed: &'a str,
 }
 
-/// The table of a schedule's moves, with the name of its program above it, and how it ended.
+/// The table of a schedule's moves, with the name of its program above, and how it ended below.
 pub fn schedule_text(
     alloc: Global,
     name: &str,
@@ -65,7 +65,8 @@ pub fn schedule_text(
     Ok(out)
 }
 
-/// What stands above the table: the program and its digest, the memory model, and how much the schedule does.
+/// The lines above the table: the program and its digest, the memory model, and the schedule's
+/// counts.
 fn head(
     alloc: Global,
     name: &str,
@@ -109,7 +110,7 @@ fn lines_of_folded<'a>(
     Ok(lines)
 }
 
-/// The row of the move at a place, with what it says.
+/// The row of the move at a place, with its words.
 fn line_of<'a>(place: usize, words: &'a Words<'_>, deed: &'a str) -> Line<'a> {
     Line {
         number: place.saturating_add(1),
@@ -143,7 +144,7 @@ fn is_switch(lines: &[Line<'_>], place: usize) -> bool {
     }
 }
 
-/// The widths that rows need.
+/// The widths that the rows need.
 fn widths_of(lines: &[Line<'_>]) -> Widths {
     let mut widths = Widths {
         number: 4,
@@ -158,7 +159,7 @@ fn widths_of(lines: &[Line<'_>]) -> Widths {
     widths
 }
 
-/// How long a rule between rows is.
+/// The length of a rule between rows.
 fn rule_length(widths: Widths) -> usize {
     widths
         .thread

@@ -1,4 +1,4 @@
-//! What a thread waits for where a run has ended.
+//! What a thread waits for at the end of a run.
 
 use crate::wakes::Wakes;
 use show_deeds::Deed;
@@ -9,7 +9,7 @@ use tc_base::{Request, ThreadName};
 /// What a thread waits for.
 #[derive(Drop)]
 pub enum Waits {
-    /// For a mutex, and who has it.
+    /// For a mutex, with the thread that holds it.
     Mutex(u32, ThreadName),
     /// For a signal on a condition.
     Signal(u32),
@@ -17,7 +17,7 @@ pub enum Waits {
     Exit(ThreadName),
 }
 
-/// What a thread waits for after the rows, if it waits for something.
+/// What a thread waits for after the rows, if it waits.
 pub fn waits_of(
     alloc: Global,
     rows: &[Row],
@@ -44,7 +44,7 @@ pub fn waits_of(
     }
 }
 
-/// The wait for a mutex, if a thread has it.
+/// The wait for a mutex, if a thread holds it.
 fn mutex_wait(rows: &[Row], mutex: u32) -> Result<Option<Waits>, AllocError> {
     match owner_of(rows, mutex) {
         Some(owner) => Ok(Some(Waits::Mutex(mutex, owner.clone()?))),
@@ -52,7 +52,8 @@ fn mutex_wait(rows: &[Row], mutex: u32) -> Result<Option<Waits>, AllocError> {
     }
 }
 
-/// The thread that has a mutex after the rows: that of the last step which took it, if none has left it since.
+/// The thread that holds a mutex after the rows: that of the last step which took it, if none has
+/// released it since.
 fn owner_of(rows: &[Row], mutex: u32) -> Option<&ThreadName> {
     for row in rows.iter().rev() {
         if let Deed::Did(step) = &row.deed {
@@ -79,7 +80,7 @@ fn is_asleep(alloc: Global, rows: &[Row], name: &ThreadName) -> Result<bool, All
     Ok(wakes.is_asleep(name))
 }
 
-/// Whether a thread has exited by the rows.
+/// Whether a thread has exited after the rows.
 pub(crate) fn has_exited(rows: &[Row], name: &ThreadName) -> bool {
     for row in rows {
         if let Deed::Did(step) = &row.deed

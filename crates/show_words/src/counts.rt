@@ -1,4 +1,4 @@
-//! How much a schedule does.
+//! The counts of a schedule.
 
 use crate::rows::is_buffered;
 use memory_models::Model;
@@ -6,18 +6,18 @@ use show_deeds::Deed;
 use show_rows::Row;
 use tc_base::Request;
 
-/// How much a schedule does.
+/// The counts of a schedule.
 #[derive(Clone, Copy, Debug, PartialEq, Eq)]
 pub struct Counts {
-    /// How many moves it has.
+    /// The number of moves.
     pub moves: usize,
-    /// How many of its events are of another thread than the event before them.
+    /// The number of events of another thread than the event before: its context switches.
     pub switches: usize,
-    /// How many steps ask something of memory or of other threads, which is what a log may have 256 of.
+    /// The number of steps that ask something of memory or of other threads; a log may have 256.
     pub events: usize,
 }
 
-/// How much rows do that were made under a memory model.
+/// The counts of rows whose moves were made under a memory model.
 pub fn counts_of(model: Model, rows: &[Row]) -> Counts {
     let mut counts = Counts {
         moves: rows.len(),
@@ -41,7 +41,7 @@ pub fn counts_of(model: Model, rows: &[Row]) -> Counts {
     counts
 }
 
-/// Whether it is a step that asks something of memory or of other threads, or fails.
+/// Whether a deed is a step that asks something of memory or of other threads, or fails.
 fn asks_something(deed: &Deed) -> bool {
     match deed {
         Deed::Drained(_) => false,
@@ -49,7 +49,8 @@ fn asks_something(deed: &Deed) -> bool {
     }
 }
 
-/// Whether an event takes place by a deed, by whether there are buffers: a store that waits in one takes place by its drain.
+/// Whether an event takes place by a deed, given whether there are buffers: a buffered store takes
+/// place by its drain.
 pub fn is_event(deed: &Deed, buffered: bool) -> bool {
     match deed {
         Deed::Drained(_) => true,

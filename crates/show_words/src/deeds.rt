@@ -10,7 +10,8 @@ use std::alloc::{AllocError, Global};
 use tc_base::{Request, ThreadName};
 use tc_code::Instr;
 
-/// What a row's move did, by whether there are buffers, and by what it shares with other moves.
+/// A row's move in words, given whether there are buffers, and its facts that depend on other
+/// moves.
 pub(crate) fn deed_words(
     alloc: Global,
     program: Program<'_>,
@@ -150,7 +151,7 @@ fn wait_words(
     }
 }
 
-/// Who is woken.
+/// The threads that are woken, in words.
 fn woken_words(alloc: Global, wakes: &[ThreadName]) -> Result<String, AllocError> {
     if wakes.is_empty() {
         return String::from_str(alloc, "nobody waits");

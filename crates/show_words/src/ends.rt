@@ -6,8 +6,8 @@ use crate::values::values_at_end;
 use show_rows::{End, Standing, Told};
 use std::alloc::{AllocError, Global};
 
-/// How a schedule ended, in lines: a failure with the values that the failing statement saw, and else where each thread is that
-/// hasn't exited.
+/// How a schedule ended, in lines: a failure with the values that the failing statement used, else
+/// the place of each thread that hasn't exited.
 pub fn end_words(alloc: Global, program: Program<'_>, told: &Told) -> Result<String, AllocError> {
     match told.end {
         End::Failed => failure_words(alloc, program, told),
@@ -31,7 +31,7 @@ pub fn end_words(alloc: Global, program: Program<'_>, told: &Told) -> Result<Str
     }
 }
 
-/// Which thread failed and where, and the values that the failing statement saw.
+/// The thread that failed, its place, and the values that the failing statement used.
 fn failure_words(alloc: Global, program: Program<'_>, told: &Told) -> Result<String, AllocError> {
     let Some(row) = told.rows.last() else {
         return Ok(String::new(alloc));
@@ -49,7 +49,7 @@ fn failure_words(alloc: Global, program: Program<'_>, told: &Told) -> Result<Str
     Ok(words)
 }
 
-/// The words, and then where each thread is that hasn't exited, and what it waits for.
+/// The given words, then the place of each thread that hasn't exited, and what it waits for.
 fn with_standing(
     alloc: Global,
     words: String,
@@ -74,7 +74,7 @@ fn with_standing(
     Ok(words)
 }
 
-/// What a thread waits for, and who has it.
+/// What a thread waits for, and which thread holds it.
 fn wait_words(
     alloc: Global,
     program: Program<'_>,

@@ -13,11 +13,12 @@ use tc_base::Request;
 pub struct Folded {
     /// The place of the row whose number it has.
     pub place: usize,
-    /// What its moves did.
+    /// The effect of its moves, in words.
     pub deed: String,
 }
 
-/// The rows with their silent steps folded. A step that nobody wants to read, such as a jump, is in none.
+/// The rows with their silent steps folded. A step that isn't worth reading, such as a jump, is in
+/// none.
 pub fn folded_words(
     alloc: Global,
     program: Program<'_>,
@@ -84,7 +85,7 @@ impl Folds {
         Ok(())
     }
 
-    /// Takes in a silent step, with its words if one wants to read them.
+    /// Takes in a silent step, with its words if they are worth reading.
     fn silent(&mut self, place: usize, words: Option<String>) -> Result<(), AllocError> {
         let Some(words) = words else {
             return Ok(());

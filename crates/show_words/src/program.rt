@@ -1,4 +1,4 @@
-//! The program that rows are of.
+//! The program of the rows.
 
 use int_ops::BinOp;
 use show_names::Names;
@@ -6,7 +6,7 @@ use show_rows::Row;
 use std::alloc::{AllocError, Global};
 use tc_code::{Code, Expr, Instr, Node};
 
-/// A program's code, and what its text calls the parts of that.
+/// A program's code, with the names of its parts in the text.
 #[derive(Clone, Copy)]
 pub struct Program<'a> {
     pub names: &'a Names,
@@ -22,7 +22,7 @@ pub(crate) struct Choice<'a> {
 }
 
 impl<'a> Program<'a> {
-    /// The number of the line of an instruction, from 1, and 0 where there is none.
+    /// The number of an instruction's line, from 1, or 0 if there is none.
     pub fn line(&self, function: usize, instruction: usize) -> u32 {
         self.code.line(function, instruction).unwrap_or(0)
     }
@@ -48,7 +48,8 @@ impl<'a> Program<'a> {
         self.code.instr(row.function, row.instruction)
     }
 
-    /// The `&&` or `||` whose left side a slot is set for at an instruction, which stands before the branch on that side.
+    /// The `&&` or `||` for whose left side an instruction sets a slot, just before the branch on
+    /// that side.
     pub(crate) fn choice(&self, function: usize, instruction: usize) -> Option<Choice<'a>> {
         let Some(Instr::Set { slot, value }) = self.code.instr(function, instruction) else {
             return None;
@@ -75,7 +76,8 @@ impl<'a> Program<'a> {
         self.choice(function, instruction.checked_sub(1)?)
     }
 
-    /// The right side of a `&&` or `||`, where an instruction sets its slot to whether that isn't 0.
+    /// The right side of a `&&` or `||`, if an instruction sets its slot to whether that side isn't
+    /// 0.
     pub(crate) fn right_side(&self, function: usize, instruction: usize) -> Option<&'a Expr> {
         let Some(Instr::Set { slot, value }) = self.code.instr(function, instruction) else {
             return None;

@@ -18,28 +18,28 @@ pub struct Words<'a> {
     pub line: u32,
     /// The text of that line.
     pub source: &'a str,
-    /// What the move did.
+    /// The move's effect, in words.
     pub deed: String,
-    /// Whether what it took was in its thread's own buffer.
+    /// Whether it took its value from its thread's own buffer.
     pub own: bool,
     /// The threads that it wakes, in the order of their names.
     pub wakes: Vec<ThreadName>,
-    /// Of a thread that is awake again, the place of the row that woke it.
+    /// For a thread that is awake again, the place of the row that woke it.
     pub woken_by: Option<usize>,
 }
 
-/// What a move shares with other moves.
+/// Facts of a move that depend on other moves.
 #[derive(Clone, Copy)]
 pub(crate) struct Shared<'a> {
-    /// Whether what it took was in its thread's own buffer.
+    /// Whether it took its value from its thread's own buffer.
     pub(crate) own: bool,
     /// The threads that it wakes.
     pub(crate) wakes: &'a [ThreadName],
-    /// Of a thread that is awake again, the one that woke it.
+    /// For a thread that is awake again, the thread that woke it.
     pub(crate) waker: Option<&'a ThreadName>,
 }
 
-/// The rows in words, by the memory model under which their moves were made.
+/// The rows in words, under the memory model of their moves.
 pub fn row_words<'a>(
     alloc: Global,
     program: Program<'a>,
@@ -59,7 +59,7 @@ pub fn row_words<'a>(
     Ok(words)
 }
 
-/// What the rows so far made of memory, of the stores that wait, and of those who sleep.
+/// Memory, the stores that wait and the threads that sleep, after the rows so far.
 #[derive(Drop)]
 struct Wording<'a> {
     program: Program<'a>,
@@ -69,7 +69,7 @@ struct Wording<'a> {
 }
 
 impl<'a> Wording<'a> {
-    /// Puts the row behind the rows so far in words, and takes it in.
+    /// Puts the next row in words, and takes it in.
     fn put(&mut self, alloc: Global, before: &[Row], row: &Row) -> Result<Words<'a>, AllocError> {
         let program = self.program;
         let name = row.deed.thread();
@@ -104,7 +104,7 @@ pub(crate) fn is_buffered(model: Model) -> bool {
     }
 }
 
-/// The row whose statement a row belongs to: of a drain the one that issued the store.
+/// The row whose statement a row belongs to: for a drain, the row that issued the store.
 fn stated_at<'r>(before: &'r [Row], row: &'r Row) -> &'r Row {
     match &row.deed {
         Deed::Drained(stored) => match issue_of(before, stored) {
@@ -133,7 +133,7 @@ fn waker_of(before: &[Row], place: Option<usize>) -> Option<&ThreadName> {
     Some(before.get(place?)?.deed.thread())
 }
 
-/// Whether what a deed took was in its thread's own buffer.
+/// Whether a deed took its value from its thread's own buffer.
 fn is_own(seen: &Seen, deed: &Deed) -> bool {
     match deed {
         Deed::Did(step) => match step.asks {

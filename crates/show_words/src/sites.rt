@@ -6,7 +6,7 @@ use show_rows::Row;
 use std::alloc::{AllocError, Global};
 use tc_code::{Expr, Instr};
 
-/// What a step did that asked for nothing.
+/// A step that asked for nothing, in words.
 pub(crate) fn silent_words(
     alloc: Global,
     program: Program<'_>,
@@ -49,8 +49,8 @@ pub(crate) fn silent_words(
     }
 }
 
-/// What is worth reading of a step that asked for nothing, where the steps of its statement are one row: what an int took, how
-/// a condition came out, and that an assertion holds.
+/// A step that asked for nothing, in words, if it is worth reading where the steps of its statement
+/// are one row: an int's new value, a condition's outcome, and an assertion that holds.
 pub(crate) fn brief_words(
     alloc: Global,
     program: Program<'_>,
@@ -133,7 +133,7 @@ fn branch_words(
     }
 }
 
-/// A condition by its names, by their values, and whether it is true.
+/// A condition with its names, with their values, and whether it is true.
 fn condition_words(
     alloc: Global,
     program: Program<'_>,
@@ -151,7 +151,7 @@ fn truth_of(row: &Row, condition: &Expr) -> bool {
     value_over(row.slots.as_slice(), condition) != 0
 }
 
-/// What a site found that failed.
+/// A site that failed, in words.
 pub(crate) fn failed_words(
     alloc: Global,
     program: Program<'_>,

@@ -1,4 +1,4 @@
-//! Expressions of the code, as the text of the program has them.
+//! Expressions of the code, as the program's text writes them.
 ghost use Rattle.std.specs.Prelude.{◌≡◌};
 ghost use Rattle.tc_code.specs.Expr.{value_of};
 
@@ -13,11 +13,11 @@ use tc_code::{Expr, Instr, Node};
 enum Form {
     /// As it is.
     Name,
-    /// As the value that it has.
+    /// As its value.
     Value,
 }
 
-/// Where an expression stands: it may name what the instructions before that one have found.
+/// The place of an expression, which may name slots that earlier instructions have set.
 #[derive(Clone, Copy)]
 struct At<'a> {
     program: Program<'a>,
@@ -25,7 +25,7 @@ struct At<'a> {
     form: Form,
 }
 
-/// More operators and names than an expression has within each other: a statement has at most 512 tokens.
+/// More than the depth of any expression: a statement has at most 512 tokens.
 const DEPTH: u32 = 4096;
 
 /// How tightly an operator before its operand binds.
@@ -41,8 +41,8 @@ pub(crate) fn named(
     written(alloc, program, row, e, Form::Name)
 }
 
-/// An expression of a row's instruction, with the values that its names had. Of a side of `&&` or `||` that isn't looked at
-/// there stands `..`.
+/// An expression of a row's instruction, with the values that its names had. `..` is shown for a
+/// side of `&&` or `||` that wasn't evaluated.
 pub(crate) fn valued(
     alloc: Global,
     program: Program<'_>,
@@ -66,7 +66,7 @@ fn written(
     Ok(out)
 }
 
-/// The value of an expression over the slots, where a slot that isn't there has 0.
+/// The value of an expression over the slots; a slot that doesn't exist has 0.
 pub(crate) fn value_over(slots: &[i32], e: &Expr) -> i32
     ensures { result ≡ value_of e.now slots.now }
 {
@@ -86,7 +86,7 @@ pub(crate) fn value_over(slots: &[i32], e: &Expr) -> i32
 }
 
 impl<'a> At<'a> {
-    /// Adds an expression, in parentheses where it binds less tightly than is wanted.
+    /// Adds an expression, in parentheses if it binds less tightly than its place needs.
     #[cycle(terms)]
     fn push(&self, out: &mut String, e: &Expr, level: u32, depth: u32) -> Result<(), AllocError> {
         let Some(depth) = depth.checked_sub(1) else {
@@ -111,7 +111,7 @@ impl<'a> At<'a> {
         }
     }
 
-    /// Adds what a slot stands for.
+    /// Adds the text for a slot.
     #[cycle(terms)]
     fn push_slot(
         &self,
@@ -229,7 +229,7 @@ fn is_set(instr: Option<&Instr>, slot: u32) -> bool {
     matches!(instr, Some(Instr::Set { slot: to, .. }) if *to == slot)
 }
 
-/// Adds a value, in parentheses where it has a sign and stands behind one.
+/// Adds a value, in parentheses if it has a sign and follows one.
 fn push_value(out: &mut String, value: i32, level: u32) -> Result<(), AllocError> {
     let alloc = *out.allocator();
     let is_signed = value < 0 && level >= UNARY;
@@ -238,7 +238,7 @@ fn push_value(out: &mut String, value: i32, level: u32) -> Result<(), AllocError
     push_if(out, is_signed, ")")
 }
 
-/// Adds a text where it is wanted.
+/// Adds a text if it is wanted.
 fn push_if(out: &mut String, is_wanted: bool, text: &str) -> Result<(), AllocError> {
     if is_wanted {
         out.push_str(text)

@@ -1,4 +1,4 @@
-//! The values that a failing statement saw.
+//! The values that a failing statement used.
 
 use crate::program::Program;
 use show_deeds::Deed;
@@ -15,13 +15,13 @@ pub(crate) struct Value<'a> {
     is_local: bool,
 }
 
-/// The values that a statement saw, in order: of each load, and of each int of the body once.
+/// The values that a statement used, in order: of each load, and of each int of the body once.
 #[derive(Drop)]
 struct Values<'a> {
     values: Vec<Value<'a>>,
 }
 
-/// What the last row's statement saw up to it.
+/// The values that the last row's statement used up to that row.
 pub(crate) fn values_at_end<'a>(
     alloc: Global,
     program: Program<'a>,
@@ -39,7 +39,7 @@ pub(crate) fn values_at_end<'a>(
     Ok(values.values)
 }
 
-/// The places of the last row and of those that led to it in its statement, the last first.
+/// The places of the last row and of the rows before it in its statement, the last first.
 fn places_at_end(
     alloc: Global,
     program: Program<'_>,
@@ -63,7 +63,7 @@ fn places_at_end(
 }
 
 impl<'a> Values<'a> {
-    /// Takes in what a row's step saw.
+    /// Adds the values that a row's step used.
     fn take(&mut self, program: Program<'a>, row: &Row) -> Result<(), AllocError> {
         match program.instr(row) {
             Some(
@@ -89,7 +89,7 @@ impl<'a> Values<'a> {
         Ok(())
     }
 
-    /// Takes in the ints of the body that an expression names.
+    /// Adds the ints of the body that an expression names.
     fn push_ints(&mut self, program: Program<'a>, row: &Row, e: &Expr) -> Result<(), AllocError> {
         match &e.node {
             Node::Number(_) => Ok(()),
@@ -102,7 +102,7 @@ impl<'a> Values<'a> {
         }
     }
 
-    /// Takes in a slot, if it is an int of the body that isn't there yet.
+    /// Adds a slot, if it is an int of the body that isn't in the list yet.
     fn push_int(&mut self, program: Program<'a>, row: &Row, slot: u32) -> Result<(), AllocError> {
         let (Some(name), Some(value)) = (
             program.names.int(row.function, slot),

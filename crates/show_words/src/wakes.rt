@@ -1,4 +1,4 @@
-//! Who sleeps on conditions, and who wakes whom.
+//! The threads that sleep on conditions, and the rows that wake them.
 
 use show_deeds::{Deed, Step};
 use std::alloc::{AllocError, Global};
@@ -12,7 +12,7 @@ pub(crate) struct Wakes {
     wakers: BTreeMap<ThreadName, usize>,
 }
 
-/// Who is woken by a row, and by which row the one is that was asleep.
+/// The threads that a row wakes, and the row that woke its own thread.
 #[derive(Drop)]
 pub(crate) struct Woken {
     pub(crate) wakes: Vec<ThreadName>,

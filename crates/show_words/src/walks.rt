@@ -1,4 +1,4 @@
-//! The ways of a log's threads, in words.
+//! The paths of a log's threads, in words.
 
 use crate::program::Program;
 use path_walk::{Blocked, Paths, Walk};
@@ -13,7 +13,7 @@ pub struct Went<'a> {
     pub line: u32,
     /// Its text.
     pub source: &'a str,
-    /// Of a branch there, whether its condition, or the left side of its `&&` or `||`, wasn't 0.
+    /// For a branch there, whether its condition, or the left side of its `&&` or `||`, wasn't 0.
     pub outcome: Option<bool>,
 }
 
@@ -26,7 +26,7 @@ pub fn walk_title(alloc: Global, program: Program<'_>, walk: &Walk) -> Result<St
     format!(in alloc; "{name} {function}, {steps} {unit}")
 }
 
-/// The lines that a thread went along. Steps at one line that follow each other are one, up to a branch.
+/// The lines of a thread's path. Successive steps at one line count as one, up to a branch.
 pub fn walk_words<'a>(
     alloc: Global,
     program: Program<'a>,
@@ -65,8 +65,8 @@ fn line_went<'a>(program: Program<'a>, line: u32, outcome: Option<bool>) -> Went
     }
 }
 
-/// Whether the condition of the text is true at a branch, by the outcome that the code keeps: for a `||` it branches on whether
-/// the left side is false.
+/// Whether the condition of the text is true at a branch, given the logged outcome: for `||` the
+/// code branches on whether the left side is false.
 fn truth_of(
     program: Program<'_>,
     function: usize,
@@ -121,7 +121,7 @@ fn failed_words(
     format!(in alloc; "{name} failed at line {line}: {source}\n")
 }
 
-/// What a thread is blocked at in a deadlock, if it is.
+/// What blocks a thread in a deadlock, if it is blocked.
 fn blocked_words(alloc: Global, program: Program<'_>, walk: &Walk) -> Result<String, AllocError> {
     let name = walk.name();
     match walk.blocked() {

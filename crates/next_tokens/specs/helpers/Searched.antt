@@ -12,12 +12,12 @@ use Rattle.next_tokens.specs.declared.stuck.Stuck.{Stuck}
 abbrev pub HasTokens : (text : List ℕ) → (List Token → Type 0) → Type 0
 HasTokens text P = (tokens : List Token) × AreTokens 3 text tokens × P tokens
 
--- where the tokens of a text stop being a program's, or nothing where they are one
+-- where the tokens of a text stop being a program's, or nothing if they are one
 abbrev pub IsSearched : (text : List ℕ) → Option Stuck → Type 0
 IsSearched text stuck = MatchOption stuck
     (HasTokens text (λ tokens. AreProgram (words_of tokens)))
     (λ s. HasTokens text (λ tokens. IsStuck (words_of tokens) s))
 
--- so many words are left at the fault of words, or nothing where they are a program
+-- `left` is the number of words from their fault on, or nothing if they are a program
 abbrev pub IsLeft : List Word → Option ℕ → Type 0
 IsLeft words left = MatchOption left (AreProgram words) (λ n. (n ≤ length words) × IsSyntaxFault 3 words (length words - n))

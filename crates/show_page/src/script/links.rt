@@ -1,4 +1,4 @@
-//! What leads from move to move.
+//! Links from move to move.
 
 pub(super) const LINKS: &str = r#"
   // What leads from move to move: a value that is taken, a store that reaches memory, and what orders threads.

@@ -1,4 +1,4 @@
-//! What is on the page.
+//! The elements of the page.
 
 pub(super) const PAGE: &str = r#"
   const by = id => document.getElementById(id);

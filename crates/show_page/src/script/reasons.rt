@@ -1,4 +1,4 @@
-//! Why a move did what it did.
+//! The reasons of a move.
 
 pub(super) const REASONS: &str = r#"
   // Why a move did what it did, in lines of words and of numbers of moves, by the state before it.

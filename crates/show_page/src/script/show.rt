@@ -1,4 +1,4 @@
-//! The state after the move that is selected or pointed at, and why the move did what it did.
+//! The state after the selected move, or the one pointed at, and the reasons of that move.
 
 pub(super) const SHOW: &str = r#"
   // Shows the state after the first n moves, and gives the reasons of the last of them.

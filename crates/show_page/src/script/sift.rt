@@ -1,4 +1,4 @@
-//! Which moves are shown.
+//! The filter of moves.
 
 pub(super) const SIFT: &str = r#"
   // Shows the moves of one thread or of one cell alone, or all; and of them each, or those alone that are statements or events.
