@@ -15,7 +15,7 @@ use Rattle.thread_paths.specs.Search as path
 use Rattle.thread_paths.specs.declared.aim.Scope.{Scope}
 use Rattle.thread_paths.specs.declared.found.Cut.{Cut}
 use Rattle.log_walk.specs.Order.{are_from, are_to_come}
-use Rattle.log_walk.specs.Rest.{Rest, MakeUp, Takes, leave, aim_of}
+use Rattle.log_walk.specs.Rest.{Rest, MakeUp, Takes, leave, aim_of, is_whole}
 use Rattle.log_walk.specs.Given.{IsLeftOut, IsWithin, has_many_outcomes, has_many_steps, is_deep}
 use Rattle.log_walk.specs.Given.IsLeftOut.{Outcomes, Steps, Depth, Threads}
 use Rattle.log_walk.specs.declared.bounds.Bounds.{Bounds}
@@ -210,7 +210,7 @@ module _ (code : Code) (bounds : Bounds) (rest : Rest) where
     none_made [] made = refl
     none_made (u ∷ us) made = absurd (let next = made.1.is_next in cc)
 
-    ends_made : (us : List ThreadPath) → Made us → rest.ends ≡ true
+    ends_made : (us : List ThreadPath) → Made us → is_whole rest ≡ true
     ends_made [] made = made.1
     ends_made (u ∷ us) made = absurd (let next = made.1.is_next in cc)
 
@@ -222,7 +222,7 @@ module _ (code : Code) (bounds : Bounds) (rest : Rest) where
     none_come None is = refl
     none_come (Some ls) is = absurd cc
 
-    by_end : (e : Bool) → e ≡ rest.ends → (n : Bool) → n ≡ is_none last
+    by_end : (e : Bool) → e ≡ is_whole rest → (n : Bool) → n ≡ is_none last
         → IsEnd code bounds rest (are_to_come last) room before before out (n && e)
     by_end true ends true none = record {
       added = [];
@@ -244,7 +244,7 @@ module _ (code : Code) (bounds : Bounds) (rest : Rest) where
       none = λ us made is. absurd (let does = come_none last (ap (are_to_come last) (sym (none_made us made)) ∙ is) in cc);
     }
 
-    pub at_end : (e : Bool) → e ≡ rest.ends → (n : Bool) → n ≡ is_none last
+    pub at_end : (e : Bool) → e ≡ is_whole rest → (n : Bool) → n ≡ is_none last
         → IsEnd code bounds rest (are_to_come last) room before before out (n && e)
     at_end = by_end
 

@@ -11,7 +11,7 @@ use Rattle.path_walk.specs.Steps.{Onward, onward, is_site}
 pub record Told : Type 0 where
   -- for each mutex, whether the thread holds it
   pub held : List Bool
-  -- for each thread variable, the number of its child, or 0
+  -- for each thread variable, the number of its child that isn't joined yet, or 0
   pub children : List ℕ
   -- the functions of the children created, in order
   pub created : List ℕ
@@ -47,7 +47,8 @@ changed t (Unlock m) = record t { held = slice_set t.held m false }
 changed t (Sleep c m) = record t { held = slice_set t.held m false }
 changed t (Create h f es) =
     record t { children = slice_set t.children h (length t.created + 1); created = t.created ++ f ∷ [] }
-changed t (Join h) = record t { joined = t.joined ++ slice_index_or t.children h 0 ∷ [] }
+changed t (Join h) =
+    record t { children = slice_set t.children h 0; joined = t.joined ++ slice_index_or t.children h 0 ∷ [] }
 changed t _ = t
 
 -- after an instruction that leads to a place

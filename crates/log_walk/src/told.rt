@@ -15,7 +15,7 @@ use thread_paths::Path;
 pub struct Told {
     /// For each mutex, whether the thread holds it.
     pub held: Vec<bool>,
-    /// For each thread variable, the number of its child, or 0.
+    /// For each thread variable, the number of its child that isn't joined yet, or 0.
     pub children: Vec<usize>,
     /// The functions of the children created, in order.
     pub created: Vec<usize>,
@@ -150,6 +150,7 @@ impl Told {
                     None => 0,
                 };
                 self.joined.push(child)?;
+                set(&mut self.children, *handle, 0);
             }
             _ => {}
         }
@@ -169,7 +170,7 @@ impl Told {
 }
 
 /// Sets an element, if there is one.
-fn set<T: Copy>(items: &mut [T], place: u32, item: T)
+pub fn set<T: Copy>(items: &mut [T], place: u32, item: T)
     ensures { items.new ≡ slice_set items.old place item }
 {
     let place = place as usize;

@@ -152,7 +152,7 @@ impl Walk {
             self.old.threads.items self.new.threads.items self.new.out) }
     {
         let Some(next) = rest.next() else {
-            return Ok(is_none(last) && rest.ends());
+            return Ok(is_none(last) && rest.is_whole());
         };
         if !self.is_open(next, room) {
             return Ok(false);
