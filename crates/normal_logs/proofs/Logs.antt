@@ -36,6 +36,7 @@ use Rattle.normal_logs.specs.Within.{Allowed, at_most, HasBeginnings, ComesTo, R
 use Rattle.normal_logs.proofs.Reproduced.{fit_together}
 use Rattle.normal_logs.proofs.Least.{used}
 use Rattle.normal_logs.proofs.Deadlock.{caused}
+use Rattle.path_laws.specs.history.Along.{path_thread}
 
 module _ {B : Type 0} where
   path_of_local : (o : Option (Thread B)) → option_map path_by (option_map (λ (t : Thread B). t.local) o) ≡ option_map path_of o
@@ -159,7 +160,7 @@ module _ {B : Type 0} (machine : Machine B) (allowed : Allowed) where
         fails = subst IsSome (sym stored.1.failing) (some_is reached.0.failed f state_failed);
         used = λ j w there other.
             used (record { machine = machine; log = log; log_is = stored.1.is_log }) moves again f failed_there
-            (subst (IsLeast f) (sym reached.2) least.least) j w there other w.places refl;
+            (subst (IsLeast f) (sym reached.2) least.least) (path_thread j w there) other w.places refl;
       };
       under = stored.1.model;
       within = within;

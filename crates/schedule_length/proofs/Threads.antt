@@ -130,7 +130,7 @@ module _ {B : Type 0} (machine : Machine B) (log : Log) (small : IsSmall machine
     few_events =
         let i = is_there in
         let on = beginnings_on ops code log moves [] r.state (subst (Reproduces ops code log) (sym (append-nil moves)) r) r.leads in
-        let fits = reproduced_fits code ops model bound laws lawful log moves r in
+        let fits = reproduced_fits machine log moves r in
         let are = ap length (deeds_are_events ops code log moves r.state p i.thread lawful fits r.leads on i.here) in
         let long = long_are_events p.name ops.buffered bound code h told.follow in
         let few = few_before i.thread.local.steps (walk_of code log p).events in

@@ -23,7 +23,7 @@ use Rattle.path_walk.specs.declared.event.EventKind.{EventKind}
 use Rattle.path_walk.specs.declared.event.EventKind.TheVariants as kind
 use Rattle.path_laws.specs.Setting.{Setting}
 use Rattle.path_laws.specs.Deeds.{kind_of}
-use Rattle.path_laws.specs.history.Along.{IsAlongPaths, IsThread}
+use Rattle.path_laws.specs.history.Along.{IsThread, HistoryAlong}
 use Rattle.path_laws.specs.events.Done.{IsDoneIn}
 use Rattle.path_laws.proofs.of_events.Lists.{contains_in, in_contains}
 use Rattle.order_formula.specs.Worlds.{World, IsWorld}
@@ -55,6 +55,7 @@ use Rattle.world_plan.proofs.Places.{among_all, same_event}
 use Rattle.plan_runs.proofs.End.{failure_is, failure_of}
 use Rattle.plan_runs.proofs.of_memory.Issued.{step_named}
 use Rattle.run_lawful.proofs.of_own.Requests.{store_writes}
+use Rattle.path_laws.proofs.of_history.Logged.{history_again}
 
 abbrev asked_of : Deed → Option EventKind
 asked_of (Did n k r v o) = kind_of r o
@@ -77,8 +78,8 @@ module _ {B : Type 0} (setting : Setting B) (moves : List Move) (again : Reprodu
   abbrev b : Bool
   b = ops.buffered
 
-  abbrev go : IsAlongPaths b bound code log h
-  go = run.along setting moves again
+  abbrev all : HistoryAlong setting
+  all = history_again setting moves again
 
   abbrev a : AreSeen b ps h
   a = run.seen setting moves again
@@ -90,7 +91,7 @@ module _ {B : Type 0} (setting : Setting B) (moves : List Move) (again : Reprodu
   step_of_thread : (n : Name) (k : ℕ) (r : Request) (took : ℤ) (other : Option Name) → In (Did n k r took other) h → IsNameOfThread code log n
   step_of_thread n k r took other i =
       let s = in_split (Did n k r took other) h i in
-      step_named setting (run.fits setting moves again) h go s.older s.newer n k r took other s.there
+      step_named setting all s.older s.newer n k r took other s.there
 
   -- each visible deed is of a thread of the paths
   pub named : (d : Deed) (s : Sight) → In d h → sight_of b d ≡ Some s → (t : ℕ) × (q : Walk) × (slice_get ps.threads t ≡ Some q) × (q.name ≡ s.thread)
@@ -98,7 +99,7 @@ module _ {B : Type 0} (setting : Setting B) (moves : List Move) (again : Reprodu
     where
       of_step : (k : ℕ) (r : Request) (took : ℤ) (other : Option Name) → In (Did s.thread k r took other) h
           → (t : ℕ) × (q : Walk) × (slice_get ps.threads t ≡ Some q) × (q.name ≡ s.thread)
-      of_step k r took other j = let n = step_of_thread s.thread k r took other j in (n.place, n.walk, n.there, n.name)
+      of_step k r took other j = let n = step_of_thread s.thread k r took other j in (n.index, n.walk, n.there, n.name_is)
 
       by : SeenBy b s.thread s.step d → (t : ℕ) × (q : Walk) × (slice_get ps.threads t ≡ Some q) × (q.name ≡ s.thread)
       by (Done r took other asked same asks kept) = of_step s.step r took other (subst (λ e. In e h) same i)
@@ -124,11 +125,11 @@ module _ {B : Type 0} (setting : Setting B) (moves : List Move) (again : Reprodu
         let m = step_of_thread n k Fail took other i in
         let s = in_split (Did n k Fail took other) h i in
         let done : IsDoneIn h m.walk.name k kind.Fail =
-        subst (λ o. IsDoneIn h o k kind.Fail) (sym m.name)
+        subst (λ o. IsDoneIn h o k kind.Fail) (sym m.name_is)
         (record { older = s.older; newer = s.newer; request = Fail; took = took; other = other; there = s.there; asks = refl }) in
-        let x = done_event setting (run.fits setting moves again) h go m.place m.walk m.there k kind.Fail done in
-        let f = in_find (λ (e : Of Event). is_failure e.it.kind) (all_events ps) (record { thread = m.place; it = x.0 })
-        (among_all ps m.place m.walk x.0 m.there (contains_in x.0 m.walk.events x.1)) (failure_of x.0.kind x.3) in
+        let x = done_event setting all m.thread k kind.Fail done in
+        let f = in_find (λ (e : Of Event). is_failure e.it.kind) (all_events ps) (record { thread = m.index; it = x.0 })
+        (among_all ps m.index m.walk x.0 m.there (contains_in x.0 m.walk.events x.1)) (failure_of x.0.kind x.3) in
         absurd (none-some f.0 (sym none ∙ f.1))
     no_failure (Did n k r took other) i = refl
     no_failure (Drained n k c v) i = refl
@@ -204,7 +205,7 @@ module _ {B : Type 0} (setting : Setting B) (moves : List Move) (again : Reprodu
             let there_gone : In gone x.older =
             subst (λ g. In gone g) (sym (at ∙ ap (λ s. df.older ++ Did hf.0.name f.step s df.took df.other ∷ between) is_fail))
             (in_at df.older gone between) in
-            absurd (none_fails x.older hf.0.name (in_mapped fails gone hf.0.name x.older there_gone refl) (go.follow x.older x.newer x.deed x.there).0)
+            absurd (none_fails x.older hf.0.name (in_mapped fails gone hf.0.name x.older there_gone refl) (all.along.follow x.older x.newer x.deed x.there).0)
 
     abbrev found : Option (Of Event)
     found = find (λ (e : Of Event). is_failure e.it.kind) (all_events ps)

@@ -18,7 +18,7 @@ use Rattle.path_walk.specs.Paths.{Walk}
 use Rattle.path_walk.specs.Steps.{step_at, steps_at}
 use Rattle.path_walk.specs.declared.event.Event.{Event}
 use Rattle.path_walk.specs.declared.event.EventKind.TheVariants as kind
-use Rattle.path_laws.specs.history.Along.{IsThread}
+use Rattle.path_laws.specs.history.Along.{IsThread, path_thread}
 use Rattle.path_laws.proofs.of_history.Walks.{thread_path_at, walk_is}
 use Rattle.path_laws.proofs.of_events.Events.{at_step}
 use Rattle.path_laws.proofs.of_events.Lists.{in_contains}
@@ -60,7 +60,7 @@ module _ (code : Code) (log : Log) (is : is_log log ≡ true) where
       → (fails_in log q.name ≡ true) × (x.step + 1 ≡ length q.places)
   fail_is_last fits t q x there i fail =
       let ss = steps_at code q.function q.places in
-      let e = at_step code log q (walk_is code log is fits t q there) x (in_contains x q.events i) in
+      let e = at_step code log q (walk_is code log is fits (path_thread t q there)) x (in_contains x q.events i) in
       let both = and_parts (fails_in log q.name) (length (drop (suc e.place) ss) == 0)
       (to_fail (marks_after (unmarked code q.function) (take e.place ss)) e.step.instr (fails_in log q.name && length (drop (suc e.place) ss) == 0) (e.asks ∙ ap (λ a. Some a) fail)) in
       let rest = eqb-true (length (drop (suc e.place) ss)) 0 both.1 in

@@ -19,19 +19,18 @@ use Rattle.run_history.specs.Told.{steps_in}
 use Rattle.run_history.specs.pending.Deeds.{is_bar_between, has_bar_between}
 use Rattle.run_history.proofs.of_pending.In.{In, in_at, in_split, any_in, in_any}
 use Rattle.path_walk.specs.Events.{kind_with}
-use Rattle.path_walk.specs.Fits.{fails_in, Fits}
+use Rattle.path_walk.specs.Fits.{fails_in}
 use Rattle.path_walk.specs.Marks.{Marks, unmarked, marked, marks_after}
-use Rattle.path_walk.specs.Paths.{Walk}
 use Rattle.path_walk.specs.Steps.{Step, step_at, steps_at}
 use Rattle.path_walk.specs.declared.event.Event.{Event}
 use Rattle.path_walk.specs.declared.event.EventKind.{EventKind}
 use Rattle.path_laws.specs.Setting.{Setting}
-use Rattle.path_laws.specs.history.Along.{IsAlongPaths, IsThread}
 use Rattle.path_laws.proofs.of_history.Walks.{IsWalk, walk_is}
 use Rattle.path_laws.proofs.of_history.Next.{path_step}
 use Rattle.path_laws.proofs.Local.{marks-append}
 use Rattle.path_laws.proofs.of_events.Events.{at_step, event_within}
 use Rattle.path_laws.proofs.of_events.Steps.{IsStep, step_is, deed_of}
+use Rattle.path_laws.specs.history.Along.{HistoryAlong, PathThread}
 
 abbrev is_bar : Instr → Bool
 is_bar Stbar = true
@@ -145,12 +144,13 @@ event_is_no_bar : (m : Marks) (i : Instr) (fails : Bool) (asked : EventKind) →
 event_is_no_bar m i true asked e bar = refl
 event_is_no_bar m i false asked e bar = absurd (none-some asked (ap (λ x. kind_with m x false) (sym (stbar_is i bar)) ∙ e))
 
-module _ {B : Type 0} (setting : Setting B) (fits : Fits setting.code setting.log) (h : List Deed)
-    (along : IsAlongPaths setting.ops.buffered setting.bound setting.code setting.log h) (j : ℕ) (w : Walk) (there_at : IsThread setting.code setting.log j w) where
+module _ {B : Type 0} (setting : Setting B) (history : HistoryAlong setting) (thread : PathThread setting.code setting.log) where
   open setting use {code, log, log_is as is}
+  open history use {deeds as h, fits}
+  open thread use {walk as w}
 
   abbrev walk : IsWalk code log w
-  walk = walk_is code log is fits j w there_at
+  walk = walk_is code log is fits thread
 
   abbrev ss : List Step
   ss = steps_at code w.function w.places
@@ -160,7 +160,7 @@ module _ {B : Type 0} (setting : Setting B) (fits : Fits setting.code setting.lo
 
   -- a deed's step on the path does the instruction that asks for it
   step_on : (older : List Deed) (i : ℕ) (r : Request) (took : ℤ) (other : Option Name)
-      (s : IsStep setting fits h along j w there_at older i r took other)
+      (s : IsStep setting history thread older i r took other)
       → slice_get ss i ≡ Some (record { place = s.next.local.instruction; instr = s.next.instr })
   step_on older i r took other s =
       path_step code w i s.next.local.instruction s.next.instr (ap (slice_get w.places) s.may.number ∙ s.next.place) s.next.at
@@ -186,7 +186,7 @@ module _ {B : Type 0} (setting : Setting B) (fits : Fits setting.code setting.lo
         let p = any_in (is_bar_between w.name x.step y.step) h has in
         let b = bar_between w.name x.step y.step p.one p.passes in
         let at = in_split p.one h p.there in
-        let s = step_is setting fits h along j w there_at at.older at.newer b.number Bar b.took b.other
+        let s = step_is setting history thread at.older at.newer b.number Bar b.took b.other
         (at.there ∙ ap (λ d. at.older ++ d ∷ at.newer) b.is) in
         let grow = bars_grow start ss x.step b.number y.step _ (omega (arith, b.after)) b.before (omega (arith, within))
         (step_on at.older b.number Bar b.took b.other s) (bar_is s.next.local s.next.instr s.asks) in
@@ -199,7 +199,7 @@ module _ {B : Type 0} (setting : Setting B) (fits : Fits setting.code setting.lo
       where
         by : (b : Bool) → nat_lt x.step i ≡ b → ⊥
         by true e =
-            let d = deed_of setting fits h along j w there_at i (omega (arith, hi, few)) in
+            let d = deed_of setting history thread i (omega (arith, hi, few)) in
             let same : s.instr ≡ d.step.next.instr =
             ap (λ (z : Step). z.instr) (same_Some s _ (sym at ∙ step_on d.older i d.request d.took d.other d.step)) in
             let asks : d.request ≡ Bar = sym d.step.asks ∙ ap (request d.step.next.local) (sym same ∙ stbar_is s.instr bar) in

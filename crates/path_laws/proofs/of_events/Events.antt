@@ -17,7 +17,7 @@ use Rattle.run_history.specs.History.{Deed, Did, Drained, same}
 use Rattle.run_history.specs.Told.{is_thread_in, steps_in}
 use Rattle.run_history.proofs.Threads.{none_done}
 use Rattle.run_history.proofs.of_pending.In.{In, in_at, in_split, in_filter, from_filter, in_mapped, from_mapped}
-use Rattle.path_walk.specs.Fits.{fails_in, Fits}
+use Rattle.path_walk.specs.Fits.{fails_in}
 use Rattle.path_walk.specs.Marks.{unmarked}
 use Rattle.path_walk.specs.Paths.{Walk}
 use Rattle.path_walk.specs.Steps.{step_at, steps_at}
@@ -26,8 +26,8 @@ use Rattle.path_walk.specs.declared.event.EventKind.{EventKind}
 use Rattle.path_laws.specs.Setting.{Setting}
 use Rattle.path_laws.specs.Deeds.{kind_of, EventDone, done_as, event_by, events_before}
 use Rattle.path_laws.proofs.Deeds.{deeds_are_events}
-use Rattle.path_laws.specs.history.Along.{IsAlongPaths, IsThread, HasDoneAll}
-use Rattle.path_laws.proofs.of_history.Told.{RunOf, run_of, thread_of, steps_of}
+use Rattle.path_laws.specs.history.Along.{HasDoneAll, HistoryAlong, PathThread}
+use Rattle.path_laws.proofs.of_history.Told.{RunOf, thread_of, steps_of, its_run}
 use Rattle.path_laws.proofs.of_history.Walks.{IsWalk, walk_is}
 use Rattle.path_laws.specs.events.Done.{IsDoneIn}
 use Rattle.path_laws.proofs.of_events.Lists.{in_map, from_map, each_of, all_pass}
@@ -98,15 +98,16 @@ module _ (code : Code) (log : Log) (w : Walk) (k : IsWalk code log w) where
       let within = slice_get_within (steps_at code w.function w.places) e.place e.step e.there in
       omega (arith, within, e.number, length-map w.places (step_at code w.function))
 
-module _ {B : Type 0} (setting : Setting B) (fits : Fits setting.code setting.log) (h : List Deed)
-    (along : IsAlongPaths setting.ops.buffered setting.bound setting.code setting.log h) (j : ℕ) (w : Walk) (there : IsThread setting.code setting.log j w) where
+module _ {B : Type 0} (setting : Setting B) (history : HistoryAlong setting) (thread : PathThread setting.code setting.log) where
   open setting use {machine, ops, code, lawful, log, log_is as is}
+  open history use {deeds as h, fits}
+  open thread use {walk as w}
 
   abbrev r : RunOf machine log h
-  r = run_of machine log h along
+  r = its_run setting history
 
   abbrev k : IsWalk code log w
-  k = walk_is code log is fits j w there
+  k = walk_is code log is fits thread
 
   -- a thread that has done a step is there
   pub there_by_step : 0 < steps_in h w.name → (t : Thread B) × (fin.get r.state.threads w.name ≡ Some t)
@@ -139,7 +140,7 @@ module _ {B : Type 0} (setting : Setting B) (fits : Fits setting.code setting.lo
       → (x : Event) × In x w.events × (x.step ≡ n) × (x.kind ≡ asked) × (n < steps_in h w.name)
   done_event n asked d =
       let deed = Did w.name n d.request d.took d.other in
-      let s = step_is setting fits h along j w there d.older d.newer n d.request d.took d.other d.there in
+      let s = step_is setting history thread d.older d.newer n d.request d.took d.other d.there in
       let t = there_by_step (omega (arith, s.done)) in
       let tells : event_by w.name deed ≡ Some (the_done (record { step = n; kind = asked })) =
       ap (λ b. cond b (option_map (λ asked. the_done (record { step = n; kind = asked })) (kind_of d.request d.other)) None) (same_self w.name w.name refl)

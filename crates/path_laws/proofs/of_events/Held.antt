@@ -10,9 +10,8 @@ use Rattle.tc_code.specs.Code.{Code}
 use Rattle.tc_code.specs.Step.{holds, stepped}
 use Rattle.tc_code.proofs.Facts.{at_its_place}
 use Rattle.run_laws.proofs.Basics.{index_or-replicate}
-use Rattle.path_walk.specs.Fits.{fails_in, Fits}
+use Rattle.path_walk.specs.Fits.{fails_in}
 use Rattle.path_walk.specs.Marks.{unmarked, marks_after, has_mutex}
-use Rattle.path_walk.specs.Paths.{Walk}
 use Rattle.path_walk.specs.Steps.{step_at, steps_at}
 use Rattle.path_laws.specs.Setting.{Setting}
 use Rattle.path_laws.specs.Along.{HasMarks}
@@ -23,6 +22,8 @@ use Rattle.path_laws.proofs.of_history.Walks.{IsWalking}
 use Rattle.path_laws.proofs.of_events.Marked.{events_from}
 use Rattle.path_laws.proofs.of_events.Regions.{held_upto, held_is, site_marks}
 use Rattle.path_laws.proofs.of_events.Sites.{walk_fails_at_site}
+use Rattle.path_laws.specs.history.Along.{HistoryAlong, PathThread}
+use Rattle.path_laws.proofs.of_history.Told.{its_run}
 
 -- where a thread stands, also after it failed, it has what the marks of its path so far say
 stands_marks : (code : Code) (b : Bool) (t : Local) (ps : List ℕ) → Stands code b t ps
@@ -42,9 +43,13 @@ stands_marks code true t ps h =
     (subst (λ xs. HasMarks (stepped a) (marks_after (unmarked code f) (steps_at code f xs))) (sym h.all)
     (subst (HasMarks (stepped a)) (sym same) (record { held = m.held; handles = m.handles; children = m.children })))
 
-module _ {B : Type 0} (setting : Setting B) (fits : Fits setting.code setting.log) (w : Walk) (t : Thread B) (failed : Option Name)
-    (k : IsWalking setting fits w t failed) where
+module _ {B : Type 0} (setting : Setting B) (history : HistoryAlong setting) (thread : PathThread setting.code setting.log) (t : Thread B)
+    (k : IsWalking setting history thread t) where
   open setting use {code, log}
+  open thread use {walk as w}
+
+  abbrev failed : Option Name
+  failed = (its_run setting history).state.failed
 
   pub thread_marks : HasMarks t.local (marks_after (unmarked code w.function) (take t.local.steps (steps_at code w.function w.places)))
   thread_marks =

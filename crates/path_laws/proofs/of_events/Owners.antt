@@ -21,15 +21,15 @@ use Rattle.run_history.proofs.Last.{owners_are_last}
 use Rattle.run_follows.proofs.of_deeds.Cells.{next_within}
 use Rattle.run_history.proofs.of_pending.In.{In}
 use Rattle.path_walk.specs.Events.{takes, left_at, regions_of}
-use Rattle.path_walk.specs.Fits.{fails_in, Fits}
+use Rattle.path_walk.specs.Fits.{fails_in}
 use Rattle.path_walk.specs.Marks.{unmarked, marks_after}
 use Rattle.path_walk.specs.Paths.{Walk}
 use Rattle.path_walk.specs.Steps.{steps_at}
 use Rattle.path_walk.specs.declared.event.Event.{Event}
 use Rattle.path_walk.specs.declared.event.Region.{Region}
 use Rattle.path_laws.specs.Setting.{Setting}
-use Rattle.path_laws.specs.history.Along.{IsAlongPaths, IsThread, IsNameOfThread}
-use Rattle.path_laws.proofs.of_history.Told.{RunOf, run_of, reached, steps_of, first_along}
+use Rattle.path_laws.specs.history.Along.{IsNameOfThread, HistoryAlong, PathThread}
+use Rattle.path_laws.proofs.of_history.Told.{RunOf, reached, steps_of, its_run, up_to}
 use Rattle.path_laws.proofs.of_history.Walks.{IsWalk, walking, walk_is, thread_named}
 use Rattle.path_laws.specs.events.Done.{IsOpenAfter}
 use Rattle.path_laws.proofs.of_events.Lists.{in_contains, contains_in}
@@ -109,12 +109,12 @@ region_event (x ∷ es) r i = by (takes x.kind) refl i (λ j. later (region_even
 abbrev HasOpen : Walk → ℕ → ℕ → Type 0
 HasOpen w m n = (r : Region) × Contains w.regions r × (r.mutex ≡ m) × IsOpenAfter n r
 
-module _ {B : Type 0} (setting : Setting B) (fits : Fits setting.code setting.log) (h : List Deed)
-    (along : IsAlongPaths setting.ops.buffered setting.bound setting.code setting.log h) where
-  open setting use {machine, ops, bound, code, lawful, log, log_is as is}
+module _ {B : Type 0} (setting : Setting B) (history : HistoryAlong setting) where
+  open setting use {machine, ops, code, lawful, log, log_is as is}
+  open history use {deeds as h, fits, along}
 
   abbrev r : RunOf machine log h
-  r = run_of machine log h along
+  r = its_run setting history
 
   -- the deed by which an owner took a mutex
   pub record TookIt (m : ℕ) (n : Name) : Type 0 where
@@ -127,18 +127,18 @@ module _ {B : Type 0} (setting : Setting B) (fits : Fits setting.code setting.lo
       let t = taking m n last.deed last.gives in
       let at = last.there ∙ ap (λ d. last.older ++ d ∷ last.newer) t.is in
       let d = Did n t.number t.request t.took t.other in
-      let before = first_along machine log last.older (d ∷ last.newer)
-      (subst (IsAlongPaths ops.buffered bound code log) at along) in
+      let before = up_to setting history last.older (d ∷ last.newer) at in
       let may = (along.follow last.older last.newer d at).1 in
       record {
-        within = t.within code (next_within machine last.older n t.request before.follow may.asks);
-        thread = thread_named setting fits last.older n before
-            (r.told.threads last.older last.newer n t.number t.request t.took t.other at).there;
+        within = t.within code (next_within machine last.older n t.request before.along.follow may.asks);
+        thread = thread_named setting before n (r.told.threads last.older last.newer n t.number t.request t.took t.other at).there;
       }
 
-  module _ (j : ℕ) (w : Walk) (there : IsThread code log j w) (m : ℕ) where
+  module _ (thread : PathThread code log) (m : ℕ) where
+    open thread use {walk as w}
+
     abbrev k : IsWalk code log w
-    k = walk_is code log is fits j w there
+    k = walk_is code log is fits thread
 
     abbrev n : Name
     n = w.name
@@ -163,8 +163,7 @@ module _ {B : Type 0} (setting : Setting B) (fits : Fits setting.code setting.lo
 
       holds_by : holds t.local m ≡ unwrap_or (held_upto m (steps_in h n) w.events) false
       holds_by =
-          holds_told setting fits w t r.state.failed (walking setting fits h r j w t there here)
-          m within
+          holds_told setting history thread t (walking setting history thread t here) m within
           ∙ ap (λ i. unwrap_or (held_upto m i w.events) false) steps
 
       some_true : (o : Option Bool) → unwrap_or o false ≡ true → o ≡ Some true
@@ -196,6 +195,6 @@ module _ {B : Type 0} (setting : Setting B) (fits : Fits setting.code setting.lo
           to_open t.0 t.1 within owns,
       λ o.
           let i = in_contains o.0 w.regions o.1 in
-          let t = there_by_step setting fits h along j w there (omega (arith, o.3.begun)) in
+          let t = there_by_step setting history thread (omega (arith, o.3.begun)) in
           from_open t.0 t.1 (region_within o.0 i o.2) o.0 i o.2 o.3,
     )

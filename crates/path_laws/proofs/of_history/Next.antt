@@ -19,7 +19,7 @@ use Rattle.run_history.specs.History.{Deed}
 use Rattle.run_history.specs.Locals.{asks_next}
 use Rattle.run_history.specs.Told.{is_thread_in, steps_in, failed_in}
 use Rattle.path_walk.specs.Events.{excludes, is_impossible}
-use Rattle.path_walk.specs.Fits.{fails_in, places_in, Fits}
+use Rattle.path_walk.specs.Fits.{fails_in, places_in}
 use Rattle.path_walk.specs.Marks.{Marks, unmarked, marks_after, marked_steps}
 use Rattle.path_walk.specs.Paths.{Walk, paths_of}
 use Rattle.path_walk.specs.Steps.{Step, Onward, onward, places_from, end_from, step_at, steps_at}
@@ -29,11 +29,11 @@ use Rattle.path_laws.specs.Prefixes.{fails_by}
 use Rattle.path_laws.proofs.Blocked.{none_behind_exit}
 use Rattle.path_laws.proofs.Deeds.{same_test}
 use Rattle.path_laws.proofs.States.{Stands}
-use Rattle.path_laws.specs.history.Along.{IsThread}
 use Rattle.path_laws.specs.history.Next.{fails_next, IsNextOnPath, IsAsWanted}
-use Rattle.path_laws.proofs.of_history.Told.{RunOf, reached, thread_of, steps_of, local_is}
+use Rattle.path_laws.proofs.of_history.Told.{RunOf, reached, thread_of, steps_of, local_is, its_run}
 use Rattle.path_laws.proofs.of_history.Walks.{IsWalking, walking, walk_is, no_element}
 use Rattle.path_laws.proofs.of_history.Places.{IsNextPlace, next_place, marked_at}
+use Rattle.path_laws.specs.history.Along.{HistoryAlong, PathThread}
 
 -- a path that isn't dead excludes no step
 beq_not : (b fails : Bool) → beq b fails ≡ false → b ≡ not fails
@@ -73,17 +73,22 @@ module _ (code : Code) (w : Walk) (k : ℕ) where
       same_test (length (drop (suc k) (steps_at code w.function w.places))) 0 (k + 1) (length w.places)
       (λ none. omega (arith, rest, all, none, few)) (λ same. omega (arith, rest, all, same))
 
-module _ {B : Type 0} (setting : Setting B) (fits : Fits setting.code setting.log) (h : List Deed) (j : ℕ) (w : Walk)
-    (there : IsThread setting.code setting.log j w) (going : failed_in h ≡ None) (r : RunOf setting.machine setting.log h) where
+module _ {B : Type 0} (setting : Setting B) (history : HistoryAlong setting) (thread : PathThread setting.code setting.log)
+    (going : failed_in history.deeds ≡ None) where
   open setting use {machine, ops, code, lawful, log, log_is as is}
+  open history use {deeds as h, fits}
+  open thread use {walk as w}
+
+  abbrev r : RunOf machine log h
+  r = its_run setting history
 
   none_failed : r.state.failed ≡ None
   none_failed = r.told.tells.failure ∙ going
 
   -- a thread that is there stands where the first places of its path lead
   module _ (t : Thread B) (here : fin.get r.state.threads w.name ≡ Some t) where
-    abbrev k : IsWalking setting fits w t r.state.failed
-    k = walking setting fits h r j w t there here
+    abbrev k : IsWalking setting history thread t
+    k = walking setting history thread t here
 
     pub stands : IsAlong code t.local (take t.local.steps w.places)
     stands =
@@ -188,7 +193,7 @@ module _ {B : Type 0} (setting : Setting B) (fits : Fits setting.code setting.lo
 
   pub as_wanted : (x : IsNextOnPath code h w) → (paths_of code log).dead ≡ false → IsAsWanted (fails_next log h w) x.local x.instr
   as_wanted x dead =
-      let k = walk_is code log is fits j w there in
+      let k = walk_is code log is fits thread in
       let n = x.local.steps in
       let ss = steps_at code w.function w.places in
       let fails = fails_in log w.name in

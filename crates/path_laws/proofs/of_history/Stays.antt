@@ -43,9 +43,8 @@ use Rattle.path_laws.specs.Prefixes.{fails_by, IsOnPath}
 use Rattle.path_laws.proofs.Does.{bytes_other}
 use Rattle.path_laws.proofs.States.{create_is}
 use Rattle.path_laws.proofs.Prefixes.{is_ok}
-use Rattle.path_laws.specs.history.Along.{AreOnPathsIn, IsAlongPaths, IsThread}
+use Rattle.path_laws.specs.history.Along.{AreOnPathsIn, IsAlongPaths, HistoryAlong, PathThread}
 use Rattle.path_laws.specs.history.Next.{fails_next, failing_next, IsNextOnPath, BranchesAlong}
-use Rattle.path_laws.proofs.of_history.Told.{RunOf, run_of}
 use Rattle.path_laws.proofs.of_history.Walks.{IsWalk, walk_is}
 use Rattle.path_laws.proofs.of_history.Next.{asks_told, steps_left, along_next}
 
@@ -177,11 +176,11 @@ no_other_fails false n q apart = refl
 module _ {B : Type 0} (machine : Machine B) (log : Log) where
   open machine use {ops, bound, code}
 
-  pub start_along : Fits code log → IsAlongPaths ops.buffered bound code log []
+  pub start_along : Fits code log → IsAlongPaths machine log []
   start_along fits = record { follow = nothing_follows ops.buffered bound code; on = start_on code log fits }
 
-  pub drain_stays : (h : List Deed) (n : Name) (k c : ℕ) (v : ℤ) → IsAlongPaths ops.buffered bound code log h → failed_in h ≡ None
-      → MayFollow ops.buffered bound code h (Drained n k c v) → IsAlongPaths ops.buffered bound code log (h ++ Drained n k c v ∷ [])
+  pub drain_stays : (h : List Deed) (n : Name) (k c : ℕ) (v : ℤ) → IsAlongPaths machine log h → failed_in h ≡ None
+      → MayFollow ops.buffered bound code h (Drained n k c v) → IsAlongPaths machine log (h ++ Drained n k c v ∷ [])
   drain_stays h n k c v along going may =
       let d = Drained n k c v in
       record {
@@ -191,19 +190,17 @@ module _ {B : Type 0} (machine : Machine B) (log : Log) where
             (along.on q l (ap (λ ls. fin.get ls q) (sym (fold-append (after_deed code) _ h (d ∷ []))) ∙ at));
       }
 
-module _ {B : Type 0} (setting : Setting B) (fits : Fits setting.code setting.log) (h : List Deed)
-    (along : IsAlongPaths setting.ops.buffered setting.bound setting.code setting.log h) (j : ℕ) (w : Walk) (there : IsThread setting.code setting.log j w)
-    (going : failed_in h ≡ None) (x : IsNextOnPath setting.code h w) where
+module _ {B : Type 0} (setting : Setting B) (history : HistoryAlong setting) (thread : PathThread setting.code setting.log)
+    (going : failed_in history.deeds ≡ None) (x : IsNextOnPath setting.code history.deeds thread.walk) where
   open setting use {machine, ops, bound, code, lawful, log, log_is as is}
-
-  abbrev run : RunOf machine log h
-  run = run_of machine log h along
+  open history use {deeds as h, fits, along}
+  open thread use {walk as w}
 
   abbrev t : Local
   t = x.local
 
   abbrev walk : IsWalk code log w
-  walk = walk_is code log is fits j w there
+  walk = walk_is code log is fits thread
 
   -- the child that it creates is created on the path
   created_next : (f : ℕ) → request t x.instr ≡ Start f → function_of code log (child w.name (t.children + 1)) ≡ Some f
@@ -215,7 +212,7 @@ module _ {B : Type 0} (setting : Setting B) (fits : Fits setting.code setting.lo
       let place : slice_get w.places n ≡ Some t.instruction = ap (slice_get w.places) x.steps ∙ x.place in
       let count : length front ≡ t.children =
       ap (λ a. length (started (steps_at code a (take n w.places)))) (sym x.function)
-      ∙ (along_next setting fits h j w there going run x).children in
+      ∙ (along_next setting history thread going x).children in
       let starts_it : starts (step_at code g t.instruction).instr ≡ Some f =
       ap (λ o. starts (unwrap_or o Exit)) x.at ∙ create_is ops code lawful t x.instr f asks in
       let all : started (steps_at code g w.places) ≡ front ++ f ∷ started (steps_at code g rest) =
@@ -247,7 +244,7 @@ module _ {B : Type 0} (setting : Setting B) (fits : Fits setting.code setting.lo
 
     own_on : IsOnPath log (failing_next log h w) w.name u
     own_on =
-        let left = steps_left setting fits h j w there going run x in
+        let left = steps_left setting history thread going x in
         let one : u.steps ≡ t.steps + 1 = steps_by t x.instr r took in
         let goes = outcomes_left w t x.instr r took x.later x.outcomes branch in
         let next : steps_in h w.name + 1 ≡ u.steps = omega (arith, one, x.steps) in
@@ -282,7 +279,7 @@ module _ {B : Type 0} (setting : Setting B) (fits : Fits setting.code setting.lo
           fails = no_other_fails (fails_next log h w) w.name q apart ∙ sym (ap (λ o. fails_by o q) going) ∙ on.fails;
         }
 
-    pub step_stays : IsAlongPaths ops.buffered bound code log (h ++ d ∷ [])
+    pub step_stays : IsAlongPaths machine log (h ++ d ∷ [])
     step_stays = record {
       follow = follow_push ops.buffered bound code h d along.follow going may;
       on = λ q l at.

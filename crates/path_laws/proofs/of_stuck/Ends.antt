@@ -1,13 +1,12 @@
 -- A path that is blocked at a wake ends with the sleep.
-use Rattle.std.proofs.Common.{◌≡◌, ◌∙◌, ◌⊎◌, inl, inr, ℕ, zero, suc, ◌+◌, ◌-◌, Bool, true, false, ◌==◌, List, [], ◌∷◌, ◌++◌, length}
-use Rattle.std.proofs.Common.{Option, Some, None, Ok, refl, sym, ap, ap₂, subst, arith, true≢false, length-append}
-use Rattle.std.specs.Prelude.{slice_get, unwrap_or, option_map, option_and_then}
-use Rattle.std.specs.List.{filter_map, cons_option}
+use Rattle.std.proofs.Common.{◌≡◌, ◌∙◌, ◌⊎◌, inl, inr, ℕ, zero, suc, ◌+◌, ◌-◌, Bool, true, false, List, [], ◌∷◌, ◌++◌, length}
+use Rattle.std.proofs.Common.{Option, Some, None, Ok, refl, sym, ap, ap₂, arith, true≢false, length-append}
+use Rattle.std.specs.Prelude.{slice_get, unwrap_or, option_map}
+use Rattle.std.specs.List.{cons_option}
 use Rattle.std.specs.Option.{option_map_or}
 use Rattle.std.proofs.lemmas.List.{length-map, map-append}
 use Rattle.std.proofs.lemmas.Option.{none-some, same_Some}
 use Rattle.run_log.specs.Logs.{Log}
-use Rattle.tc_base.specs.Paths.{Path}
 use Rattle.tc_code.specs.Code.{Code, instr_at, line_at}
 use Rattle.tc_code.specs.Lawful.{IsLawful, is_bound, target}
 use Rattle.tc_code.specs.declared.code.Func.{Func}
@@ -17,14 +16,13 @@ use Rattle.tc_code.proofs.Facts.{placed}
 use Rattle.run_history.proofs.Lists.{filter_map-push}
 use Rattle.list_laws.proofs.Lists.{get_seam}
 use Rattle.path_walk.specs.Events.{asks, event_of, events_of, sleep_by, sleeps_of, last_sleep, blocked_at}
-use Rattle.path_walk.specs.Fits.{ending_of, fails_in}
+use Rattle.path_walk.specs.Fits.{ending_of}
 use Rattle.path_walk.specs.Marks.{Marks, Marked, unmarked, marks_after, marked_from, marked_steps}
 use Rattle.path_walk.specs.Paths.{Walk, blocked_after}
-use Rattle.path_walk.specs.Steps.{Step, Onward, onward, places_from, end_from, standing, is_failing, step_at, steps_at}
+use Rattle.path_walk.specs.Steps.{Onward, onward, places_from, end_from, standing, is_failing, step_at, steps_at}
 use Rattle.path_walk.specs.Steps as path
 use Rattle.path_walk.specs.declared.ending.Ending.{Ending}
 use Rattle.path_walk.specs.declared.ending.Ending.TheVariants.{Fails, Rests, Open}
-use Rattle.path_walk.specs.declared.event.Blocked.{Blocked}
 use Rattle.path_walk.specs.declared.event.Blocked.TheVariants as blocked
 use Rattle.path_walk.specs.declared.event.Event.{Event}
 use Rattle.path_walk.specs.declared.event.EventKind.TheVariants as kind

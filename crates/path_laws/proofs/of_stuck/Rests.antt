@@ -20,14 +20,13 @@ use Rattle.tc_code.specs.declared.instr.Instr.TheVariants.{Lock, Wake, Join}
 use Rattle.tc_code.proofs.Facts.{at_its_place}
 use Rattle.run_laws.proofs.Basics.{unless, some_is, some_value}
 use Rattle.run_laws.proofs.Exits.{exited_past_exit, has_next}
-use Rattle.run_history.specs.History.{Deed}
 use Rattle.run_history.specs.Locals.{asks_next}
-use Rattle.run_history.specs.Told.{has_exited_in}
+use Rattle.run_history.specs.Told.{has_exited_in, is_thread_in}
 use Rattle.run_follows.specs.Logged.{path_by}
 use Rattle.path_walk.specs.Events.{blocked_at}
-use Rattle.path_walk.specs.Fits.{ending_by, ending_of, Fits}
+use Rattle.path_walk.specs.Fits.{ending_by, ending_of}
 use Rattle.path_walk.specs.Marks.{Marks, unmarked, marks_after}
-use Rattle.path_walk.specs.Paths.{Walk, blocked_after}
+use Rattle.path_walk.specs.Paths.{blocked_after}
 use Rattle.path_walk.specs.Steps.{is_failing, can_block, ended, standing, steps_at}
 use Rattle.path_walk.specs.declared.ending.Ending.TheVariants.{Rests}
 use Rattle.path_walk.specs.declared.event.Sleep.{Sleep as Wait}
@@ -38,8 +37,8 @@ use Rattle.path_laws.specs.Along.{HasMarks, IsAlong}
 use Rattle.path_laws.specs.Prefixes.{fails_by}
 use Rattle.path_laws.proofs.Blocked.{none_behind_exit}
 use Rattle.path_laws.proofs.States.{Stands}
-use Rattle.path_laws.specs.history.Along.{IsThread, HasDoneAll}
-use Rattle.path_laws.proofs.of_history.Told.{RunOf, reached}
+use Rattle.path_laws.specs.history.Along.{HasDoneAll, HistoryAlong, PathThread}
+use Rattle.path_laws.proofs.of_history.Told.{RunOf, reached, its_run, thread_of}
 use Rattle.path_laws.proofs.of_history.Walks.{IsWalking, walking}
 use Rattle.path_laws.proofs.of_history.Whole.{stands_all, went_all}
 use Rattle.path_laws.specs.stuck.Blocked.{asked_at}
@@ -73,13 +72,23 @@ can_be_blocked code f p ps i told at = by (can_block i) (ap (λ o. cond (option_
     by true e = refl
     by false e = absurd cc
 
-module _ {B : Type 0} (setting : Setting B) (fits : Fits setting.code setting.log) (h : List Deed) (r : RunOf setting.machine setting.log h) (j : ℕ)
-    (w : Walk) (there : IsThread setting.code setting.log j w) (done : HasDoneAll h w) (dead : setting.log.failing ≡ Deadlock) (t : Thread B)
-    (here : fin.get r.state.threads w.name ≡ Some t) where
+module _ {B : Type 0} (setting : Setting B) (history : HistoryAlong setting) (thread : PathThread setting.code setting.log)
+    (there : is_thread_in history.deeds thread.name ≡ true) (done : HasDoneAll history.deeds thread.walk) (dead : setting.log.failing ≡ Deadlock) where
   open setting use {machine, ops, code, lawful, log}
+  open history use {deeds as h}
+  open thread use {walk as w}
 
-  abbrev k : IsWalking setting fits w t r.state.failed
-  k = walking setting fits h r j w t there here
+  abbrev r : RunOf machine log h
+  r = its_run setting history
+
+  abbrev t : Thread B
+  t = (thread_of machine log h r w.name there).0
+
+  here : fin.get r.state.threads w.name ≡ Some t
+  here = (thread_of machine log h r w.name there).1
+
+  abbrev k : IsWalking setting history thread t
+  k = walking setting history thread t here
 
   rests : ending_of log w.name ≡ Rests
   rests = rests_in log w.name dead
@@ -89,10 +98,10 @@ module _ {B : Type 0} (setting : Setting B) (fits : Fits setting.code setting.lo
   stands =
       let not_fails : fails_by r.state.failed w.name ≡ false =
       k.so.on.fails ∙ ap (λ e. is_failing e && t.local.steps == k.so.on.path.steps) rests in
-      subst (λ b. Stands code b t.local w.places) not_fails (stands_all setting fits h r j w there t here done)
+      subst (λ b. Stands code b t.local w.places) not_fails (stands_all setting history thread done t here)
 
   path : path_by t.local ≡ k.walk.path
-  path = went_all setting fits h r j w there t here done
+  path = went_all setting history thread done t here
 
   -- and stands where the path says
   standing_there : standing code w.function k.walk.path ≡ instr_at code t.local.function t.local.instruction

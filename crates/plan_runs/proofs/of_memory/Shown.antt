@@ -12,7 +12,7 @@ use Rattle.path_walk.specs.Paths.{Walk, paths_of}
 use Rattle.path_walk.specs.declared.event.EventKind.{EventKind}
 use Rattle.path_laws.specs.Setting.{Setting}
 use Rattle.path_laws.specs.Deeds.{kind_of}
-use Rattle.path_laws.specs.history.Along.{IsThread}
+use Rattle.path_laws.specs.history.Along.{IsThread, path_thread}
 use Rattle.path_laws.specs.events.Done.{IsDoneIn}
 use Rattle.path_laws.proofs.of_events.Events.{done_event}
 use Rattle.path_laws.proofs.of_events.Lists.{contains_in}
@@ -24,6 +24,7 @@ use Rattle.world_plan.specs.Going.{IsLawfulWorld, HasGone}
 use Rattle.world_plan.specs.Sights.{Sight, sight_of, Shows, AreInOrder}
 use Rattle.world_plan.proofs.Threads.{one_thread}
 use Rattle.plan_runs.proofs.of_memory.Issued.{IsDrainedIn, drain_issued, issue_event}
+use Rattle.plan_runs.proofs.Histories.{history_of}
 
 abbrev pub the_sight : Sight → Sight
 the_sight s = s
@@ -61,7 +62,7 @@ module _ {B : Type 0} (setting : Setting B) (nodes : List Node) (w : World) (l :
   step_before : (u : ℕ) (q : Walk) → IsThread code log u q → (k : ℕ) (kind : EventKind) → IsDoneIn h q.name k kind → (ops.buffered && is_store kind) ≡ false
       → At u k < p
   step_before u q there k kind d unbuffered =
-      let y = done_event setting l.fits h g.along u q there k kind d in
+      let y = done_event setting (history_of l g) (path_thread u q there) k kind d in
       elim (g.only u q y.0 there (contains_in y.0 q.events y.1) (omega (arith, y.2, y.4))) [
         | inl before ↦ subst (λ j. At u j < p) y.2 before
         | inr pending ↦ absurd (true≢false (sym pending ∙ ap (λ k. ops.buffered && is_store k) y.3 ∙ unbuffered))
@@ -70,8 +71,8 @@ module _ {B : Type 0} (setting : Setting B) (nodes : List Node) (w : World) (l :
   -- a store that has reached memory
   drain_before : (u : ℕ) (q : Walk) → IsThread code log u q → (k c : ℕ) (v : ℤ) → IsDrainedIn h q.name k c v → At u k < p
   drain_before u q there k c v d =
-      let i = drain_issued setting l.fits h g.along q.name k c v d in
-      let y = issue_event setting l.fits h g.along u q there k c v i.0 in
+      let i = drain_issued setting (history_of l g) q.name k c v d in
+      let y = issue_event setting (history_of l g) (path_thread u q there) k c v i.0 in
       let before = (g.drained u q y.0 there (contains_in y.0 q.events y.1) (ap₂ (λ b a. b && is_store a) i.1 y.3)).0 (ap (has_drained h q.name) y.2 ∙ i.2) in
       subst (λ j. At u j < p) y.2 before
 

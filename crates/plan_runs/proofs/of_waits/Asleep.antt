@@ -24,7 +24,7 @@ use Rattle.path_walk.specs.declared.event.EventKind.TheVariants as kind
 use Rattle.path_walk.specs.declared.event.Sleep.{Sleep}
 use Rattle.path_laws.specs.Setting.{Setting}
 use Rattle.path_laws.specs.Deeds.{kind_of}
-use Rattle.path_laws.specs.history.Along.{IsAlongPaths, IsThread}
+use Rattle.path_laws.specs.history.Along.{IsAlongPaths, IsThread, path_thread}
 use Rattle.path_laws.specs.events.Done.{IsDoneIn, IsAsleepIn}
 use Rattle.path_laws.proofs.of_events.Events.{event_done, done_event}
 use Rattle.path_laws.proofs.of_events.Lists.{in_contains, contains_in}
@@ -34,7 +34,7 @@ use Rattle.order_formula.specs.declared.group.Group.TheVariants.{Condition}
 use Rattle.lawful_order.specs.Events.{Of, all_events, all_sleeps, number_of, place_of, ender_of}
 use Rattle.lawful_order.specs.Conditions.{is_signal, is_broadcast}
 use Rattle.lawful_order.specs.Memory.{is_store}
-use Rattle.world_plan.specs.Going.{IsLawfulWorld, HasGone, IsAtEvent, SleepUntilEnded, is_pending, place}
+use Rattle.world_plan.specs.Going.{IsLawfulWorld, HasGone, NextEvent, SleepUntilEnded, is_pending, place}
 use Rattle.world_plan.specs.Plan.{woken_by, other_of}
 use Rattle.world_plan.proofs.Numbers.{event_numbered, number_is}
 use Rattle.world_plan.proofs.Places.{same_event}
@@ -43,6 +43,7 @@ use Rattle.plan_runs.proofs.of_waits.Begun.{SleepEvent}
 use Rattle.plan_runs.proofs.of_waits.Sleepers.{owner, to_wake, wakes_none, is_signal_at, is_broadcast_at, begins_with, begun_before, before_begun, one_sleep}
 use Rattle.plan_runs.proofs.of_waits.Waking.{still, waits, waits_no_more, lasts}
 use Rattle.plan_runs.proofs.of_waits.Worlds.{are_whole}
+use Rattle.plan_runs.proofs.Histories.{history_of}
 
 -- One deed more, and a sleep.
 
@@ -161,7 +162,7 @@ kind_done (Drained n k c v) = None
 
 module _ {B : Type 0} (setting : Setting B) (nodes : List Node) (w : World) (lawful : IsLawfulWorld setting nodes w) (p : ℕ) (h : List Deed)
     (gone : HasGone setting nodes w p h) where
-  open setting use {ops, bound, code, log}
+  open setting use {machine, ops, bound, code, log}
 
   abbrev paths : Paths
   paths = paths_of code log
@@ -205,7 +206,7 @@ module _ {B : Type 0} (setting : Setting B) (nodes : List Node) (w : World) (law
               (same.0, inr (broadcasts c x.kind (ap (λ (y : Event). is_broadcast c y.kind) same.1 ∙ broadcast.broadcasts)))
         ]
 
-  module _ (d : Deed) (along : IsAlongPaths ops.buffered bound code log (h ++ d ∷ [])) where
+  module _ (d : Deed) (along : IsAlongPaths machine log (h ++ d ∷ [])) where
     abbrev after : List Deed
     after = h ++ d ∷ []
 
@@ -225,13 +226,13 @@ module _ {B : Type 0} (setting : Setting B) (nodes : List Node) (w : World) (law
     done_now : (u : ℕ) (v : Walk) (e : Event) → IsThread code log u v → In e v.events → e.step < steps_in after v.name
         → (e.step < steps_in h v.name) ⊎ IsNow v.name e
     done_now u v e there i done =
-        let o = event_done setting lawful.fits after along u v there e i done in
+        let o = event_done setting (record { deeds = after; fits = lawful.fits; along = along }) (path_thread u v there) e i done in
         elim (last_or_before h d o.older (Did v.name e.step o.request o.took o.other) o.newer o.there) [
           | inl last ↦ inr (record { request = o.request; took = o.took; other = o.other; is = last.1; asks = o.asks })
           | inr b ↦
               let before : IsDoneIn h v.name e.step e.kind =
               record { older = o.older; newer = b.rest; request = o.request; took = o.took; other = o.other; there = b.there; asks = o.asks } in
-              inl (done_event setting lawful.fits h gone.along u v there e.step e.kind before).4
+              inl (done_event setting (history_of lawful gone) (path_thread u v there) e.step e.kind before).4
         ]
 
     kind_now : (n : Name) (e : Event) → IsNow n e → kind_done d ≡ Some e.kind
@@ -341,13 +342,20 @@ module _ {B : Type 0} (setting : Setting B) (nodes : List Node) (w : World) (law
 
     -- The event at the position.
 
-    module _ (t : ℕ) (q : Walk) (x : Event) (at : IsAtEvent setting nodes w p h t q x) (k : ℕ) (r : Request) (took : ℤ)
+    module _ (t : ℕ) (q : Walk) (x : Event) (own_there : IsThread code log t q) (x_among : Contains q.events x) (x_at : place code log w t x ≡ p)
+        (x_steps : steps_in h q.name ≡ x.step) (k : ℕ) (r : Request) (took : ℤ)
         (other : Option Name) (does : d ≡ Did q.name k r took other) (other_is : other ≡ other_of paths w h t q.name r) where
+      abbrev now : NextEvent setting nodes w
+      now = record {
+        here = record { position = p; deeds = h; gone = gone; thread = path_thread t q own_there; event = x; among = x_among; at = x_at };
+        steps = x_steps;
+      }
+
       abbrev g : ℕ
       g = number_of paths t x.step
 
       here : position w g ≡ p
-      here = at.at
+      here = x_at
 
       one_more : steps_in after q.name ≡ steps_in h q.name + 1
       one_more =
@@ -358,14 +366,14 @@ module _ {B : Type 0} (setting : Setting B) (nodes : List Node) (w : World) (law
       -- the deed does it
       asks : kind_of r other ≡ Some x.kind
       asks =
-          elim (done_now t q x at.thread (in_contains x q.events at.event) (omega (arith, one_more, at.steps))) [
-            | inl before ↦ absurd (omega (arith, before, at.steps))
+          elim (done_now t q x own_there (in_contains x q.events x_among) (omega (arith, one_more, x_steps))) [
+            | inl before ↦ absurd (omega (arith, before, x_steps))
             | inr now ↦ sym (ap kind_done does) ∙ kind_now q.name x now
           ]
 
       woken : (c : ℕ) → r ≡ WakeOne c → other ≡ woken_by paths w g
       woken c is =
-          other_is ∙ ap (λ a. other_of paths w h t q.name a) is ∙ ap (λ i. woken_by paths w (number_of paths t i)) at.steps
+          other_is ∙ ap (λ a. other_of paths w h t q.name a) is ∙ ap (λ i. woken_by paths w (number_of paths t i)) x_steps
 
       signals_now : (c : ℕ) → r ≡ WakeOne c → x.kind ≡ kind.Signal c
       signals_now c is = same_Some x.kind (kind.Signal c) (sym asks ∙ ap (λ a. kind_of a other) is)
@@ -389,7 +397,7 @@ module _ {B : Type 0} (setting : Setting B) (nodes : List Node) (w : World) (law
             by (Some n) wakes =
                 let o = to_wake paths w g n wakes in
                 let one = (lawful.lawful.meets (Condition z.it.condition)).one s o.number g
-                (is_signal_at paths w (are_whole setting nodes w lawful) t q x z.it.condition at.thread at.event signal) ends_g o.ends in
+                (is_signal_at paths w (are_whole setting nodes w lawful) t q x z.it.condition own_there x_among signal) ends_g o.ends in
                 let sleep = same_Some z o.sleep (sym is ∙ ap (slice_get (all_sleeps paths)) one ∙ o.is) in
                 let walk = same_Some v o.walk (sym there ∙ ap (λ (y : Of Sleep). slice_get paths.threads y.thread) sleep ∙ o.there) in
                 woken z.it.condition (signal_is r other z.it.condition (asks ∙ ap (λ a. Some a) signal))
@@ -400,7 +408,7 @@ module _ {B : Type 0} (setting : Setting B) (nodes : List Node) (w : World) (law
         not_here : waits_by z.it.condition v.name d ≡ None → (j : ℕ) → ender_of w s ≡ Some j → position w j ≡ p → ⊥
         not_here none j ends at_j =
             let c = z.it.condition in
-            let e = ends_here t q x at.thread at.event at.at s j z is ends at_j in
+            let e = ends_here t q x own_there x_among x_at s j z is ends at_j in
             elim e.1 [
               | inl signal ↦
                   none-some false
@@ -426,11 +434,11 @@ module _ {B : Type 0} (setting : Setting B) (nodes : List Node) (w : World) (law
               let waiting = (waits setting nodes w lawful p h gone z.thread v z.it.condition there).1
               (z.it, among s z v is there, refl, asleep) in
               true≢false (sym waiting ∙ ap (set.contains (waiting_in h z.it.condition)) (sym own)
-              ∙ waits_no_more setting nodes w lawful p h t q x at z.it.condition)
+              ∙ waits_no_more setting nodes w lawful now z.it.condition)
           not_later (Wakes_it signal to) =
               let c = z.it.condition in
               let o = to_wake paths w g v.name (sym (woken c signal) ∙ to) in
-              let other_asleep = lasts setting nodes w lawful p h t q x at c (signals_now c signal) v.name o in
+              let other_asleep = lasts setting nodes w lawful now c (signals_now c signal) v.name o in
               let mine = still setting nodes w lawful p h gone v.name z.it asleep in
               let its = still setting nodes w lawful p h gone o.walk.name o.sleep.it other_asleep in
               let thread = one_thread code log setting.log_is z.thread o.sleep.thread v o.walk there o.there (sym o.name) in
@@ -442,7 +450,7 @@ module _ {B : Type 0} (setting : Setting B) (nodes : List Node) (w : World) (law
               let c = z.it.condition in
               let before = begun_before setting nodes w lawful z.thread v z.it there (among s z v is there) p h gone begun in
               let ends = (lawful.lawful.meets (Condition c)).each s g z
-              (is_broadcast_at paths w (are_whole setting nodes w lawful) t q x c at.thread at.event (broadcasts_now c broadcast))
+              (is_broadcast_at paths w (are_whole setting nodes w lawful) t q x c own_there x_among (broadcasts_now c broadcast))
               (record { is = is; condition = refl })
               (record { begun = omega (arith, before, here); lasts = λ j ends less. omega (arith, later j ends, less, here) }) in
               omega (arith, later g ends, here)
@@ -467,11 +475,11 @@ module _ {B : Type 0} (setting : Setting B) (nodes : List Node) (w : World) (law
 -- A drain is neither, and a step of a thread is an event of its path, if it is one.
 module _ {B : Type 0} (setting : Setting B) (nodes : List Node) (w : World) (lawful : IsLawfulWorld setting nodes w) (p : ℕ) (h : List Deed)
     (gone : HasGone setting nodes w p h) where
-  open setting use {ops, bound, code, log}
+  open setting use {machine, ops, bound, code, log}
 
   pub step_until : (t : ℕ) (q : Walk) (k : ℕ) (r : Request) (took : ℤ) (other : Option Name) → IsThread code log t q
       → ((x : Event) → Contains q.events x → x.step ≡ steps_in h q.name → is_pending ops.buffered x ≡ true)
-      → IsAlongPaths ops.buffered bound code log (h ++ Did q.name k r took other ∷ [])
+      → IsAlongPaths machine log (h ++ Did q.name k r took other ∷ [])
       → SleepUntilEnded code log w p (h ++ Did q.name k r took other ∷ [])
   step_until t q k r took other there waiting along =
       quiet_until setting nodes w lawful p h gone d along quiet (λ c n. by c n (waits_by c n d) refl)
@@ -483,8 +491,7 @@ module _ {B : Type 0} (setting : Setting B) (nodes : List Node) (w : World) (law
       quiet e asks =
           let done : IsDoneIn (h ++ Did q.name k r took other ∷ []) q.name k e =
           record { older = h; newer = []; request = r; took = took; other = other; there = refl; asks = asks } in
-          let o = done_event setting lawful.fits (h ++ Did q.name k r took other ∷ []) along t q
-          there k e done in
+          let o = done_event setting (record { deeds = h ++ d ∷ []; fits = lawful.fits; along = along }) (path_thread t q there) k e done in
           let next = (along.follow h [] (Did q.name k r took other) refl).1.number in
           let pending = waiting o.0 (contains_in o.0 q.events o.1) (o.2 ∙ next) in
           ap is_store (sym o.3) ∙ (and_parts ops.buffered (is_store o.0.kind) pending).1
@@ -495,13 +502,13 @@ module _ {B : Type 0} (setting : Setting B) (nodes : List Node) (w : World) (law
           let a = no_store c n q.name r other (about c n q.name k r took other b touched) in
           absurd (false≢true (sym a.2 ∙ quiet a.0 a.1))
 
-  pub drain_until : (n : Name) (k c : ℕ) (v : ℤ) → IsAlongPaths ops.buffered bound code log (h ++ Drained n k c v ∷ [])
+  pub drain_until : (n : Name) (k c : ℕ) (v : ℤ) → IsAlongPaths machine log (h ++ Drained n k c v ∷ [])
       → SleepUntilEnded code log w p (h ++ Drained n k c v ∷ [])
   drain_until n k c v along =
       quiet_until setting nodes w lawful p h gone (Drained n k c v) along (λ e asks. absurd (none-some e asks)) (λ i m. refl)
 
   pub drained_until : (t : ℕ) (q : Walk) (x : Event) (n : Name) (k c : ℕ) (v : ℤ) → IsThread code log t q → Contains q.events x
-      → is_pending ops.buffered x ≡ true → place code log w t x ≡ p → IsAlongPaths ops.buffered bound code log (h ++ Drained n k c v ∷ [])
+      → is_pending ops.buffered x ≡ true → place code log w t x ≡ p → IsAlongPaths machine log (h ++ Drained n k c v ∷ [])
       → SleepUntilEnded code log w (p + 1) (h ++ Drained n k c v ∷ [])
   drained_until t q x n k c v there i pending at along =
       store_until setting nodes w lawful p h gone (Drained n k c v) along (λ e asks. absurd (none-some e asks)) (λ j m. refl) t q x there i

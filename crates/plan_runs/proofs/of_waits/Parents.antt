@@ -23,7 +23,7 @@ use Rattle.path_walk.specs.Steps.{Step, is_site, step_at, steps_at}
 use Rattle.path_walk.specs.declared.event.Event.{Event}
 use Rattle.path_walk.specs.declared.event.EventKind.TheVariants as kind
 use Rattle.path_walk.proofs.Faults.{option_is, function_of_child, no_child}
-use Rattle.path_laws.specs.history.Along.{IsThread, IsNameOfThread}
+use Rattle.path_laws.specs.history.Along.{IsThread, IsNameOfThread, path_thread}
 use Rattle.path_laws.proofs.of_history.Next.{last_step}
 use Rattle.path_laws.proofs.of_history.Walks.{IsWalk, walk_is, named}
 use Rattle.path_laws.proofs.of_events.Marked.{event_at, event_there}
@@ -132,19 +132,19 @@ module _ (code : Code) (log : Log) where
     by_number n zero f o creates = absurd (none-some f creates)
     by_number n (suc j) f o creates =
         let v = o.walk in
-        let k = walk_is code log is fits o.place v o.there in
+        let k = walk_is code log is fits o.thread in
         let at : slice_get (started (steps_at code v.function v.places)) j ≡ Some f =
-        ap (λ ps. slice_get (started (steps_at code v.function ps)) j) (sym k.told ∙ ap (λ m. places_in code log m v.function) o.name) ∙ creates in
+        ap (λ ps. slice_get (started (steps_at code v.function ps)) j) (sym k.told ∙ ap (λ m. places_in code log m v.function) o.name_is) ∙ creates in
         let e = create_event v k j f at in
         record {
-          place = o.place;
+          place = o.index;
           walk = v;
           there = o.there;
           event = e.0;
           among = e.1;
           number = suc j;
           creates = e.2;
-          name = ap (λ m. child m (suc j)) (sym o.name);
+          name = ap (λ m. child m (suc j)) (sym o.name_is);
         }
 
     by_parent : (n : Name) (k f : ℕ) → function_of code log (child n k) ≡ Some f → IsCreatedBy (child n k)
@@ -155,8 +155,8 @@ module _ (code : Code) (log : Log) where
               let o = named code log is fits n has.0 has.1 in
               option_and_then_some (λ g. child_function code log n g k) (function_of code log n) f (sym (function_of_child code log n k) ∙ function)
               (λ g of creates.
-              let known = (walk_is code log is fits o.place o.walk o.there).function in
-              let same : g ≡ o.walk.function = same_Some g o.walk.function (sym of ∙ ap (function_of code log) (sym o.name) ∙ known) in
+              let known = (walk_is code log is fits o.thread).function in
+              let same : g ≡ o.walk.function = same_Some g o.walk.function (sym of ∙ ap (function_of code log) (sym o.name_is) ∙ known) in
               by_number n k f o (ap (λ a. child_function code log n a k) (sym same) ∙ creates))
         ]
 
@@ -166,5 +166,5 @@ module _ (code : Code) (log : Log) where
           | inl first ↦ inl first
           | inr h ↦
               inr (subst IsCreatedBy (sym h.name)
-              (by_parent h.parent h.number q.function (ap (function_of code log) (sym h.name) ∙ (walk_is code log is fits c q there).function)))
+              (by_parent h.parent h.number q.function (ap (function_of code log) (sym h.name) ∙ (walk_is code log is fits (path_thread c q there)).function)))
         ]

@@ -11,7 +11,7 @@ use Rattle.path_walk.specs.Paths.{Walk, paths_of}
 use Rattle.path_walk.specs.Steps.{steps_at}
 use Rattle.path_walk.specs.declared.event.Event.{Event}
 use Rattle.path_laws.specs.Setting.{Setting}
-use Rattle.path_laws.specs.history.Along.{IsThread}
+use Rattle.path_laws.specs.history.Along.{IsThread, path_thread}
 use Rattle.path_laws.proofs.of_history.Walks.{IsWalk, walk_is}
 use Rattle.path_laws.proofs.of_events.Marked.{Rising, events_rise}
 use Rattle.sym_terms.specs.declared.node.Node.{Node}
@@ -32,7 +32,7 @@ module _ {B : Type 0} (setting : Setting B) (nodes : List Node) (w : World) (law
   are_whole = whole code (paths_of code log) (record { log = log; fits = lawful.fits; are = refl })
 
   pub walk : (t : ℕ) (q : Walk) → IsThread code log t q → IsWalk code log q
-  walk t q there = walk_is code log setting.log_is lawful.fits t q there
+  walk t q there = walk_is code log setting.log_is lawful.fits (path_thread t q there)
 
   pub rising : (t : ℕ) (q : Walk) → IsThread code log t q → Rising q.events
   rising t q there =

@@ -24,8 +24,7 @@ use Rattle.path_walk.specs.declared.event.EventKind.{EventKind}
 use Rattle.path_walk.specs.declared.event.EventKind.TheVariants as kind
 use Rattle.path_laws.specs.Setting.{Setting}
 use Rattle.path_laws.specs.Deeds.{kind_of}
-use Rattle.path_laws.specs.history.Along.{IsAlongPaths, IsThread}
-use Rattle.path_laws.proofs.of_history.Told.{first_along}
+use Rattle.path_laws.specs.history.Along.{IsThread, HistoryAlong, path_thread}
 use Rattle.path_laws.proofs.of_history.Walks.{walk_is}
 use Rattle.path_laws.specs.events.Done.{IsDoneIn}
 use Rattle.path_laws.proofs.of_events.Bars as bars
@@ -53,13 +52,16 @@ use Rattle.world_plan.specs.Sights.{Shows}
 use Rattle.run_lawful.specs.world.Order.{TakesPlace, IsOrderOf}
 use Rattle.run_lawful.specs.world.WorldOf.{world_in}
 use Rattle.run_lawful.proofs.of_world.Ordered.{is_order}
-use Rattle.run_lawful.proofs.of_world.Run.{fits, along, told, seen, event_is_done, all_steps}
+use Rattle.run_lawful.proofs.of_world.Run.{fits, told, seen, event_is_done, all_steps}
 use Rattle.run_lawful.proofs.of_world.Run as run
 use Rattle.run_lawful.proofs.of_world.Loads as loads
 use Rattle.run_lawful.proofs.of_world.Seen.{SeenBy, Done, Drain, shown_by, shows_step, shows_drain}
 use Rattle.run_lawful.proofs.of_world.Splits.{TwoPlaces, Before, Same, After, two_places}
 use Rattle.run_lawful.proofs.of_world.Steps.{IsDrainedAt, drained_at, steps_after, steps_ordered, step_before_drain}
 use Rattle.run_lawful.proofs.of_own.Requests.{store_writes, failure_fails, no_store, finds_empty, none_fails}
+use Rattle.path_laws.proofs.of_history.Told.{up_to}
+use Rattle.path_laws.proofs.of_history.Logged.{history_again}
+use Rattle.sym_steps.specs.Valued.{ValuedHistory}
 
 abbrev asked_of : Deed → Option EventKind
 asked_of (Did n k r v o) = kind_of r o
@@ -82,7 +84,7 @@ drains_itself n k c v = ap₂ (λ d e. d && e) (same_self n n refl) (eq-eqb k k 
 
 module _ {B : Type 0} (setting : Setting B) (nodes : List Node) (terms : AreTerms nodes) (moves : List Move)
     (again : Reproduces setting.ops setting.code setting.log moves) where
-  open setting use {machine, ops, bound, code, lawful, log, log_is as is}
+  open setting use {ops, bound, code, lawful, log, log_is as is}
 
   abbrev h : List Deed
   h = run.done setting moves again
@@ -99,14 +101,17 @@ module _ {B : Type 0} (setting : Setting B) (nodes : List Node) (terms : AreTerm
   abbrev w : World
   w = world_in b ps x'.symbolic h
 
-  abbrev go : IsAlongPaths b bound code log h
-  go = along setting moves again
+  abbrev all : HistoryAlong setting
+  all = history_again setting moves again
 
   ordered : IsOrderOf b ps h w
   ordered = is_order b ps x'.symbolic h (seen setting moves again)
 
   agrees : AgreesWith x'.symbolic w.loads h
   agrees = loads.agrees ops code log nodes moves again
+
+  abbrev valued : ValuedHistory setting nodes w.loads
+  valued = record { history = all; terms = terms; agrees = agrees }
 
   module _ (t : ℕ) (q : Walk) (there : IsThread code log t q) where
     doing : (x : Event) → In x q.events → IsDoneIn h q.name x.step x.kind
@@ -196,7 +201,7 @@ module _ {B : Type 0} (setting : Setting B) (nodes : List Node) (terms : AreTerm
         let c = course in
         let f = fits setting moves again in
         let asked : Asked = record { cell = s.cell; takes = None; writes = Some s.value } in
-        let a = asked_access setting f nodes w.loads terms h go agrees t q c.0 there c.1 x.step asked (record {
+        let a = asked_access setting nodes w.loads valued (record { thread = path_thread t q there; course = c.0; executed = c.1 }) x.step asked (record {
           older = s.older;
           newer = s.newer;
           request = Write s.cell s.value;
@@ -206,7 +211,7 @@ module _ {B : Type 0} (setting : Setting B) (nodes : List Node) (terms : AreTerm
           asks = refl;
         }) in
         let many = all_steps setting moves again t q there in
-        let inside = event_within code log q (walk_is code log is f t q there) x i in
+        let inside = event_within code log q (walk_is code log is f (path_thread t q there)) x i in
         record {
           access = a.0;
           cell = ap (cell_of x'.symbolic t) (sym a.2)
@@ -228,7 +233,7 @@ module _ {B : Type 0} (setting : Setting B) (nodes : List Node) (terms : AreTerm
       IsFirst = IsBefore ps w t x.step t y.step
 
       abbrev follow : AllFollow b bound code h
-      follow = go.follow
+      follow = all.along.follow
 
       -- neither waits
       by_steps : (b && is_store x.kind) ≡ false → (b && is_store y.kind) ≡ false → IsFirst
@@ -281,13 +286,12 @@ module _ {B : Type 0} (setting : Setting B) (nodes : List Node) (terms : AreTerm
       same_is : (sx : IsStoreAt x) → (sy : IsStoreAt y)
           → same_cell b bound ps x'.symbolic x'.nodes w t x y ≡ (sx.cell == sy.cell)
       same_is sx sy =
-          let f = fits setting moves again in
           let cx = cell_at x xi sx in
           let cy = cell_at y yi sy in
           ap₂ (option_eq (is_same_cell x'.nodes w)) cx.cell cy.cell
           ∙ same_cell_is lawful.arrays.arrays lawful.arrays.apart x'.nodes w cx.access.cell cy.access.cell
-          (reached_sound setting f nodes w.loads terms h go agrees t cx.access cx.reached)
-          (reached_sound setting f nodes w.loads terms h go agrees t cy.access cy.reached)
+          (reached_sound setting nodes w.loads valued t cx.access cx.reached)
+          (reached_sound setting nodes w.loads valued t cy.access cy.reached)
           ∙ ap₂ (λ c d. c == d) cx.same cy.same
 
       by_bound : (b && is_store x.kind) ≡ true → (b && is_store y.kind) ≡ true
@@ -357,9 +361,8 @@ module _ {B : Type 0} (setting : Setting B) (nodes : List Node) (terms : AreTerm
 
               bars_told : has_bar_between d.older q.name x.step y.step ≡ not (x.bars == y.bars)
               bars_told =
-                  bars.told setting (fits setting moves again) d.older
-                  (first_along machine log d.older (Drained q.name y.step d.cell d.value ∷ d.newer)
-                  (subst (IsAlongPaths b bound code log) d.there go)) t q there x y xi yi less few
+                  bars.told setting (up_to setting all d.older (Drained q.name y.step d.cell d.value ∷ d.newer) d.there) (path_thread t q there) x y xi yi
+                  less few
 
               by : (c : Bool) → has_drained d.older q.name x.step ≡ c → IsFirst
               by true e =
@@ -413,7 +416,7 @@ module _ {B : Type 0} (setting : Setting B) (nodes : List Node) (terms : AreTerm
             let gone = Did r.name f.step Fail df.took df.other in
             let there_gone : In gone dx.older =
             subst (λ g. In gone g) (sym (at ∙ ap (λ s. df.older ++ Did r.name f.step s df.took df.other ∷ between) is_fail)) (in_at df.older gone between) in
-            let none = (go.follow dx.older dx.newer (deed x dx) dx.there).0 in
+            let none = (all.along.follow dx.older dx.newer (deed x dx) dx.there).0 in
             absurd (none_fails dx.older r.name (in_mapped fails gone r.name dx.older there_gone refl) none)
 
   pub own_rule : (t : ℕ) → OwnRule b bound ps x'.symbolic x'.nodes w t

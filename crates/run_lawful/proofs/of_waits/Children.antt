@@ -25,8 +25,8 @@ use Rattle.path_walk.specs.Paths.{Walk, Paths}
 use Rattle.path_walk.specs.declared.event.Event.{Event}
 use Rattle.path_walk.specs.declared.event.Link.{Link}
 use Rattle.path_laws.specs.Setting.{Setting}
-use Rattle.path_laws.specs.history.Along.{IsThread}
-use Rattle.path_laws.proofs.of_history.Told.{run_of, reached, thread_of}
+use Rattle.path_laws.specs.history.Along.{IsThread, PathThread, path_thread}
+use Rattle.path_laws.proofs.of_history.Told.{reached, thread_of, its_run}
 use Rattle.path_laws.proofs.of_events.Events.{event_done}
 use Rattle.path_laws.proofs.of_events.Lists.{in_contains}
 use Rattle.path_laws.proofs.of_events.Waiters.{exits_told}
@@ -37,7 +37,7 @@ use Rattle.lawful_order.specs.Memory.{is_store}
 use Rattle.world_plan.specs.Sights.{Shows}
 use Rattle.run_lawful.proofs.of_world.Seen.{shows_step}
 use Rattle.run_lawful.proofs.of_world.Splits.{TwoPlaces, Before, Same, After, two_places}
-use Rattle.run_lawful.proofs.of_waits.Deeds.{none_pending, creates_are, joins_are, h, paths, w, fit, ordered, left_at, event_deed}
+use Rattle.run_lawful.proofs.of_waits.Deeds.{none_pending, creates_are, joins_are, h, paths, w, fit, ordered, left_at, event_deed, before_deed}
 use Rattle.run_lawful.proofs.of_waits.First.{comes_first}
 use Rattle.run_lawful.proofs.of_waits.Parts.{created_by, joined_by, start_is, await_is}
 
@@ -87,7 +87,7 @@ module _ {B : Type 0} (setting : Setting B) (nodes : List Node) (moves : List Mo
         let number : l.child ≡ children_in d.older p.name + 1 =
         same_Some l.child (children_in d.older p.name + 1)
         (sym s.2 ∙ ap (option_and_then (last_or None)) other ∙ last_or-push None p.name (children_in d.older p.name + 1)) in
-        let r = run_of machine log d.older d.along in
+        let r = its_run setting (before_deed setting nodes moves again d) in
         let parent = thread_of machine log d.older r p.name d.left.there in
         let count = children_are ops code r.state d.older p.name r.told.tells.deeds.buffers.threads parent.0 parent.1 in
         let none = child_is_new ops code r.state p.name parent.0 (reached machine log d.older r) parent.1 in
@@ -139,8 +139,10 @@ module _ {B : Type 0} (setting : Setting B) (nodes : List Node) (moves : List Mo
         ap (has_exited_in d.older) name
         ∙ (and_parts (not (drains_first (Await l.child)) || is_nil (stores (pending ops.buffered d.older p.name)))
         (has_exited_in d.older (child p.name l.child)) may).1 in
-        let x = (exits_told setting f d.older d.along c q child_there).0 gone in
-        let e = event_done setting f d.older d.along c q child_there x.0 (in_contains x.0 q.events x.1) x.3 in
+        let before = before_deed setting nodes moves again d in
+        let child_thread : PathThread code log = path_thread c q child_there in
+        let x = (exits_told setting before child_thread).0 gone in
+        let e = event_done setting before child_thread x.0 (in_contains x.0 q.events x.1) x.3 in
         let exit = Did q.name x.0.step e.request e.took e.other in
         record {
           exit = x.0;

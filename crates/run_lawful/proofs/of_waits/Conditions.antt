@@ -29,7 +29,7 @@ use Rattle.path_walk.specs.declared.event.EventKind.{EventKind}
 use Rattle.path_walk.specs.declared.event.EventKind.TheVariants as kind
 use Rattle.path_walk.specs.declared.event.Sleep.{Sleep}
 use Rattle.path_laws.specs.Setting.{Setting}
-use Rattle.path_laws.specs.history.Along.{IsThread}
+use Rattle.path_laws.specs.history.Along.{IsThread, path_thread}
 use Rattle.path_laws.proofs.of_history.Walks.{walk_is}
 use Rattle.path_laws.proofs.of_events.Lists.{in_contains}
 use Rattle.path_laws.proofs.of_events.Sleeps.{walk_wakes}
@@ -51,11 +51,12 @@ use Rattle.run_lawful.proofs.of_world.Found.{some_found}
 use Rattle.run_lawful.proofs.of_world.Run.{seen}
 use Rattle.run_lawful.proofs.of_world.Steps.{steps_ordered}
 use Rattle.run_lawful.proofs.of_world.Splits.{TwoPlaces, Before, Same, After, two_places}
-use Rattle.run_lawful.proofs.of_waits.Deeds.{none_pending, sleeps_are, h, paths, w, fit, ordered, goes_along, EventDeed, event_deed}
+use Rattle.run_lawful.proofs.of_waits.Deeds.{none_pending, sleeps_are, h, paths, w, fit, ordered, EventDeed, event_deed, before_deed}
 use Rattle.run_lawful.proofs.of_waits.First.{comes_first}
 use Rattle.run_lawful.proofs.of_waits.Parts.{signal_is, broadcast_is}
 use Rattle.run_lawful.proofs.of_waits.Sleeping.{gives_none, none_ends, SleepDeed, sleep_deed, waits_while, none_between, EndsAt, ends_at, ended_by, waiter_rests}
 use Rattle.run_lawful.proofs.of_waits.Sleeps.{one_sleep}
+use Rattle.path_laws.proofs.of_history.Logged.{history_again}
 
 -- a signal that wakes a thread ends its wait, and a broadcast that of all
 wakes_it : (c : ℕ) (n q : Name) (k : ℕ) (took : ℤ) → ends_wait c n (Did q k (WakeOne c) took (Some n)) ≡ true
@@ -166,7 +167,7 @@ module _ {B : Type 0} (setting : Setting B) (nodes : List Node) (moves : List Mo
 
       next : k ≡ x.it.step + 1
       next =
-          (walk_wakes code lawful log d.walk (walk_is code log is f x.thread d.walk d.there) x.it (in_contains x.it d.walk.sleeps d.among)).next k wake
+          (walk_wakes code lawful log d.walk (walk_is code log is f (path_thread x.thread d.walk d.there)) x.it (in_contains x.it d.walk.sleeps d.among)).next k wake
 
       y : (y : Event) × Contains d.walk.events y × (y.step ≡ k)
       y =
@@ -197,14 +198,14 @@ module _ {B : Type 0} (setting : Setting B) (nodes : List Node) (moves : List Mo
             | inr none ↦
                 let silent = none_between setting nodes moves again x d between (waking ∷ e.newer) split none in
                 let waits = waits_while setting nodes moves again x d between (waking ∷ e.newer) split silent in
-                absurd (waiter_rests setting nodes moves again e.older n x.it.condition y.0.step e.request e.took e.other
-                e.along d.within (ap (λ g. set.contains (waiting_in g x.it.condition) n) front ∙ waits) e.may)
+                absurd (waiter_rests setting nodes moves again (before_deed setting nodes moves again e) n x.it.condition y.0.step e.request e.took e.other
+                d.within (ap (λ g. set.contains (waiting_in g x.it.condition) n) front ∙ waits) e.may)
           ]
 
       -- it wakes after its sleep
       later : (between : List Deed) × (e.older ≡ d.older ++ Did n x.it.step (BeginWait x.it.condition x.it.mutex) d.took d.other ∷ between)
       later =
-          steps_ordered ops.buffered bound code done (goes_along setting nodes moves again).follow n x.it.step y.0.step d.older
+          steps_ordered ops.buffered bound code done (history_again setting moves again).along.follow n x.it.step y.0.step d.older
           d.newer e.older e.newer (BeginWait x.it.condition x.it.mutex) e.request d.took e.took d.other e.other
           (d.at ∙ ap (λ z. d.older ++ z ∷ d.newer) d.begins) e.at (omega (arith, y.2, next))
 
@@ -319,15 +320,15 @@ module _ {B : Type 0} (setting : Setting B) (nodes : List Node) (moves : List Mo
         -- it wakes the thread of a sleep
         woken : (u : Name) → v.deed.other ≡ Some u → set.contains (waiting_in v.deed.older c) u ≡ true → (r : ℕ) × (ender_of world r ≡ Some g)
         woken u other waits =
-            let p = waiter_named setting f v.deed.older c u v.deed.along waits in
-            let a = (sleep_waits setting f v.deed.older v.deed.along p.place p.walk p.there c).0
-            (ap (λ m. set.contains (waiting_in v.deed.older c) m) p.name ∙ waits) in
-            let z : Of Sleep = record { thread = p.place; it = a.0 } in
+            let before = before_deed setting nodes moves again v.deed in
+            let p = waiter_named setting before c u waits in
+            let a = (sleep_waits setting before p.thread c).0 (ap (λ m. set.contains (waiting_in v.deed.older c) m) p.name_is ∙ waits) in
+            let z : Of Sleep = record { thread = p.index; it = a.0 } in
             let r = place_of_one (all_sleeps threads) z
-            (in_all_from (λ (q : Walk). q.sleeps) 0 p.place p.place threads.threads p.walk a.0 p.there a.1 (omega arith)) in
+            (in_all_from (λ (q : Walk). q.sleeps) 0 p.index p.index threads.threads p.walk a.0 p.there a.1 (omega arith)) in
             let begun = Did p.walk.name a.0.step (BeginWait a.0.condition a.0.mutex) a.3.took a.3.other in
             let is_it : signal ≡ Did v.walk.name e.it.step (WakeOne a.0.condition) v.deed.took (Some p.walk.name) =
-            ap₂ (λ q o. Did v.walk.name e.it.step q v.deed.took o) (asked ∙ ap WakeOne (sym a.2)) (other ∙ ap (λ m. Some m) (sym p.name)) in (
+            ap₂ (λ q o. Did v.walk.name e.it.step q v.deed.took o) (asked ∙ ap WakeOne (sym a.2)) (other ∙ ap (λ m. Some m) (sym p.name_is)) in (
               r.0,
               ended_is ops.buffered threads done (seen setting moves again) (found code log nodes).symbolic r.0 g z r.1
                   (record {

@@ -25,7 +25,7 @@ use Rattle.path_walk.specs.declared.event.EventKind.{EventKind}
 use Rattle.path_walk.specs.declared.event.EventKind.TheVariants as kind
 use Rattle.path_walk.specs.declared.event.Region.{Region}
 use Rattle.path_laws.specs.Setting.{Setting}
-use Rattle.path_laws.specs.history.Along.{IsThread}
+use Rattle.path_laws.specs.history.Along.{IsThread, HistoryAlong, PathThread, path_thread}
 use Rattle.path_laws.proofs.of_events.Events.{event_done}
 use Rattle.path_laws.proofs.of_events.Lists.{in_contains}
 use Rattle.path_laws.proofs.of_events.Owners.{region_owned}
@@ -37,7 +37,7 @@ use Rattle.lawful_order.specs.Mutexes.{IsLeftBefore, MutexRule}
 use Rattle.run_lawful.proofs.of_world.Run.{seen}
 use Rattle.run_lawful.proofs.of_world.Seen.{shows_step}
 use Rattle.run_lawful.proofs.of_world.Splits.{TwoPlaces, Before, Same, After, two_places}
-use Rattle.run_lawful.proofs.of_waits.Deeds.{none_pending, regions_are, h, paths, w, fit, ordered, EventDeed, event_deed}
+use Rattle.run_lawful.proofs.of_waits.Deeds.{none_pending, regions_are, h, paths, w, fit, ordered, EventDeed, event_deed, before_deed}
 use Rattle.run_lawful.proofs.of_waits.Parts.{IsRegionOf, region_of_events, Takes, Locks, Wakes, taker_is}
 
 -- what takes or leaves a mutex is no store
@@ -111,6 +111,12 @@ module _ {B : Type 0} (setting : Setting B) (nodes : List Node) (moves : List Mo
         g : List Deed
         g = b.deed.older
 
+        before_it : HistoryAlong setting
+        before_it = before_deed setting nodes moves again b.deed
+
+        first_thread : PathThread code log
+        first_thread = path_thread t p p_there
+
         free : owner_in g r.mutex ≡ None
         free =
             ap (owner_in g) same
@@ -119,21 +125,18 @@ module _ {B : Type 0} (setting : Setting B) (nodes : List Node) (moves : List Mo
 
         begun : r.«from» < steps_in g p.name
         begun =
-            let step = step_is setting (fit setting nodes moves again) g b.deed.along t p
-            p_there a.deed.older between a.parts.taken.event.step a.deed.request a.deed.took a.deed.other before in
+            let step = step_is setting before_it first_thread a.deed.older between a.parts.taken.event.step a.deed.request a.deed.took a.deed.other before in
             subst (λ k. k < steps_in g p.name) a.parts.taken.step step.done
 
         closed : ((k : ℕ) → r.to ≡ Some k → steps_in g p.name ≤ k) → ⊥
         closed lasts =
             none-some p.name
-            (sym free ∙ (region_owned setting (fit setting nodes moves again) g b.deed.along t p
-            p_there r.mutex).1 (r, i, refl, record { begun = begun; lasts = lasts }))
+            (sym free ∙ (region_owned setting before_it first_thread r.mutex).1 (r, i, refl, record { begun = begun; lasts = lasts }))
 
         ends : (k : ℕ) → r.to ≡ Some k → k < steps_in g p.name → Before_in t k u s.«from»
         ends k to less =
             let x = a.parts.left k to in
-            let d = event_done setting (fit setting nodes moves again) g b.deed.along t p
-            p_there x.event (in_contains x.event p.events x.among) (subst (λ n. n < steps_in g p.name) (sym x.step) less) in
+            let d = event_done setting before_it first_thread x.event (in_contains x.event p.events x.among) (subst (λ n. n < steps_in g p.name) (sym x.step) less) in
             let leave = Did p.name x.event.step d.request d.took d.other in
             subst (λ n. Before_in t n u s.«from») x.step
             (subst (λ n. Before_in t x.event.step u n) b.parts.taken.step

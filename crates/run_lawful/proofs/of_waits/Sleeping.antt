@@ -30,8 +30,8 @@ use Rattle.path_walk.specs.Paths.{Walk, Paths}
 use Rattle.path_walk.specs.declared.event.EventKind.TheVariants as kind
 use Rattle.path_walk.specs.declared.event.Sleep.{Sleep}
 use Rattle.path_laws.specs.Setting.{Setting}
-use Rattle.path_laws.specs.history.Along.{IsAlongPaths, IsThread}
-use Rattle.path_laws.proofs.of_history.Told.{run_of, reached}
+use Rattle.path_laws.specs.history.Along.{IsThread, HistoryAlong, path_thread}
+use Rattle.path_laws.proofs.of_history.Told.{reached, its_run, up_to}
 use Rattle.path_laws.specs.events.Done.{IsAsleepIn}
 use Rattle.path_laws.proofs.of_events.Steps.{steps_first, step_at}
 use Rattle.path_laws.proofs.of_events.Waiters.{sleep_waits}
@@ -45,8 +45,9 @@ use Rattle.run_lawful.specs.world.Order.{IsEndedBy}
 use Rattle.run_lawful.specs.world.WorldOf.{is_step, ends_wait}
 use Rattle.run_lawful.proofs.of_world.Enders.{is_its_step, sleeper, ended_told, ended_is}
 use Rattle.run_lawful.proofs.of_world.Run.{seen}
-use Rattle.run_lawful.proofs.of_waits.Deeds.{none_pending, sleeps_are, h, paths, w, fit, goes_along, begins_along, step_once, event_deed}
+use Rattle.run_lawful.proofs.of_waits.Deeds.{none_pending, sleeps_are, h, paths, w, fit, step_once, event_deed, before_deed}
 use Rattle.run_lawful.proofs.of_waits.Parts.{slept_by, begin_is}
+use Rattle.path_laws.proofs.of_history.Logged.{history_again}
 
 -- Deeds that say nothing of a thread's wait.
 
@@ -158,11 +159,11 @@ module _ {B : Type 0} (setting : Setting B) (nodes : List Node) (moves : List Mo
       none-some false (sym silent ∙ ends)
 
   -- who waits asks for the end of its wait
-  waiter_asks : (g : List Deed) (n : Name) (c : ℕ) → IsAlongPaths ops.buffered bound code log g → c < code.conditions
-      → set.contains (waiting_in g c) n ≡ true → (m : ℕ) × (asks_next code g n ≡ Some (EndWait c m))
-  waiter_asks g n c along within waits =
-      let r = run_of machine log g along in
-      let at = waiters_are_at_wake ops code r.state lawful (reached machine log g r) n c
+  waiter_asks : (g : HistoryAlong setting) (n : Name) (c : ℕ) → c < code.conditions → set.contains (waiting_in g.deeds c) n ≡ true
+      → (m : ℕ) × (asks_next code g.deeds n ≡ Some (EndWait c m))
+  waiter_asks g n c within waits =
+      let r = its_run setting g in
+      let at = waiters_are_at_wake ops code r.state lawful (reached machine log g.deeds r) n c
       (ap (λ ns. set.contains ns n) (r.told.tells.waiters.waiters c within) ∙ waits) in (
         at.mutex,
         ap (option_and_then (λ (l : Local). option_map (request l) (instr_of code l)))
@@ -171,10 +172,11 @@ module _ {B : Type 0} (setting : Setting B) (nodes : List Node) (moves : List Mo
       )
 
   -- and does nothing until then
-  pub waiter_rests : (g : List Deed) (n : Name) (c k : ℕ) (r : Request) (took : ℤ) (other : Option Name) → IsAlongPaths ops.buffered bound code log g
-      → c < code.conditions → set.contains (waiting_in g c) n ≡ true → MayFollow ops.buffered bound code g (Did n k r took other) → ⊥
-  waiter_rests g n c k r took other along within waits may =
-      let a = waiter_asks g n c along within waits in
+  pub waiter_rests : (before : HistoryAlong setting) (n : Name) (c k : ℕ) (r : Request) (took : ℤ) (other : Option Name) → c < code.conditions
+      → set.contains (waiting_in before.deeds c) n ≡ true → MayFollow ops.buffered bound code before.deeds (Did n k r took other) → ⊥
+  waiter_rests before n c k r took other within waits may =
+      let g = before.deeds in
+      let a = waiter_asks before n c within waits in
       let asked : r ≡ EndWait c a.0 = same_Some r (EndWait c a.0) (sym may.asks ∙ a.1) in
       let allowed : may_do_in ops.buffered g n (EndWait c a.0) other ≡ true = ap (λ x. may_do_in ops.buffered g n x other) (sym asked) ∙ may.may in
       let met = and_parts (not (drains_first (EndWait c a.0)) || is_nil (stores (pending ops.buffered g n)))
@@ -217,7 +219,7 @@ module _ {B : Type 0} (setting : Setting B) (nodes : List Node) (moves : List Mo
         at = d.at;
         number = sym y.step ∙ d.may.number;
         within =
-            (next_within machine d.older q.0.name (BeginWait x.it.condition x.it.mutex) d.along.follow
+            (next_within machine d.older q.0.name (BeginWait x.it.condition x.it.mutex) (before_deed setting nodes moves again d).along.follow
             (d.may.asks ∙ ap (λ r. Some r) asked)).0;
         shows = subst (λ k. Shows ops.buffered threads deed x.thread k) y.step
             (d.shows (none_pending ops.buffered y.event.kind (ap is_store y.kind)));
@@ -238,8 +240,8 @@ module _ {B : Type 0} (setting : Setting B) (nodes : List Node) (moves : List Mo
     pub waits_while : (between newer : List Deed) → done ≡ (d.older ++ d.deed ∷ between) ++ newer → filter_map (waits_by c n) between ≡ []
         → set.contains (waiting_in (d.older ++ d.deed ∷ between) c) n ≡ true
     waits_while between newer split silent =
-        (sleep_waits setting f (d.older ++ d.deed ∷ between)
-        (begins_along setting nodes moves again (d.older ++ d.deed ∷ between) newer split) x.thread d.walk d.there c).1 (
+        (sleep_waits setting (up_to setting (history_again setting moves again) (d.older ++ d.deed ∷ between) newer split)
+        (path_thread x.thread d.walk d.there) c).1 (
           x.it,
           d.among,
           refl,
@@ -271,9 +273,9 @@ module _ {B : Type 0} (setting : Setting B) (nodes : List Node) (moves : List Mo
               (or_parts (list_any (ends_wait c n) s.older) (list_any (ends_wait c n) (step ∷ s.newer))
               (sym (list_any-append (ends_wait c n) s.older (step ∷ s.newer)) ∙ ap (list_any (ends_wait c n)) (sym s.there) ∙ none)).0 in
               let waits = waits_while s.older (step ∷ (s.newer ++ newer)) at (quiet c n s.older s.before first) in
-              absurd (waiter_rests g n c s.number s.request s.took s.other
-              (begins_along setting nodes moves again g (step ∷ (s.newer ++ newer)) at) d.within waits
-              ((goes_along setting nodes moves again).follow g (s.newer ++ newer) step at).1)
+              let all = history_again setting moves again in
+              absurd (waiter_rests (up_to setting all g (step ∷ (s.newer ++ newer)) at) n c s.number s.request s.took s.other d.within waits
+              (all.along.follow g (s.newer ++ newer) step at).1)
         ]
 
     -- what ends it, after its deed

@@ -31,7 +31,7 @@ use Rattle.path_walk.specs.declared.event.Blocked.TheVariants.{Lock, Wake, Join}
 use Rattle.path_walk.specs.declared.event.Region.{Region}
 use Rattle.path_walk.specs.declared.event.Sleep.{Sleep}
 use Rattle.path_laws.specs.Setting.{Setting}
-use Rattle.path_laws.specs.history.Along.{IsThread}
+use Rattle.path_laws.specs.history.Along.{IsThread, HistoryAlong, path_thread}
 use Rattle.path_laws.proofs.of_history.Walks.{IsWalk, walk_is}
 use Rattle.path_laws.proofs.of_events.Events.{event_within}
 use Rattle.path_laws.proofs.of_events.Lists.{in_contains}
@@ -46,9 +46,10 @@ use Rattle.lawful_order.specs.Events.{ender_of}
 use Rattle.lawful_order.specs.Stuck.{IsHeld, SleepsOn, RunsOn, CannotGoOn, StuckRule}
 use Rattle.run_lawful.proofs.of_world.Enders.{ended_told}
 use Rattle.run_lawful.proofs.of_world.Run.{all_steps}
-use Rattle.run_lawful.proofs.of_waits.Deeds.{regions_are, h, paths, w, fit, goes_along}
+use Rattle.run_lawful.proofs.of_waits.Deeds.{regions_are, h, paths, w, fit}
 use Rattle.run_lawful.proofs.of_waits.Parts.{region_of_events}
 use Rattle.run_lawful.proofs.of_waits.Sleeping.{ended_is_awake}
+use Rattle.path_laws.proofs.of_history.Logged.{history_again}
 
 -- only a path that rests says what its thread is blocked at
 unblocked : (m n : Name) (t : Marks) (ss : List Sleep) (at : Option Instr) (b : Blocked) → blocked_after (ending_by (Some m) n) t ss at ≡ Some b → ⊥
@@ -96,19 +97,21 @@ module _ {B : Type 0} (setting : Setting B) (nodes : List Node) (moves : List Mo
   abbrev f : Fits code log
   f = fit setting nodes moves again
 
+  abbrev all : HistoryAlong setting
+  all = history_again setting moves again
+
   -- a mutex that somebody owns at the end is held
   held : (m : ℕ) → IsSome (owner_in done m) → IsHeld threads (w setting nodes moves again) m
   held m owned =
-      let along = goes_along setting nodes moves again in
       let o = some_value (owner_in done m) owned in
-      let n = (took_it setting f done along m o.0 o.1).thread in
-      let g = (region_owned setting f done along n.place n.walk n.there m).0 (o.1 ∙ ap (λ x. Some x) (sym n.name)) in
+      let n = (took_it setting all m o.0 o.1).thread in
+      let g = (region_owned setting all n.thread m).0 (o.1 ∙ ap (λ x. Some x) (sym n.name_is)) in
       record {
-        thread = n.place;
+        thread = n.index;
         region = g.0;
         there = (n.walk, n.there, g.1);
         of = g.2;
-        lasts = no_end n.place n.walk n.there g.0 g.1 g.3.lasts;
+        lasts = no_end n.index n.walk n.there g.0 g.1 g.3.lasts;
       }
     where
       -- a region that is open after all steps has no end
@@ -121,7 +124,7 @@ module _ {B : Type 0} (setting : Setting B) (nodes : List Node) (moves : List Mo
           by (Some k) to =
               let parts = region_of_events q.events r (subst (λ rs. Contains rs r) (regions_are code log is f t q there) i) in
               let x = parts.left k to in
-              let inside = event_within code log q (walk_is code log is f t q there) x.event (in_contains x.event q.events x.among) in
+              let inside = event_within code log q (walk_is code log is f (path_thread t q there)) x.event (in_contains x.event q.events x.among) in
               let many = all_steps setting moves again t q there in
               let later = lasts k to in
               absurd (omega (arith, inside, many, later, x.step))
@@ -137,10 +140,9 @@ module _ {B : Type 0} (setting : Setting B) (nodes : List Node) (moves : List Mo
             → ender_of (w setting nodes moves again) s ≡ None
         by None e = e
         by (Some g) e =
-            let along = goes_along setting nodes moves again in
-            let a = (sleep_waits setting f done along t q there c).0 waits in
-            let still = sleeps_still setting f done q.name a.0 along a.3 in
-            let last = at_last_sleep code lawful log q (walk_is code log is f t q there) c m k blocked in
+            let a = (sleep_waits setting all (path_thread t q there) c).0 waits in
+            let still = sleeps_still setting all q.name a.0 a.3 in
+            let last = at_last_sleep code lawful log q (walk_is code log is f (path_thread t q there)) c m k blocked in
             let many = all_steps setting moves again t q there in
             let same : a.0.step ≡ x.it.step = omega (arith, still, last.ends, many, step) in
             let ended = ended_told setting moves again (found code log nodes).symbolic s g x at e in
@@ -152,11 +154,10 @@ module _ {B : Type 0} (setting : Setting B) (nodes : List Node) (moves : List Mo
         let parent : is_child.0 ≡ q = same_Some is_child.0 q (sym is_child.2 ∙ there) in
         let own : is_child.1 ≡ event.0 = same_Some is_child.1 event.0 (sym is_child.3 ∙ event.1) in
         let name = sym (ap (λ (v : Walk). v.name) own) ∙ is_child.4 ∙ ap (λ (v : Walk). child v.name k) parent in
-        let inside = event_within code log event.0 (walk_is code log is f c event.0 event.1) x (in_contains x event.0.events event.2) in
+        let inside = event_within code log event.0 (walk_is code log is f (path_thread c event.0 event.1)) x (in_contains x event.0.events event.2) in
         let many = all_steps setting moves again c event.0 event.1 in
         let less : x.step < steps_in done event.0.name = omega (arith, inside, many) in
-        let gone = (exits_told setting f done (goes_along setting nodes moves again)
-        c event.0 event.1).1 (x, event.2, exits, less) in
+        let gone = (exits_told setting all (path_thread c event.0 event.1)).1 (x, event.2, exits, less) in
         true≢false (sym gone ∙ ap (has_exited_in done) name ∙ going)
 
     cannot_go_on : (b : Blocked) → q.blocked ≡ Some b → IsBlockedIn done q.name (asked_at b)
@@ -169,6 +170,6 @@ module _ {B : Type 0} (setting : Setting B) (nodes : List Node) (moves : List Mo
   pub stuck_rule : (t : ℕ) → StuckRule threads (w setting nodes moves again) t
   stuck_rule t = record {
     stuck = λ q b there is_it.
-        let dead = deadlock code log is q b (walk_is code log is f t q there) is_it in
-        cannot_go_on t q there b is_it (blocked_is_left setting dead moves again t q there b is_it).1.blocked;
+        let dead = deadlock code log is q b (walk_is code log is f (path_thread t q there)) is_it in
+        cannot_go_on t q there b is_it (blocked_is_left setting dead moves again (path_thread t q there) b is_it).1.blocked;
   }

@@ -23,8 +23,7 @@ use Rattle.path_walk.specs.declared.event.EventKind.TheVariants as kind
 use Rattle.path_walk.specs.declared.event.Sleep.{Sleep}
 use Rattle.path_laws.specs.Setting.{Setting}
 use Rattle.path_laws.specs.Deeds.{kind_of}
-use Rattle.path_laws.specs.history.Along.{IsAlongPaths, IsThread}
-use Rattle.path_laws.proofs.of_history.Told.{reproduced_run, first_along}
+use Rattle.path_laws.specs.history.Along.{IsThread, path_thread}
 use Rattle.path_laws.proofs.of_history.Walks.{walk_is, thread_named}
 use Rattle.path_laws.specs.events.Done.{IsDoneIn}
 use Rattle.path_laws.proofs.of_events.Events.{done_event, event_within}
@@ -40,8 +39,10 @@ use Rattle.run_lawful.specs.world.Order.{IsEndedBy}
 use Rattle.run_lawful.specs.world.WorldOf.{is_step, after_step, ends_wait, is_shown, ender_in, world_in}
 use Rattle.run_lawful.proofs.of_world.Found.{found, finds, behind, same_position}
 use Rattle.run_lawful.proofs.of_world.Ordered.{AreSeen}
-use Rattle.run_lawful.proofs.of_world.Run.{fits, along, all_steps, seen}
+use Rattle.run_lawful.proofs.of_world.Run.{fits, all_steps, seen}
 use Rattle.run_lawful.proofs.of_world.Seen.{the_sight, shown_is, is_shown_by, shows_step}
+use Rattle.path_laws.proofs.of_history.Told.{its_run, up_to}
+use Rattle.path_laws.proofs.of_history.Logged.{history_again}
 
 -- a deed that ends a thread's wait on a condition wakes that thread, or all that wait there
 pub data EndsWait (c : ℕ) (n : Name) (d : Deed) : Type 0 where
@@ -151,7 +152,7 @@ module _ (buffered : Bool) (paths : Paths) (h : List Deed) (a : AreSeen buffered
       ∙ ap (λ n. Some n) (number_shown e.ender e.thread e.step e.shows ∙ sym e.number)
 
 module _ {B : Type 0} (setting : Setting B) (moves : List Move) (again : Reproduces setting.ops setting.code setting.log moves) where
-  open setting use {machine, ops, bound, code, log, log_is as is}
+  open setting use {ops, code, log, log_is as is}
 
   abbrev h : List Deed
   h = history ops code moves
@@ -176,12 +177,10 @@ module _ {B : Type 0} (setting : Setting B) (moves : List Move) (again : Reprodu
           → is_store asked ≡ false → (asked ≡ kind.Signal c) ⊎ (asked ≡ kind.Broadcast c) → IsEnder c d
       told q k r took other asked is_it asks quiet which =
           let there : h ≡ older ++ Did q k r took other ∷ newer = at ∙ ap (λ x. older ++ x ∷ newer) is_it in
-          let run = reproduced_run machine log moves again in
-          let left = run.told.threads older newer q k r took other there in
-          let before = first_along machine log older (Did q k r took other ∷ newer)
-          (subst (IsAlongPaths ops.buffered bound code log) there (along setting moves again)) in
-          let p = thread_named setting (fits setting moves again) older q before left.there in
-          let own : d ≡ Did p.walk.name k r took other = is_it ∙ ap (λ m. Did m k r took other) (sym p.name) in
+          let all = history_again setting moves again in
+          let left = (its_run setting all).told.threads older newer q k r took other there in
+          let p = thread_named setting (up_to setting all older (Did q k r took other ∷ newer) there) q left.there in
+          let own : d ≡ Did p.walk.name k r took other = is_it ∙ ap (λ m. Did m k r took other) (sym p.name_is) in
           let done : IsDoneIn h p.walk.name k asked =
           record {
             older = older;
@@ -192,19 +191,18 @@ module _ {B : Type 0} (setting : Setting B) (moves : List Move) (again : Reprodu
             there = at ∙ ap (λ x. older ++ x ∷ newer) own;
             asks = asks;
           } in
-          let x = done_event setting (fits setting moves again) h
-          (along setting moves again) p.place p.walk p.there k asked done in
+          let x = done_event setting all p.thread k asked done in
           let kept : (ops.buffered && is_store asked) ≡ false = ap (λ b. ops.buffered && b) quiet ∙ and-false ops.buffered in
           record {
-            thread = p.place;
+            thread = p.index;
             walk = p.walk;
             there = p.there;
             event = x.0;
             among = contains_in x.0 p.walk.events x.1;
             signals = elim which [ inl e ↦ inl (x.3 ∙ e) | inr e ↦ inr (x.3 ∙ e) ];
-            shows = subst (λ j. Shows ops.buffered paths d p.place j) (sym x.2)
-                (subst (λ e. Shows ops.buffered paths e p.place k) (sym own)
-                (shows_step ops.buffered paths p.place k p.walk r took other asked p.there asks kept));
+            shows = subst (λ j. Shows ops.buffered paths d p.index j) (sym x.2)
+                (subst (λ e. Shows ops.buffered paths e p.index k) (sym own)
+                (shows_step ops.buffered paths p.index k p.walk r took other asked p.there asks kept));
           }
 
       by : EndsWait c n d → IsEnder c d
@@ -220,18 +218,16 @@ module _ {B : Type 0} (setting : Setting B) (moves : List Move) (again : Reprodu
 
   -- and its deed
   pub sleep_deed : (t : ℕ) (q : Walk) (z : Sleep) (there : IsThread code log t q) → Contains q.sleeps z
-      → DeedOf setting (fits setting moves again) h
-      (along setting moves again) t q there z.step
+      → DeedOf setting (history_again setting moves again) (path_thread t q there) z.step
   sleep_deed t q z there i =
       let s = (seen setting moves again).whole.slept t z (q, there, i) in
       let p = s.1.0 in
       let same : p ≡ q = same_Some p q (sym s.1.1 ∙ there) in
-      let walk = walk_is code log is (fits setting moves again) t p s.1.1 in
+      let walk = walk_is code log is (fits setting moves again) (path_thread t p s.1.1) in
       let inside = event_within code log p walk s.0 (in_contains s.0 p.events s.1.2) in
       let many = all_steps setting moves again t q there in
       let long : length p.places ≡ length q.places = ap (λ (v : Walk). length v.places) same in
-      deed_of setting (fits setting moves again) h
-      (along setting moves again) t q there z.step (omega (arith, inside, long, many, s.2))
+      deed_of setting (history_again setting moves again) (path_thread t q there) z.step (omega (arith, inside, long, many, s.2))
 
   pub ended_told : (symbolic : Symbolic) (s g : ℕ) (x : Of Sleep) → slice_get (all_sleeps paths) s ≡ Some x
       → ender_of (world_in ops.buffered paths symbolic h) s ≡ Some g → IsEndedBy ops.buffered paths h x g

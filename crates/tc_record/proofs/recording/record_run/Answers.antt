@@ -94,5 +94,6 @@ returns-in-Some-clause-fits g c =
     let laws = g.met.M.MemoryModel.laws in
     let lawful = c.functions.ensures.lawful in
     on_log g.M.MemoryModel.MODEL code (seeded_run ops code c.args.seed c.args.steps) (λ x moves. Fits code x.log)
-    (λ x has is. reproduced_fits code ops _ _ laws lawful x.log (seeded_run ops code c.args.seed c.args.steps).moves
+    (λ x has is. reproduced_fits (record { ops = ops; model = _; bound = _; laws = laws; code = code; lawful = lawful }) x.log
+    (seeded_run ops code c.args.seed c.args.steps).moves
     (run_reproduces ops _ _ laws code lawful c.args.seed c.args.steps x has is)) c.answer.result (returns-in-Some-clause-answer g c)
